@@ -1,0 +1,6 @@
+-- Counts of faults: of a source, a sink, a board, a store. A fault is told only where the count rose in the call.
+use Rattle.std.specs.Prelude.{◌≡◌, ◌<◌, ◌-◌, ◌^◌, ◌⊎◌, ℕ}
+
+-- the count rose from before to after, or stands at its type's end
+abbrev pub Rose : ℕ → ℕ → Type 0
+Rose before after = (before < after) ⊎ (after ≡ 2 ^ 64 - 1)

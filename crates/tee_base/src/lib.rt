@@ -1,0 +1,2 @@
+//! The base of the runtime: codes, bytes, sources and sinks, counts of faults.
+#![tactic(auto)]
