@@ -1,1 +1,4 @@
+pub mod Codes
+pub mod Fakes
 pub mod Faults
+pub mod Transfer

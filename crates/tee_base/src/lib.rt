@@ -1,2 +1,18 @@
-//! The base of the runtime: codes, bytes, sources and sinks, counts of faults.
+//! The base of the runtime: codes and limits, bytes, sources and sinks with their counts of faults.
 #![tactic(auto)]
+
+mod bytes;
+mod codes;
+mod fakes;
+mod io;
+pub mod keys;
+pub mod limits;
+mod streams;
+mod transfer;
+
+pub use bytes::{Bytes, NoMemory};
+pub use codes::{Code, Flags, Origin};
+pub use fakes::{MemSink, MemSource, SureSource};
+pub use io::{Sink, SinkFailed, Source, SourceFailed};
+pub use streams::{StdSink, StdSource};
+pub use transfer::{ReadAnswer, WriteFault, read_all, write_all};

@@ -1,0 +1,38 @@
+-- Sources and sinks in memory: which of their calls fail.
+use Rattle.std.specs.Prelude.{ℕ, [], ◌+◌, ◌-◌, ◌^◌, min, List, Bool, if◌then◌else◌}
+
+-- the numbers of the calls that are to fail, how many calls there were, how many failed; the counts stop at their type's end
+pub record Plan : Type 0 where
+  pub failing : List ℕ
+  pub calls : ℕ
+  pub faults : ℕ
+
+abbrev pub counted : ℕ → ℕ
+counted n = min (n + 1) (2 ^ 64 - 1)
+
+abbrev pub opening_plan : List ℕ → Plan
+opening_plan failing = record { failing = failing; calls = 0; faults = 0 }
+
+-- after one more call, which failed or not
+abbrev pub called : Bool → Plan → Plan
+called fails plan = record {
+  failing = plan.failing;
+  calls = counted plan.calls;
+  faults = if fails then counted plan.faults else plan.faults;
+}
+
+-- a source in memory: the bytes left
+pub record Feed : Type 0 where
+  pub left : List ℕ
+  pub plan : Plan
+
+abbrev pub opening_feed : List ℕ → List ℕ → Feed
+opening_feed bytes failing = record { left = bytes; plan = opening_plan failing }
+
+-- a sink in memory: the bytes written
+pub record Tray : Type 0 where
+  pub written : List ℕ
+  pub plan : Plan
+
+abbrev pub opening_tray : List ℕ → Tray
+opening_tray failing = record { written = []; plan = opening_plan failing }

@@ -1,0 +1,249 @@
+//! Sources and sinks in memory, some of whose calls fail as they are told.
+
+ghost use Rattle.std.specs.Prelude.{◌≡◌, ◌<◌, ◌≤◌, ◌↔◌, ◌-◌, ◌^◌, ◌++◌, [], List, ℕ, Some, IfOk, IsErr, OnErr, Contains, length, take, drop};
+ghost use Rattle.std.specs.Io.KnownBytes.{ReadConsumes, WriteAppends};
+ghost use Rattle.tee_base.specs.Faults.{Rose, TakesSome};
+
+use crate::bytes::{Bytes, NoMemory};
+use crate::io::{Sink, SinkFailed, Source, SourceFailed};
+use std::alloc::Global;
+use std::marker::Model;
+
+/// The calls so far, and the numbers, from 0, of those that are to fail.
+#[derive(Debug, Drop)]
+struct Schedule {
+    failing: Vec<u64>,
+    calls: u64,
+    faults: u64,
+}
+
+impl Model for Schedule {
+    ghost use Rattle.tee_base.specs.Fakes.{Plan};
+
+    ghost Value = { Plan };
+
+    ghost view = { λ s. record { failing = s.failing.items; calls = s.calls; faults = s.faults } };
+}
+
+impl Schedule {
+    ghost use Rattle.std.specs.Prelude.{◌≡◌, ◌≤◌, ◌↔◌, IfOk, IsTrue, Contains};
+    ghost use Rattle.tee_base.specs.Fakes.{called, counted, opening_plan};
+    ghost use Rattle.tee_base.specs.Faults.{Rose};
+
+    fn new(alloc: Global, failing: &[u64]) -> Result<Schedule, NoMemory>
+        ensures { IfOk result (λ plan. plan ≡ opening_plan failing.now) }
+    {
+        Ok(Schedule {
+            failing: Vec::from_slice(alloc, failing)?,
+            calls: 0,
+            faults: 0,
+        })
+    }
+
+    /// Whether the call that begins now fails.
+    fn fails_now(&mut self) -> bool
+        ensures fails { IsTrue result ↔ Contains self.old.failing self.old.calls }
+        ensures after { self.new ≡ called result self.old }
+        ensures later { self.old.faults ≤ self.new.faults }
+        ensures rose { IsTrue result → Rose self.old.faults self.new.faults }
+    {
+        let fails = self.failing.contains(&self.calls);
+        self.calls = self.calls.saturating_add(1);
+        if fails {
+            self.count_fault();
+        }
+        fails
+    }
+
+    fn count_fault(&mut self)
+        ensures after { self.new ≡ record self.old { faults = counted self.old.faults } }
+        ensures rose { Rose self.old.faults self.new.faults }
+        ensures later { self.old.faults ≤ self.new.faults }
+    {
+        self.faults = self.faults.saturating_add(1);
+    }
+}
+
+/// Moves the front of `from` into the front of `to`, and says how many bytes.
+fn copy_front(from: &[u8], to: &mut [u8]) -> usize
+    ensures room { result ≤ length to.old }
+    ensures there { result ≤ length from.now }
+    ensures all { result ≡ 0 → 0 < length to.old → length from.now ≡ 0 }
+    ensures moved { from.now ≡ take result to.new ++ drop result from.now }
+{
+    let count = from.len().min(to.len());
+    to[..count].copy_from_slice(&from[..count]);
+    count
+}
+
+/// A source in memory: it gives its bytes, and fails at the calls that it was told.
+#[derive(Debug, Drop)]
+pub struct MemSource {
+    bytes: Bytes,
+    at: usize,
+    schedule: Schedule,
+}
+
+impl Model for MemSource {
+    ghost use Rattle.std.specs.Prelude.{◌≤◌, drop, length};
+    ghost use Rattle.tee_base.specs.Fakes.{Feed};
+
+    ghost Value = { Feed };
+
+    ghost view = { λ s. record { left = drop s.at s.bytes; plan = s.schedule } };
+
+    ghost invariant = { λ s. s.at ≤ length s.bytes };
+}
+
+impl MemSource {
+    ghost use Rattle.std.specs.Prelude.{◌≡◌, IfOk};
+    ghost use Rattle.tee_base.specs.Fakes.{Feed, opening_feed};
+
+    /// A source of these bytes, whose calls with the numbers in `failing`, counted from 0, fail.
+    pub fn new(alloc: Global, bytes: Bytes, failing: &[u64]) -> Result<MemSource, NoMemory>
+        ensures { IfOk result (λ source. source ≡ opening_feed bytes failing.now) }
+    {
+        Ok(MemSource {
+            schedule: Schedule::new(alloc, failing)?,
+            bytes,
+            at: 0,
+        })
+    }
+}
+
+impl Source for MemSource {
+    ghost left = { λ s. Some s.left };
+
+    ghost failures = { λ s. s.plan.faults };
+
+    /// Besides, it fails exactly at the calls that it was told.
+    fn read(&mut self, into: &mut [u8]) -> Result<usize, SourceFailed>
+        ensures room { IfOk result (λ n. n ≤ length into.old) }
+        ensures taken { ReadConsumes (Some self.old.left) (Some self.new.left) result into.new }
+        ensures cause { OnErr result (Rose self.old.plan.faults self.new.plan.faults) }
+        ensures later { self.old.plan.faults ≤ self.new.plan.faults }
+        ensures fails { IsErr result ↔ Contains self.old.plan.failing self.old.plan.calls }
+    {
+        if self.schedule.fails_now() {
+            return Err(SourceFailed);
+        }
+        let count = copy_front(&self.bytes.as_slice()[self.at..], into);
+        self.at += count;
+        Ok(count)
+    }
+
+    fn faults(&self) -> u64 {
+        self.schedule.faults
+    }
+}
+
+/// A sink in memory: it keeps what is written, and fails at the calls that it was told.
+#[derive(Debug, Drop)]
+pub struct MemSink {
+    bytes: Vec<u8>,
+    schedule: Schedule,
+}
+
+impl Model for MemSink {
+    ghost use Rattle.tee_base.specs.Fakes.{Tray};
+
+    ghost Value = { Tray };
+
+    ghost view = { λ s. record { written = s.bytes.items; plan = s.schedule } };
+}
+
+impl MemSink {
+    ghost use Rattle.std.specs.Prelude.{◌≡◌, IfOk};
+    ghost use Rattle.tee_base.specs.Fakes.{Tray, opening_tray};
+
+    /// A sink with no bytes yet, whose calls with the numbers in `failing`, counted from 0, fail.
+    pub fn new(alloc: Global, failing: &[u64]) -> Result<MemSink, NoMemory>
+        ensures { IfOk result (λ sink. sink ≡ opening_tray failing.now) }
+    {
+        Ok(MemSink {
+            schedule: Schedule::new(alloc, failing)?,
+            bytes: Vec::new(alloc),
+        })
+    }
+
+    /// The bytes written so far.
+    pub fn written(&self) -> &[u8]
+        ensures { result.now ≡ self.now.written }
+    {
+        self.bytes.as_slice()
+    }
+}
+
+impl Sink for MemSink {
+    ghost written = { λ s. Some s.written };
+
+    ghost failures = { λ s. s.plan.faults };
+
+    /// Takes the whole piece. A write that finds no memory counts as a failure of the sink.
+    fn write(&mut self, piece: &[u8]) -> Result<usize, SinkFailed>
+        ensures room { IfOk result (λ n. n ≤ length piece.now) }
+        ensures some { IfOk result (TakesSome piece.now) }
+        ensures appended { WriteAppends (Some self.old.written) (Some self.new.written) result piece.now }
+        ensures cause { OnErr result (Rose self.old.plan.faults self.new.plan.faults) }
+        ensures later { self.old.plan.faults ≤ self.new.plan.faults }
+        ensures fails { Contains self.old.plan.failing self.old.plan.calls → IsErr result }
+        ensures whole { IfOk result (λ n. n ≡ length piece.now) }
+    {
+        if self.schedule.fails_now() {
+            return Err(SinkFailed);
+        }
+        if self.bytes.extend_from_slice(piece).is_err() {
+            self.schedule.count_fault();
+            return Err(SinkFailed);
+        }
+        Ok(piece.len())
+    }
+
+    fn faults(&self) -> u64 {
+        self.schedule.faults
+    }
+}
+
+/// A source in memory that never fails.
+#[derive(Debug, Drop)]
+pub struct SureSource {
+    bytes: Bytes,
+    at: usize,
+}
+
+impl Model for SureSource {
+    ghost use Rattle.std.specs.Prelude.{◌≤◌, List, ℕ, drop, length};
+
+    ghost Value = { List ℕ };
+
+    ghost view = { λ s. drop s.at s.bytes };
+
+    ghost invariant = { λ s. s.at ≤ length s.bytes };
+}
+
+impl SureSource {
+    ghost use Rattle.std.specs.Prelude.{◌≡◌};
+
+    /// A source of these bytes.
+    pub fn new(bytes: Bytes) -> SureSource
+        ensures { result ≡ bytes }
+    {
+        SureSource { bytes, at: 0 }
+    }
+}
+
+impl Source for SureSource {
+    ghost left = { λ s. Some s };
+
+    ghost failures = { λ _. 0 };
+
+    fn read(&mut self, into: &mut [u8]) -> Result<usize, SourceFailed> {
+        let count = copy_front(&self.bytes.as_slice()[self.at..], into);
+        self.at += count;
+        Ok(count)
+    }
+
+    fn faults(&self) -> u64 {
+        0
+    }
+}

@@ -1,0 +1,42 @@
+//! The limits that the runtime keeps.
+
+/// Bytes of a script.
+pub const SCRIPT_BYTES: u32 = 1_048_576;
+/// Hosts of one runtime.
+pub const HOSTS: usize = 16;
+/// Clients of a script, numbered from 0.
+pub const CLIENTS: u8 = 8;
+/// Instances of one application, numbered from 1.
+pub const INSTANCES: usize = 4;
+/// Sessions of one application, numbered from 1.
+pub const SESSIONS: usize = 8;
+/// Unanswered operations of one application other than closes.
+pub const OPERATIONS: usize = 16;
+/// Object handles of one instance.
+pub const HANDLES: usize = 16;
+/// Crypto operations of one instance.
+pub const CRYPTO_OPERATIONS: usize = 8;
+/// Enumerators of one instance.
+pub const ENUMERATORS: usize = 4;
+/// Asks that one entry may make.
+pub const ASKS: u32 = 65_536;
+/// Bytes of one memory reference, of one ask, and the room of an ask.
+pub const ASK_BYTES: u32 = 524_288;
+/// Bytes of an object's identifier.
+pub const IDENTIFIER_BYTES: usize = 64;
+/// Bytes of an object's secret.
+pub const SECRET_BYTES: usize = 128;
+/// The cost that the objects of one application may reach, in blocks.
+pub const QUOTA: u32 = 255;
+/// Bytes of a block.
+pub const BLOCK_BYTES: usize = 1024;
+/// The sizes of all filled parameters of a script, added up.
+pub const FILL_BYTES: u32 = 268_435_456;
+/// Turns within which a call line is answered.
+pub const CALL_TURNS: u32 = 10_000_000;
+/// Turns of one turn line.
+pub const LINE_TURNS: u32 = 1_000_000;
+/// Entries of one application's log.
+pub const LOG_ENTRIES: usize = 262_144;
+/// Parameter bytes of one application's log.
+pub const LOG_BYTES: u32 = 67_108_864;
