@@ -1,4 +1,5 @@
 pub mod Codes
 pub mod Fakes
 pub mod Faults
+pub mod Numbers
 pub mod Transfer
