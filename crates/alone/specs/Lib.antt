@@ -1,1 +1,3 @@
+pub mod Machine
+pub mod Places
 pub mod Replies

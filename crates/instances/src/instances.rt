@@ -24,11 +24,6 @@ pub struct Refusal {
     pub origin: Origin,
 }
 
-const BUSY: Refusal = Refusal {
-    code: Code::BUSY,
-    origin: Origin::Tee,
-};
-
 /// The instances and sessions of one application, in fixed tables.
 #[derive(Debug, Drop)]
 pub struct Instances {
@@ -61,21 +56,5 @@ impl Instances {
             slots: ArrayVec::new(),
             sessions: ArrayVec::new(),
         }
-    }
-
-    /// What the client's label stands for. `None` exactly where it stands for no session, in any state.
-    pub fn find(&self, client: u8, label: u32) -> Option<SessionFacts>
-        ensures { result ≡ option_map facts_of (session_of self.now client label) }
-    {
-        for session in self.sessions.as_slice() {
-            if session.client == client && session.label == label {
-                return Some(SessionFacts {
-                    session: session.number,
-                    instance: session.instance,
-                    state: session.state,
-                });
-            }
-        }
-        None
     }
 }
