@@ -26,6 +26,9 @@ place_of (params.MemInOut bytes) = places.MemInOut bytes
 abbrev pub places_of : Params → Places
 places_of ps = record { p0 = place_of ps.p0; p1 = place_of ps.p1; p2 = place_of ps.p2; p3 = place_of ps.p3 }
 
+abbrev pub no_places : Places
+no_places = record { p0 = places.Nothing; p1 = places.Nothing; p2 = places.Nothing; p3 = places.Nothing }
+
 -- a value at a value output; any other output there gives zeros, or leaves what stands there
 abbrev pub value_shown : ℕ → ℕ → Out → Shown
 value_shown x y outs.Nothing = shown.Value x y
