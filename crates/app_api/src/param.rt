@@ -38,7 +38,7 @@ impl Param {
     }
 
     /// How many bytes the memory reference has, and none where it is no memory reference.
-    fn size(&self) -> usize
+    pub fn size(&self) -> usize
         ensures { result ≡ size_of self.now }
     {
         match self {

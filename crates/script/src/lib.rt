@@ -1,0 +1,7 @@
+//! The script language: bytes into lines.
+#![tactic(auto)]
+
+mod number;
+mod param;
+mod words;
+
