@@ -7,7 +7,7 @@ use sha2::{Digest, Sha256, Sha384, Sha512};
 use std::alloc::AllocError;
 use std::marker::Model;
 
-/// A hash function of FIPS 180-4.
+/// A hash function of the SHA-2 family (FIPS 180-4 sections 6.2, 6.5 and 6.4).
 #[derive(Clone, Copy, Debug, PartialEq, Eq)]
 pub enum Hash {
     Sha256,
@@ -16,7 +16,7 @@ pub enum Hash {
 }
 
 impl Hash {
-    /// How many bytes a digest has.
+    /// How many bytes a digest has (FIPS 180-4 figure 1).
     pub fn digest_len(self) -> usize
         ensures { result ≡ digest_len self }
     {
@@ -27,7 +27,7 @@ impl Hash {
         }
     }
 
-    /// How many bytes a block has.
+    /// How many bytes a block has (FIPS 180-4 figure 1).
     pub fn block_len(self) -> usize
         ensures { result ≡ block_len self }
     {
@@ -102,7 +102,8 @@ pub fn digest(hash: Hash) -> Digester
 impl Digester {
     /// Adds bytes to the message.
     pub fn update(&mut self, bytes: &[u8])
-        ensures { (hash : Hash) (message : List ℕ) → HoldsMessage self.old hash message → HoldsMessage self.new hash (message ++ bytes.now) }
+        ensures { (hash : Hash) (message : List ℕ) → HoldsMessage self.old hash message
+            → HoldsMessage self.new hash (message ++ bytes.now) }
     {
         match &mut self.hasher {
             Hasher::Sha256(hasher) => hasher.update(bytes),
@@ -113,9 +114,12 @@ impl Digester {
 
     /// The digest of the message. The digester is then as at its start.
     pub fn finish(&mut self) -> Tag
-        ensures digest { (hash : Hash) (message : List ℕ) → HoldsMessage self.old hash message → result ≡ digest_of hash message }
-        ensures length { (hash : Hash) (message : List ℕ) → HoldsMessage self.old hash message → length result ≡ digest_len hash }
-        ensures started { (hash : Hash) (message : List ℕ) → HoldsMessage self.old hash message → HoldsMessage self.new hash [] }
+        ensures digest { (hash : Hash) (message : List ℕ) → HoldsMessage self.old hash message
+            → result ≡ digest_of hash message }
+        ensures length { (hash : Hash) (message : List ℕ) → HoldsMessage self.old hash message
+            → length result ≡ digest_len hash }
+        ensures started { (hash : Hash) (message : List ℕ) → HoldsMessage self.old hash message
+            → HoldsMessage self.new hash [] }
     {
         let bytes = match &mut self.hasher {
             Hasher::Sha256(hasher) => TagBytes::Of32(hasher.finalize_reset()),

@@ -48,7 +48,7 @@ impl Mac {
 
     /// The code of the message. The value is then as at its start.
     pub fn finish(&mut self) -> Tag
-        ensures tag { (hash : Hash) (key message : List ℕ) → HoldsKeyedMessage self.old hash key message
+        ensures code { (hash : Hash) (key message : List ℕ) → HoldsKeyedMessage self.old hash key message
             → result ≡ hmac_of hash key message }
         ensures length { (hash : Hash) (key message : List ℕ) → HoldsKeyedMessage self.old hash key message
             → length result ≡ digest_len hash }
@@ -62,8 +62,8 @@ impl Mac {
         outer.finish()
     }
 
-    /// Whether these are the bytes of the message's code, all of them and no more. The value is then
-    /// as at its start.
+    /// Whether these are the bytes of the message's code, all of them and no more. It looks at every
+    /// byte before it answers. The value is then as at its start.
     pub fn compare(&mut self, tag: &[u8]) -> bool
         ensures same { (hash : Hash) (key message : List ℕ) → HoldsKeyedMessage self.old hash key message
             → (IsTrue result ↔ (tag.now ≡ hmac_of hash key message)) }

@@ -14,9 +14,9 @@ outer_holds c hash key message held =
     let started : HoldsMessage c.copied-outer.result hash (outer_block hash key) = rw c.copied-outer.ensures held.outer_start in
     c.update.ensures hash (outer_block hash key) started
 
-pub returns-clause-tag : goal.returns-clause-tag
+pub returns-clause-code : goal.returns-clause-code
 unfolding hmac_of
-returns-clause-tag c hash key message held =
+returns-clause-code c hash key message held =
     let inner : c.finish-inner_digest.result ≡ digest_of hash (inner_block hash key ++ message)
     = c.finish-inner_digest.ensures.digest hash (inner_block hash key ++ message) held.inner in
     c.finish.ensures.digest hash (outer_block hash key ++ c.as_slice.result.now) (outer_holds c hash key message held)
