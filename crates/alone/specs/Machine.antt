@@ -6,14 +6,12 @@ use Rattle.instances.specs.Instances.{Table, no_instances}
 use Rattle.op_queue.specs.Queue.{Queue, empty_queue}
 use Rattle.alone.specs.declared.running.Instance.{Instance}
 
--- one application's machine: what its instances begin as, its index among the hosts, the seed, how often power was lost,
--- the place in the random stream, the sessions, the instances, the unanswered operations, how many turns were made
+-- one application's machine: what its instances begin as, its index among the hosts, the seed, the sessions, the instances,
+-- the unanswered operations, how many turns were made
 pub record Machine (A : Type 0) : Type 0 where
   pub template : A
   pub index : ℕ
   pub seed : List ℕ
-  pub boot : ℕ
-  pub place : ℕ
   pub table : Table
   pub instances : List (Instance A)
   pub queue : Queue
@@ -22,7 +20,7 @@ pub record Machine (A : Type 0) : Type 0 where
 -- how each machine begins
 abbrev pub start : {A : Type 0} → Host A → ℕ → List ℕ → Machine A
 start host index seed = record {
-  template = host.template; index = index; seed = seed; boot = 0; place = 0;
+  template = host.template; index = index; seed = seed;
   table = no_instances host.properties; instances = []; queue = empty_queue; turns = 0;
 }
 

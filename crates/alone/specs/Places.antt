@@ -1,5 +1,5 @@
 -- Where outputs are delivered, and what a client is shown (TEE Client API 1.0, sections 3.2.3 and 4.5.6; TEE Internal Core API 1.3, section 4.3.6.4).
-use Rattle.std.specs.Prelude.{ℕ, ◌==◌, Bool, true, false, ◌||◌, ◌&&◌, nat_le, nat_lt, List, [], if◌then◌else◌, length}
+use Rattle.std.specs.Prelude.{ℕ, min, ◌-◌, ◌^◌, ◌==◌, Bool, true, false, ◌||◌, ◌&&◌, nat_le, nat_lt, List, [], if◌then◌else◌, length}
 use Rattle.app_api.specs.declared.param.Param.{Param}
 use Rattle.app_api.specs.declared.param.Params.{Params}
 use Rattle.app_api.specs.declared.param.Param.TheVariants as params
@@ -36,11 +36,15 @@ value_shown x y (outs.Value a b) = shown.Value a b
 value_shown x y (outs.Mem bytes) = shown.Value x y
 value_shown x y (outs.Size n) = shown.Value x y
 
+-- how many bytes there are, as a size of 32 bits says it; no memory reference is longer than 524,288 bytes
+abbrev pub size_of_bytes : List ℕ → ℕ
+size_of_bytes bytes = min (length bytes) (2 ^ 32 - 1)
+
 -- memory at a memory output: the size, and the bytes where there is room for them; any other output leaves what stands there
 abbrev pub memory_shown : List ℕ → ℕ → Out → Shown
-memory_shown before room outs.Nothing = shown.Mem (length before) before
-memory_shown before room (outs.Value a b) = shown.Mem (length before) before
-memory_shown before room (outs.Mem bytes) = if nat_le (length bytes) room then shown.Mem (length bytes) bytes else shown.Size (length bytes)
+memory_shown before room outs.Nothing = shown.Mem (size_of_bytes before) before
+memory_shown before room (outs.Value a b) = shown.Mem (size_of_bytes before) before
+memory_shown before room (outs.Mem bytes) = if nat_le (length bytes) room then shown.Mem (size_of_bytes bytes) bytes else shown.Size (size_of_bytes bytes)
 memory_shown before room (outs.Size n) = shown.Size n
 
 -- what is shown of an output at a position

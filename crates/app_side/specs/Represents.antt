@@ -1,0 +1,24 @@
+-- Which machine a running application stands for.
+use Rattle.std.specs.Prelude.{ℕ, ◌≡◌, List, Option, None, Some}
+use Rattle.op_queue.specs.declared.operation.Operation.{Operation}
+use Rattle.op_queue.specs.Queue.{Queue, operation_of}
+use Rattle.alone.specs.declared.reply.Reply.{Reply}
+use Rattle.alone.specs.Machine.{Machine}
+use Rattle.alone.specs.Step.{Stepped}
+use Rattle.app_side.specs.declared.side.AppSide.{AppSide}
+
+-- the machine whose parts are kept
+abbrev pub machine_of : {A : Type 0} → AppSide A → Machine A
+machine_of side = record {
+  template = side.template; index = side.application; seed = side.seed;
+  table = side.table; instances = side.instances.items; queue = side.queue; turns = side.turns;
+}
+
+-- the value stands for the machine: it agrees with it in each part that it keeps
+pub record Represents {A : Type 0} (side : AppSide A) (m : Machine A) : Type 0 where
+  pub parts : m ≡ machine_of side
+
+-- the value and the replies are those of a step
+pub record IsStep {A : Type 0} (side : AppSide A) (replies : List Reply) (s : Stepped A) : Type 0 where
+  pub machine : machine_of side ≡ s.machine
+  pub replies_are : replies ≡ s.replies
