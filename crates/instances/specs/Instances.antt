@@ -1,5 +1,5 @@
 -- Instances and sessions of one application (TEE Internal Core API 1.3, sections 2.1.3 and 4.5; TEE Client API 1.0, section 4.5.5).
-use Rattle.std.specs.Prelude.{ℕ, ◌≡◌, ◌≤◌, ◌<◌, ◌==◌, nat_le, Bool, true, false, not, ◌&&◌, ◌||◌, List, [], ◌∷◌, ◌++◌, Option, None, Some, is_some, option_map, Result, Ok, Err, if◌then◌else◌, find, filter, map, length}
+use Rattle.std.specs.Prelude.{ℕ, ◌≡◌, ◌≢◌, ◌≤◌, ◌<◌, ◌==◌, nat_le, Bool, true, false, not, ◌&&◌, ◌||◌, List, [], ◌∷◌, ◌++◌, Option, None, Some, is_some, option_map, Result, Ok, Err, if◌then◌else◌, find, filter, map, length, All, AllPairs}
 use Rattle.std.specs.List.{list_any}
 use Rattle.tee_base.specs.Numbers.{lowest_free}
 use Rattle.tee_base.specs.declared.codes.Code.{Code}
@@ -64,23 +64,23 @@ busy = record { code = record { 0 = 4294901773 }; origin = Tee }
 -- an instance of its own: the lowest free number of four
 abbrev pub own_instance : Table → Result Admission Refusal
 own_instance t =
-  if nat_le 4 (length t.slots) then Err busy
-  else Ok (record { session = lowest_free (session_numbers t); instance = lowest_free (instance_numbers t); new_instance = true })
+    if nat_le 4 (length t.slots) then Err busy
+    else Ok (record { session = lowest_free (session_numbers t); instance = lowest_free (instance_numbers t); new_instance = true })
 
 -- the one instance: it takes no second session unless it is multi, and none once its destroy entry has begun
 abbrev pub shared_instance : Table → List Slot → Result Admission Refusal
 shared_instance t [] = own_instance t
 shared_instance t (slot ∷ slots) =
-  if (has_session t slot.number && not t.properties.multi) || slot.ending then Err busy
-  else Ok (record { session = lowest_free (session_numbers t); instance = slot.number; new_instance = false })
+    if (has_session t slot.number && not t.properties.multi) || slot.ending then Err busy
+    else Ok (record { session = lowest_free (session_numbers t); instance = slot.number; new_instance = false })
 
 -- what a client's open is admitted to, or the first refusal: a label in use, eight sessions, no room in the one instance, four instances
 abbrev pub admission_of : Table → ℕ → ℕ → Result Admission Refusal
 admission_of t client label =
-  if is_some (session_of t client label) then Err bad_state
-  else if nat_le 8 (length t.sessions) then Err busy
-  else if t.properties.single then shared_instance t t.slots
-  else own_instance t
+    if is_some (session_of t client label) then Err bad_state
+    else if nat_le 8 (length t.sessions) then Err busy
+    else if t.properties.single then shared_instance t t.slots
+    else own_instance t
 
 -- the table with one session more, which is opening, and with its instance where that is new
 abbrev pub entered : Table → ℕ → ℕ → Admission → Table
@@ -126,7 +126,25 @@ ended t instance = record {
   sessions = map (killed instance) (filter (stays_after_end instance) t.sessions);
 }
 
--- what each table keeps: the tables are fixed, and a session's number is one of eight, an instance's one of four
+-- the session is there
+abbrev pub has_number : Table → ℕ → Bool
+has_number t number = list_any (λ s. s.number == number) t.sessions
+
+-- two sessions that differ in number
+abbrev pub AreApart : Session → Session → Type 0
+AreApart s other = s.number ≢ other.number
+
+-- two instances that differ in number
+abbrev pub SlotsApart : Slot → Slot → Type 0
+SlotsApart slot other = slot.number ≢ other.number
+
+-- what each table keeps: at most four instances, numbered from 1 to 4, and one of an application that is single;
+-- at most eight sessions, numbered from 1 to 8; and no number twice
 pub record IsTable (t : Table) : Type 0 where
   pub few_slots : length t.slots ≤ 4
   pub few_sessions : length t.sessions ≤ 8
+  pub instance_numbers : All (λ slot. (1 ≤ slot.number) × (slot.number ≤ 4)) t.slots
+  pub session_numbers : All (λ s. (1 ≤ s.number) × (s.number ≤ 8)) t.sessions
+  pub slots_apart : AllPairs SlotsApart t.slots
+  pub sessions_apart : AllPairs AreApart t.sessions
+  pub one_instance : t.properties.single ≡ true → length t.slots ≤ 1

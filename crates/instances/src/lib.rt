@@ -3,6 +3,7 @@
 
 mod instances;
 mod session;
+mod tables;
 
 pub use instances::{Admission, Instances, Refusal};
 pub use session::{SessionFacts, SessionState};
