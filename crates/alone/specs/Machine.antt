@@ -24,12 +24,16 @@ start host index seed = record {
   table = no_instances host.properties; instances = []; queue = empty_queue; turns = 0;
 }
 
-abbrev pub instance_at : {A : Type 0} → Machine A → ℕ → Option (Instance A)
-instance_at m i = find (λ inst. inst.number == i) m.instances
+abbrev pub is_number : {A : Type 0} → ℕ → Instance A → Bool
+is_number i inst = inst.number == i
 
--- the instance with its number changed
-abbrev pub replaced : {A : Type 0} → Instance A → Instance A → Instance A
-replaced new old = if old.number == new.number then new else old
+abbrev pub instance_at : {A : Type 0} → Machine A → ℕ → Option (Instance A)
+instance_at m i = find (is_number i) m.instances
+
+-- the list with the first instance of the same number replaced
+abbrev pub put_instance : {A : Type 0} → Instance A → List (Instance A) → List (Instance A)
+put_instance new [] = []
+put_instance new (old ∷ more) = if old.number == new.number then new ∷ more else old ∷ put_instance new more
 
 abbrev pub with_instance : {A : Type 0} → Machine A → Instance A → Machine A
-with_instance m inst = record m { instances = map (replaced inst) m.instances }
+with_instance m inst = record m { instances = put_instance inst m.instances }

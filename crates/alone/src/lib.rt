@@ -8,4 +8,4 @@ mod running;
 pub use app_api::Call;
 pub use places::{Place, Places};
 pub use reply::{Outputs, Replies, Reply, Shown};
-pub use running::{Instance, Running, Stage, Waits};
+pub use running::{Ending, Instance, Running, Stage, Waits};

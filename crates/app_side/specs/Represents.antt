@@ -1,11 +1,10 @@
 -- Which machine a running application stands for.
-use Rattle.std.specs.Prelude.{ℕ, ◌≡◌, List, Option, None, Some}
-use Rattle.op_queue.specs.declared.operation.Operation.{Operation}
-use Rattle.op_queue.specs.Queue.{Queue, operation_of}
+use Rattle.std.specs.Prelude.{ℕ, ◌≡◌, List}
 use Rattle.alone.specs.declared.reply.Reply.{Reply}
 use Rattle.alone.specs.Machine.{Machine}
 use Rattle.alone.specs.Step.{Stepped}
 use Rattle.app_side.specs.declared.side.AppSide.{AppSide}
+use Rattle.app_side.specs.declared.side.Called.{Called}
 
 -- the machine whose parts are kept
 abbrev pub machine_of : {A : Type 0} → AppSide A → Machine A
@@ -18,7 +17,14 @@ machine_of side = record {
 pub record Represents {A : Type 0} (side : AppSide A) (m : Machine A) : Type 0 where
   pub parts : m ≡ machine_of side
 
--- the value and the replies are those of a step
-pub record IsStep {A : Type 0} (side : AppSide A) (replies : List Reply) (s : Stepped A) : Type 0 where
+-- the value and what became of the call are those of a step
+pub record IsCalled {A : Type 0} (side : AppSide A) (called : Called) (number : ℕ) (s : Stepped A) : Type 0 where
   pub machine : machine_of side ≡ s.machine
-  pub replies_are : replies ≡ s.replies
+  pub replies : called.replies ≡ s.replies
+  pub instance : called.instance ≡ s.instance
+  pub op : called.op ≡ number
+
+-- the value and the replies are those of a step
+pub record IsTurned {A : Type 0} (side : AppSide A) (given : List Reply) (s : Stepped A) : Type 0 where
+  pub machine : machine_of side ≡ s.machine
+  pub replies : given ≡ s.replies

@@ -2,3 +2,10 @@
 #![tactic(auto)]
 
 mod deliver;
+mod entries;
+mod place;
+mod side;
+mod turns;
+
+pub use alone::{Call, Replies, Reply};
+pub use side::{AppSide, Called};

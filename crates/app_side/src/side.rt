@@ -1,8 +1,5 @@
 //! What is kept of a running application.
 
-ghost use Rattle.std.specs.Prelude.{◌≡◌, ◌<◌, ◌^◌, IfOk, true};
-ghost use Rattle.alone.specs.Machine.{start};
-
 use alone::{Instance, Replies};
 use app_api::{Application, Host};
 use instances::Instances;
@@ -23,11 +20,12 @@ pub struct AppSide<A> {
     pub(crate) turns: u64,
 }
 
-/// What became of a call: its operation's number, the instance that it waits for (0 where it is answered already), and
-/// the replies.
+/// What became of a call.
 #[derive(Debug, Drop)]
 pub struct Called {
+    /// The number of its operation.
     pub op: u64,
+    /// The instance for which it waits, 0 where it is answered already.
     pub instance: u8,
     pub replies: Replies,
 }
