@@ -1,6 +1,5 @@
 -- Client operations of one application, and their cancellation (TEE Client API 1.0, sections 4.5.5 to 4.5.8; TEE Internal Core API 1.3, section 4.10).
-use Rattle.std.specs.Prelude.{ℕ, ◌+◌, ◌≡◌, ◌≤◌, ◌<◌, ◌==◌, nat_le, nat_lt, Bool, true, false, not, ◌&&◌, ◌||◌, List, [], ◌∷◌, ◌++◌, Option, None, Some, is_some, option_map, if◌then◌else◌, find, filter, map, count_by, length}
-use Rattle.std.specs.List.Sorted.{IsStrictlyIncreasing}
+use Rattle.std.specs.Prelude.{ℕ, ◌+◌, ◌≡◌, ◌≤◌, ◌<◌, ◌==◌, nat_le, nat_lt, Bool, true, false, not, ◌&&◌, ◌||◌, List, [], ◌∷◌, ◌++◌, Option, None, Some, is_some, option_map, if◌then◌else◌, find, filter, map, count_by, length, All, AllPairs}
 use Rattle.app_api.specs.declared.call.Call.{Call}
 use Rattle.app_api.specs.declared.call.Call.TheVariants.{Open, Invoke, Close}
 use Rattle.op_queue.specs.declared.operation.Operation.{Operation}
@@ -131,7 +130,18 @@ flag_of q op = if_operation (operation_of q op) false (λ o. reads_flag o.progre
 abbrev pub runs : Queue → ℕ → Bool
 runs q op = if_operation (operation_of q op) false (λ o. is_running o.progress)
 
--- what each queue keeps: numbers in ascending order, all of them below the next
+-- the mask of the operation that runs
+abbrev pub mask_at : Queue → ℕ → Bool
+mask_at q op = if_operation (operation_of q op) true (λ o. mask_of o.progress)
+
+-- an operation that came before another has the lesser number
+abbrev pub ComesBefore : Operation → Operation → Type 0
+ComesBefore o later = o.number < later.number
+
+-- what each queue keeps: at most sixteen operations other than closes, with numbers in ascending order from 1 on, all of
+-- them below the next
 pub record IsQueue (q : Queue) : Type 0 where
   pub first : 1 ≤ q.next
-  pub ordered : IsStrictlyIncreasing (map (λ o. o.number) (q.operations))
+  pub few : count_by (λ o. not (is_close o.progress)) q.operations ≤ 16
+  pub numbers : All (λ o. (1 ≤ o.number) × (o.number < q.next)) q.operations
+  pub ordered : AllPairs ComesBefore q.operations

@@ -3,6 +3,7 @@
 
 mod operation;
 mod queue;
+mod scans;
 
 pub use operation::{Begun, Cancelled, OpFacts, QueueAnswer};
 pub use queue::OpQueue;
