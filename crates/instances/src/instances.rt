@@ -159,18 +159,16 @@ impl Instances {
         tables::known_as(self.sessions.as_slice(), client, label)
     }
 
-    /// The session is in this state from now on.
+    /// The session is in this state from now on. Where there is none of this number, nothing changes.
     pub fn set(&mut self, session: u8, state: SessionState)
-        requires { IsTrue (has_number self.old session) }
         ensures { self.new ≡ state_set self.old session state }
     {
         let sessions = tables::with_state(self.sessions.as_slice(), session, state);
         self.sessions = sessions;
     }
 
-    /// The session is gone.
+    /// The session is gone. Where there is none of this number, nothing changes.
     pub fn remove(&mut self, session: u8)
-        requires { IsTrue (has_number self.old session) }
         ensures { self.new ≡ session_removed self.old session }
     {
         let sessions = tables::without_session(self.sessions.as_slice(), session);

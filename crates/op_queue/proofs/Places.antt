@@ -36,7 +36,7 @@ none_found p (x ∷ xs) fails =
     let here : p x ≡ false = fails zero x (omega arith) in
     rw here (none_found p xs (λ k d lt. fails (suc k) d (omega arith)))
 
-some_none : {X : Type 0} (x : X) → Some x ≡ None → ⊥
+pub some_none : {X : Type 0} (x : X) → Some x ≡ None → ⊥
 some_none x e = cc
 
 pub place_none : {X : Type 0} (p : X → Bool) (xs : List X) → position p xs ≡ None → find p xs ≡ None

@@ -185,14 +185,27 @@ impl OpQueue {
         }
     }
 
-    /// Takes the operation out, which is answered.
+    /// Takes the operation out, which is answered. Where there is none of this number, nothing changes.
     pub fn answer(&mut self, op: u64)
-        requires { IsTrue (is_some (operation_of self.old op)) }
         ensures { self.new ≡ without self.old op }
     {
         match scans::place_of(self.operations.as_slice(), op) {
-            None => unreachable!(),
+            None => return,
             Some(index) => scans::take_out(&mut self.operations, index),
         }
+    }
+
+    /// Whether 16 operations other than closes are unanswered.
+    pub fn is_full(&self) -> bool
+        ensures { result ≡ is_full self.now }
+    {
+        scans::count_others(self.operations.as_slice()) >= limits::OPERATIONS
+    }
+
+    /// The unanswered operations, in ascending order of their numbers.
+    pub fn operations(&self) -> &[Operation]
+        ensures { result.now ≡ self.now.operations }
+    {
+        self.operations.as_slice()
     }
 }
