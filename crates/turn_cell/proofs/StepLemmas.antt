@@ -1,0 +1,366 @@
+-- Each atomic step that leaves the ranges alone keeps the rule of the cell.
+use Rattle.std.proofs.Common.{◌≡◌, ◌≢◌, ℕ, zero, suc, ◌+◌, ◌≤◌, ◌<◌, ◌⊎◌, inl, inr, ⊎_elim, eqb, List, [], ◌∷◌, length, set, slice_index, slice_set, Option, Some, None, refl, ap, sym, ◌∙◌, subst, arith, length-set, le_refl}
+use Rattle.std.proofs.lemmas.List.{get_or-set_same}
+use mathlib.Core.Option as logic
+use mathlib.Core.Logic.{dite}
+use mathlib.Core.List.{IsPrefix}
+use native.Mathlib.Decide.{ℕ_discrete, dec_le}
+use prog.Atomic.{either}
+use lib.ListN.{get_elem?}
+use Rattle.atomic_table.specs.Table.{State, Me, Act, keeps, takes, gives, Valid, Allows, stepped, homes_after, carried_after, opening, Final, Seen}
+use Rattle.atomic_table.proofs.Lists.{at_set, set_here, set_else, exchanged}
+use Rattle.turn_cell.specs.declared.view.SeatView.{SeatView}
+use Rattle.turn_cell.specs.declared.view.Turn.{Turn}
+use Rattle.turn_cell.specs.declared.view.Turn.TheVariants.{Free, Taken, Announced}
+use Rattle.turn_cell.specs.View.{segment, ChangesOnlyWithin, Continues, opening_view, with_turn, with_word, with_miss, with_look, with_offer, given, settled, longer, taken_parts, taken_trail, announced_parts, announced_trail}
+use Rattle.turn_cell.specs.Rule.{TurnFits, HasTurn, IsHolder, Owns, ViewFits, SeatIs, AtHome, IsConsistent, TakesTurn, tries, waits, announces, releases, looks, settles}
+use Rattle.turn_cell.proofs.Segments.{prefix_refl, prefix_nil, prefix_trans, prefix_longer, length-segment, segment_whole, spared}
+
+-- what is looked up lies within the list
+pub at_within : {V : Type 0} (l : List V) (i : ℕ) (v : V) → get_elem? l i ≡ logic.some v → i < length l
+at_within [] i v e = absurd (logic.some-ne-none v (sym e))
+at_within (x ∷ xs) zero v e = omega arith
+at_within (x ∷ xs) (suc i) v e = let h = at_within xs i v e in omega arith
+
+-- one place has one view
+pub one_view : {V : Type 0} (l : List V) (i : ℕ) (v w : V) → get_elem? l i ≡ logic.some v → get_elem? l i ≡ logic.some w → v ≡ w
+one_view l i v w e f = logic.some-injective v w (sym e ∙ f)
+
+-- what is true of a seat's view stays so when one view changes, if it stays so of that one
+pub still : {V : Type 0} (views : List V) (id : ℕ) (v w : V) (F : V → Type 0) → get_elem? views id ≡ logic.some v → (F v → F w) → (i : ℕ)
+    → ((u : V) × (get_elem? views i ≡ logic.some u) × F u) → (u : V) × (get_elem? (set views id w) i ≡ logic.some u) × F u
+still {V} views id v w F at carry i h =
+    dite (ℕ_discrete i id)
+        (λ (e : i ≡ id).
+            let here : get_elem? (set views id w) i ≡ logic.some w = rw e (set_here views id w (at_within views id v at)) in
+            let same : h.0 ≡ v = one_view views id h.0 v (rw e at h.1) at in
+            (w, here, carry (subst F same h.2)))
+        (λ (ne : i ≢ id). (h.0, set_else views id i w ne ∙ h.1, h.2))
+
+-- two seats' ranges lie one beside the other
+pub apart : (owner : ℕ → ℕ) (i j k m first count : ℕ) → i ≢ j → 0 < m → 0 < count
+    → ((part : ℕ) → k ≤ part → part < k + m → owner part ≡ i) → ((part : ℕ) → first ≤ part → part < first + count → owner part ≡ j)
+    → (k + m ≤ first) ⊎ (first + count ≤ k)
+apart owner i j k m first count ne some_left some_right left right =
+    dite (dec_le (k + m) first) (λ h. inl h)
+        (λ n. dite (dec_le (first + count) k) (λ h. inr h)
+            (λ o. dite (dec_le k first)
+                (λ (h : k ≤ first). absurd (ne (sym (left first h (omega arith)) ∙ right first (le_refl first) (omega arith))))
+                (λ (h : ¬ (k ≤ first)). absurd (ne (sym (left k (le_refl k) (omega arith)) ∙ right k (omega arith) (omega arith))))))
+
+-- another seat's range is the same after a change of the holder's
+pub others_spared : {A : Type 0} (owner : ℕ → ℕ) (i j k m first count : ℕ) (old new : List A) → i ≢ j → 0 < count
+    → ((part : ℕ) → k ≤ part → part < k + m → owner part ≡ i) → ((part : ℕ) → first ≤ part → part < first + count → owner part ≡ j)
+    → ChangesOnlyWithin first count old new → segment k m new ≡ segment k m old
+others_spared owner i j k zero first count old new ne some_part left right c = refl
+others_spared owner i j k (suc m) first count old new ne some_part left right c =
+    spared first count k (suc m) old new c (apart owner i j k (suc m) first count ne (omega arith) some_part left right)
+
+module _ {P E : Type 0} where
+  -- nobody has the turn where the word is 0
+  pub nobody : (seat holder first count : ℕ) (parts : List P) (trail : List E) (turn : Turn P E) → TurnFits 0 holder seat first count parts trail turn
+      → (word' holder' : ℕ) (parts' : List P) (trail' : List E) → TurnFits word' holder' seat first count parts' trail' turn
+  nobody seat holder first count parts trail Free h word' holder' parts' trail' = tt
+  nobody seat holder first count parts trail (Taken p t) h word' holder' parts' trail' = let e = h.0 in absurd (omega arith)
+  nobody seat holder first count parts trail (Announced p t q u) h word' holder' parts' trail' = let e = h.0 in absurd (omega arith)
+
+  -- nobody has it but the holder
+  pub nobody_else : (word seat holder first count : ℕ) (parts : List P) (trail : List E) (turn : Turn P E) → seat ≢ holder → TurnFits word holder seat first count parts trail turn
+      → (word' holder' : ℕ) (parts' : List P) (trail' : List E) → TurnFits word' holder' seat first count parts' trail' turn
+  nobody_else word seat holder first count parts trail Free ne h word' holder' parts' trail' = tt
+  nobody_else word seat holder first count parts trail (Taken p t) ne h word' holder' parts' trail' = absurd (ne h.1)
+  nobody_else word seat holder first count parts trail (Announced p t q u) ne h word' holder' parts' trail' = absurd (ne h.1)
+
+module _ {T P E : Type 0} (parts_of : T → List P) (trail_of : T → List E) (count : ℕ) where
+  abbrev pub Cell : Type 0
+  Cell = State (Option T) (SeatView P E)
+
+  abbrev pub Rule : Cell → Type 0
+  Rule = IsConsistent parts_of trail_of count
+
+  -- a step of a seat that owns the same parts afterwards: n is the word after it
+  pub renew : (s : Cell) (r : Rule s) (id n : ℕ) (c : List (ℕ × Option T)) (v w : SeatView P E) (a : Act (Option T)) (holder : ℕ) (parts : List P) (trail : List E)
+      → get_elem? s.views id ≡ logic.some v → w.first ≡ v.first → length w.own ≡ length v.own
+      → length (homes_after s.homes c a) ≡ 1 → length parts ≡ count
+      → (n ≡ 0 → AtHome parts_of trail_of (homes_after s.homes c a) parts trail)
+      → (0 < n → SeatIs (stepped s 0 n id c w a) holder (IsHolder n))
+      → ViewFits n holder r.owner parts trail id w
+      → ((j : ℕ) (u : SeatView P E) → j ≢ id → get_elem? s.views j ≡ logic.some u → ViewFits n holder r.owner parts trail j u)
+      → Rule (stepped s 0 n id c w a)
+  renew s r id n c v w a holder parts trail at first own one counted home held mine others =
+      let word : n ≡ slice_index (slice_set s.words 0 n) 0 = sym (get_or-set_same s.words 0 n 0 (omega (arith, r.one_word))) in
+      record {
+        holder = holder;
+        owner = r.owner;
+        parts = parts;
+        trail = trail;
+        one_word = length-set s.words 0 n ∙ r.one_word;
+        one_slot = one;
+        counted = counted;
+        home = λ e. home (word ∙ e);
+        held = subst (λ (k : ℕ). 0 < k → SeatIs (stepped s 0 n id c w a) holder (IsHolder k)) word held;
+        each = λ j u e. subst (λ (k : ℕ). ViewFits k holder r.owner parts trail j u) word
+            (⊎_elim
+                (λ (t : (j ≡ id) × (w ≡ u)).
+                    subst (λ (z : SeatView P E). ViewFits n holder r.owner parts trail j z) t.1
+                        (subst (λ (i : ℕ). ViewFits n holder r.owner parts trail i w) (sym t.0) mine))
+                (λ (t : (j ≢ id) × (get_elem? s.views j ≡ logic.some u)). others j u t.0 t.1)
+                (at_set s.views id j w u e));
+        covered = λ k h. still s.views id v w (Owns k) at (λ (o : Owns k v). (let p = o.0 in omega arith, let p = o.1 in omega arith)) (r.owner k) (r.covered k h);
+      }
+
+  -- a step that changes what its seat knows, and neither the word nor the slot
+  pub stays : (s : Cell) (r : Rule s) (id : ℕ) (c : List (ℕ × Option T)) (v w : SeatView P E)
+      → get_elem? s.views id ≡ logic.some v → w.first ≡ v.first → length w.own ≡ length v.own
+      → (HasTurn v.turn → HasTurn w.turn) → ViewFits (slice_index s.words 0) r.holder r.owner r.parts r.trail id w
+      → Rule (stepped s 0 (slice_index s.words 0) id c w keeps)
+  stays s r id c v w at first own turn fits =
+      renew s r id (slice_index s.words 0) c v w keeps r.holder r.parts r.trail at first own r.one_slot r.counted r.home
+          (λ h. still s.views id v w (IsHolder (slice_index s.words 0)) at (λ (o : IsHolder (slice_index s.words 0) v). (turn o.0, let p = o.1 in omega arith, let p = o.2 in omega arith)) r.holder (r.held h))
+          fits (λ j u ne e. r.each j u e)
+
+  abbrev counted_view : SeatView P E → ℕ → ℕ → ℕ → ℕ → SeatView P E
+  counted_view v misses missed_word looks found_word = record v { misses = misses; missed_word = missed_word; looks = looks; found_word = found_word }
+
+  -- its counters alone
+  pub counts : (s : Cell) (r : Rule s) (id : ℕ) (c : List (ℕ × Option T)) (v : SeatView P E) (misses missed_word looks found_word : ℕ) → get_elem? s.views id ≡ logic.some v
+      → Rule (stepped s 0 (slice_index s.words 0) id c (counted_view v misses missed_word looks found_word) keeps)
+  counts s r id c v misses missed_word looks found_word at =
+      let f = r.each id v at in
+      stays s r id c v (counted_view v misses missed_word looks found_word) at refl refl (λ h. h)
+          record { inside = f.inside; owns = f.owns; knows = f.knows; originals = f.originals; behind = f.behind; incoming_behind = f.incoming_behind; turn_fits = f.turn_fits }
+
+  -- the load of a look
+  pub looks_allowed : (slots id : ℕ) (me : Me (Option T) (SeatView P E)) → Allows Rule slots id me 0 (λ n. n) (looks me)
+  looks_allowed slots id me s r h at b =
+      let word = slice_index s.words 0 in
+      (with_look me.0 word, keeps, tt, counts s r id me.1 me.0 me.0.misses me.0.missed_word (me.0.looks + 1) word at, refl)
+
+  -- the word is 0, and the seat takes the turn: the value's parts and trail are taken down
+  takes_turn : (s : Cell) (r : Rule s) (id n : ℕ) (c : List (ℕ × Option T)) (v : SeatView P E) → get_elem? s.views id ≡ logic.some v
+      → n ≡ v.first + 1 → 0 < length v.own → slice_index s.words 0 ≡ 0
+      → (w : SeatView P E) × (a : Act (Option T)) × Valid s.homes c a × Rule (stepped s 0 n id c w a) × TakesTurn parts_of trail_of (v, c) (w, carried_after c a)
+  takes_turn s r id n c v at number some_part free =
+      let home = r.home free in
+      let x : T = home.0 in
+      let f = r.each id v at in
+      let w : SeatView P E = with_turn v (Taken (parts_of x) (trail_of x)) 0 in
+      let f' : ViewFits n id r.owner r.parts r.trail id w = record {
+        inside = f.inside;
+        owns = f.owns;
+        knows = f.knows;
+        originals = f.originals;
+        behind = f.behind;
+        incoming_behind = f.incoming_behind;
+        turn_fits = (number, refl, home.2, home.3);
+      } in
+      (
+        w,
+        takes 0 (Some x),
+        home.1,
+        renew s r id n c v w (takes 0 (Some x)) id r.parts r.trail at refl refl (length-set s.homes 0 logic.none ∙ r.one_slot) r.counted
+            (λ e. absurd (omega arith))
+            (λ h. (w, set_here s.views id w (at_within s.views id v at), (tt, number, some_part)))
+            f'
+            (λ j u ne e.
+                let g = r.each j u e in
+                record {
+                  inside = g.inside;
+                  owns = g.owns;
+                  knows = g.knows;
+                  originals = g.originals;
+                  behind = g.behind;
+                  incoming_behind = g.incoming_behind;
+                  turn_fits = nobody j r.holder u.first (length u.own) r.parts r.trail u.turn
+                      (subst (λ (k : ℕ). TurnFits k r.holder j u.first (length u.own) r.parts r.trail u.turn) free g.turn_fits) n id r.parts r.trail;
+                }),
+        (x, refl, (rw (home.2) (sym f.knows), rw (home.3) f.behind)),
+      )
+
+  -- the step of a try, which counts a miss where the value is out
+  pub tries_allowed : (slots id n : ℕ) (me : Me (Option T) (SeatView P E)) → n ≡ me.0.first + 1 → 0 < length me.0.own
+      → Allows Rule slots id me 0 (λ word. either (eqb word 0) n word) (tries parts_of trail_of me)
+  tries_allowed slots id n me number some_part s r h at b =
+      let word = slice_index s.words 0 in
+      let v : SeatView P E = me.0 in
+      exchanged word 0 n
+          (λ (k : ℕ). (w : SeatView P E) × (a : Act (Option T)) × Valid s.homes me.1 a × Rule (stepped s 0 k id me.1 w a) × tries parts_of trail_of me word (w, carried_after me.1 a))
+          (λ free. let t = takes_turn s r id n me.1 v at number some_part free in (t.0, t.1, t.2, t.3, (λ e. t.4, λ ne. absurd (ne free))))
+          (λ out. (with_miss v word, keeps, tt, counts s r id me.1 v (v.misses + 1) word v.looks word at, (λ e. absurd (out e), λ ne. refl)))
+
+  -- the step of a seat that waits
+  pub waits_allowed : (slots id n : ℕ) (me : Me (Option T) (SeatView P E)) → n ≡ me.0.first + 1 → 0 < length me.0.own
+      → Allows Rule slots id me 0 (λ word. either (eqb word 0) n word) (waits parts_of trail_of me)
+  waits_allowed slots id n me number some_part s r h at b =
+      let word = slice_index s.words 0 in
+      let v : SeatView P E = me.0 in
+      exchanged word 0 n
+          (λ (k : ℕ). (w : SeatView P E) × (a : Act (Option T)) × Valid s.homes me.1 a × Rule (stepped s 0 k id me.1 w a) × waits parts_of trail_of me word (w, carried_after me.1 a))
+          (λ free. let t = takes_turn s r id n me.1 v at number some_part free in (t.0, t.1, t.2, t.3, (λ e. t.4, λ ne. absurd (ne free))))
+          (λ out. (with_word v word, keeps, tt, counts s r id me.1 v v.misses v.missed_word v.looks word at, (λ e. absurd (out e), λ ne. refl)))
+
+  -- the step in which a seat with the turn announces the value that it gives
+  pub announces_allowed : (slots id n : ℕ) (me : Me (Option T) (SeatView P E)) (value : T) → n ≡ me.0.first + 1
+      → me.0.turn ≡ Taken (taken_parts me.0.turn) (taken_trail me.0.turn)
+      → ChangesOnlyWithin me.0.first (length me.0.own) (taken_parts me.0.turn) (parts_of value) → IsPrefix (taken_trail me.0.turn) (trail_of value)
+      → Allows Rule slots id me 0 (λ word. either (eqb word n) n word) (λ word. announces parts_of trail_of (logic.some (Some value)) me)
+  announces_allowed slots id n me value number taken changes longer_trail s r h at b =
+      let word = slice_index s.words 0 in
+      let v : SeatView P E = me.0 in
+      let p : List P = taken_parts v.turn in
+      let t : List E = taken_trail v.turn in
+      let f = r.each id v at in
+      let has : TurnFits word r.holder id v.first (length v.own) r.parts r.trail (Taken p t) =
+          subst (λ (z : Turn P E). TurnFits word r.holder id v.first (length v.own) r.parts r.trail z) taken f.turn_fits in
+      let w : SeatView P E = with_offer v (parts_of value) (trail_of value) in
+      let f' : ViewFits word r.holder r.owner r.parts r.trail id w = record {
+        inside = f.inside;
+        owns = f.owns;
+        knows = f.knows;
+        originals = f.originals;
+        behind = f.behind;
+        incoming_behind = f.incoming_behind;
+        turn_fits = (has.0, has.1, has.2, has.3, changes, longer_trail);
+      } in
+      let told : announces parts_of trail_of (logic.some (Some value)) me (w, me.1) =
+          λ y e. let same : value ≡ y = cc (e) in ap (λ (z : T). (with_offer v (parts_of z) (trail_of z), me.1)) same in
+      let F : ℕ → Type 0 = λ k. (w : SeatView P E) × (a : Act (Option T)) × Valid s.homes me.1 a × Rule (stepped s 0 k id me.1 w a) × announces parts_of trail_of (logic.some (Some value)) me (w, carried_after me.1 a) in
+      let here : F word = (w, keeps, tt, stays s r id me.1 v w at refl refl (λ o. tt) f', told) in
+      exchanged word n n F (λ e. subst F e here) (λ ne. here)
+
+  -- the step in which a seat whose value is home again ends its turn
+  pub releases_allowed : (slots id : ℕ) (me : Me (Option T) (SeatView P E)) (value : T) → me.1 ≡ (0, Some value) ∷ []
+      → me.0.turn ≡ Announced (taken_parts me.0.turn) (taken_trail me.0.turn) (parts_of value) (trail_of value) → 0 < length me.0.own
+      → Allows Rule slots id me 0 (λ _. 0) (λ _. releases me)
+  releases_allowed slots id me value hand turn some_part s r h at b =
+      let word = slice_index s.words 0 in
+      let v : SeatView P E = me.0 in
+      let p : List P = taken_parts v.turn in
+      let t : List E = taken_trail v.turn in
+      let q : List P = parts_of value in
+      let u' : List E = trail_of value in
+      let f = r.each id v at in
+      let has : TurnFits word r.holder id v.first (length v.own) r.parts r.trail (Announced p t q u') =
+          subst (λ (z : Turn P E). TurnFits word r.holder id v.first (length v.own) r.parts r.trail z) turn f.turn_fits in
+      let changes : ChangesOnlyWithin v.first (length v.own) r.parts q = subst (λ (z : List P). ChangesOnlyWithin v.first (length v.own) z q) has.2 has.4 in
+      let grows : IsPrefix r.trail u' = subst (λ (z : List E). IsPrefix z u') has.3 has.5 in
+      let long : length q ≡ length r.parts = changes.0 in
+      let within : v.first + length v.own ≤ length q = let i = f.inside in omega arith in
+      let same : length (segment v.first (length v.own) q) ≡ length v.own = length-segment v.first (length v.own) q within in
+      let w : SeatView P E = given v q u' in
+      let f' : ViewFits 0 r.holder r.owner q u' id w = record {
+        inside = rw (same) within;
+        owns = λ k low high. f.owns k low (omega (arith, same));
+        knows = ap (λ (k : ℕ). segment v.first k q) (sym same);
+        originals = f.originals ∙ sym same;
+        behind = prefix_refl u';
+        incoming_behind = prefix_trans v.incoming r.trail u' f.incoming_behind grows;
+        turn_fits = tt;
+      } in
+      let hands : homes_after s.homes me.1 gives ≡ set s.homes 0 (logic.some (Some value)) = ap (λ (c : List (ℕ × Option T)). homes_after s.homes c gives) hand in
+      let rest_is : carried_after me.1 gives ≡ [] = ap (λ (c : List (ℕ × Option T)). carried_after c gives) hand in
+      let one : length (homes_after s.homes me.1 gives) ≡ 1 = ap length hands ∙ (length-set s.homes 0 (logic.some (Some value)) ∙ r.one_slot) in
+      let next : SeatView P E = given v (announced_parts v.turn) (announced_trail v.turn) in
+      let told : w ≡ next = ap (λ (z : Turn P E). given v (announced_parts z) (announced_trail z)) (sym turn) in
+      (
+        w,
+        gives,
+        tt,
+        renew s r id 0 me.1 v w gives r.holder q u' at refl same one (long ∙ r.counted)
+            (λ e. (value, ap (λ (l : List (logic.Option (Option T))). get_elem? l 0) hands ∙ set_here s.homes 0 (logic.some (Some value)) (omega (arith, r.one_slot)), refl, refl))
+            (λ k. absurd (omega arith))
+            f'
+            (λ j u ne e.
+                let g = r.each j u e in
+                record {
+                  inside = let i = g.inside in omega arith;
+                  owns = g.owns;
+                  knows = g.knows ∙ sym (others_spared r.owner j id u.first (length u.own) v.first (length v.own) r.parts q ne some_part g.owns f.owns changes);
+                  originals = g.originals;
+                  behind = prefix_trans u.trail r.trail u' g.behind grows;
+                  incoming_behind = prefix_trans u.incoming r.trail u' g.incoming_behind grows;
+                  turn_fits = nobody_else word j r.holder u.first (length u.own) r.parts r.trail u.turn (λ same. ne (same ∙ sym has.1)) g.turn_fits 0 r.holder q u';
+                }),
+        (ap (λ (z : SeatView P E). (z, carried_after me.1 gives)) told ∙ ap (λ (c : List (ℕ × Option T)). (next, c)) rest_is, same),
+      )
+
+  -- the load after a join: one of the two trails is kept
+  pub settles_allowed : (slots id : ℕ) (me : Me (Option T) (SeatView P E)) → Allows Rule slots id me 0 (λ n. n) (λ word. settles me)
+  settles_allowed slots id me s r h at b =
+      let v : SeatView P E = me.0 in
+      let f = r.each id v at in
+      let l = prefix_longer v.trail v.incoming r.trail f.behind f.incoming_behind in
+      let f' : ViewFits (slice_index s.words 0) r.holder r.owner r.parts r.trail id (settled v) = record {
+        inside = f.inside;
+        owns = f.owns;
+        knows = f.knows;
+        originals = f.originals;
+        behind = l.2;
+        incoming_behind = prefix_nil r.trail;
+        turn_fits = f.turn_fits;
+      } in
+      (settled v, keeps, tt, stays s r id me.1 v (settled v) at refl refl (λ o. o) f', (refl, l.0, l.1))
+
+  -- the views of a new cell are its first one
+  first_seat : (value : T) (j : ℕ) (u : SeatView P E) → get_elem? (opening_view (parts_of value) (trail_of value) ∷ []) j ≡ logic.some u → ViewFits 0 0 (λ k. 0) (parts_of value) (trail_of value) j u
+  first_seat value zero u e =
+      let v : SeatView P E = opening_view (parts_of value) (trail_of value) in
+      let fits : ViewFits 0 0 (λ k. 0) (parts_of value) (trail_of value) 0 v = record {
+        inside = omega arith;
+        owns = λ k low high. refl;
+        knows = segment_whole (parts_of value);
+        originals = refl;
+        behind = prefix_refl (trail_of value);
+        incoming_behind = prefix_nil (trail_of value);
+        turn_fits = tt;
+      } in
+      subst (λ (z : SeatView P E). ViewFits 0 0 (λ k. 0) (parts_of value) (trail_of value) 0 z) (logic.some-injective v u e) fits
+  first_seat value (suc j) u e = absurd (logic.some-ne-none u (sym e))
+
+  -- a new cell keeps the rule
+  pub opens : (value : T) → length (parts_of value) ≡ count → Rule (opening (0 ∷ []) (Some value ∷ []) (opening_view (parts_of value) (trail_of value)))
+  opens value counted =
+      let v : SeatView P E = opening_view (parts_of value) (trail_of value) in
+      record {
+        holder = 0;
+        owner = λ k. 0;
+        parts = parts_of value;
+        trail = trail_of value;
+        one_word = refl;
+        one_slot = refl;
+        counted = counted;
+        home = λ e. (value, refl, refl, refl);
+        held = λ h. absurd (omega arith);
+        each = first_seat value;
+        covered = λ k h. (v, refl, (omega arith, omega (arith, counted)));
+      }
+
+  -- the last value has what a free seat that owns all parts knows
+  pub ends : (s : Cell) (r : Rule s) (id : ℕ) (v : SeatView P E) → get_elem? s.views id ≡ logic.some v → v.turn ≡ Free → v.first ≡ 0 → length v.own ≡ count → 0 < length v.own
+      → (x : T) × (get_elem? s.homes 0 ≡ logic.some (logic.some (Some x))) × (parts_of x ≡ v.own) × IsPrefix v.trail (trail_of x)
+  ends s r id v at free first all some_part =
+      let word = slice_index s.words 0 in
+      let f = r.each id v at in
+      let held : 0 < word → ⊥ = λ out.
+          let h = r.held out in
+          let u : SeatView P E = h.0 in
+          let g = r.each r.holder u h.1 in
+          let begins : u.first < u.first + length u.own = let k = h.2.2 in omega arith in
+          let within : u.first < v.first + length v.own = let i = g.inside in omega (arith, r.counted) in
+          let same : r.holder ≡ id = sym (g.owns u.first (le_refl u.first) begins) ∙ f.owns u.first (omega arith) within in
+          let view : u ≡ v = one_view s.views id u v (rw same at h.1) at in
+          subst (λ (z : Turn P E). HasTurn z) (ap (λ (z : SeatView P E). z.turn) view ∙ free) h.2.0 in
+      let idle : word ≡ 0 = dite (ℕ_discrete word 0) (λ e. e) (λ ne. absurd (held (omega arith))) in
+      let home = r.home idle in
+      let whole : length v.own ≡ length r.parts = all ∙ sym r.counted in
+      let known : v.own ≡ r.parts =
+          f.knows ∙ (ap (λ (k : ℕ). segment k (length v.own) r.parts) first ∙ (ap (λ (k : ℕ). segment 0 k r.parts) whole ∙ sym (segment_whole r.parts))) in
+      (home.0, home.1, home.2 ∙ sym known, (rw (home.3) f.behind))
+
+  -- the slot of a closed table has such a value
+  pub closing : (words : List ℕ) (slots : List (Option T)) (id : ℕ) (v : SeatView P E) (found : Option T) → Final (Seen Rule id v) words slots
+      → v.turn ≡ Free → v.first ≡ 0 → length v.own ≡ count → 0 < length v.own → get_elem? slots 0 ≡ logic.some found
+      → (x : T) × (found ≡ Some x) × (parts_of x ≡ v.own) × IsPrefix v.trail (trail_of x)
+  closing words slots id v found final free first all some_part at =
+      let e = ends final.0 final.1.0 id v final.1.1 free first all some_part in
+      (e.0, logic.some-injective found (Some e.0) (sym at ∙ final.4 0 (Some e.0) e.1), e.2, e.3)

@@ -1,0 +1,44 @@
+-- What callers' clauses say of a cell and of a seat.
+use Rattle.std.specs.Prelude.{◌≡◌, ℕ, ◌<◌, List, length}
+use Rattle.atomic_table.specs.Seated.{TableId}
+use Rattle.turn_cell.specs.declared.view.SeatView.{SeatView}
+use Rattle.turn_cell.specs.declared.view.Turn.TheVariants.{Free, Taken}
+use Rattle.turn_cell.specs.declared.cell.RangeSeat.{RangeSeat}
+use Rattle.turn_cell.specs.declared.cell.TurnCell.{TurnCell}
+use Rattle.turn_cell.specs.View.{taken_parts, taken_trail}
+
+module _ {T P E : Type 0} where
+  -- what the seat knows
+  abbrev pub view : RangeSeat T P E → SeatView P E
+  view seat = seat.seat.me.0
+
+  -- which cell the seat is of
+  abbrev pub cell_id_of : RangeSeat T P E → TableId
+  cell_id_of seat = seat.seat.table_id
+
+  -- the seat doesn't have the value
+  abbrev pub IsFree : RangeSeat T P E → Type 0
+  IsFree seat = (view seat).turn ≡ Free
+
+  -- the seat has the value, and has taken down its parts and its trail
+  abbrev pub HoldsValue : RangeSeat T P E → Type 0
+  HoldsValue seat = (view seat).turn ≡ Taken (taken_parts (view seat).turn) (taken_trail (view seat).turn)
+
+  -- the seat has this value
+  abbrev pub HasTaken : (T → List P) → (T → List E) → RangeSeat T P E → T → Type 0
+  HasTaken parts_of trail_of seat value =
+      HoldsValue seat × (taken_parts (view seat).turn ≡ parts_of value) × (taken_trail (view seat).turn ≡ trail_of value)
+
+  -- which cell it is
+  abbrev pub cell_id : TurnCell T P E → TableId
+  cell_id cell = cell.table.shared.table_id
+
+  abbrev pub name_of : TurnCell T P E → ℕ
+  name_of cell = cell.name
+
+  -- how many parts its value has
+  abbrev pub part_count : (T → List P) → TurnCell T P E → ℕ
+  part_count parts_of cell = length (parts_of cell.table.shared.key.value)
+
+  abbrev pub IsSeatOf : TurnCell T P E → RangeSeat T P E → Type 0
+  IsSeatOf cell seat = cell_id_of seat ≡ cell_id cell

@@ -1,0 +1,150 @@
+// The turn: how a seat takes the value, gives it back, and looks at the word.
+ghost use Rattle.std.specs.Prelude.{◌≡◌, ◌≢◌, ◌+◌, ◌<◌, [], ◌∷◌, IfErr, IfOk, None, Some, length};
+ghost use mathlib.Core.List.{IsPrefix};
+ghost use Rattle.turn_cell.specs.View.{ChangesOnlyWithin, Continues, with_turn, with_word, with_miss, with_look, with_offer, given, taken_parts, taken_trail, announced_parts, announced_trail};
+ghost use Rattle.turn_cell.specs.Words.{view, IsFree, IsSeatOf, HasTaken, HoldsValue, name_of};
+ghost use Rattle.turn_cell.specs.declared.view.Turn.TheVariants.{Taken, Announced};
+
+use super::{Busy, CellSeat, RangeSeat, TableSeat, TurnCell};
+use crate::parted::Parted;
+use crate::plays::{Announce, Await, Look, Release, Try};
+use std::sync::Wait;
+
+impl<T: Parted> TurnCell<T> {
+    /// Takes the value. It waits while the value is out.
+    pub fn take<R: Wait>(&self, rt: &R, seat: &mut CellSeat<T>) -> T
+        requires own { IsSeatOf self.now seat.old }
+        requires free { IsFree seat.old }
+        ensures own { IsSeatOf self.now seat.new }
+        ensures taken { HasTaken T.parts_of T.trail_of seat.new result × (view seat.new ≡ with_turn (view seat.old) (view seat.new).turn 0) }
+        ensures continues { Continues T.parts_of T.trail_of (view seat.old) result }
+    {
+        for _ in rt.forever() {
+            match self.attempt(seat) {
+                Ok(value) => return value,
+                // The word is a number plus one, so its low 32 bits tell whether it is 0.
+                Err(word) => self.table.shared.park(rt, 0, (word % (1 << 32)) as u32),
+            }
+        }
+        unreachable!()
+    }
+
+    // Tries once for a seat that waits, and answers the word where the value is out.
+    fn attempt(&self, seat: &mut CellSeat<T>) -> Result<T, u64>
+        requires own { IsSeatOf self.now seat.old }
+        requires free { IsFree seat.old }
+        ensures own { IsSeatOf self.now seat.new }
+        ensures taken { IfOk result (λ value. HasTaken T.parts_of T.trail_of seat.new value × (view seat.new ≡ with_turn (view seat.old) (view seat.new).turn 0)) }
+        ensures continues { IfOk result (λ value. Continues T.parts_of T.trail_of (view seat.old) value) }
+        ensures out { IfErr result (λ word. IsFree seat.new × (view seat.new ≡ with_word (view seat.old) word)) }
+    {
+        let own_word = seat.own_word();
+        let shared = &self.table.shared;
+        let word = shared.compare_exchange::<Await<T>>(&mut seat.seat, 0, 0, own_word);
+        if word != 0 {
+            return Err(word);
+        }
+        Ok(self.slot_out(&mut seat.seat))
+    }
+
+    /// Takes the value, or finds that it is out. It tries once.
+    pub fn try_take(&self, seat: &mut CellSeat<T>) -> Result<T, Busy>
+        requires own { IsSeatOf self.now seat.old }
+        requires free { IsFree seat.old }
+        ensures own { IsSeatOf self.now seat.new }
+        ensures taken { IfOk result (λ value. HasTaken T.parts_of T.trail_of seat.new value × (view seat.new ≡ with_turn (view seat.old) (view seat.new).turn 0)) }
+        ensures continues { IfOk result (λ value. Continues T.parts_of T.trail_of (view seat.old) value) }
+        ensures busy { IfErr result (λ busy. (busy.cell ≡ name_of self.now) × (busy.word ≢ 0) × IsFree seat.new × (view seat.new ≡ with_miss (view seat.old) busy.word)) }
+    {
+        let own_word = seat.own_word();
+        let shared = &self.table.shared;
+        let word = shared.compare_exchange::<Try<T>>(&mut seat.seat, 0, 0, own_word);
+        if word != 0 {
+            return Err(Busy {
+                cell: self.name,
+                word,
+            });
+        }
+        Ok(self.slot_out(&mut seat.seat))
+    }
+
+    // Takes the value out of the slot, which the turn has put into the seat's hands.
+    fn slot_out(&self, seat: &mut TableSeat<T>) -> T
+        requires own { seat.old.table_id ≡ self.now.table.shared.table_id }
+        requires full { (x : T) × (seat.old.me.1 ≡ (0, Some x) ∷ []) }
+        ensures own { seat.new.table_id ≡ seat.old.table_id }
+        ensures out { seat.old.me.1 ≡ (0, Some result) ∷ [] }
+        ensures empty { seat.new.me ≡ (seat.old.me.0, (0, None) ∷ []) }
+    {
+        let Some(value) = self.table.shared.exchange(seat, 0, None) else {
+            unreachable!()
+        };
+        value
+    }
+
+    /// Gives the value back and wakes one seat that waits. The seat's own parts may be other ones, and the trail may have
+    /// become longer.
+    pub fn give(&self, seat: &mut CellSeat<T>, value: T)
+        requires own { IsSeatOf self.now seat.old }
+        requires holds { HoldsValue seat.old }
+        requires parts { ChangesOnlyWithin (view seat.old).first (length (view seat.old).own) (taken_parts (view seat.old).turn) (T.parts_of value) }
+        requires trail { IsPrefix (taken_trail (view seat.old).turn) (T.trail_of value) }
+        ensures own { IsSeatOf self.now seat.new }
+        ensures free { IsFree seat.new }
+        ensures given { view seat.new ≡ given (view seat.old) (T.parts_of value) (T.trail_of value) }
+    {
+        let own_word = seat.own_word();
+        self.slot_home(&mut seat.seat, own_word, value);
+        self.release(&mut seat.seat);
+        self.table.shared.wake_one(0);
+    }
+
+    // Announces the value, and puts it into the slot.
+    fn slot_home(&self, seat: &mut TableSeat<T>, own_word: u64, value: T)
+        requires own { seat.old.table_id ≡ self.now.table.shared.table_id }
+        requires numbered { own_word ≡ seat.old.me.0.first + 1 }
+        requires holds { seat.old.me.0.turn ≡ Taken (taken_parts seat.old.me.0.turn) (taken_trail seat.old.me.0.turn) }
+        requires empty { seat.old.me.1 ≡ (0, None) ∷ [] }
+        requires some_part { 0 < length seat.old.me.0.own }
+        requires parts { ChangesOnlyWithin seat.old.me.0.first (length seat.old.me.0.own) (taken_parts seat.old.me.0.turn) (T.parts_of value) }
+        requires trail { IsPrefix (taken_trail seat.old.me.0.turn) (T.trail_of value) }
+        ensures own { seat.new.table_id ≡ seat.old.table_id }
+        ensures home { seat.new.me ≡ (with_offer seat.old.me.0 (T.parts_of value) (T.trail_of value), (0, Some value) ∷ []) }
+    {
+        let offered = Some(value);
+        let shared = &self.table.shared;
+        shared.compare_exchange_with::<Announce<T>>(seat, 0, own_word, own_word, &offered);
+        let before = shared.exchange(seat, 0, offered);
+        let None = before else { unreachable!() };
+    }
+
+    // Ends the turn of a seat whose slot has the value that it announced.
+    fn release(&self, seat: &mut TableSeat<T>)
+        requires own { seat.old.table_id ≡ self.now.table.shared.table_id }
+        requires home { (x : T) × (seat.old.me.1 ≡ (0, Some x) ∷ []) × (seat.old.me.0.turn ≡ Announced (taken_parts seat.old.me.0.turn) (taken_trail seat.old.me.0.turn) (T.parts_of x) (T.trail_of x)) }
+        requires some_part { 0 < length seat.old.me.0.own }
+        ensures own { seat.new.table_id ≡ seat.old.table_id }
+        ensures free { seat.new.me ≡ (given seat.old.me.0 (announced_parts seat.old.me.0.turn) (announced_trail seat.old.me.0.turn), []) }
+        ensures same_length { length seat.new.me.0.own ≡ length seat.old.me.0.own }
+    {
+        self.table.shared.store::<Release<T>>(seat, 0, 0);
+    }
+
+    /// The word: 0 where the value is in the cell, or the number of the seat that has it, plus one.
+    pub fn word(&self, seat: &mut CellSeat<T>) -> u64
+        requires own { IsSeatOf self.now seat.old }
+        ensures own { IsSeatOf self.now seat.new }
+        ensures look { view seat.new ≡ with_look (view seat.old) result }
+    {
+        self.table.shared.load::<Look<T>>(&mut seat.seat, 0)
+    }
+}
+
+impl<T, P, E> RangeSeat<T, P, E> {
+    // The word while this seat has the value: its number plus one.
+    fn own_word(&self) -> u64
+        ensures { result ≡ (view self.now).first + 1 }
+    {
+        u64::from(self.number) + 1
+    }
+}
