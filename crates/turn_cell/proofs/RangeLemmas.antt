@@ -1,20 +1,20 @@
 -- Cutting a range in two, and joining two ranges, keeps the rule of the cell.
-use Rattle.std.proofs.Common.{◌≡◌, ◌≢◌, ℕ, zero, suc, ◌+◌, ◌-◌, ◌≤◌, ◌<◌, ◌⊎◌, inl, inr, ⊎_elim, true, false, eqb, leb, List, [], ◌∷◌, ◌++◌, length, take, drop, set, min, nat_le, slice_index, Option, refl, ap, sym, ◌∙◌, subst, arith, eq-eqb, ne_eqb, length-set, length-append, length-drop, length-take-le}
+use Rattle.std.proofs.Common.{◌≡◌, ◌≢◌, ℕ, zero, suc, ◌+◌, ◌-◌, ◌≤◌, ◌<◌, ◌⊎◌, inl, inr, ⊎_elim, true, false, eqb, leb, List, [], ◌∷◌, ◌++◌, length, take, drop, set, min, slice_index, refl, ap, sym, ◌∙◌, subst, arith, eq-eqb, ne_eqb, length-set, length-append, length-drop, length-take-le}
 use Rattle.std.proofs.lemmas.Bool.Decides.{leb_tells}
 use mathlib.Core.Option as logic
 use mathlib.Core.Logic.{dite}
 use native.Mathlib.Decide.{ℕ_discrete, dec_le}
 use prog.Atomic.{either}
 use lib.ListN.{get_elem?}
-use Rattle.atomic_table.specs.Table.{State, Splits, Joins}
+use Rattle.atomic_table.specs.Table.{Splits, Joins}
 use Rattle.atomic_table.proofs.Lists.{at_set, set_here, set_else, at_longer, at_last}
 use Rattle.turn_cell.specs.declared.view.SeatView.{SeatView}
 use Rattle.turn_cell.specs.declared.view.Turn.{Turn}
 use Rattle.turn_cell.specs.declared.view.Turn.TheVariants.{Free}
 use Rattle.turn_cell.specs.View.{segment, left_at, right_at, Adjoin, in_order, combined, spent_view}
-use Rattle.turn_cell.specs.Rule.{TurnFits, HasTurn, IsHolder, Owns, ViewFits, SeatIs, IsConsistent}
+use Rattle.turn_cell.specs.Rule.{TurnFits, HasTurn, IsHolder, Owns, ViewFits}
 use Rattle.turn_cell.proofs.Segments.{prefix_nil, take-segment, drop-segment, segment-append}
-use Rattle.turn_cell.proofs.StepLemmas.{at_within, one_view, still, Cell, Rule}
+use Rattle.turn_cell.proofs.StepLemmas.{at_within, one_view, still, Rule}
 
 -- an element of a longer list is one of the old ones, or the new one at its end
 at_end : {V : Type 0} (l : List V) (a b : V) (j : ℕ) → get_elem? (l ++ a ∷ []) j ≡ logic.some b → (get_elem? l j ≡ logic.some b) ⊎ ((j ≡ length l) × (a ≡ b))
@@ -31,23 +31,23 @@ module _ (owner : ℕ → ℕ) (id new from : ℕ) where
   cut_below : (k : ℕ) → k < from → cut_owner k ≡ owner k
   cut_below k h =
       ⊎_elim
-          (λ (t : (leb from k ≡ true) × (from ≤ k)). absurd (omega arith))
-          (λ (t : (leb from k ≡ false) × (k < from)). rw (t.0))
-          (leb_tells from k)
+      (λ (t : (leb from k ≡ true) × (from ≤ k)). absurd (omega arith))
+      (λ (t : (leb from k ≡ false) × (k < from)). rw (t.0))
+      (leb_tells from k)
 
   cut_moved : (k : ℕ) → from ≤ k → owner k ≡ id → cut_owner k ≡ new
   cut_moved k h same =
       ⊎_elim
-          (λ (t : (leb from k ≡ true) × (from ≤ k)). rw (t.0, eq-eqb (owner k) id same))
-          (λ (t : (leb from k ≡ false) × (k < from)). absurd (omega arith))
-          (leb_tells from k)
+      (λ (t : (leb from k ≡ true) × (from ≤ k)). rw (t.0, eq-eqb (owner k) id same))
+      (λ (t : (leb from k ≡ false) × (k < from)). absurd (omega arith))
+      (leb_tells from k)
 
   cut_kept : (k : ℕ) → owner k ≢ id → cut_owner k ≡ owner k
   cut_kept k ne =
       ⊎_elim
-          (λ (t : (leb from k ≡ true) × (from ≤ k)). rw (t.0, ne_eqb (owner k) id ne))
-          (λ (t : (leb from k ≡ false) × (k < from)). rw (t.0))
-          (leb_tells from k)
+      (λ (t : (leb from k ≡ true) × (from ≤ k)). rw (t.0, ne_eqb (owner k) id ne))
+      (λ (t : (leb from k ≡ false) × (k < from)). rw (t.0))
+      (leb_tells from k)
 
 -- the owners after a join: the parts of one seat go to another
 module _ (owner : ℕ → ℕ) (gone to : ℕ) where
@@ -134,9 +134,9 @@ module _ {P E : Type 0} where
       let long : length (v.own ++ w.own) ≡ length v.own + length w.own = length-append v.own w.own in
       let original_long : length (v.original ++ w.original) ≡ length v.original + length w.original = length-append v.original w.original in
       let both : v.own ++ w.own ≡ segment v.first (length v.own + length w.own) parts =
-          ap (λ (xs : List P). xs ++ w.own) f.knows
-          ∙ (ap (λ (ys : List P). segment v.first (length v.own) parts ++ ys) (g.knows ∙ ap (λ (k : ℕ). segment k (length w.own) parts) next)
-          ∙ segment-append v.first (length v.own) (length w.own) parts) in
+      ap (λ (xs : List P). xs ++ w.own) f.knows
+      ∙ (ap (λ (ys : List P). segment v.first (length v.own) parts ++ ys) (g.knows ∙ ap (λ (k : ℕ). segment k (length w.own) parts) next)
+      ∙ segment-append v.first (length v.own) (length w.own) parts) in
       record {
         inside = let i = g.inside in omega arith;
         knows = both ∙ ap (λ (k : ℕ). segment v.first k parts) (sym long);
@@ -160,33 +160,33 @@ module _ {P E : Type 0} where
   in_order_before : (v w : SeatView P E) (xs ys : List P) → v.first ≤ w.first → in_order v w xs ys ≡ xs ++ ys
   in_order_before v w xs ys h =
       ⊎_elim
-          (λ (t : (leb v.first w.first ≡ true) × (v.first ≤ w.first)). rw (t.0))
-          (λ (t : (leb v.first w.first ≡ false) × (w.first < v.first)). absurd (omega arith))
-          (leb_tells v.first w.first)
+      (λ (t : (leb v.first w.first ≡ true) × (v.first ≤ w.first)). rw (t.0))
+      (λ (t : (leb v.first w.first ≡ false) × (w.first < v.first)). absurd (omega arith))
+      (leb_tells v.first w.first)
 
   in_order_after : (v w : SeatView P E) (xs ys : List P) → w.first < v.first → in_order v w xs ys ≡ ys ++ xs
   in_order_after v w xs ys h =
       ⊎_elim
-          (λ (t : (leb v.first w.first ≡ true) × (v.first ≤ w.first)). absurd (omega arith))
-          (λ (t : (leb v.first w.first ≡ false) × (w.first < v.first)). rw (t.0))
-          (leb_tells v.first w.first)
+      (λ (t : (leb v.first w.first ≡ true) × (v.first ≤ w.first)). absurd (omega arith))
+      (λ (t : (leb v.first w.first ≡ false) × (w.first < v.first)). rw (t.0))
+      (leb_tells v.first w.first)
 
   whole : (word holder : ℕ) (owner : ℕ → ℕ) (parts : List P) (trail : List E) (i j : ℕ) (v w : SeatView P E)
       → ViewFits word holder owner parts trail i v → ViewFits word holder owner parts trail j w → 0 < length v.own → 0 < length w.own → Adjoin v w
       → Whole parts v w (min v.first w.first) (in_order v w v.own w.own) (in_order v w v.original w.original)
   whole word holder owner parts trail i j v w f g some_v some_w adjoin =
       ⊎_elim
-          (λ (next : w.first ≡ v.first + length v.own).
-              let low : v.first ≤ w.first = omega arith in
-              let least : min v.first w.first ≡ v.first = omega arith in
-              rw (least, in_order_before v w v.own w.own low, in_order_before v w v.original w.original low)
-                  (side_by_side word holder owner parts trail i j v w f g next))
-          (λ (next : v.first ≡ w.first + length w.own).
-              let low : w.first < v.first = omega arith in
-              let least : min v.first w.first ≡ w.first = omega arith in
-              rw (least, in_order_after v w v.own w.own low, in_order_after v w v.original w.original low)
-                  (swapped parts v w w.first (w.own ++ v.own) (w.original ++ v.original) (side_by_side word holder owner parts trail j i w v g f next)))
-          adjoin
+      (λ (next : w.first ≡ v.first + length v.own).
+      let low : v.first ≤ w.first = omega arith in
+      let least : min v.first w.first ≡ v.first = omega arith in
+      rw (least, in_order_before v w v.own w.own low, in_order_before v w v.original w.original low)
+      (side_by_side word holder owner parts trail i j v w f g next))
+      (λ (next : v.first ≡ w.first + length w.own).
+      let low : w.first < v.first = omega arith in
+      let least : min v.first w.first ≡ w.first = omega arith in
+      rw (least, in_order_after v w v.own w.own low, in_order_after v w v.original w.original low)
+      (swapped parts v w w.first (w.own ++ v.own) (w.original ++ v.original) (side_by_side word holder owner parts trail j i w v g f next)))
+      adjoin
 
   combined_fits : (word holder : ℕ) (owner : ℕ → ℕ) (parts : List P) (trail : List E) (id other : ℕ) (v w : SeatView P E)
       → ViewFits word holder owner parts trail id v → ViewFits word holder owner parts trail other w → v.turn ≡ Free → ¬ (other ≡ id)
@@ -196,9 +196,9 @@ module _ {P E : Type 0} where
     inside = x.inside;
     owns = λ k l h.
         ⊎_elim
-            (λ (o : Owns k v). let mine = f.owns k o.0 o.1 in joined_kept owner other id k (λ same. ne (sym same ∙ mine)) ∙ mine)
-            (λ (o : Owns k w). joined_moved owner other id k (g.owns k o.0 o.1))
-            (x.has_no_more k l h);
+        (λ (o : Owns k v). let mine = f.owns k o.0 o.1 in joined_kept owner other id k (λ same. ne (sym same ∙ mine)) ∙ mine)
+        (λ (o : Owns k w). joined_moved owner other id k (g.owns k o.0 o.1))
+        (x.has_no_more k l h);
     knows = x.knows;
     originals = x.originals;
     behind = f.behind;
@@ -246,38 +246,38 @@ module _ {T P E : Type 0} (parts_of : T → List P) (trail_of : T → List E) (c
             (h.0, at_longer (set s.views id left) (right ∷ []) r.holder h.0 h.1, h.2);
         each = λ j u e.
             ⊎_elim
-                (λ (old : get_elem? (set s.views id left) j ≡ logic.some u).
-                    ⊎_elim
-                        (λ (t : (j ≡ id) × (left ≡ u)).
-                            subst (λ (z : SeatView P E). ViewFits word r.holder owner r.parts r.trail j z) t.1
-                                (subst (λ (i : ℕ). ViewFits word r.holder owner r.parts r.trail i left) (sym t.0) l))
-                        (λ (t : (j ≢ id) × (get_elem? s.views j ≡ logic.some u)).
-                            kept_fits word r.holder r.owner owner r.parts r.trail j u (λ k same. cut_kept r.owner id new from k (λ mine. t.0 (sym same ∙ mine))) (r.each j u t.1))
-                        (at_set s.views id j left u old))
-                (λ (t : (j ≡ length (set s.views id left)) × (right ≡ u)).
-                    subst (λ (z : SeatView P E). ViewFits word r.holder owner r.parts r.trail j z) t.1
-                        (subst (λ (i : ℕ). ViewFits word r.holder owner r.parts r.trail i right) (sym (t.0 ∙ long)) q))
-                (at_end (set s.views id left) right u j e);
+            (λ (old : get_elem? (set s.views id left) j ≡ logic.some u).
+            ⊎_elim
+            (λ (t : (j ≡ id) × (left ≡ u)).
+            subst (λ (z : SeatView P E). ViewFits word r.holder owner r.parts r.trail j z) t.1
+            (subst (λ (i : ℕ). ViewFits word r.holder owner r.parts r.trail i left) (sym t.0) l))
+            (λ (t : (j ≢ id) × (get_elem? s.views j ≡ logic.some u)).
+            kept_fits word r.holder r.owner owner r.parts r.trail j u (λ k same. cut_kept r.owner id new from k (λ mine. t.0 (sym same ∙ mine))) (r.each j u t.1))
+            (at_set s.views id j left u old))
+            (λ (t : (j ≡ length (set s.views id left)) × (right ≡ u)).
+            subst (λ (z : SeatView P E). ViewFits word r.holder owner r.parts r.trail j z) t.1
+            (subst (λ (i : ℕ). ViewFits word r.holder owner r.parts r.trail i right) (sym (t.0 ∙ long)) q))
+            (at_end (set s.views id left) right u j e);
         covered = λ k h.
             let c = r.covered k h in
             let G : ℕ → Type 0 = λ i. (x : SeatView P E) × (get_elem? views i ≡ logic.some x) × Owns k x in
             dite (ℕ_discrete (r.owner k) id)
-                (λ (same : r.owner k ≡ id).
-                    let view : c.0 ≡ v = one_view s.views id c.0 v (rw same at c.1) at in
-                    let own : Owns k v = subst (λ (z : SeatView P E). Owns k z) view c.2 in
-                    let least : v.first ≤ k = own.0 in
-                    let most : k < v.first + length v.own = own.1 in
-                    dite (dec_le from k)
-                        (λ (h : from ≤ k).
-                            let size : length (drop (from - v.first) v.own) ≡ length v.own - (from - v.first) = length-drop (from - v.first) v.own in
-                            subst G (sym (cut_moved r.owner id new from k h same)) (right, at_last (set s.views id left) right new long, (h, omega arith)))
-                        (λ (n : ¬ (from ≤ k)).
-                            let size : length (take (from - v.first) v.own) ≡ from - v.first = length-take-le (from - v.first) v.own (omega arith) in
-                            let here : get_elem? (set s.views id left) id ≡ logic.some left = set_here s.views id left within in
-                            subst G (sym (cut_below r.owner id new from k (omega arith) ∙ same)) (left, at_longer (set s.views id left) (right ∷ []) id left here, (least, omega arith))))
-                (λ (ne : r.owner k ≢ id).
-                    subst G (sym (cut_kept r.owner id new from k ne))
-                        (c.0, at_longer (set s.views id left) (right ∷ []) (r.owner k) c.0 (set_else s.views id (r.owner k) left ne ∙ c.1), c.2));
+            (λ (same : r.owner k ≡ id).
+            let view : c.0 ≡ v = one_view s.views id c.0 v (rw same at c.1) at in
+            let own : Owns k v = subst (λ (z : SeatView P E). Owns k z) view c.2 in
+            let least : v.first ≤ k = own.0 in
+            let most : k < v.first + length v.own = own.1 in
+            dite (dec_le from k)
+            (λ (h : from ≤ k).
+            let size : length (drop (from - v.first) v.own) ≡ length v.own - (from - v.first) = length-drop (from - v.first) v.own in
+            subst G (sym (cut_moved r.owner id new from k h same)) (right, at_last (set s.views id left) right new long, (h, omega arith)))
+            (λ (n : ¬ (from ≤ k)).
+            let size : length (take (from - v.first) v.own) ≡ from - v.first = length-take-le (from - v.first) v.own (omega arith) in
+            let here : get_elem? (set s.views id left) id ≡ logic.some left = set_here s.views id left within in
+            subst G (sym (cut_below r.owner id new from k (omega arith) ∙ same)) (left, at_longer (set s.views id left) (right ∷ []) id left here, (least, omega arith))))
+            (λ (ne : r.owner k ≢ id).
+            subst G (sym (cut_kept r.owner id new from k ne))
+            (c.0, at_longer (set s.views id left) (right ∷ []) (r.owner k) c.0 (set_else s.views id (r.owner k) left ne ∙ c.1), c.2));
       }
 
   pub joins : (id other : ℕ) (v w : SeatView P E) → v.turn ≡ Free → w.turn ≡ Free → 0 < length v.own → 0 < length w.own → Adjoin v w
@@ -305,33 +305,33 @@ module _ {T P E : Type 0} (parts_of : T → List P) (trail_of : T → List E) (c
         home = r.home;
         held = λ out.
             still (set s.views id both) other w spent_view (IsHolder word) there (λ o. absurd (free_not_holder w word free_w o)) r.holder
-                (still s.views id v both (IsHolder word) at (λ o. absurd (free_not_holder v word free_v o)) r.holder (r.held out));
+            (still s.views id v both (IsHolder word) at (λ o. absurd (free_not_holder v word free_v o)) r.holder (r.held out));
         each = λ j u e.
             ⊎_elim
-                (λ (t : (j ≡ other) × (spent_view ≡ u)).
-                    subst (λ (z : SeatView P E). ViewFits word r.holder owner r.parts r.trail j z) t.1 (spent_fits word r.holder owner r.parts r.trail j))
-                (λ (t : (j ≢ other) × (get_elem? (set s.views id both) j ≡ logic.some u)).
-                    ⊎_elim
-                        (λ (m : (j ≡ id) × (both ≡ u)).
-                            subst (λ (z : SeatView P E). ViewFits word r.holder owner r.parts r.trail j z) m.1
-                                (subst (λ (i : ℕ). ViewFits word r.holder owner r.parts r.trail i both) (sym m.0) fits))
-                        (λ (m : (j ≢ id) × (get_elem? s.views j ≡ logic.some u)).
-                            kept_fits word r.holder r.owner owner r.parts r.trail j u (λ k same. joined_kept r.owner other id k (λ gone. t.0 (sym same ∙ gone))) (r.each j u m.1))
-                        (at_set s.views id j both u t.1))
-                (at_set (set s.views id both) other j spent_view u e);
+            (λ (t : (j ≡ other) × (spent_view ≡ u)).
+            subst (λ (z : SeatView P E). ViewFits word r.holder owner r.parts r.trail j z) t.1 (spent_fits word r.holder owner r.parts r.trail j))
+            (λ (t : (j ≢ other) × (get_elem? (set s.views id both) j ≡ logic.some u)).
+            ⊎_elim
+            (λ (m : (j ≡ id) × (both ≡ u)).
+            subst (λ (z : SeatView P E). ViewFits word r.holder owner r.parts r.trail j z) m.1
+            (subst (λ (i : ℕ). ViewFits word r.holder owner r.parts r.trail i both) (sym m.0) fits))
+            (λ (m : (j ≢ id) × (get_elem? s.views j ≡ logic.some u)).
+            kept_fits word r.holder r.owner owner r.parts r.trail j u (λ k same. joined_kept r.owner other id k (λ gone. t.0 (sym same ∙ gone))) (r.each j u m.1))
+            (at_set s.views id j both u t.1))
+            (at_set (set s.views id both) other j spent_view u e);
         covered = λ k h.
             let c = r.covered k h in
             let G : ℕ → Type 0 = λ i. (z : SeatView P E) × (get_elem? views i ≡ logic.some z) × Owns k z in
             dite (ℕ_discrete (r.owner k) other)
-                (λ (same : r.owner k ≡ other).
-                    let view : c.0 ≡ w = one_view s.views other c.0 w (rw same at c.1) there_before in
-                    subst G (sym (joined_moved r.owner other id k same)) (both, here, x.has_other k (subst (λ (z : SeatView P E). Owns k z) view c.2)))
-                (λ (kept : r.owner k ≢ other).
-                    subst G (sym (joined_kept r.owner other id k kept))
-                        (dite (ℕ_discrete (r.owner k) id)
-                            (λ (same : r.owner k ≡ id).
-                                let view : c.0 ≡ v = one_view s.views id c.0 v (rw same at c.1) at in
-                                subst G (sym same) (both, here, x.has_one k (subst (λ (z : SeatView P E). Owns k z) view c.2)))
-                            (λ (n : r.owner k ≢ id).
-                                (c.0, set_else (set s.views id both) other (r.owner k) spent_view kept ∙ (set_else s.views id (r.owner k) both n ∙ c.1), c.2))));
+            (λ (same : r.owner k ≡ other).
+            let view : c.0 ≡ w = one_view s.views other c.0 w (rw same at c.1) there_before in
+            subst G (sym (joined_moved r.owner other id k same)) (both, here, x.has_other k (subst (λ (z : SeatView P E). Owns k z) view c.2)))
+            (λ (kept : r.owner k ≢ other).
+            subst G (sym (joined_kept r.owner other id k kept))
+            (dite (ℕ_discrete (r.owner k) id)
+            (λ (same : r.owner k ≡ id).
+            let view : c.0 ≡ v = one_view s.views id c.0 v (rw same at c.1) at in
+            subst G (sym same) (both, here, x.has_one k (subst (λ (z : SeatView P E). Owns k z) view c.2)))
+            (λ (n : r.owner k ≢ id).
+            (c.0, set_else (set s.views id both) other (r.owner k) spent_view kept ∙ (set_else s.views id (r.owner k) both n ∙ c.1), c.2))));
       }

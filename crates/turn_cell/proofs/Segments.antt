@@ -1,6 +1,6 @@
 -- Lists: beginnings of one list, segments, and a change within a segment.
-use Rattle.std.proofs.Common.{◌≡◌, ℕ, zero, suc, ◌+◌, ◌-◌, ◌≤◌, ◌<◌, ◌≢◌, ◌⊎◌, inl, inr, ⊎_elim, true, false, leb, List, [], ◌∷◌, ◌++◌, length, take, drop, set, refl, ap, sym, ◌∙◌, subst, arith, append_assoc, append-nil, length-take, length-drop, length-set, take-take, drop-drop, take-add, drop-set-lt}
-use Rattle.std.proofs.Math.Seq.{take-length, take-nil, drop-nil, take-set-le}
+use Rattle.std.proofs.Common.{◌≡◌, ℕ, ◌+◌, ◌-◌, ◌≤◌, ◌<◌, ◌⊎◌, ⊎_elim, true, false, leb, List, [], ◌∷◌, ◌++◌, length, take, drop, set, refl, ap, sym, ◌∙◌, arith, append_assoc, append-nil, length-take, length-drop, length-set, take-take, drop-drop, take-add, drop-set-lt}
+use Rattle.std.proofs.Math.Seq.{take-length, take-set-le}
 use Rattle.std.proofs.lemmas.List.{drop-take}
 use Rattle.std.proofs.lemmas.Bool.Decides.{leb_tells}
 use mathlib.Core.List.{IsPrefix}
@@ -30,9 +30,9 @@ module _ {A : Type 0} where
   pub prefix_longer : (xs ys zs : List A) → IsPrefix xs zs → IsPrefix ys zs → IsPrefix xs (longer xs ys) × IsPrefix ys (longer xs ys) × IsPrefix (longer xs ys) zs
   prefix_longer xs ys zs p q =
       ⊎_elim
-          (λ (t : (leb (length xs) (length ys) ≡ true) × (length xs ≤ length ys)). rw (t.0) (prefix_shorter xs ys zs p q t.1, prefix_refl ys, q))
-          (λ (t : (leb (length xs) (length ys) ≡ false) × (length ys < length xs)). rw (t.0) (prefix_refl xs, prefix_shorter ys xs zs q p (omega arith), p))
-          (leb_tells (length xs) (length ys))
+      (λ (t : (leb (length xs) (length ys) ≡ true) × (length xs ≤ length ys)). rw (t.0) (prefix_shorter xs ys zs p q t.1, prefix_refl ys, q))
+      (λ (t : (leb (length xs) (length ys) ≡ false) × (length ys < length xs)). rw (t.0) (prefix_refl xs, prefix_shorter ys xs zs q p (omega arith), p))
+      (leb_tells (length xs) (length ys))
 
   pub length-segment : (first count : ℕ) (xs : List A) → first + count ≤ length xs → length (segment first count xs) ≡ count
   length-segment first count xs h = simp (length-take, length-drop) (omega arith)
@@ -58,17 +58,17 @@ module _ {A : Type 0} where
   spared_before : (first count k m : ℕ) (old new : List A) → ChangesOnlyWithin first count old new → k + m ≤ first → segment k m new ≡ segment k m old
   spared_before first count k m old new c h =
       let same : take (k + m) new ≡ take (k + m) old =
-          sym (take-take (k + m) first new h) ∙ (ap (λ (ys : List A). take (k + m) ys) c.1 ∙ take-take (k + m) first old h) in
+      sym (take-take (k + m) first new h) ∙ (ap (λ (ys : List A). take (k + m) ys) c.1 ∙ take-take (k + m) first old h) in
       sym (drop-take k m new) ∙ (ap (λ (ys : List A). drop k ys) same ∙ drop-take k m old)
 
   spared_after : (first count k m : ℕ) (old new : List A) → ChangesOnlyWithin first count old new → first + count ≤ k → segment k m new ≡ segment k m old
   spared_after first count k m old new c h =
       let e : first + count + (k - (first + count)) ≡ k = omega arith in
       let same : drop k new ≡ drop k old =
-          ap (λ (i : ℕ). drop i new) (sym e)
-          ∙ (sym (drop-drop (k - (first + count)) (first + count) new)
-          ∙ (ap (λ (ys : List A). drop (k - (first + count)) ys) c.2
-          ∙ (drop-drop (k - (first + count)) (first + count) old ∙ ap (λ (i : ℕ). drop i old) e))) in
+      ap (λ (i : ℕ). drop i new) (sym e)
+      ∙ (sym (drop-drop (k - (first + count)) (first + count) new)
+      ∙ (ap (λ (ys : List A). drop (k - (first + count)) ys) c.2
+      ∙ (drop-drop (k - (first + count)) (first + count) old ∙ ap (λ (i : ℕ). drop i old) e))) in
       ap (λ (ys : List A). take m ys) same
 
   pub spared : (first count k m : ℕ) (old new : List A) → ChangesOnlyWithin first count old new → (k + m ≤ first) ⊎ (first + count ≤ k) → segment k m new ≡ segment k m old

@@ -1,5 +1,5 @@
 -- Each atomic step that leaves the ranges alone keeps the rule of the cell.
-use Rattle.std.proofs.Common.{◌≡◌, ◌≢◌, ℕ, zero, suc, ◌+◌, ◌≤◌, ◌<◌, ◌⊎◌, inl, inr, ⊎_elim, eqb, List, [], ◌∷◌, length, set, slice_index, slice_set, Option, Some, None, refl, ap, sym, ◌∙◌, subst, arith, length-set, le_refl}
+use Rattle.std.proofs.Common.{◌≡◌, ◌≢◌, ℕ, zero, suc, ◌+◌, ◌≤◌, ◌<◌, ◌⊎◌, inl, inr, ⊎_elim, eqb, List, [], ◌∷◌, length, set, slice_index, slice_set, Option, Some, refl, ap, sym, ◌∙◌, subst, arith, length-set, le_refl}
 use Rattle.std.proofs.lemmas.List.{get_or-set_same}
 use mathlib.Core.Option as logic
 use mathlib.Core.Logic.{dite}
@@ -12,7 +12,7 @@ use Rattle.atomic_table.proofs.Lists.{at_set, set_here, set_else, exchanged}
 use Rattle.turn_cell.specs.declared.view.SeatView.{SeatView}
 use Rattle.turn_cell.specs.declared.view.Turn.{Turn}
 use Rattle.turn_cell.specs.declared.view.Turn.TheVariants.{Free, Taken, Announced}
-use Rattle.turn_cell.specs.View.{segment, ChangesOnlyWithin, Continues, opening_view, with_turn, with_word, with_miss, with_look, with_offer, given, settled, longer, taken_parts, taken_trail, announced_parts, announced_trail}
+use Rattle.turn_cell.specs.View.{segment, ChangesOnlyWithin, opening_view, with_turn, with_word, with_miss, with_look, with_offer, given, settled, taken_parts, taken_trail, announced_parts, announced_trail}
 use Rattle.turn_cell.specs.Rule.{TurnFits, HasTurn, IsHolder, Owns, ViewFits, SeatIs, AtHome, IsConsistent, TakesTurn, tries, waits, announces, releases, looks, settles}
 use Rattle.turn_cell.proofs.Segments.{prefix_refl, prefix_nil, prefix_trans, prefix_longer, length-segment, segment_whole, spared}
 
@@ -31,11 +31,11 @@ pub still : {V : Type 0} (views : List V) (id : ℕ) (v w : V) (F : V → Type 0
     → ((u : V) × (get_elem? views i ≡ logic.some u) × F u) → (u : V) × (get_elem? (set views id w) i ≡ logic.some u) × F u
 still {V} views id v w F at carry i h =
     dite (ℕ_discrete i id)
-        (λ (e : i ≡ id).
-            let here : get_elem? (set views id w) i ≡ logic.some w = rw e (set_here views id w (at_within views id v at)) in
-            let same : h.0 ≡ v = one_view views id h.0 v (rw e at h.1) at in
-            (w, here, carry (subst F same h.2)))
-        (λ (ne : i ≢ id). (h.0, set_else views id i w ne ∙ h.1, h.2))
+    (λ (e : i ≡ id).
+    let here : get_elem? (set views id w) i ≡ logic.some w = rw e (set_here views id w (at_within views id v at)) in
+    let same : h.0 ≡ v = one_view views id h.0 v (rw e at h.1) at in
+    (w, here, carry (subst F same h.2)))
+    (λ (ne : i ≢ id). (h.0, set_else views id i w ne ∙ h.1, h.2))
 
 -- two seats' ranges lie one beside the other
 pub apart : (owner : ℕ → ℕ) (i j k m first count : ℕ) → i ≢ j → 0 < m → 0 < count
@@ -43,10 +43,10 @@ pub apart : (owner : ℕ → ℕ) (i j k m first count : ℕ) → i ≢ j → 0 
     → (k + m ≤ first) ⊎ (first + count ≤ k)
 apart owner i j k m first count ne some_left some_right left right =
     dite (dec_le (k + m) first) (λ h. inl h)
-        (λ n. dite (dec_le (first + count) k) (λ h. inr h)
-            (λ o. dite (dec_le k first)
-                (λ (h : k ≤ first). absurd (ne (sym (left first h (omega arith)) ∙ right first (le_refl first) (omega arith))))
-                (λ (h : ¬ (k ≤ first)). absurd (ne (sym (left k (le_refl k) (omega arith)) ∙ right k (omega arith) (omega arith))))))
+    (λ n. dite (dec_le (first + count) k) (λ h. inr h)
+    (λ o. dite (dec_le k first)
+    (λ (h : k ≤ first). absurd (ne (sym (left first h (omega arith)) ∙ right first (le_refl first) (omega arith))))
+    (λ (h : ¬ (k ≤ first)). absurd (ne (sym (left k (le_refl k) (omega arith)) ∙ right k (omega arith) (omega arith))))))
 
 -- another seat's range is the same after a change of the holder's
 pub others_spared : {A : Type 0} (owner : ℕ → ℕ) (i j k m first count : ℕ) (old new : List A) → i ≢ j → 0 < count
@@ -101,11 +101,11 @@ module _ {T P E : Type 0} (parts_of : T → List P) (trail_of : T → List E) (c
         held = subst (λ (k : ℕ). 0 < k → SeatIs (stepped s 0 n id c w a) holder (IsHolder k)) word held;
         each = λ j u e. subst (λ (k : ℕ). ViewFits k holder r.owner parts trail j u) word
             (⊎_elim
-                (λ (t : (j ≡ id) × (w ≡ u)).
-                    subst (λ (z : SeatView P E). ViewFits n holder r.owner parts trail j z) t.1
-                        (subst (λ (i : ℕ). ViewFits n holder r.owner parts trail i w) (sym t.0) mine))
-                (λ (t : (j ≢ id) × (get_elem? s.views j ≡ logic.some u)). others j u t.0 t.1)
-                (at_set s.views id j w u e));
+            (λ (t : (j ≡ id) × (w ≡ u)).
+            subst (λ (z : SeatView P E). ViewFits n holder r.owner parts trail j z) t.1
+            (subst (λ (i : ℕ). ViewFits n holder r.owner parts trail i w) (sym t.0) mine))
+            (λ (t : (j ≢ id) × (get_elem? s.views j ≡ logic.some u)). others j u t.0 t.1)
+            (at_set s.views id j w u e));
         covered = λ k h. still s.views id v w (Owns k) at (λ (o : Owns k v). (let p = o.0 in omega arith, let p = o.1 in omega arith)) (r.owner k) (r.covered k h);
       }
 
@@ -116,8 +116,8 @@ module _ {T P E : Type 0} (parts_of : T → List P) (trail_of : T → List E) (c
       → Rule (stepped s 0 (slice_index s.words 0) id c w keeps)
   stays s r id c v w at first own turn fits =
       renew s r id (slice_index s.words 0) c v w keeps r.holder r.parts r.trail at first own r.one_slot r.counted r.home
-          (λ h. still s.views id v w (IsHolder (slice_index s.words 0)) at (λ (o : IsHolder (slice_index s.words 0) v). (turn o.0, let p = o.1 in omega arith, let p = o.2 in omega arith)) r.holder (r.held h))
-          fits (λ j u ne e. r.each j u e)
+      (λ h. still s.views id v w (IsHolder (slice_index s.words 0)) at (λ (o : IsHolder (slice_index s.words 0) v). (turn o.0, let p = o.1 in omega arith, let p = o.2 in omega arith)) r.holder (r.held h))
+      fits (λ j u ne e. r.each j u e)
 
   abbrev counted_view : SeatView P E → ℕ → ℕ → ℕ → ℕ → SeatView P E
   counted_view v misses missed_word looks found_word = record v { misses = misses; missed_word = missed_word; looks = looks; found_word = found_word }
@@ -128,7 +128,7 @@ module _ {T P E : Type 0} (parts_of : T → List P) (trail_of : T → List E) (c
   counts s r id c v misses missed_word looks found_word at =
       let f = r.each id v at in
       stays s r id c v (counted_view v misses missed_word looks found_word) at refl refl (λ h. h)
-          record { inside = f.inside; owns = f.owns; knows = f.knows; originals = f.originals; behind = f.behind; incoming_behind = f.incoming_behind; turn_fits = f.turn_fits }
+      record { inside = f.inside; owns = f.owns; knows = f.knows; originals = f.originals; behind = f.behind; incoming_behind = f.incoming_behind; turn_fits = f.turn_fits }
 
   -- the load of a look
   pub looks_allowed : (slots id : ℕ) (me : Me (Option T) (SeatView P E)) → Allows Rule slots id me 0 (λ n. n) (looks me)
@@ -153,8 +153,7 @@ module _ {T P E : Type 0} (parts_of : T → List P) (trail_of : T → List E) (c
         behind = f.behind;
         incoming_behind = f.incoming_behind;
         turn_fits = (number, refl, home.2, home.3);
-      } in
-      (
+      } in (
         w,
         takes 0 (Some x),
         home.1,
@@ -163,17 +162,17 @@ module _ {T P E : Type 0} (parts_of : T → List P) (trail_of : T → List E) (c
             (λ h. (w, set_here s.views id w (at_within s.views id v at), (tt, number, some_part)))
             f'
             (λ j u ne e.
-                let g = r.each j u e in
-                record {
-                  inside = g.inside;
-                  owns = g.owns;
-                  knows = g.knows;
-                  originals = g.originals;
-                  behind = g.behind;
-                  incoming_behind = g.incoming_behind;
-                  turn_fits = nobody j r.holder u.first (length u.own) r.parts r.trail u.turn
-                      (subst (λ (k : ℕ). TurnFits k r.holder j u.first (length u.own) r.parts r.trail u.turn) free g.turn_fits) n id r.parts r.trail;
-                }),
+            let g = r.each j u e in
+            record {
+              inside = g.inside;
+              owns = g.owns;
+              knows = g.knows;
+              originals = g.originals;
+              behind = g.behind;
+              incoming_behind = g.incoming_behind;
+              turn_fits = nobody j r.holder u.first (length u.own) r.parts r.trail u.turn
+                  (subst (λ (k : ℕ). TurnFits k r.holder j u.first (length u.own) r.parts r.trail u.turn) free g.turn_fits) n id r.parts r.trail;
+            }),
         (x, refl, (rw (home.2) (sym f.knows), rw (home.3) f.behind)),
       )
 
@@ -184,9 +183,9 @@ module _ {T P E : Type 0} (parts_of : T → List P) (trail_of : T → List E) (c
       let word = slice_index s.words 0 in
       let v : SeatView P E = me.0 in
       exchanged word 0 n
-          (λ (k : ℕ). (w : SeatView P E) × (a : Act (Option T)) × Valid s.homes me.1 a × Rule (stepped s 0 k id me.1 w a) × tries parts_of trail_of me word (w, carried_after me.1 a))
-          (λ free. let t = takes_turn s r id n me.1 v at number some_part free in (t.0, t.1, t.2, t.3, (λ e. t.4, λ ne. absurd (ne free))))
-          (λ out. (with_miss v word, keeps, tt, counts s r id me.1 v (v.misses + 1) word v.looks word at, (λ e. absurd (out e), λ ne. refl)))
+      (λ (k : ℕ). (w : SeatView P E) × (a : Act (Option T)) × Valid s.homes me.1 a × Rule (stepped s 0 k id me.1 w a) × tries parts_of trail_of me word (w, carried_after me.1 a))
+      (λ free. let t = takes_turn s r id n me.1 v at number some_part free in (t.0, t.1, t.2, t.3, (λ e. t.4, λ ne. absurd (ne free))))
+      (λ out. (with_miss v word, keeps, tt, counts s r id me.1 v (v.misses + 1) word v.looks word at, (λ e. absurd (out e), λ ne. refl)))
 
   -- the step of a seat that waits
   pub waits_allowed : (slots id n : ℕ) (me : Me (Option T) (SeatView P E)) → n ≡ me.0.first + 1 → 0 < length me.0.own
@@ -195,9 +194,9 @@ module _ {T P E : Type 0} (parts_of : T → List P) (trail_of : T → List E) (c
       let word = slice_index s.words 0 in
       let v : SeatView P E = me.0 in
       exchanged word 0 n
-          (λ (k : ℕ). (w : SeatView P E) × (a : Act (Option T)) × Valid s.homes me.1 a × Rule (stepped s 0 k id me.1 w a) × waits parts_of trail_of me word (w, carried_after me.1 a))
-          (λ free. let t = takes_turn s r id n me.1 v at number some_part free in (t.0, t.1, t.2, t.3, (λ e. t.4, λ ne. absurd (ne free))))
-          (λ out. (with_word v word, keeps, tt, counts s r id me.1 v v.misses v.missed_word v.looks word at, (λ e. absurd (out e), λ ne. refl)))
+      (λ (k : ℕ). (w : SeatView P E) × (a : Act (Option T)) × Valid s.homes me.1 a × Rule (stepped s 0 k id me.1 w a) × waits parts_of trail_of me word (w, carried_after me.1 a))
+      (λ free. let t = takes_turn s r id n me.1 v at number some_part free in (t.0, t.1, t.2, t.3, (λ e. t.4, λ ne. absurd (ne free))))
+      (λ out. (with_word v word, keeps, tt, counts s r id me.1 v v.misses v.missed_word v.looks word at, (λ e. absurd (out e), λ ne. refl)))
 
   -- the step in which a seat with the turn announces the value that it gives
   pub announces_allowed : (slots id n : ℕ) (me : Me (Option T) (SeatView P E)) (value : T) → n ≡ me.0.first + 1
@@ -211,7 +210,7 @@ module _ {T P E : Type 0} (parts_of : T → List P) (trail_of : T → List E) (c
       let t : List E = taken_trail v.turn in
       let f = r.each id v at in
       let has : TurnFits word r.holder id v.first (length v.own) r.parts r.trail (Taken p t) =
-          subst (λ (z : Turn P E). TurnFits word r.holder id v.first (length v.own) r.parts r.trail z) taken f.turn_fits in
+      subst (λ (z : Turn P E). TurnFits word r.holder id v.first (length v.own) r.parts r.trail z) taken f.turn_fits in
       let w : SeatView P E = with_offer v (parts_of value) (trail_of value) in
       let f' : ViewFits word r.holder r.owner r.parts r.trail id w = record {
         inside = f.inside;
@@ -223,7 +222,7 @@ module _ {T P E : Type 0} (parts_of : T → List P) (trail_of : T → List E) (c
         turn_fits = (has.0, has.1, has.2, has.3, changes, longer_trail);
       } in
       let told : announces parts_of trail_of (logic.some (Some value)) me (w, me.1) =
-          λ y e. let same : value ≡ y = cc (e) in ap (λ (z : T). (with_offer v (parts_of z) (trail_of z), me.1)) same in
+      λ y e. let same : value ≡ y = cc (e) in ap (λ (z : T). (with_offer v (parts_of z) (trail_of z), me.1)) same in
       let F : ℕ → Type 0 = λ k. (w : SeatView P E) × (a : Act (Option T)) × Valid s.homes me.1 a × Rule (stepped s 0 k id me.1 w a) × announces parts_of trail_of (logic.some (Some value)) me (w, carried_after me.1 a) in
       let here : F word = (w, keeps, tt, stays s r id me.1 v w at refl refl (λ o. tt) f', told) in
       exchanged word n n F (λ e. subst F e here) (λ ne. here)
@@ -241,7 +240,7 @@ module _ {T P E : Type 0} (parts_of : T → List P) (trail_of : T → List E) (c
       let u' : List E = trail_of value in
       let f = r.each id v at in
       let has : TurnFits word r.holder id v.first (length v.own) r.parts r.trail (Announced p t q u') =
-          subst (λ (z : Turn P E). TurnFits word r.holder id v.first (length v.own) r.parts r.trail z) turn f.turn_fits in
+      subst (λ (z : Turn P E). TurnFits word r.holder id v.first (length v.own) r.parts r.trail z) turn f.turn_fits in
       let changes : ChangesOnlyWithin v.first (length v.own) r.parts q = subst (λ (z : List P). ChangesOnlyWithin v.first (length v.own) z q) has.2 has.4 in
       let grows : IsPrefix r.trail u' = subst (λ (z : List E). IsPrefix z u') has.3 has.5 in
       let long : length q ≡ length r.parts = changes.0 in
@@ -261,8 +260,7 @@ module _ {T P E : Type 0} (parts_of : T → List P) (trail_of : T → List E) (c
       let rest_is : carried_after me.1 gives ≡ [] = ap (λ (c : List (ℕ × Option T)). carried_after c gives) hand in
       let one : length (homes_after s.homes me.1 gives) ≡ 1 = ap length hands ∙ (length-set s.homes 0 (logic.some (Some value)) ∙ r.one_slot) in
       let next : SeatView P E = given v (announced_parts v.turn) (announced_trail v.turn) in
-      let told : w ≡ next = ap (λ (z : Turn P E). given v (announced_parts z) (announced_trail z)) (sym turn) in
-      (
+      let told : w ≡ next = ap (λ (z : Turn P E). given v (announced_parts z) (announced_trail z)) (sym turn) in (
         w,
         gives,
         tt,
@@ -271,16 +269,16 @@ module _ {T P E : Type 0} (parts_of : T → List P) (trail_of : T → List E) (c
             (λ k. absurd (omega arith))
             f'
             (λ j u ne e.
-                let g = r.each j u e in
-                record {
-                  inside = let i = g.inside in omega arith;
-                  owns = g.owns;
-                  knows = g.knows ∙ sym (others_spared r.owner j id u.first (length u.own) v.first (length v.own) r.parts q ne some_part g.owns f.owns changes);
-                  originals = g.originals;
-                  behind = prefix_trans u.trail r.trail u' g.behind grows;
-                  incoming_behind = prefix_trans u.incoming r.trail u' g.incoming_behind grows;
-                  turn_fits = nobody_else word j r.holder u.first (length u.own) r.parts r.trail u.turn (λ same. ne (same ∙ sym has.1)) g.turn_fits 0 r.holder q u';
-                }),
+            let g = r.each j u e in
+            record {
+              inside = let i = g.inside in omega arith;
+              owns = g.owns;
+              knows = g.knows ∙ sym (others_spared r.owner j id u.first (length u.own) v.first (length v.own) r.parts q ne some_part g.owns f.owns changes);
+              originals = g.originals;
+              behind = prefix_trans u.trail r.trail u' g.behind grows;
+              incoming_behind = prefix_trans u.incoming r.trail u' g.incoming_behind grows;
+              turn_fits = nobody_else word j r.holder u.first (length u.own) r.parts r.trail u.turn (λ same. ne (same ∙ sym has.1)) g.turn_fits 0 r.holder q u';
+            }),
         (ap (λ (z : SeatView P E). (z, carried_after me.1 gives)) told ∙ ap (λ (c : List (ℕ × Option T)). (next, c)) rest_is, same),
       )
 
@@ -342,19 +340,19 @@ module _ {T P E : Type 0} (parts_of : T → List P) (trail_of : T → List E) (c
       let word = slice_index s.words 0 in
       let f = r.each id v at in
       let held : 0 < word → ⊥ = λ out.
-          let h = r.held out in
-          let u : SeatView P E = h.0 in
-          let g = r.each r.holder u h.1 in
-          let begins : u.first < u.first + length u.own = let k = h.2.2 in omega arith in
-          let within : u.first < v.first + length v.own = let i = g.inside in omega (arith, r.counted) in
-          let same : r.holder ≡ id = sym (g.owns u.first (le_refl u.first) begins) ∙ f.owns u.first (omega arith) within in
-          let view : u ≡ v = one_view s.views id u v (rw same at h.1) at in
-          subst (λ (z : Turn P E). HasTurn z) (ap (λ (z : SeatView P E). z.turn) view ∙ free) h.2.0 in
+      let h = r.held out in
+      let u : SeatView P E = h.0 in
+      let g = r.each r.holder u h.1 in
+      let begins : u.first < u.first + length u.own = let k = h.2.2 in omega arith in
+      let within : u.first < v.first + length v.own = let i = g.inside in omega (arith, r.counted) in
+      let same : r.holder ≡ id = sym (g.owns u.first (le_refl u.first) begins) ∙ f.owns u.first (omega arith) within in
+      let view : u ≡ v = one_view s.views id u v (rw same at h.1) at in
+      subst (λ (z : Turn P E). HasTurn z) (ap (λ (z : SeatView P E). z.turn) view ∙ free) h.2.0 in
       let idle : word ≡ 0 = dite (ℕ_discrete word 0) (λ e. e) (λ ne. absurd (held (omega arith))) in
       let home = r.home idle in
       let whole : length v.own ≡ length r.parts = all ∙ sym r.counted in
       let known : v.own ≡ r.parts =
-          f.knows ∙ (ap (λ (k : ℕ). segment k (length v.own) r.parts) first ∙ (ap (λ (k : ℕ). segment 0 k r.parts) whole ∙ sym (segment_whole r.parts))) in
+      f.knows ∙ (ap (λ (k : ℕ). segment k (length v.own) r.parts) first ∙ (ap (λ (k : ℕ). segment 0 k r.parts) whole ∙ sym (segment_whole r.parts))) in
       (home.0, home.1, home.2 ∙ sym known, (rw (home.3) f.behind))
 
   -- the slot of a closed table has such a value

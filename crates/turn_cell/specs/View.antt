@@ -1,5 +1,5 @@
 -- What a seat knows, as plain data, and what each call makes of it.
-use Rattle.std.specs.Prelude.{◌≡◌, ℕ, ◌+◌, ◌-◌, ◌≤◌, ◌<◌, ◌⊎◌, ◌++◌, List, [], length, take, drop, min, nat_le, if◌then◌else◌}
+use Rattle.std.specs.Prelude.{◌≡◌, ℕ, ◌+◌, ◌-◌, ◌<◌, ◌⊎◌, ◌++◌, List, [], length, take, drop, min, nat_le, if◌then◌else◌}
 use mathlib.Core.List.{IsPrefix}
 use Rattle.turn_cell.specs.declared.view.SeatView.{SeatView}
 use Rattle.turn_cell.specs.declared.view.Turn.{Turn}
@@ -49,6 +49,10 @@ module _ {P E : Type 0} where
 
   abbrev pub with_look : SeatView P E → ℕ → SeatView P E
   with_look v word = record v { looks = v.looks + 1; found_word = word }
+
+  -- a place within the range, above its first part
+  abbrev pub CutsWithin : ℕ → SeatView P E → Type 0
+  CutsWithin from v = (v.first < from) × (from < v.first + length v.own)
 
   -- the view after a value with these parts and this trail was given
   abbrev pub given : SeatView P E → List P → List E → SeatView P E
@@ -114,7 +118,7 @@ module _ {P E : Type 0} where
   taken_trail (Taken parts trail) = trail
   taken_trail (Announced parts trail new_parts new_trail) = trail
 
-  -- the parts that a value has which is being given back
+  -- the parts of the value that is being given back
   abbrev pub announced_parts : Turn P E → List P
   announced_parts Free = []
   announced_parts (Taken parts trail) = []
@@ -129,3 +133,20 @@ module _ {P E : Type 0} where
   -- the seat knows what it took and what it will give
   abbrev pub with_offer : SeatView P E → List P → List E → SeatView P E
   with_offer v parts trail = record v { turn = Announced (taken_parts v.turn) (taken_trail v.turn) parts trail }
+
+  -- the view has the turn, and has taken down the value's parts and its trail
+  abbrev pub HoldsTurn : SeatView P E → Type 0
+  HoldsTurn v = v.turn ≡ Taken (taken_parts v.turn) (taken_trail v.turn)
+
+module _ {T P E : Type 0} where
+  -- the value has been announced
+  abbrev pub Offers : (T → List P) → (T → List E) → SeatView P E → T → Type 0
+  Offers parts_of trail_of v value = v.turn ≡ Announced (taken_parts v.turn) (taken_trail v.turn) (parts_of value) (trail_of value)
+
+  -- the value has as many parts as the one taken, and the seat's own parts alone may differ
+  abbrev pub KeepsOtherParts : (T → List P) → SeatView P E → T → Type 0
+  KeepsOtherParts parts_of v value = ChangesOnlyWithin v.first (length v.own) (taken_parts v.turn) (parts_of value)
+
+  -- the value's trail goes on from the one taken
+  abbrev pub ExtendsTrail : (T → List E) → SeatView P E → T → Type 0
+  ExtendsTrail trail_of v value = IsPrefix (taken_trail v.turn) (trail_of value)

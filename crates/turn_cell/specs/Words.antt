@@ -1,11 +1,11 @@
 -- What callers' clauses say of a cell and of a seat.
-use Rattle.std.specs.Prelude.{◌≡◌, ℕ, ◌<◌, List, length}
-use Rattle.atomic_table.specs.Seated.{TableId}
+use Rattle.std.specs.Prelude.{◌≡◌, ℕ, List, length}
+pub use Rattle.atomic_table.specs.Seated.{TableId}
 use Rattle.turn_cell.specs.declared.view.SeatView.{SeatView}
-use Rattle.turn_cell.specs.declared.view.Turn.TheVariants.{Free, Taken}
+use Rattle.turn_cell.specs.declared.view.Turn.TheVariants.{Free}
 use Rattle.turn_cell.specs.declared.cell.RangeSeat.{RangeSeat}
 use Rattle.turn_cell.specs.declared.cell.TurnCell.{TurnCell}
-use Rattle.turn_cell.specs.View.{taken_parts, taken_trail}
+use Rattle.turn_cell.specs.View.{HoldsTurn, taken_parts, taken_trail}
 
 module _ {T P E : Type 0} where
   -- what the seat knows
@@ -22,7 +22,7 @@ module _ {T P E : Type 0} where
 
   -- the seat has the value, and has taken down its parts and its trail
   abbrev pub HoldsValue : RangeSeat T P E → Type 0
-  HoldsValue seat = (view seat).turn ≡ Taken (taken_parts (view seat).turn) (taken_trail (view seat).turn)
+  HoldsValue seat = HoldsTurn (view seat)
 
   -- the seat has this value
   abbrev pub HasTaken : (T → List P) → (T → List E) → RangeSeat T P E → T → Type 0

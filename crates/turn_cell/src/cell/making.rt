@@ -18,8 +18,11 @@ impl<T: Parted> TurnCell<T> {
         name: u32,
     ) -> Result<(TurnCell<T>, CellSeat<T>), Uncelled<T>>
         requires { 0 < length (T.parts_of value) }
-        ensures cell { IfOk result (λ r. IsSeatOf r.0 r.1 × (part_count T.parts_of r.0 ≡ length (T.parts_of value)) × (name_of r.0 ≡ name)) }
-        ensures seat { IfOk result (λ r. IsFree r.1 × (view r.1 ≡ opening_view (T.parts_of value) (T.trail_of value))) }
+        ensures cell { IfOk result (λ made. part_count T.parts_of made.0 ≡ length (T.parts_of value)) }
+        ensures name { IfOk result (λ made. name_of made.0 ≡ name) }
+        ensures own { IfOk result (λ made. IsSeatOf made.0 made.1) }
+        ensures free { IfOk result (λ made. IsFree made.1) }
+        ensures seat { IfOk result (λ made. view made.1 ≡ opening_view (T.parts_of value) (T.trail_of value)) }
         ensures err { IfErr result (λ refused. refused.value ≡ value) }
     {
         let about = Snapshot::of(&value);

@@ -1,7 +1,7 @@
 // How seats share out a range of parts, and bring it back.
-ghost use Rattle.std.specs.Prelude.{◌≡◌, ◌+◌, ◌-◌, ◌<◌, ◌≤◌, [], length, min};
+ghost use Rattle.std.specs.Prelude.{◌≡◌, ◌+◌, ◌-◌, [], length, min};
 ghost use mathlib.Core.List.{IsPrefix};
-ghost use Rattle.turn_cell.specs.View.{Adjoin, joined, left_at, right_at};
+ghost use Rattle.turn_cell.specs.View.{Adjoin, CutsWithin, joined, left_at, right_at};
 ghost use Rattle.turn_cell.specs.Words.{view, IsFree, IsSeatOf};
 
 use super::{CellSeat, RangeSeat, TableSeat, TurnCell};
@@ -16,11 +16,12 @@ impl<T: Parted> TurnCell<T> {
     pub fn split(&self, seat: &mut CellSeat<T>, from: u32) -> CellSeat<T>
         requires own { IsSeatOf self.now seat.old }
         requires free { IsFree seat.old }
-        requires inside { ((view seat.old).first < from) × (from < (view seat.old).first + length (view seat.old).own) }
+        requires inside { CutsWithin from (view seat.old) }
         ensures own { IsSeatOf self.now seat.new × IsSeatOf self.now result }
         ensures left { IsFree seat.new × (view seat.new ≡ left_at from (view seat.old)) }
         ensures right { IsFree result × (view result ≡ right_at from (view seat.old)) }
-        ensures sizes { (length (view seat.new).own ≡ from - (view seat.old).first) × (length (view result).own ≡ (view seat.old).first + length (view seat.old).own - from) }
+        ensures left_size { length (view seat.new).own ≡ from - (view seat.old).first }
+        ensures right_size { length (view result).own ≡ (view seat.old).first + length (view seat.old).own - from }
     {
         let right = self.cut::<Brand>(seat, from);
         RangeSeat {
@@ -35,10 +36,11 @@ impl<T: Parted> TurnCell<T> {
         seat: &mut CellSeat<T>,
         from: u32,
     ) -> TableSeat<T>
-        requires cut { (M.left (view seat.old) ≡ left_at from (view seat.old)) × (M.right (view seat.old) ≡ right_at from (view seat.old)) }
+        requires left { M.left (view seat.old) ≡ left_at from (view seat.old) }
+        requires right { M.right (view seat.old) ≡ right_at from (view seat.old) }
         requires own { IsSeatOf self.now seat.old }
         requires free { IsFree seat.old }
-        requires inside { ((view seat.old).first < from) × (from < (view seat.old).first + length (view seat.old).own) }
+        requires inside { CutsWithin from (view seat.old) }
         ensures own { IsSeatOf self.now seat.new × (result.table_id ≡ self.now.table.shared.table_id) }
         ensures left { view seat.new ≡ left_at from (view seat.old) }
         ensures right { (result.me.0 ≡ right_at from (view seat.old)) × (result.me.1 ≡ []) }
@@ -53,8 +55,10 @@ impl<T: Parted> TurnCell<T> {
         requires adjoin { Adjoin (view seat.old) (view other) }
         ensures own { IsSeatOf self.now seat.new }
         ensures joined { IsFree seat.new × (view seat.new ≡ joined (view seat.old) (view other)) }
-        ensures range { ((view seat.new).first ≡ min (view seat.old).first (view other).first) × (length (view seat.new).own ≡ length (view seat.old).own + length (view other).own) }
-        ensures trails { IsPrefix (view seat.old).trail (view seat.new).trail × IsPrefix (view other).trail (view seat.new).trail }
+        ensures first { (view seat.new).first ≡ min (view seat.old).first (view other).first }
+        ensures size { length (view seat.new).own ≡ length (view seat.old).own + length (view other).own }
+        ensures own_trail { IsPrefix (view seat.old).trail (view seat.new).trail }
+        ensures other_trail { IsPrefix (view other).trail (view seat.new).trail }
     {
         let RangeSeat {
             seat: other,

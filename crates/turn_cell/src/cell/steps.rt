@@ -1,9 +1,9 @@
 // The turn: how a seat takes the value, gives it back, and looks at the word.
-ghost use Rattle.std.specs.Prelude.{◌≡◌, ◌≢◌, ◌+◌, ◌<◌, [], ◌∷◌, IfErr, IfOk, None, Some, length};
-ghost use mathlib.Core.List.{IsPrefix};
-ghost use Rattle.turn_cell.specs.View.{ChangesOnlyWithin, Continues, with_turn, with_word, with_miss, with_look, with_offer, given, taken_parts, taken_trail, announced_parts, announced_trail};
+ghost use Rattle.std.specs.Prelude.{◌≡◌, ◌≢◌, ◌+◌, ◌<◌, [], ◌∷◌, IfErr, IfOk, None, OnErr, OnOk, Some, length};
+ghost use Rattle.turn_cell.specs.Rule.{tries, waits};
+ghost use Rattle.turn_cell.specs.View.{Continues, with_turn, with_word, with_miss, with_look, with_offer, given};
+ghost use Rattle.turn_cell.specs.View.{HoldsTurn, Offers, KeepsOtherParts, ExtendsTrail, announced_parts, announced_trail};
 ghost use Rattle.turn_cell.specs.Words.{view, IsFree, IsSeatOf, HasTaken, HoldsValue, name_of};
-ghost use Rattle.turn_cell.specs.declared.view.Turn.TheVariants.{Taken, Announced};
 
 use super::{Busy, CellSeat, RangeSeat, TableSeat, TurnCell};
 use crate::parted::Parted;
@@ -16,13 +16,14 @@ impl<T: Parted> TurnCell<T> {
         requires own { IsSeatOf self.now seat.old }
         requires free { IsFree seat.old }
         ensures own { IsSeatOf self.now seat.new }
-        ensures taken { HasTaken T.parts_of T.trail_of seat.new result × (view seat.new ≡ with_turn (view seat.old) (view seat.new).turn 0) }
+        ensures taken { HasTaken T.parts_of T.trail_of seat.new result }
+        ensures others { view seat.new ≡ with_turn (view seat.old) (view seat.new).turn 0 }
         ensures continues { Continues T.parts_of T.trail_of (view seat.old) result }
     {
         for _ in rt.forever() {
             match self.attempt(seat) {
                 Ok(value) => return value,
-                // The word is a number plus one, so its low 32 bits tell whether it is 0.
+                // A seat's number plus one fits the 32 bits that are watched, as a value has fewer than 2^32 parts.
                 Err(word) => self.table.shared.park(rt, 0, (word % (1 << 32)) as u32),
             }
         }
@@ -34,17 +35,31 @@ impl<T: Parted> TurnCell<T> {
         requires own { IsSeatOf self.now seat.old }
         requires free { IsFree seat.old }
         ensures own { IsSeatOf self.now seat.new }
-        ensures taken { IfOk result (λ value. HasTaken T.parts_of T.trail_of seat.new value × (view seat.new ≡ with_turn (view seat.old) (view seat.new).turn 0)) }
-        ensures continues { IfOk result (λ value. Continues T.parts_of T.trail_of (view seat.old) value) }
-        ensures out { IfErr result (λ word. IsFree seat.new × (view seat.new ≡ with_word (view seat.old) word)) }
+        ensures taken { IfOk result (HasTaken T.parts_of T.trail_of seat.new) }
+        ensures others { OnOk result (view seat.new ≡ with_turn (view seat.old) (view seat.new).turn 0) }
+        ensures continues { IfOk result (Continues T.parts_of T.trail_of (view seat.old)) }
+        ensures free { OnErr result (IsFree seat.new) }
+        ensures found { IfErr result (λ word. view seat.new ≡ with_word (view seat.old) word) }
     {
         let own_word = seat.own_word();
-        let shared = &self.table.shared;
-        let word = shared.compare_exchange::<Await<T>>(&mut seat.seat, 0, 0, own_word);
+        let word = self.waiting_step(&mut seat.seat, own_word);
         if word != 0 {
             return Err(word);
         }
         Ok(self.slot_out(&mut seat.seat))
+    }
+
+    // The atomic step of such a try, which answers the word that it found.
+    fn waiting_step(&self, seat: &mut TableSeat<T>, own_word: u64) -> u64
+        requires own { seat.old.table_id ≡ self.now.table.shared.table_id }
+        requires numbered { own_word ≡ seat.old.me.0.first + 1 }
+        requires some_part { 0 < length seat.old.me.0.own }
+        ensures own { seat.new.table_id ≡ seat.old.table_id }
+        ensures waited { waits T.parts_of T.trail_of seat.old.me result seat.new.me }
+    {
+        self.table
+            .shared
+            .compare_exchange::<Await<T>>(seat, 0, 0, own_word)
     }
 
     /// Takes the value, or finds that it is out. It tries once.
@@ -52,13 +67,15 @@ impl<T: Parted> TurnCell<T> {
         requires own { IsSeatOf self.now seat.old }
         requires free { IsFree seat.old }
         ensures own { IsSeatOf self.now seat.new }
-        ensures taken { IfOk result (λ value. HasTaken T.parts_of T.trail_of seat.new value × (view seat.new ≡ with_turn (view seat.old) (view seat.new).turn 0)) }
-        ensures continues { IfOk result (λ value. Continues T.parts_of T.trail_of (view seat.old) value) }
-        ensures busy { IfErr result (λ busy. (busy.cell ≡ name_of self.now) × (busy.word ≢ 0) × IsFree seat.new × (view seat.new ≡ with_miss (view seat.old) busy.word)) }
+        ensures taken { IfOk result (HasTaken T.parts_of T.trail_of seat.new) }
+        ensures others { OnOk result (view seat.new ≡ with_turn (view seat.old) (view seat.new).turn 0) }
+        ensures continues { IfOk result (Continues T.parts_of T.trail_of (view seat.old)) }
+        ensures busy { IfErr result (λ busy. (busy.cell ≡ name_of self.now) × (busy.word ≢ 0)) }
+        ensures free { OnErr result (IsFree seat.new) }
+        ensures missed { IfErr result (λ busy. view seat.new ≡ with_miss (view seat.old) busy.word) }
     {
         let own_word = seat.own_word();
-        let shared = &self.table.shared;
-        let word = shared.compare_exchange::<Try<T>>(&mut seat.seat, 0, 0, own_word);
+        let word = self.trying_step(&mut seat.seat, own_word);
         if word != 0 {
             return Err(Busy {
                 cell: self.name,
@@ -66,6 +83,19 @@ impl<T: Parted> TurnCell<T> {
             });
         }
         Ok(self.slot_out(&mut seat.seat))
+    }
+
+    // The atomic step of a try that counts its misses.
+    fn trying_step(&self, seat: &mut TableSeat<T>, own_word: u64) -> u64
+        requires own { seat.old.table_id ≡ self.now.table.shared.table_id }
+        requires numbered { own_word ≡ seat.old.me.0.first + 1 }
+        requires some_part { 0 < length seat.old.me.0.own }
+        ensures own { seat.new.table_id ≡ seat.old.table_id }
+        ensures tried { tries T.parts_of T.trail_of seat.old.me result seat.new.me }
+    {
+        self.table
+            .shared
+            .compare_exchange::<Try<T>>(seat, 0, 0, own_word)
     }
 
     // Takes the value out of the slot, which the turn has put into the seat's hands.
@@ -87,8 +117,8 @@ impl<T: Parted> TurnCell<T> {
     pub fn give(&self, seat: &mut CellSeat<T>, value: T)
         requires own { IsSeatOf self.now seat.old }
         requires holds { HoldsValue seat.old }
-        requires parts { ChangesOnlyWithin (view seat.old).first (length (view seat.old).own) (taken_parts (view seat.old).turn) (T.parts_of value) }
-        requires trail { IsPrefix (taken_trail (view seat.old).turn) (T.trail_of value) }
+        requires parts { KeepsOtherParts T.parts_of (view seat.old) value }
+        requires trail { ExtendsTrail T.trail_of (view seat.old) value }
         ensures own { IsSeatOf self.now seat.new }
         ensures free { IsFree seat.new }
         ensures given { view seat.new ≡ given (view seat.old) (T.parts_of value) (T.trail_of value) }
@@ -103,13 +133,14 @@ impl<T: Parted> TurnCell<T> {
     fn slot_home(&self, seat: &mut TableSeat<T>, own_word: u64, value: T)
         requires own { seat.old.table_id ≡ self.now.table.shared.table_id }
         requires numbered { own_word ≡ seat.old.me.0.first + 1 }
-        requires holds { seat.old.me.0.turn ≡ Taken (taken_parts seat.old.me.0.turn) (taken_trail seat.old.me.0.turn) }
+        requires holds { HoldsTurn seat.old.me.0 }
         requires empty { seat.old.me.1 ≡ (0, None) ∷ [] }
         requires some_part { 0 < length seat.old.me.0.own }
-        requires parts { ChangesOnlyWithin seat.old.me.0.first (length seat.old.me.0.own) (taken_parts seat.old.me.0.turn) (T.parts_of value) }
-        requires trail { IsPrefix (taken_trail seat.old.me.0.turn) (T.trail_of value) }
+        requires parts { KeepsOtherParts T.parts_of seat.old.me.0 value }
+        requires trail { ExtendsTrail T.trail_of seat.old.me.0 value }
         ensures own { seat.new.table_id ≡ seat.old.table_id }
-        ensures home { seat.new.me ≡ (with_offer seat.old.me.0 (T.parts_of value) (T.trail_of value), (0, Some value) ∷ []) }
+        ensures offered { seat.new.me.0 ≡ with_offer seat.old.me.0 (T.parts_of value) (T.trail_of value) }
+        ensures home { seat.new.me.1 ≡ (0, Some value) ∷ [] }
     {
         let offered = Some(value);
         let shared = &self.table.shared;
@@ -121,10 +152,10 @@ impl<T: Parted> TurnCell<T> {
     // Ends the turn of a seat whose slot has the value that it announced.
     fn release(&self, seat: &mut TableSeat<T>)
         requires own { seat.old.table_id ≡ self.now.table.shared.table_id }
-        requires home { (x : T) × (seat.old.me.1 ≡ (0, Some x) ∷ []) × (seat.old.me.0.turn ≡ Announced (taken_parts seat.old.me.0.turn) (taken_trail seat.old.me.0.turn) (T.parts_of x) (T.trail_of x)) }
+        requires home { (x : T) × (seat.old.me.1 ≡ (0, Some x) ∷ []) × Offers T.parts_of T.trail_of seat.old.me.0 x }
         requires some_part { 0 < length seat.old.me.0.own }
         ensures own { seat.new.table_id ≡ seat.old.table_id }
-        ensures free { seat.new.me ≡ (given seat.old.me.0 (announced_parts seat.old.me.0.turn) (announced_trail seat.old.me.0.turn), []) }
+        ensures given { seat.new.me ≡ (given seat.old.me.0 (announced_parts seat.old.me.0.turn) (announced_trail seat.old.me.0.turn), []) }
         ensures same_length { length seat.new.me.0.own ≡ length seat.old.me.0.own }
     {
         self.table.shared.store::<Release<T>>(seat, 0, 0);

@@ -1,6 +1,5 @@
 -- What the rule says of the last state, in which the seat owns all parts.
-use Rattle.std.proofs.Common.{◌≡◌, Some, sym, ◌∙◌}
-use mathlib.Core.List.{IsPrefix}
+use Rattle.std.proofs.Common.{◌≡◌}
 use Rattle.turn_cell.proofs.StepLemmas.{closing}
 use Rattle.turn_cell.proofs.cell.TurnCell.close.Goals as goal
 

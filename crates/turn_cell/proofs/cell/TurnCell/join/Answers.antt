@@ -9,8 +9,7 @@ pub join_seat-requires : goal.join_seat-requires
 join_seat-requires g c =
     let q = c.requires in
     let seat = c.args.seat.now in
-    let other = c.args.other in
-    (
+    let other = c.args.other in (
       q.own.0,
       q.own.1,
       other.hand ∙ ap hand_of q.free.1,
@@ -19,9 +18,8 @@ join_seat-requires g c =
     )
 
 pub load-requires : goal.load-requires
-load-requires g c =
-    (
-      c.join_seat.ensures.0 ∙ c.requires.own.0,
-      omega (arith, c.args.self.now.shaped.0),
-      settles_allowed g.T.Parted.parts_of g.T.Parted.trail_of _ _ _ c.join_seat.new.seat.me,
-    )
+load-requires g c = (
+  c.join_seat.ensures.0 ∙ c.requires.own.0,
+  omega (arith, c.args.self.now.shaped.0),
+  settles_allowed g.T.Parted.parts_of g.T.Parted.trail_of _ _ _ c.join_seat.new.seat.me,
+)
