@@ -13,7 +13,7 @@ use Rattle.turn_cell.specs.declared.view.Turn.{Turn}
 use Rattle.turn_cell.specs.declared.view.Turn.TheVariants.{Free}
 use Rattle.turn_cell.specs.View.{segment, left_at, right_at, Adjoin, in_order, combined, spent_view}
 use Rattle.turn_cell.specs.Rule.{TurnFits, HasTurn, IsHolder, Owns, ViewFits}
-use Rattle.turn_cell.proofs.Segments.{prefix_nil, take-segment, drop-segment, segment-append}
+use Rattle.turn_cell.proofs.Segments.{prefix_nil, first_segment, second_segment, two_segments}
 use Rattle.turn_cell.proofs.StepLemmas.{at_within, one_view, still, Rule}
 
 -- an element of a longer list is one of the old ones, or the new one at its end
@@ -70,37 +70,36 @@ module _ {P E : Type 0} where
   free_not_holder v word free h = subst (λ (z : Turn P E). HasTurn z) free h.0
 
   -- a view whose range kept its owner fits
-  kept_fits : (word holder : ℕ) (owner new_owner : ℕ → ℕ) (parts : List P) (trail : List E) (seat : ℕ) (v : SeatView P E)
-      → ((k : ℕ) → owner k ≡ seat → new_owner k ≡ owner k) → ViewFits word holder owner parts trail seat v → ViewFits word holder new_owner parts trail seat v
-  kept_fits word holder owner new_owner parts trail seat v same f = record {
+  kept_fits : (word holder : ℕ) (owner new_owner : ℕ → ℕ) (made parts : List P) (trail : List E) (seat : ℕ) (v : SeatView P E)
+      → ((k : ℕ) → owner k ≡ seat → new_owner k ≡ owner k) → ViewFits word holder owner made parts trail seat v → ViewFits word holder new_owner made parts trail seat v
+  kept_fits word holder owner new_owner made parts trail seat v same f = record {
     inside = f.inside;
     owns = λ k low high. let o = f.owns k low high in same k o ∙ o;
     knows = f.knows;
-    originals = f.originals;
+    knew = f.knew;
     behind = f.behind;
     incoming_behind = f.incoming_behind;
     turn_fits = f.turn_fits;
   }
 
-  module _ (word holder : ℕ) (owner : ℕ → ℕ) (parts : List P) (trail : List E) (id new from : ℕ) (v : SeatView P E) (f : ViewFits word holder owner parts trail id v)
+  module _ (word holder : ℕ) (owner : ℕ → ℕ) (made parts : List P) (trail : List E) (id new from : ℕ) (v : SeatView P E) (f : ViewFits word holder owner made parts trail id v)
       (free : v.turn ≡ Free) (low : v.first < from) (high : from < v.first + length v.own) where
-    left_fits : ViewFits word holder (cut_owner owner id new from) parts trail id (left_at from v)
+    left_fits : ViewFits word holder (cut_owner owner id new from) made parts trail id (left_at from v)
     left_fits =
         let n : ℕ = from - v.first in
         let within : n ≤ length v.own = omega arith in
         let long : length (take n v.own) ≡ n = length-take-le n v.own within in
-        let originals_long : length (take n v.original) ≡ n = length-take-le n v.original (let e = f.originals in omega arith) in
         record {
           inside = let i = f.inside in omega arith;
           owns = λ k l h. cut_below owner id new from k (omega arith) ∙ f.owns k l (omega arith);
-          knows = ap (λ (xs : List P). take n xs) f.knows ∙ (take-segment v.first (length v.own) n parts within ∙ ap (λ (k : ℕ). segment v.first k parts) (sym long));
-          originals = originals_long ∙ sym long;
+          knows = first_segment v.first (length v.own) n parts v.own f.knows within ∙ ap (λ (k : ℕ). segment v.first k parts) (sym long);
+          knew = first_segment v.first (length v.own) n made v.original f.knew within ∙ ap (λ (k : ℕ). segment v.first k made) (sym long);
           behind = f.behind;
           incoming_behind = f.incoming_behind;
           turn_fits = free_fits word holder id v.first (length (take n v.own)) parts trail v.turn free;
         }
 
-    right_fits : ViewFits word holder (cut_owner owner id new from) parts trail new (right_at from v)
+    right_fits : ViewFits word holder (cut_owner owner id new from) made parts trail new (right_at from v)
     right_fits =
         let n : ℕ = from - v.first in
         let within : n ≤ length v.own = omega arith in
@@ -109,48 +108,42 @@ module _ {P E : Type 0} where
         record {
           inside = let i = f.inside in omega arith;
           owns = λ k l h. cut_moved owner id new from k l (f.owns k (omega arith) (omega arith));
-          knows = ap (λ (xs : List P). drop n xs) f.knows ∙ (drop-segment v.first (length v.own) n parts within
-              ∙ (ap (λ (k : ℕ). segment k (length v.own - n) parts) place ∙ ap (λ (k : ℕ). segment from k parts) (sym long)));
-          originals = length-drop n v.original ∙ (ap (λ (k : ℕ). k - n) f.originals ∙ sym long);
+          knows = second_segment v.first (length v.own) n from parts v.own f.knows within place ∙ ap (λ (k : ℕ). segment from k parts) (sym long);
+          knew = second_segment v.first (length v.own) n from made v.original f.knew within place ∙ ap (λ (k : ℕ). segment from k made) (sym long);
           behind = f.behind;
           incoming_behind = prefix_nil trail;
           turn_fits = tt;
         }
 
   -- two ranges as one
-  record Whole (parts : List P) (v w : SeatView P E) (first : ℕ) (own original : List P) : Type 0 where
+  record Whole (made parts : List P) (v w : SeatView P E) (first : ℕ) (own original : List P) : Type 0 where
     inside : first + length own ≤ length parts
     knows : own ≡ segment first (length own) parts
-    originals : length original ≡ length own
+    knew : original ≡ segment first (length own) made
     has_one : (k : ℕ) → Owns k v → (first ≤ k) × (k < first + length own)
     has_other : (k : ℕ) → Owns k w → (first ≤ k) × (k < first + length own)
     has_no_more : (k : ℕ) → first ≤ k → k < first + length own → Owns k v ⊎ Owns k w
 
   -- the seats' ranges side by side, the first one's first
-  side_by_side : (word holder : ℕ) (owner : ℕ → ℕ) (parts : List P) (trail : List E) (i j : ℕ) (v w : SeatView P E)
-      → ViewFits word holder owner parts trail i v → ViewFits word holder owner parts trail j w → w.first ≡ v.first + length v.own
-      → Whole parts v w v.first (v.own ++ w.own) (v.original ++ w.original)
-  side_by_side word holder owner parts trail i j v w f g next =
+  side_by_side : (word holder : ℕ) (owner : ℕ → ℕ) (made parts : List P) (trail : List E) (i j : ℕ) (v w : SeatView P E)
+      → ViewFits word holder owner made parts trail i v → ViewFits word holder owner made parts trail j w → w.first ≡ v.first + length v.own
+      → Whole made parts v w v.first (v.own ++ w.own) (v.original ++ w.original)
+  side_by_side word holder owner made parts trail i j v w f g next =
       let long : length (v.own ++ w.own) ≡ length v.own + length w.own = length-append v.own w.own in
-      let original_long : length (v.original ++ w.original) ≡ length v.original + length w.original = length-append v.original w.original in
-      let both : v.own ++ w.own ≡ segment v.first (length v.own + length w.own) parts =
-      ap (λ (xs : List P). xs ++ w.own) f.knows
-      ∙ (ap (λ (ys : List P). segment v.first (length v.own) parts ++ ys) (g.knows ∙ ap (λ (k : ℕ). segment k (length w.own) parts) next)
-      ∙ segment-append v.first (length v.own) (length w.own) parts) in
       record {
         inside = let i = g.inside in omega arith;
-        knows = both ∙ ap (λ (k : ℕ). segment v.first k parts) (sym long);
-        originals = let e = f.originals in let d = g.originals in omega arith;
+        knows = two_segments v.first (length v.own) w.first (length w.own) parts v.own w.own f.knows g.knows next ∙ ap (λ (k : ℕ). segment v.first k parts) (sym long);
+        knew = two_segments v.first (length v.own) w.first (length w.own) made v.original w.original f.knew g.knew next ∙ ap (λ (k : ℕ). segment v.first k made) (sym long);
         has_one = λ k o. (o.0, let h = o.1 in omega arith);
         has_other = λ k o. (let l = o.0 in omega arith, let h = o.1 in omega arith);
         has_no_more = λ k l h. dite (dec_le w.first k) (λ (a : w.first ≤ k). inr (a, omega arith)) (λ (n : ¬ (w.first ≤ k)). inl (l, omega arith));
       }
 
-  swapped : (parts : List P) (v w : SeatView P E) (first : ℕ) (own original : List P) → Whole parts w v first own original → Whole parts v w first own original
-  swapped parts v w first own original x = record {
+  swapped : (made parts : List P) (v w : SeatView P E) (first : ℕ) (own original : List P) → Whole made parts w v first own original → Whole made parts v w first own original
+  swapped made parts v w first own original x = record {
     inside = x.inside;
     knows = x.knows;
-    originals = x.originals;
+    knew = x.knew;
     has_one = x.has_other;
     has_other = x.has_one;
     has_no_more = λ k l h. ⊎_elim (λ o. inr o) (λ o. inl o) (x.has_no_more k l h);
@@ -171,28 +164,28 @@ module _ {P E : Type 0} where
       (λ (t : (leb v.first w.first ≡ false) × (w.first < v.first)). rw (t.0))
       (leb_tells v.first w.first)
 
-  whole : (word holder : ℕ) (owner : ℕ → ℕ) (parts : List P) (trail : List E) (i j : ℕ) (v w : SeatView P E)
-      → ViewFits word holder owner parts trail i v → ViewFits word holder owner parts trail j w → 0 < length v.own → 0 < length w.own → Adjoin v w
-      → Whole parts v w (min v.first w.first) (in_order v w v.own w.own) (in_order v w v.original w.original)
-  whole word holder owner parts trail i j v w f g some_v some_w adjoin =
+  whole : (word holder : ℕ) (owner : ℕ → ℕ) (made parts : List P) (trail : List E) (i j : ℕ) (v w : SeatView P E)
+      → ViewFits word holder owner made parts trail i v → ViewFits word holder owner made parts trail j w → 0 < length v.own → 0 < length w.own → Adjoin v w
+      → Whole made parts v w (min v.first w.first) (in_order v w v.own w.own) (in_order v w v.original w.original)
+  whole word holder owner made parts trail i j v w f g some_v some_w adjoin =
       ⊎_elim
       (λ (next : w.first ≡ v.first + length v.own).
       let low : v.first ≤ w.first = omega arith in
       let least : min v.first w.first ≡ v.first = omega arith in
       rw (least, in_order_before v w v.own w.own low, in_order_before v w v.original w.original low)
-      (side_by_side word holder owner parts trail i j v w f g next))
+      (side_by_side word holder owner made parts trail i j v w f g next))
       (λ (next : v.first ≡ w.first + length w.own).
       let low : w.first < v.first = omega arith in
       let least : min v.first w.first ≡ w.first = omega arith in
       rw (least, in_order_after v w v.own w.own low, in_order_after v w v.original w.original low)
-      (swapped parts v w w.first (w.own ++ v.own) (w.original ++ v.original) (side_by_side word holder owner parts trail j i w v g f next)))
+      (swapped made parts v w w.first (w.own ++ v.own) (w.original ++ v.original) (side_by_side word holder owner made parts trail j i w v g f next)))
       adjoin
 
-  combined_fits : (word holder : ℕ) (owner : ℕ → ℕ) (parts : List P) (trail : List E) (id other : ℕ) (v w : SeatView P E)
-      → ViewFits word holder owner parts trail id v → ViewFits word holder owner parts trail other w → v.turn ≡ Free → ¬ (other ≡ id)
-      → Whole parts v w (min v.first w.first) (in_order v w v.own w.own) (in_order v w v.original w.original)
-      → ViewFits word holder (joined_owner owner other id) parts trail id (combined v w)
-  combined_fits word holder owner parts trail id other v w f g free ne x = record {
+  combined_fits : (word holder : ℕ) (owner : ℕ → ℕ) (made parts : List P) (trail : List E) (id other : ℕ) (v w : SeatView P E)
+      → ViewFits word holder owner made parts trail id v → ViewFits word holder owner made parts trail other w → v.turn ≡ Free → ¬ (other ≡ id)
+      → Whole made parts v w (min v.first w.first) (in_order v w v.own w.own) (in_order v w v.original w.original)
+      → ViewFits word holder (joined_owner owner other id) made parts trail id (combined v w)
+  combined_fits word holder owner made parts trail id other v w f g free ne x = record {
     inside = x.inside;
     owns = λ k l h.
         ⊎_elim
@@ -200,26 +193,26 @@ module _ {P E : Type 0} where
         (λ (o : Owns k w). joined_moved owner other id k (g.owns k o.0 o.1))
         (x.has_no_more k l h);
     knows = x.knows;
-    originals = x.originals;
+    knew = x.knew;
     behind = f.behind;
     incoming_behind = g.behind;
     turn_fits = free_fits word holder id (min v.first w.first) (length (in_order v w v.own w.own)) parts trail v.turn free;
   }
 
-  spent_fits : (word holder : ℕ) (owner : ℕ → ℕ) (parts : List P) (trail : List E) (seat : ℕ) → ViewFits word holder owner parts trail seat spent_view
-  spent_fits word holder owner parts trail seat = record {
+  spent_fits : (word holder : ℕ) (owner : ℕ → ℕ) (made parts : List P) (trail : List E) (seat : ℕ) → ViewFits word holder owner made parts trail seat spent_view
+  spent_fits word holder owner made parts trail seat = record {
     inside = omega arith;
     owns = λ k l h. absurd (omega arith);
     knows = refl;
-    originals = refl;
+    knew = refl;
     behind = prefix_nil trail;
     incoming_behind = prefix_nil trail;
     turn_fits = tt;
   }
 
-module _ {T P E : Type 0} (parts_of : T → List P) (trail_of : T → List E) (count : ℕ) where
+module _ {T P E : Type 0} (parts_of : T → List P) (trail_of : T → List E) (made : List P) where
   pub splits : (id : ℕ) (v : SeatView P E) (from : ℕ) → v.turn ≡ Free → v.first < from → from < v.first + length v.own
-      → Splits (Rule parts_of trail_of count) id v (left_at from v) (right_at from v)
+      → Splits (Rule parts_of trail_of made) id v (left_at from v) (right_at from v)
   splits id v from free low high s r at =
       let word : ℕ = slice_index s.words 0 in
       let new : ℕ = length s.views in
@@ -230,8 +223,8 @@ module _ {T P E : Type 0} (parts_of : T → List P) (trail_of : T → List E) (c
       let f = r.each id v at in
       let within : id < length s.views = at_within s.views id v at in
       let long : length (set s.views id left) ≡ new = length-set s.views id left in
-      let l = left_fits word r.holder r.owner r.parts r.trail id new from v f free low high in
-      let q = right_fits word r.holder r.owner r.parts r.trail id new from v f free low high in
+      let l = left_fits word r.holder r.owner made r.parts r.trail id new from v f free low high in
+      let q = right_fits word r.holder r.owner made r.parts r.trail id new from v f free low high in
       record {
         holder = r.holder;
         owner = owner;
@@ -249,14 +242,14 @@ module _ {T P E : Type 0} (parts_of : T → List P) (trail_of : T → List E) (c
             (λ (old : get_elem? (set s.views id left) j ≡ logic.some u).
             ⊎_elim
             (λ (t : (j ≡ id) × (left ≡ u)).
-            subst (λ (z : SeatView P E). ViewFits word r.holder owner r.parts r.trail j z) t.1
-            (subst (λ (i : ℕ). ViewFits word r.holder owner r.parts r.trail i left) (sym t.0) l))
+            subst (λ (z : SeatView P E). ViewFits word r.holder owner made r.parts r.trail j z) t.1
+            (subst (λ (i : ℕ). ViewFits word r.holder owner made r.parts r.trail i left) (sym t.0) l))
             (λ (t : (j ≢ id) × (get_elem? s.views j ≡ logic.some u)).
-            kept_fits word r.holder r.owner owner r.parts r.trail j u (λ k same. cut_kept r.owner id new from k (λ mine. t.0 (sym same ∙ mine))) (r.each j u t.1))
+            kept_fits word r.holder r.owner owner made r.parts r.trail j u (λ k same. cut_kept r.owner id new from k (λ mine. t.0 (sym same ∙ mine))) (r.each j u t.1))
             (at_set s.views id j left u old))
             (λ (t : (j ≡ length (set s.views id left)) × (right ≡ u)).
-            subst (λ (z : SeatView P E). ViewFits word r.holder owner r.parts r.trail j z) t.1
-            (subst (λ (i : ℕ). ViewFits word r.holder owner r.parts r.trail i right) (sym (t.0 ∙ long)) q))
+            subst (λ (z : SeatView P E). ViewFits word r.holder owner made r.parts r.trail j z) t.1
+            (subst (λ (i : ℕ). ViewFits word r.holder owner made r.parts r.trail i right) (sym (t.0 ∙ long)) q))
             (at_end (set s.views id left) right u j e);
         covered = λ k h.
             let c = r.covered k h in
@@ -281,7 +274,7 @@ module _ {T P E : Type 0} (parts_of : T → List P) (trail_of : T → List E) (c
       }
 
   pub joins : (id other : ℕ) (v w : SeatView P E) → v.turn ≡ Free → w.turn ≡ Free → 0 < length v.own → 0 < length w.own → Adjoin v w
-      → Joins (Rule parts_of trail_of count) id v other w (combined v w) spent_view
+      → Joins (Rule parts_of trail_of made) id v other w (combined v w) spent_view
   joins id other v w free_v free_w some_v some_w adjoin s r at ne there =
       let word : ℕ = slice_index s.words 0 in
       let both : SeatView P E = combined v w in
@@ -291,8 +284,8 @@ module _ {T P E : Type 0} (parts_of : T → List P) (trail_of : T → List E) (c
       let there_before : get_elem? s.views other ≡ logic.some w = sym (set_else s.views id other both ne) ∙ there in
       let f = r.each id v at in
       let g = r.each other w there_before in
-      let x = whole word r.holder r.owner r.parts r.trail id other v w f g some_v some_w adjoin in
-      let fits = combined_fits word r.holder r.owner r.parts r.trail id other v w f g free_v ne x in
+      let x = whole word r.holder r.owner made r.parts r.trail id other v w f g some_v some_w adjoin in
+      let fits = combined_fits word r.holder r.owner made r.parts r.trail id other v w f g free_v ne x in
       let here : get_elem? views id ≡ logic.some both = set_else (set s.views id both) other id spent_view apart ∙ set_here s.views id both (at_within s.views id v at) in
       record {
         holder = r.holder;
@@ -309,14 +302,14 @@ module _ {T P E : Type 0} (parts_of : T → List P) (trail_of : T → List E) (c
         each = λ j u e.
             ⊎_elim
             (λ (t : (j ≡ other) × (spent_view ≡ u)).
-            subst (λ (z : SeatView P E). ViewFits word r.holder owner r.parts r.trail j z) t.1 (spent_fits word r.holder owner r.parts r.trail j))
+            subst (λ (z : SeatView P E). ViewFits word r.holder owner made r.parts r.trail j z) t.1 (spent_fits word r.holder owner made r.parts r.trail j))
             (λ (t : (j ≢ other) × (get_elem? (set s.views id both) j ≡ logic.some u)).
             ⊎_elim
             (λ (m : (j ≡ id) × (both ≡ u)).
-            subst (λ (z : SeatView P E). ViewFits word r.holder owner r.parts r.trail j z) m.1
-            (subst (λ (i : ℕ). ViewFits word r.holder owner r.parts r.trail i both) (sym m.0) fits))
+            subst (λ (z : SeatView P E). ViewFits word r.holder owner made r.parts r.trail j z) m.1
+            (subst (λ (i : ℕ). ViewFits word r.holder owner made r.parts r.trail i both) (sym m.0) fits))
             (λ (m : (j ≢ id) × (get_elem? s.views j ≡ logic.some u)).
-            kept_fits word r.holder r.owner owner r.parts r.trail j u (λ k same. joined_kept r.owner other id k (λ gone. t.0 (sym same ∙ gone))) (r.each j u m.1))
+            kept_fits word r.holder r.owner owner made r.parts r.trail j u (λ k same. joined_kept r.owner other id k (λ gone. t.0 (sym same ∙ gone))) (r.each j u m.1))
             (at_set s.views id j both u t.1))
             (at_set (set s.views id both) other j spent_view u e);
         covered = λ k h.

@@ -40,19 +40,25 @@ module _ {A : Type 0} where
   pub segment_whole : (xs : List A) → xs ≡ segment 0 (length xs) xs
   segment_whole xs = sym (take-length xs)
 
-  -- the first of two parts of a segment
-  pub take-segment : (first count n : ℕ) (xs : List A) → n ≤ count → take n (segment first count xs) ≡ segment first n xs
-  take-segment first count n xs h = take-take n count (drop first xs) h
+  -- the first part of what is known to be a segment
+  pub first_segment : (first count n : ℕ) (xs ys : List A) → ys ≡ segment first count xs → n ≤ count → take n ys ≡ segment first n xs
+  first_segment first count n xs ys known h = ap (λ (zs : List A). take n zs) known ∙ take-take n count (drop first xs) h
 
-  -- the second
-  pub drop-segment : (first count n : ℕ) (xs : List A) → n ≤ count → drop n (segment first count xs) ≡ segment (first + n) (count - n) xs
-  drop-segment first count n xs h =
-      let e : n + (count - n) ≡ count = omega arith in
-      ap (λ (k : ℕ). drop n (take k (drop first xs))) (sym e) ∙ (drop-take n (count - n) (drop first xs) ∙ ap (λ (ys : List A). take (count - n) ys) (drop-drop n first xs))
+  -- the rest of it
+  pub second_segment : (first count n from : ℕ) (xs ys : List A) → ys ≡ segment first count xs → n ≤ count → first + n ≡ from → drop n ys ≡ segment from (count - n) xs
+  second_segment first count n from xs ys known h place =
+      let whole : n + (count - n) ≡ count = omega arith in
+      ap (λ (zs : List A). drop n zs) known
+      ∙ (ap (λ (k : ℕ). drop n (take k (drop first xs))) (sym whole)
+      ∙ (drop-take n (count - n) (drop first xs)
+      ∙ (ap (λ (zs : List A). take (count - n) zs) (drop-drop n first xs) ∙ ap (λ (k : ℕ). segment k (count - n) xs) place)))
 
   -- two segments side by side
-  pub segment-append : (first n m : ℕ) (xs : List A) → segment first n xs ++ segment (first + n) m xs ≡ segment first (n + m) xs
-  segment-append first n m xs = sym (take-add n m (drop first xs) ∙ ap (λ (ys : List A). take n (drop first xs) ++ take m ys) (drop-drop n first xs))
+  pub two_segments : (first n next m : ℕ) (xs ys zs : List A) → ys ≡ segment first n xs → zs ≡ segment next m xs → next ≡ first + n → ys ++ zs ≡ segment first (n + m) xs
+  two_segments first n next m xs ys zs known_first known_next place =
+      let moved : zs ≡ take m (drop n (drop first xs)) =
+      known_next ∙ (ap (λ (k : ℕ). segment k m xs) place ∙ ap (λ (ws : List A). take m ws) (sym (drop-drop n first xs))) in
+      ap (λ (ws : List A). ws ++ zs) known_first ∙ (ap (λ (ws : List A). take n (drop first xs) ++ ws) moved ∙ sym (take-add n m (drop first xs)))
 
   -- a segment on one side of what changes stays as it was
   spared_before : (first count k m : ℕ) (old new : List A) → ChangesOnlyWithin first count old new → k + m ≤ first → segment k m new ≡ segment k m old

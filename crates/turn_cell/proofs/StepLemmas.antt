@@ -13,7 +13,8 @@ use Rattle.turn_cell.specs.declared.view.SeatView.{SeatView}
 use Rattle.turn_cell.specs.declared.view.Turn.{Turn}
 use Rattle.turn_cell.specs.declared.view.Turn.TheVariants.{Free, Taken, Announced}
 use Rattle.turn_cell.specs.View.{segment, ChangesOnlyWithin, opening_view, with_turn, with_word, with_miss, with_look, with_offer, given, settled, taken_parts, taken_trail, announced_parts, announced_trail}
-use Rattle.turn_cell.specs.Rule.{TurnFits, HasTurn, IsHolder, Owns, ViewFits, SeatIs, AtHome, IsConsistent, TakesTurn, tries, waits, announces, releases, looks, settles}
+use Rattle.turn_cell.specs.Rule.{TurnFits, HasTurn, IsHolder, Owns, ViewFits, SeatIs, AtHome, IsConsistent}
+use Rattle.turn_cell.specs.Steps.{TakesTurn, tries, waits, announces, releases, looks, settles}
 use Rattle.turn_cell.proofs.Segments.{prefix_refl, prefix_nil, prefix_trans, prefix_longer, length-segment, segment_whole, spared}
 
 -- what is looked up lies within the list
@@ -71,21 +72,56 @@ module _ {P E : Type 0} where
   nobody_else word seat holder first count parts trail (Taken p t) ne h word' holder' parts' trail' = absurd (ne h.1)
   nobody_else word seat holder first count parts trail (Announced p t q u) ne h word' holder' parts' trail' = absurd (ne h.1)
 
-module _ {T P E : Type 0} (parts_of : T → List P) (trail_of : T → List E) (count : ℕ) where
+module _ {T P E : Type 0} (parts_of : T → List P) (trail_of : T → List E) where
+  -- the views of a new cell are its first one
+  first_seat : (value : T) (j : ℕ) (u : SeatView P E) → get_elem? (opening_view (parts_of value) (trail_of value) ∷ []) j ≡ logic.some u → ViewFits 0 0 (λ k. 0) (parts_of value) (parts_of value) (trail_of value) j u
+  first_seat value zero u e =
+      let v : SeatView P E = opening_view (parts_of value) (trail_of value) in
+      let fits : ViewFits 0 0 (λ k. 0) (parts_of value) (parts_of value) (trail_of value) 0 v = record {
+        inside = omega arith;
+        owns = λ k low high. refl;
+        knows = segment_whole (parts_of value);
+        knew = segment_whole (parts_of value);
+        behind = prefix_refl (trail_of value);
+        incoming_behind = prefix_nil (trail_of value);
+        turn_fits = tt;
+      } in
+      subst (λ (z : SeatView P E). ViewFits 0 0 (λ k. 0) (parts_of value) (parts_of value) (trail_of value) 0 z) (logic.some-injective v u e) fits
+  first_seat value (suc j) u e = absurd (logic.some-ne-none u (sym e))
+
+  -- a new cell keeps the rule
+  pub opens : (value : T) → IsConsistent parts_of trail_of (parts_of value) (opening (0 ∷ []) (Some value ∷ []) (opening_view (parts_of value) (trail_of value)))
+  opens value =
+      let v : SeatView P E = opening_view (parts_of value) (trail_of value) in
+      record {
+        holder = 0;
+        owner = λ k. 0;
+        parts = parts_of value;
+        trail = trail_of value;
+        one_word = refl;
+        one_slot = refl;
+        counted = refl;
+        home = λ e. (value, refl, refl, refl);
+        held = λ h. absurd (omega arith);
+        each = first_seat value;
+        covered = λ k h. (v, refl, (omega arith, omega arith));
+      }
+
+module _ {T P E : Type 0} (parts_of : T → List P) (trail_of : T → List E) (made : List P) where
   abbrev pub Cell : Type 0
   Cell = State (Option T) (SeatView P E)
 
   abbrev pub Rule : Cell → Type 0
-  Rule = IsConsistent parts_of trail_of count
+  Rule = IsConsistent parts_of trail_of made
 
   -- a step of a seat that owns the same parts afterwards: n is the word after it
   pub renew : (s : Cell) (r : Rule s) (id n : ℕ) (c : List (ℕ × Option T)) (v w : SeatView P E) (a : Act (Option T)) (holder : ℕ) (parts : List P) (trail : List E)
       → get_elem? s.views id ≡ logic.some v → w.first ≡ v.first → length w.own ≡ length v.own
-      → length (homes_after s.homes c a) ≡ 1 → length parts ≡ count
+      → length (homes_after s.homes c a) ≡ 1 → length parts ≡ length made
       → (n ≡ 0 → AtHome parts_of trail_of (homes_after s.homes c a) parts trail)
       → (0 < n → SeatIs (stepped s 0 n id c w a) holder (IsHolder n))
-      → ViewFits n holder r.owner parts trail id w
-      → ((j : ℕ) (u : SeatView P E) → j ≢ id → get_elem? s.views j ≡ logic.some u → ViewFits n holder r.owner parts trail j u)
+      → ViewFits n holder r.owner made parts trail id w
+      → ((j : ℕ) (u : SeatView P E) → j ≢ id → get_elem? s.views j ≡ logic.some u → ViewFits n holder r.owner made parts trail j u)
       → Rule (stepped s 0 n id c w a)
   renew s r id n c v w a holder parts trail at first own one counted home held mine others =
       let word : n ≡ slice_index (slice_set s.words 0 n) 0 = sym (get_or-set_same s.words 0 n 0 (omega (arith, r.one_word))) in
@@ -99,11 +135,11 @@ module _ {T P E : Type 0} (parts_of : T → List P) (trail_of : T → List E) (c
         counted = counted;
         home = λ e. home (word ∙ e);
         held = subst (λ (k : ℕ). 0 < k → SeatIs (stepped s 0 n id c w a) holder (IsHolder k)) word held;
-        each = λ j u e. subst (λ (k : ℕ). ViewFits k holder r.owner parts trail j u) word
+        each = λ j u e. subst (λ (k : ℕ). ViewFits k holder r.owner made parts trail j u) word
             (⊎_elim
             (λ (t : (j ≡ id) × (w ≡ u)).
-            subst (λ (z : SeatView P E). ViewFits n holder r.owner parts trail j z) t.1
-            (subst (λ (i : ℕ). ViewFits n holder r.owner parts trail i w) (sym t.0) mine))
+            subst (λ (z : SeatView P E). ViewFits n holder r.owner made parts trail j z) t.1
+            (subst (λ (i : ℕ). ViewFits n holder r.owner made parts trail i w) (sym t.0) mine))
             (λ (t : (j ≢ id) × (get_elem? s.views j ≡ logic.some u)). others j u t.0 t.1)
             (at_set s.views id j w u e));
         covered = λ k h. still s.views id v w (Owns k) at (λ (o : Owns k v). (let p = o.0 in omega arith, let p = o.1 in omega arith)) (r.owner k) (r.covered k h);
@@ -112,7 +148,7 @@ module _ {T P E : Type 0} (parts_of : T → List P) (trail_of : T → List E) (c
   -- a step that changes what its seat knows, and neither the word nor the slot
   pub stays : (s : Cell) (r : Rule s) (id : ℕ) (c : List (ℕ × Option T)) (v w : SeatView P E)
       → get_elem? s.views id ≡ logic.some v → w.first ≡ v.first → length w.own ≡ length v.own
-      → (HasTurn v.turn → HasTurn w.turn) → ViewFits (slice_index s.words 0) r.holder r.owner r.parts r.trail id w
+      → (HasTurn v.turn → HasTurn w.turn) → ViewFits (slice_index s.words 0) r.holder r.owner made r.parts r.trail id w
       → Rule (stepped s 0 (slice_index s.words 0) id c w keeps)
   stays s r id c v w at first own turn fits =
       renew s r id (slice_index s.words 0) c v w keeps r.holder r.parts r.trail at first own r.one_slot r.counted r.home
@@ -128,7 +164,7 @@ module _ {T P E : Type 0} (parts_of : T → List P) (trail_of : T → List E) (c
   counts s r id c v misses missed_word looks found_word at =
       let f = r.each id v at in
       stays s r id c v (counted_view v misses missed_word looks found_word) at refl refl (λ h. h)
-      record { inside = f.inside; owns = f.owns; knows = f.knows; originals = f.originals; behind = f.behind; incoming_behind = f.incoming_behind; turn_fits = f.turn_fits }
+      record { inside = f.inside; owns = f.owns; knows = f.knows; knew = f.knew; behind = f.behind; incoming_behind = f.incoming_behind; turn_fits = f.turn_fits }
 
   -- the load of a look
   pub looks_allowed : (slots id : ℕ) (me : Me (Option T) (SeatView P E)) → Allows Rule slots id me 0 (λ n. n) (looks me)
@@ -145,11 +181,11 @@ module _ {T P E : Type 0} (parts_of : T → List P) (trail_of : T → List E) (c
       let x : T = home.0 in
       let f = r.each id v at in
       let w : SeatView P E = with_turn v (Taken (parts_of x) (trail_of x)) 0 in
-      let f' : ViewFits n id r.owner r.parts r.trail id w = record {
+      let f' : ViewFits n id r.owner made r.parts r.trail id w = record {
         inside = f.inside;
         owns = f.owns;
         knows = f.knows;
-        originals = f.originals;
+        knew = f.knew;
         behind = f.behind;
         incoming_behind = f.incoming_behind;
         turn_fits = (number, refl, home.2, home.3);
@@ -167,7 +203,7 @@ module _ {T P E : Type 0} (parts_of : T → List P) (trail_of : T → List E) (c
               inside = g.inside;
               owns = g.owns;
               knows = g.knows;
-              originals = g.originals;
+              knew = g.knew;
               behind = g.behind;
               incoming_behind = g.incoming_behind;
               turn_fits = nobody j r.holder u.first (length u.own) r.parts r.trail u.turn
@@ -212,11 +248,11 @@ module _ {T P E : Type 0} (parts_of : T → List P) (trail_of : T → List E) (c
       let has : TurnFits word r.holder id v.first (length v.own) r.parts r.trail (Taken p t) =
       subst (λ (z : Turn P E). TurnFits word r.holder id v.first (length v.own) r.parts r.trail z) taken f.turn_fits in
       let w : SeatView P E = with_offer v (parts_of value) (trail_of value) in
-      let f' : ViewFits word r.holder r.owner r.parts r.trail id w = record {
+      let f' : ViewFits word r.holder r.owner made r.parts r.trail id w = record {
         inside = f.inside;
         owns = f.owns;
         knows = f.knows;
-        originals = f.originals;
+        knew = f.knew;
         behind = f.behind;
         incoming_behind = f.incoming_behind;
         turn_fits = (has.0, has.1, has.2, has.3, changes, longer_trail);
@@ -247,11 +283,11 @@ module _ {T P E : Type 0} (parts_of : T → List P) (trail_of : T → List E) (c
       let within : v.first + length v.own ≤ length q = let i = f.inside in omega arith in
       let same : length (segment v.first (length v.own) q) ≡ length v.own = length-segment v.first (length v.own) q within in
       let w : SeatView P E = given v q u' in
-      let f' : ViewFits 0 r.holder r.owner q u' id w = record {
+      let f' : ViewFits 0 r.holder r.owner made q u' id w = record {
         inside = rw (same) within;
         owns = λ k low high. f.owns k low (omega (arith, same));
         knows = ap (λ (k : ℕ). segment v.first k q) (sym same);
-        originals = f.originals ∙ sym same;
+        knew = f.knew ∙ ap (λ (k : ℕ). segment v.first k made) (sym same);
         behind = prefix_refl u';
         incoming_behind = prefix_trans v.incoming r.trail u' f.incoming_behind grows;
         turn_fits = tt;
@@ -274,7 +310,7 @@ module _ {T P E : Type 0} (parts_of : T → List P) (trail_of : T → List E) (c
               inside = let i = g.inside in omega arith;
               owns = g.owns;
               knows = g.knows ∙ sym (others_spared r.owner j id u.first (length u.own) v.first (length v.own) r.parts q ne some_part g.owns f.owns changes);
-              originals = g.originals;
+              knew = g.knew;
               behind = prefix_trans u.trail r.trail u' g.behind grows;
               incoming_behind = prefix_trans u.incoming r.trail u' g.incoming_behind grows;
               turn_fits = nobody_else word j r.holder u.first (length u.own) r.parts r.trail u.turn (λ same. ne (same ∙ sym has.1)) g.turn_fits 0 r.holder q u';
@@ -288,54 +324,20 @@ module _ {T P E : Type 0} (parts_of : T → List P) (trail_of : T → List E) (c
       let v : SeatView P E = me.0 in
       let f = r.each id v at in
       let l = prefix_longer v.trail v.incoming r.trail f.behind f.incoming_behind in
-      let f' : ViewFits (slice_index s.words 0) r.holder r.owner r.parts r.trail id (settled v) = record {
+      let f' : ViewFits (slice_index s.words 0) r.holder r.owner made r.parts r.trail id (settled v) = record {
         inside = f.inside;
         owns = f.owns;
         knows = f.knows;
-        originals = f.originals;
+        knew = f.knew;
         behind = l.2;
         incoming_behind = prefix_nil r.trail;
         turn_fits = f.turn_fits;
       } in
       (settled v, keeps, tt, stays s r id me.1 v (settled v) at refl refl (λ o. o) f', (refl, l.0, l.1))
 
-  -- the views of a new cell are its first one
-  first_seat : (value : T) (j : ℕ) (u : SeatView P E) → get_elem? (opening_view (parts_of value) (trail_of value) ∷ []) j ≡ logic.some u → ViewFits 0 0 (λ k. 0) (parts_of value) (trail_of value) j u
-  first_seat value zero u e =
-      let v : SeatView P E = opening_view (parts_of value) (trail_of value) in
-      let fits : ViewFits 0 0 (λ k. 0) (parts_of value) (trail_of value) 0 v = record {
-        inside = omega arith;
-        owns = λ k low high. refl;
-        knows = segment_whole (parts_of value);
-        originals = refl;
-        behind = prefix_refl (trail_of value);
-        incoming_behind = prefix_nil (trail_of value);
-        turn_fits = tt;
-      } in
-      subst (λ (z : SeatView P E). ViewFits 0 0 (λ k. 0) (parts_of value) (trail_of value) 0 z) (logic.some-injective v u e) fits
-  first_seat value (suc j) u e = absurd (logic.some-ne-none u (sym e))
-
-  -- a new cell keeps the rule
-  pub opens : (value : T) → length (parts_of value) ≡ count → Rule (opening (0 ∷ []) (Some value ∷ []) (opening_view (parts_of value) (trail_of value)))
-  opens value counted =
-      let v : SeatView P E = opening_view (parts_of value) (trail_of value) in
-      record {
-        holder = 0;
-        owner = λ k. 0;
-        parts = parts_of value;
-        trail = trail_of value;
-        one_word = refl;
-        one_slot = refl;
-        counted = counted;
-        home = λ e. (value, refl, refl, refl);
-        held = λ h. absurd (omega arith);
-        each = first_seat value;
-        covered = λ k h. (v, refl, (omega arith, omega (arith, counted)));
-      }
-
   -- the last value has what a free seat that owns all parts knows
-  pub ends : (s : Cell) (r : Rule s) (id : ℕ) (v : SeatView P E) → get_elem? s.views id ≡ logic.some v → v.turn ≡ Free → v.first ≡ 0 → length v.own ≡ count → 0 < length v.own
-      → (x : T) × (get_elem? s.homes 0 ≡ logic.some (logic.some (Some x))) × (parts_of x ≡ v.own) × IsPrefix v.trail (trail_of x)
+  pub ends : (s : Cell) (r : Rule s) (id : ℕ) (v : SeatView P E) → get_elem? s.views id ≡ logic.some v → v.turn ≡ Free → v.first ≡ 0 → length v.own ≡ length made → 0 < length v.own
+      → (x : T) × (get_elem? s.homes 0 ≡ logic.some (logic.some (Some x))) × (parts_of x ≡ v.own) × IsPrefix v.trail (trail_of x) × (v.original ≡ made)
   ends s r id v at free first all some_part =
       let word = slice_index s.words 0 in
       let f = r.each id v at in
@@ -353,12 +355,14 @@ module _ {T P E : Type 0} (parts_of : T → List P) (trail_of : T → List E) (c
       let whole : length v.own ≡ length r.parts = all ∙ sym r.counted in
       let known : v.own ≡ r.parts =
       f.knows ∙ (ap (λ (k : ℕ). segment k (length v.own) r.parts) first ∙ (ap (λ (k : ℕ). segment 0 k r.parts) whole ∙ sym (segment_whole r.parts))) in
-      (home.0, home.1, home.2 ∙ sym known, (rw (home.3) f.behind))
+      let knew : v.original ≡ made =
+      f.knew ∙ (ap (λ (k : ℕ). segment k (length v.own) made) first ∙ (ap (λ (k : ℕ). segment 0 k made) all ∙ sym (segment_whole made))) in
+      (home.0, home.1, home.2 ∙ sym known, (rw (home.3) f.behind), knew)
 
   -- the slot of a closed table has such a value
   pub closing : (words : List ℕ) (slots : List (Option T)) (id : ℕ) (v : SeatView P E) (found : Option T) → Final (Seen Rule id v) words slots
-      → v.turn ≡ Free → v.first ≡ 0 → length v.own ≡ count → 0 < length v.own → get_elem? slots 0 ≡ logic.some found
-      → (x : T) × (found ≡ Some x) × (parts_of x ≡ v.own) × IsPrefix v.trail (trail_of x)
+      → v.turn ≡ Free → v.first ≡ 0 → length v.own ≡ length made → 0 < length v.own → get_elem? slots 0 ≡ logic.some found
+      → (x : T) × (found ≡ Some x) × (parts_of x ≡ v.own) × IsPrefix v.trail (trail_of x) × (v.original ≡ made)
   closing words slots id v found final free first all some_part at =
       let e = ends final.0 final.1.0 id v final.1.1 free first all some_part in
-      (e.0, logic.some-injective found (Some e.0) (sym at ∙ final.4 0 (Some e.0) e.1), e.2, e.3)
+      (e.0, logic.some-injective found (Some e.0) (sym at ∙ final.4 0 (Some e.0) e.1), e.2, e.3, e.4)

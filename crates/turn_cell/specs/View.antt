@@ -1,5 +1,5 @@
 -- What a seat knows, as plain data, and what each call makes of it.
-use Rattle.std.specs.Prelude.{◌≡◌, ℕ, ◌+◌, ◌-◌, ◌<◌, ◌⊎◌, ◌++◌, List, [], length, take, drop, min, nat_le, if◌then◌else◌}
+use Rattle.std.specs.Prelude.{◌≡◌, ℕ, ◌+◌, ◌-◌, ◌<◌, ◌⊎◌, ◌++◌, List, [], ◌∷◌, length, take, drop, min, nat_le, Option, None, if◌then◌else◌}
 use mathlib.Core.List.{IsPrefix}
 use Rattle.turn_cell.specs.declared.view.SeatView.{SeatView}
 use Rattle.turn_cell.specs.declared.view.Turn.{Turn}
@@ -18,7 +18,7 @@ ChangesOnlyWithin first count old new =
 abbrev pub longer : {A : Type 0} → List A → List A → List A
 longer xs ys = if nat_le (length xs) (length ys) then ys else xs
 
--- what a value taken has to do with the view: the seat's own parts are as it left them, and the trail goes on from the one it knew
+-- a value taken by a seat with this view: the seat's parts are as it last left them, and the trail goes on from the one it knew
 abbrev pub Continues : {T P E : Type 0} → (T → List P) → (T → List E) → SeatView P E → T → Type 0
 Continues parts_of trail_of v x = (segment v.first (length v.own) (parts_of x) ≡ v.own) × IsPrefix v.trail (trail_of x)
 
@@ -38,15 +38,19 @@ module _ {P E : Type 0} where
     found_word = 0;
   }
 
+  -- the view with this turn, after the word was found
   abbrev pub with_turn : SeatView P E → Turn P E → ℕ → SeatView P E
   with_turn v turn word = record v { turn = turn; found_word = word }
 
+  -- the word was found
   abbrev pub with_word : SeatView P E → ℕ → SeatView P E
   with_word v word = record v { found_word = word }
 
+  -- a try found the word, which wasn't 0
   abbrev pub with_miss : SeatView P E → ℕ → SeatView P E
   with_miss v word = record v { misses = v.misses + 1; missed_word = word; found_word = word }
 
+  -- a look found the word
   abbrev pub with_look : SeatView P E → ℕ → SeatView P E
   with_look v word = record v { looks = v.looks + 1; found_word = word }
 
@@ -134,6 +138,10 @@ module _ {P E : Type 0} where
   abbrev pub with_offer : SeatView P E → List P → List E → SeatView P E
   with_offer v parts trail = record v { turn = Announced (taken_parts v.turn) (taken_trail v.turn) parts trail }
 
+  -- the view after what was announced was given
+  abbrev pub released : SeatView P E → SeatView P E
+  released v = given v (announced_parts v.turn) (announced_trail v.turn)
+
   -- the view has the turn, and has taken down the value's parts and its trail
   abbrev pub HoldsTurn : SeatView P E → Type 0
   HoldsTurn v = v.turn ≡ Taken (taken_parts v.turn) (taken_trail v.turn)
@@ -141,7 +149,8 @@ module _ {P E : Type 0} where
 module _ {T P E : Type 0} where
   -- the value has been announced
   abbrev pub Offers : (T → List P) → (T → List E) → SeatView P E → T → Type 0
-  Offers parts_of trail_of v value = v.turn ≡ Announced (taken_parts v.turn) (taken_trail v.turn) (parts_of value) (trail_of value)
+  Offers parts_of trail_of v value =
+      v.turn ≡ Announced (taken_parts v.turn) (taken_trail v.turn) (parts_of value) (trail_of value)
 
   -- the value has as many parts as the one taken, and the seat's own parts alone may differ
   abbrev pub KeepsOtherParts : (T → List P) → SeatView P E → T → Type 0
@@ -150,3 +159,9 @@ module _ {T P E : Type 0} where
   -- the value's trail goes on from the one taken
   abbrev pub ExtendsTrail : (T → List E) → SeatView P E → T → Type 0
   ExtendsTrail trail_of v value = IsPrefix (taken_trail v.turn) (trail_of value)
+
+-- what a seat holds of the slot: nothing, or the slot, which is empty between the calls
+abbrev pub hand_of : {T P E : Type 0} → Turn P E → List (ℕ × Option T)
+hand_of Free = []
+hand_of (Taken p t) = (0, None) ∷ []
+hand_of (Announced p t q u) = (0, None) ∷ []

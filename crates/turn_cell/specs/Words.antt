@@ -33,12 +33,18 @@ module _ {T P E : Type 0} where
   abbrev pub cell_id : TurnCell T P E → TableId
   cell_id cell = cell.table.shared.table_id
 
+  -- its name
   abbrev pub name_of : TurnCell T P E → ℕ
   name_of cell = cell.name
 
-  -- how many parts its value has
-  abbrev pub part_count : (T → List P) → TurnCell T P E → ℕ
-  part_count parts_of cell = length (parts_of cell.table.shared.key.value)
+  -- the parts of the value that it was made with
+  abbrev pub original_parts : (T → List P) → TurnCell T P E → List P
+  original_parts parts_of cell = parts_of cell.table.shared.key.value
 
+  -- the seat is of this cell
   abbrev pub IsSeatOf : TurnCell T P E → RangeSeat T P E → Type 0
   IsSeatOf cell seat = cell_id_of seat ≡ cell_id cell
+
+  -- the seat owns every part
+  abbrev pub OwnsAll : (T → List P) → TurnCell T P E → RangeSeat T P E → Type 0
+  OwnsAll parts_of cell seat = ((view seat).first ≡ 0) × (length (view seat).own ≡ length (original_parts parts_of cell))

@@ -1,6 +1,6 @@
 // The cell and its seats.
 ghost use Rattle.std.specs.Prelude.{◌≡◌, ◌<◌, length};
-ghost use Rattle.turn_cell.specs.Rule.{hand_of};
+ghost use Rattle.turn_cell.specs.View.{hand_of};
 
 mod making;
 mod ranges;
@@ -33,7 +33,8 @@ pub struct Busy {
     pub word: u64,
 }
 
-/// One value that seats take by turns.
+/// One value that seats take by turns. The word is 0 where the value is in the cell, or else the number of the seat that has it,
+/// plus one; a seat's number is the first part that it owns.
 #[derive(Drop)]
 pub struct TurnCell<T: Parted> {
     table: Table<Option<T>, SeatView<T::Part, T::Entry>, Snapshot<T>, TurnRule<T>, Global>,
@@ -41,13 +42,17 @@ pub struct TurnCell<T: Parted> {
     ghost shaped: { (table.shared.table_id.words ≡ 1) × (table.shared.table_id.slots ≡ 1) },
 }
 
-/// A seat at a cell whose value has parts of P and a trail of E. It owns a range of the parts.
+/// A seat at a cell whose value has parts of P and a trail of E. It owns a range of the parts, which isn't empty.
+///
+/// It names no bound, so that a generic struct can hold one.
 #[derive(Drop)]
 pub struct RangeSeat<T, P, E> {
     seat: Seat<Option<T>, SeatView<P, E>>,
     number: u32,
+    // Its number is its first part.
     ghost numbered: { number ≡ seat.me.0.first },
     ghost some_part: { 0 < length seat.me.0.own },
+    // Between calls its hands are empty, or it has the slot with nothing in it.
     ghost hand: { seat.me.1 ≡ hand_of seat.me.0.turn },
 }
 

@@ -11,11 +11,10 @@ pub struct TurnRule<T> {
 }
 
 impl<T: Parted> TableRule<Option<T>, SeatView<T::Part, T::Entry>, Snapshot<T>> for TurnRule<T> {
-    ghost use Rattle.std.specs.Prelude.{length};
     ghost use Rattle.turn_cell.specs.View.{opening_view};
     ghost use Rattle.turn_cell.specs.Rule.{IsConsistent};
 
-    ghost holds = { λ key. IsConsistent T.parts_of T.trail_of (length (T.parts_of key.value)) };
+    ghost holds = { λ key. IsConsistent T.parts_of T.trail_of (T.parts_of key.value) };
 
     ghost first = { λ key. opening_view (T.parts_of key.value) (T.trail_of key.value) };
 }
@@ -26,7 +25,7 @@ pub struct Try<T> {
 }
 
 impl<T: Parted> Play<Option<T>, SeatView<T::Part, T::Entry>> for Try<T> {
-    ghost use Rattle.turn_cell.specs.Rule.{tries};
+    ghost use Rattle.turn_cell.specs.Steps.{tries};
 
     ghost then = { λ step. tries T.parts_of T.trail_of };
 }
@@ -37,7 +36,7 @@ pub struct Await<T> {
 }
 
 impl<T: Parted> Play<Option<T>, SeatView<T::Part, T::Entry>> for Await<T> {
-    ghost use Rattle.turn_cell.specs.Rule.{waits};
+    ghost use Rattle.turn_cell.specs.Steps.{waits};
 
     ghost then = { λ step. waits T.parts_of T.trail_of };
 }
@@ -47,7 +46,7 @@ pub struct Announce<T> {
 }
 
 impl<T: Parted> Play<Option<T>, SeatView<T::Part, T::Entry>> for Announce<T> {
-    ghost use Rattle.turn_cell.specs.Rule.{announces};
+    ghost use Rattle.turn_cell.specs.Steps.{announces};
 
     ghost then = { λ step me word. announces T.parts_of T.trail_of step.said me };
 }
@@ -57,7 +56,7 @@ pub struct Release<T> {
 }
 
 impl<T: Parted> Play<Option<T>, SeatView<T::Part, T::Entry>> for Release<T> {
-    ghost use Rattle.turn_cell.specs.Rule.{releases};
+    ghost use Rattle.turn_cell.specs.Steps.{releases};
 
     ghost then = { λ step me word. releases me };
 }
@@ -67,7 +66,7 @@ pub struct Look<T> {
 }
 
 impl<T: Parted> Play<Option<T>, SeatView<T::Part, T::Entry>> for Look<T> {
-    ghost use Rattle.turn_cell.specs.Rule.{looks};
+    ghost use Rattle.turn_cell.specs.Steps.{looks};
 
     ghost then = { λ step. looks };
 }
@@ -78,7 +77,7 @@ pub struct Settle<T> {
 }
 
 impl<T: Parted> Play<Option<T>, SeatView<T::Part, T::Entry>> for Settle<T> {
-    ghost use Rattle.turn_cell.specs.Rule.{settles};
+    ghost use Rattle.turn_cell.specs.Steps.{settles};
 
     ghost then = { λ step me word. settles me };
 }

@@ -2,7 +2,7 @@
 ghost use Rattle.std.specs.Prelude.{◌≡◌, ◌<◌, ◌∷◌, [], IfOk, length};
 ghost use mathlib.Core.List.{IsPrefix};
 ghost use Rattle.turn_cell.specs.View.{ChangesOnlyWithin};
-ghost use Rattle.turn_cell.specs.Words.{view, IsFree, IsSeatOf, part_count};
+ghost use Rattle.turn_cell.specs.Words.{view, IsFree, IsSeatOf, original_parts};
 
 use crate::{Busy, CellSeat, NoMemory, Parted, TurnCell};
 use std::alloc::Global;
@@ -64,7 +64,7 @@ fn empty(alloc: Global) -> Tally {
 
 // A cell named 7 with its first seat, which owns part 0, and another, which owns part 1.
 fn two_seats(alloc: Global) -> Result<(TurnCell<Tally>, CellSeat<Tally>, CellSeat<Tally>), NoMemory>
-    ensures cell { IfOk result (λ made. part_count ⟦<Tally as Parted>⟧.parts_of made.0 ≡ 2) }
+    ensures cell { IfOk result (λ made. length (original_parts ⟦<Tally as Parted>⟧.parts_of made.0) ≡ 2) }
     ensures own { IfOk result (λ made. IsSeatOf made.0 made.1 × IsSeatOf made.0 made.2) }
     ensures free { IfOk result (λ made. IsFree made.1 × IsFree made.2) }
     ensures first { IfOk result (λ made. ((view made.1).first ≡ 0) × (length (view made.1).own ≡ 1)) }

@@ -2,7 +2,7 @@
 ghost use Rattle.std.specs.Prelude.{◌≡◌, ◌<◌, IfErr, IfOk, length};
 ghost use mathlib.Core.List.{IsPrefix};
 ghost use Rattle.turn_cell.specs.View.{opening_view};
-ghost use Rattle.turn_cell.specs.Words.{view, IsFree, IsSeatOf, name_of, part_count};
+ghost use Rattle.turn_cell.specs.Words.{view, IsFree, IsSeatOf, OwnsAll, name_of, original_parts};
 
 use super::{CellSeat, NoMemory, RangeSeat, TurnCell, Uncelled};
 use crate::parted::Parted;
@@ -18,7 +18,7 @@ impl<T: Parted> TurnCell<T> {
         name: u32,
     ) -> Result<(TurnCell<T>, CellSeat<T>), Uncelled<T>>
         requires { 0 < length (T.parts_of value) }
-        ensures cell { IfOk result (λ made. part_count T.parts_of made.0 ≡ length (T.parts_of value)) }
+        ensures cell { IfOk result (λ made. original_parts T.parts_of made.0 ≡ T.parts_of value) }
         ensures name { IfOk result (λ made. name_of made.0 ≡ name) }
         ensures own { IfOk result (λ made. IsSeatOf made.0 made.1) }
         ensures free { IfOk result (λ made. IsFree made.1) }
@@ -52,8 +52,9 @@ impl<T: Parted> TurnCell<T> {
     pub fn close(self, seat: CellSeat<T>) -> T
         requires own { IsSeatOf self seat }
         requires free { IsFree seat }
-        requires all { ((view seat).first ≡ 0) × (length (view seat).own ≡ part_count T.parts_of self) }
+        requires all { OwnsAll T.parts_of self seat }
         ensures parts { T.parts_of result ≡ (view seat).own }
+        ensures original { (view seat).original ≡ original_parts T.parts_of self }
         ensures trail { IsPrefix (view seat).trail (T.trail_of result) }
     {
         let TurnCell { table, name: _ } = self;

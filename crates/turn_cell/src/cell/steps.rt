@@ -1,8 +1,8 @@
 // The turn: how a seat takes the value, gives it back, and looks at the word.
 ghost use Rattle.std.specs.Prelude.{◌≡◌, ◌≢◌, ◌+◌, ◌<◌, [], ◌∷◌, IfErr, IfOk, None, OnErr, OnOk, Some, length};
-ghost use Rattle.turn_cell.specs.Rule.{tries, waits};
+ghost use Rattle.turn_cell.specs.Steps.{tries, waits};
 ghost use Rattle.turn_cell.specs.View.{Continues, with_turn, with_word, with_miss, with_look, with_offer, given};
-ghost use Rattle.turn_cell.specs.View.{HoldsTurn, Offers, KeepsOtherParts, ExtendsTrail, announced_parts, announced_trail};
+ghost use Rattle.turn_cell.specs.View.{HoldsTurn, Offers, KeepsOtherParts, ExtendsTrail, released};
 ghost use Rattle.turn_cell.specs.Words.{view, IsFree, IsSeatOf, HasTaken, HoldsValue, name_of};
 
 use super::{Busy, CellSeat, RangeSeat, TableSeat, TurnCell};
@@ -155,7 +155,7 @@ impl<T: Parted> TurnCell<T> {
         requires home { (x : T) × (seat.old.me.1 ≡ (0, Some x) ∷ []) × Offers T.parts_of T.trail_of seat.old.me.0 x }
         requires some_part { 0 < length seat.old.me.0.own }
         ensures own { seat.new.table_id ≡ seat.old.table_id }
-        ensures given { seat.new.me ≡ (given seat.old.me.0 (announced_parts seat.old.me.0.turn) (announced_trail seat.old.me.0.turn), []) }
+        ensures given { seat.new.me ≡ (released seat.old.me.0, []) }
         ensures same_length { length seat.new.me.0.own ≡ length seat.old.me.0.own }
     {
         self.table.shared.store::<Release<T>>(seat, 0, 0);

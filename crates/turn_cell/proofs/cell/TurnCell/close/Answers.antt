@@ -22,3 +22,9 @@ returns-clause-trail g c =
     let last = closing g.T.Parted.parts_of g.T.Parted.trail_of _ _ _ _ c.args.seat.seat.me.0 _ c.close_with-closed.ensures.values.2 q.free q.all.0 q.all.1 c.args.seat.some_part c.take.ensures.value in
     let same : c.in-Some.value ≡ last.0 = cc (c.in-Some.is, last.1) in
     rw same (last.3)
+
+pub returns-clause-original : goal.returns-clause-original
+returns-clause-original g c =
+    let q = c.requires in
+    let last = closing g.T.Parted.parts_of g.T.Parted.trail_of _ _ _ _ c.args.seat.seat.me.0 _ c.close_with-closed.ensures.values.2 q.free q.all.0 q.all.1 c.args.seat.some_part c.take.ensures.value in
+    last.4

@@ -1,6 +1,6 @@
 -- A join keeps the rule, and so does the load after it.
 use Rattle.std.proofs.Common.{ap, ◌∙◌, arith}
-use Rattle.turn_cell.specs.Rule.{hand_of}
+use Rattle.turn_cell.specs.View.{hand_of}
 use Rattle.turn_cell.proofs.RangeLemmas.{joins}
 use Rattle.turn_cell.proofs.StepLemmas.{settles_allowed}
 use Rattle.turn_cell.proofs.cell.TurnCell.join.Goals as goal
