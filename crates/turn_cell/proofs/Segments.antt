@@ -40,6 +40,11 @@ module _ {A : Type 0} where
   pub segment_whole : (xs : List A) → xs ≡ segment 0 (length xs) xs
   segment_whole xs = sym (take-length xs)
 
+  -- what is known to be the segment of all elements is the list
+  pub all_segment : (first count : ℕ) (xs ys : List A) → ys ≡ segment first count xs → first ≡ 0 → count ≡ length xs → ys ≡ xs
+  all_segment first count xs ys known at_start all =
+      known ∙ (ap (λ (k : ℕ). segment k count xs) at_start ∙ (ap (λ (k : ℕ). segment 0 k xs) all ∙ sym (segment_whole xs)))
+
   -- the first part of what is known to be a segment
   pub first_segment : (first count n : ℕ) (xs ys : List A) → ys ≡ segment first count xs → n ≤ count → take n ys ≡ segment first n xs
   first_segment first count n xs ys known h = ap (λ (zs : List A). take n zs) known ∙ take-take n count (drop first xs) h

@@ -1,5 +1,5 @@
 -- Each atomic step that leaves the ranges alone keeps the rule of the cell.
-use Rattle.std.proofs.Common.{◌≡◌, ◌≢◌, ℕ, zero, suc, ◌+◌, ◌≤◌, ◌<◌, ◌⊎◌, inl, inr, ⊎_elim, eqb, List, [], ◌∷◌, length, set, slice_index, slice_set, Option, Some, refl, ap, sym, ◌∙◌, subst, arith, length-set, le_refl}
+use Rattle.std.proofs.Common.{◌≡◌, ◌≢◌, ℕ, zero, suc, ◌+◌, ◌≤◌, ◌<◌, ◌⊎◌, inl, inr, ⊎_elim, eqb, List, [], ◌∷◌, length, set, slice_index, slice_set, Option, Some, refl, ap, sym, ◌∙◌, subst, ap₂, arith, length-set, le_refl}
 use Rattle.std.proofs.lemmas.List.{get_or-set_same}
 use mathlib.Core.Option as logic
 use mathlib.Core.Logic.{dite}
@@ -15,7 +15,7 @@ use Rattle.turn_cell.specs.declared.view.Turn.TheVariants.{Free, Taken, Announce
 use Rattle.turn_cell.specs.View.{segment, ChangesOnlyWithin, opening_view, with_turn, with_word, with_miss, with_look, with_offer, given, settled, taken_parts, taken_trail, announced_parts, announced_trail}
 use Rattle.turn_cell.specs.Rule.{TurnFits, HasTurn, IsHolder, Owns, ViewFits, SeatIs, AtHome, IsConsistent}
 use Rattle.turn_cell.specs.Steps.{TakesTurn, tries, waits, announces, releases, looks, settles}
-use Rattle.turn_cell.proofs.Segments.{prefix_refl, prefix_nil, prefix_trans, prefix_longer, length-segment, segment_whole, spared}
+use Rattle.turn_cell.proofs.Segments.{prefix_refl, prefix_nil, prefix_trans, prefix_longer, length-segment, segment_whole, all_segment, spared}
 
 -- what is looked up lies within the list
 pub at_within : {V : Type 0} (l : List V) (i : ℕ) (v : V) → get_elem? l i ≡ logic.some v → i < length l
@@ -71,6 +71,42 @@ module _ {P E : Type 0} where
   nobody_else word seat holder first count parts trail Free ne h word' holder' parts' trail' = tt
   nobody_else word seat holder first count parts trail (Taken p t) ne h word' holder' parts' trail' = absurd (ne h.1)
   nobody_else word seat holder first count parts trail (Announced p t q u) ne h word' holder' parts' trail' = absurd (ne h.1)
+
+  -- the view of a seat that gave a value fits that value
+  given_fits : (word holder : ℕ) (owner : ℕ → ℕ) (made parts new_parts : List P) (trail new_trail : List E) (seat : ℕ) (v : SeatView P E)
+      → ViewFits word holder owner made parts trail seat v → ChangesOnlyWithin v.first (length v.own) parts new_parts → IsPrefix trail new_trail
+      → (length (segment v.first (length v.own) new_parts) ≡ length v.own) × ViewFits 0 holder owner made new_parts new_trail seat (given v new_parts new_trail)
+  given_fits word holder owner made parts new_parts trail new_trail seat v f changes grows =
+      let long : length new_parts ≡ length parts = changes.0 in
+      let within : v.first + length v.own ≤ length new_parts = let i = f.inside in omega arith in
+      let same : length (segment v.first (length v.own) new_parts) ≡ length v.own = length-segment v.first (length v.own) new_parts within in (
+        same,
+        record {
+          inside = rw (same) within;
+          owns = λ k low high. f.owns k low (omega (arith, same));
+          knows = ap (λ (k : ℕ). segment v.first k new_parts) (sym same);
+          knew = f.knew ∙ ap (λ (k : ℕ). segment v.first k made) (sym same);
+          behind = prefix_refl new_trail;
+          incoming_behind = prefix_trans v.incoming trail new_trail f.incoming_behind grows;
+          turn_fits = tt;
+        },
+      )
+
+  -- and so do the views of the other seats
+  others_fit : (word : ℕ) (owner : ℕ → ℕ) (made parts new_parts : List P) (trail new_trail : List E) (holder seat : ℕ) (v u : SeatView P E) → seat ≢ holder
+      → ViewFits word holder owner made parts trail holder v → 0 < length v.own → ViewFits word holder owner made parts trail seat u
+      → ChangesOnlyWithin v.first (length v.own) parts new_parts → IsPrefix trail new_trail → ViewFits 0 holder owner made new_parts new_trail seat u
+  others_fit word owner made parts new_parts trail new_trail holder seat v u ne f some_part g changes grows =
+      let long : length new_parts ≡ length parts = changes.0 in
+      record {
+        inside = let i = g.inside in omega arith;
+        owns = g.owns;
+        knows = g.knows ∙ sym (others_spared owner seat holder u.first (length u.own) v.first (length v.own) parts new_parts ne some_part g.owns f.owns changes);
+        knew = g.knew;
+        behind = prefix_trans u.trail trail new_trail g.behind grows;
+        incoming_behind = prefix_trans u.incoming trail new_trail g.incoming_behind grows;
+        turn_fits = nobody_else word seat holder u.first (length u.own) parts trail u.turn ne g.turn_fits 0 holder new_parts new_trail;
+      }
 
 module _ {T P E : Type 0} (parts_of : T → List P) (trail_of : T → List E) where
   -- the views of a new cell are its first one
@@ -270,52 +306,34 @@ module _ {T P E : Type 0} (parts_of : T → List P) (trail_of : T → List E) (m
   releases_allowed slots id me value hand turn some_part s r h at b =
       let word = slice_index s.words 0 in
       let v : SeatView P E = me.0 in
-      let p : List P = taken_parts v.turn in
-      let t : List E = taken_trail v.turn in
-      let q : List P = parts_of value in
-      let u' : List E = trail_of value in
+      let new_parts : List P = parts_of value in
+      let new_trail : List E = trail_of value in
       let f = r.each id v at in
-      let has : TurnFits word r.holder id v.first (length v.own) r.parts r.trail (Announced p t q u') =
+      let has : TurnFits word r.holder id v.first (length v.own) r.parts r.trail (Announced (taken_parts v.turn) (taken_trail v.turn) new_parts new_trail) =
       subst (λ (z : Turn P E). TurnFits word r.holder id v.first (length v.own) r.parts r.trail z) turn f.turn_fits in
-      let changes : ChangesOnlyWithin v.first (length v.own) r.parts q = subst (λ (z : List P). ChangesOnlyWithin v.first (length v.own) z q) has.2 has.4 in
-      let grows : IsPrefix r.trail u' = subst (λ (z : List E). IsPrefix z u') has.3 has.5 in
-      let long : length q ≡ length r.parts = changes.0 in
-      let within : v.first + length v.own ≤ length q = let i = f.inside in omega arith in
-      let same : length (segment v.first (length v.own) q) ≡ length v.own = length-segment v.first (length v.own) q within in
-      let w : SeatView P E = given v q u' in
-      let f' : ViewFits 0 r.holder r.owner made q u' id w = record {
-        inside = rw (same) within;
-        owns = λ k low high. f.owns k low (omega (arith, same));
-        knows = ap (λ (k : ℕ). segment v.first k q) (sym same);
-        knew = f.knew ∙ ap (λ (k : ℕ). segment v.first k made) (sym same);
-        behind = prefix_refl u';
-        incoming_behind = prefix_trans v.incoming r.trail u' f.incoming_behind grows;
-        turn_fits = tt;
-      } in
-      let hands : homes_after s.homes me.1 gives ≡ set s.homes 0 (logic.some (Some value)) = ap (λ (c : List (ℕ × Option T)). homes_after s.homes c gives) hand in
-      let rest_is : carried_after me.1 gives ≡ [] = ap (λ (c : List (ℕ × Option T)). carried_after c gives) hand in
-      let one : length (homes_after s.homes me.1 gives) ≡ 1 = ap length hands ∙ (length-set s.homes 0 (logic.some (Some value)) ∙ r.one_slot) in
-      let next : SeatView P E = given v (announced_parts v.turn) (announced_trail v.turn) in
-      let told : w ≡ next = ap (λ (z : Turn P E). given v (announced_parts z) (announced_trail z)) (sym turn) in (
-        w,
+      let changes : ChangesOnlyWithin v.first (length v.own) r.parts new_parts = subst (λ (z : List P). ChangesOnlyWithin v.first (length v.own) z new_parts) has.2 has.4 in
+      let grows : IsPrefix r.trail new_trail = subst (λ (z : List E). IsPrefix z new_trail) has.3 has.5 in
+      let fits = given_fits word r.holder r.owner made r.parts new_parts r.trail new_trail id v f changes grows in
+      let homes : List (logic.Option (Option T)) = set s.homes 0 (logic.some (Some value)) in
+      let homes_are : homes_after s.homes me.1 gives ≡ homes = ap (λ (c : List (ℕ × Option T)). homes_after s.homes c gives) hand in
+      let at_home : AtHome parts_of trail_of homes new_parts new_trail = (value, set_here s.homes 0 (logic.some (Some value)) (omega (arith, r.one_slot)), refl, refl) in
+      let one : length homes ≡ 1 = length-set s.homes 0 (logic.some (Some value)) ∙ r.one_slot in (
+        given v new_parts new_trail,
         gives,
         tt,
-        renew s r id 0 me.1 v w gives r.holder q u' at refl same one (long ∙ r.counted)
-            (λ e. (value, ap (λ (l : List (logic.Option (Option T))). get_elem? l 0) hands ∙ set_here s.homes 0 (logic.some (Some value)) (omega (arith, r.one_slot)), refl, refl))
+        renew s r id 0 me.1 v (given v new_parts new_trail) gives r.holder new_parts new_trail at refl fits.0 (rw homes_are one) (changes.0 ∙ r.counted)
+            (λ e. rw homes_are at_home)
             (λ k. absurd (omega arith))
-            f'
+            fits.1
             (λ j u ne e.
-            let g = r.each j u e in
-            record {
-              inside = let i = g.inside in omega arith;
-              owns = g.owns;
-              knows = g.knows ∙ sym (others_spared r.owner j id u.first (length u.own) v.first (length v.own) r.parts q ne some_part g.owns f.owns changes);
-              knew = g.knew;
-              behind = prefix_trans u.trail r.trail u' g.behind grows;
-              incoming_behind = prefix_trans u.incoming r.trail u' g.incoming_behind grows;
-              turn_fits = nobody_else word j r.holder u.first (length u.own) r.parts r.trail u.turn (λ same. ne (same ∙ sym has.1)) g.turn_fits 0 r.holder q u';
-            }),
-        (ap (λ (z : SeatView P E). (z, carried_after me.1 gives)) told ∙ ap (λ (c : List (ℕ × Option T)). (next, c)) rest_is, same),
+            others_fit word r.owner made r.parts new_parts r.trail new_trail r.holder j v u (λ same. ne (same ∙ sym has.1))
+            (subst (λ (i : ℕ). ViewFits word r.holder r.owner made r.parts r.trail i v) has.1 f) some_part (r.each j u e) changes grows),
+        (
+          ap₂ (λ (z : SeatView P E) (c : List (ℕ × Option T)). (z, c))
+              (ap (λ (z : Turn P E). given v (announced_parts z) (announced_trail z)) (sym turn))
+              (ap (λ (c : List (ℕ × Option T)). carried_after c gives) hand),
+          fits.0,
+        ),
       )
 
   -- the load after a join: one of the two trails is kept
@@ -335,13 +353,11 @@ module _ {T P E : Type 0} (parts_of : T → List P) (trail_of : T → List E) (m
       } in
       (settled v, keeps, tt, stays s r id me.1 v (settled v) at refl refl (λ o. o) f', (refl, l.0, l.1))
 
-  -- the last value has what a free seat that owns all parts knows
-  pub ends : (s : Cell) (r : Rule s) (id : ℕ) (v : SeatView P E) → get_elem? s.views id ≡ logic.some v → v.turn ≡ Free → v.first ≡ 0 → length v.own ≡ length made → 0 < length v.own
-      → (x : T) × (get_elem? s.homes 0 ≡ logic.some (logic.some (Some x))) × (parts_of x ≡ v.own) × IsPrefix v.trail (trail_of x) × (v.original ≡ made)
-  ends s r id v at free first all some_part =
-      let word = slice_index s.words 0 in
+  -- where a free seat owns all parts nobody has the value
+  not_out : (s : Cell) (r : Rule s) (id : ℕ) (v : SeatView P E) → get_elem? s.views id ≡ logic.some v → v.turn ≡ Free → v.first ≡ 0 → length v.own ≡ length made
+      → ¬ (0 < slice_index s.words 0)
+  not_out s r id v at free first all out =
       let f = r.each id v at in
-      let held : 0 < word → ⊥ = λ out.
       let h = r.held out in
       let u : SeatView P E = h.0 in
       let g = r.each r.holder u h.1 in
@@ -349,14 +365,19 @@ module _ {T P E : Type 0} (parts_of : T → List P) (trail_of : T → List E) (m
       let within : u.first < v.first + length v.own = let i = g.inside in omega (arith, r.counted) in
       let same : r.holder ≡ id = sym (g.owns u.first (le_refl u.first) begins) ∙ f.owns u.first (omega arith) within in
       let view : u ≡ v = one_view s.views id u v (rw same at h.1) at in
-      subst (λ (z : Turn P E). HasTurn z) (ap (λ (z : SeatView P E). z.turn) view ∙ free) h.2.0 in
-      let idle : word ≡ 0 = dite (ℕ_discrete word 0) (λ e. e) (λ ne. absurd (held (omega arith))) in
+      subst (λ (z : Turn P E). HasTurn z) (ap (λ (z : SeatView P E). z.turn) view ∙ free) h.2.0
+
+  -- the last value has what a free seat that owns all parts knows
+  pub ends : (s : Cell) (r : Rule s) (id : ℕ) (v : SeatView P E) → get_elem? s.views id ≡ logic.some v → v.turn ≡ Free → v.first ≡ 0 → length v.own ≡ length made → 0 < length v.own
+      → (x : T) × (get_elem? s.homes 0 ≡ logic.some (logic.some (Some x))) × (parts_of x ≡ v.own) × IsPrefix v.trail (trail_of x) × (v.original ≡ made)
+  ends s r id v at free first all some_part =
+      let word = slice_index s.words 0 in
+      let f = r.each id v at in
+      let idle : word ≡ 0 = dite (ℕ_discrete word 0) (λ e. e) (λ ne. absurd (not_out s r id v at free first all (omega arith))) in
       let home = r.home idle in
       let whole : length v.own ≡ length r.parts = all ∙ sym r.counted in
-      let known : v.own ≡ r.parts =
-      f.knows ∙ (ap (λ (k : ℕ). segment k (length v.own) r.parts) first ∙ (ap (λ (k : ℕ). segment 0 k r.parts) whole ∙ sym (segment_whole r.parts))) in
-      let knew : v.original ≡ made =
-      f.knew ∙ (ap (λ (k : ℕ). segment k (length v.own) made) first ∙ (ap (λ (k : ℕ). segment 0 k made) all ∙ sym (segment_whole made))) in
+      let known : v.own ≡ r.parts = all_segment v.first (length v.own) r.parts v.own f.knows first whole in
+      let knew : v.original ≡ made = all_segment v.first (length v.own) made v.original f.knew first all in
       (home.0, home.1, home.2 ∙ sym known, (rw (home.3) f.behind), knew)
 
   -- the slot of a closed table has such a value
