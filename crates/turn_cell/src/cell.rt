@@ -44,7 +44,8 @@ pub struct TurnCell<T: Parted> {
 
 /// A seat at a cell whose value has parts of P and a trail of E. It owns a range of the parts, which isn't empty.
 ///
-/// It names no bound, so that a generic struct can hold one.
+/// A seat that is dropped while it has the value keeps the turn for good. The type names no bound, so that a generic struct can
+/// hold a seat.
 #[derive(Drop)]
 pub struct RangeSeat<T, P, E> {
     seat: Seat<Option<T>, SeatView<P, E>>,

@@ -11,7 +11,7 @@ use crate::plays::{Announce, Await, Look, Release, Try};
 use std::sync::Wait;
 
 impl<T: Parted> TurnCell<T> {
-    /// Takes the value. It waits while the value is out.
+    /// Takes the value. It waits while the value is out, and counts no miss.
     pub fn take<R: Wait>(&self, rt: &R, seat: &mut CellSeat<T>) -> T
         requires own { IsSeatOf self.now seat.old }
         requires free { IsFree seat.old }
@@ -62,7 +62,7 @@ impl<T: Parted> TurnCell<T> {
             .compare_exchange::<Await<T>>(seat, 0, 0, own_word)
     }
 
-    /// Takes the value, or finds that it is out. It tries once.
+    /// Takes the value, or finds that it is out and counts a miss. It tries once.
     pub fn try_take(&self, seat: &mut CellSeat<T>) -> Result<T, Busy>
         requires own { IsSeatOf self.now seat.old }
         requires free { IsFree seat.old }
