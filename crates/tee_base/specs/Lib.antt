@@ -1,4 +1,5 @@
 pub mod Codes
+pub mod Crash
 pub mod Fakes
 pub mod Faults
 pub mod Transfer
