@@ -34,3 +34,9 @@ abbrev pub is_refused : Fate → Bool
 is_refused Pass = false
 is_refused Interrupt = false
 is_refused Refuse = true
+
+-- the call fails half way
+abbrev pub is_interrupted : Fate → Bool
+is_interrupted Pass = false
+is_interrupted Interrupt = true
+is_interrupted Refuse = false

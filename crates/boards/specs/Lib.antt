@@ -1,0 +1,6 @@
+pub mod Disk
+pub mod Image
+pub mod Landing
+pub mod Memory
+pub mod MemoryBoard
+pub mod Past
