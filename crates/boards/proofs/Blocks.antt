@@ -1,7 +1,8 @@
 -- Blocks and the bytes that they make, one block more.
-use Rattle.std.proofs.Common.{◌≡◌, ◌≤◌, ◌<◌, ◌+◌, ◌-◌, ◌*◌, ℕ, List, [], ◌∷◌, ◌++◌, length, get_or, take, drop, ap, ◌∙◌, arith, length-append, length-drop, below_more}
-use Rattle.std.proofs.lemmas.List.{get_or_append_left, get_or_push, drop_at, take_all, take-append-le, drop-append-le}
-use Rattle.boards.specs.Image.{block_at}
+use Rattle.std.proofs.Common.{Bool, false, replicate, ⊎_elim, ◌≡◌, ◌≤◌, ◌<◌, ◌+◌, ◌-◌, ◌*◌, ℕ, List, [], ◌∷◌, ◌++◌, length, get_or, take, drop, refl, ap, ◌∙◌, arith, length-append, length-drop, below_more}
+use Rattle.std.proofs.lemmas.List.{get_or-replicate, get_or_past, length-replicate, get_or_append_left, get_or_push, drop_at, take_all, take-append-le, drop-append-le}
+use Rattle.std.proofs.lemmas.Bool.{cases_lt}
+use Rattle.boards.specs.Image.{block_at, AreBlocks}
 
 pub split_more : (blocks : List (List ℕ)) (bytes block : List ℕ) (at : ℕ) → length blocks ≡ at → ((k : ℕ) → k < at → get_or blocks k [] ≡ block_at bytes k) → block ≡ take (1024 * at + 1024 - 1024 * at) (drop (1024 * at) bytes) → (k : ℕ) → k < at + 1 → get_or (blocks ++ block ∷ []) k [] ≡ block_at bytes k
 split_more blocks bytes block at count below is =
@@ -22,3 +23,14 @@ join_more bytes blocks at long whole below =
 
 pub length-join_more : (bytes : List ℕ) (blocks : List (List ℕ)) (at : ℕ) → length bytes ≡ 1024 * at → length (get_or blocks at []) ≡ 1024 → length (bytes ++ get_or blocks at []) ≡ 1024 * (at + 1)
 length-join_more bytes blocks at long whole = omega (arith, length-append bytes (get_or blocks at []))
+
+-- one block more
+pub AreBlocks-push : (blocks : List (List ℕ)) (block : List ℕ) → AreBlocks blocks → length block ≡ 1024 → AreBlocks (blocks ++ block ∷ [])
+AreBlocks-push blocks block are whole k h =
+    let count : length (blocks ++ block ∷ []) ≡ length blocks + 1 = length-append blocks (block ∷ []) in
+    below_more (λ n. length (get_or (blocks ++ block ∷ []) n []) ≡ 1024) (length blocks) (λ n low. ap length (get_or_append_left blocks (block ∷ []) [] n low) ∙ are n low) (ap length (get_or_push blocks block [] (length blocks) refl) ∙ whole) k (omega arith)
+
+-- flags of which none is set
+pub no_flag : (flags : List Bool) (n : ℕ) → flags ≡ replicate n false → (k : ℕ) → get_or flags k false ≡ false
+no_flag flags n none k =
+    rw none (⊎_elim (λ (h : k < n). get_or-replicate n k false false h) (λ (h : n ≤ k). get_or_past (replicate n false) k false (rw length-replicate h)) (cases_lt k n))

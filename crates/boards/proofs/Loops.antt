@@ -1,8 +1,8 @@
 -- What the loops over the blocks keep.
-use Rattle.std.proofs.Common.{◌≡◌, ◌≢◌, ◌<◌, ◌≤◌, ◌+◌, ◌*◌, ◌/◌, ◌%◌, ◌^◌, ℕ, Bool, true, false, cond, List, [], ◌∷◌, zero, suc, length, get_or, Vec, vec_len, sym, ap, ◌∙◌, subst, refl, add-one, add-zero, arith, rules, below_more}
+use Rattle.std.proofs.Common.{◌≡◌, ◌≢◌, ◌<◌, ◌≤◌, ◌+◌, ◌/◌, ◌%◌, ◌^◌, ℕ, Bool, true, false, cond, List, [], ◌∷◌, zero, suc, length, get_or, Vec, vec_len, sym, ap, ◌∙◌, refl, add-one, add-zero, arith, below_more}
 use Rattle.std.proofs.Math.Nat.{div-one, div-div-eq-div-mul, pow-suc}
 use Rattle.std.specs.declared.alloc.Global.{Global}
-use Rattle.boards.specs.Disk.{IsWhole, Puts, reads_of, durable_of, pending_of, offered_of}
+use Rattle.boards.specs.Disk.{IsWhole, Puts, durable_of, pending_of, offered_of}
 use Rattle.boards.specs.Landing.{count_below, digit_at, landed, landed_image}
 use Rattle.boards.specs.declared.disk.Disk.{Disk}
 

@@ -1,6 +1,5 @@
 -- A loss of power leaves one of the images and counters that a crash may leave.
-use Rattle.std.proofs.Common.{◌≡◌, ◌≤◌, ◌<◌, ◌+◌, ◌^◌, ◌&&◌, ℕ, Bool, true, false, cond, List, length, sym, ap, ◌∙◌, refl, add-zero, arith, rules}
-use Rattle.board.specs.Moment.{IsCounter}
+use Rattle.std.proofs.Common.{◌≡◌, ◌≤◌, ◌+◌, ℕ, Bool, true, false, cond, length, ap, ◌∙◌, refl, arith}
 use Rattle.board.specs.Steps.{Powered}
 use Rattle.boards.specs.Disk.{IsWhole, state_of, reads_of, durable_of, pending_of, offered_of}
 use Rattle.boards.specs.Landing.{digits_of, digit_at, landed, landed_counter, landed_image}

@@ -1,5 +1,5 @@
 -- What the disk in memory holds, as a moment of the disk model.
-use Rattle.std.specs.Prelude.{◌≡◌, ◌≢◌, ◌<◌, ◌^◌, ◌+◌, ℕ, if◌then◌else◌, Bool, true, false, List, [], length, slice_index_or, vec_len}
+use Rattle.std.specs.Prelude.{◌≡◌, ◌≢◌, ◌<◌, ◌^◌, ℕ, if◌then◌else◌, Bool, true, false, List, [], length, slice_index_or, vec_len}
 use Rattle.board.specs.Moment.{Moment}
 use Rattle.boards.specs.declared.disk.Disk.{Disk}
 
@@ -33,6 +33,7 @@ pub record IsWhole (d : Disk) : Type 0 where
   pub offered : vec_len d.offered ≡ vec_len d.durable
   pub pending : vec_len d.pending ≡ vec_len d.durable
   pub as_read : (k : ℕ) → pending_of d k ≡ false → reads_of d k ≡ durable_of d k
+  pub blocks : (k : ℕ) → k < vec_len d.durable → length (reads_of d k) ≡ 1024
   pub counter : d.counter < 2 ^ 64
   pub faults : d.faults < 2 ^ 64
   pub orders : d.orders < 2 ^ 64

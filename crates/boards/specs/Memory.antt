@@ -1,5 +1,5 @@
 -- A board in memory as its contracts see it, and what its calls do exactly.
-use Rattle.std.specs.Prelude.{◌≡◌, ◌+◌, ◌-◌, ◌*◌, ◌^◌, ◌==◌, ◌&&◌, if◌then◌else◌, ℕ, Bool, true, false, List, []}
+use Rattle.std.specs.Prelude.{◌≡◌, ◌+◌, ◌==◌, ◌&&◌, if◌then◌else◌, ℕ, Bool, false, List, []}
 use Rattle.std.specs.List.{list_any}
 use Rattle.board.specs.declared.fuse.Fate.{Fate}
 use Rattle.board.specs.declared.fuse.Fate.TheVariants.{Pass, Interrupt, Refuse}

@@ -2,7 +2,7 @@
 ghost use Rattle.std.specs.Prelude.{◌≡◌, ◌≢◌, ◌+◌, ◌-◌, ◌*◌, ◌/◌, ◌%◌, ◌^◌, ◌<◌, ◌≤◌, ℕ, if◌then◌else◌, ◌&&◌, ◌==◌, nat_lt, Bool, true, false, is_ok, OnOk, IfOk, ◌++◌, take, drop, length, slice_set, vec_len};
 ghost use Rattle.board.specs.Fuse.{passes, is_interrupted, is_refused};
 ghost use Rattle.board.specs.Steps.{capped, Unchanged, Wrote, Synced, Counted, Advanced, Powered};
-ghost use Rattle.boards.specs.Image.{block_at};
+ghost use Rattle.boards.specs.Image.{block_at, AreBlocks};
 ghost use Rattle.boards.specs.Landing.{digits_of, landed, landed_counter, landed_image};
 
 use crate::image;
@@ -38,6 +38,7 @@ impl Disk {
 
     /// A disk with these blocks and this counter.
     pub fn of_blocks(alloc: Global, blocks: Vec<[u8; 1024]>, counter: u64) -> Result<Disk, NoMemory>
+        requires { AreBlocks blocks.items }
         ensures blocks { IfOk result (HoldsBlocks blocks.items) }
         ensures counter { IfOk result (λ d. d.counter ≡ counter) }
     {
@@ -63,6 +64,25 @@ impl Disk {
         ensures blocks { IfOk result (λ bytes. (k : ℕ) → k < vec_len self.now.durable → block_at bytes k ≡ reads_of self.now k) }
     {
         image::join(alloc, &self.seen)
+    }
+
+    /// How many blocks it has.
+    pub fn len(&self) -> u64
+        ensures { result ≡ vec_len self.now.durable }
+    {
+        self.durable.len() as u64
+    }
+
+    pub fn faults(&self) -> u64
+        ensures { result ≡ self.now.faults }
+    {
+        self.faults
+    }
+
+    pub fn orders(&self) -> u64
+        ensures { result ≡ self.now.orders }
+    {
+        self.orders
     }
 
     /// Counts a fault.

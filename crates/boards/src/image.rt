@@ -1,6 +1,6 @@
 //! Images: blocks one after another.
 ghost use Rattle.std.specs.Prelude.{◌≡◌, ◌*◌, ◌<◌, ◌%◌, ℕ, List, [], IfOk, length, vec_len, slice_index_or};
-ghost use Rattle.boards.specs.Image.{block_at};
+ghost use Rattle.boards.specs.Image.{block_at, AreBlocks};
 
 use std::alloc::Global;
 use tee_base::{Bytes, NoMemory};
@@ -8,6 +8,7 @@ use tee_base::{Bytes, NoMemory};
 /// So many blocks with these bytes.
 pub fn repeated(alloc: Global, block: [u8; 1024], count: usize) -> Result<Vec<[u8; 1024]>, NoMemory>
     ensures count { IfOk result (λ v. vec_len v ≡ count) }
+    ensures whole { IfOk result (λ v. AreBlocks v.items) }
     ensures blocks { IfOk result (λ v. (k : ℕ) → k < count → slice_index_or v.items k [] ≡ block) }
 {
     let mut blocks = Vec::with_capacity(alloc, count)?;
@@ -21,6 +22,7 @@ pub fn repeated(alloc: Global, block: [u8; 1024], count: usize) -> Result<Vec<[u
 pub fn split(alloc: Global, image: &[u8]) -> Result<Vec<[u8; 1024]>, NoMemory>
     requires { length image.now % 1024 ≡ 0 }
     ensures count { IfOk result (λ v. 1024 * vec_len v ≡ length image.now) }
+    ensures whole { IfOk result (λ v. AreBlocks v.items) }
     ensures blocks { IfOk result (λ v. (k : ℕ) → k < vec_len v → slice_index_or v.items k [] ≡ block_at image.now k) }
 {
     let count = image.len() / 1024;

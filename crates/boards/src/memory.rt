@@ -1,10 +1,10 @@
 //! A board in memory, which is honest.
-ghost use Rattle.std.specs.Prelude.{◌≡◌, ◌+◌, ◌-◌, ◌*◌, ◌/◌, ◌%◌, ◌^◌, ◌<◌, ◌++◌, ℕ, Bool, true, false, IsTrue, IfOk, OnOk, OnErr, is_ok, nat_lt, length, replicate, vec_len, slice_index_or, List, [], if◌then◌else◌};
+ghost use Rattle.std.specs.Prelude.{◌≡◌, ◌+◌, ◌-◌, ◌*◌, ◌/◌, ◌%◌, ◌^◌, ◌<◌, ◌++◌, ℕ, Bool, true, false, IsTrue, IfOk, OnOk, OnErr, is_ok, nat_lt, length, replicate, vec_len, slice_index_or, List, [], if◌then◌else◌, refl};
 ghost use Rattle.board.specs.Fuse.{refitted, is_interrupted, is_refused};
 ghost use Rattle.board.specs.Steps.{capped, Called, Ordered, Answered, Passes, Unchanged, Wrote, Synced, Counted, Advanced, Powered};
 ghost use Rattle.board.specs.declared.fuse.Fuse.TheVariants.{Unset};
 ghost use Rattle.boards.specs.Disk.{IsWhole, Offers};
-ghost use Rattle.boards.specs.Image.{block_at};
+ghost use Rattle.boards.specs.Image.{block_at, AreBlocks};
 ghost use Rattle.boards.specs.Memory.{next_fate, image_after, counter_after, IsExact, IsOrder, IsNew};
 
 use crate::disk::Disk;
@@ -43,7 +43,12 @@ impl MemBoard {
     }
 
     /// A board with this image and counter.
-    pub fn of_image(alloc: Global, image: Bytes, counter: u64, key: [u8; 32]) -> Result<MemBoard, NoMemory>
+    pub fn of_image(
+        alloc: Global,
+        image: Bytes,
+        counter: u64,
+        key: [u8; 32],
+    ) -> Result<MemBoard, NoMemory>
         requires { length image % 1024 ≡ 0 }
         ensures new { IfOk result (λ b. IsNew key (length image / 1024) counter (memory_of b)) }
         ensures blocks { IfOk result (λ b. (k : ℕ) → k < length image / 1024 → (view_of b).state.reads k ≡ block_at image k) }
@@ -52,7 +57,13 @@ impl MemBoard {
         MemBoard::of_blocks(alloc, blocks, counter, key)
     }
 
-    fn of_blocks(alloc: Global, blocks: Vec<[u8; 1024]>, counter: u64, key: [u8; 32]) -> Result<MemBoard, NoMemory>
+    fn of_blocks(
+        alloc: Global,
+        blocks: Vec<[u8; 1024]>,
+        counter: u64,
+        key: [u8; 32],
+    ) -> Result<MemBoard, NoMemory>
+        requires { AreBlocks blocks.items }
         ensures new { IfOk result (λ b. IsNew key (vec_len blocks) counter (memory_of b)) }
         ensures blocks { IfOk result (λ b. (k : ℕ) → (view_of b).state.reads k ≡ slice_index_or blocks.items k []) }
     {
@@ -85,5 +96,149 @@ impl MemBoard {
         ensures blocks { IfOk result (λ bytes. (k : ℕ) → k < (view_of self.now).size → block_at bytes k ≡ (view_of self.now).state.reads k) }
     {
         self.disk.image(alloc)
+    }
+}
+
+impl Board for MemBoard {
+    ghost use Rattle.boards.specs.MemoryBoard.{view_of, memory_of};
+
+    ghost tells_reads = { true };
+
+    ghost view = { view_of };
+
+    ghost honest = { λ b. Unit {0} };
+
+    ghost consistent = { λ b h. record { as_read = b.whole.as_read; whole = b.whole.blocks; counter = b.whole.counter } };
+
+    ghost honest_reads = { λ b h. refl };
+
+    fn blocks(&self) -> u64 {
+        self.disk.len()
+    }
+
+    fn key(&self) -> [u8; 32] {
+        self.key
+    }
+
+    fn read(&mut self, block: u64, into: &mut [u8; 1024]) -> Result<(), BoardFailed>
+        requires { block < (view_of self.old).size }
+        ensures call { Called (is_ok result) (view_of self.old) (view_of self.new) }
+        ensures writes { (view_of self.new).writes ≡ (view_of self.old).writes }
+        ensures bytes { OnOk result (into.new ≡ (view_of self.old).state.reads block) }
+        ensures same { (view_of self.new).state.reads ≡ (view_of self.old).state.reads }
+        ensures honest { Unit {0} → Unit {0} × Answered (view_of self.old) (view_of self.new)
+            × Unchanged (view_of self.old).state (view_of self.new).state }
+        ensures exact { IsExact true (is_ok result) (memory_of self.old) (memory_of self.new) }
+        ensures offered { (memory_of self.new).offered ≡ (memory_of self.old).offered }
+    {
+        self.past = self.past.then(&self.disk);
+        let fate = self.schedule.next();
+        self.disk.read(block, into, fate)
+    }
+
+    fn write(&mut self, block: u64, from: &[u8; 1024]) -> Result<(), BoardFailed>
+        requires { block < (view_of self.old).size }
+        ensures call { Called (is_ok result) (view_of self.old) (view_of self.new) }
+        ensures writes { (view_of self.new).writes ≡ capped ((view_of self.old).writes + 1) }
+        ensures honest { Unit {0} → Unit {0} × Answered (view_of self.old) (view_of self.new)
+            × Wrote block from.now (is_ok result) (view_of self.old).state (view_of self.new).state }
+        ensures exact { IsExact true (is_ok result) (memory_of self.old) (memory_of self.new) }
+        ensures earlier { is_ok result ≡ false → (view_of self.new).state.reads ≡ (view_of self.old).state.reads }
+        ensures offers { Offers block from.now (is_refused (next_fate (memory_of self.old))) (view_of self.new).state.pending
+            (memory_of self.old).offered (memory_of self.new).offered }
+    {
+        self.past = self.past.then(&self.disk);
+        self.writes = self.writes.saturating_add(1);
+        let fate = self.schedule.next();
+        self.disk.write(block, from, fate)
+    }
+
+    fn sync(&mut self) -> Result<(), BoardFailed>
+        ensures call { Called (is_ok result) (view_of self.old) (view_of self.new) }
+        ensures writes { (view_of self.new).writes ≡ (view_of self.old).writes }
+        ensures honest { Unit {0} → Unit {0} × Answered (view_of self.old) (view_of self.new)
+            × Synced (is_ok result) (view_of self.old).state (view_of self.new).state }
+        ensures exact { IsExact true (is_ok result) (memory_of self.old) (memory_of self.new) }
+        ensures offered { (memory_of self.new).offered ≡ (memory_of self.old).offered }
+    {
+        self.past = self.past.then(&self.disk);
+        let fate = self.schedule.next();
+        self.disk.sync(fate)
+    }
+
+    fn counter(&mut self) -> Result<u64, BoardFailed>
+        ensures call { Called (is_ok result) (view_of self.old) (view_of self.new) }
+        ensures writes { (view_of self.new).writes ≡ (view_of self.old).writes }
+        ensures honest { Unit {0} → Unit {0} × Answered (view_of self.old) (view_of self.new)
+            × Counted result (view_of self.old).state (view_of self.new).state }
+        ensures exact { IsExact true (is_ok result) (memory_of self.old) (memory_of self.new) }
+        ensures value { IfOk result (λ n. n ≡ (view_of self.old).state.counter) }
+        ensures offered { (memory_of self.new).offered ≡ (memory_of self.old).offered }
+    {
+        self.past = self.past.then(&self.disk);
+        let fate = self.schedule.next();
+        self.disk.count(fate)
+    }
+
+    fn advance(&mut self) -> Result<u64, BoardFailed>
+        ensures call { Called (is_ok result) (view_of self.old) (view_of self.new) }
+        ensures writes { (view_of self.new).writes ≡ (view_of self.old).writes }
+        ensures honest { Unit {0} → Unit {0} × Answered (view_of self.old) (view_of self.new)
+            × Advanced result (view_of self.old).state (view_of self.new).state }
+        ensures exact { IsExact (nat_lt (view_of self.old).state.counter (2 ^ 64 - 1)) (is_ok result)
+            (memory_of self.old) (memory_of self.new) }
+        ensures value { IfOk result (λ n. n ≡ (view_of self.old).state.counter + 1) }
+        ensures unsettled { is_ok result ≡ false → (memory_of self.new).unsettled
+            ≡ (if is_interrupted (next_fate (memory_of self.old)) then true else (memory_of self.old).unsettled) }
+        ensures offered { (memory_of self.new).offered ≡ (memory_of self.old).offered }
+    {
+        self.past = self.past.then(&self.disk);
+        let fate = self.schedule.next();
+        self.disk.advance(fate)
+    }
+
+    fn fuse(&mut self, calls: u32)
+        ensures ordered { Ordered calls (view_of self.old) (view_of self.new) }
+        ensures fuse { (view_of self.new).fuse ≡ refitted (view_of self.old).fuse calls }
+        ensures honest { Unit {0} → Unit {0} × Passes (view_of self.old) (view_of self.new)
+            × Unchanged (view_of self.old).state (view_of self.new).state }
+        ensures exact { IsOrder (memory_of self.old) (memory_of self.new) }
+    {
+        self.past = self.past.then(&self.disk);
+        self.disk.order();
+        self.ordered = self.ordered.wrapping_add(u64::from(calls));
+        self.schedule.fuse.refit(calls);
+    }
+
+    fn power(&mut self, pick: u64)
+        ensures ordered { Ordered pick (view_of self.old) (view_of self.new) }
+        ensures fuse { (view_of self.new).fuse ≡ Unset }
+        ensures honest { Unit {0} → Unit {0} × Passes (view_of self.old) (view_of self.new)
+            × Powered (view_of self.old).state (view_of self.new).state }
+        ensures exact { IsOrder (memory_of self.old) (memory_of self.new) }
+        ensures image { (k : ℕ) → (view_of self.new).state.reads k ≡ image_after pick (memory_of self.old) k }
+        ensures counter { (view_of self.new).state.counter ≡ counter_after pick (memory_of self.old) }
+    {
+        self.past = self.past.then(&self.disk);
+        self.disk.power(pick);
+        self.disk.order();
+        self.ordered = self.ordered.wrapping_add(pick);
+        self.schedule.fuse = Fuse::Unset;
+    }
+
+    fn faults(&self) -> u64 {
+        self.disk.faults()
+    }
+
+    fn writes(&self) -> u64 {
+        self.writes
+    }
+
+    fn orders(&self) -> u64 {
+        self.disk.orders()
+    }
+
+    fn ordered(&self) -> u64 {
+        self.ordered
     }
 }

@@ -1,5 +1,5 @@
 -- Half of a block has 512 bytes.
-use Rattle.std.proofs.Common.{◌≡◌, ◌≤◌, length, sym, ◌∙◌, arith}
+use Rattle.std.proofs.Common.{◌≤◌, length, sym, ◌∙◌, arith}
 use Rattle.std.proofs.lemmas.List.{length-take-le}
 use Rattle.boards.proofs.disk.half_of_each.Goals as goal
 

@@ -1,5 +1,4 @@
-use Rattle.std.proofs.Common.{arith, ◌≡◌, ◌<◌, length, true, false, ◌∙◌, sym}
-use Rattle.boards.specs.Disk.{pending_of}
+use Rattle.std.proofs.Common.{arith, ◌<◌, length, ◌∙◌}
 use Rattle.boards.proofs.Loops.{landed_none, landed_kept, landed_taken, flag_at}
 use Rattle.boards.proofs.disk.Disk.land.Goals as goal
 use Rattle.boards.proofs.disk.Disk.land.Goals.{then-index, else-index}

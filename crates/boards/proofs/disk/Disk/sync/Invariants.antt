@@ -1,5 +1,3 @@
-use Rattle.std.proofs.Common.{◌≡◌, ◌<◌, ℕ, false, vec_len}
-use Rattle.boards.specs.Disk.{IsWhole, reads_of, durable_of, pending_of, offered_of}
 use Rattle.boards.proofs.Loops.{SyncedBelow}
 use Rattle.boards.proofs.disk.Disk.sync.Given as goal
 
