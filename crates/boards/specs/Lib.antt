@@ -1,4 +1,5 @@
 pub mod Disk
+pub mod FileBoard
 pub mod Image
 pub mod Landing
 pub mod Memory
