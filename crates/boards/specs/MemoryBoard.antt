@@ -1,0 +1,26 @@
+-- What the contracts of the board in memory see of it.
+use Rattle.std.specs.Prelude.{map, vec_len}
+use Rattle.board.specs.Moment.{View}
+use Rattle.boards.specs.Disk.{state_of, offered_of}
+use Rattle.boards.specs.Memory.{Memory}
+use Rattle.boards.specs.declared.memory.MemBoard.{MemBoard}
+
+abbrev pub view_of : MemBoard → View
+view_of b = record {
+  size = vec_len b.disk.durable;
+  key = b.key;
+  writes = b.writes;
+  ordered = b.ordered;
+  fuse = b.schedule.fuse;
+  state = state_of b.disk;
+  past = map state_of b.past;
+}
+
+abbrev pub memory_of : MemBoard → Memory
+memory_of b = record {
+  view = view_of b;
+  offered = offered_of b.disk;
+  unsettled = b.disk.unsettled;
+  calls = b.schedule.calls;
+  failing = b.schedule.failing.items;
+}

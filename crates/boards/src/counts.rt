@@ -1,0 +1,87 @@
+//! The counts of a board over files, and its fuse.
+ghost use Rattle.std.specs.Prelude.{◌≡◌, ◌+◌, ◌%◌, ◌^◌, ◌≤◌, false, is_ok, if◌then◌else◌};
+ghost use Rattle.board.specs.Fuse.{burnt, fate_by, passes};
+ghost use Rattle.board.specs.Steps.{capped};
+ghost use Rattle.tee_base.specs.Faults.{Rose};
+ghost use Rattle.board.specs.declared.fuse.Fuse.TheVariants.{Unset};
+
+use board::BoardFailed;
+use board::fuse::{Fate, Fuse};
+use std::io;
+
+/// How many calls failed, were writes, were orders, and the sum of the orders' numbers.
+#[derive(Drop)]
+pub struct Counts {
+    pub fuse: Fuse,
+    pub faults: u64,
+    pub writes: u64,
+    pub orders: u64,
+    pub ordered: u64,
+}
+
+impl Counts {
+    /// Before the first call.
+    pub fn new() -> Counts
+        ensures { result ≡ record { fuse = Unset; faults = 0; writes = 0; orders = 0; ordered = 0 } }
+    {
+        Counts {
+            fuse: Fuse::Unset,
+            faults: 0,
+            writes: 0,
+            orders: 0,
+            ordered: 0,
+        }
+    }
+
+    /// Takes a call from the fuse. An interrupted call fails before it does anything.
+    pub fn begin(&mut self) -> Result<(), BoardFailed>
+        ensures ok { is_ok result ≡ passes (fate_by self.old.fuse) }
+        ensures after { self.new ≡ record self.old {
+          fuse = burnt self.old.fuse;
+          faults = if is_ok result then self.old.faults else capped (self.old.faults + 1);
+        } }
+        ensures later { self.old.faults ≤ self.new.faults }
+        ensures cause { is_ok result ≡ false → Rose self.old.faults self.new.faults }
+    {
+        if self.fuse.next() == Fate::Pass {
+            Ok(())
+        } else {
+            Err(self.fail())
+        }
+    }
+
+    /// The answer of the call, by that of the files.
+    pub fn end<T: Drop>(&mut self, answer: io::Result<T>) -> Result<T, BoardFailed>
+        ensures ok { is_ok result ≡ is_ok answer }
+        ensures after { self.new ≡ record self.old {
+          faults = if is_ok result then self.old.faults else capped (self.old.faults + 1);
+        } }
+        ensures later { self.old.faults ≤ self.new.faults }
+        ensures cause { is_ok result ≡ false → Rose self.old.faults self.new.faults }
+    {
+        match answer {
+            Ok(value) => Ok(value),
+            Err(_) => Err(self.fail()),
+        }
+    }
+
+    fn fail(&mut self) -> BoardFailed
+        ensures after { self.new ≡ record self.old { faults = capped (self.old.faults + 1) } }
+        ensures later { self.old.faults ≤ self.new.faults }
+        ensures cause { Rose self.old.faults self.new.faults }
+    {
+        self.faults = self.faults.saturating_add(1);
+        BoardFailed
+    }
+
+    /// Counts an order with this number.
+    pub fn order(&mut self, number: u64)
+        ensures { self.new ≡ record self.old {
+          orders = (self.old.orders + 1) % 2 ^ 64;
+          ordered = (self.old.ordered + number) % 2 ^ 64;
+        } }
+    {
+        self.orders = self.orders.wrapping_add(1);
+        self.ordered = self.ordered.wrapping_add(number);
+    }
+}
