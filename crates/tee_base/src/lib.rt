@@ -12,7 +12,7 @@ mod transfer;
 
 pub use bytes::{Bytes, NoMemory};
 pub use codes::{Code, Flags, Origin};
-pub use fakes::{MemSink, MemSource, SureSource};
+pub use fakes::{MemSink, MemSource, Schedule, SureSource};
 pub use io::{Sink, SinkFailed, Source, SourceFailed};
 pub use streams::{StdSink, StdSource};
 pub use transfer::{ReadAnswer, WriteFault, read_all, write_all};
