@@ -33,11 +33,15 @@ pub record HasCause {A : Type 0} (result : Result A StoreAnswer) (old new : Stan
   pub later : old.faults ≤ new.faults
   pub orders_stay : new.orders ≡ old.orders
 
+-- an answer of damage tells of some that there is
+abbrev pub TellsDamage : {A : Type 0} → Result A StoreAnswer → (StoreAnswer → Type 0) → Type 0
+TellsDamage (Err (Corrupt tags)) damage = damage (Corrupt tags)
+TellsDamage (Err (Garbled leaf)) damage = damage (Garbled leaf)
+TellsDamage _ damage = Unit {0}
+
 -- the answer tells of no damage
 abbrev pub IsIntact : {A : Type 0} → Result A StoreAnswer → Type 0
-IsIntact (Err (Corrupt tags)) = ⊥
-IsIntact (Err (Garbled leaf)) = ⊥
-IsIntact _ = Unit {0}
+IsIntact result = TellsDamage result (λ answer. ⊥)
 
 -- all that a volume keeps beside one store: the leaves of the other regions, by region and place
 pub record Rest : Type 0 where

@@ -49,7 +49,7 @@ abbrev pub with_object : {A : Type 0} → Option Object → (Object → Result A
 with_object None f = Err NotFound
 with_object (Some o) f = f o
 
--- the store after a change, without regard to the quota (sections 5.7.1 to 5.7.5 and 5.9.2 to 5.9.4)
+-- the store after a change, without regard to the quota (sections 5.7.2, 5.7.4, 5.7.5, 5.9.2 and 5.9.3)
 abbrev pub changed : Store → Change → Result Store StoreAnswer
 changed store (Put id kind usage secret content overwrite) =
     if has store id && not overwrite then Err Exists else
@@ -81,7 +81,7 @@ found store id = with_object (object_at store id) (λ o. Ok (facts_of o))
 abbrev pub secret_at : Store → List ℕ → Result (List ℕ) StoreAnswer
 secret_at store id = with_object (object_at store id) (λ o. Ok o.secret)
 
--- at most so many bytes of an object's content from a place on
+-- at most so many bytes of an object's content from a place on (section 5.9.1)
 abbrev pub read_at : Store → List ℕ → ℕ → ℕ → Result (List ℕ) StoreAnswer
 read_at store id from count = with_object (object_at store id) (λ o. Ok (take count (drop from o.content)))
 
@@ -94,7 +94,7 @@ abbrev pub listed : Option (List ℕ × Object) → Result Listed StoreAnswer
 listed None = Err NotFound
 listed (Some entry) = Ok (record { id = entry.0; facts = facts_of entry.1 })
 
--- the least identifier greater than the last one, with its facts: the first in the map's order, which ascends
+-- the least identifier greater than the last one, with its facts: the first in the map's order, which ascends (section 5.8.5)
 abbrev pub next_after : Store → Option (List ℕ) → Result Listed StoreAnswer
 next_after store last = listed (find (λ entry. is_after last entry.0) (map.entries store))
 

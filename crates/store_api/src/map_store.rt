@@ -142,6 +142,8 @@ impl AppStore for MapStore {
 
     ghost honest = { λ _. Unit {0} };
 
+    ghost damage = { λ _ _. ⊥ };
+
     ghost moment = { moment_of };
 
     ghost left_since = { left_of };

@@ -9,11 +9,11 @@ use tee_base::{Bytes, NoMemory};
 /// An object as a store keeps it.
 #[derive(Debug, Drop)]
 pub struct Object {
-    /// The object type of section 6.10, or the kind that its application gave it.
+    /// The object type, as TEE_ObjectInfo has it.
     pub kind: u32,
-    /// The object usage of section 5.3.
+    /// The object usage, as TEE_ObjectInfo has it.
     pub usage: u32,
-    /// The attributes, at most 128 bytes.
+    /// The secret part, at most 128 bytes.
     pub secret: Bytes,
     /// The data stream.
     pub content: Bytes,

@@ -1,7 +1,8 @@
 //! What keeps the objects of one application.
 
 ghost use Rattle.std.specs.Prelude.{◌≡◌, ◌≤◌, ℕ, Bool, IsTrue, length, option_copied};
-ghost use Rattle.store_api.specs.Keeping.{Standing, Kept, Remains, Answers, HasCause, IsIntact, Applied, LeavesJust, LeavesNothingNew, CrashLeaves, CrashChanges};
+ghost use Rattle.store_api.specs.declared.answer.StoreAnswer.{StoreAnswer};
+ghost use Rattle.store_api.specs.Keeping.{Standing, Kept, Remains, Answers, HasCause, TellsDamage, IsIntact, Applied, LeavesJust, LeavesNothingNew, CrashLeaves, CrashChanges};
 ghost use Rattle.store_api.specs.Limits.{IsIdentifier, IsChange};
 ghost use Rattle.store_api.specs.Stores.{found, secret_at, read_at, next_after, change as change_of};
 
@@ -25,6 +26,9 @@ pub trait AppStore {
     /// What it stands on keeps to its rules, and what is kept there is well formed.
     ghost honest: { Self → Type 0 };
 
+    /// What there is for `Corrupt` and `Garbled` to tell: tags that differ, or a leaf that breaks a rule.
+    ghost damage: { Self → StoreAnswer → Type 0 };
+
     /// A clock that never falls.
     ghost moment: { Self → ℕ };
 
@@ -37,6 +41,7 @@ pub trait AppStore {
         ensures answer { IsTrue tells → Answers result (found (kept self.old).store id.now) }
         ensures same { IsTrue tells → kept self.new ≡ kept self.old }
         ensures cause { HasCause result (standing self.old) (standing self.new) }
+        ensures damage { TellsDamage result (damage self.new) }
         ensures honest { honest self.old → honest self.new × IsIntact result }
         ensures quiet { IsTrue (standing self.old).lost → LeavesNothingNew moment left_since self.old self.new }
         ensures crash { honest self.old → LeavesJust moment left_since self.old (kept self.old) → CrashLeaves moment left_since (kept self.old) self.old self.new };
@@ -47,6 +52,7 @@ pub trait AppStore {
         ensures answer { IsTrue tells → Answers result (secret_at (kept self.old).store id.now) }
         ensures same { IsTrue tells → kept self.new ≡ kept self.old }
         ensures cause { HasCause result (standing self.old) (standing self.new) }
+        ensures damage { TellsDamage result (damage self.new) }
         ensures honest { honest self.old → honest self.new × IsIntact result }
         ensures quiet { IsTrue (standing self.old).lost → LeavesNothingNew moment left_since self.old self.new }
         ensures crash { honest self.old → LeavesJust moment left_since self.old (kept self.old) → CrashLeaves moment left_since (kept self.old) self.old self.new };
@@ -59,6 +65,7 @@ pub trait AppStore {
         ensures answer { IsTrue tells → Answers result (read_at (kept self.old).store id.now from count) }
         ensures same { IsTrue tells → kept self.new ≡ kept self.old }
         ensures cause { HasCause result (standing self.old) (standing self.new) }
+        ensures damage { TellsDamage result (damage self.new) }
         ensures honest { honest self.old → honest self.new × IsIntact result }
         ensures quiet { IsTrue (standing self.old).lost → LeavesNothingNew moment left_since self.old self.new }
         ensures crash { honest self.old → LeavesJust moment left_since self.old (kept self.old) → CrashLeaves moment left_since (kept self.old) self.old self.new };
@@ -69,6 +76,7 @@ pub trait AppStore {
         ensures answer { IsTrue tells → Answers result (next_after (kept self.old).store (option_copied last.entry)) }
         ensures same { IsTrue tells → kept self.new ≡ kept self.old }
         ensures cause { HasCause result (standing self.old) (standing self.new) }
+        ensures damage { TellsDamage result (damage self.new) }
         ensures honest { honest self.old → honest self.new × IsIntact result }
         ensures quiet { IsTrue (standing self.old).lost → LeavesNothingNew moment left_since self.old self.new }
         ensures crash { honest self.old → LeavesJust moment left_since self.old (kept self.old) → CrashLeaves moment left_since (kept self.old) self.old self.new };
@@ -78,6 +86,7 @@ pub trait AppStore {
         requires { IsChange change.now }
         ensures applied { IsTrue tells → Applied result (change_of (kept self.old).store change.now) (kept self.old) (kept self.new) }
         ensures cause { HasCause result (standing self.old) (standing self.new) }
+        ensures damage { TellsDamage result (damage self.new) }
         ensures honest { honest self.old → honest self.new × IsIntact result }
         ensures quiet { IsTrue (standing self.old).lost → LeavesNothingNew moment left_since self.old self.new }
         ensures crash { honest self.old → LeavesJust moment left_since self.old (kept self.old) → CrashChanges moment left_since result (change_of (kept self.old).store change.now) kept self.old self.new };
