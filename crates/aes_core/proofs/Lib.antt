@@ -1,0 +1,7 @@
+pub mod CipherLemmas
+pub mod ColumnLemmas
+pub mod FieldLemmas
+pub mod KeyLemmas
+pub mod RoundLemmas
+pub mod TableEntries
+pub mod LawLemmas

@@ -1,0 +1,7 @@
+pub mod Cipher
+pub mod Columns
+pub mod Field
+pub mod KeyExpansion
+pub mod Transformations
+pub mod Words
+pub mod Key
