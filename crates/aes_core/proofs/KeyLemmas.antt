@@ -90,7 +90,7 @@ key_words-take nk key (suc n) =
     take-append-le nk (key_words nk key n) _ (omega (arith, length-key_words nk key n)) ∙ key_words-take nk key n
 
 -- ---- the key is the bytes of its first words
-four_fit : (a b c d : ℕ) → a < 256 → b < 256 → c < 256 → d < 256 → (k : ℕ) → get_or (a ∷ b ∷ c ∷ d ∷ []) k 0 < 256
+pub four_fit : (a b c d : ℕ) → a < 256 → b < 256 → c < 256 → d < 256 → (k : ℕ) → get_or (a ∷ b ∷ c ∷ d ∷ []) k 0 < 256
 four_fit a b c d fa fb fc fd zero = fa
 four_fit a b c d fa fb fc fd (suc zero) = fb
 four_fit a b c d fa fb fc fd (suc (suc zero)) = fc

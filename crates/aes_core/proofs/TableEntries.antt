@@ -1,5 +1,5 @@
 -- Each entry of a table is what the arithmetic of the field gives: one test over the whole table, and one lemma.
-use Rattle.std.proofs.Common.{◌≡◌, ℕ, ◌<◌, ◌≤◌, ◌^◌, ◌-◌, arith, List, [], map, length, get_or, refl, sym, ap, ◌∙◌, subst, zero-add}
+use Rattle.std.proofs.Common.{◌≡◌, ℕ, ◌<◌, ◌≤◌, ◌^◌, ◌-◌, ◌%◌, arith, List, [], map, length, get_or, refl, sym, ap, ◌∙◌, subst, zero-add}
 use Rattle.std.proofs.lemmas.List.{get_or-map}
 use Rattle.std.proofs.lemmas.List.FromFn.{get_or-map-range_with_len, get_or-range_with_len}
 use Rattle.std.specs.List.{range_with_len}
@@ -128,8 +128,13 @@ entry_round_constant t j e low high =
     ap (λ (l : List ℕ). get_or l (j - 1) 0) (e ∙ test_round_constants)
     ∙ get_or-map-range_with_len round_constant 1 10 (j - 1) j 0 (omega arith) (omega arith)
 
-below_256 : list_all (λ s. nat_lt s 256) SUBSTITUTE ≡ true
-below_256 = refl
+-- what the substitution gives is a byte
+test_bytes : map (λ (s : ℕ). s % 256) SUBSTITUTE ≡ SUBSTITUTE
+test_bytes = refl
 
 pub substitute_below : (x : ℕ) → x < 2 ^ 8 → substitute x < 256
-substitute_below x h = ?
+substitute_below x h =
+    let e : get_or SUBSTITUTE x 0 ≡ substitute x = entry_substitute SUBSTITUTE x refl h in
+    let m : get_or SUBSTITUTE x 0 ≡ get_or SUBSTITUTE x 0 % 256 =
+    ap (λ (l : List ℕ). get_or l x 0) (sym test_bytes) ∙ get_or-map (λ (s : ℕ). s % 256) SUBSTITUTE x 0 0 h in
+    omega arith

@@ -5,3 +5,4 @@ pub mod KeyExpansion
 pub mod Transformations
 pub mod Words
 pub mod Key
+pub mod Laws

@@ -4,10 +4,16 @@
 mod block;
 mod columns;
 mod key;
+mod laws;
+#[cfg(test)]
+mod plain;
 mod rounds;
 mod schedule;
 mod tables;
+#[cfg(test)]
+mod tests;
 
 pub use block::{decrypt_block, encrypt_block};
 pub use key::{Key, WrongKeyLength};
+pub use laws::decryption_undoes_encryption;
 pub use schedule::expand;
