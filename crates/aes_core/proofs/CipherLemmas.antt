@@ -1,11 +1,11 @@
 -- The rounds over an expanded key, and the equivalent inverse cipher (FIPS 197, section 5.3.5).
-use Rattle.std.proofs.Common.{◌≡◌, ℕ, zero, suc, ◌+◌, ◌-◌, ◌*◌, ◌/◌, ◌%◌, ◌<◌, ◌≤◌, List, [], ◌∷◌, ◌++◌, length, take, slice_index, refl, sym, ap, ◌∙◌, arith, add-one, length-append, subst}
+use Rattle.std.proofs.Common.{◌≡◌, ℕ, zero, suc, ◌+◌, ◌-◌, ◌*◌, ◌%◌, ◌<◌, ◌≤◌, List, [], ◌∷◌, length, take, slice_index, refl, sym, ap, ◌∙◌, arith}
 use Rattle.std.proofs.lemmas.List.{get_or-take, length-take-le}
 use Rattle.std.specs.List.{flat_map}
 use Rattle.aes_core.specs.Cipher.{cipher_rounds, cipher_from, cipher, inv_cipher_rounds, inv_cipher_from, inv_cipher}
-use Rattle.aes_core.specs.KeyExpansion.{expanded, round_count, round_key, key_of_words, inv_mixed_word, IsExpansion}
-use Rattle.aes_core.specs.Transformations.{sub_bytes, shift_rows, mix_columns, add_round_key, inv_sub_bytes, inv_shift_rows, inv_mix_column, inv_mix_columns}
-use Rattle.aes_core.specs.Words.{word_bytes, block_bytes}
+use Rattle.aes_core.specs.KeyExpansion.{round_count, round_key, key_of_words, inv_mixed_word, IsExpansion}
+use Rattle.aes_core.specs.Transformations.{sub_bytes, shift_rows, mix_columns, add_round_key, inv_sub_bytes, inv_shift_rows, inv_mix_columns}
+use Rattle.aes_core.specs.Words.{word_bytes}
 use Rattle.aes_core.proofs.FieldLemmas.{inv_mix_columns-add, four_columns}
 use Rattle.aes_core.proofs.KeyLemmas.{key_length_bounds}
 
@@ -98,7 +98,7 @@ inv_cipher_rounds_next w v b s t k r n some most e held et ek =
     let here : suc (n - 1) ≡ n = omega arith in
     rw (at, here)
     (et ∙ rw (ek, ← round_key-inverse w v (r - n) e (omega arith))
-      (sym (inv_mix_columns-add (inv_sub_bytes (inv_shift_rows s)) (round_key w (r - n))) ∙ rw held refl))
+    (sym (inv_mix_columns-add (inv_sub_bytes (inv_shift_rows s)) (round_key w (r - n))) ∙ rw held refl))
 
 pub inv_cipher_from_last : (w b s t u k : List ℕ) (r n : ℕ) → n ≡ r → s ≡ inv_cipher_rounds w r b (n - 1) → t ≡ inv_sub_bytes (inv_shift_rows s)
     → u ≡ add_round_key t k → k ≡ round_key w 0 → u ≡ inv_cipher_from w r b

@@ -1,5 +1,5 @@
 -- Words and their bytes: sums of words, and the columns of a round.
-use Rattle.std.proofs.Common.{◌≡◌, ℕ, ◌%◌, ◌/◌, ◌^◌, ◌<◌, List, [], ◌∷◌, bit_xor, slice_index, arith, refl, sym, ap, ◌∙◌}
+use Rattle.std.proofs.Common.{◌≡◌, ℕ, ◌%◌, ◌/◌, ◌^◌, List, [], ◌∷◌, bit_xor, slice_index, arith, refl, ap, ◌∙◌}
 use Rattle.std.proofs.lemmas.Nat.{xor_shr, xor_mod}
 use Rattle.aes_core.specs.Columns.{mixed_0, mixed_1, mixed_2, mixed_3, inv_mixed_0, inv_mixed_1, inv_mixed_2, inv_mixed_3}
 use Rattle.aes_core.specs.Field.{substitute, inverse_substitute}

@@ -1,11 +1,9 @@
 -- Multiplication goes through sums, and InvMixColumns undoes MixColumns.
-use Rattle.std.proofs.Common.{◌≡◌, ◌⊎◌, inl, inr, ℕ, zero, suc, ◌+◌, ◌*◌, ◌/◌, ◌%◌, ◌^◌, ◌<◌, Bool, true, false, cond, eqb, List, [], ◌∷◌, ◌++◌, map, bit_xor, get_or, refl, sym, ap, ◌∙◌, arith, zero-add}
-use Rattle.std.proofs.lemmas.List.FromFn.{get_or-map-range_with_len}
+use Rattle.std.proofs.Common.{◌≡◌, ◌⊎◌, inl, inr, ℕ, zero, suc, ◌+◌, ◌*◌, ◌/◌, ◌%◌, ◌^◌, ◌<◌, Bool, true, false, cond, eqb, List, [], ◌∷◌, ◌++◌, bit_xor, get_or, refl, sym, ap, ◌∙◌, arith}
 use Rattle.std.proofs.lemmas.Nat.{xor_comm, xor_shr, xor_mod, xor_block}
-use Rattle.std.specs.List.{range_with_len}
 use lib.Bits.{xor_assoc}
 use Rattle.aes_core.specs.Field.{xtimes, multiply_powers, multiply}
-use Rattle.aes_core.specs.Transformations.{sum_of, mix_column, mix_columns, add_round_key, inv_mix_column, inv_mix_columns}
+use Rattle.aes_core.specs.Transformations.{sum_of, add_round_key, inv_mix_column, inv_mix_columns}
 use Rattle.aes_core.specs.Words.{add_columns}
 
 -- the middle two of four change places

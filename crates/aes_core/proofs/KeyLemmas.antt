@@ -1,5 +1,5 @@
 -- The key expansion word by word, and the key at its beginning.
-use Rattle.std.proofs.Common.{◌≡◌, ◌≢◌, ◌⊎◌, inl, inr, ℕ, zero, suc, ◌+◌, ◌-◌, ◌*◌, ◌/◌, ◌%◌, ◌^◌, ◌<◌, ◌≤◌, List, [], ◌∷◌, ◌++◌, bit_xor, length, take, set, get_or, slice_index, eqb, ltb, ◌||◌, IsTrue, true, false, refl, sym, ap, ◌∙◌, arith, add-one, append_assoc}
+use Rattle.std.proofs.Common.{◌≡◌, ◌≢◌, inl, inr, ℕ, zero, suc, ◌+◌, ◌-◌, ◌*◌, ◌/◌, ◌%◌, ◌<◌, ◌≤◌, List, [], ◌∷◌, ◌++◌, bit_xor, length, take, set, get_or, slice_index, eqb, ltb, ◌||◌, IsTrue, true, false, refl, sym, ap, ◌∙◌, arith, add-one, append_assoc}
 use Rattle.std.proofs.lemmas.Bool.{eq-eqb, ne_eqb, lt-ltb, le-ltb, or_cases, eqb-true}
 use Rattle.std.proofs.lemmas.List.{take_more_set, take_more, get_or-take, length_push, take-append-le, take-take, take_all, flat_map_more}
 use Rattle.std.proofs.lemmas.Nat.{be_bytes_4}
@@ -103,7 +103,7 @@ unfolding word_bytes word_at
 bytes-word_at key i fits =
     be_bytes_4 _ (word_at key i) refl
     (four_fit (get_or key (4 * i) 0) (get_or key (4 * i + 1) 0) (get_or key (4 * i + 2) 0) (get_or key (4 * i + 3) 0)
-      (fits (4 * i)) (fits (4 * i + 1)) (fits (4 * i + 2)) (fits (4 * i + 3))) refl
+    (fits (4 * i)) (fits (4 * i + 1)) (fits (4 * i + 2)) (fits (4 * i + 3))) refl
 
 -- four more elements
 take_four : (xs : List ℕ) (i : ℕ) → i + 4 ≤ length xs
@@ -126,8 +126,8 @@ bytes-first_words key (suc n) fits long =
     let before : flat_map word_bytes (first_words key n) ≡ take (4 * n) key = bytes-first_words key n fits (omega arith) in
     let e : 4 * suc n ≡ 4 * n + 4 = omega arith in
     rw e (sym (flat_map_more word_bytes [] (first_words key n) (word_at key n))
-      ∙ ap (λ (z : List ℕ). z ++ word_bytes (word_at key n)) before
-      ∙ ap (λ (z : List ℕ). take (4 * n) key ++ z) (bytes-word_at key n fits) ∙ sym (take_four key (4 * n) (omega arith)))
+    ∙ ap (λ (z : List ℕ). z ++ word_bytes (word_at key n)) before
+    ∙ ap (λ (z : List ℕ). take (4 * n) key ++ z) (bytes-word_at key n fits) ∙ sym (take_four key (4 * n) (omega arith)))
 
 -- the words of a key's expansion have that key
 pub key_of_words-expanded : (key words : List ℕ) → ((k : ℕ) → get_or key k 0 < 256) → length key % 4 ≡ 0

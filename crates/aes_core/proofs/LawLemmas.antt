@@ -1,14 +1,12 @@
 -- The inverse cipher undoes the cipher.
-use Rattle.std.proofs.Common.{◌≡◌, inl, inr, ℕ, zero, suc, Bool, true, false, cond, eqb, ◌+◌, ◌-◌, ◌*◌, ◌/◌, ◌%◌, ◌^◌, ◌<◌, ◌≤◌, List, [], ◌∷◌, ◌++◌, map, bit_xor, length, get_or, slice_index, All, refl, sym, ap, ◌∙◌, subst, arith, zero-add}
+use Rattle.std.proofs.Common.{◌≡◌, inl, inr, ℕ, zero, suc, Bool, true, false, cond, eqb, ◌+◌, ◌-◌, ◌*◌, ◌/◌, ◌%◌, ◌^◌, ◌<◌, List, [], ◌∷◌, ◌++◌, map, bit_xor, length, get_or, slice_index, All, refl, sym, ap, ◌∙◌, arith, zero-add}
 use Rattle.std.proofs.lemmas.List.Elements.{All-get_or}
 use Rattle.std.proofs.lemmas.List.FromFn.{get_or-map-range_with_len, fill_by_all}
 use Rattle.std.proofs.lemmas.Nat.{xor_lt}
-use Rattle.std.proofs.lemmas.Simd.{Each1-get_or, Each1-from_get_or}
 use Rattle.std.specs.List.{range_with_len}
 use Rattle.std.proofs.lemmas.Bool.{cases_lt}
 use Rattle.std.proofs.lemmas.List.{get_or_past}
 use lib.Bits.{xor_assoc, xor_self, xor_zero_r}
-use lib.Lanes.{Each1}
 use Rattle.aes_core.specs.Cipher.{cipher_rounds, cipher_from, cipher, inv_cipher_rounds, inv_cipher_from, inv_cipher}
 use Rattle.aes_core.specs.Field.{xtimes, multiply_powers, multiply, substitute, inverse_substitute}
 use Rattle.aes_core.specs.KeyExpansion.{round_key, expanded, round_count}
@@ -73,7 +71,7 @@ multiply-sum_of : (i a b c d : ℕ) → multiply i (sum_of a b c d) ≡ sum_of (
 multiply-sum_of i a b c d =
     multiply-xor i (bit_xor (bit_xor a b) c) d
     ∙ ap (λ (z : ℕ). bit_xor z (multiply i d))
-      (multiply-xor i (bit_xor a b) c ∙ ap (λ (z : ℕ). bit_xor z (multiply i c)) (multiply-xor i a b))
+    (multiply-xor i (bit_xor a b) c ∙ ap (λ (z : ℕ). bit_xor z (multiply i c)) (multiply-xor i a b))
 
 -- rows and columns change places
 transposed : (a b c d e f g h i j k l m n o p : ℕ)
@@ -109,20 +107,20 @@ unfolding inv_mix_column same none
 unmixed a b c d fa fb fc fd =
     four _ _ _ _ a b c d
     (row_of_mixed 14 11 13 9 a b c d
-      ∙ four_sums _ _ _ _ a 0 0 0 (at_byte (first_share 14 11 13 9) same shares_first.0 a fa) (at_byte (second_share 14 11 13 9) none shares_first.1 b fb)
-        (at_byte (third_share 14 11 13 9) none shares_first.2 c fc) (at_byte (fourth_share 14 11 13 9) none shares_first.3 d fd)
-      ∙ zeros_behind a)
+    ∙ four_sums _ _ _ _ a 0 0 0 (at_byte (first_share 14 11 13 9) same shares_first.0 a fa) (at_byte (second_share 14 11 13 9) none shares_first.1 b fb)
+    (at_byte (third_share 14 11 13 9) none shares_first.2 c fc) (at_byte (fourth_share 14 11 13 9) none shares_first.3 d fd)
+    ∙ zeros_behind a)
     (row_of_mixed 9 14 11 13 a b c d
-      ∙ four_sums _ _ _ _ 0 b 0 0 (at_byte (first_share 9 14 11 13) none shares_second.0 a fa) (at_byte (second_share 9 14 11 13) same shares_second.1 b fb)
-        (at_byte (third_share 9 14 11 13) none shares_second.2 c fc) (at_byte (fourth_share 9 14 11 13) none shares_second.3 d fd)
-      ∙ (xor_zero_r (bit_xor b 0) ∙ xor_zero_r b))
+    ∙ four_sums _ _ _ _ 0 b 0 0 (at_byte (first_share 9 14 11 13) none shares_second.0 a fa) (at_byte (second_share 9 14 11 13) same shares_second.1 b fb)
+    (at_byte (third_share 9 14 11 13) none shares_second.2 c fc) (at_byte (fourth_share 9 14 11 13) none shares_second.3 d fd)
+    ∙ (xor_zero_r (bit_xor b 0) ∙ xor_zero_r b))
     (row_of_mixed 13 9 14 11 a b c d
-      ∙ four_sums _ _ _ _ 0 0 c 0 (at_byte (first_share 13 9 14 11) none shares_third.0 a fa) (at_byte (second_share 13 9 14 11) none shares_third.1 b fb)
-        (at_byte (third_share 13 9 14 11) same shares_third.2 c fc) (at_byte (fourth_share 13 9 14 11) none shares_third.3 d fd)
-      ∙ xor_zero_r c)
+    ∙ four_sums _ _ _ _ 0 0 c 0 (at_byte (first_share 13 9 14 11) none shares_third.0 a fa) (at_byte (second_share 13 9 14 11) none shares_third.1 b fb)
+    (at_byte (third_share 13 9 14 11) same shares_third.2 c fc) (at_byte (fourth_share 13 9 14 11) none shares_third.3 d fd)
+    ∙ xor_zero_r c)
     (row_of_mixed 11 13 9 14 a b c d
-      ∙ four_sums _ _ _ _ 0 0 0 d (at_byte (first_share 11 13 9 14) none shares_fourth.0 a fa) (at_byte (second_share 11 13 9 14) none shares_fourth.1 b fb)
-        (at_byte (third_share 11 13 9 14) none shares_fourth.2 c fc) (at_byte (fourth_share 11 13 9 14) same shares_fourth.3 d fd))
+    ∙ four_sums _ _ _ _ 0 0 0 d (at_byte (first_share 11 13 9 14) none shares_fourth.0 a fa) (at_byte (second_share 11 13 9 14) none shares_fourth.1 b fb)
+    (at_byte (third_share 11 13 9 14) none shares_fourth.2 c fc) (at_byte (fourth_share 11 13 9 14) same shares_fourth.3 d fd))
 
 -- ---- states of 16 bytes
 record AreBytes (s : List ℕ) : Type 0 where
@@ -153,8 +151,8 @@ unfolding add_round_key
 added_twice s k long =
     state_of_same (λ i. bit_xor (slice_index (state_of (λ j. bit_xor (slice_index s j) (slice_index k j))) i) (slice_index k i)) s long
     (λ i h. ap (λ (z : ℕ). bit_xor z (slice_index k i)) (get_or-map-range_with_len (λ j. bit_xor (slice_index s j) (slice_index k j)) 0 16 i i 0 h (zero-add i))
-      ∙ xor_assoc (slice_index s i) (slice_index k i) (slice_index k i)
-      ∙ ap (bit_xor (slice_index s i)) (xor_self (slice_index k i)) ∙ xor_zero_r (slice_index s i))
+    ∙ xor_assoc (slice_index s i) (slice_index k i) (slice_index k i)
+    ∙ ap (bit_xor (slice_index s i)) (xor_self (slice_index k i)) ∙ xor_zero_r (slice_index s i))
 
 shifted_back : (s : List ℕ) → length s ≡ 16 → inv_sub_bytes (inv_shift_rows (shift_rows (sub_bytes s))) ≡ state_of (λ i. inverse_substitute (substitute (slice_index s i)))
 unfolding inv_sub_bytes inv_shift_rows shift_rows sub_bytes
@@ -209,11 +207,13 @@ sum_below a b c d fa fb fc fd = xor_lt 8 (bit_xor (bit_xor a b) c) d (xor_lt 8 (
 mix_column_bytes : (a b c d : ℕ) → a < 256 → b < 256 → c < 256 → d < 256 → AreBytes (mix_column a b c d)
 unfolding mix_column
 mix_column_bytes a b c d fa fb fc fd =
-    record { each = four_fit _ _ _ _
-    (sum_below (multiply 2 a) (multiply 3 b) c d (multiply_below 2 a fa) (multiply_below 3 b fb) fc fd)
-    (sum_below a (multiply 2 b) (multiply 3 c) d fa (multiply_below 2 b fb) (multiply_below 3 c fc) fd)
-    (sum_below a b (multiply 2 c) (multiply 3 d) fa fb (multiply_below 2 c fc) (multiply_below 3 d fd))
-    (sum_below (multiply 3 a) b c (multiply 2 d) (multiply_below 3 a fa) fb fc (multiply_below 2 d fd)) }
+    record {
+      each = four_fit _ _ _ _
+          (sum_below (multiply 2 a) (multiply 3 b) c d (multiply_below 2 a fa) (multiply_below 3 b fb) fc fd)
+          (sum_below a (multiply 2 b) (multiply 3 c) d fa (multiply_below 2 b fb) (multiply_below 3 c fc) fd)
+          (sum_below a b (multiply 2 c) (multiply 3 d) fa fb (multiply_below 2 c fc) (multiply_below 3 d fd))
+          (sum_below (multiply 3 a) b c (multiply 2 d) (multiply_below 3 a fa) fb fc (multiply_below 2 d fd));
+    }
 
 IsState-shift_rows : (s : List ℕ) → IsState s → IsState (shift_rows s)
 unfolding shift_rows
@@ -245,7 +245,7 @@ unfolding round_key
 round_key_bytes w i =
     bytes-append _ _ (word_bytes_fit (slice_index w (4 * i)))
     (bytes-append _ _ (word_bytes_fit (slice_index w (4 * i + 1)))
-      (bytes-append _ _ (word_bytes_fit (slice_index w (4 * i + 2))) (word_bytes_fit (slice_index w (4 * i + 3)))))
+    (bytes-append _ _ (word_bytes_fit (slice_index w (4 * i + 2))) (word_bytes_fit (slice_index w (4 * i + 3)))))
 
 bytes_of_state : (s : List ℕ) → IsState s → AreBytes s
 bytes_of_state s h = record { each = h.bytes }
@@ -293,7 +293,7 @@ inv_cipher-cipher key b h =
     let first : r - 1 - (r - 1) ≡ 0 = omega arith in
     ap (λ (z : List ℕ). add_round_key (inv_sub_bytes (inv_shift_rows z)) (round_key w 0)) (rounds_back w b r (r - 1) (omega arith) h)
     ∙ rw first (ap (λ (z : List ℕ). add_round_key z (round_key w 0)) (substituted_back (cipher_rounds w b 0) (IsState-cipher_rounds w b 0 h))
-      ∙ added_twice b (round_key w 0) h.long)
+    ∙ added_twice b (round_key w 0) h.long)
 
 pub undone : (key b : List ℕ) → length b ≡ 16 → All (λ x. x < 256) b → inv_cipher key (cipher key b) ≡ b
 undone key b long all =
@@ -302,5 +302,5 @@ undone key b long all =
       bytes = λ i. elim (cases_lt i (length b)) [
         | inl lt ↦ All-get_or (λ x. x < 256) b i 0 lt all
         | inr ge ↦ rw (get_or_past b i 0 ge) (omega arith)
-      ]
+      ];
     })

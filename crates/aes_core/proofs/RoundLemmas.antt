@@ -1,9 +1,9 @@
 -- A round over four words is the round over the bytes of the block.
-use Rattle.std.proofs.Common.{◌≡◌, ℕ, List, [], ◌∷◌, ◌++◌, bit_xor, slice_index, refl, sym, ap, ◌∙◌, length}
+use Rattle.std.proofs.Common.{◌≡◌, ℕ, List, [], ◌∷◌, ◌++◌, bit_xor, slice_index, refl, length}
 use Rattle.std.proofs.lemmas.List.FromFn.{fill_by_all}
 use Rattle.aes_core.specs.Field.{substitute, inverse_substitute}
 use Rattle.aes_core.specs.Transformations.{state_of, sub_bytes, shift_rows, mix_column, mix_columns, add_round_key, inv_sub_bytes, inv_shift_rows, inv_mix_column, inv_mix_columns}
-use Rattle.aes_core.specs.Words.{word_bytes, block_of, block_bytes, add_columns}
+use Rattle.aes_core.specs.Words.{word_bytes, block_of, add_columns}
 use Rattle.aes_core.proofs.ColumnLemmas.{word_bytes-bit_xor}
 
 pub four_words : (p q r s : ℕ) (p' q' r' s' : List ℕ) → word_bytes p ≡ p' → word_bytes q ≡ q' → word_bytes r ≡ r' → word_bytes s ≡ s'

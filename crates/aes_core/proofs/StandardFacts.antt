@@ -1,11 +1,10 @@
 -- The examples of FIPS 197, so that a wrong step in the definitions does not check.
 use Rattle.std.proofs.Common.{◌≡◌, [], ◌∷◌, refl}
-use Rattle.std.specs.List.{range_with_len}
 use Rattle.aes_core.specs.Field.{xtimes, multiply_powers, multiply, power, inverse, byte_of_bits, affine, inverse_affine, substitute, inverse_substitute}
-use Rattle.aes_core.specs.Transformations.{sub_bytes, shift_rows, mix_column, mix_columns, add_round_key, inv_sub_bytes, inv_shift_rows, inv_mix_column, inv_mix_columns}
+use Rattle.aes_core.specs.Transformations.{sub_bytes, shift_rows, mix_column, mix_columns, add_round_key}
 use Rattle.aes_core.specs.KeyExpansion.{sub_word, round_constant, key_step, first_words, key_words, expanded, round_key}
 use Rattle.aes_core.specs.Words.{word_bytes, word_at}
-use Rattle.aes_core.specs.Cipher.{cipher_rounds, cipher_from, cipher, inv_cipher_rounds, inv_cipher_from, inv_cipher}
+use Rattle.aes_core.specs.Cipher.{cipher_rounds, cipher_from, cipher}
 
 pub product_57_83 : multiply 0x57 0x83 ≡ 0xc1
 unfolding xtimes multiply_powers multiply

@@ -85,10 +85,8 @@ fn decrypt_3(x: u8) -> u32
 /// A column of an encryption round, from the four bytes that the row shifts bring together.
 #[inline(always)]
 pub(crate) fn encrypt_column(a: u8, b: u8, c: u8, d: u8, key: u32) -> u32
-    ensures {
-        word_bytes result ≡ add_columns
-        (mix_column (substitute a) (substitute b) (substitute c) (substitute d)) (word_bytes key)
-    }
+    ensures { word_bytes result ≡ add_columns
+        (mix_column (substitute a) (substitute b) (substitute c) (substitute d)) (word_bytes key) }
 {
     encrypt_0(a) ^ encrypt_1(b) ^ encrypt_2(c) ^ encrypt_3(d) ^ key
 }
@@ -96,11 +94,9 @@ pub(crate) fn encrypt_column(a: u8, b: u8, c: u8, d: u8, key: u32) -> u32
 /// A column of a decryption round, where `key` has been through InvMixColumns.
 #[inline(always)]
 pub(crate) fn decrypt_column(a: u8, b: u8, c: u8, d: u8, key: u32) -> u32
-    ensures {
-        word_bytes result ≡ add_columns
+    ensures { word_bytes result ≡ add_columns
         (inv_mix_column (inverse_substitute a) (inverse_substitute b) (inverse_substitute c) (inverse_substitute d))
-        (word_bytes key)
-    }
+        (word_bytes key) }
 {
     decrypt_0(a) ^ decrypt_1(b) ^ decrypt_2(c) ^ decrypt_3(d) ^ key
 }

@@ -5,5 +5,4 @@ ghost use Rattle.aes_core.specs.Laws.{DecryptionUndoesEncryption};
 /// Decryption undoes encryption, block by block.
 pub fn decryption_undoes_encryption()
     ensures { DecryptionUndoesEncryption }
-{
-}
+{}

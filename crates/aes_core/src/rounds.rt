@@ -26,10 +26,8 @@ pub(crate) fn substitute_word(a: u8, b: u8, c: u8, d: u8) -> u32
 
 #[inline(always)]
 fn inverse_substitute_word(a: u8, b: u8, c: u8, d: u8) -> u32
-    ensures {
-        word_bytes result
-        ≡ inverse_substitute a ∷ inverse_substitute b ∷ inverse_substitute c ∷ inverse_substitute d ∷ []
-    }
+    ensures { word_bytes result
+        ≡ inverse_substitute a ∷ inverse_substitute b ∷ inverse_substitute c ∷ inverse_substitute d ∷ [] }
 {
     word(
         inverse_substitute(a),
@@ -92,10 +90,8 @@ pub(crate) fn add_key(state: [u32; 4], key: [u32; 4]) -> [u32; 4]
 /// A round of the cipher.
 #[inline(always)]
 pub(crate) fn encrypt_round(state: [u32; 4], key: [u32; 4]) -> [u32; 4]
-    ensures {
-        block_bytes result
-        ≡ add_round_key (mix_columns (shift_rows (sub_bytes (block_bytes state)))) (block_bytes key)
-    }
+    ensures { block_bytes result
+        ≡ add_round_key (mix_columns (shift_rows (sub_bytes (block_bytes state)))) (block_bytes key) }
 {
     let a = state[0].to_be_bytes();
     let b = state[1].to_be_bytes();
@@ -127,10 +123,8 @@ pub(crate) fn substitute_and_shift(state: [u32; 4]) -> [u32; 4]
 /// A round of the inverse cipher, where `key` has been through InvMixColumns.
 #[inline(always)]
 pub(crate) fn decrypt_round(state: [u32; 4], key: [u32; 4]) -> [u32; 4]
-    ensures {
-        block_bytes result
-        ≡ add_round_key (inv_mix_columns (inv_sub_bytes (inv_shift_rows (block_bytes state)))) (block_bytes key)
-    }
+    ensures { block_bytes result
+        ≡ add_round_key (inv_mix_columns (inv_sub_bytes (inv_shift_rows (block_bytes state)))) (block_bytes key) }
 {
     let a = state[0].to_be_bytes();
     let b = state[1].to_be_bytes();

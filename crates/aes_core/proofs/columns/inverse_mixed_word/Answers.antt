@@ -1,5 +1,3 @@
-use Rattle.std.proofs.Common.{◌≡◌, ◌∙◌, ap, rules, slice_index, ◌<◌, ◌^◌}
-use Rattle.aes_core.specs.Columns.{inv_mixed_0, inv_mixed_1, inv_mixed_2, inv_mixed_3}
 use Rattle.aes_core.specs.Words.{word_bytes}
 use Rattle.aes_core.proofs.ColumnLemmas.{inverse_mixed_word_is}
 use Rattle.aes_core.proofs.columns.inverse_mixed_word.Goals as goal

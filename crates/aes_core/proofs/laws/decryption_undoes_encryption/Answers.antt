@@ -1,4 +1,3 @@
-use Rattle.std.proofs.Common.{ℕ, ◌<◌}
 use Rattle.aes_core.proofs.LawLemmas.{undone}
 use Rattle.aes_core.proofs.laws.decryption_undoes_encryption.Goals as goal
 

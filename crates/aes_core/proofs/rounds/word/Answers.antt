@@ -1,4 +1,4 @@
-use Rattle.std.proofs.Common.{rules, arith, ◌∷◌, []}
+use Rattle.std.proofs.Common.{rules, ◌∷◌, []}
 use Rattle.std.proofs.lemmas.Nat.{be_bytes_4}
 use Rattle.aes_core.specs.Words.{word_bytes}
 use Rattle.aes_core.proofs.rounds.word.Goals as goal

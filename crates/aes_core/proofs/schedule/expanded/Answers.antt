@@ -1,6 +1,6 @@
-use Rattle.std.proofs.Common.{◌≡◌, ◌-◌, ◌+◌, ◌*◌, ◌/◌, ◌^◌, ◌<◌, ◌≤◌, ◌%◌, ℕ, List, IsTrue, length, get_or, refl, sym, ap, ◌∙◌, subst, arith, rules}
+use Rattle.std.proofs.Common.{◌≡◌, ◌-◌, ◌+◌, ◌*◌, ◌/◌, ◌≤◌, ◌%◌, ℕ, List, length, arith, rules}
 use Rattle.aes_core.specs.Key.{key_bytes}
-use Rattle.aes_core.specs.KeyExpansion.{is_key_length, expanded, key_of_words, IsExpansion}
+use Rattle.aes_core.specs.KeyExpansion.{key_of_words}
 use Rattle.aes_core.proofs.KeyLemmas.{key_of_words-expanded, key_length_bounds}
 use Rattle.aes_core.proofs.schedule.expanded.Goals as goal
 
@@ -16,8 +16,8 @@ invariant_of-result c =
       expansion = record {
         length_is = rw count c.requires;
         words_are = rw (all, same) c.schedule-words.ensures;
-        inverse_are = c.inverse_schedule-inverse_words.ensures
-      }
+        inverse_are = c.inverse_schedule-inverse_words.ensures;
+      };
     }
 
 pub returns : goal.returns

@@ -1,4 +1,4 @@
-use Rattle.std.proofs.Common.{◌≡◌, ◌<◌, ◌∙◌, refl, length, length-set, arith}
+use Rattle.std.proofs.Common.{◌≡◌, ◌∙◌, refl, length, length-set, arith}
 use Rattle.aes_core.specs.KeyExpansion.{first_words}
 use Rattle.aes_core.proofs.KeyLemmas.{first_words_next}
 use Rattle.aes_core.proofs.schedule.first_words.Goals as goal

@@ -1,4 +1,4 @@
-use Rattle.std.proofs.Common.{refl, ◌∙◌, arith}
+use Rattle.std.proofs.Common.{◌∙◌}
 use Rattle.aes_core.proofs.KeyLemmas.{key_step_first, key_step_second, key_step_short, key_step_other}
 use Rattle.aes_core.proofs.schedule.key_step.Goals as goal
 use Rattle.aes_core.proofs.schedule.key_step.Goals.{else-nk-gt6-via-then-nk-gt6+else-i-nk-eq4, else-nk-gt6-via-else-nk-gt6}

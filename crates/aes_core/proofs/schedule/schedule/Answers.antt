@@ -1,4 +1,4 @@
-use Rattle.std.proofs.Common.{◌≡◌, ◌<◌, ◌-◌, ◌+◌, ◌*◌, ◌/◌, ℕ, refl, ap, ◌∙◌, length, length-set, rules, arith}
+use Rattle.std.proofs.Common.{◌≡◌, ◌-◌, ◌+◌, ◌*◌, ◌/◌, ℕ, refl, ap, ◌∙◌, length, length-set, arith}
 use Rattle.aes_core.specs.KeyExpansion.{key_words, expanded}
 use Rattle.aes_core.proofs.KeyLemmas.{key_words_next, key_length_bounds}
 use Rattle.aes_core.proofs.schedule.schedule.Goals as goal
@@ -14,7 +14,7 @@ loop-i-preserved c =
     let long : length c.loop-i.words ≡ 60 = c.loop-i.invariant.0 in (
       length-set _ _ _ ∙ long,
       key_words_next _ c.args.key.now c.loop-i.words c.loop-i.i _ c.key_step-step.result (omega (arith, key_length_bounds (length c.args.key.now) c.requires)) c.loop-i.auto.i
-      (omega (arith, key_length_bounds (length c.args.key.now) c.requires)) c.loop-i.invariant.1 c.key_step-step.ensures refl,
+          (omega (arith, key_length_bounds (length c.args.key.now) c.requires)) c.loop-i.invariant.1 c.key_step-step.ensures refl,
     )
 
 pub returns : goal.returns
