@@ -264,6 +264,16 @@ one_round_back : (w b : List ℕ) (m : ℕ) → length (mix_columns (shift_rows 
 unfolding cipher_rounds
 one_round_back w b m long = added_twice (mix_columns (shift_rows (sub_bytes (cipher_rounds w b m)))) (round_key w (suc m)) long
 
+-- a block that was encrypted
+pub IsState-cipher : (key b : List ℕ) → IsState b → IsState (cipher key b)
+unfolding cipher cipher_from
+IsState-cipher key b h =
+    let w : List ℕ = expanded key in
+    let r : ℕ = round_count key in
+    let s : List ℕ = shift_rows (sub_bytes (cipher_rounds w b (r - 1))) in
+    IsState-add_round_key s (round_key w r)
+    (bytes_of_state s (IsState-shift_rows _ (IsState-sub_bytes _ (IsState-cipher_rounds w b (r - 1) h)))) (round_key_bytes w r)
+
 -- ---- the inverse rounds go back through the rounds
 rounds_back : (w b : List ℕ) (r n : ℕ) → n < r → IsState b
     → inv_cipher_rounds w r (cipher_from w r b) n ≡ shift_rows (sub_bytes (cipher_rounds w b (r - 1 - n)))

@@ -42,7 +42,7 @@ mode_text_is Cbc Decrypt key iv m h =
 mode_text_is Ctr way key iv m h = absurd (h refl)
 
 -- ---- more blocks
-block_at-append : (m x : List ℕ) (n : ℕ) → 16 * n + 16 ≤ length m → block_at (m ++ x) n ≡ block_at m n
+pub block_at-append : (m x : List ℕ) (n : ℕ) → 16 * n + 16 ≤ length m → block_at (m ++ x) n ≡ block_at m n
 block_at-append m x n h =
     ap (take 16) (drop-append-le (16 * n) m x (omega arith)) ∙ take-append-le 16 (drop (16 * n) m) x (omega (arith, length-drop (16 * n) m))
 

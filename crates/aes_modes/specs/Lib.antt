@@ -1,3 +1,4 @@
-pub mod Modes
 pub mod Conversion
+pub mod Laws
+pub mod Modes
 pub mod Stream

@@ -4,10 +4,12 @@
 mod blocks;
 mod by_block;
 mod by_byte;
+mod laws;
 mod modes;
 mod operations;
 mod stream;
 
+pub use laws::decryption_undoes_encryption;
 pub use modes::{Mode, ModeAnswer, Way};
 pub use operations::start;
 pub use stream::Stream;
