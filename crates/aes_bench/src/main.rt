@@ -4,7 +4,8 @@
 // second word the zeros are hashed as they are: the two times differ by that of the cipher.
 #![tactic(auto)]
 
-use aes_core::{Key, encrypt_block, expand};
+use aes_core::expand;
+use aes_modes::{Mode, Stream, Way, start};
 use anyhow::{Context, Result};
 use sha2::{Digest, Sha256};
 use std::alloc::Global;
@@ -14,34 +15,20 @@ const KEY: [u8; 16] = [
     0x2b, 0x7e, 0x15, 0x16, 0x28, 0xae, 0xd2, 0xa6, 0xab, 0xf7, 0x15, 0x88, 0x09, 0xcf, 0x4f, 0x3c,
 ];
 
+// How many bytes go through the cipher at a time: 64 pieces make a MiB.
 const PIECE: usize = 16384;
 
-fn encrypt(key: &Key, counter: u128, piece: &mut [u8]) {
-    let mut counter = counter;
-    for i in 0..piece.len() / 16 {
-        let mut block = counter.to_be_bytes();
-        encrypt_block(key, &mut block);
-        let at = 16 * i;
-        for j in 0..16 {
-            piece[at + j] ^= block[j];
-        }
-        counter = counter.wrapping_add(1);
-    }
-}
-
-/// The SHA-256 of N MiB of zeros, encrypted where there is a key.
-fn digest(alloc: Global, key: Option<Key>, count: u32) -> Result<[u8; 32]> {
-    let mut piece = vec![in alloc; 0u8; PIECE]?;
-    let mut counter = 0u128;
+// The SHA-256 of N MiB of zeros, through the stream where there is one.
+fn digest(alloc: Global, mut stream: Option<Stream>, count: u32) -> Result<[u8; 32]> {
+    let zeros = vec![in alloc; 0u8; PIECE]?;
+    let mut text = vec![in alloc; 0u8; PIECE]?;
     let mut hash = Sha256::new();
     for _ in 0..count {
         for _ in 0..64 {
-            piece.fill(0);
-            if let Some(key) = &key {
-                encrypt(key, counter, &mut piece);
-                counter = counter.wrapping_add(1024);
+            if let Some(stream) = &mut stream {
+                stream.update(&zeros, &mut text)?;
             }
-            hash.update(piece.as_slice());
+            hash.update(text.as_slice());
         }
     }
     Ok(hash.finalize())
@@ -55,11 +42,11 @@ fn main(rt: HostRuntime) -> Result<()> {
         .as_str()
         .parse::<u32>()
         .context("reading the number of MiB")?;
-    let key = match words.next() {
-        None => Some(expand(&KEY)?),
+    let stream = match words.next() {
+        None => Some(start(expand(&KEY)?, Mode::Ctr, Way::Encrypt, [0; 16])),
         Some(_) => None,
     };
-    let digest = digest(rt.alloc(), key, count)?;
+    let digest = digest(rt.alloc(), stream, count)?;
     println!(rt; "{}", hex::encode(rt.alloc(), &digest)?)?;
     Ok(())
 }

@@ -1,9 +1,8 @@
 -- Blocks of a list, and the text of the first blocks.
-use Rattle.std.proofs.Common.{◌≡◌, ℕ, zero, suc, ◌+◌, ◌-◌, ◌*◌, ◌/◌, ◌%◌, ◌<◌, ◌≤◌, List, [], ◌∷◌, ◌++◌, bit_xor, length, take, drop, slice_index, refl, sym, ap, ◌∙◌, arith, add-one, add-zero, append_assoc, append-nil}
-use Rattle.std.proofs.lemmas.List.{take-append-le, drop-append-le, drop-drop, take_all, drop_all, drop_at, length-take-le, length-drop, take-take}
+use Rattle.std.proofs.Common.{◌≡◌, ℕ, zero, suc, ◌+◌, ◌-◌, ◌*◌, ◌<◌, ◌≤◌, List, [], ◌∷◌, ◌++◌, bit_xor, length, take, drop, slice_index, refl, sym, ap, ◌∙◌, arith, add-one, append-nil}
+use Rattle.std.proofs.lemmas.List.{drop-drop, drop_all, drop_at, length-take-le, length-drop}
 use Rattle.std.proofs.lemmas.Slice.{take-put_mid, drop-put_mid}
 use borrow.Rule.Slice.PartMut.{put_mid, post_of}
-use Rattle.std.specs.List.{range_with_len}
 use Rattle.aes_core.specs.Transformations.{state_of}
 use Rattle.aes_core.proofs.RoundLemmas.{block_written}
 use Rattle.aes_modes.specs.Modes.{block_at, xor_bytes}

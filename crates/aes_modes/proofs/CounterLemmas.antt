@@ -1,13 +1,12 @@
 -- Counter mode by blocks and parts of blocks.
-use Rattle.std.proofs.Common.{◌≡◌, ℕ, zero, suc, ◌+◌, ◌-◌, ◌*◌, ◌/◌, ◌%◌, ◌^◌, ◌<◌, ◌≤◌, List, [], ◌∷◌, ◌++◌, bit_xor, length, take, drop, slice_index, refl, sym, ap, ◌∙◌, arith, add-one, add-zero}
+use Rattle.std.proofs.Common.{◌≡◌, ℕ, zero, suc, ◌+◌, ◌-◌, ◌*◌, ◌/◌, ◌%◌, ◌^◌, ◌<◌, ◌≤◌, List, [], ◌∷◌, ◌++◌, bit_xor, length, take, drop, slice_index, refl, sym, ap, ◌∙◌, arith}
 use Rattle.std.proofs.Math.Seq.{take-add}
-use Rattle.std.proofs.lemmas.List.{take-append-le, drop-append-le, drop-drop, drop_more, length-append, length-take, length-drop, length-take-le, drop_at, take_at, take-append-drop}
+use Rattle.std.proofs.lemmas.List.{drop-drop, drop_more, length-append, length-take, length-drop, length-take-le, drop_at, take_at}
 use Rattle.std.specs.Int.{w128, to_be_bytes}
 use Rattle.std.proofs.lemmas.Slice.{drop-put_mid}
 use borrow.Rule.Slice.PartMut.{put_mid}
 use Rattle.aes_core.specs.Cipher.{cipher, cipher_from, inv_cipher, inv_cipher_from}
 use Rattle.aes_core.specs.Transformations.{add_round_key}
-use Rattle.aes_modes.proofs.BlockLemmas.{take-append}
 use Rattle.aes_modes.specs.Modes.{xor_bytes, number_of, counter_block, ctr_from}
 
 pub length-cipher : (key b : List ℕ) → length (cipher key b) ≡ 16
@@ -52,7 +51,7 @@ ctr_from-append key iv i [] ys = ap (λ (n : ℕ). ctr_from key iv n ys) (let e 
 ctr_from-append key iv i (x ∷ xs) ys =
     ap (λ (z : List ℕ). bit_xor x (slice_index (cipher key (counter_block (number_of iv + i / 16))) (i % 16)) ∷ z)
     (ctr_from-append key iv (suc i) xs ys
-      ∙ ap (λ (n : ℕ). ctr_from key iv (suc i) xs ++ ctr_from key iv n ys) (let e : suc i + length xs ≡ i + suc (length xs) = omega arith in e))
+    ∙ ap (λ (n : ℕ). ctr_from key iv (suc i) xs ++ ctr_from key iv n ys) (let e : suc i + length xs ≡ i + suc (length xs) = omega arith in e))
 
 -- a counter that wrapped
 pub counter_block-mod : (n : ℕ) → counter_block (n % 2 ^ 128) ≡ counter_block n
@@ -87,7 +86,7 @@ ctr_more key iv input piece out text p at end j skip order within ep place fits 
     let whole : take at input ++ piece ≡ take end input =
     rw ep (sym (take-add at (end - at) input) ∙ ap (λ (n : ℕ). take n input) (let e : at + (end - at) ≡ end = omega arith in e)) in
     rw (eo, et) (sym (ap (ctr_from key iv p) (sym whole) ∙ ctr_from-append key iv p (take at input) piece
-        ∙ ap (λ (z : List ℕ). ctr_from key iv p (take at input) ++ z) (ctr_within key iv j skip (p + length (take at input)) piece (omega arith) (omega arith))))
+    ∙ ap (λ (z : List ℕ). ctr_from key iv p (take at input) ++ z) (ctr_within key iv j skip (p + length (take at input)) piece (omega arith) (omega arith))))
 
 -- the counter of block j + i
 pub counter_block_at : (c s n j i : ℕ) → c ≡ (s + i) % 2 ^ 128 → s ≡ (n + j) % 2 ^ 128 → counter_block c ≡ counter_block (n + (j + i))
@@ -100,5 +99,5 @@ pub rest_more : (out before piece : List ℕ) (at k end : ℕ) → at + k ≡ en
 rest_more out before piece at k end e width room same =
     drop-put_mid at k out piece end (omega arith) room width
     ∙ ap (λ (n : ℕ). drop n out) (sym e) ∙ sym (swapped out) ∙ ap (drop k) same ∙ swapped before ∙ ap (λ (n : ℕ). drop n before) e where
-  swapped : (xs : List ℕ) → drop k (drop at xs) ≡ drop (at + k) xs
-  swapped xs = drop-drop k at xs
+      swapped : (xs : List ℕ) → drop k (drop at xs) ≡ drop (at + k) xs
+      swapped xs = drop-drop k at xs

@@ -1,5 +1,5 @@
 -- Decryption undoes encryption.
-use Rattle.std.proofs.Common.{◌≡◌, inl, inr, ℕ, zero, suc, ◌+◌, ◌-◌, ◌*◌, ◌/◌, ◌%◌, ◌<◌, ◌≤◌, Bool, true, false, not, eqb, List, [], ◌∷◌, ◌++◌, bit_xor, length, take, drop, get_or, All, refl, sym, ap, ◌∙◌, subst, arith}
+use Rattle.std.proofs.Common.{◌≡◌, inl, inr, ℕ, zero, suc, ◌+◌, ◌*◌, ◌/◌, ◌%◌, ◌<◌, ◌≤◌, Bool, true, false, not, eqb, List, [], ◌∷◌, bit_xor, length, take, drop, get_or, All, refl, sym, ap, ◌∙◌, arith}
 use Rattle.std.proofs.Math.Seq.{take-add}
 use Rattle.std.proofs.lemmas.Bool.{cases_lt, eqb-true}
 use Rattle.std.proofs.lemmas.List.{drop_at, take_all, get_or_past, get_or-take, get_or-drop, length-append, length-drop, length-take-le}
@@ -14,7 +14,6 @@ use Rattle.aes_modes.specs.Conversion.{ends_within}
 use Rattle.aes_modes.specs.Modes.{block_at, xor_bytes, joined, cbc_block, block_before, number_of, counter_block, ctr_from, mode_text}
 use Rattle.aes_modes.specs.declared.modes.Mode.{Mode}
 use Rattle.aes_modes.specs.declared.modes.Mode.TheVariants.{Ecb, Cbc, Ctr}
-use Rattle.aes_modes.specs.declared.modes.Way.{Way}
 use Rattle.aes_modes.specs.declared.modes.Way.TheVariants.{Encrypt, Decrypt}
 
 -- ---- blocks that are joined
@@ -84,7 +83,7 @@ block_state m n h fits = record {
   bytes = λ i. elim (cases_lt i 16) [
     | inl lt ↦ rw (get_or-take 16 (drop (16 * n) m) i 0 lt, get_or-drop (16 * n) m i 0) (h (16 * n + i))
     | inr ge ↦ rw (get_or_past (block_at m n) i 0 (omega (arith, length-take-le 16 (drop (16 * n) m) (omega (arith, length-drop (16 * n) m))))) (omega arith)
-  ]
+  ];
 }
 
 xor_state : (a b : List ℕ) → IsState a → IsState b → IsState (xor_bytes a b)
@@ -94,11 +93,11 @@ xor_state a b ha hb = record { long = length-xor_bytes a b (omega (arith, ha.lon
 whole_blocks : (n : ℕ) → not (eqb (n % 16) 0) ≡ false → 16 * (n / 16) ≡ n
 whole_blocks n h =
     let e : n % 16 ≡ 0 = eqb-true (n % 16) 0 (not_false (eqb (n % 16) 0) h) in omega arith where
-  not_false : (b : Bool) → not b ≡ false → b ≡ true
-  not_false true e = refl
-  not_false false e = absurd (differ e) where
-    differ : true ≡ false → ⊥
-    differ e = cc
+      not_false : (b : Bool) → not b ≡ false → b ≡ true
+      not_false true e = refl
+      not_false false e = absurd (differ e) where
+        differ : true ≡ false → ⊥
+        differ e = cc
 
 -- ---- the laws, mode by mode
 ecb_undone : (key m : List ℕ) → ((i : ℕ) → get_or m i 0 < 256) → 16 * (length m / 16) ≡ length m
@@ -107,7 +106,7 @@ ecb_undone key m bytes e =
     let text : List ℕ = joined (λ k. cipher key (block_at m k)) (length m / 16) in
     joined-same (λ n. inv_cipher key (block_at text n)) (block_at m) (length m / 16)
     (λ n h. ap (inv_cipher key) (block_at-joined (λ k. cipher key (block_at m k)) (λ k. length-cipher key (block_at m k)) (length m / 16) n h)
-      ∙ inv_cipher-cipher key (block_at m n) (block_state m n bytes (omega arith)))
+    ∙ inv_cipher-cipher key (block_at m n) (block_state m n bytes (omega arith)))
     ∙ joined-block_at m (length m / 16) ∙ take_all (16 * (length m / 16)) m (omega arith)
 
 -- the block that CBC adds to block n
@@ -143,13 +142,13 @@ cbc_undone key iv m hv bytes e =
     let text : List ℕ = joined (cbc_block key iv m) k in
     joined-same (λ n. xor_bytes (inv_cipher key (block_at text n)) (block_before iv text n)) (block_at m) k
     (λ n h.
-        let before : IsState (added key iv m n) = cbc_state key iv m hv bytes n (omega arith) in
-        let block : IsState (block_at m n) = block_state m n bytes (omega arith) in
-        let sum : List ℕ = xor_bytes (added key iv m n) (block_at m n) in
-        let back : inv_cipher key (block_at text n) ≡ sum =
-        ap (inv_cipher key) (block_at-joined (cbc_block key iv m) (length-cbc_block key iv m) k n h ∙ cbc_block_from key iv m n)
-        ∙ inv_cipher-cipher key sum (xor_state (added key iv m n) (block_at m n) before block) in
-        rw (back, before_is key iv m k n h) (xor_bytes_twice (added key iv m n) (block_at m n) (omega (arith, before.long, block.long))))
+    let before : IsState (added key iv m n) = cbc_state key iv m hv bytes n (omega arith) in
+    let block : IsState (block_at m n) = block_state m n bytes (omega arith) in
+    let sum : List ℕ = xor_bytes (added key iv m n) (block_at m n) in
+    let back : inv_cipher key (block_at text n) ≡ sum =
+    ap (inv_cipher key) (block_at-joined (cbc_block key iv m) (length-cbc_block key iv m) k n h ∙ cbc_block_from key iv m n)
+    ∙ inv_cipher-cipher key sum (xor_state (added key iv m n) (block_at m n) before block) in
+    rw (back, before_is key iv m k n h) (xor_bytes_twice (added key iv m n) (block_at m n) (omega (arith, before.long, block.long))))
     ∙ joined-block_at m k ∙ take_all (16 * k) m (omega arith)
 
 ctr_undone : (key iv : List ℕ) (i : ℕ) (m : List ℕ) → ctr_from key iv i (ctr_from key iv i m) ≡ m

@@ -1,10 +1,10 @@
 -- A message that grows: its text, and what a stream keeps of it.
-use Rattle.std.proofs.Common.{◌≡◌, ◌≢◌, ℕ, zero, suc, ◌+◌, ◌-◌, ◌*◌, ◌/◌, ◌%◌, ◌^◌, ◌<◌, ◌≤◌, List, [], ◌∷◌, ◌++◌, length, take, drop, refl, sym, ap, ◌∙◌, arith, add-one, add-zero, append_assoc, append-nil, zero-add}
-use Rattle.std.proofs.lemmas.List.{take-append-le, drop-append-le, drop-drop, length-append, length-drop, length-take-le}
+use Rattle.std.proofs.Common.{◌≡◌, ◌≢◌, ℕ, zero, suc, ◌+◌, ◌*◌, ◌/◌, ◌%◌, ◌^◌, ◌<◌, ◌≤◌, List, [], ◌++◌, length, take, drop, refl, sym, ap, ◌∙◌, arith, append_assoc, append-nil, zero-add}
+use Rattle.std.proofs.lemmas.List.{take-append-le, drop-append-le, drop-drop, length-append, length-drop}
 use Rattle.aes_core.specs.Cipher.{cipher, inv_cipher}
 use Rattle.aes_core.specs.Key.{key_bytes}
 use Rattle.aes_modes.proofs.CounterLemmas.{ctr_from-append}
-use Rattle.aes_modes.specs.Conversion.{Conversion, text_of, extended, begun, restarted, needed_by, needed_of}
+use Rattle.aes_modes.specs.Conversion.{Conversion, text_of, extended, begun}
 use Rattle.aes_modes.specs.Modes.{block_at, xor_bytes, joined, cbc_block, block_before, number_of, ctr_from, mode_text}
 use Rattle.aes_modes.specs.Stream.{step_text, step_vector, vector_after, blocks_text, Keeps, Represents}
 use Rattle.aes_modes.specs.declared.modes.Mode.{Mode}
@@ -79,7 +79,7 @@ blocks_text-add mode way key v d a (suc n) =
     let e : a + suc n ≡ suc (a + n) = omega arith in
     ap (blocks_text mode way key v d) e
     ∙ rw (blocks_text-add mode way key v d a n, vector_after-add mode way key v d a n, block_at-drop d a n) (append_assoc (blocks_text mode way key v d a) (blocks_text mode way key (vector_after mode way key v d a) (drop (16 * a) d) n)
-      (step_text mode way key (vector_after mode way key (vector_after mode way key v d a) (drop (16 * a) d) n) (block_at (drop (16 * a) d) n)))
+    (step_text mode way key (vector_after mode way key (vector_after mode way key v d a) (drop (16 * a) d) n) (block_at (drop (16 * a) d) n)))
 
 -- ---- what a stream keeps
 keeps_blocks : (mode : Mode) (s : Stream) (c : Conversion) → mode ≢ Ctr → Keeps mode s c
@@ -132,7 +132,7 @@ blocks_text_more s c x out hs r e =
     ∙ ap (blocks_text c.mode c.way c.key c.iv (m ++ x)) (block_count s c x r)
     ∙ blocks_text-add c.mode c.way c.key c.iv (m ++ x) q b
     ∙ rw (blocks_text-append c.mode c.way c.key c.iv m x q (omega arith), vector_so_far s c x h r, ← tail_of s c x h r, ← mode_text_is c.mode c.way c.key c.iv m h)
-      (ap (λ (z : List ℕ). text_of c ++ z) (rw (← r.mode_is, ← r.way_is, ← r.key_is) (sym e)))
+    (ap (λ (z : List ℕ). text_of c ++ z) (rw (← r.mode_is, ← r.way_is, ← r.key_is) (sym e)))
 
 -- the stream after them
 pub represents_blocks : (s t : Stream) (c : Conversion) (x : List ℕ) → s.mode ≢ Ctr → Represents s c
@@ -156,7 +156,7 @@ represents_blocks s t c x hs r ek em ew ei ec eh ev =
       way_is = ew ∙ r.way_is;
       iv_is = ei ∙ r.iv_is;
       count_is = ec ∙ omega (arith, length-append m x, r.count_is);
-      keeps = keeps_from_blocks c.mode t (extended c x) h (held, vector)
+      keeps = keeps_from_blocks c.mode t (extended c x) h (held, vector);
     }
 
 -- ---- counter mode
@@ -191,7 +191,7 @@ represents_bytes s t c x es r ek em ew ei ec et =
       way_is = ew ∙ r.way_is;
       iv_is = ei ∙ r.iv_is;
       count_is = ec ∙ omega (arith, length-append m x, r.count_is);
-      keeps = keeps_from_bytes c.mode t (extended c x) mode after
+      keeps = keeps_from_bytes c.mode t (extended c x) mode after;
     }
 
 -- ---- the start
@@ -211,5 +211,5 @@ represents_begun s key mode way iv ek em ew ei ec ev en fits =
       way_is = ew;
       iv_is = ei;
       count_is = ec;
-      keeps = keeps_begun mode s (begun key mode way iv) refl ec ev en fits
+      keeps = keeps_begun mode s (begun key mode way iv) refl ec ev en fits;
     }

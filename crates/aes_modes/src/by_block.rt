@@ -1,10 +1,9 @@
 // The modes that work on whole blocks: ECB and CBC.
 
-use aes_core::{decrypt_block, encrypt_block};
-
 use crate::blocks::{block_from, xor};
 use crate::modes::{Mode, Way};
 use crate::stream::Stream;
+use aes_core::{decrypt_block, encrypt_block};
 
 impl Stream {
     ghost use Rattle.std.specs.Prelude.{◌≡◌, ◌≢◌, ◌+◌, ◌-◌, ◌*◌, ◌/◌, ◌<◌, ◌≤◌, ◌++◌, length, take, drop};
@@ -17,12 +16,8 @@ impl Stream {
     #[inline(always)]
     #[tactic(auto, unfolding(crate::specs::Stream::step_text, crate::specs::Stream::step_vector))]
     fn step(&self, vector: &mut [u8; 16], block: &mut [u8; 16])
-        ensures text {
-            block.new ≡ step_text self.now.mode self.now.way (key_bytes self.now.key) vector.old block.old
-        }
-        ensures vector {
-            vector.new ≡ step_vector self.now.mode self.now.way (key_bytes self.now.key) vector.old block.old
-        }
+        ensures text { block.new ≡ step_text self.now.mode self.now.way (key_bytes self.now.key) vector.old block.old }
+        ensures vector { vector.new ≡ step_vector self.now.mode self.now.way (key_bytes self.now.key) vector.old block.old }
     {
         match (self.mode, self.way) {
             (Mode::Ecb, Way::Encrypt) => encrypt_block(&self.key, block),
@@ -65,17 +60,13 @@ impl Stream {
         requires small { length input.now ≤ 524288 }
         requires within { 16 * blocks ≤ self.now.count + length input.now }
         requires room { 16 * blocks ≤ length output.old }
-        ensures text {
-            take (16 * blocks) output.new
+        ensures text { take (16 * blocks) output.new
             ≡ blocks_text self.now.mode self.now.way (key_bytes self.now.key) vector.old
-            (take self.now.count self.now.held ++ input.now) blocks
-        }
+            (take self.now.count self.now.held ++ input.now) blocks }
         ensures rest { drop (16 * blocks) output.new ≡ drop (16 * blocks) output.old }
-        ensures vector {
-            vector.new
+        ensures vector { vector.new
             ≡ vector_after self.now.mode self.now.way (key_bytes self.now.key) vector.old
-            (take self.now.count self.now.held ++ input.now) blocks
-        }
+            (take self.now.count self.now.held ++ input.now) blocks }
     {
         for i in 0..blocks {
             let mut block = self.joined_block(input, i);
@@ -89,10 +80,8 @@ impl Stream {
         requires small { length input.now ≤ 524288 }
         requires within { 16 * blocks ≤ self.now.count + length input.now }
         requires part { self.now.count + length input.now < 16 * blocks + 16 }
-        ensures {
-            take (self.now.count + length input.now - 16 * blocks) result
-            ≡ drop (16 * blocks) (take self.now.count self.now.held ++ input.now)
-        }
+        ensures { take (self.now.count + length input.now - 16 * blocks) result
+            ≡ drop (16 * blocks) (take self.now.count self.now.held ++ input.now) }
     {
         let mut held = self.held;
         if blocks == 0 {
@@ -109,16 +98,12 @@ impl Stream {
         requires by_blocks { self.old.mode ≢ Mode.Ctr }
         requires small { length input.now ≤ 524288 }
         requires room { (self.old.count + length input.now) / 16 * 16 ≤ length output.old }
-        ensures text {
-            (c : Conversion) → Represents self.old c
+        ensures text { (c : Conversion) → Represents self.old c
             → text_of (extended c input.now)
-            ≡ text_of c ++ take ((self.old.count + length input.now) / 16 * 16) output.new
-        }
+            ≡ text_of c ++ take ((self.old.count + length input.now) / 16 * 16) output.new }
         ensures taken { (c : Conversion) → Represents self.old c → Represents self.new (extended c input.now) }
-        ensures rest {
-            drop ((self.old.count + length input.now) / 16 * 16) output.new
-            ≡ drop ((self.old.count + length input.now) / 16 * 16) output.old
-        }
+        ensures rest { drop ((self.old.count + length input.now) / 16 * 16) output.new
+            ≡ drop ((self.old.count + length input.now) / 16 * 16) output.old }
     {
         let total = self.count + input.len();
         let mut vector = self.vector;

@@ -1,9 +1,8 @@
 // Counter mode, which works on any number of bytes.
 
-use aes_core::encrypt_block;
-
 use crate::blocks::{block_from, xor};
 use crate::stream::Stream;
+use aes_core::encrypt_block;
 
 impl Stream {
     ghost use Rattle.std.specs.Prelude.{◌≡◌, ◌+◌, ◌-◌, ◌*◌, ◌/◌, ◌%◌, ◌^◌, ◌<◌, ◌≤◌, ◌++◌, ℕ, length, take, drop};
@@ -29,9 +28,7 @@ impl Stream {
     fn write_whole(&self, counter: u128, input: &[u8], output: &mut [u8])
         requires whole { length input.now ≡ 16 }
         requires room { length output.old ≡ 16 }
-        ensures {
-            output.new ≡ xor_bytes input.now (cipher (key_bytes self.now.key) (counter_block counter))
-        }
+        ensures { output.new ≡ xor_bytes input.now (cipher (key_bytes self.now.key) (counter_block counter)) }
     {
         let text = xor(block_from(input, 0), self.key_block(counter));
         output.copy_from_slice(&text);
@@ -41,10 +38,8 @@ impl Stream {
     fn write_part(&self, counter: u128, skip: usize, input: &[u8], output: &mut [u8])
         requires within { skip + length input.now ≤ 16 }
         requires room { length output.old ≡ length input.now }
-        ensures {
-            output.new
-            ≡ xor_bytes input.now (drop skip (cipher (key_bytes self.now.key) (counter_block counter)))
-        }
+        ensures { output.new
+            ≡ xor_bytes input.now (drop skip (cipher (key_bytes self.now.key) (counter_block counter))) }
     {
         let end = skip + input.len();
         let mut block = [0; 16];
@@ -58,10 +53,8 @@ impl Stream {
     fn write_piece(&self, counter: u128, skip: usize, input: &[u8], output: &mut [u8])
         requires within { skip + length input.now ≤ 16 }
         requires room { length output.old ≡ length input.now }
-        ensures {
-            output.new
-            ≡ xor_bytes input.now (drop skip (cipher (key_bytes self.now.key) (counter_block counter)))
-        }
+        ensures { output.new
+            ≡ xor_bytes input.now (drop skip (cipher (key_bytes self.now.key) (counter_block counter))) }
     {
         if input.len() == 16 {
             self.write_whole(counter, input, output);
@@ -74,11 +67,9 @@ impl Stream {
     fn write_bytes(&self, input: &[u8], output: &mut [u8])
         requires small { length input.now ≤ 524288 }
         requires room { length input.now ≤ length output.old }
-        ensures text {
-            (j : ℕ) → self.now.counter ≡ (number_of self.now.iv + j) % 2 ^ 128
+        ensures text { (j : ℕ) → self.now.counter ≡ (number_of self.now.iv + j) % 2 ^ 128
             → take (length input.now) output.new
-            ≡ ctr_from (key_bytes self.now.key) self.now.iv (16 * j + self.now.count) input.now
-        }
+            ≡ ctr_from (key_bytes self.now.key) self.now.iv (16 * j + self.now.count) input.now }
         ensures rest { drop (length input.now) output.new ≡ drop (length input.now) output.old }
     {
         let count = self.count;
@@ -99,10 +90,8 @@ impl Stream {
         requires by_bytes { self.old.mode ≡ Mode.Ctr }
         requires small { length input.now ≤ 524288 }
         requires room { length input.now ≤ length output.old }
-        ensures text {
-            (c : Conversion) → Represents self.old c
-            → text_of (extended c input.now) ≡ text_of c ++ take (length input.now) output.new
-        }
+        ensures text { (c : Conversion) → Represents self.old c
+            → text_of (extended c input.now) ≡ text_of c ++ take (length input.now) output.new }
         ensures taken { (c : Conversion) → Represents self.old c → Represents self.new (extended c input.now) }
         ensures rest { drop (length input.now) output.new ≡ drop (length input.now) output.old }
     {

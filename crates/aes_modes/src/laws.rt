@@ -5,5 +5,4 @@ ghost use Rattle.aes_modes.specs.Laws.{DecryptionUndoesEncryption};
 /// Decryption undoes encryption, over a whole message.
 pub fn decryption_undoes_encryption()
     ensures { DecryptionUndoesEncryption }
-{
-}
+{}

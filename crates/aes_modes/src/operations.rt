@@ -4,10 +4,9 @@ ghost use Rattle.aes_core.specs.Key.{key_bytes};
 ghost use Rattle.aes_modes.specs.Conversion.{begun};
 ghost use Rattle.aes_modes.specs.Stream.{Represents};
 
-use aes_core::Key;
-
 use crate::modes::{Mode, ModeAnswer, Way};
 use crate::stream::Stream;
+use aes_core::Key;
 
 /// A stream at the start of a message. ECB ignores the vector.
 pub fn start(key: Key, mode: Mode, way: Way, iv: [u8; 16]) -> Stream
@@ -46,17 +45,11 @@ impl Stream {
     /// `ShortBuffer` where `output` has less room than is needed, which is told; nothing changes.
     pub fn update(&mut self, input: &[u8], output: &mut [u8]) -> Result<usize, ModeAnswer>
         requires { length input.now ≤ 524288 }
-        ensures answer {
-            (c : Conversion) → Represents self.old c
-            → result ≡ update_answer c (length input.now) (length output.old)
-        }
-        ensures text {
-            (c : Conversion) → Represents self.old c
-            → IfOk result (λ n. text_of (extended c input.now) ≡ text_of c ++ take n output.new)
-        }
-        ensures taken {
-            (c : Conversion) → Represents self.old c → OnOk result (Represents self.new (extended c input.now))
-        }
+        ensures answer { (c : Conversion) → Represents self.old c
+            → result ≡ update_answer c (length input.now) (length output.old) }
+        ensures text { (c : Conversion) → Represents self.old c
+            → IfOk result (λ n. text_of (extended c input.now) ≡ text_of c ++ take n output.new) }
+        ensures taken { (c : Conversion) → Represents self.old c → OnOk result (Represents self.new (extended c input.now)) }
         ensures rest { IfOk result (λ n. drop n output.new ≡ drop n output.old) }
         ensures unchanged { OnErr result ((self.new ≡ self.old) × (output.new ≡ output.old)) }
     {
@@ -77,17 +70,11 @@ impl Stream {
     /// `ShortBuffer` as in `update`. Nothing changes.
     pub fn finish(&mut self, input: &[u8], output: &mut [u8]) -> Result<usize, ModeAnswer>
         requires { length input.now ≤ 524288 }
-        ensures answer {
-            (c : Conversion) → Represents self.old c
-            → result ≡ finish_answer c (length input.now) (length output.old)
-        }
-        ensures text {
-            (c : Conversion) → Represents self.old c
-            → IfOk result (λ n. text_of (extended c input.now) ≡ text_of c ++ take n output.new)
-        }
-        ensures restarted {
-            (c : Conversion) → Represents self.old c → OnOk result (Represents self.new (restarted c))
-        }
+        ensures answer { (c : Conversion) → Represents self.old c
+            → result ≡ finish_answer c (length input.now) (length output.old) }
+        ensures text { (c : Conversion) → Represents self.old c
+            → IfOk result (λ n. text_of (extended c input.now) ≡ text_of c ++ take n output.new) }
+        ensures restarted { (c : Conversion) → Represents self.old c → OnOk result (Represents self.new (restarted c)) }
         ensures rest { IfOk result (λ n. drop n output.new ≡ drop n output.old) }
         ensures unchanged { OnErr result ((self.new ≡ self.old) × (output.new ≡ output.old)) }
     {
@@ -113,16 +100,12 @@ impl Stream {
     fn convert(&mut self, input: &[u8], output: &mut [u8])
         requires small { length input.now ≤ 524288 }
         requires room { needed_by self.old.mode self.old.count (length input.now) ≤ length output.old }
-        ensures text {
-            (c : Conversion) → Represents self.old c
+        ensures text { (c : Conversion) → Represents self.old c
             → text_of (extended c input.now)
-            ≡ text_of c ++ take (needed_by self.old.mode self.old.count (length input.now)) output.new
-        }
+            ≡ text_of c ++ take (needed_by self.old.mode self.old.count (length input.now)) output.new }
         ensures taken { (c : Conversion) → Represents self.old c → Represents self.new (extended c input.now) }
-        ensures rest {
-            drop (needed_by self.old.mode self.old.count (length input.now)) output.new
-            ≡ drop (needed_by self.old.mode self.old.count (length input.now)) output.old
-        }
+        ensures rest { drop (needed_by self.old.mode self.old.count (length input.now)) output.new
+            ≡ drop (needed_by self.old.mode self.old.count (length input.now)) output.old }
     {
         match self.mode {
             Mode::Ctr => self.convert_bytes(input, output),

@@ -2,9 +2,8 @@
 
 ghost use Rattle.std.specs.Prelude.{◌<◌};
 
-use aes_core::Key;
-
 use crate::modes::{Mode, Way};
+use aes_core::Key;
 
 /// A stream that stands for its whole message so far.
 #[derive(Clone, Copy)]

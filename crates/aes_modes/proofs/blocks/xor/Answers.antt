@@ -1,4 +1,4 @@
-use Rattle.std.proofs.Common.{◌≡◌, length, rules, sym, refl, ap, ◌∙◌}
+use Rattle.std.proofs.Common.{rules}
 use Rattle.aes_modes.proofs.BlockLemmas.{xor_written}
 use Rattle.aes_modes.proofs.blocks.xor.Goals as goal
 

@@ -1,4 +1,4 @@
-use Rattle.std.proofs.Common.{refl, arith, rules, ◌<◌, ◌^◌}
+use Rattle.std.proofs.Common.{refl, rules}
 use Rattle.aes_modes.specs.Modes.{number_of}
 use Rattle.aes_modes.proofs.TextLemmas.{represents_begun}
 use Rattle.aes_modes.proofs.operations.start.Goals as goal

@@ -1,5 +1,4 @@
-use Rattle.std.proofs.Common.{◌≡◌, ◌+◌, ◌*◌, ◌/◌, ◌%◌, ◌-◌, ◌∙◌, ℕ, refl, sym, ap, take, length, arith}
-use Rattle.aes_modes.specs.Conversion.{Conversion}
+use Rattle.std.proofs.Common.{◌≡◌, ◌+◌, ◌*◌, ◌/◌, ◌%◌, ◌-◌, ◌∙◌, ℕ, refl, ap, take, length, arith}
 use Rattle.aes_modes.proofs.TextLemmas.{blocks_text_more, represents_blocks}
 use Rattle.aes_modes.proofs.stream.Stream.convert_blocks.Goals as goal
 

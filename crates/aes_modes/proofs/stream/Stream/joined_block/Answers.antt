@@ -1,4 +1,4 @@
-use Rattle.std.proofs.Common.{◌≡◌, ◌<◌, length, rules, arith, ◌∙◌}
+use Rattle.std.proofs.Common.{◌≡◌, length, rules, arith, ◌∙◌}
 use Rattle.aes_modes.proofs.BlockLemmas.{first_block, later_block}
 use Rattle.aes_modes.proofs.stream.Stream.joined_block.Goals as goal
 

@@ -1,4 +1,4 @@
-use Rattle.std.proofs.Common.{◌∙◌, ap, rules, arith, ◌<◌, ◌^◌, List, ℕ}
+use Rattle.std.proofs.Common.{◌∙◌, ap, arith, List, ℕ}
 use Rattle.aes_core.specs.Cipher.{cipher}
 use Rattle.aes_core.specs.Key.{key_bytes}
 use Rattle.aes_modes.proofs.CounterLemmas.{counter_block_below}

@@ -1,9 +1,8 @@
-use Rattle.std.proofs.Common.{◌≡◌, ◌≤◌, ◌<◌, ◌+◌, ◌-◌, ◌*◌, ◌%◌, ◌^◌, ◌∙◌, ℕ, List, refl, sym, ap, min, length, drop, arith}
+use Rattle.std.proofs.Common.{◌≡◌, ◌+◌, ◌-◌, ◌*◌, ◌∙◌, ℕ, refl, min, length, drop, arith}
 use Rattle.std.proofs.lemmas.List.{length-take-le, length-drop}
 use Rattle.std.proofs.lemmas.Slice.{take-put_mid}
-use Rattle.aes_core.specs.Cipher.{cipher}
 use Rattle.aes_core.specs.Key.{key_bytes}
-use Rattle.aes_modes.specs.Modes.{ctr_from, xor_bytes, number_of, counter_block}
+use Rattle.aes_modes.specs.Modes.{ctr_from, number_of}
 use Rattle.aes_modes.proofs.CounterLemmas.{ctr_more, counter_block_at, rest_more}
 use Rattle.aes_modes.proofs.stream.Stream.write_bytes.Goals as goal
 
@@ -28,8 +27,8 @@ loop-i-preserved c =
       λ j e.
           take-put_mid at (end - at) c.loop-i.output c.write_piece.new.output end (omega arith) (omega arith)
           ∙ ctr_more (key_bytes c.args.self.now.key) c.args.self.now.iv c.args.input.now _ _ c.write_piece.new.output (16 * j + count) at end (j + i)
-            (count + at - 16 * i) (omega arith) (omega arith) refl (omega arith) (omega arith) (inv.2 j e)
-            (c.write_piece.ensures
-              ∙ rw (counter_block_at c.loop-i.counter c.args.self.now.counter (number_of c.args.self.now.iv) j i inv.1 e) refl),
+          (count + at - 16 * i) (omega arith) (omega arith) refl (omega arith) (omega arith) (inv.2 j e)
+          (c.write_piece.ensures
+          ∙ rw (counter_block_at c.loop-i.counter c.args.self.now.counter (number_of c.args.self.now.iv) j i inv.1 e) refl),
       rest_more c.loop-i.output c.args.output.now c.write_piece.new.output at (end - at) end (omega arith) width (omega arith) inv.3,
     )

@@ -1,5 +1,4 @@
-use Rattle.std.proofs.Common.{◌∙◌, ◌≡◌, ◌+◌, ◌-◌, ℕ, List, ap, refl, rules, arith, length, take, drop}
-use Rattle.aes_modes.specs.Modes.{xor_bytes}
+use Rattle.std.proofs.Common.{◌∙◌, refl, arith}
 use Rattle.aes_modes.proofs.CounterLemmas.{part_of_sum, length-cipher}
 use Rattle.aes_modes.proofs.stream.Stream.write_part.Goals as goal
 
@@ -7,4 +6,4 @@ pub returns : goal.returns
 returns c =
     c.copy_from_slice-2.ensures.after
     ∙ rw (c.xor-text.ensures, c.key_block.ensures, c.copy_from_slice.ensures.after)
-      (part_of_sum _ c.args.input.now _ c.args.skip _ refl (omega arith) (omega arith) (length-cipher _ _))
+    (part_of_sum _ c.args.input.now _ c.args.skip _ refl (omega arith) (omega arith) (length-cipher _ _))

@@ -1,4 +1,4 @@
-use Rattle.std.proofs.Common.{◌∙◌, ◌≡◌, ℕ, List, ap, sym, drop, arith}
+use Rattle.std.proofs.Common.{◌∙◌, ◌≡◌, ℕ, ap, drop, arith}
 use Rattle.aes_core.specs.Cipher.{cipher}
 use Rattle.aes_core.specs.Key.{key_bytes}
 use Rattle.aes_modes.specs.Modes.{xor_bytes, counter_block}
