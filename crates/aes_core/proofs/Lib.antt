@@ -6,3 +6,4 @@ pub mod RoundLemmas
 pub mod StandardFacts
 pub mod TableEntries
 pub mod LawLemmas
+pub mod WideLemmas

@@ -7,10 +7,7 @@ ghost use Rattle.aes_core.specs.KeyExpansion.{inv_mixed_word};
 ghost use Rattle.aes_core.specs.Transformations.{mix_column, inv_mix_column};
 ghost use Rattle.aes_core.specs.Words.{word_bytes, add_columns};
 
-use crate::tables::{
-    DECRYPT_0, DECRYPT_1, DECRYPT_2, DECRYPT_3, ENCRYPT_0, ENCRYPT_1, ENCRYPT_2, ENCRYPT_3,
-    INVERSE_SUBSTITUTE, SUBSTITUTE,
-};
+use crate::tables::{DECRYPT, ENCRYPT, INVERSE_SUBSTITUTE, SUBSTITUTE};
 
 #[inline(always)]
 pub(crate) fn substitute(x: u8) -> u8
@@ -30,56 +27,56 @@ pub(crate) fn inverse_substitute(x: u8) -> u8
 fn encrypt_0(x: u8) -> u32
     ensures { word_bytes result ≡ mixed_0 (substitute x) }
 {
-    ENCRYPT_0[x as usize]
+    ENCRYPT[x as usize]
 }
 
 #[inline(always)]
 fn encrypt_1(x: u8) -> u32
     ensures { word_bytes result ≡ mixed_1 (substitute x) }
 {
-    ENCRYPT_1[x as usize]
+    ENCRYPT[256 + x as usize]
 }
 
 #[inline(always)]
 fn encrypt_2(x: u8) -> u32
     ensures { word_bytes result ≡ mixed_2 (substitute x) }
 {
-    ENCRYPT_2[x as usize]
+    ENCRYPT[512 + x as usize]
 }
 
 #[inline(always)]
 fn encrypt_3(x: u8) -> u32
     ensures { word_bytes result ≡ mixed_3 (substitute x) }
 {
-    ENCRYPT_3[x as usize]
+    ENCRYPT[768 + x as usize]
 }
 
 #[inline(always)]
 fn decrypt_0(x: u8) -> u32
     ensures { word_bytes result ≡ inv_mixed_0 (inverse_substitute x) }
 {
-    DECRYPT_0[x as usize]
+    DECRYPT[x as usize]
 }
 
 #[inline(always)]
 fn decrypt_1(x: u8) -> u32
     ensures { word_bytes result ≡ inv_mixed_1 (inverse_substitute x) }
 {
-    DECRYPT_1[x as usize]
+    DECRYPT[256 + x as usize]
 }
 
 #[inline(always)]
 fn decrypt_2(x: u8) -> u32
     ensures { word_bytes result ≡ inv_mixed_2 (inverse_substitute x) }
 {
-    DECRYPT_2[x as usize]
+    DECRYPT[512 + x as usize]
 }
 
 #[inline(always)]
 fn decrypt_3(x: u8) -> u32
     ensures { word_bytes result ≡ inv_mixed_3 (inverse_substitute x) }
 {
-    DECRYPT_3[x as usize]
+    DECRYPT[768 + x as usize]
 }
 
 /// A column of an encryption round, from the four bytes that the row shifts bring together.

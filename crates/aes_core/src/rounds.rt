@@ -1,6 +1,6 @@
 // The rounds of the cipher over a block as four words, a word for each column of the state.
 
-ghost use Rattle.std.specs.Prelude.{◌≡◌, ◌<◌, [], ◌∷◌};
+ghost use Rattle.std.specs.Prelude.{◌≡◌, ◌+◌, ◌*◌, ◌^◌, ◌<◌, [], ◌∷◌};
 ghost use Rattle.aes_core.specs.Field.{substitute, inverse_substitute};
 ghost use Rattle.aes_core.specs.KeyExpansion.{round_key};
 ghost use Rattle.aes_core.specs.Transformations.{sub_bytes, shift_rows, mix_columns, add_round_key, inv_sub_bytes, inv_shift_rows, inv_mix_columns};
@@ -42,12 +42,27 @@ fn inverse_substitute_word(a: u8, b: u8, c: u8, d: u8) -> u32
 pub(crate) fn load(block: &[u8; 16]) -> [u32; 4]
     ensures { block_bytes result ≡ block.now }
 {
+    let number = u128::from_be_bytes(*block);
     [
-        word(block[0], block[1], block[2], block[3]),
-        word(block[4], block[5], block[6], block[7]),
-        word(block[8], block[9], block[10], block[11]),
-        word(block[12], block[13], block[14], block[15]),
+        (number >> 96) as u32,
+        (number >> 64 & 0xffff_ffff) as u32,
+        (number >> 32 & 0xffff_ffff) as u32,
+        (number & 0xffff_ffff) as u32,
     ]
+}
+
+#[inline(always)]
+fn pair(high: u32, low: u32) -> u64
+    ensures { result ≡ high * 2 ^ 32 + low }
+{
+    u64::from(high) << 32 | u64::from(low)
+}
+
+#[inline(always)]
+fn pair_of_pairs(high: u64, low: u64) -> u128
+    ensures { result ≡ high * 2 ^ 64 + low }
+{
+    u128::from(high) << 64 | u128::from(low)
 }
 
 /// The block of four words.
@@ -55,14 +70,9 @@ pub(crate) fn load(block: &[u8; 16]) -> [u32; 4]
 pub(crate) fn store(words: [u32; 4]) -> [u8; 16]
     ensures { result ≡ block_bytes words }
 {
-    let a = words[0].to_be_bytes();
-    let b = words[1].to_be_bytes();
-    let c = words[2].to_be_bytes();
-    let d = words[3].to_be_bytes();
-    [
-        a[0], a[1], a[2], a[3], b[0], b[1], b[2], b[3], c[0], c[1], c[2], c[3], d[0], d[1], d[2],
-        d[3],
-    ]
+    let high = pair(words[0], words[1]);
+    let low = pair(words[2], words[3]);
+    pair_of_pairs(high, low).to_be_bytes()
 }
 
 /// The words of the round key of number `round`.
