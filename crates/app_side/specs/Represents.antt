@@ -35,10 +35,3 @@ pub record IsOneInstance {A : Type 0} (host : Host A) : Type 0 where
   pub single : host.properties.single ≡ true
   pub multi : host.properties.multi ≡ true
   pub keep : host.properties.keep ≡ true
-
--- how many calls were made so far, counted from 1, and how many turns
-abbrev pub next_number : {A : Type 0} → AppSide A → ℕ
-next_number side = side.queue.next
-
-abbrev pub turns_made : {A : Type 0} → AppSide A → ℕ
-turns_made side = side.turns

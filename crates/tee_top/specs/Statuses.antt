@@ -15,7 +15,7 @@ number_of WriteFault = 74
 
 abbrev pub status_text : Status → List ℕ
 status_text Done = []
-status_text BadWords = codes "teectl: usage: teectl run\n"
+status_text BadWords = codes "teectl: usage: teectl run [IMAGE] | race | gen N\n"
 status_text (BadLine n) = codes "teectl: line " ++ decimal n ++ codes " is not a script line\n"
 status_text TooLong = codes "teectl: script too long\n"
 status_text NoMemory = codes "teectl: out of memory\n"

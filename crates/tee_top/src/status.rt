@@ -46,14 +46,14 @@ impl Status {
     }
 }
 
-/// What is told of a status, with a line feed; nothing of one that is Done.
-pub fn status_line(alloc: Global, status: &Status) -> Result<Bytes, NoMemory>
+/// What is told of a status, with a line feed; nothing of one that is Done. The names are those of the hosts.
+pub fn status_line(alloc: Global, status: &Status, _names: &[Bytes]) -> Result<Bytes, NoMemory>
     ensures { IfOk result (λ line. line ≡ status_text status.now) }
 {
     let mut line = Line::new(alloc);
     match status {
         Status::Done => {}
-        Status::BadWords => line.text(b"teectl: usage: teectl run\n")?,
+        Status::BadWords => line.text(b"teectl: usage: teectl run [IMAGE] | race | gen N\n")?,
         Status::BadLine(number) => {
             line.text(b"teectl: line ")?;
             line.number(*number)?;
