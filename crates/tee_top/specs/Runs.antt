@@ -1,7 +1,6 @@
 -- What a run of the program is given.
-use Rattle.std.specs.Prelude.{ℕ, ◌≡◌, ◌⊎◌, List, [], ◌∷◌, codes, map, string_bytes}
-use Rattle.std.specs.String.{String}
-use Rattle.std.specs.declared.alloc.Global.{Global}
+use Rattle.std.specs.Prelude.{ℕ, ◌≡◌, ◌⊎◌, List, [], ◌∷◌, codes, length, All, String, string_bytes}
+use Rattle.std.specs.Global.{Global}
 use Rattle.app_api.specs.declared.host.Host.{Host}
 use Rattle.app_side.specs.Represents.{IsOneInstance}
 use Rattle.tee_top.specs.declared.status.Status.{Status}
@@ -9,7 +8,7 @@ use Rattle.tee_top.specs.declared.status.Status.TheVariants.{Done, BadWords, Bad
 
 -- the words of a run: the one word
 abbrev pub AreRunWords : List (String Global) → Type 0
-AreRunWords words = map string_bytes words ≡ codes "run" ∷ []
+AreRunWords words = (length words ≡ 1) × All (λ word. string_bytes word ≡ codes "run") words
 
 -- one host, whose one instance serves all sessions and stays
 abbrev pub IsOneHost : {A : Type 0} → List (Host A) → Type 0

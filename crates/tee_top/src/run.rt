@@ -20,10 +20,7 @@ use tee_base::{ReadAnswer, Sink, Source, limits, read_all};
 fn are_run_words(words: &[String]) -> bool
     ensures { IsTrue result ↔ AreRunWords words.now }
 {
-    match words {
-        [word] => word.as_str() == "run",
-        _ => false,
-    }
+    words.len() == 1 && words.iter().all(|word| word.as_str() == "run")
 }
 
 /// The lines of the script that the source holds.

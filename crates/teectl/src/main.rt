@@ -1,0 +1,104 @@
+//! `teectl`: runs a script of client calls for the sample application.
+#![tactic(auto)]
+
+mod count;
+mod words;
+
+ghost use Rattle.std.specs.Prelude.{IfOk};
+ghost use Rattle.tee_top.specs.Runs.{IsOneHost};
+
+use app_api::{Host, Properties, hosts_fit};
+use count::Count;
+use std::alloc::Global;
+use std::io;
+use std::process::ExitCode;
+use std::string::String;
+use tee_base::{Bytes, NoMemory, StdSink, StdSource};
+use tee_top::{Status, run_tee, status_line};
+use uuid::Uuid;
+
+const HELP: &str = "\
+teectl runs a script of client calls for the trusted applications that it hosts.
+
+usage: teectl run       run the script on standard input, and write the replies to standard output
+       teectl --help    print this text
+       teectl --version print the version
+
+exit statuses: 0 done, 64 faulty command line, 65 a line is no script line, 66 script too long,
+71 out of memory, 73 cannot read, 74 cannot write
+
+docs/SCRIPT.md describes the script language and the printed lines.
+";
+
+const VERSION: &str = "teectl 0.1.0\n";
+
+/// The host `keep`.
+fn sample_hosts(alloc: Global) -> Result<Vec<Host<Count>>, NoMemory>
+    ensures { IfOk result (λ hosts. IsOneHost hosts.items) }
+{
+    let mut hosts = Vec::new(alloc);
+    hosts.push(Host {
+        name: Bytes::from_slice(alloc, b"keep")?,
+        id: Uuid::from_u128(0x0000_0000_0000_4000_8000_0000_0000_0003),
+        properties: Properties {
+            single: true,
+            multi: true,
+            keep: true,
+        },
+        template: Count::new(),
+    })?;
+    Ok(hosts)
+}
+
+/// Runs the words, and says how it ended.
+fn run<R: Input + Print>(rt: &R, alloc: Global, words: &[String]) -> Status {
+    let Ok(hosts) = sample_hosts(alloc) else {
+        return Status::NoMemory;
+    };
+    if !hosts_fit(hosts.as_slice()) {
+        return Status::NoMemory;
+    }
+    let mut source = StdSource::new(rt.reader());
+    let mut sink = StdSink::new(io::writer(rt));
+    run_tee(alloc, words, &mut source, &mut sink, hosts, [0; 32])
+}
+
+/// Tells standard error of a status that isn't Done. Where there is no memory for it, or it can't be written, the exit
+/// status alone tells.
+fn tell<R: Eprint>(rt: &R, alloc: Global, status: &Status) {
+    let Ok(line) = status_line(alloc, status, &[]) else {
+        return;
+    };
+    if let Ok(text) = str::from_utf8(line.as_slice()) {
+        let _ = eprint!(rt; "{text}");
+    }
+}
+
+fn print<R: Print>(rt: &R, text: &str) -> ExitCode {
+    match print!(rt; "{text}") {
+        Ok(()) => ExitCode::SUCCESS,
+        Err(_) => ExitCode::from(Status::WriteFault.number()),
+    }
+}
+
+fn main(rt: HostRuntime) -> ExitCode {
+    let alloc = rt.alloc();
+    let words = match words::words(&rt, alloc) {
+        Ok(words) => words,
+        Err(status) => {
+            tell(&rt, alloc, &status);
+            return ExitCode::from(status.number());
+        }
+    };
+    if words.len() == 1 {
+        if words[0].as_str() == "--help" {
+            return print(&rt, HELP);
+        }
+        if words[0].as_str() == "--version" {
+            return print(&rt, VERSION);
+        }
+    }
+    let status = run(&rt, alloc, words.as_slice());
+    tell(&rt, alloc, &status);
+    ExitCode::from(status.number())
+}
