@@ -1,7 +1,6 @@
 -- The machine that hosts one application alone.
-use Rattle.std.specs.Prelude.{ℕ, ◌+◌, ◌==◌, Bool, true, false, not, ◌&&◌, List, [], ◌∷◌, ◌++◌, Option, None, Some, if◌then◌else◌, find, filter, map}
+use Rattle.std.specs.Prelude.{ℕ, ◌==◌, Bool, List, [], ◌∷◌, Option, if◌then◌else◌, find}
 use Rattle.app_api.specs.declared.host.Host.{Host}
-use Rattle.app_api.specs.declared.host.Properties.{Properties}
 use Rattle.instances.specs.Instances.{Table, no_instances}
 use Rattle.op_queue.specs.Queue.{Queue, empty_queue}
 use Rattle.alone.specs.declared.running.Instance.{Instance}
@@ -20,8 +19,13 @@ pub record Machine (A : Type 0) : Type 0 where
 -- how each machine begins
 abbrev pub start : {A : Type 0} → Host A → ℕ → List ℕ → Machine A
 start host index seed = record {
-  template = host.template; index = index; seed = seed;
-  table = no_instances host.properties; instances = []; queue = empty_queue; turns = 0;
+  template = host.template;
+  index = index;
+  seed = seed;
+  table = no_instances host.properties;
+  instances = [];
+  queue = empty_queue;
+  turns = 0;
 }
 
 abbrev pub is_number : {A : Type 0} → ℕ → Instance A → Bool

@@ -1,5 +1,5 @@
 -- Where outputs are delivered, and what a client is shown (TEE Client API 1.0, sections 3.2.3 and 4.5.6; TEE Internal Core API 1.3, section 4.3.6.4).
-use Rattle.std.specs.Prelude.{ℕ, min, ◌-◌, ◌^◌, ◌==◌, Bool, true, false, ◌||◌, ◌&&◌, nat_le, nat_lt, List, [], if◌then◌else◌, length}
+use Rattle.std.specs.Prelude.{ℕ, min, ◌-◌, ◌^◌, Bool, false, ◌||◌, nat_le, nat_lt, List, [], if◌then◌else◌, length}
 use Rattle.app_api.specs.declared.param.Param.{Param}
 use Rattle.app_api.specs.declared.param.Params.{Params}
 use Rattle.app_api.specs.declared.param.Param.TheVariants as params
@@ -82,5 +82,5 @@ is_too_long (outs.Size n) = false
 -- the outputs of a return are misuse
 abbrev pub is_misuse : Places → Outs → Bool
 is_misuse ps os =
-  is_too_long os.p0 || is_too_long os.p1 || is_too_long os.p2 || is_too_long os.p3
-  || is_misused_at ps.p0 os.p0 || is_misused_at ps.p1 os.p1 || is_misused_at ps.p2 os.p2 || is_misused_at ps.p3 os.p3
+    is_too_long os.p0 || is_too_long os.p1 || is_too_long os.p2 || is_too_long os.p3
+    || is_misused_at ps.p0 os.p0 || is_misused_at ps.p1 os.p1 || is_misused_at ps.p2 os.p2 || is_misused_at ps.p3 os.p3

@@ -1,6 +1,6 @@
 -- One step of the machine: a client's call, or a turn of an instance. Numbers of sections are those of TEE Internal Core API 1.3
 -- (instances and sessions: 2.1.3; entry points: 4.3) and TEE Client API 1.0 (calls: 4.5.5 to 4.5.7; origins: 4.4.3).
-use Rattle.std.specs.Prelude.{ℕ, ◌+◌, ◌==◌, Bool, true, false, not, ◌&&◌, ◌||◌, List, [], ◌∷◌, ◌++◌, Option, None, Some, Result, Ok, Err, is_some, nat_lt, option_map, if◌then◌else◌, nat_le, find, filter, map}
+use Rattle.std.specs.Prelude.{ℕ, ◌+◌, ◌==◌, Bool, true, false, not, ◌&&◌, ◌||◌, List, [], ◌∷◌, ◌++◌, Option, None, Some, Result, Ok, Err, is_some, nat_lt, option_map, if◌then◌else◌, nat_le, filter, map}
 use Rattle.tee_base.specs.declared.codes.Code.{Code}
 use Rattle.tee_base.specs.declared.codes.Origin.{Origin}
 use Rattle.tee_base.specs.declared.codes.Origin.TheVariants.{Api, Tee, App}
@@ -24,7 +24,7 @@ use Rattle.instances.specs.declared.session.SessionState.TheVariants.{Opening, O
 use Rattle.instances.specs.Instances.{session_of, facts_of, admission_of, entered, state_set, session_removed, ended}
 use Rattle.op_queue.specs.declared.operation.Operation.{Operation}
 use Rattle.op_queue.specs.declared.operation.Begun.{Begun}
-use Rattle.op_queue.specs.Queue.{Queue, is_full, submitted, skipped, first_waiting, begun_at, after_begin, without, operation_of, facts_of as operation_facts}
+use Rattle.op_queue.specs.Queue.{is_full, submitted, skipped, first_waiting, begun_at, after_begin, without, operation_of, facts_of as operation_facts}
 use Rattle.alone.specs.declared.places.Places.{Places}
 use Rattle.alone.specs.declared.reply.Outputs.{Outputs}
 use Rattle.alone.specs.declared.reply.Reply.{Reply}
@@ -42,14 +42,19 @@ use Rattle.alone.specs.Replies.{no_outputs}
 -- codes
 abbrev pub success : Code
 success = record { 0 = 0 }
+
 abbrev pub bad_parameters : Code
 bad_parameters = record { 0 = 4294901766 }
+
 abbrev pub bad_state : Code
 bad_state = record { 0 = 4294901767 }
+
 abbrev pub not_implemented : Code
 not_implemented = record { 0 = 4294901769 }
+
 abbrev pub busy : Code
 busy = record { 0 = 4294901773 }
+
 abbrev pub target_dead : Code
 target_dead = record { 0 = 4294914084 }
 
@@ -105,10 +110,10 @@ opened_as m client label ps (Ok a) = queued (admitted m client label a) client a
 -- an open: too large a parameter, a label in use, a full queue, no admission, or it waits
 abbrev pub called_open : {A : Type 0} → Machine A → ℕ → ℕ → Params → Stepped A
 called_open m client label ps =
-  if is_some (first_oversized ps) then answered_at_once m bad_parameters Api
-  else if is_some (known m client label) then answered_at_once m bad_state Api
-  else if is_full m.queue then answered_at_once m busy Tee
-  else opened_as m client label ps (admission_of m.table client label)
+    if is_some (first_oversized ps) then answered_at_once m bad_parameters Api
+    else if is_some (known m client label) then answered_at_once m bad_state Api
+    else if is_full m.queue then answered_at_once m busy Tee
+    else opened_as m client label ps (admission_of m.table client label)
 
 abbrev pub invoked_at : {A : Type 0} → Machine A → ℕ → Call → SessionFacts → SessionState → Stepped A
 invoked_at m client call s Opening = answered_at_once m bad_state Api
@@ -123,8 +128,8 @@ invoked_in m client call (Some s) = invoked_at m client call s s.state
 -- an invoke: too large a parameter, no open or dead session, a dead one, a full queue, or it waits
 abbrev pub called_invoke : {A : Type 0} → Machine A → ℕ → ℕ → ℕ → Params → Stepped A
 called_invoke m client label command ps =
-  if is_some (first_oversized ps) then answered_at_once m bad_parameters Api
-  else invoked_in m client (calls.Invoke label command ps) (known m client label)
+    if is_some (first_oversized ps) then answered_at_once m bad_parameters Api
+    else invoked_in m client (calls.Invoke label command ps) (known m client label)
 
 abbrev pub closed_at : {A : Type 0} → Machine A → ℕ → ℕ → SessionFacts → SessionState → Stepped A
 closed_at m client label s Opening = answered_at_once m bad_state Api
@@ -203,10 +208,10 @@ is_success code = code.0 == 0
 -- what a return does, by the entry of the operation that returns
 abbrev pub returned : {A : Type 0} → Machine A → Instance A → ℕ → Stage → Code → Outs → Stepped A
 returned m inst op (stages.Create session ps) code outs =
-  if is_success code then quiet (with_instance m (record inst { created = true; running = Some (start_begun op session ps) }))
-  else create_failed m inst code
+    if is_success code then quiet (with_instance m (record inst { created = true; running = Some (start_begun op session ps) }))
+    else create_failed m inst code
 returned m inst op (stages.Start session places) code outs =
-  answered (record m { table = if is_success code then state_set m.table session Open else session_removed m.table session }) inst op code (delivered places outs)
+    answered (record m { table = if is_success code then state_set m.table session Open else session_removed m.table session }) inst op code (delivered places outs)
 returned m inst op (stages.Invoke session places) code outs = answered m inst op code (delivered places outs)
 returned m inst op (stages.Stop session) code outs = answered (record m { table = session_removed m.table session }) inst op success no_outputs
 

@@ -1,5 +1,5 @@
 -- The first instance of a number, at a place and in a list.
-use Rattle.std.proofs.Common.{ℕ, ◌≡◌, ◌<◌, ◌≤◌, ◌==◌, suc, zero, Bool, true, false, not, cond, List, [], ◌∷◌, Option, None, Some, find, filter, length, length-set, get_or, get_or-set_same, set, refl, sym, ap, ◌∙◌, ⊎_elim, eq-eqb, arith}
+use Rattle.std.proofs.Common.{ℕ, ◌≡◌, ◌<◌, ◌==◌, suc, zero, true, false, not, cond, List, [], ◌∷◌, None, Some, find, filter, length, length-set, get_or, get_or-set_same, set, refl, sym, ap, ◌∙◌, ⊎_elim, eq-eqb, arith}
 use Rattle.std.proofs.lemmas.Bool.{cases_Bool, cond-true, cond-false, eqb-true}
 use Rattle.alone.specs.declared.running.Instance.{Instance}
 use Rattle.alone.specs.Machine.{is_number, put_instance}
@@ -41,17 +41,17 @@ pub put_put : {A : Type 0} (x y : Instance A) (zs : List (Instance A)) → x.num
 put_put x y [] same = refl
 put_put x y (z ∷ zs) same = ⊎_elim
     (λ (yes : (z.number == y.number) ≡ true).
-      let z_x : (z.number == x.number) ≡ true = ap (λ n. z.number == n) same ∙ yes in
-      let y_x : (y.number == x.number) ≡ true = eq-eqb y.number x.number (sym same) in
-      ap (put_instance x) (cond-true (z.number == y.number) (y ∷ zs) (z ∷ put_instance y zs) yes)
-      ∙ cond-true (y.number == x.number) (x ∷ zs) (y ∷ put_instance x zs) y_x
-      ∙ sym (cond-true (z.number == x.number) (x ∷ zs) (z ∷ put_instance x zs) z_x))
+    let z_x : (z.number == x.number) ≡ true = ap (λ n. z.number == n) same ∙ yes in
+    let y_x : (y.number == x.number) ≡ true = eq-eqb y.number x.number (sym same) in
+    ap (put_instance x) (cond-true (z.number == y.number) (y ∷ zs) (z ∷ put_instance y zs) yes)
+    ∙ cond-true (y.number == x.number) (x ∷ zs) (y ∷ put_instance x zs) y_x
+    ∙ sym (cond-true (z.number == x.number) (x ∷ zs) (z ∷ put_instance x zs) z_x))
     (λ (no : (z.number == y.number) ≡ false).
-      let z_x : (z.number == x.number) ≡ false = ap (λ n. z.number == n) same ∙ no in
-      ap (put_instance x) (cond-false (z.number == y.number) (y ∷ zs) (z ∷ put_instance y zs) no)
-      ∙ cond-false (z.number == x.number) (x ∷ put_instance y zs) (z ∷ put_instance x (put_instance y zs)) z_x
-      ∙ ap (λ ws. z ∷ ws) (put_put x y zs same)
-      ∙ sym (cond-false (z.number == x.number) (x ∷ zs) (z ∷ put_instance x zs) z_x))
+    let z_x : (z.number == x.number) ≡ false = ap (λ n. z.number == n) same ∙ no in
+    ap (put_instance x) (cond-false (z.number == y.number) (y ∷ zs) (z ∷ put_instance y zs) no)
+    ∙ cond-false (z.number == x.number) (x ∷ put_instance y zs) (z ∷ put_instance x (put_instance y zs)) z_x
+    ∙ ap (λ ws. z ∷ ws) (put_put x y zs same)
+    ∙ sym (cond-false (z.number == x.number) (x ∷ zs) (z ∷ put_instance x zs) z_x))
     (cases_Bool (z.number == y.number))
 
 -- what was put is what is found
@@ -62,14 +62,14 @@ find_put i new old [] same found = absurd (nothing old found)
     nothing inst e = cc
 find_put i new old (x ∷ xs) same found = ⊎_elim
     (λ (yes : (x.number == i) ≡ true).
-      let here : (x.number == new.number) ≡ true = ap (λ n. x.number == n) same ∙ yes in
-      ap (find (is_number i)) (cond-true (x.number == new.number) (new ∷ xs) (x ∷ put_instance new xs) here)
-      ∙ cond-true (is_number i new) (Some new) (find (is_number i) xs) (eq-eqb new.number i same))
+    let here : (x.number == new.number) ≡ true = ap (λ n. x.number == n) same ∙ yes in
+    ap (find (is_number i)) (cond-true (x.number == new.number) (new ∷ xs) (x ∷ put_instance new xs) here)
+    ∙ cond-true (is_number i new) (Some new) (find (is_number i) xs) (eq-eqb new.number i same))
     (λ (no : (x.number == i) ≡ false).
-      let here : (x.number == new.number) ≡ false = ap (λ n. x.number == n) same ∙ no in
-      ap (find (is_number i)) (cond-false (x.number == new.number) (new ∷ xs) (x ∷ put_instance new xs) here)
-      ∙ cond-false (is_number i x) (Some x) (find (is_number i) (put_instance new xs)) no
-      ∙ find_put i new old xs same (sym (cond-false (is_number i x) (Some x) (find (is_number i) xs) no) ∙ found))
+    let here : (x.number == new.number) ≡ false = ap (λ n. x.number == n) same ∙ no in
+    ap (find (is_number i)) (cond-false (x.number == new.number) (new ∷ xs) (x ∷ put_instance new xs) here)
+    ∙ cond-false (is_number i x) (Some x) (find (is_number i) (put_instance new xs)) no
+    ∙ find_put i new old xs same (sym (cond-false (is_number i x) (Some x) (find (is_number i) xs) no) ∙ found))
     (cases_Bool (x.number == i))
 
 set_twice : {A : Type 0} (xs : List A) (place : ℕ) (x y : A) → set (set xs place x) place y ≡ set xs place y
@@ -94,14 +94,14 @@ pub filter_put : {A : Type 0} (i : ℕ) (new : Instance A) (xs : List (Instance 
 filter_put i new [] same = refl
 filter_put i new (x ∷ xs) same = ⊎_elim
     (λ (yes : (x.number == i) ≡ true).
-      let here : (x.number == new.number) ≡ true = ap (λ n. x.number == n) same ∙ yes in
-      ap (filter (λ other. not (is_number i other))) (cond-true (x.number == new.number) (new ∷ xs) (x ∷ put_instance new xs) here)
-      ∙ ap (λ b. cond (not b) (new ∷ filter (λ other. not (is_number i other)) xs) (filter (λ other. not (is_number i other)) xs)) (eq-eqb new.number i same)
-      ∙ sym (ap (λ b. cond (not b) (x ∷ filter (λ other. not (is_number i other)) xs) (filter (λ other. not (is_number i other)) xs)) yes))
+    let here : (x.number == new.number) ≡ true = ap (λ n. x.number == n) same ∙ yes in
+    ap (filter (λ other. not (is_number i other))) (cond-true (x.number == new.number) (new ∷ xs) (x ∷ put_instance new xs) here)
+    ∙ ap (λ b. cond (not b) (new ∷ filter (λ other. not (is_number i other)) xs) (filter (λ other. not (is_number i other)) xs)) (eq-eqb new.number i same)
+    ∙ sym (ap (λ b. cond (not b) (x ∷ filter (λ other. not (is_number i other)) xs) (filter (λ other. not (is_number i other)) xs)) yes))
     (λ (no : (x.number == i) ≡ false).
-      let here : (x.number == new.number) ≡ false = ap (λ n. x.number == n) same ∙ no in
-      ap (filter (λ other. not (is_number i other))) (cond-false (x.number == new.number) (new ∷ xs) (x ∷ put_instance new xs) here)
-      ∙ ap (λ b. cond (not b) (x ∷ filter (λ other. not (is_number i other)) (put_instance new xs)) (filter (λ other. not (is_number i other)) (put_instance new xs))) no
-      ∙ ap (λ ys. x ∷ ys) (filter_put i new xs same)
-      ∙ sym (ap (λ b. cond (not b) (x ∷ filter (λ other. not (is_number i other)) xs) (filter (λ other. not (is_number i other)) xs)) no))
+    let here : (x.number == new.number) ≡ false = ap (λ n. x.number == n) same ∙ no in
+    ap (filter (λ other. not (is_number i other))) (cond-false (x.number == new.number) (new ∷ xs) (x ∷ put_instance new xs) here)
+    ∙ ap (λ b. cond (not b) (x ∷ filter (λ other. not (is_number i other)) (put_instance new xs)) (filter (λ other. not (is_number i other)) (put_instance new xs))) no
+    ∙ ap (λ ys. x ∷ ys) (filter_put i new xs same)
+    ∙ sym (ap (λ b. cond (not b) (x ∷ filter (λ other. not (is_number i other)) xs) (filter (λ other. not (is_number i other)) xs)) no))
     (cases_Bool (x.number == i))

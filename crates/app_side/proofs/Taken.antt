@@ -1,5 +1,5 @@
 -- A turn doesn't look at whether the running entry was taken out of its instance.
-use Rattle.std.proofs.Common.{ℕ, ◌≡◌, Bool, true, false, not, cond, List, Option, None, Some, filter, find, map, get_or, set, refl, sym, subst, ◌∙◌, ap}
+use Rattle.std.proofs.Common.{ℕ, ◌≡◌, true, false, cond, List, Option, None, Some, find, get_or, set, refl, sym, subst, ◌∙◌, ap}
 use Rattle.tee_base.specs.declared.codes.Code.{Code}
 use Rattle.app_api.specs.declared.out.Outs.{Outs}
 use Rattle.app_api.specs.declared.ask.Given.{Given}
@@ -12,7 +12,7 @@ use Rattle.alone.specs.declared.running.Waits.{Waits}
 use Rattle.alone.specs.declared.running.Waits.TheVariants as waits
 use Rattle.alone.specs.declared.reply.Reply.{Reply}
 use Rattle.alone.specs.Machine.{Machine, is_number, put_instance, with_instance}
-use Rattle.alone.specs.Step.{Stepped, quiet, create_failed, is_success, returned, start_begun, turned_by, went_on, ending_of}
+use Rattle.alone.specs.Step.{quiet, create_failed, is_success, returned, start_begun, turned_by, went_on, ending_of}
 use Rattle.app_side.proofs.PlaceLemmas.{put_put, filter_put, find_put}
 use Rattle.app_side.specs.Places.{IsPlace}
 use Rattle.app_side.specs.Represents.{IsTurned}
@@ -33,8 +33,8 @@ returned_taken {A} m inst op (stages.Create session ps) code outs =
     let failed : create_failed (taken m inst) (idle inst) code ≡ create_failed m inst code
     = ap (λ (xs : List (Instance A)). record (create_failed m inst code) { machine = record (create_failed m inst code).machine { instances = xs } }) (filter_put inst.number (idle inst) m.instances refl) in
     elim (is_success code) as (λ b. cond b (quiet (with_instance (taken m inst) (record (idle inst) { created = true; running = Some (start_begun op session ps) }))) (create_failed (taken m inst) (idle inst) code) ≡ cond b (quiet (with_instance m (record inst { created = true; running = Some (start_begun op session ps) }))) (create_failed m inst code)) [
-      true ↦ went
-    | false ↦ failed
+      | true ↦ went
+      | false ↦ failed
     ]
 returned_taken {A} m inst op (stages.Start session places) code outs =
     ap (λ (xs : List (Instance A)). let s = returned m inst op (stages.Start session places) code outs in record s { machine = record s.machine { instances = xs } }) (put_put (idle inst) (idle inst) m.instances refl)

@@ -10,8 +10,13 @@ use Rattle.app_side.specs.declared.side.Called.{Called}
 -- the machine whose parts are kept
 abbrev pub machine_of : {A : Type 0} → AppSide A → Machine A
 machine_of side = record {
-  template = side.template; index = side.application; seed = side.seed;
-  table = side.table; instances = side.instances.items; queue = side.queue; turns = side.turns;
+  template = side.template;
+  index = side.application;
+  seed = side.seed;
+  table = side.table;
+  instances = side.instances.items;
+  queue = side.queue;
+  turns = side.turns;
 }
 
 -- the value stands for the machine: it agrees with it in each part that it keeps

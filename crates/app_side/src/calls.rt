@@ -32,7 +32,13 @@ impl<A: Application> AppSide<A> {
     }
 
     /// A call that waits for the instance.
-    fn wait_for(&mut self, client: u8, instance: u8, session: u8, call: Call) -> Result<Called, NoMemory>
+    fn wait_for(
+        &mut self,
+        client: u8,
+        instance: u8,
+        session: u8,
+        call: Call,
+    ) -> Result<Called, NoMemory>
         requires room { self.old.queue.next < 2 ^ 63 }
         requires accepted { (is_full self.old.queue && not (is_close_call call)) ≡ false }
         ensures ok { IfOk result (λ waiting. IsCalled self.new waiting self.old.queue.next (queued (machine_of self.old) client instance session call)) }
@@ -49,7 +55,13 @@ impl<A: Application> AppSide<A> {
     }
 
     /// An open that was admitted to an instance that exists.
-    fn enter_shared(&mut self, client: u8, label: u32, params: Params, admission: Admission) -> Result<Called, NoMemory>
+    fn enter_shared(
+        &mut self,
+        client: u8,
+        label: u32,
+        params: Params,
+        admission: Admission,
+    ) -> Result<Called, NoMemory>
         requires room { self.old.queue.next < 2 ^ 63 }
         requires accepted { is_full self.old.queue ≡ false }
         requires admitted { admission_of self.old.table client label ≡ Ok admission }
@@ -64,7 +76,13 @@ impl<A: Application> AppSide<A> {
     }
 
     /// An open that was admitted to an instance of its own, which is made here.
-    fn enter_new(&mut self, client: u8, label: u32, params: Params, admission: Admission) -> Result<Called, NoMemory>
+    fn enter_new(
+        &mut self,
+        client: u8,
+        label: u32,
+        params: Params,
+        admission: Admission,
+    ) -> Result<Called, NoMemory>
         requires room { self.old.queue.next < 2 ^ 63 }
         requires accepted { is_full self.old.queue ≡ false }
         requires admitted { admission_of self.old.table client label ≡ Ok admission }
@@ -107,13 +125,21 @@ impl<A: Application> AppSide<A> {
             return Ok(self.refuse(Code::BUSY, Origin::Tee));
         }
         match self.table.admit(client, label) {
-            Ok(admission) if admission.new_instance => self.enter_new(client, label, params, admission),
+            Ok(admission) if admission.new_instance => self.enter_new(
+                client, label, params, admission,
+            ),
             Ok(admission) => self.enter_shared(client, label, params, admission),
             Err(refusal) => Ok(self.refuse(refusal.code, refusal.origin)),
         }
     }
 
-    fn invoke(&mut self, client: u8, label: u32, command: u32, params: Params) -> Result<Called, NoMemory>
+    fn invoke(
+        &mut self,
+        client: u8,
+        label: u32,
+        command: u32,
+        params: Params,
+    ) -> Result<Called, NoMemory>
         requires { self.old.queue.next < 2 ^ 63 }
         ensures ok { IfOk result (λ waiting. IsCalled self.new waiting self.old.queue.next (called_invoke (machine_of self.old) client label command params)) }
         ensures err { OnErr result (machine_of self.new ≡ machine_of self.old) }
@@ -125,7 +151,10 @@ impl<A: Application> AppSide<A> {
             return Ok(self.refuse(Code::BAD_STATE, Origin::Api));
         };
         match known.state {
-            SessionState::Opening | SessionState::Closing => Ok(self.refuse(Code::BAD_STATE, Origin::Api)),
+            SessionState::Opening | SessionState::Closing => Ok(self.refuse(
+                Code::BAD_STATE,
+                Origin::Api,
+            )),
             SessionState::Dead => Ok(self.refuse(Code::TARGET_DEAD, Origin::Tee)),
             SessionState::Open => {
                 if self.queue.is_full() {
@@ -150,13 +179,21 @@ impl<A: Application> AppSide<A> {
             return Ok(self.refuse(Code::BAD_STATE, Origin::Api));
         };
         match known.state {
-            SessionState::Opening | SessionState::Closing => Ok(self.refuse(Code::BAD_STATE, Origin::Api)),
+            SessionState::Opening | SessionState::Closing => Ok(self.refuse(
+                Code::BAD_STATE,
+                Origin::Api,
+            )),
             SessionState::Dead => {
                 self.table.remove(known.session);
                 Ok(self.refuse(Code::SUCCESS, Origin::Tee))
             }
             SessionState::Open => {
-                let waiting = self.wait_for(client, known.instance, known.session, Call::Close { label })?;
+                let waiting = self.wait_for(
+                    client,
+                    known.instance,
+                    known.session,
+                    Call::Close { label },
+                )?;
                 self.table.set(known.session, SessionState::Closing);
                 Ok(waiting)
             }

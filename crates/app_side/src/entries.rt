@@ -42,7 +42,11 @@ pub fn first_entry(alloc: Global, created: bool, begun: Begun) -> Result<Running
                 asks: 0,
             })
         }
-        Call::Invoke { command, params, .. } => {
+        Call::Invoke {
+            command,
+            params,
+            ..
+        } => {
             let places = places(alloc, &params)?;
             Ok(Running {
                 op,

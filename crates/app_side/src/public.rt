@@ -19,7 +19,12 @@ const MOST: u64 = 1 << 63;
 impl<A: Application> AppSide<A> {
     /// An application that has run nothing, the one of this index among the hosts. Its one instance serves all sessions and
     /// stays, as long as other properties aren't built.
-    pub fn new(alloc: Global, host: Host<A>, application: u8, seed: [u8; 32]) -> Result<AppSide<A>, NoMemory>
+    pub fn new(
+        alloc: Global,
+        host: Host<A>,
+        application: u8,
+        seed: [u8; 32],
+    ) -> Result<AppSide<A>, NoMemory>
         requires { IsOneInstance host }
         ensures { IfOk result (λ side. Represents side (start host application seed)) }
     {

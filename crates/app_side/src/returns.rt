@@ -71,7 +71,14 @@ impl<A: Application> AppSide<A> {
     }
 
     /// The start entry of the operation begins, behind a create entry that succeeded.
-    fn start(&mut self, place: usize, number: u8, op: u64, session: u8, params: Params) -> Result<(), NoMemory>
+    fn start(
+        &mut self,
+        place: usize,
+        number: u8,
+        op: u64,
+        session: u8,
+        params: Params,
+    ) -> Result<(), NoMemory>
         requires { IsPlace number self.old.instances.items place }
         ensures { OnOk result ((inst : Instance A) → find (is_number number) self.old.instances.items ≡ Some inst → machine_of self.new ≡ with_instance (machine_of self.old) (record inst { created = true; running = Some (start_begun op session params) })) }
     {
@@ -105,7 +112,14 @@ impl<A: Application> AppSide<A> {
     }
 
     /// The entry of the operation returns.
-    pub(crate) fn end_entry(&mut self, place: usize, number: u8, op: u64, stage: Stage, ending: Ending) -> Result<Replies, NoMemory>
+    pub(crate) fn end_entry(
+        &mut self,
+        place: usize,
+        number: u8,
+        op: u64,
+        stage: Stage,
+        ending: Ending,
+    ) -> Result<Replies, NoMemory>
         requires { IsPlace number self.old.instances.items place }
         ensures { IfOk result (λ given. (inst : Instance A) → find (is_number number) self.old.instances.items ≡ Some inst → inst.number ≡ number → IsTurned self.new given (returned (machine_of self.old) inst op stage ending.code ending.outs)) }
     {

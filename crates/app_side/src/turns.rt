@@ -33,7 +33,14 @@ impl<A: Application> AppSide<A> {
     }
 
     /// The application takes a step, and what it asks waits.
-    fn think(&mut self, place: usize, op: u64, stage: Stage, asks: u32, given: Given) -> Result<(), NoMemory>
+    fn think(
+        &mut self,
+        place: usize,
+        op: u64,
+        stage: Stage,
+        asks: u32,
+        given: Given,
+    ) -> Result<(), NoMemory>
         requires { place < length self.old.instances.items }
         ensures { OnOk result ((number : ℕ) → IsPlace number self.old.instances.items place → (inst : Instance A) → find (is_number number) self.old.instances.items ≡ Some inst → (waits : Waits) → machine_of self.new ≡ thought A.next A.asks (machine_of self.old) inst (record { op = op; stage = stage; waits = waits; asks = asks }) given) }
     {

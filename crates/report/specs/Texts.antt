@@ -1,5 +1,5 @@
 -- The printed lines.
-use Rattle.std.specs.Prelude.{ℕ, List, [], ◌∷◌, ◌++◌, codes}
+use Rattle.std.specs.Prelude.{ℕ, List, [], ◌++◌, codes}
 use Rattle.std.specs.Fmt.{decimal}
 use Rattle.std.specs.Int.{w32, to_be_bytes}
 use Rattle.hex.specs.Hex.{encode_lower}
@@ -30,5 +30,5 @@ outputs_text outputs = shown_text 0 outputs.p0 ++ shown_text 1 outputs.p1 ++ sho
 -- a reply's line
 abbrev pub reply_text : List ℕ → Reply → List ℕ
 reply_text name reply =
-  name ++ codes " " ++ decimal reply.op ++ codes " " ++ code_text reply.code ++ codes " " ++ decimal (number_of reply.origin)
-  ++ outputs_text reply.outputs ++ codes "\n"
+    name ++ codes " " ++ decimal reply.op ++ codes " " ++ code_text reply.code ++ codes " " ++ decimal (number_of reply.origin)
+    ++ outputs_text reply.outputs ++ codes "\n"

@@ -7,10 +7,9 @@ ghost use Rattle.report.specs.Texts.{reply_text};
 mod line;
 
 use alone::{Outputs, Reply, Shown};
+pub use line::Line;
 use std::alloc::Global;
 use tee_base::{Bytes, NoMemory};
-
-pub use line::Line;
 
 impl Line {
     ghost use Rattle.std.specs.Prelude.{◌≡◌, ◌++◌, OnOk};

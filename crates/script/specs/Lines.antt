@@ -1,10 +1,8 @@
 -- Lines of a script, by their words.
-use Rattle.std.specs.Prelude.{ℕ, ◌==◌, ◌+◌, Bool, false, List, [], ◌∷◌, Option, None, Some, codes, if◌then◌else◌}
+use Rattle.std.specs.Prelude.{ℕ, ◌==◌, ◌+◌, false, List, [], ◌∷◌, Option, None, Some, codes, if◌then◌else◌}
 use Rattle.std.specs.List.{slice_split}
 use Rattle.std.specs.Str.{bytes_eq}
-use Rattle.app_api.specs.declared.call.Call.{Call}
 use Rattle.app_api.specs.declared.call.Call.TheVariants as calls
-use Rattle.script.specs.declared.line.Line.{Line}
 use Rattle.script.specs.declared.line.Line.TheVariants as lines
 use Rattle.script.specs.declared.line.ReadCall.{ReadCall}
 use Rattle.script.specs.declared.line.ReadLine.{ReadLine}
@@ -41,10 +39,10 @@ closed_by label (word ∷ words) = None
 -- a call: its verb, the client's label for the session, and what follows
 unfoldable pub call_of : List ℕ → List ℕ → List (List ℕ) → Option ReadCall
 call_of verb label words =
-  if bytes_eq verb (codes "open") then opened_by label words
-  else if bytes_eq verb (codes "invoke") then invoked_by label words
-  else if bytes_eq verb (codes "close") then closed_by label words
-  else None
+    if bytes_eq verb (codes "open") then opened_by label words
+    else if bytes_eq verb (codes "invoke") then invoked_by label words
+    else if bytes_eq verb (codes "close") then closed_by label words
+    else None
 
 -- a line: the name of a host, and a call of client 0 that is run until it is answered
 unfoldable pub line_of_words : List (List ℕ) → List (List ℕ) → Option ReadLine

@@ -1,5 +1,5 @@
 -- Parameters of a script line.
-use Rattle.std.specs.Prelude.{ℕ, ◌+◌, nat_lt, slice_get, ◌≡◌, ◌≤◌, ◌==◌, ◌&&◌, nat_le, Bool, List, [], ◌∷◌, Option, None, Some, Result, Ok, Err, codes, if◌then◌else◌, length, option_map, option_and_then, replicate}
+use Rattle.std.specs.Prelude.{ℕ, ◌+◌, nat_lt, slice_get, ◌≡◌, ◌≤◌, ◌==◌, nat_le, List, [], ◌∷◌, Option, None, Some, Result, Ok, Err, codes, if◌then◌else◌, length, option_map, replicate}
 use Rattle.std.specs.Result.{result_ok}
 use Rattle.std.specs.List.{slice_split}
 use Rattle.script.specs.declared.param.Parameter.{Parameter}
@@ -32,16 +32,16 @@ IsSmall p = p.fill ≤ 524288
 
 unfoldable pub parameter_of_one : List ℕ → Option Parameter
 parameter_of_one kind =
-  if bytes_eq kind (codes "-") then Some (plain_parameter Nothing)
-  else if bytes_eq kind (codes "vo") then Some (plain_parameter ValueOut)
-  else None
+    if bytes_eq kind (codes "-") then Some (plain_parameter Nothing)
+    else if bytes_eq kind (codes "vo") then Some (plain_parameter ValueOut)
+    else None
 
 unfoldable pub parameter_of_two : List ℕ → List ℕ → Option Parameter
 parameter_of_two kind a =
-  if bytes_eq kind (codes "mi") then option_map (λ x. plain_parameter (MemIn x)) (hex_of a)
-  else if bytes_eq kind (codes "mio") then option_map (λ x. plain_parameter (MemInOut x)) (hex_of a)
-  else if bytes_eq kind (codes "mo") then option_map (λ x. plain_parameter (MemOut x)) (number_of a)
-  else None
+    if bytes_eq kind (codes "mi") then option_map (λ x. plain_parameter (MemIn x)) (hex_of a)
+    else if bytes_eq kind (codes "mio") then option_map (λ x. plain_parameter (MemInOut x)) (hex_of a)
+    else if bytes_eq kind (codes "mo") then option_map (λ x. plain_parameter (MemOut x)) (number_of a)
+    else None
 
 -- two numbers
 abbrev pub with_numbers : (ℕ → ℕ → Param) → Option ℕ → Option ℕ → Option Parameter
@@ -55,10 +55,10 @@ filled size bytes = None
 
 unfoldable pub parameter_of_three : List ℕ → List ℕ → List ℕ → Option Parameter
 parameter_of_three kind a b =
-  if bytes_eq kind (codes "vi") then with_numbers ValueIn (number_of a) (number_of b)
-  else if bytes_eq kind (codes "vio") then with_numbers ValueInOut (number_of a) (number_of b)
-  else if bytes_eq kind (codes "mf") then filled (number_of a) (hex_of b)
-  else None
+    if bytes_eq kind (codes "vi") then with_numbers ValueIn (number_of a) (number_of b)
+    else if bytes_eq kind (codes "vio") then with_numbers ValueInOut (number_of a) (number_of b)
+    else if bytes_eq kind (codes "mf") then filled (number_of a) (hex_of b)
+    else None
 
 -- a parameter by its parts
 abbrev pub parameter_of_parts : List (List ℕ) → Option Parameter

@@ -1,5 +1,5 @@
 -- A whole script.
-use Rattle.std.specs.Prelude.{ℕ, ◌≡◌, ◌==◌, ◌+◌, ◌-◌, nat_lt, slice_index_or, take, Bool, true, false, List, [], ◌∷◌, ◌++◌, Option, None, Some, Result, Ok, Err, if◌then◌else◌, length}
+use Rattle.std.specs.Prelude.{ℕ, ◌≡◌, ◌==◌, ◌+◌, ◌-◌, nat_lt, slice_index_or, take, List, [], ◌∷◌, ◌++◌, Option, None, Some, Result, Ok, Err, if◌then◌else◌, length}
 use Rattle.std.specs.List.{slice_split}
 use Rattle.script.specs.declared.line.Line.{Line}
 use Rattle.script.specs.declared.line.ReadLine.{ReadLine}

@@ -120,7 +120,11 @@ fn call(alloc: Global, verb: &[u8], label: &[u8], words: &[&[u8]]) -> Result<Rea
 
 /// A line by its words.
 #[tactic(auto, unfolding(crate::specs::Lines::line_of_words))]
-fn line_by_words<A>(alloc: Global, hosts: &[Host<A>], words: &[&[u8]]) -> Result<ReadLine, LineError>
+fn line_by_words<A>(
+    alloc: Global,
+    hosts: &[Host<A>],
+    words: &[&[u8]],
+) -> Result<ReadLine, LineError>
     requires { length hosts.now ≤ 16 }
     ensures value { Gives result (line_of_words (map (λ host. host.name) hosts.now) (map (λ word. word.now) words.now)) }
     ensures small { IfOk result (λ read. read.fills ≤ 4 * 524288) }

@@ -96,7 +96,11 @@ fn lines_of<A>(alloc: Global, hosts: &[Host<A>], texts: &[&[u8]]) -> Result<Vec<
 }
 
 /// The lines of a text that is cut at its line ends.
-fn lines_between<A>(alloc: Global, hosts: &[Host<A>], pieces: &[&[u8]]) -> Result<Vec<Line>, ScriptAnswer>
+fn lines_between<A>(
+    alloc: Global,
+    hosts: &[Host<A>],
+    pieces: &[&[u8]],
+) -> Result<Vec<Line>, ScriptAnswer>
     requires { length hosts.now ≤ 16 }
     ensures { AnswersWith (λ lines. lines.items) result (script_from (map (λ host. host.name) hosts.now) (map (λ piece. piece.now) pieces.now)) }
 {
@@ -113,7 +117,11 @@ fn lines_between<A>(alloc: Global, hosts: &[Host<A>], pieces: &[&[u8]]) -> Resul
 
 /// Reads a script, each line of which ends with a line feed. `BadLine` comes exactly where a line is outside the grammar,
 /// with the number of the first such line.
-pub fn parse<A: Application>(alloc: Global, text: &[u8], hosts: &[Host<A>]) -> Result<Script, ScriptAnswer>
+pub fn parse<A: Application>(
+    alloc: Global,
+    text: &[u8],
+    hosts: &[Host<A>],
+) -> Result<Script, ScriptAnswer>
     requires { HostsFit hosts.now }
     ensures { Answers result (script_of (map (λ host. host.name) hosts.now) text.now) }
 {

@@ -1,5 +1,5 @@
 -- Numbers that are handed out: the lowest that is free.
-use Rattle.std.specs.Prelude.{ℕ, ◌+◌, ◌≡◌, ◌<◌, ◌≤◌, nat_eq, List, Contains, if◌then◌else◌, length, suc, zero}
+use Rattle.std.specs.Prelude.{ℕ, ◌+◌, nat_eq, List, if◌then◌else◌, length, suc, zero}
 use Rattle.std.specs.List.{list_any}
 
 -- the first number from n on that isn't taken, if it is among so many numbers, else the number behind these

@@ -30,7 +30,12 @@ impl From<NoMemory> for Stop {
 }
 
 /// Writes the lines of these replies.
-fn write_replies<W: Sink>(alloc: Global, name: &[u8], replies: &[Reply], sink: &mut W) -> Result<(), Stop>
+fn write_replies<W: Sink>(
+    alloc: Global,
+    name: &[u8],
+    replies: &[Reply],
+    sink: &mut W,
+) -> Result<(), Stop>
     ensures fault { IsErrOf result Stop.WriteFault → Rose (W.failures sink.old) (W.failures sink.new) }
     ensures later { W.failures sink.old ≤ W.failures sink.new }
 {
@@ -45,7 +50,14 @@ fn write_replies<W: Sink>(alloc: Global, name: &[u8], replies: &[Reply], sink: &
 }
 
 /// Runs a call until it is answered.
-fn run_call<A: Application, W: Sink>(alloc: Global, name: &[u8], side: &mut AppSide<A>, client: u8, call: Call, sink: &mut W) -> Result<(), Stop>
+fn run_call<A: Application, W: Sink>(
+    alloc: Global,
+    name: &[u8],
+    side: &mut AppSide<A>,
+    client: u8,
+    call: Call,
+    sink: &mut W,
+) -> Result<(), Stop>
     ensures fault { IsErrOf result Stop.WriteFault → Rose (W.failures sink.old) (W.failures sink.new) }
     ensures later { W.failures sink.old ≤ W.failures sink.new }
 {
@@ -62,7 +74,13 @@ fn run_call<A: Application, W: Sink>(alloc: Global, name: &[u8], side: &mut AppS
 }
 
 /// Runs all lines of a script.
-pub fn run_lines<A: Application, W: Sink>(alloc: Global, name: &[u8], side: &mut AppSide<A>, lines: Vec<Line>, sink: &mut W) -> Result<(), Stop>
+pub fn run_lines<A: Application, W: Sink>(
+    alloc: Global,
+    name: &[u8],
+    side: &mut AppSide<A>,
+    lines: Vec<Line>,
+    sink: &mut W,
+) -> Result<(), Stop>
     ensures fault { IsErrOf result Stop.WriteFault → Rose (W.failures sink.old) (W.failures sink.new) }
     ensures later { W.failures sink.old ≤ W.failures sink.new }
 {

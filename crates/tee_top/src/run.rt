@@ -24,7 +24,11 @@ fn are_run_words(words: &[String]) -> bool
 }
 
 /// The lines of the script that the source holds.
-fn read_lines<S: Source, A: Application>(alloc: Global, source: &mut S, hosts: &[Host<A>]) -> Result<Vec<Line>, Status>
+fn read_lines<S: Source, A: Application>(
+    alloc: Global,
+    source: &mut S,
+    hosts: &[Host<A>],
+) -> Result<Vec<Line>, Status>
     requires { HostsFit hosts.now }
     ensures at_end { OnOk result (IsAtEnd (S.left source.new)) }
     ensures too_long { IsErrOf result Status.TooLong → HasMoreThan 1048576 (S.left source.old) }
@@ -46,7 +50,13 @@ fn read_lines<S: Source, A: Application>(alloc: Global, source: &mut S, hosts: &
 }
 
 /// Runs the lines for the one host.
-fn serve<W: Sink, A: Application>(alloc: Global, lines: Vec<Line>, sink: &mut W, host: Host<A>, seed: [u8; 32]) -> Status
+fn serve<W: Sink, A: Application>(
+    alloc: Global,
+    lines: Vec<Line>,
+    sink: &mut W,
+    host: Host<A>,
+    seed: [u8; 32],
+) -> Status
     requires { IsOneInstance host }
     ensures fault { result ≡ Status.WriteFault → Rose (W.failures sink.old) (W.failures sink.new) }
     ensures later { W.failures sink.old ≤ W.failures sink.new }

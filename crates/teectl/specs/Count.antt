@@ -20,11 +20,19 @@ use Rattle.teectl.specs.declared.count.Request.TheVariants.{Add, Show, Unknown}
 abbrev pub new_count : Count
 new_count = record { number = 0; sessions = 0 }
 
--- what a command with these parameters asks for: 1 adds, 2 shows, and each wants parameters of its own kinds and no others
+-- command 1 wants a value and a place for one, and adds the value's first number
+abbrev pub add_of : Param → Param → Param → Param → Request
+add_of (params.ValueIn a b) params.ValueOut params.Nothing params.Nothing = Add a
+add_of p0 p1 p2 p3 = Unknown
+
+-- command 2 wants a place for a value
+abbrev pub show_of : Param → Param → Param → Param → Request
+show_of params.ValueOut params.Nothing params.Nothing params.Nothing = Show
+show_of p0 p1 p2 p3 = Unknown
+
+-- what a command with these parameters asks for
 abbrev pub request_of : ℕ → Param → Param → Param → Param → Request
-request_of 1 (params.ValueIn a b) params.ValueOut params.Nothing params.Nothing = Add a
-request_of 2 params.ValueOut params.Nothing params.Nothing params.Nothing = Show
-request_of command p0 p1 p2 p3 = Unknown
+request_of command p0 p1 p2 p3 = if command == 1 then add_of p0 p1 p2 p3 else if command == 2 then show_of p0 p1 p2 p3 else Unknown
 
 -- the sum doesn't fit
 abbrev pub overflows : ℕ → ℕ → Bool
@@ -52,8 +60,8 @@ return_with code outs = Return (record { 0 = code }) outs
 
 abbrev pub ask_to : Count → Request → Ask
 ask_to c (Add a) =
-  if overflows c.number a then return_with 4294914063 no_outs
-  else return_with 0 (record no_outs { p1 = outs.Value (c.number + a) c.sessions })
+    if overflows c.number a then return_with 4294914063 no_outs
+    else return_with 0 (record no_outs { p1 = outs.Value (c.number + a) c.sessions })
 ask_to c Show = return_with 0 (record no_outs { p0 = outs.Value c.number c.sessions })
 ask_to c Unknown = return_with 4294901766 no_outs
 

@@ -24,14 +24,36 @@ pub enum Request {
 
 impl Request {
     ghost use Rattle.std.specs.Prelude.{◌≡◌};
-    ghost use Rattle.teectl.specs.Count.{request_of};
+    ghost use Rattle.teectl.specs.Count.{add_of, show_of, request_of};
+
+    /// Adding wants a value and a place for one.
+    fn add(params: &Params) -> Request
+        ensures { result ≡ add_of params.now.p0 params.now.p1 params.now.p2 params.now.p3 }
+    {
+        match (&params.p0, &params.p1, &params.p2, &params.p3) {
+            (Param::ValueIn(a, _), Param::ValueOut, Param::Nothing, Param::Nothing) => Request::Add(
+                *a,
+            ),
+            _ => Request::Unknown,
+        }
+    }
+
+    /// Showing wants a place for a value.
+    fn show(params: &Params) -> Request
+        ensures { result ≡ show_of params.now.p0 params.now.p1 params.now.p2 params.now.p3 }
+    {
+        match (&params.p0, &params.p1, &params.p2, &params.p3) {
+            (Param::ValueOut, Param::Nothing, Param::Nothing, Param::Nothing) => Request::Show,
+            _ => Request::Unknown,
+        }
+    }
 
     fn of(command: u32, params: &Params) -> Request
         ensures { result ≡ request_of command params.now.p0 params.now.p1 params.now.p2 params.now.p3 }
     {
-        match (command, &params.p0, &params.p1, &params.p2, &params.p3) {
-            (1, Param::ValueIn(a, _), Param::ValueOut, Param::Nothing, Param::Nothing) => Request::Add(*a),
-            (2, Param::ValueOut, Param::Nothing, Param::Nothing, Param::Nothing) => Request::Show,
+        match command {
+            1 => Request::add(params),
+            2 => Request::show(params),
             _ => Request::Unknown,
         }
     }
@@ -90,7 +112,9 @@ impl Count {
             Entry::Start { .. } => self.sessions = self.sessions.saturating_add(1),
             Entry::Stop { .. } => self.sessions = self.sessions.saturating_sub(1),
             Entry::Invoke {
-                command, params, ..
+                command,
+                params,
+                ..
             } => return self.serve(Request::of(command, &params)),
         }
         Ask::Return {

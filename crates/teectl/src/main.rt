@@ -2,6 +2,8 @@
 #![tactic(auto)]
 
 mod count;
+#[cfg(test)]
+mod tests;
 mod words;
 
 ghost use Rattle.std.specs.Prelude.{IfOk};

@@ -1,4 +1,4 @@
-use Rattle.std.proofs.Common.{◌≡◌, ◌≤◌, ◌^◌, ◌*◌, ◌+◌, ◌-◌, ℕ, List, [], ◌∷◌, None, Bool, true, false, arith, cond, refl, sym, ◌∙◌, ap, ◌<◌, length, drop, drop-cons, get_or, suc}
+use Rattle.std.proofs.Common.{◌≡◌, ◌≤◌, ◌^◌, ◌*◌, ◌+◌, ◌-◌, ℕ, List, [], ◌∷◌, None, true, false, arith, cond, refl, sym, ◌∙◌, ap, ◌<◌, length, drop, drop-cons, get_or, suc}
 use Rattle.std.proofs.lemmas.Bool.Decides.{nat_tests}
 use Rattle.script.specs.Numbers.{word_of, digits_on, is_digit}
 use Rattle.script.proofs.number.value.Goals as goal
@@ -7,9 +7,9 @@ use Rattle.script.proofs.number.value.Goals as goal
 too_large : (ds : List ℕ) (n : ℕ) → 2 ^ 32 ≤ n → word_of (digits_on n ds) ≡ None
 too_large [] n large = grind (arith, nat_tests)
 too_large (c ∷ cs) n large = elim (is_digit c) as (λ b. word_of (cond b (digits_on (n * 10 + (c - 48)) cs) None) ≡ None) [
-    true ↦ too_large cs (n * 10 + (c - 48)) (omega arith)
+  | true ↦ too_large cs (n * 10 + (c - 48)) (omega arith)
   | false ↦ refl
-  ]
+]
 
 -- digits from a place on, by the first of them
 from_place : (ds : List ℕ) (i v : ℕ) → i < length ds → is_digit (get_or ds i 0) ≡ true → digits_on v (drop i ds) ≡ digits_on (v * 10 + (get_or ds i 0 - 48)) (drop (suc i) ds)

@@ -1,4 +1,4 @@
-use Rattle.std.proofs.Common.{◌≡◌, ◌-◌, ℕ, List, [], ◌∷◌, Result, Ok, Err, map, take, length, slice_index_or, refl, sym, ap, subst, ◌∙◌, rules, Vec, Global}
+use Rattle.std.proofs.Common.{◌≡◌, ◌-◌, ℕ, List, [], ◌∷◌, Result, Err, map, take, length, slice_index_or, refl, ap, Vec, Global}
 use Rattle.std.proofs.lemmas.List.{take-map, length-map}
 use Rattle.std.proofs.lemmas.Result.{err_from_is_err_and}
 use Rattle.script.specs.declared.line.Line.{Line}

@@ -1,4 +1,4 @@
-use Rattle.std.proofs.Common.{arith, refl, sym, ap, ◌∙◌, ◌≡◌, ◌≤◌, ◌+◌, ◌-◌, ℕ, length, suc}
+use Rattle.std.proofs.Common.{arith, refl, sym, ap, ◌∙◌, ◌+◌, ◌-◌, length}
 use Rattle.tee_base.specs.Numbers.{first_free, lowest_free}
 use Rattle.tee_base.proofs.LowestFree.{first_free-end, first_free-here, first_free-next}
 use Rattle.tee_base.proofs.numbers.find_lowest_free.Goals as goal

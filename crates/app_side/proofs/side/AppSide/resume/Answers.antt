@@ -1,4 +1,4 @@
-use Rattle.std.proofs.Common.{rules, refl, sym, subst, ap, ◌∙◌}
+use Rattle.std.proofs.Common.{sym, subst}
 use Rattle.alone.specs.declared.running.Waits.{Waits}
 use Rattle.alone.specs.Step.{went_on}
 use Rattle.app_side.specs.Represents.{IsTurned, machine_of}
