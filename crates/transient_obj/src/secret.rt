@@ -37,6 +37,7 @@ impl Secret {
         Secret::from_slice(self.as_slice())
     }
 
+    /// The bytes.
     pub fn as_slice(&self) -> &[u8]
         ensures bytes { result.now ≡ self.now }
         ensures fits { length result.now ≤ 128 }

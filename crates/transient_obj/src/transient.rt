@@ -55,6 +55,7 @@ impl Transient {
         let _ = &self.kind;
     }
 
+    /// The number of its kind.
     pub fn kind(&self) -> u32
         ensures { result ≡ self.now.kind }
     {
@@ -75,6 +76,7 @@ impl Transient {
         self.usage
     }
 
+    /// Its secret, where it is initialised.
     pub fn secret(&self) -> Option<&Secret>
         ensures { option_copied result ≡ self.now.secret }
     {
