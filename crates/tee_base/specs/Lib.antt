@@ -2,5 +2,6 @@ pub mod Codes
 pub mod Crash
 pub mod Fakes
 pub mod Faults
+pub mod KeySizes
 pub mod Numbers
 pub mod Transfer

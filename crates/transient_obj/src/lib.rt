@@ -1,0 +1,14 @@
+//! Keys in memory: transient objects with a kind, a greatest size, a usage and a secret. No call takes memory.
+#![tactic(auto)]
+
+mod answer;
+mod secret;
+mod sizes;
+#[cfg(test)]
+mod tests;
+mod transient;
+
+pub use answer::KeyAnswer;
+pub use secret::Secret;
+pub use sizes::size_fits;
+pub use transient::Transient;

@@ -1,0 +1,55 @@
+//! Secrets of keys, in place.
+
+use arrayvec::ArrayVec;
+use std::marker::Model;
+
+/// A secret of at most 128 bytes.
+#[derive(Drop)]
+pub struct Secret {
+    bytes: ArrayVec<u8, 128>,
+}
+
+impl Model for Secret {
+    ghost use Rattle.std.specs.Prelude.{List, ℕ};
+
+    ghost Value = { List ℕ };
+
+    ghost view = { λ s. s.bytes.items };
+}
+
+impl Secret {
+    ghost use Rattle.std.specs.Prelude.{◌≡◌, ◌≤◌, length};
+
+    /// A copy of the bytes.
+    pub(crate) fn from_slice(from: &[u8]) -> Secret
+        requires { length from.now ≤ 128 }
+        ensures { result ≡ from.now }
+    {
+        let mut bytes = ArrayVec::new();
+        bytes.try_extend_from_slice(from).unwrap();
+        Secret { bytes }
+    }
+
+    /// Another secret of the same bytes.
+    pub fn copy(&self) -> Secret
+        ensures { result ≡ self.now }
+    {
+        Secret::from_slice(self.as_slice())
+    }
+
+    /// The bytes.
+    pub fn as_slice(&self) -> &[u8]
+        ensures bytes { result.now ≡ self.now }
+        ensures fits { length result.now ≤ 128 }
+    {
+        self.bytes.as_slice()
+    }
+
+    /// How many bytes there are.
+    pub fn len(&self) -> usize
+        ensures count { result ≡ length self.now }
+        ensures fits { result ≤ 128 }
+    {
+        self.bytes.len()
+    }
+}
