@@ -1,0 +1,42 @@
+//! Each pair of flags beside the rule computed plainly, and a few rows by hand.
+
+use crate::ShareIndex;
+use tee_base::Flags;
+
+/// Whether two handles conflict, by their bits.
+fn conflict_of_two(one: u32, other: u32) -> bool {
+    let any = one | other;
+    let all = one & other;
+    any & 0x4 != 0 || (any & 0x1 != 0 && all & 0x10 == 0) || (any & 0x2 != 0 && all & 0x20 == 0)
+}
+
+#[test]
+fn two_handles_on_one_object(rt: HostRuntime) {
+    for noted in 0..0x40u32 {
+        let mut index = ShareIndex::new(rt.alloc());
+        index.note(b"object", Flags(noted)).expect(&rt, "note");
+        for new in 0..0x40u32 {
+            let wanted = !conflict_of_two(noted, new);
+            assert_eq!(rt;
+                index.may_open(b"object", Flags(new)),
+                wanted,
+                "{noted:x} beside {new:x}"
+            );
+            assert!(rt;
+                index.may_open(b"objects", Flags(new)),
+                "{new:x} on another object"
+            );
+        }
+    }
+}
+
+#[test]
+fn the_last_handle_opens_the_way(rt: HostRuntime) {
+    let mut index = ShareIndex::new(rt.alloc());
+    index
+        .note(b"object", Flags::ACCESS_WRITE_META)
+        .expect(&rt, "note");
+    assert!(rt; !index.may_open(b"object", Flags(0x11)));
+    index.release(b"object", Flags::ACCESS_WRITE_META);
+    assert!(rt; index.may_open(b"object", Flags(0x11)));
+}
