@@ -3,6 +3,7 @@
 
 mod answer;
 mod change;
+mod laws;
 mod map_store;
 mod object;
 mod objects;
@@ -10,6 +11,7 @@ mod store;
 
 pub use answer::{Mismatch, StoreAnswer};
 pub use change::Change;
+pub use laws::change_laws;
 pub use map_store::MapStore;
 pub use object::{Facts, Listed, Object};
 pub use store::AppStore;
