@@ -8,6 +8,8 @@ mod map_store;
 mod object;
 mod objects;
 mod store;
+#[cfg(test)]
+mod tests;
 
 pub use answer::{Mismatch, StoreAnswer};
 pub use change::Change;
