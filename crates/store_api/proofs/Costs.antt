@@ -143,7 +143,7 @@ pub blocks_at_most : (m : Store) (k : List ℕ) (o : Object) → object_at m k �
 blocks_at_most m k o is = let left = cost-remove m k in let own : blocks_at (object_at m k) ≡ blocks o = ap blocks_at is in omega (arith, left, own)
 
 -- what holds of an object and its identifier where it is put, and of those that were there, holds of all
-inserted : (P : List ℕ → Object → Type 0) (m : Store) (k : List ℕ) (v : Object) → P k v → ((q : List ℕ) (o : Object) → object_at m q ≡ Some o → P q o) → (q : List ℕ) (o : Object) → object_at (finite.insert m k v) q ≡ Some o → P q o
+pub inserted : (P : List ℕ → Object → Type 0) (m : Store) (k : List ℕ) (v : Object) → P k v → ((q : List ℕ) (o : Object) → object_at m q ≡ Some o → P q o) → (q : List ℕ) (o : Object) → object_at (finite.insert m k v) q ≡ Some o → P q o
 inserted P m k v here there q o is =
     let got : cond (eq_by_cmp by_bytes q k) (Some v) (object_at m q) ≡ Some o = sym (finite.get-insert nat_list_cmp_total m k v q) ∙ is in
     elim (eq_by_cmp by_bytes q k) as (λ b. eq_by_cmp by_bytes q k ≡ b → cond b (Some v) (object_at m q) ≡ Some o → P q o) [
@@ -151,7 +151,7 @@ inserted P m k v here there q o is =
       | false ↦ λ t e. there q o e
     ] refl got
 
-removed : (P : List ℕ → Object → Type 0) (m : Store) (k : List ℕ) → ((q : List ℕ) (o : Object) → object_at m q ≡ Some o → P q o) → (q : List ℕ) (o : Object) → object_at (finite.remove m k) q ≡ Some o → P q o
+pub removed : (P : List ℕ → Object → Type 0) (m : Store) (k : List ℕ) → ((q : List ℕ) (o : Object) → object_at m q ≡ Some o → P q o) → (q : List ℕ) (o : Object) → object_at (finite.remove m k) q ≡ Some o → P q o
 removed P m k there q o is =
     let got : cond (eq_by_cmp by_bytes q k) None (object_at m q) ≡ Some o = sym (finite.get-remove nat_list_cmp_total m k q) ∙ is in
     elim (eq_by_cmp by_bytes q k) as (λ b. cond b None (object_at m q) ≡ Some o → P q o) [

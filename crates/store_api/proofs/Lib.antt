@@ -1,3 +1,4 @@
+pub mod ChangeLaws
 pub mod Costs
 pub mod History
 pub mod Named

@@ -1,4 +1,5 @@
 pub mod Keeping
+pub mod Laws
 pub mod Limits
 pub mod MapStores
 pub mod Moments

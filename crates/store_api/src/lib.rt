@@ -3,13 +3,17 @@
 
 mod answer;
 mod change;
+mod laws;
 mod map_store;
 mod object;
 mod objects;
 mod store;
+#[cfg(test)]
+mod tests;
 
 pub use answer::{Mismatch, StoreAnswer};
 pub use change::Change;
+pub use laws::change_laws;
 pub use map_store::MapStore;
 pub use object::{Facts, Listed, Object};
 pub use store::AppStore;

@@ -301,7 +301,7 @@ impl Objects {
     {
         let key = Vec::from_slice(self.alloc, to)?;
         self.map.insert(key, object)?;
-        let _object = self.map.remove(id);
+        let _moved = self.map.remove(id);
         Ok(())
     }
 }
