@@ -30,7 +30,9 @@ impl Stream {
         requires room { length output.old ≡ 16 }
         ensures { output.new ≡ xor_bytes input.now (cipher (key_bytes self.now.key) (counter_block counter)) }
     {
-        let text = xor(block_from(input, 0), self.key_block(counter));
+        let block = block_from(input, 0);
+        let key = self.key_block(counter);
+        let text = xor(&block, &key);
         output.copy_from_slice(&text);
     }
 
@@ -44,7 +46,8 @@ impl Stream {
         let end = skip + input.len();
         let mut block = [0; 16];
         block[skip..end].copy_from_slice(input);
-        let text = xor(block, self.key_block(counter));
+        let key = self.key_block(counter);
+        let text = xor(&block, &key);
         output.copy_from_slice(&text[skip..end]);
     }
 
