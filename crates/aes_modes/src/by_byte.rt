@@ -1,6 +1,6 @@
 // Counter mode, which works on any number of bytes.
 
-use crate::blocks::{block_from, xor};
+use crate::blocks::{block_from, block_of_number, xor};
 use crate::stream::Stream;
 use aes_core::encrypt_block;
 
@@ -18,7 +18,7 @@ impl Stream {
     fn key_block(&self, counter: u128) -> [u8; 16]
         ensures { result ≡ cipher (key_bytes self.now.key) (counter_block counter) }
     {
-        let mut block = counter.to_be_bytes();
+        let mut block = block_of_number(counter);
         encrypt_block(&self.key, &mut block);
         block
     }
