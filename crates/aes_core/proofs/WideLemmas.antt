@@ -1,5 +1,7 @@
 -- A block as one number of 128 bits, its words, and its bytes.
-use Rattle.std.proofs.Common.{◌≡◌, ℕ, zero, suc, ◌+◌, ◌*◌, ◌/◌, ◌%◌, ◌^◌, ◌<◌, List, [], ◌∷◌, ◌++◌, bit_and, length, get_or, slice_index, refl, sym, ap, ◌∙◌, arith, append_assoc}
+use Rattle.std.proofs.Common.{◌≡◌, ℕ, zero, suc, ◌+◌, ◌*◌, ◌/◌, ◌%◌, ◌^◌, ◌<◌, List, [], ◌∷◌, ◌++◌, bit_and, length, get_or, refl, sym, ap, ◌∙◌, arith, append_assoc, append-nil, take, drop}
+use Rattle.std.proofs.lemmas.List.{take_at, drop_all, length-drop, length-append}
+use borrow.Rule.Slice.PartMut.{put_mid}
 use Rattle.std.proofs.lemmas.Nat.{shr-shr, be_bytes_8, and_mask, shr_high, mod_low}
 use Rattle.std.specs.Int.{w64, w128, from_be_bytes, to_be_bytes}
 use Rattle.aes_core.specs.Words.{word_bytes, block_of}
@@ -29,7 +31,7 @@ low_bytes : (n : ℕ) → to_be_bytes w64 (n % 2 ^ 64)
 low_bytes n =
     let p = low_parts n in eight _ _ _ _ _ _ _ _ _ _ _ _ _ _ _ _ p.0 p.1 p.2 p.3 p.4 p.5 p.6 p.7
 
-two_lists : (a b p q : List ℕ) → a ≡ p → b ≡ q → a ++ b ≡ p ++ q
+pub two_lists : (a b p q : List ℕ) → a ≡ p → b ≡ q → a ++ b ≡ p ++ q
 two_lists a b p q ea eb = rw (ea, eb) refl
 
 pub halves : (n : ℕ) → to_be_bytes w64 (n / 2 ^ 64) ++ to_be_bytes w64 (n % 2 ^ 64) ≡ to_be_bytes w128 n
@@ -47,20 +49,27 @@ words_of_half n =
     let p = word_parts n in eight _ _ _ _ _ _ _ _ _ _ _ _ _ _ _ _ p.0 p.1 p.2 refl p.3 p.4 p.5 p.6
 
 -- the words of two halves
-pub store_is : (a b c d high low n : ℕ) → b < 2 ^ 32 → d < 2 ^ 32 → c < 2 ^ 32 → high ≡ a * 2 ^ 32 + b → low ≡ c * 2 ^ 32 + d → n ≡ high * 2 ^ 64 + low
-    → to_be_bytes w128 n ≡ block_of a b c d
-store_is a b c d high low n fb fd fc eh el en =
-    let h : n / 2 ^ 64 ≡ high = omega arith in
-    let l : n % 2 ^ 64 ≡ low = omega arith in
+pub store_is : (a b c d high low : ℕ) (p q : List ℕ) → b < 2 ^ 32 → d < 2 ^ 32 → high ≡ a * 2 ^ 32 + b → low ≡ c * 2 ^ 32 + d
+    → p ≡ to_be_bytes w64 high → q ≡ to_be_bytes w64 low → p ++ q ≡ block_of a b c d
+store_is a b c d high low p q fb fd eh el ep eq =
     let ha : high / 2 ^ 32 ≡ a = omega arith in
     let hb : high % 2 ^ 32 ≡ b = omega arith in
     let lc : low / 2 ^ 32 ≡ c = omega arith in
     let ld : low % 2 ^ 32 ≡ d = omega arith in
-    sym (halves n) ∙ two_lists _ _ _ _ (ap (to_be_bytes w64) h ∙ sym (words_of_half high)) (ap (to_be_bytes w64) l ∙ sym (words_of_half low))
+    two_lists _ _ _ _ (ep ∙ sym (words_of_half high)) (eq ∙ sym (words_of_half low))
     ∙ joined (word_bytes (high / 2 ^ 32)) (word_bytes (high % 2 ^ 32)) (word_bytes (low / 2 ^ 32)) (word_bytes (low % 2 ^ 32))
-      (word_bytes a) (word_bytes b) (word_bytes c) (word_bytes d) (ap word_bytes ha) (ap word_bytes hb) (ap word_bytes lc) (ap word_bytes ld) where
-  joined : (p q r s p' q' r' s' : List ℕ) → p ≡ p' → q ≡ q' → r ≡ r' → s ≡ s' → (p ++ q) ++ (r ++ s) ≡ p' ++ (q' ++ (r' ++ s'))
-  joined p q r s p' q' r' s' ep eq er es = rw (ep, eq, er, es) (append_assoc p' q' (r' ++ s'))
+    (word_bytes a) (word_bytes b) (word_bytes c) (word_bytes d) (ap word_bytes ha) (ap word_bytes hb) (ap word_bytes lc) (ap word_bytes ld) where
+      joined : (p q r s p' q' r' s' : List ℕ) → p ≡ p' → q ≡ q' → r ≡ r' → s ≡ s' → (p ++ q) ++ (r ++ s) ≡ p' ++ (q' ++ (r' ++ s'))
+      joined p q r s p' q' r' s' ep eq er es = rw (ep, eq, er, es) (append_assoc p' q' (r' ++ s'))
+
+-- two halves written into a block
+pub halves_written : (zeros p q : List ℕ) → length zeros ≡ 16 → length p ≡ 8 → length q ≡ 8
+    → put_mid 8 8 (put_mid 0 8 zeros p) q ≡ p ++ q
+halves_written zeros p q lz lp lq =
+    let front : take 8 (p ++ drop 8 zeros) ≡ p = take_at p (drop 8 zeros) 8 lp in
+    let rest : drop 8 (drop 8 (p ++ drop 8 zeros)) ≡ [] =
+    drop_all 8 (drop 8 (p ++ drop 8 zeros)) (omega (arith, length-drop 8 (p ++ drop 8 zeros), length-append p (drop 8 zeros), length-drop 8 zeros)) in
+    rw (front, rest, append-nil) refl
 
 -- the words that a number is cut into
 pub load_is : (n : ℕ) → block_of (n / 2 ^ 96) (bit_and (n / 2 ^ 64) 0xffffffff) (bit_and (n / 2 ^ 32) 0xffffffff) (bit_and n 0xffffffff) ≡ to_be_bytes w128 n
@@ -72,8 +81,8 @@ load_is n =
     (word_bytes (n / 2 ^ 64 / 2 ^ 32)) (word_bytes (n / 2 ^ 64 % 2 ^ 32)) (word_bytes (n % 2 ^ 64 / 2 ^ 32)) (word_bytes (n % 2 ^ 64 % 2 ^ 32))
     (ap word_bytes a) (ap word_bytes (and_mask (n / 2 ^ 64) 32)) (ap word_bytes (and_mask (n / 2 ^ 32) 32 ∙ c)) (ap word_bytes (and_mask n 32 ∙ d))
     ∙ two_lists _ _ _ _ (words_of_half (n / 2 ^ 64)) (words_of_half (n % 2 ^ 64)) ∙ halves n where
-  joined : (p q r s p' q' r' s' : List ℕ) → p ≡ p' → q ≡ q' → r ≡ r' → s ≡ s' → p ++ (q ++ (r ++ s)) ≡ (p' ++ q') ++ (r' ++ s')
-  joined p q r s p' q' r' s' ep eq er es = rw (ep, eq, er, es) (sym (append_assoc p' q' (r' ++ s')))
+      joined : (p q r s p' q' r' s' : List ℕ) → p ≡ p' → q ≡ q' → r ≡ r' → s ≡ s' → p ++ (q ++ (r ++ s)) ≡ (p' ++ q') ++ (r' ++ s')
+      joined p q r s p' q' r' s' ep eq er es = rw (ep, eq, er, es) (sym (append_assoc p' q' (r' ++ s')))
 
 eight_fit : (a b c d e f g h : ℕ) → a < 256 → b < 256 → c < 256 → d < 256 → e < 256 → f < 256 → g < 256 → h < 256 → (k : ℕ) → get_or (a ∷ b ∷ c ∷ d ∷ e ∷ f ∷ g ∷ h ∷ []) k 0 < 256
 eight_fit a b c d e f g h fa fb fc fd fe ff fg fh zero = fa
@@ -110,6 +119,6 @@ be_bytes_16 b n long fits e =
     let l : n % 2 ^ 64 ≡ low = ap (λ (z : ℕ). z % 2 ^ 64) whole ∙ mod_low high 64 low small in
     sym (halves n)
     ∙ two_lists _ _ _ _
-      (ap (to_be_bytes w64) h ∙ half_back (at 0) (at 1) (at 2) (at 3) (at 4) (at 5) (at 6) (at 7) (fits 0) (fits 1) (fits 2) (fits 3) (fits 4) (fits 5) (fits 6) (fits 7))
-      (ap (to_be_bytes w64) l ∙ half_back (at 8) (at 9) (at 10) (at 11) (at 12) (at 13) (at 14) (at 15) (fits 8) (fits 9) (fits 10) (fits 11) (fits 12) (fits 13) (fits 14) (fits 15))
+    (ap (to_be_bytes w64) h ∙ half_back (at 0) (at 1) (at 2) (at 3) (at 4) (at 5) (at 6) (at 7) (fits 0) (fits 1) (fits 2) (fits 3) (fits 4) (fits 5) (fits 6) (fits 7))
+    (ap (to_be_bytes w64) l ∙ half_back (at 8) (at 9) (at 10) (at 11) (at 12) (at 13) (at 14) (at 15) (fits 8) (fits 9) (fits 10) (fits 11) (fits 12) (fits 13) (fits 14) (fits 15))
     ∙ sym (block_written b long)

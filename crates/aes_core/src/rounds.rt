@@ -58,21 +58,17 @@ fn pair(high: u32, low: u32) -> u64
     u64::from(high) << 32 | u64::from(low)
 }
 
-#[inline(always)]
-fn pair_of_pairs(high: u64, low: u64) -> u128
-    ensures { result ≡ high * 2 ^ 64 + low }
-{
-    u128::from(high) << 64 | u128::from(low)
-}
-
 /// The block of four words.
 #[inline(always)]
 pub(crate) fn store(words: [u32; 4]) -> [u8; 16]
     ensures { result ≡ block_bytes words }
 {
-    let high = pair(words[0], words[1]);
-    let low = pair(words[2], words[3]);
-    pair_of_pairs(high, low).to_be_bytes()
+    let high = pair(words[0], words[1]).to_be_bytes();
+    let low = pair(words[2], words[3]).to_be_bytes();
+    let mut block = [0; 16];
+    block[..8].copy_from_slice(&high);
+    block[8..].copy_from_slice(&low);
+    block
 }
 
 /// The words of the round key of number `round`.

@@ -1,20 +1,32 @@
 -- Blocks of a list, and the text of the first blocks.
-use Rattle.std.proofs.Common.{◌≡◌, ℕ, zero, suc, ◌+◌, ◌-◌, ◌*◌, ◌<◌, ◌≤◌, List, [], ◌∷◌, ◌++◌, bit_xor, length, take, drop, slice_index, refl, sym, ap, ◌∙◌, arith, add-one, append-nil}
+use Rattle.std.proofs.Common.{get_or, ◌≡◌, ℕ, zero, suc, ◌+◌, ◌-◌, ◌*◌, ◌<◌, ◌≤◌, List, [], ◌∷◌, ◌++◌, bit_xor, length, take, drop, refl, sym, ap, ◌∙◌, arith, add-one, append-nil}
 use Rattle.std.proofs.lemmas.List.{drop-drop, drop_all, drop_at, length-take-le, length-drop}
 use Rattle.std.proofs.lemmas.Slice.{take-put_mid, drop-put_mid}
 use borrow.Rule.Slice.PartMut.{put_mid, post_of}
-use Rattle.aes_core.specs.Transformations.{state_of}
-use Rattle.aes_core.proofs.RoundLemmas.{block_written}
+use Rattle.std.proofs.lemmas.Nat.{xor_mod}
+use Rattle.std.specs.Int.{w128, from_be_bytes, to_be_bytes}
+use Rattle.aes_core.proofs.ColumnLemmas.{xor_part}
+use Rattle.aes_core.proofs.WideLemmas.{be_bytes_16}
 use Rattle.aes_modes.specs.Modes.{block_at, xor_bytes}
 use Rattle.aes_modes.specs.Stream.{step_text, step_vector, vector_after, blocks_text}
 use Rattle.aes_modes.specs.declared.modes.Mode.{Mode}
 use Rattle.aes_modes.specs.declared.modes.Way.{Way}
 
--- the sums of two blocks, written out
-pub xor_written : (a b : List ℕ) → length a ≡ 16 → length b ≡ 16 → state_of (λ i. bit_xor (slice_index a i) (slice_index b i)) ≡ xor_bytes a b
+joint : {a b : ℕ} {xs ys : List ℕ} → a ≡ b → xs ≡ ys → a ∷ xs ≡ b ∷ ys
+joint ea es = cc
+
+-- the bytes of a sum of numbers
+bytes-bit_xor : (x y : ℕ) → to_be_bytes w128 (bit_xor x y) ≡ xor_bytes (to_be_bytes w128 x) (to_be_bytes w128 y)
 unfolding xor_bytes
-xor_written a b la lb =
-    sym (ap (λ (z : List ℕ). xor_bytes z b) (block_written a la) ∙ ap (xor_bytes (state_of (λ i. slice_index a i))) (block_written b lb))
+bytes-bit_xor x y =
+    joint (xor_part x y 120) (joint (xor_part x y 112) (joint (xor_part x y 104) (joint (xor_part x y 96) (joint (xor_part x y 88) (joint (xor_part x y 80) (joint (xor_part x y 72) (joint (xor_part x y 64) (joint (xor_part x y 56) (joint (xor_part x y 48) (joint (xor_part x y 40) (joint (xor_part x y 32) (joint (xor_part x y 24) (joint (xor_part x y 16) (joint (xor_part x y 8) (joint (xor_mod x y 8) refl)))))))))))))))
+
+-- the sum of two blocks, as numbers
+pub xor_is : (a b : List ℕ) (x y z : ℕ) → length a ≡ 16 → length b ≡ 16 → ((i : ℕ) → get_or a i 0 < 256) → ((i : ℕ) → get_or b i 0 < 256)
+    → x ≡ from_be_bytes w128 a → y ≡ from_be_bytes w128 b → z ≡ bit_xor x y → to_be_bytes w128 z ≡ xor_bytes a b
+xor_is a b x y z la lb fa fb ex ey ez =
+    ap (to_be_bytes w128) ez ∙ bytes-bit_xor x y
+    ∙ ap (λ (l : List ℕ). xor_bytes l (to_be_bytes w128 y)) (be_bytes_16 a x la fa ex) ∙ ap (xor_bytes a) (be_bytes_16 b y lb fb ey)
 
 -- the front of two lists joined, from within the second
 pub take-append : (xs ys : List ℕ) (n : ℕ) → length xs ≤ n → take n (xs ++ ys) ≡ xs ++ take (n - length xs) ys

@@ -1,6 +1,7 @@
 // Blocks of 16 bytes: read from a slice, and added.
 
 ghost use Rattle.std.specs.Prelude.{◌≡◌, ◌+◌, ◌≤◌, ◌^◌, ◌<◌, length, take, drop};
+ghost use Rattle.std.specs.Int.{w128, to_be_bytes};
 ghost use Rattle.aes_modes.specs.Modes.{xor_bytes};
 
 /// The block at a place.
@@ -15,27 +16,23 @@ pub(crate) fn block_from(bytes: &[u8], at: usize) -> [u8; 16]
     block
 }
 
+/// The bytes of a number, highest first, half by half.
+#[inline(always)]
+pub(crate) fn block_of_number(number: u128) -> [u8; 16]
+    ensures { result ≡ to_be_bytes w128 number }
+{
+    let high = ((number >> 64) as u64).to_be_bytes();
+    let low = ((number & 0xffff_ffff_ffff_ffff) as u64).to_be_bytes();
+    let mut block = [0; 16];
+    block[..8].copy_from_slice(&high);
+    block[8..].copy_from_slice(&low);
+    block
+}
+
 /// The sum of two blocks.
 #[inline(always)]
-pub(crate) fn xor(a: [u8; 16], b: [u8; 16]) -> [u8; 16]
-    ensures { result ≡ xor_bytes a b }
+pub(crate) fn xor(a: &[u8; 16], b: &[u8; 16]) -> [u8; 16]
+    ensures { result ≡ xor_bytes a.now b.now }
 {
-    [
-        a[0] ^ b[0],
-        a[1] ^ b[1],
-        a[2] ^ b[2],
-        a[3] ^ b[3],
-        a[4] ^ b[4],
-        a[5] ^ b[5],
-        a[6] ^ b[6],
-        a[7] ^ b[7],
-        a[8] ^ b[8],
-        a[9] ^ b[9],
-        a[10] ^ b[10],
-        a[11] ^ b[11],
-        a[12] ^ b[12],
-        a[13] ^ b[13],
-        a[14] ^ b[14],
-        a[15] ^ b[15],
-    ]
+    block_of_number(u128::from_be_bytes(*a) ^ u128::from_be_bytes(*b))
 }

@@ -23,7 +23,7 @@ impl Stream {
             (Mode::Ecb, Way::Encrypt) => encrypt_block(&self.key, block),
             (Mode::Ecb, Way::Decrypt) => decrypt_block(&self.key, block),
             (Mode::Cbc, Way::Encrypt) => {
-                let sum = xor(*vector, *block);
+                let sum = xor(vector, block);
                 *block = sum;
                 encrypt_block(&self.key, block);
                 *vector = *block;
@@ -31,7 +31,7 @@ impl Stream {
             (Mode::Cbc, Way::Decrypt) => {
                 let sealed = *block;
                 decrypt_block(&self.key, block);
-                let sum = xor(*block, *vector);
+                let sum = xor(block, vector);
                 *block = sum;
                 *vector = sealed;
             }

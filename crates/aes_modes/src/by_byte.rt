@@ -1,6 +1,6 @@
 // Counter mode, which works on any number of bytes.
 
-use crate::blocks::{block_from, xor};
+use crate::blocks::{block_from, block_of_number, xor};
 use crate::stream::Stream;
 use aes_core::encrypt_block;
 
@@ -18,7 +18,7 @@ impl Stream {
     fn key_block(&self, counter: u128) -> [u8; 16]
         ensures { result ≡ cipher (key_bytes self.now.key) (counter_block counter) }
     {
-        let mut block = counter.to_be_bytes();
+        let mut block = block_of_number(counter);
         encrypt_block(&self.key, &mut block);
         block
     }
@@ -30,7 +30,9 @@ impl Stream {
         requires room { length output.old ≡ 16 }
         ensures { output.new ≡ xor_bytes input.now (cipher (key_bytes self.now.key) (counter_block counter)) }
     {
-        let text = xor(block_from(input, 0), self.key_block(counter));
+        let block = block_from(input, 0);
+        let key = self.key_block(counter);
+        let text = xor(&block, &key);
         output.copy_from_slice(&text);
     }
 
@@ -44,7 +46,8 @@ impl Stream {
         let end = skip + input.len();
         let mut block = [0; 16];
         block[skip..end].copy_from_slice(input);
-        let text = xor(block, self.key_block(counter));
+        let key = self.key_block(counter);
+        let text = xor(&block, &key);
         output.copy_from_slice(&text[skip..end]);
     }
 

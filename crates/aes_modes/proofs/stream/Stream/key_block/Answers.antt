@@ -7,4 +7,4 @@ use Rattle.aes_modes.proofs.stream.Stream.key_block.Goals as goal
 pub returns : goal.returns
 returns c =
     c.encrypt_block.ensures
-    ∙ ap (λ (b : List ℕ). cipher (key_bytes c.args.self.now.key) b) (c.to_be_bytes-block.ensures ∙ counter_block_below c.args.counter (omega arith))
+    ∙ ap (λ (b : List ℕ). cipher (key_bytes c.args.self.now.key) b) (c.block_of_number-block.ensures ∙ counter_block_below c.args.counter (omega arith))
