@@ -2,4 +2,5 @@ pub mod Codes
 pub mod Crash
 pub mod Fakes
 pub mod Faults
+pub mod Numbers
 pub mod Transfer

@@ -1,0 +1,4 @@
+pub mod Machine
+pub mod Places
+pub mod Replies
+pub mod Step

@@ -1,0 +1,259 @@
+-- One step of the machine: a client's call, or a turn of an instance. Numbers of sections are those of TEE Internal Core API 1.3
+-- (instances and sessions: 2.1.3; entry points: 4.3) and TEE Client API 1.0 (calls: 4.5.5 to 4.5.7; origins: 4.4.3).
+use Rattle.std.specs.Prelude.{ℕ, ◌+◌, ◌==◌, Bool, true, false, not, ◌&&◌, ◌||◌, List, [], ◌∷◌, ◌++◌, Option, None, Some, Result, Ok, Err, is_some, option_map, if◌then◌else◌, nat_le, find, filter, map}
+use Rattle.tee_base.specs.declared.codes.Code.{Code}
+use Rattle.tee_base.specs.declared.codes.Origin.{Origin}
+use Rattle.tee_base.specs.declared.codes.Origin.TheVariants.{Api, Tee, App}
+use Rattle.app_api.specs.declared.call.Call.{Call}
+use Rattle.app_api.specs.declared.call.Call.TheVariants as calls
+use Rattle.app_api.specs.declared.param.Params.{Params}
+use Rattle.app_api.specs.declared.ask.Given.{Given}
+use Rattle.app_api.specs.declared.ask.Given.TheVariants as givens
+use Rattle.app_api.specs.declared.ask.Entry.{Entry}
+use Rattle.app_api.specs.declared.ask.Entry.TheVariants as entries
+use Rattle.app_api.specs.declared.ask.Ask.{Ask}
+use Rattle.app_api.specs.declared.ask.Ask.TheVariants as asked
+use Rattle.app_api.specs.declared.out.Outs.{Outs}
+use Rattle.app_api.specs.Params.{first_oversized}
+use Rattle.app_api.specs.Outs.{no_outs}
+use Rattle.instances.specs.declared.instances.Admission.{Admission}
+use Rattle.instances.specs.declared.instances.Refusal.{Refusal}
+use Rattle.instances.specs.declared.session.SessionFacts.{SessionFacts}
+use Rattle.instances.specs.declared.session.SessionState.{SessionState}
+use Rattle.instances.specs.declared.session.SessionState.TheVariants.{Opening, Open, Closing, Dead}
+use Rattle.instances.specs.Instances.{session_of, facts_of, admission_of, entered, state_set, session_removed, ended}
+use Rattle.op_queue.specs.declared.operation.Operation.{Operation}
+use Rattle.op_queue.specs.declared.operation.Begun.{Begun}
+use Rattle.op_queue.specs.Queue.{Queue, is_full, submitted, skipped, first_waiting, begun_at, after_begin, without}
+use Rattle.alone.specs.declared.places.Places.{Places}
+use Rattle.alone.specs.declared.reply.Outputs.{Outputs}
+use Rattle.alone.specs.declared.reply.Reply.{Reply}
+use Rattle.alone.specs.declared.running.Ending.{Ending}
+use Rattle.alone.specs.declared.running.Instance.{Instance}
+use Rattle.alone.specs.declared.running.Running.{Running}
+use Rattle.alone.specs.declared.running.Stage.{Stage}
+use Rattle.alone.specs.declared.running.Stage.TheVariants as stages
+use Rattle.alone.specs.declared.running.Waits.{Waits}
+use Rattle.alone.specs.declared.running.Waits.TheVariants as waits
+use Rattle.alone.specs.Machine.{Machine, is_number, instance_at, with_instance}
+use Rattle.alone.specs.Places.{no_places, places_of, delivered, is_misuse}
+use Rattle.alone.specs.Replies.{no_outputs}
+
+-- codes
+abbrev pub success : Code
+success = record { 0 = 0 }
+abbrev pub bad_parameters : Code
+bad_parameters = record { 0 = 4294901766 }
+abbrev pub bad_state : Code
+bad_state = record { 0 = 4294901767 }
+abbrev pub not_implemented : Code
+not_implemented = record { 0 = 4294901769 }
+abbrev pub busy : Code
+busy = record { 0 = 4294901773 }
+abbrev pub target_dead : Code
+target_dead = record { 0 = 4294914084 }
+
+-- the machine after an event, and the replies to the client operations that it answered, in ascending order
+pub record Stepped (A : Type 0) : Type 0 where
+  pub machine : Machine A
+  pub replies : List Reply
+  -- the instance for which a call waits, 0 where none does
+  pub instance : ℕ
+
+abbrev pub quiet : {A : Type 0} → Machine A → Stepped A
+quiet m = record { machine = m; replies = []; instance = 0 }
+
+abbrev pub reply_of : ℕ → Code → Origin → Outputs → Reply
+reply_of op code origin outputs = record { op = op; code = code; origin = origin; outputs = outputs }
+
+-- ---- calls
+
+-- what the client's label stands for
+abbrev pub known : {A : Type 0} → Machine A → ℕ → ℕ → Option SessionFacts
+known m client label = option_map facts_of (session_of m.table client label)
+
+-- a call that is answered at once: it uses a number, and nothing else changes
+abbrev pub answered_at_once : {A : Type 0} → Machine A → Code → Origin → Stepped A
+answered_at_once m code origin = record {
+  machine = record m { queue = skipped m.queue };
+  replies = reply_of m.queue.next code origin no_outputs ∷ [];
+  instance = 0;
+}
+
+-- a call that waits for the instance
+abbrev pub queued : {A : Type 0} → Machine A → ℕ → ℕ → ℕ → Call → Stepped A
+queued m client instance session call = record {
+  machine = record m { queue = submitted m.queue client instance session call };
+  replies = [];
+  instance = instance;
+}
+
+-- an instance that has run no entry
+abbrev pub new_instance : {A : Type 0} → A → ℕ → Instance A
+new_instance template number = record { number = number; state = template; created = false; running = None }
+
+abbrev pub admitted : {A : Type 0} → Machine A → ℕ → ℕ → Admission → Machine A
+admitted m client label a = record m {
+  table = entered m.table client label a;
+  instances = if a.new_instance then m.instances ++ new_instance m.template a.instance ∷ [] else m.instances;
+}
+
+abbrev pub opened_as : {A : Type 0} → Machine A → ℕ → ℕ → Params → Result Admission Refusal → Stepped A
+opened_as m client label ps (Err refusal) = answered_at_once m refusal.code refusal.origin
+opened_as m client label ps (Ok a) = queued (admitted m client label a) client a.instance a.session (calls.Open label ps)
+
+-- an open: too large a parameter, a label in use, a full queue, no admission, or it waits
+abbrev pub called_open : {A : Type 0} → Machine A → ℕ → ℕ → Params → Stepped A
+called_open m client label ps =
+  if is_some (first_oversized ps) then answered_at_once m bad_parameters Api
+  else if is_some (known m client label) then answered_at_once m bad_state Api
+  else if is_full m.queue then answered_at_once m busy Tee
+  else opened_as m client label ps (admission_of m.table client label)
+
+abbrev pub invoked_at : {A : Type 0} → Machine A → ℕ → Call → SessionFacts → SessionState → Stepped A
+invoked_at m client call s Opening = answered_at_once m bad_state Api
+invoked_at m client call s Closing = answered_at_once m bad_state Api
+invoked_at m client call s Dead = answered_at_once m target_dead Tee
+invoked_at m client call s Open = if is_full m.queue then answered_at_once m busy Tee else queued m client s.instance s.session call
+
+abbrev pub invoked_in : {A : Type 0} → Machine A → ℕ → Call → Option SessionFacts → Stepped A
+invoked_in m client call None = answered_at_once m bad_state Api
+invoked_in m client call (Some s) = invoked_at m client call s s.state
+
+-- an invoke: too large a parameter, no open or dead session, a dead one, a full queue, or it waits
+abbrev pub called_invoke : {A : Type 0} → Machine A → ℕ → ℕ → ℕ → Params → Stepped A
+called_invoke m client label command ps =
+  if is_some (first_oversized ps) then answered_at_once m bad_parameters Api
+  else invoked_in m client (calls.Invoke label command ps) (known m client label)
+
+abbrev pub closed_at : {A : Type 0} → Machine A → ℕ → ℕ → SessionFacts → SessionState → Stepped A
+closed_at m client label s Opening = answered_at_once m bad_state Api
+closed_at m client label s Closing = answered_at_once m bad_state Api
+closed_at m client label s Dead = answered_at_once (record m { table = session_removed m.table s.session }) success Tee
+closed_at m client label s Open = queued (record m { table = state_set m.table s.session Closing }) client s.instance s.session (calls.Close label)
+
+-- a close: no open or dead session, a dead one, which goes, or it waits
+abbrev pub closed_in : {A : Type 0} → Machine A → ℕ → ℕ → Option SessionFacts → Stepped A
+closed_in m client label None = answered_at_once m bad_state Api
+closed_in m client label (Some s) = closed_at m client label s s.state
+
+unfoldable pub called : {A : Type 0} → Machine A → ℕ → Call → Stepped A
+called m client (calls.Open label ps) = called_open m client label ps
+called m client (calls.Invoke label command ps) = called_invoke m client label command ps
+called m client (calls.Close label) = closed_in m client label (known m client label)
+
+-- ---- turns: begin
+
+-- an entry that begins
+abbrev pub entry_begun : ℕ → Stage → Entry → Running
+entry_begun op stage entry = record { op = op; stage = stage; waits = waits.Given (givens.Entry entry); asks = 0 }
+
+abbrev pub start_begun : ℕ → ℕ → Params → Running
+start_begun op session ps = entry_begun op (stages.Start session (places_of ps)) (entries.Start session ps)
+
+-- the first entry of an operation: an open's is create where the instance never ran it
+abbrev pub first_entry : Bool → ℕ → ℕ → Call → Running
+first_entry false op session (calls.Open label ps) = entry_begun op (stages.Create session ps) entries.Create
+first_entry true op session (calls.Open label ps) = start_begun op session ps
+first_entry created op session (calls.Invoke label command ps) = entry_begun op (stages.Invoke session (places_of ps)) (entries.Invoke session command ps)
+first_entry created op session (calls.Close label) = entry_begun op (stages.Stop session) (entries.Stop session)
+
+abbrev pub begun_with : {A : Type 0} → Machine A → Instance A → Option Begun → Machine A
+begun_with m inst None = m
+begun_with m inst (Some b) = with_instance m (record inst { running = Some (first_entry inst.created b.op b.session b.call) })
+
+-- the instance's waiting operation with the least number begins, if there is one
+abbrev pub begun : {A : Type 0} → Machine A → Instance A → Machine A
+begun m inst = let first = first_waiting m.queue inst.number in begun_with (record m { queue = after_begin m.queue first }) inst (begun_at first)
+
+-- ---- turns: think
+
+-- the application's step, and its ask waits
+abbrev pub thought : {A : Type 0} → (A → Given → A) → (A → Given → Ask) → Machine A → Instance A → Running → Given → Machine A
+thought next asks m inst r given = with_instance m (record inst { state = next inst.state given; running = Some (record { op = r.op; stage = r.stage; waits = waits.Ask (asks inst.state given); asks = r.asks }) })
+
+-- ---- turns: act
+
+-- the operation is answered, and its instance runs nothing
+abbrev pub answered : {A : Type 0} → Machine A → Instance A → ℕ → Code → Outputs → Stepped A
+answered m inst op code outputs = record {
+  machine = with_instance (record m { queue = without m.queue op }) (record inst { running = None });
+  replies = reply_of op code App outputs ∷ [];
+  instance = 0;
+}
+
+abbrev pub belongs_to : ℕ → Operation → Bool
+belongs_to i o = o.instance == i
+
+-- create failed: the instance ends, and with it its sessions and its operations, which are answered with the code
+abbrev pub create_failed : {A : Type 0} → Machine A → Instance A → Code → Stepped A
+create_failed m inst code = record {
+  machine = record m {
+    table = ended m.table inst.number;
+    instances = filter (λ other. not (is_number inst.number other)) m.instances;
+    queue = record m.queue { operations = filter (λ o. not (belongs_to inst.number o)) m.queue.operations };
+  };
+  replies = map (λ o. reply_of o.number code App no_outputs) (filter (belongs_to inst.number) m.queue.operations);
+  instance = 0;
+}
+
+abbrev pub is_success : Code → Bool
+is_success code = code.0 == 0
+
+-- what a return does, by the entry of the operation that returns
+abbrev pub returned : {A : Type 0} → Machine A → Instance A → ℕ → Stage → Code → Outs → Stepped A
+returned m inst op (stages.Create session ps) code outs =
+  if is_success code then quiet (with_instance m (record inst { created = true; running = Some (start_begun op session ps) }))
+  else create_failed m inst code
+returned m inst op (stages.Start session places) code outs =
+  answered (record m { table = if is_success code then state_set m.table session Open else session_removed m.table session }) inst op code (delivered places outs)
+returned m inst op (stages.Invoke session places) code outs = answered m inst op code (delivered places outs)
+returned m inst op (stages.Stop session) code outs = answered (record m { table = session_removed m.table session }) inst op success no_outputs
+
+-- how an entry ends at an ask that isn't built
+abbrev pub not_built : Ending
+not_built = record { code = not_implemented; outs = no_outs }
+
+-- the output positions of the entry that runs
+abbrev pub places_at : Stage → Places
+places_at (stages.Create session ps) = no_places
+places_at (stages.Start session places) = places
+places_at (stages.Invoke session places) = places
+places_at (stages.Stop session) = no_places
+
+-- how the entry ends at what it asks for: only a return is built. Any other ask, misuse, and an ask after 65,536 others end it too
+abbrev pub ending_of : Stage → ℕ → Ask → Ending
+ending_of stage made (asked.Return code outs) = if nat_le 65536 made || is_misuse (places_at stage) outs then not_built else record { code = code; outs = outs }
+ending_of stage made ask = not_built
+
+abbrev pub acted : {A : Type 0} → Machine A → Instance A → Running → Ending → Stepped A
+acted m inst r end = returned m inst r.op r.stage end.code end.outs
+
+-- ---- a turn
+
+abbrev pub went_on : {A : Type 0} → (A → Given → A) → (A → Given → Ask) → Machine A → Instance A → Running → Waits → Stepped A
+went_on next asks m inst r (waits.Given given) = quiet (thought next asks m inst r given)
+went_on next asks m inst r (waits.Ask ask) = acted m inst r (ending_of r.stage r.asks ask)
+
+abbrev pub turned_by : {A : Type 0} → (A → Given → A) → (A → Given → Ask) → Machine A → Instance A → Option Running → Stepped A
+turned_by next asks m inst None = quiet (begun m inst)
+turned_by next asks m inst (Some r) = went_on next asks m inst r r.waits
+
+abbrev pub turned_at : {A : Type 0} → (A → Given → A) → (A → Given → Ask) → Machine A → Option (Instance A) → Stepped A
+turned_at next asks m None = quiet m
+turned_at next asks m (Some inst) = turned_by next asks m inst inst.running
+
+-- a turn of an instance: the entry that runs goes on, or the next operation begins, or nothing happens. Each turn counts
+unfoldable pub turned : {A : Type 0} → (A → Given → A) → (A → Given → Ask) → Machine A → ℕ → Stepped A
+turned next asks m i = let now = record m { turns = m.turns + 1 } in turned_at next asks now (instance_at now i)
+
+-- ---- events
+
+pub data Event : Type 0 where
+  Called : (client : ℕ) (call : Call) → Event
+  Turned : (instance : ℕ) → Event
+
+-- one step; next and asks are the application's two functions
+abbrev pub step : {A : Type 0} → (A → Given → A) → (A → Given → Ask) → Machine A → Event → Stepped A
+step next asks m (Called client call) = called m client call
+step next asks m (Turned instance) = turned next asks m instance

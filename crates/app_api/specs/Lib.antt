@@ -1,0 +1,3 @@
+pub mod Outs
+pub mod Params
+pub mod Hosts

@@ -1,0 +1,16 @@
+//! Applications as the runtime sees them: parameters and outputs, entries and asks, the trait, and the hosts that carry them.
+#![tactic(auto)]
+
+mod application;
+mod ask;
+mod call;
+mod host;
+mod out;
+mod param;
+
+pub use application::Application;
+pub use ask::{Answer, Ask, Entry, Given};
+pub use call::Call;
+pub use host::{Host, Properties, hosts_fit};
+pub use out::{Out, Outs};
+pub use param::{Param, Params, TooLarge};

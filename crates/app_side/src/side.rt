@@ -1,0 +1,31 @@
+//! What is kept of a running application.
+
+use alone::{Instance, Replies};
+use app_api::{Application, Host};
+use instances::Instances;
+use op_queue::OpQueue;
+use std::alloc::Global;
+use tee_base::NoMemory;
+
+/// A running application: its instances, its sessions and its unanswered operations.
+#[derive(Drop)]
+pub struct AppSide<A> {
+    pub(crate) alloc: Global,
+    pub(crate) template: A,
+    pub(crate) application: u8,
+    pub(crate) seed: [u8; 32],
+    pub(crate) table: Instances,
+    pub(crate) instances: Vec<Instance<A>>,
+    pub(crate) queue: OpQueue,
+    pub(crate) turns: u64,
+}
+
+/// What became of a call.
+#[derive(Debug, Drop)]
+pub struct Called {
+    /// The number of its operation.
+    pub op: u64,
+    /// The instance for which it waits, 0 where it is answered already.
+    pub instance: u8,
+    pub replies: Replies,
+}

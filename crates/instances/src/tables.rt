@@ -1,0 +1,128 @@
+//! The lists behind the tables, each read or rebuilt by one scan.
+
+ghost use Rattle.std.specs.Prelude.{◌≡◌, ◌==◌, ◌≤◌, ◌<◌, [], ◌∷◌, ◌++◌, true, false, if◌then◌else◌, not, filter, map, find, option_map, length};
+ghost use Rattle.tee_base.specs.Numbers.{lowest_free};
+ghost use Rattle.instances.specs.Instances.{is_known_as, facts_of, with_state, with_ending, stays_after_end, killed};
+
+use crate::instances::Admission;
+use crate::session::{Session, SessionFacts, SessionState, Slot};
+use arrayvec::ArrayVec;
+use tee_base::find_lowest_free;
+
+/// The lowest session number that is free.
+pub fn free_session(sessions: &[Session]) -> u8
+    requires { length sessions.now ≤ 8 }
+    ensures { result ≡ lowest_free (map (λ s. s.number) sessions.now) }
+{
+    let mut taken = ArrayVec::<u8, 8>::new();
+    for session in sessions {
+        taken.push(session.number);
+    }
+    find_lowest_free(taken.as_slice())
+}
+
+/// The lowest instance number that is free.
+pub fn free_instance(slots: &[Slot]) -> u8
+    requires { length slots.now ≤ 4 }
+    ensures { result ≡ lowest_free (map (λ slot. slot.number) slots.now) }
+{
+    let mut taken = ArrayVec::<u8, 4>::new();
+    for slot in slots {
+        taken.push(slot.number);
+    }
+    find_lowest_free(taken.as_slice())
+}
+
+/// Adds the instance that an open was admitted to, where it is new.
+pub fn add_instance(slots: &mut ArrayVec<Slot, 4>, admission: Admission)
+    requires { admission.new_instance ≡ true → length slots.old.items < 4 }
+    ensures { slots.new.items ≡ (if admission.new_instance then slots.old.items ++ record { number = admission.instance; ending = false } ∷ [] else slots.old.items) }
+{
+    if admission.new_instance {
+        slots.push(Slot {
+            number: admission.instance,
+            ending: false,
+        });
+    }
+}
+
+/// The session that the client knows by this label.
+pub fn known_as(sessions: &[Session], client: u8, label: u32) -> Option<SessionFacts>
+    ensures { result ≡ option_map facts_of (find (is_known_as client label) sessions.now) }
+{
+    sessions
+        .iter()
+        .find(|s| s.client == client && s.label == label)
+        .map(|s| s.facts())
+}
+
+/// The sessions, with the one of this number in this state.
+pub fn with_state(sessions: &[Session], number: u8, state: SessionState) -> ArrayVec<Session, 8>
+    requires { length sessions.now ≤ 8 }
+    ensures { result.items ≡ map (with_state number state) sessions.now }
+{
+    let mut after = ArrayVec::<Session, 8>::new();
+    for session in sessions {
+        after.push(session.with_state(number, state));
+    }
+    after
+}
+
+/// The sessions but the one of this number.
+pub fn without_session(sessions: &[Session], number: u8) -> ArrayVec<Session, 8>
+    requires { length sessions.now ≤ 8 }
+    ensures { result.items ≡ filter (λ s. not (s.number == number)) sessions.now }
+{
+    let mut after = ArrayVec::<Session, 8>::new();
+    for session in sessions {
+        if session.number != number {
+            after.push(*session);
+        }
+    }
+    after
+}
+
+/// The slots, with the destroy entry of this instance begun.
+pub fn with_ending(slots: &[Slot], instance: u8) -> ArrayVec<Slot, 4>
+    requires { length slots.now ≤ 4 }
+    ensures { result.items ≡ map (with_ending instance) slots.now }
+{
+    let mut after = ArrayVec::<Slot, 4>::new();
+    for slot in slots {
+        after.push(slot.with_ending(instance));
+    }
+    after
+}
+
+/// The slots but the one of this instance.
+pub fn without_slot(slots: &[Slot], instance: u8) -> ArrayVec<Slot, 4>
+    requires { length slots.now ≤ 4 }
+    ensures { result.items ≡ filter (λ slot. not (slot.number == instance)) slots.now }
+{
+    let mut after = ArrayVec::<Slot, 4>::new();
+    for slot in slots {
+        if slot.number != instance {
+            after.push(*slot);
+        }
+    }
+    after
+}
+
+/// The sessions once the instance has ended.
+pub fn after_end(sessions: &[Session], instance: u8) -> ArrayVec<Session, 8>
+    requires { length sessions.now ≤ 8 }
+    ensures { result.items ≡ map (killed instance) (filter (stays_after_end instance) sessions.now) }
+{
+    let mut after = ArrayVec::<Session, 8>::new();
+    for session in sessions {
+        let mut session = *session;
+        if session.instance == instance {
+            match session.state {
+                SessionState::Opening | SessionState::Closing => continue,
+                SessionState::Open | SessionState::Dead => session.state = SessionState::Dead,
+            }
+        }
+        after.push(session);
+    }
+    after
+}

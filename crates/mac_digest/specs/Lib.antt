@@ -1,0 +1,5 @@
+pub mod Hash
+pub mod Hmac
+pub mod Tag
+pub mod Digester
+pub mod Mac

@@ -1,0 +1,9 @@
+//! Client operations of one application: what waits, what runs, and what was cancelled.
+#![tactic(auto)]
+
+mod operation;
+mod queue;
+mod scans;
+
+pub use operation::{Begun, Cancelled, OpFacts, QueueAnswer};
+pub use queue::OpQueue;

@@ -1,0 +1,211 @@
+//! The queue.
+
+ghost use Rattle.std.specs.Prelude.{◌≡◌, ◌<◌, ◌^◌, ◌&&◌, ◌↔◌, IsTrue, IfOk, OnErr, Ok, Err, true, false, not, option_map, is_some};
+
+use crate::operation::{
+    Begun, Cancelled, OpFacts, Operation, Progress, QueueAnswer, is_close_call,
+};
+use crate::scans;
+use app_api::Call;
+use std::alloc::Global;
+use std::marker::Model;
+use tee_base::limits;
+
+/// The unanswered operations of one application, and the number of the next.
+#[derive(Debug, Drop)]
+pub struct OpQueue {
+    next: u64,
+    operations: Vec<Operation>,
+}
+
+impl Model for OpQueue {
+    ghost use Rattle.op_queue.specs.Queue.{Queue, IsQueue};
+
+    ghost Value = { Queue };
+
+    ghost view = { λ q. record { next = q.next; operations = q.operations.items } };
+
+    ghost invariant = { λ q. IsQueue (record { next = q.next; operations = q.operations.items }) };
+}
+
+impl OpQueue {
+    ghost use Rattle.op_queue.specs.Queue.{Queue, IsQueue, empty_queue, is_close_call, is_full, submitted, skipped, first_waiting, begun_at, after_begin, operation_of, facts_of, next_of, cancel_of, after_cancel, mask_at, mask_set, flag_of, runs, without};
+
+    /// No operations yet; the first will have the number 1.
+    pub fn new(alloc: Global) -> OpQueue
+        ensures { result ≡ empty_queue }
+    {
+        OpQueue {
+            next: 1,
+            operations: Vec::new(alloc),
+        }
+    }
+
+    /// A law: what the queue keeps.
+    pub fn bounds(&self)
+        ensures { IsQueue self.now }
+    {
+        let _ = &self.next;
+    }
+
+    /// Queues a call, and answers its number.
+    ///
+    /// # Errors
+    ///
+    /// Full exactly where 16 operations other than closes are unanswered and the call is no close. Both errors change
+    /// nothing.
+    pub fn submit(
+        &mut self,
+        client: u8,
+        instance: u8,
+        session: u8,
+        call: Call,
+    ) -> Result<u64, QueueAnswer>
+        requires { self.old.next < 2 ^ 63 }
+        ensures ok { IfOk result (λ n. (n ≡ self.old.next) × (self.new ≡ submitted self.old client instance session call)) }
+        ensures full { (result ≡ Err QueueAnswer.Full) ↔ IsTrue (is_full self.old && not (is_close_call call)) }
+        ensures unchanged { OnErr result (self.new ≡ self.old) }
+    {
+        if !is_close_call(&call)
+            && scans::count_others(self.operations.as_slice()) >= limits::OPERATIONS
+        {
+            return Err(QueueAnswer::Full);
+        }
+        let operation = Operation {
+            number: self.next,
+            client,
+            session,
+            instance,
+            progress: Progress::Waiting(call),
+        };
+        if self.operations.push(operation).is_err() {
+            return Err(QueueAnswer::NoMemory);
+        }
+        let number = self.next;
+        self.next += 1;
+        Ok(number)
+    }
+
+    /// Takes the next number, for a call that is refused at once.
+    pub fn skip(&mut self) -> u64
+        requires { self.old.next < 2 ^ 63 }
+        ensures number { result ≡ self.old.next }
+        ensures after { self.new ≡ skipped self.old }
+    {
+        let number = self.next;
+        self.next += 1;
+        number
+    }
+
+    /// Hands out the call of the instance's operation with the least number that waits. From then on it runs, masked.
+    pub fn begin(&mut self, instance: u8) -> Option<Begun>
+        ensures begun { result ≡ begun_at (first_waiting self.old instance) }
+        ensures after { self.new ≡ after_begin self.old (first_waiting self.old instance) }
+    {
+        let index = scans::place_of_waiting(self.operations.as_slice(), instance)?;
+        self.operations[index].start()
+    }
+
+    /// What is told of the operation; none exactly where it isn't unanswered.
+    pub fn facts(&self, op: u64) -> Option<OpFacts>
+        ensures { result ≡ option_map facts_of (operation_of self.now op) }
+    {
+        self.operations
+            .iter()
+            .find(|o| o.number == op)
+            .map(|o| o.facts())
+    }
+
+    /// The least unanswered number of the instance that is greater.
+    pub fn next_of(&self, instance: u8, after: u64) -> Option<u64>
+        ensures { result ≡ next_of self.now instance after }
+    {
+        self.operations
+            .iter()
+            .find(|o| o.instance == instance && after < o.number)
+            .map(|o| o.number)
+    }
+
+    /// Asks for the operation to be cancelled.
+    pub fn cancel(&mut self, op: u64) -> Cancelled
+        ensures answer { result ≡ cancel_of (operation_of self.old op) }
+        ensures after { self.new ≡ after_cancel self.old op result }
+    {
+        let Some(index) = scans::place_of(self.operations.as_slice(), op) else {
+            return Cancelled::Nothing;
+        };
+        if self.operations[index].progress.is_close() {
+            return Cancelled::Nothing;
+        }
+        if self.operations[index].progress.is_running() {
+            self.operations[index].request();
+            return Cancelled::Flagged;
+        }
+        scans::take_out(&mut self.operations, index);
+        Cancelled::Dropped
+    }
+
+    /// Masks cancellation for the running entry, and answers whether it was.
+    pub fn mask(&mut self, op: u64) -> bool
+        requires { IsTrue (runs self.old op) }
+        ensures before { result ≡ mask_at self.old op }
+        ensures after { self.new ≡ mask_set self.old op true }
+    {
+        self.set_mask(op, true)
+    }
+
+    /// Unmasks cancellation for the running entry, and answers whether it was masked.
+    pub fn unmask(&mut self, op: u64) -> bool
+        requires { IsTrue (runs self.old op) }
+        ensures before { result ≡ mask_at self.old op }
+        ensures after { self.new ≡ mask_set self.old op false }
+    {
+        self.set_mask(op, false)
+    }
+
+    fn set_mask(&mut self, op: u64, value: bool) -> bool
+        requires { IsTrue (runs self.old op) }
+        ensures before { result ≡ mask_at self.old op }
+        ensures after { self.new ≡ mask_set self.old op value }
+    {
+        match scans::place_of(self.operations.as_slice(), op) {
+            None => unreachable!(),
+            Some(index) => self.operations[index].set_mask(value),
+        }
+    }
+
+    /// Whether a cancellation was requested and isn't masked.
+    pub fn flag(&self, op: u64) -> bool
+        requires { IsTrue (runs self.now op) }
+        ensures { result ≡ flag_of self.now op }
+    {
+        match scans::place_of(self.operations.as_slice(), op) {
+            None => false,
+            Some(index) => self.operations[index].progress.reads_flag(),
+        }
+    }
+
+    /// Takes the operation out, which is answered. Where there is none of this number, nothing changes.
+    pub fn answer(&mut self, op: u64)
+        ensures { self.new ≡ without self.old op }
+    {
+        match scans::place_of(self.operations.as_slice(), op) {
+            None => return,
+            Some(index) => scans::take_out(&mut self.operations, index),
+        }
+    }
+
+    /// Whether 16 operations other than closes are unanswered.
+    pub fn is_full(&self) -> bool
+        ensures { result ≡ is_full self.now }
+    {
+        scans::count_others(self.operations.as_slice()) >= limits::OPERATIONS
+    }
+
+    /// The unanswered operations, in ascending order of their numbers.
+    pub fn operations(&self) -> &[Operation]
+        ensures { result.now ≡ self.now.operations }
+    {
+        self.operations.as_slice()
+    }
+}

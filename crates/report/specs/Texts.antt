@@ -1,0 +1,34 @@
+-- The printed lines.
+use Rattle.std.specs.Prelude.{ℕ, List, [], ◌∷◌, ◌++◌, codes}
+use Rattle.std.specs.Fmt.{decimal}
+use Rattle.std.specs.Int.{w32, to_be_bytes}
+use Rattle.hex.specs.Hex.{encode_lower}
+use Rattle.tee_base.specs.Codes.{number_of}
+use Rattle.tee_base.specs.declared.codes.Code.{Code}
+use Rattle.alone.specs.declared.reply.Reply.{Reply}
+use Rattle.alone.specs.declared.reply.Outputs.{Outputs}
+use Rattle.alone.specs.declared.reply.Shown.{Shown}
+use Rattle.alone.specs.declared.reply.Shown.TheVariants.{Nothing, Value, Mem, Size}
+
+-- a code is its four bytes, the most significant first, in hexadecimal digits
+abbrev pub code_text : Code → List ℕ
+code_text code = encode_lower (to_be_bytes w32 code.0)
+
+-- what stands before an output
+abbrev pub parameter_text : ℕ → List ℕ
+parameter_text index = codes " p" ++ decimal index ++ codes "="
+
+abbrev pub shown_text : ℕ → Shown → List ℕ
+shown_text index Nothing = []
+shown_text index (Value a b) = parameter_text index ++ decimal a ++ codes "," ++ decimal b
+shown_text index (Mem size bytes) = parameter_text index ++ decimal size ++ codes ":" ++ encode_lower bytes
+shown_text index (Size size) = parameter_text index ++ decimal size ++ codes "!"
+
+abbrev pub outputs_text : Outputs → List ℕ
+outputs_text outputs = shown_text 0 outputs.p0 ++ shown_text 1 outputs.p1 ++ shown_text 2 outputs.p2 ++ shown_text 3 outputs.p3
+
+-- a reply's line
+abbrev pub reply_text : List ℕ → Reply → List ℕ
+reply_text name reply =
+  name ++ codes " " ++ decimal reply.op ++ codes " " ++ code_text reply.code ++ codes " " ++ decimal (number_of reply.origin)
+  ++ outputs_text reply.outputs ++ codes "\n"

@@ -1,0 +1,96 @@
+-- Parameters of a script line.
+use Rattle.std.specs.Prelude.{ℕ, ◌+◌, nat_lt, slice_get, ◌≡◌, ◌≤◌, ◌==◌, ◌&&◌, nat_le, Bool, List, [], ◌∷◌, Option, None, Some, Result, Ok, Err, codes, if◌then◌else◌, length, option_map, option_and_then, replicate}
+use Rattle.std.specs.Result.{result_ok}
+use Rattle.std.specs.List.{slice_split}
+use Rattle.script.specs.declared.param.Parameter.{Parameter}
+use Rattle.script.specs.declared.param.Parameters.{Parameters}
+use Rattle.std.specs.Str.{bytes_eq}
+use Rattle.hex.specs.Hex.{decode_of}
+use Rattle.app_api.specs.declared.param.Param.{Param}
+use Rattle.app_api.specs.declared.param.Param.TheVariants.{Nothing, ValueIn, ValueOut, ValueInOut, MemIn, MemOut, MemInOut}
+use Rattle.script.specs.declared.words.LineError.{LineError}
+use Rattle.script.specs.declared.words.LineError.TheVariants.{Bad, NoMemory}
+use Rattle.script.specs.Numbers.{number_of}
+
+-- what was read is what the words say, unless memory ran out
+abbrev pub Gives : {X : Type 0} → Result X LineError → Option X → Type 0
+Gives (Ok x) read = read ≡ Some x
+Gives (Err Bad) read = read ≡ None
+Gives (Err NoMemory) read = Unit {0}
+
+-- bytes in hexadecimal digits of either case, two for each
+abbrev pub hex_of : List ℕ → Option (List ℕ)
+hex_of digits = result_ok (decode_of digits)
+
+-- a parameter for which no byte was filled in
+abbrev pub plain_parameter : Param → Parameter
+plain_parameter param = record { param = param; fill = 0 }
+
+-- no more bytes are filled in than a memory reference may have
+abbrev pub IsSmall : Parameter → Type 0
+IsSmall p = p.fill ≤ 524288
+
+unfoldable pub parameter_of_one : List ℕ → Option Parameter
+parameter_of_one kind =
+  if bytes_eq kind (codes "-") then Some (plain_parameter Nothing)
+  else if bytes_eq kind (codes "vo") then Some (plain_parameter ValueOut)
+  else None
+
+unfoldable pub parameter_of_two : List ℕ → List ℕ → Option Parameter
+parameter_of_two kind a =
+  if bytes_eq kind (codes "mi") then option_map (λ x. plain_parameter (MemIn x)) (hex_of a)
+  else if bytes_eq kind (codes "mio") then option_map (λ x. plain_parameter (MemInOut x)) (hex_of a)
+  else if bytes_eq kind (codes "mo") then option_map (λ x. plain_parameter (MemOut x)) (number_of a)
+  else None
+
+-- two numbers
+abbrev pub with_numbers : (ℕ → ℕ → Param) → Option ℕ → Option ℕ → Option Parameter
+with_numbers make None b = None
+with_numbers make (Some a) b = option_map (λ x. plain_parameter (make a x)) b
+
+-- so many bytes, all of them the one byte, and at most 524,288
+abbrev pub filled : Option ℕ → Option (List ℕ) → Option Parameter
+filled (Some size) (Some (byte ∷ [])) = if nat_le size 524288 then Some (record { param = MemIn (replicate size byte); fill = size }) else None
+filled size bytes = None
+
+unfoldable pub parameter_of_three : List ℕ → List ℕ → List ℕ → Option Parameter
+parameter_of_three kind a b =
+  if bytes_eq kind (codes "vi") then with_numbers ValueIn (number_of a) (number_of b)
+  else if bytes_eq kind (codes "vio") then with_numbers ValueInOut (number_of a) (number_of b)
+  else if bytes_eq kind (codes "mf") then filled (number_of a) (hex_of b)
+  else None
+
+-- a parameter by its parts
+abbrev pub parameter_of_parts : List (List ℕ) → Option Parameter
+parameter_of_parts [] = None
+parameter_of_parts (kind ∷ []) = parameter_of_one kind
+parameter_of_parts (kind ∷ a ∷ []) = parameter_of_two kind a
+parameter_of_parts (kind ∷ a ∷ b ∷ []) = parameter_of_three kind a b
+parameter_of_parts (kind ∷ a ∷ b ∷ c ∷ more) = None
+
+-- a parameter: its parts stand between colons
+abbrev pub parameter_of : List ℕ → Option Parameter
+parameter_of word = parameter_of_parts (slice_split (λ c. c == 58) word)
+
+-- one value after another, if each is there
+infixl 10 ◌>>=◌
+abbrev pub ◌>>=◌ : {X Y : Type 0} → Option X → (X → Option Y) → Option Y
+None >>= f = None
+(Some x) >>= f = f x
+
+abbrev pub parameter_in : Option (List ℕ) → Option Parameter
+parameter_in None = Some (plain_parameter Nothing)
+parameter_in (Some word) = parameter_of word
+
+-- the parameter of this index; one that is left out is none
+abbrev pub parameter_at : List (List ℕ) → ℕ → Option Parameter
+parameter_at words index = parameter_in (slice_get words index)
+
+-- the four of them: at most four words
+unfoldable pub parameters_of : List (List ℕ) → Option Parameters
+parameters_of words = if nat_lt 4 (length words) then None else do
+  a ← parameter_at words 0
+  b ← parameter_at words 1
+  c ← parameter_at words 2
+  d ← parameter_at words 3
+  Some (record { params = record { p0 = a.param; p1 = b.param; p2 = c.param; p3 = d.param }; fills = a.fill + b.fill + c.fill + d.fill })

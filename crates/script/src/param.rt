@@ -1,0 +1,166 @@
+//! Words into parameters.
+
+ghost use Rattle.std.specs.Prelude.{◌≡◌, ◌^◌, ◌<◌, ◌≤◌, ◌*◌, Some, List, ℕ, map, replicate, IfOk};
+ghost use Rattle.std.specs.List.{slice_split};
+ghost use Rattle.script.specs.Parameters.{parameter_of, parameter_of_parts, parameter_of_one, parameter_of_two, parameter_of_three, hex_of, filled, parameter_at, parameters_of, plain_parameter, IsSmall, Gives};
+ghost use Rattle.script.specs.Numbers.{number_of};
+
+use crate::number::number;
+use crate::words::{LineError, parts_of};
+use app_api::{Param, Params};
+use std::alloc::Global;
+use tee_base::{Bytes, limits};
+
+/// A parameter, and how many bytes were filled in for it.
+#[derive(Debug, Drop)]
+pub struct Parameter {
+    pub param: Param,
+    pub fill: u32,
+}
+
+/// The four parameters of a line, and how many bytes were filled in for them.
+#[derive(Debug, Drop)]
+pub struct Parameters {
+    pub params: Params,
+    pub fills: u32,
+}
+
+/// Bytes in hexadecimal digits of either case, two for each.
+fn hex_bytes(alloc: Global, digits: &[u8]) -> Result<Bytes, LineError>
+    ensures { Gives result (hex_of digits.now) }
+{
+    match hex::decode(alloc, digits) {
+        Ok(bytes) => Ok(Bytes::from_vec(bytes)),
+        Err(hex::FromHexError::OutOfMemory) => Err(LineError::NoMemory),
+        Err(_) => Err(LineError::Bad),
+    }
+}
+
+/// A parameter for which no byte was filled in.
+fn plain(param: Param) -> Parameter
+    ensures { result ≡ plain_parameter param }
+{
+    Parameter { param, fill: 0 }
+}
+
+/// A parameter of one part: none, or a value output.
+#[tactic(auto, unfolding(crate::specs::Parameters::parameter_of_one))]
+fn param_of_one(kind: &[u8]) -> Result<Parameter, LineError>
+    ensures value { Gives result (parameter_of_one kind.now) }
+    ensures small { IfOk result IsSmall }
+{
+    match kind {
+        b"-" => Ok(plain(Param::Nothing)),
+        b"vo" => Ok(plain(Param::ValueOut)),
+        _ => Err(LineError::Bad),
+    }
+}
+
+/// A parameter of two parts: memory that is read, read and written, or written.
+#[tactic(auto, unfolding(crate::specs::Parameters::parameter_of_two))]
+fn param_of_two(alloc: Global, kind: &[u8], size: &[u8]) -> Result<Parameter, LineError>
+    ensures value { Gives result (parameter_of_two kind.now size.now) }
+    ensures small { IfOk result IsSmall }
+{
+    match kind {
+        b"mi" => Ok(plain(Param::MemIn(hex_bytes(alloc, size)?))),
+        b"mio" => Ok(plain(Param::MemInOut(hex_bytes(alloc, size)?))),
+        b"mo" => Ok(plain(Param::MemOut(word(size)?))),
+        _ => Err(LineError::Bad),
+    }
+}
+
+/// A parameter of three parts: a value, or memory of which each byte is the same.
+#[tactic(auto, unfolding(crate::specs::Parameters::parameter_of_three))]
+fn param_of_three(alloc: Global, kind: &[u8], a: &[u8], b: &[u8]) -> Result<Parameter, LineError>
+    ensures value { Gives result (parameter_of_three kind.now a.now b.now) }
+    ensures small { IfOk result IsSmall }
+{
+    match kind {
+        b"vi" => Ok(plain(Param::ValueIn(word(a)?, word(b)?))),
+        b"vio" => Ok(plain(Param::ValueInOut(word(a)?, word(b)?))),
+        b"mf" => fill(alloc, word(a)?, hex_bytes(alloc, b)?),
+        _ => Err(LineError::Bad),
+    }
+}
+
+/// A number that a line must have.
+pub fn word(digits: &[u8]) -> Result<u32, LineError>
+    ensures { Gives result (number_of digits.now) }
+{
+    number(digits).ok_or(LineError::Bad)
+}
+
+/// Memory of `size` bytes, each of them the one byte that is given.
+fn fill(alloc: Global, size: u32, byte: Bytes) -> Result<Parameter, LineError>
+    ensures value { Gives result (filled (Some size) (Some byte)) }
+    ensures small { IfOk result IsSmall }
+{
+    match byte.as_slice() {
+        [byte] if size <= limits::ASK_BYTES => {
+            let bytes = vec![in alloc; *byte; size as usize]?;
+            Ok(Parameter {
+                param: Param::MemIn(Bytes::from_vec(bytes)),
+                fill: size,
+            })
+        }
+        _ => Err(LineError::Bad),
+    }
+}
+
+/// A parameter by its parts.
+fn param_of_parts(alloc: Global, parts: &[&[u8]]) -> Result<Parameter, LineError>
+    ensures small { IfOk result IsSmall }
+    ensures value { Gives result (parameter_of_parts (map (λ part. part.now) parts.now)) }
+{
+    match parts {
+        [kind] => param_of_one(kind),
+        [kind, a] => param_of_two(alloc, kind, a),
+        [kind, a, b] => param_of_three(alloc, kind, a, b),
+        _ => Err(LineError::Bad),
+    }
+}
+
+/// The parameter that a word stands for.
+fn param(alloc: Global, word: &[u8]) -> Result<Parameter, LineError>
+    ensures small { IfOk result IsSmall }
+    ensures value { Gives result (parameter_of word.now) }
+{
+    let parts = parts_of(alloc, word, b':')?;
+    param_of_parts(alloc, parts.as_slice())
+}
+
+/// The parameter of this index. One that is left out is none.
+fn param_at(alloc: Global, words: &[&[u8]], index: usize) -> Result<Parameter, LineError>
+    ensures value { Gives result (parameter_at (map (λ word. word.now) words.now) index) }
+    ensures small { IfOk result IsSmall }
+{
+    match words.get(index) {
+        None => Ok(plain(Param::Nothing)),
+        Some(word) => param(alloc, word),
+    }
+}
+
+/// The parameters of a line: at most four words.
+#[tactic(auto, unfolding(crate::specs::Parameters::parameters_of))]
+pub fn params_of(alloc: Global, words: &[&[u8]]) -> Result<Parameters, LineError>
+    ensures value { Gives result (parameters_of (map (λ word. word.now) words.now)) }
+    ensures small { IfOk result (λ all. all.fills ≤ 4 * 524288) }
+{
+    if words.len() > 4 {
+        return Err(LineError::Bad);
+    }
+    let a = param_at(alloc, words, 0)?;
+    let b = param_at(alloc, words, 1)?;
+    let c = param_at(alloc, words, 2)?;
+    let d = param_at(alloc, words, 3)?;
+    Ok(Parameters {
+        params: Params {
+            p0: a.param,
+            p1: b.param,
+            p2: c.param,
+            p3: d.param,
+        },
+        fills: a.fill + b.fill + c.fill + d.fill,
+    })
+}
