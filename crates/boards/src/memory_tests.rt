@@ -9,7 +9,7 @@ use tee_base::Bytes;
 const KEY: [u8; 32] = [7; 32];
 
 /// What a read gives: the first and the last byte of the block.
-fn ends(rt: &impl Abort, board: &mut MemBoard, block: u64) -> Result<(u8, u8), BoardFailed> {
+fn ends<B: Board>(rt: &impl Abort, board: &mut B, block: u64) -> Result<(u8, u8), BoardFailed> {
     assert!(rt; block < board.blocks());
     let mut bytes = [0; 1024];
     board.read(block, &mut bytes)?;
@@ -17,28 +17,57 @@ fn ends(rt: &impl Abort, board: &mut MemBoard, block: u64) -> Result<(u8, u8), B
 }
 
 /// Fills the block with this byte.
-fn fill(rt: &impl Abort, board: &mut MemBoard, block: u64, byte: u8) -> Result<(), BoardFailed> {
+fn fill<B: Board>(rt: &impl Abort, board: &mut B, block: u64, byte: u8) -> Result<(), BoardFailed> {
     assert!(rt; block < board.blocks());
     board.write(block, &[byte; 1024])
 }
 
-/// Block 0 has a durable 0x11 and a pending 0x22, block 2 a pending 0x33, and an advance was interrupted.
-fn unsettled(rt: &impl Abort, alloc: Global) -> Result<MemBoard, Fail> {
-    let mut board = MemBoard::blank(alloc, KEY, 3)?;
-    fill(rt, &mut board, 0, 0x11)?;
+/// Block 0 has a durable 0x11 and a pending 0x22.
+fn leave_pending<B: Board>(rt: &impl Abort, board: &mut B) -> Result<(), Fail> {
+    fill(rt, board, 0, 0x11)?;
     board.sync()?;
-    fill(rt, &mut board, 0, 0x22)?;
-    board.failing(&[3, 4])?;
-    assert!(rt; fill(rt, &mut board, 2, 0x33).is_err());
+    fill(rt, board, 0, 0x22)?;
+    Ok(())
+}
+
+/// The next two calls are interrupted: a write of 0x33 to block 2, and an advance.
+fn interrupt<B: Board>(rt: &impl Abort, board: &mut B) -> Result<(), Fail> {
+    assert!(rt; fill(rt, board, 2, 0x33).is_err());
     assert!(rt; board.advance().is_err());
     assert_eq!(rt; board.faults(), 2);
-    assert_eq!(rt; ends(rt, &mut board, 0)?, (0x22, 0x22));
+    assert_eq!(rt; ends(rt, board, 0)?, (0x22, 0x22));
     assert_eq!(rt;
-        ends(rt, &mut board, 2)?,
+        ends(rt, board, 2)?,
         (0, 0),
         "an interrupted write isn't read"
     );
+    Ok(())
+}
+
+fn unsettled(rt: &impl Abort, alloc: Global) -> Result<MemBoard, Fail> {
+    let mut board = MemBoard::blank(alloc, KEY, 3)?;
+    leave_pending(rt, &mut board)?;
+    board.failing(&[3, 4])?;
+    interrupt(rt, &mut board)?;
     Ok(board)
+}
+
+/// What power leaves by this number: the counter, and the ends of blocks 0 and 2.
+fn leaves<B: Board>(
+    rt: &impl Abort,
+    board: &mut B,
+    pick: u64,
+    counter: u64,
+    first: (u8, u8),
+    third: (u8, u8),
+) -> Result<(), Fail> {
+    board.power(pick);
+    assert_eq!(rt; board.counter()?, counter, "at {pick}");
+    assert_eq!(rt; ends(rt, board, 0)?, first, "at {pick}");
+    assert_eq!(rt; ends(rt, board, 1)?, (0, 0), "at {pick}");
+    assert_eq!(rt; ends(rt, board, 2)?, third, "at {pick}");
+    assert_eq!(rt; (board.orders(), board.ordered()), (1, pick));
+    Ok(())
 }
 
 #[test]
@@ -56,53 +85,58 @@ fn power_picks_what_it_leaves(rt: HostRuntime) -> Result<(), Fail> {
     ];
     for (pick, counter, first, third) in rows {
         let mut board = unsettled(&rt, rt.alloc())?;
-        board.power(pick);
-        assert_eq!(rt; board.counter()?, counter, "at {pick}");
-        assert_eq!(rt; ends(&rt, &mut board, 0)?, first, "at {pick}");
-        assert_eq!(rt; ends(&rt, &mut board, 1)?, (0, 0), "at {pick}");
-        assert_eq!(rt; ends(&rt, &mut board, 2)?, third, "at {pick}");
-        assert_eq!(rt; (board.orders(), board.ordered()), (1, pick));
+        leaves(&rt, &mut board, pick, counter, first, third)?;
     }
     Ok(())
+}
+
+/// The counter of a board that is lent.
+fn told<B: Board + Drop>(mut board: B) -> Result<u64, BoardFailed> {
+    board.counter()
 }
 
 #[test]
 fn a_told_counter_is_settled(rt: HostRuntime) -> Result<(), Fail> {
     let mut board = unsettled(&rt, rt.alloc())?;
-    assert_eq!(rt; board.counter()?, 0);
+    assert_eq!(rt; told(&mut board)?, 0);
+    leaves(&rt, &mut board, 1, 0, (0x22, 0x22), (0, 0))
+}
+
+/// Two calls pass, and the third is interrupted.
+fn blow<B: Board>(rt: &impl Abort, board: &mut B) -> Result<(), Fail> {
+    board.fuse(9);
+    board.fuse(2);
+    assert_eq!(rt; board.advance()?, 1);
+    fill(rt, board, 0, 1)?;
+    assert!(rt; fill(rt, board, 0, 2).is_err());
+    board.fuse(5);
+    assert!(rt; fill(rt, board, 0, 3).is_err(), "what has blown stays so");
+    assert!(rt; board.sync().is_err());
+    assert_eq!(rt; (board.faults(), board.writes()), (3, 3));
+    assert_eq!(rt; (board.orders(), board.ordered()), (3, 16));
     board.power(1);
-    assert_eq!(rt; board.counter()?, 0);
     assert_eq!(rt;
-        ends(&rt, &mut board, 0)?,
-        (0x22, 0x22),
-        "the number is all for the blocks"
+        ends(rt, board, 0)?,
+        (2, 2),
+        "the refused write offered nothing"
     );
+    assert_eq!(rt; (board.orders(), board.ordered()), (4, 17));
     Ok(())
 }
 
 #[test]
 fn a_fuse_lets_its_calls_pass(rt: HostRuntime) -> Result<(), Fail> {
     let mut board = MemBoard::blank(rt.alloc(), KEY, 1)?;
-    board.fuse(9);
-    board.fuse(2);
-    assert_eq!(rt; board.advance()?, 1);
-    fill(&rt, &mut board, 0, 1)?;
-    assert!(rt; fill(&rt, &mut board, 0, 2).is_err());
-    board.fuse(5);
-    assert!(rt;
-        fill(&rt, &mut board, 0, 3).is_err(),
-        "what has blown stays so"
-    );
-    assert!(rt; board.sync().is_err());
-    assert_eq!(rt; (board.faults(), board.writes()), (3, 3));
-    assert_eq!(rt; (board.orders(), board.ordered()), (3, 16));
-    board.power(1);
-    assert_eq!(rt;
-        ends(&rt, &mut board, 0)?,
-        (2, 2),
-        "the refused write offered nothing"
-    );
-    assert_eq!(rt; (board.orders(), board.ordered()), (4, 17));
+    blow(&rt, &mut board)
+}
+
+/// A board whose last byte is 255, with its counter at the end.
+fn at_its_end<B: Board>(rt: &impl Abort, board: &mut B) -> Result<(), Fail> {
+    assert_eq!(rt; (board.blocks(), board.key()), (2, KEY));
+    assert_eq!(rt; ends(rt, board, 1)?, (128, 255));
+    assert_eq!(rt; board.counter()?, u64::MAX);
+    assert!(rt; board.advance().is_err(), "at its end it always fails");
+    assert_eq!(rt; board.faults(), 1);
     Ok(())
 }
 
@@ -115,13 +149,20 @@ fn an_image_comes_back(rt: HostRuntime) -> Result<(), Fail> {
     let image = Bytes::from_slice(rt.alloc(), &bytes)?;
     assert_eq!(rt; image.len(), 2048);
     let mut board = MemBoard::of_image(rt.alloc(), image, u64::MAX, KEY)?;
-    assert_eq!(rt; (board.blocks(), board.key()), (2, KEY));
-    assert_eq!(rt; ends(&rt, &mut board, 1)?, (128, 255));
-    assert_eq!(rt; board.counter()?, u64::MAX);
-    assert!(rt; board.advance().is_err(), "at its end it always fails");
-    assert_eq!(rt; board.faults(), 1);
+    at_its_end(&rt, &mut board)?;
     assert_eq!(rt; board.image(rt.alloc())?.as_slice(), bytes.as_slice());
     Ok(())
+}
+
+/// Which of five calls pass.
+fn passed<B: Board>(rt: &impl Abort, board: &mut B) -> [bool; 5] {
+    [
+        fill(rt, board, 0, 1).is_ok(),
+        board.sync().is_ok(),
+        board.advance().is_ok(),
+        board.counter().is_ok(),
+        ends(rt, board, 0).is_ok(),
+    ]
 }
 
 #[test]
@@ -129,14 +170,7 @@ fn each_named_call_fails_alone(rt: HostRuntime) -> Result<(), Fail> {
     for named in 0..6u64 {
         let mut board = MemBoard::blank(rt.alloc(), KEY, 1)?;
         board.failing(&[named])?;
-        let answers = [
-            fill(&rt, &mut board, 0, 1).is_ok(),
-            board.sync().is_ok(),
-            board.advance().is_ok(),
-            board.counter().is_ok(),
-            ends(&rt, &mut board, 0).is_ok(),
-        ];
-        for (call, passed) in answers.iter().enumerate() {
+        for (call, passed) in passed(&rt, &mut board).iter().enumerate() {
             assert_eq!(rt;
                 *passed,
                 call as u64 != named,
@@ -227,17 +261,8 @@ impl PlainBoard {
 }
 
 /// One of eight steps, on both boards; the fourth bit says that it is interrupted.
-fn step(
-    rt: &impl Abort,
-    board: &mut MemBoard,
-    plain: &mut PlainBoard,
-    code: u32,
-    call: u64,
-) -> Result<(), Fail> {
+fn step<B: Board>(rt: &impl Abort, board: &mut B, plain: &mut PlainBoard, code: u32) {
     let passes = code % 16 < 8;
-    if !passes {
-        board.failing(&[call])?;
-    }
     let byte = (code % 8 + 1) as u8;
     match code % 8 {
         0..=2 => {
@@ -263,6 +288,20 @@ fn step(
             plain.advance(passes);
         }
     }
+}
+
+/// Four steps and a loss of power leave the same of both boards.
+fn agree<B: Board>(rt: &impl Abort, board: &mut B, code: u32) -> Result<(), Fail> {
+    let mut plain = PlainBoard::blank();
+    for shift in 0..4u32 {
+        step(rt, board, &mut plain, code >> (4 * shift));
+    }
+    let pick = u64::from(code % 61);
+    board.power(pick);
+    plain.power(pick);
+    assert_eq!(rt; ends(rt, board, 0)?, plain.blocks[0].seen, "at {code}");
+    assert_eq!(rt; ends(rt, board, 1)?, plain.blocks[1].seen, "at {code}");
+    assert_eq!(rt; board.counter()?, plain.counter, "at {code}");
     Ok(())
 }
 
@@ -270,42 +309,34 @@ fn step(
 fn four_steps_and_power_agree_with_the_plain_model(rt: HostRuntime) -> Result<(), Fail> {
     for code in 0..65536u32 {
         let mut board = MemBoard::blank(rt.alloc(), KEY, 2)?;
-        let mut plain = PlainBoard::blank();
-        step(&rt, &mut board, &mut plain, code, 0)?;
-        step(&rt, &mut board, &mut plain, code / 16, 1)?;
-        step(&rt, &mut board, &mut plain, code / 256, 2)?;
-        step(&rt, &mut board, &mut plain, code / 4096, 3)?;
-        let pick = u64::from(code % 61);
-        board.power(pick);
-        plain.power(pick);
-        assert_eq!(rt;
-            ends(&rt, &mut board, 0)?,
-            plain.blocks[0].seen,
-            "at {code}"
-        );
-        assert_eq!(rt;
-            ends(&rt, &mut board, 1)?,
-            plain.blocks[1].seen,
-            "at {code}"
-        );
-        assert_eq!(rt; board.counter()?, plain.counter, "at {code}");
+        for call in 0..4u32 {
+            if (code >> (4 * call)) % 16 >= 8 {
+                board.failing(&[u64::from(call)])?;
+            }
+        }
+        agree(&rt, &mut board, code)?;
     }
+    Ok(())
+}
+
+/// Five calls for each number.
+fn make_calls<B: Board>(rt: &impl Abort, board: &mut B, rounds: u64) -> Result<(), Fail> {
+    for n in 0..rounds {
+        fill(rt, board, n % 8742, 1)?;
+        board.advance()?;
+        board.counter()?;
+        ends(rt, board, n % 8742)?;
+        board.fuse(10);
+        if n % 100 == 0 {
+            board.sync()?;
+        }
+    }
+    assert_eq!(rt; (board.writes(), board.counter()?), (rounds, rounds));
     Ok(())
 }
 
 #[test]
 fn three_million_calls_stay_fast(rt: HostRuntime) -> Result<(), Fail> {
     let mut board = MemBoard::blank(rt.alloc(), KEY, 8742)?;
-    for n in 0..600_000u64 {
-        fill(&rt, &mut board, n % 8742, 1)?;
-        board.advance()?;
-        board.counter()?;
-        ends(&rt, &mut board, n % 8742)?;
-        board.fuse(10);
-        if n % 100 == 0 {
-            board.sync()?;
-        }
-    }
-    assert_eq!(rt; (board.writes(), board.counter()?), (600_000, 600_000));
-    Ok(())
+    make_calls(&rt, &mut board, 600_000)
 }
