@@ -1,6 +1,6 @@
 -- One step of the machine: a client's call, or a turn of an instance. Numbers of sections are those of TEE Internal Core API 1.3
 -- (instances and sessions: 2.1.3; entry points: 4.3) and TEE Client API 1.0 (calls: 4.5.5 to 4.5.7; origins: 4.4.3).
-use Rattle.std.specs.Prelude.{ℕ, ◌+◌, ◌==◌, Bool, true, false, not, ◌&&◌, ◌||◌, List, [], ◌∷◌, ◌++◌, Option, None, Some, Result, Ok, Err, is_some, option_map, if◌then◌else◌, nat_le, find, filter, map}
+use Rattle.std.specs.Prelude.{ℕ, ◌+◌, ◌==◌, Bool, true, false, not, ◌&&◌, ◌||◌, List, [], ◌∷◌, ◌++◌, Option, None, Some, Result, Ok, Err, is_some, nat_lt, option_map, if◌then◌else◌, nat_le, find, filter, map}
 use Rattle.tee_base.specs.declared.codes.Code.{Code}
 use Rattle.tee_base.specs.declared.codes.Origin.{Origin}
 use Rattle.tee_base.specs.declared.codes.Origin.TheVariants.{Api, Tee, App}
@@ -24,7 +24,7 @@ use Rattle.instances.specs.declared.session.SessionState.TheVariants.{Opening, O
 use Rattle.instances.specs.Instances.{session_of, facts_of, admission_of, entered, state_set, session_removed, ended}
 use Rattle.op_queue.specs.declared.operation.Operation.{Operation}
 use Rattle.op_queue.specs.declared.operation.Begun.{Begun}
-use Rattle.op_queue.specs.Queue.{Queue, is_full, submitted, skipped, first_waiting, begun_at, after_begin, without}
+use Rattle.op_queue.specs.Queue.{Queue, is_full, submitted, skipped, first_waiting, begun_at, after_begin, without, operation_of, facts_of as operation_facts}
 use Rattle.alone.specs.declared.places.Places.{Places}
 use Rattle.alone.specs.declared.reply.Outputs.{Outputs}
 use Rattle.alone.specs.declared.reply.Reply.{Reply}
@@ -246,6 +246,10 @@ turned_at next asks m (Some inst) = turned_by next asks m inst inst.running
 -- a turn of an instance: the entry that runs goes on, or the next operation begins, or nothing happens. Each turn counts
 unfoldable pub turned : {A : Type 0} → (A → Given → A) → (A → Given → Ask) → Machine A → ℕ → Stepped A
 turned next asks m i = let now = record m { turns = m.turns + 1 } in turned_at next asks now (instance_at now i)
+
+-- the operation was called, and is no longer unanswered
+abbrev pub is_answered : {A : Type 0} → Machine A → ℕ → Bool
+is_answered m op = nat_lt op m.queue.next && not (is_some (option_map operation_facts (operation_of m.queue op)))
 
 -- ---- events
 

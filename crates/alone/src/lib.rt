@@ -7,5 +7,5 @@ mod running;
 
 pub use app_api::Call;
 pub use places::{Place, Places};
-pub use reply::{Outputs, Replies, Reply, Shown};
+pub use reply::{Outputs, REPLIES, Replies, Reply, Shown};
 pub use running::{Ending, Instance, Running, Stage, Waits};

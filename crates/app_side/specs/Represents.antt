@@ -1,5 +1,6 @@
 -- Which machine a running application stands for.
-use Rattle.std.specs.Prelude.{ℕ, ◌≡◌, List}
+use Rattle.std.specs.Prelude.{ℕ, ◌≡◌, true, List}
+use Rattle.app_api.specs.declared.host.Host.{Host}
 use Rattle.alone.specs.declared.reply.Reply.{Reply}
 use Rattle.alone.specs.Machine.{Machine}
 use Rattle.alone.specs.Step.{Stepped}
@@ -28,3 +29,9 @@ pub record IsCalled {A : Type 0} (side : AppSide A) (called : Called) (number : 
 pub record IsTurned {A : Type 0} (side : AppSide A) (given : List Reply) (s : Stepped A) : Type 0 where
   pub machine : machine_of side ≡ s.machine
   pub replies : given ≡ s.replies
+
+-- one instance serves all sessions, and stays
+pub record IsOneInstance {A : Type 0} (host : Host A) : Type 0 where
+  pub single : host.properties.single ≡ true
+  pub multi : host.properties.multi ≡ true
+  pub keep : host.properties.keep ≡ true

@@ -5,5 +5,5 @@ mod operation;
 mod queue;
 mod scans;
 
-pub use operation::{Begun, Cancelled, OpFacts, QueueAnswer};
+pub use operation::{Begun, Cancelled, OpFacts, Operation, Progress, QueueAnswer};
 pub use queue::OpQueue;

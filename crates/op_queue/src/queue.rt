@@ -1,6 +1,6 @@
 //! The queue.
 
-ghost use Rattle.std.specs.Prelude.{◌≡◌, ◌<◌, ◌^◌, ◌&&◌, ◌↔◌, IsTrue, IfOk, OnErr, Ok, Err, true, false, not, option_map, is_some};
+ghost use Rattle.std.specs.Prelude.{◌≡◌, ◌<◌, ◌^◌, ◌&&◌, ◌↔◌, IsTrue, IfOk, OnErr, Ok, Err, true, false, not, option_map, is_some, filter, ◌==◌};
 
 use crate::operation::{
     Begun, Cancelled, OpFacts, Operation, Progress, QueueAnswer, is_close_call,
@@ -193,6 +193,20 @@ impl OpQueue {
             None => return,
             Some(index) => scans::take_out(&mut self.operations, index),
         }
+    }
+
+    /// The number of the next call.
+    pub fn next_number(&self) -> u64
+        ensures { result ≡ self.now.next }
+    {
+        self.next
+    }
+
+    /// Takes all operations of the instance out, which are answered.
+    pub fn clear(&mut self, instance: u8)
+        ensures { self.new ≡ record self.old { operations = filter (λ o. not (o.instance == instance)) self.old.operations } }
+    {
+        scans::leave_out(&mut self.operations, instance);
     }
 
     /// Whether 16 operations other than closes are unanswered.

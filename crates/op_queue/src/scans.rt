@@ -1,6 +1,6 @@
 //! The list of operations, read by one scan.
 
-ghost use Rattle.std.specs.Prelude.{◌≡◌, ◌==◌, ◌<◌, not, count_by, position, remove, vec_len};
+ghost use Rattle.std.specs.Prelude.{◌≡◌, ◌==◌, ◌<◌, not, count_by, position, remove, vec_len, filter};
 ghost use Rattle.op_queue.specs.Queue.{is_close, waits_for};
 
 use crate::operation::Operation;
@@ -38,4 +38,11 @@ pub fn place_of_waiting(operations: &[Operation], instance: u8) -> Option<usize>
     ensures { result ≡ position (waits_for instance) operations.now }
 {
     operations.iter().position(|o| o.waits_for(instance))
+}
+
+/// Leaves out the operations of the instance.
+pub fn leave_out(operations: &mut Vec<Operation>, instance: u8)
+    ensures { operations.new.items ≡ filter (λ o. not (o.instance == instance)) operations.old.items }
+{
+    operations.retain(|o| o.instance != instance);
 }

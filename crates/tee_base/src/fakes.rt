@@ -9,9 +9,9 @@ use crate::io::{Sink, SinkFailed, Source, SourceFailed};
 use std::alloc::Global;
 use std::marker::Model;
 
-/// The calls so far, and the numbers, from 0, of those that are to fail.
+/// Which calls of a fake fail: the calls so far, and the numbers, from 0, of those that are to fail.
 #[derive(Debug, Drop)]
-struct Schedule {
+pub struct Schedule {
     failing: Vec<u64>,
     calls: u64,
     faults: u64,
@@ -30,7 +30,8 @@ impl Schedule {
     ghost use Rattle.tee_base.specs.Fakes.{called, counted, opening_plan};
     ghost use Rattle.tee_base.specs.Faults.{Rose};
 
-    fn new(alloc: Global, failing: &[u64]) -> Result<Schedule, NoMemory>
+    /// No calls yet, and those with the numbers in `failing`, counted from 0, will fail.
+    pub fn new(alloc: Global, failing: &[u64]) -> Result<Schedule, NoMemory>
         ensures { IfOk result (λ plan. plan ≡ opening_plan failing.now) }
     {
         Ok(Schedule {
@@ -40,8 +41,8 @@ impl Schedule {
         })
     }
 
-    /// Whether the call that begins now fails.
-    fn fails_now(&mut self) -> bool
+    /// Counts the call that begins now, and says whether it fails.
+    pub fn fails_now(&mut self) -> bool
         ensures fails { IsTrue result ↔ Contains self.old.failing self.old.calls }
         ensures after { self.new ≡ called result self.old }
         ensures later { self.old.faults ≤ self.new.faults }
@@ -53,6 +54,13 @@ impl Schedule {
             self.count_fault();
         }
         fails
+    }
+
+    /// How many calls failed, as far as the type goes.
+    pub fn faults(&self) -> u64
+        ensures { result ≡ self.now.faults }
+    {
+        self.faults
     }
 
     fn count_fault(&mut self)

@@ -13,7 +13,7 @@ mod transfer;
 
 pub use bytes::{Bytes, NoMemory};
 pub use codes::{Code, Flags, Origin};
-pub use fakes::{MemSink, MemSource, SureSource};
+pub use fakes::{MemSink, MemSource, Schedule, SureSource};
 pub use io::{Sink, SinkFailed, Source, SourceFailed};
 pub use numbers::{find_lowest_free, lowest_free_is_least};
 pub use streams::{StdSink, StdSource};

@@ -1,4 +1,4 @@
-use Rattle.std.proofs.Common.{◌≡◌, ◌<◌, ◌≤◌, ℕ, length, get_or, subst, sym, true, false, arith, rules, eq-eqb, ap, ◌∙◌}
+use Rattle.std.proofs.Common.{◌≡◌, ◌<◌, ◌≤◌, ℕ, length, get_or, subst, sym, true, false, arith, Some, eq-eqb, ap, ◌∙◌}
 use Rattle.std.proofs.lemmas.List.{get_or_read}
 use Rattle.std.proofs.lemmas.Bool.Decides.{nat_tests}
 use Rattle.alone.specs.declared.running.Instance.{Instance}
@@ -15,6 +15,7 @@ returns-then-instance-number-clause-found g c =
     let test : (d : Instance g.row.A.Denot) → is_number c.args.number (get_or xs place d) ≡ true = λ d. eq-eqb (get_or xs place d).number c.args.number (named d) in
     record {
       within = within;
+      some = (c.index-instances-place.result, found_at c.args.number xs place c.index-instances-place.result within (λ k lt. c.loop-place.invariant k lt c.index-instances-place.result) (test c.index-instances-place.result) ∙ ap Some (sym c.index-instances-place.is));
       found = λ d. found_at c.args.number xs place d within (λ k lt. c.loop-place.invariant k lt d) (test d);
       put = λ new e. put_at new xs place new within (λ k lt. subst (λ n. is_number n (get_or xs k new) ≡ false) (sym e) (c.loop-place.invariant k lt new)) (subst (λ n. is_number n (get_or xs place new) ≡ true) (sym e) (test new));
       named = named;

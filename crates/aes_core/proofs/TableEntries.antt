@@ -1,0 +1,150 @@
+-- Each entry of a table is what the arithmetic of the field gives: one test over the whole table, and one lemma.
+use Rattle.std.proofs.Common.{◌≡◌, ℕ, ◌<◌, ◌≤◌, ◌^◌, ◌+◌, ◌-◌, ◌%◌, arith, List, [], map, length, take, drop, get_or, refl, sym, ap, ◌∙◌, subst, zero-add}
+use Rattle.std.proofs.lemmas.List.{get_or-map, get_or-take, get_or-drop}
+use Rattle.std.proofs.lemmas.List.FromFn.{get_or-map-range_with_len, get_or-range_with_len}
+use Rattle.std.specs.List.{range_with_len}
+use Rattle.aes_core.specs.declared.tables.TheConstants.{SUBSTITUTE, INVERSE_SUBSTITUTE, ENCRYPT, DECRYPT, ROUND_CONSTANTS}
+use Rattle.aes_core.specs.Field.{xtimes, multiply_powers, multiply, power, inverse, byte_of_bits, affine, inverse_affine, substitute, inverse_substitute}
+use Rattle.aes_core.specs.Columns.{mixed_0, mixed_1, mixed_2, mixed_3, inv_mixed_0, inv_mixed_1, inv_mixed_2, inv_mixed_3}
+use Rattle.aes_core.specs.KeyExpansion.{round_constant}
+use Rattle.aes_core.specs.Words.{word_bytes}
+
+table_substitute : SUBSTITUTE ≡ map substitute (range_with_len 0 256)
+unfolding xtimes multiply_powers multiply power inverse byte_of_bits affine substitute
+table_substitute = refl
+
+table_inverse_substitute : INVERSE_SUBSTITUTE ≡ map inverse_substitute (range_with_len 0 256)
+unfolding xtimes multiply_powers multiply power inverse byte_of_bits inverse_affine inverse_substitute
+table_inverse_substitute = refl
+
+-- the substitutions at one byte
+pub entry_substitute : (t : List ℕ) (x : ℕ) → t ≡ SUBSTITUTE → x < 2 ^ 8 → get_or t x 0 ≡ substitute x
+entry_substitute t x e h =
+    ap (λ (l : List ℕ). get_or l x 0) (e ∙ table_substitute)
+    ∙ get_or-map-range_with_len substitute 0 256 x x 0 h (zero-add x)
+
+pub entry_inverse_substitute : (t : List ℕ) (x : ℕ) → t ≡ INVERSE_SUBSTITUTE → x < 2 ^ 8 → get_or t x 0 ≡ inverse_substitute x
+entry_inverse_substitute t x e h =
+    ap (λ (l : List ℕ). get_or l x 0) (e ∙ table_inverse_substitute)
+    ∙ get_or-map-range_with_len inverse_substitute 0 256 x x 0 h (zero-add x)
+
+-- one quarter of a table of words at one byte, from a test of that quarter against a table of bytes
+word_entry : (t s : List ℕ) (f : ℕ → List ℕ) (from x : ℕ) → map word_bytes (take 256 (drop from t)) ≡ map f s → length (take 256 (drop from t)) ≡ 256
+    → length s ≡ 256 → x < 256 → word_bytes (get_or t (from + x) 0) ≡ f (get_or s x 0)
+word_entry t s f from x e long same h =
+    let none : List ℕ = [] in
+    let below : ℕ → Type 0 = λ n. x < n in
+    let quarter : List ℕ = take 256 (drop from t) in
+    ap word_bytes (sym (get_or-take 256 (drop from t) x 0 h ∙ get_or-drop from t x 0))
+    ∙ sym (get_or-map word_bytes quarter x 0 none (subst below (sym long) h))
+    ∙ ap (λ (l : List (List ℕ)). get_or l x none) e ∙ get_or-map f s x 0 none (subst below (sym same) h)
+
+test_encrypt_0 : map word_bytes (take 256 (drop 0 ENCRYPT)) ≡ map mixed_0 SUBSTITUTE
+unfolding xtimes multiply_powers multiply word_bytes mixed_0
+test_encrypt_0 = refl
+
+pub entry_encrypt_0 : (t : List ℕ) (x : ℕ) → t ≡ ENCRYPT → x < 2 ^ 8 → word_bytes (get_or t x 0) ≡ mixed_0 (substitute x)
+entry_encrypt_0 t x e h =
+    ap (λ (k : ℕ). word_bytes (get_or t k 0)) (sym (zero-add x)) ∙ word_entry t SUBSTITUTE mixed_0 0 x (ap (λ (l : List ℕ). map word_bytes (take 256 (drop 0 l))) e ∙ test_encrypt_0)
+    (ap (λ (l : List ℕ). length (take 256 (drop 0 l))) e ∙ refl) refl h
+    ∙ ap mixed_0 (entry_substitute SUBSTITUTE x refl h)
+
+test_encrypt_1 : map word_bytes (take 256 (drop 256 ENCRYPT)) ≡ map mixed_1 SUBSTITUTE
+unfolding xtimes multiply_powers multiply word_bytes mixed_1
+test_encrypt_1 = refl
+
+pub entry_encrypt_1 : (t : List ℕ) (x : ℕ) → t ≡ ENCRYPT → x < 2 ^ 8 → word_bytes (get_or t (256 + x) 0) ≡ mixed_1 (substitute x)
+entry_encrypt_1 t x e h =
+    word_entry t SUBSTITUTE mixed_1 256 x (ap (λ (l : List ℕ). map word_bytes (take 256 (drop 256 l))) e ∙ test_encrypt_1)
+    (ap (λ (l : List ℕ). length (take 256 (drop 256 l))) e ∙ refl) refl h
+    ∙ ap mixed_1 (entry_substitute SUBSTITUTE x refl h)
+
+test_encrypt_2 : map word_bytes (take 256 (drop 512 ENCRYPT)) ≡ map mixed_2 SUBSTITUTE
+unfolding xtimes multiply_powers multiply word_bytes mixed_2
+test_encrypt_2 = refl
+
+pub entry_encrypt_2 : (t : List ℕ) (x : ℕ) → t ≡ ENCRYPT → x < 2 ^ 8 → word_bytes (get_or t (512 + x) 0) ≡ mixed_2 (substitute x)
+entry_encrypt_2 t x e h =
+    word_entry t SUBSTITUTE mixed_2 512 x (ap (λ (l : List ℕ). map word_bytes (take 256 (drop 512 l))) e ∙ test_encrypt_2)
+    (ap (λ (l : List ℕ). length (take 256 (drop 512 l))) e ∙ refl) refl h
+    ∙ ap mixed_2 (entry_substitute SUBSTITUTE x refl h)
+
+test_encrypt_3 : map word_bytes (take 256 (drop 768 ENCRYPT)) ≡ map mixed_3 SUBSTITUTE
+unfolding xtimes multiply_powers multiply word_bytes mixed_3
+test_encrypt_3 = refl
+
+pub entry_encrypt_3 : (t : List ℕ) (x : ℕ) → t ≡ ENCRYPT → x < 2 ^ 8 → word_bytes (get_or t (768 + x) 0) ≡ mixed_3 (substitute x)
+entry_encrypt_3 t x e h =
+    word_entry t SUBSTITUTE mixed_3 768 x (ap (λ (l : List ℕ). map word_bytes (take 256 (drop 768 l))) e ∙ test_encrypt_3)
+    (ap (λ (l : List ℕ). length (take 256 (drop 768 l))) e ∙ refl) refl h
+    ∙ ap mixed_3 (entry_substitute SUBSTITUTE x refl h)
+
+test_decrypt_0 : map word_bytes (take 256 (drop 0 DECRYPT)) ≡ map inv_mixed_0 INVERSE_SUBSTITUTE
+unfolding xtimes multiply_powers multiply word_bytes inv_mixed_0
+test_decrypt_0 = refl
+
+pub entry_decrypt_0 : (t : List ℕ) (x : ℕ) → t ≡ DECRYPT → x < 2 ^ 8 → word_bytes (get_or t x 0) ≡ inv_mixed_0 (inverse_substitute x)
+entry_decrypt_0 t x e h =
+    ap (λ (k : ℕ). word_bytes (get_or t k 0)) (sym (zero-add x)) ∙ word_entry t INVERSE_SUBSTITUTE inv_mixed_0 0 x (ap (λ (l : List ℕ). map word_bytes (take 256 (drop 0 l))) e ∙ test_decrypt_0)
+    (ap (λ (l : List ℕ). length (take 256 (drop 0 l))) e ∙ refl) refl h
+    ∙ ap inv_mixed_0 (entry_inverse_substitute INVERSE_SUBSTITUTE x refl h)
+
+test_decrypt_1 : map word_bytes (take 256 (drop 256 DECRYPT)) ≡ map inv_mixed_1 INVERSE_SUBSTITUTE
+unfolding xtimes multiply_powers multiply word_bytes inv_mixed_1
+test_decrypt_1 = refl
+
+pub entry_decrypt_1 : (t : List ℕ) (x : ℕ) → t ≡ DECRYPT → x < 2 ^ 8 → word_bytes (get_or t (256 + x) 0) ≡ inv_mixed_1 (inverse_substitute x)
+entry_decrypt_1 t x e h =
+    word_entry t INVERSE_SUBSTITUTE inv_mixed_1 256 x (ap (λ (l : List ℕ). map word_bytes (take 256 (drop 256 l))) e ∙ test_decrypt_1)
+    (ap (λ (l : List ℕ). length (take 256 (drop 256 l))) e ∙ refl) refl h
+    ∙ ap inv_mixed_1 (entry_inverse_substitute INVERSE_SUBSTITUTE x refl h)
+
+test_decrypt_2 : map word_bytes (take 256 (drop 512 DECRYPT)) ≡ map inv_mixed_2 INVERSE_SUBSTITUTE
+unfolding xtimes multiply_powers multiply word_bytes inv_mixed_2
+test_decrypt_2 = refl
+
+pub entry_decrypt_2 : (t : List ℕ) (x : ℕ) → t ≡ DECRYPT → x < 2 ^ 8 → word_bytes (get_or t (512 + x) 0) ≡ inv_mixed_2 (inverse_substitute x)
+entry_decrypt_2 t x e h =
+    word_entry t INVERSE_SUBSTITUTE inv_mixed_2 512 x (ap (λ (l : List ℕ). map word_bytes (take 256 (drop 512 l))) e ∙ test_decrypt_2)
+    (ap (λ (l : List ℕ). length (take 256 (drop 512 l))) e ∙ refl) refl h
+    ∙ ap inv_mixed_2 (entry_inverse_substitute INVERSE_SUBSTITUTE x refl h)
+
+test_decrypt_3 : map word_bytes (take 256 (drop 768 DECRYPT)) ≡ map inv_mixed_3 INVERSE_SUBSTITUTE
+unfolding xtimes multiply_powers multiply word_bytes inv_mixed_3
+test_decrypt_3 = refl
+
+pub entry_decrypt_3 : (t : List ℕ) (x : ℕ) → t ≡ DECRYPT → x < 2 ^ 8 → word_bytes (get_or t (768 + x) 0) ≡ inv_mixed_3 (inverse_substitute x)
+entry_decrypt_3 t x e h =
+    word_entry t INVERSE_SUBSTITUTE inv_mixed_3 768 x (ap (λ (l : List ℕ). map word_bytes (take 256 (drop 768 l))) e ∙ test_decrypt_3)
+    (ap (λ (l : List ℕ). length (take 256 (drop 768 l))) e ∙ refl) refl h
+    ∙ ap inv_mixed_3 (entry_inverse_substitute INVERSE_SUBSTITUTE x refl h)
+
+-- the substitution of each byte is undone
+test_undone : map inverse_substitute SUBSTITUTE ≡ range_with_len 0 256
+unfolding xtimes multiply_powers multiply power inverse byte_of_bits inverse_affine inverse_substitute
+test_undone = refl
+
+pub inverse_substitute-substitute : (x : ℕ) → x < 2 ^ 8 → inverse_substitute (substitute x) ≡ x
+inverse_substitute-substitute x h =
+    ap inverse_substitute (sym (entry_substitute SUBSTITUTE x refl h)) ∙ sym (get_or-map inverse_substitute SUBSTITUTE x 0 0 h)
+    ∙ ap (λ (l : List ℕ). get_or l x 0) test_undone ∙ get_or-range_with_len 0 256 x 0 h ∙ zero-add x
+
+test_round_constants : ROUND_CONSTANTS ≡ map round_constant (range_with_len 1 10)
+unfolding xtimes multiply_powers multiply power round_constant
+test_round_constants = refl
+
+pub entry_round_constant : (t : List ℕ) (j : ℕ) → t ≡ ROUND_CONSTANTS → 1 ≤ j → j ≤ 10 → get_or t (j - 1) 0 ≡ round_constant j
+entry_round_constant t j e low high =
+    ap (λ (l : List ℕ). get_or l (j - 1) 0) (e ∙ test_round_constants)
+    ∙ get_or-map-range_with_len round_constant 1 10 (j - 1) j 0 (omega arith) (omega arith)
+
+-- what the substitution gives is a byte
+test_bytes : map (λ (s : ℕ). s % 256) SUBSTITUTE ≡ SUBSTITUTE
+test_bytes = refl
+
+pub substitute_below : (x : ℕ) → x < 2 ^ 8 → substitute x < 256
+substitute_below x h =
+    let e : get_or SUBSTITUTE x 0 ≡ substitute x = entry_substitute SUBSTITUTE x refl h in
+    let m : get_or SUBSTITUTE x 0 ≡ get_or SUBSTITUTE x 0 % 256 =
+    ap (λ (l : List ℕ). get_or l x 0) (sym test_bytes) ∙ get_or-map (λ (s : ℕ). s % 256) SUBSTITUTE x 0 0 h in
+    omega arith

@@ -1,0 +1,7 @@
+use Rattle.std.proofs.Common.{◌≡◌, ◌-◌}
+use Rattle.aes_core.specs.Cipher.{inv_cipher_rounds}
+use Rattle.aes_core.specs.Words.{block_bytes}
+use Rattle.aes_core.proofs.block.decrypt_block.Given as goal
+
+abbrev pub invariant-loop-round : goal.invariant-loop-round
+invariant-loop-round l = block_bytes l.state ≡ inv_cipher_rounds l.key.words l.key.rounds l.block (l.round - 1)

@@ -1,0 +1,8 @@
+// The laws of the definitions, each proved on a function that does nothing.
+
+ghost use Rattle.aes_core.specs.Laws.{DecryptionUndoesEncryption};
+
+/// Decryption undoes encryption, block by block.
+pub fn decryption_undoes_encryption()
+    ensures { DecryptionUndoesEncryption }
+{}

@@ -1,0 +1,19 @@
+//! The AES block cipher of FIPS 197, on blocks of 16 bytes under keys of 128, 192 and 256 bits.
+#![tactic(auto)]
+
+mod block;
+mod columns;
+mod key;
+mod laws;
+#[cfg(test)]
+mod plain;
+mod rounds;
+mod schedule;
+mod tables;
+#[cfg(test)]
+mod tests;
+
+pub use block::{decrypt_block, encrypt_block};
+pub use key::{Key, WrongKeyLength};
+pub use laws::decryption_undoes_encryption;
+pub use schedule::expand;

@@ -1,0 +1,4 @@
+pub mod BlockLemmas
+pub mod CounterLemmas
+pub mod LawLemmas
+pub mod TextLemmas

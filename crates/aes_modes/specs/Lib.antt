@@ -1,0 +1,4 @@
+pub mod Conversion
+pub mod Laws
+pub mod Modes
+pub mod Stream

@@ -1,0 +1,183 @@
+//! Clients' calls.
+
+ghost use Rattle.std.specs.Prelude.{◌≡◌, ◌<◌, ◌^◌, IfOk, OnErr, Ok, true, false, not, ◌&&◌};
+ghost use Rattle.instances.specs.Instances.{admission_of};
+ghost use Rattle.op_queue.specs.Queue.{is_full, is_close_call};
+ghost use Rattle.alone.specs.Step.{answered_at_once, called, called_open, called_invoke, closed_in, known, opened_as, queued};
+ghost use Rattle.app_side.specs.Represents.{machine_of, IsCalled};
+
+use crate::side::{AppSide, Called};
+use alone::{Call, Instance, Outputs, Replies, Reply};
+use app_api::{Application, Params};
+use instances::{Admission, SessionState};
+use tee_base::{Code, NoMemory, Origin};
+
+impl<A: Application> AppSide<A> {
+    /// A call that is answered at once.
+    fn refuse(&mut self, code: Code, origin: Origin) -> Called
+        requires { self.old.queue.next < 2 ^ 63 }
+        ensures { IsCalled self.new result self.old.queue.next (answered_at_once (machine_of self.old) code origin) }
+    {
+        let op = self.queue.skip();
+        Called {
+            op,
+            instance: 0,
+            replies: Replies::one(Reply {
+                op,
+                code,
+                origin,
+                outputs: Outputs::nothing(),
+            }),
+        }
+    }
+
+    /// A call that waits for the instance.
+    fn wait_for(&mut self, client: u8, instance: u8, session: u8, call: Call) -> Result<Called, NoMemory>
+        requires room { self.old.queue.next < 2 ^ 63 }
+        requires accepted { (is_full self.old.queue && not (is_close_call call)) ≡ false }
+        ensures ok { IfOk result (λ waiting. IsCalled self.new waiting self.old.queue.next (queued (machine_of self.old) client instance session call)) }
+        ensures err { OnErr result (self.new ≡ self.old) }
+    {
+        match self.queue.submit(client, instance, session, call) {
+            Ok(op) => Ok(Called {
+                op,
+                instance,
+                replies: Replies::none(),
+            }),
+            Err(_) => Err(NoMemory),
+        }
+    }
+
+    /// An open that was admitted to an instance that exists.
+    fn enter_shared(&mut self, client: u8, label: u32, params: Params, admission: Admission) -> Result<Called, NoMemory>
+        requires room { self.old.queue.next < 2 ^ 63 }
+        requires accepted { is_full self.old.queue ≡ false }
+        requires admitted { admission_of self.old.table client label ≡ Ok admission }
+        requires shared { admission.new_instance ≡ false }
+        ensures ok { IfOk result (λ waiting. IsCalled self.new waiting self.old.queue.next (opened_as (machine_of self.old) client label params (Ok admission))) }
+        ensures err { OnErr result (machine_of self.new ≡ machine_of self.old) }
+    {
+        let call = Call::Open { label, params };
+        let waiting = self.wait_for(client, admission.instance, admission.session, call)?;
+        self.table.enter(client, label, admission);
+        Ok(waiting)
+    }
+
+    /// An open that was admitted to an instance of its own, which is made here.
+    fn enter_new(&mut self, client: u8, label: u32, params: Params, admission: Admission) -> Result<Called, NoMemory>
+        requires room { self.old.queue.next < 2 ^ 63 }
+        requires accepted { is_full self.old.queue ≡ false }
+        requires admitted { admission_of self.old.table client label ≡ Ok admission }
+        requires own { admission.new_instance ≡ true }
+        ensures ok { IfOk result (λ waiting. IsCalled self.new waiting self.old.queue.next (opened_as (machine_of self.old) client label params (Ok admission))) }
+        ensures err { OnErr result (machine_of self.new ≡ machine_of self.old) }
+    {
+        let state = self.template.fresh(self.alloc)?;
+        self.instances.push(Instance {
+            number: admission.instance,
+            state,
+            created: false,
+            running: None,
+        })?;
+        let call = Call::Open { label, params };
+        match self.wait_for(client, admission.instance, admission.session, call) {
+            Ok(waiting) => {
+                self.table.enter(client, label, admission);
+                Ok(waiting)
+            }
+            Err(answer) => {
+                drop(self.instances.pop());
+                Err(answer)
+            }
+        }
+    }
+
+    fn open(&mut self, client: u8, label: u32, params: Params) -> Result<Called, NoMemory>
+        requires { self.old.queue.next < 2 ^ 63 }
+        ensures ok { IfOk result (λ waiting. IsCalled self.new waiting self.old.queue.next (called_open (machine_of self.old) client label params)) }
+        ensures err { OnErr result (machine_of self.new ≡ machine_of self.old) }
+    {
+        if params.check().is_err() {
+            return Ok(self.refuse(Code::BAD_PARAMETERS, Origin::Api));
+        }
+        if self.table.find(client, label).is_some() {
+            return Ok(self.refuse(Code::BAD_STATE, Origin::Api));
+        }
+        if self.queue.is_full() {
+            return Ok(self.refuse(Code::BUSY, Origin::Tee));
+        }
+        match self.table.admit(client, label) {
+            Ok(admission) if admission.new_instance => self.enter_new(client, label, params, admission),
+            Ok(admission) => self.enter_shared(client, label, params, admission),
+            Err(refusal) => Ok(self.refuse(refusal.code, refusal.origin)),
+        }
+    }
+
+    fn invoke(&mut self, client: u8, label: u32, command: u32, params: Params) -> Result<Called, NoMemory>
+        requires { self.old.queue.next < 2 ^ 63 }
+        ensures ok { IfOk result (λ waiting. IsCalled self.new waiting self.old.queue.next (called_invoke (machine_of self.old) client label command params)) }
+        ensures err { OnErr result (machine_of self.new ≡ machine_of self.old) }
+    {
+        if params.check().is_err() {
+            return Ok(self.refuse(Code::BAD_PARAMETERS, Origin::Api));
+        }
+        let Some(known) = self.table.find(client, label) else {
+            return Ok(self.refuse(Code::BAD_STATE, Origin::Api));
+        };
+        match known.state {
+            SessionState::Opening | SessionState::Closing => Ok(self.refuse(Code::BAD_STATE, Origin::Api)),
+            SessionState::Dead => Ok(self.refuse(Code::TARGET_DEAD, Origin::Tee)),
+            SessionState::Open => {
+                if self.queue.is_full() {
+                    return Ok(self.refuse(Code::BUSY, Origin::Tee));
+                }
+                let call = Call::Invoke {
+                    label,
+                    command,
+                    params,
+                };
+                self.wait_for(client, known.instance, known.session, call)
+            }
+        }
+    }
+
+    fn close(&mut self, client: u8, label: u32) -> Result<Called, NoMemory>
+        requires { self.old.queue.next < 2 ^ 63 }
+        ensures ok { IfOk result (λ waiting. IsCalled self.new waiting self.old.queue.next (closed_in (machine_of self.old) client label (known (machine_of self.old) client label))) }
+        ensures err { OnErr result (machine_of self.new ≡ machine_of self.old) }
+    {
+        let Some(known) = self.table.find(client, label) else {
+            return Ok(self.refuse(Code::BAD_STATE, Origin::Api));
+        };
+        match known.state {
+            SessionState::Opening | SessionState::Closing => Ok(self.refuse(Code::BAD_STATE, Origin::Api)),
+            SessionState::Dead => {
+                self.table.remove(known.session);
+                Ok(self.refuse(Code::SUCCESS, Origin::Tee))
+            }
+            SessionState::Open => {
+                let waiting = self.wait_for(client, known.instance, known.session, Call::Close { label })?;
+                self.table.set(known.session, SessionState::Closing);
+                Ok(waiting)
+            }
+        }
+    }
+
+    /// A client's call.
+    #[tactic(auto, unfolding(alone::specs::Step::called))]
+    pub(crate) fn serve(&mut self, client: u8, call: Call) -> Result<Called, NoMemory>
+        requires { self.old.queue.next < 2 ^ 63 }
+        ensures ok { IfOk result (λ waiting. IsCalled self.new waiting self.old.queue.next (called (machine_of self.old) client call)) }
+        ensures err { OnErr result (machine_of self.new ≡ machine_of self.old) }
+    {
+        match call {
+            Call::Open { label, params } => self.open(client, label, params),
+            Call::Invoke {
+                label,
+                command,
+                params,
+            } => self.invoke(client, label, command, params),
+            Call::Close { label } => self.close(client, label),
+        }
+    }
+}

@@ -1,0 +1,65 @@
+-- A store in memory: which of its calls fail, and what a crash may leave of it.
+use Rattle.std.specs.Prelude.{ℕ, ◌≡◌, ◌≤◌, ◌⊎◌, ◌↔◌, Bool, true, false, List, [], ◌∷◌, Some, Result, Ok, Err, IsErrOf, Contains, refl, length}
+use Rattle.std.specs.Coded.{Coded, code_by, coded×, coded_ℕ, coded_list, coded_bool}
+use Rattle.tee_base.specs.Fakes.{Plan, opening_plan, called}
+use Rattle.store_api.specs.declared.answer.StoreAnswer.{StoreAnswer}
+use Rattle.store_api.specs.declared.answer.StoreAnswer.TheVariants.{Lost, Failed}
+use Rattle.store_api.specs.Stores.{Store, empty_store, coded_store}
+use Rattle.store_api.specs.Keeping.{Standing, Rest, Kept, Remains}
+
+-- the store, the stores before it with the last of them first, which calls fail, and whether one did
+pub record MapState : Type 0 where
+  pub store : Store
+  pub past : List Store
+  pub plan : Plan
+  pub lost : Bool
+
+abbrev pub coded_plan : Coded Plan
+coded_plan =
+    code_by (List ℕ × (ℕ × ℕ)) (coded× (coded_list coded_ℕ) (coded× coded_ℕ coded_ℕ))
+    (λ p. (p.failing, (p.calls, p.faults))) (λ p. record { failing = p.0; calls = p.1.0; faults = p.1.1 }) (λ _. refl)
+
+abbrev pub coded_state : Coded MapState
+coded_state =
+    code_by ((Store × List Store) × (Plan × Bool)) (coded× (coded× coded_store (coded_list coded_store)) (coded× coded_plan coded_bool))
+    (λ s. ((s.store, s.past), (s.plan, s.lost)))
+    (λ p. record { store = p.0.0; past = p.0.1; plan = p.1.0; lost = p.1.1 }) (λ _. refl)
+
+abbrev pub opening_state : List ℕ → MapState
+opening_state failing = record { store = empty_store; past = []; plan = opening_plan failing; lost = false }
+
+abbrev pub standing_of : MapState → Standing
+standing_of s = record { lost = s.lost; faults = s.plan.faults; orders = 0 }
+
+-- memory keeps nothing beside the store
+abbrev pub nothing_else : Rest
+nothing_else = record { leaves = λ region leaf. [] }
+
+-- the changes are counted
+abbrev pub kept_after : List Store → Store → Kept
+kept_after past store = record { store = store; rest = nothing_else; number = length past }
+
+abbrev pub kept_of : MapState → Kept
+kept_of s = kept_after s.past s.store
+
+-- a crash at a moment of the past, from t on, leaves what was kept then
+abbrev pub LeftBefore : List Store → ℕ → Remains → Type 0
+LeftBefore [] t o = ⊥
+LeftBefore (store ∷ past) t o = ((t ≤ length past) × (o ≡ Some (kept_after past store))) ⊎ LeftBefore past t o
+
+abbrev pub moment_of : MapState → ℕ
+moment_of s = length s.past
+
+abbrev pub left_of : MapState → ℕ → Remains → Type 0
+left_of s t o = (o ≡ Some (kept_of s)) ⊎ LeftBefore s.past t o
+
+-- a call fails exactly where its number is among those that are to fail
+abbrev pub FailsAsPlanned : {A : Type 0} → Result A StoreAnswer → MapState → Type 0
+FailsAsPlanned result s = s.lost ≡ false → IsErrOf result Failed ↔ Contains s.plan.failing s.plan.calls
+
+-- how a call begins: it is made, or it is one that is to fail, or the store is lost
+abbrev pub Begins : {A : Type 0} → Result A StoreAnswer → MapState → MapState → Type 0
+Begins (Ok done) old new = (old.lost ≡ false) × ¬ (Contains old.plan.failing old.plan.calls) × (new ≡ record old { plan = called false old.plan })
+Begins (Err Failed) old new = (old.lost ≡ false) × Contains old.plan.failing old.plan.calls × (new ≡ record old { plan = called true old.plan; lost = true })
+Begins (Err Lost) old new = (old.lost ≡ true) × (new ≡ old)
+Begins (Err _) old new = ⊥

@@ -1,0 +1,15 @@
+//! Objects, the stores that keep them, what changes a store, and a store in memory.
+#![tactic(auto)]
+
+mod answer;
+mod change;
+mod map_store;
+mod object;
+mod objects;
+mod store;
+
+pub use answer::{Mismatch, StoreAnswer};
+pub use change::Change;
+pub use map_store::MapStore;
+pub use object::{Facts, Listed, Object};
+pub use store::AppStore;

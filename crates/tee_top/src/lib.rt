@@ -1,0 +1,9 @@
+//! The run of a script: from the words of a command line and the bytes of a source to the bytes of a sink.
+#![tactic(auto)]
+
+mod lines;
+mod run;
+mod status;
+
+pub use run::run_tee;
+pub use status::{Status, status_line};

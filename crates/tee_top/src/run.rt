@@ -1,0 +1,101 @@
+//! The run of a script.
+
+ghost use Rattle.std.specs.Prelude.{◌≡◌, ◌↔◌, ◌≤◌, IsTrue, IsErrOf, IfErr, OnOk};
+ghost use Rattle.std.specs.Io.KnownBytes.{IsAtEnd, Keeps};
+ghost use Rattle.app_api.specs.Hosts.{HostsFit};
+ghost use Rattle.tee_base.specs.Faults.{Rose};
+ghost use Rattle.tee_base.specs.Transfer.{HasMoreThan};
+ghost use Rattle.tee_top.specs.Runs.{AreRunWords, IsOneHost, IsServed, IsUnrun, IsReadStatus};
+ghost use Rattle.app_side.specs.Represents.{IsOneInstance};
+
+use crate::lines::{Stop, run_lines};
+use crate::status::Status;
+use app_api::{Application, Host};
+use app_side::AppSide;
+use script::{Line, ScriptAnswer, parse};
+use std::alloc::Global;
+use tee_base::{ReadAnswer, Sink, Source, limits, read_all};
+
+/// Whether the words are those of a run.
+fn are_run_words(words: &[String]) -> bool
+    ensures { IsTrue result ↔ AreRunWords words.now }
+{
+    match words {
+        [word] => word.as_str() == "run",
+        _ => false,
+    }
+}
+
+/// The lines of the script that the source holds.
+fn read_lines<S: Source, A: Application>(alloc: Global, source: &mut S, hosts: &[Host<A>]) -> Result<Vec<Line>, Status>
+    requires { HostsFit hosts.now }
+    ensures at_end { OnOk result (IsAtEnd (S.left source.new)) }
+    ensures too_long { IsErrOf result Status.TooLong → HasMoreThan 1048576 (S.left source.old) }
+    ensures fault { IsErrOf result Status.ReadFault → Rose (S.failures source.old) (S.failures source.new) }
+    ensures later { S.failures source.old ≤ S.failures source.new }
+    ensures few { IfErr result IsReadStatus }
+{
+    let text = match read_all(alloc, source, limits::SCRIPT_BYTES) {
+        Ok(text) => text,
+        Err(ReadAnswer::TooLong) => return Err(Status::TooLong),
+        Err(ReadAnswer::ReadFault) => return Err(Status::ReadFault),
+        Err(ReadAnswer::NoMemory) => return Err(Status::NoMemory),
+    };
+    match parse(alloc, text.as_slice(), hosts) {
+        Ok(script) => Ok(script.into_lines()),
+        Err(ScriptAnswer::BadLine(number)) => Err(Status::BadLine(number)),
+        Err(ScriptAnswer::NoMemory) => Err(Status::NoMemory),
+    }
+}
+
+/// Runs the lines for the one host.
+fn serve<W: Sink, A: Application>(alloc: Global, lines: Vec<Line>, sink: &mut W, host: Host<A>, seed: [u8; 32]) -> Status
+    requires { IsOneInstance host }
+    ensures fault { result ≡ Status.WriteFault → Rose (W.failures sink.old) (W.failures sink.new) }
+    ensures later { W.failures sink.old ≤ W.failures sink.new }
+    ensures few { IsServed result }
+{
+    let Ok(name) = host.name.copy(alloc) else {
+        return Status::NoMemory;
+    };
+    let Ok(mut side) = AppSide::new(alloc, host, 0, seed) else {
+        return Status::NoMemory;
+    };
+    match run_lines(alloc, name.as_slice(), &mut side, lines, sink) {
+        Ok(()) => Status::Done,
+        Err(Stop::NoMemory) => Status::NoMemory,
+        Err(Stop::WriteFault) => Status::WriteFault,
+    }
+}
+
+/// Reads a script from the source, runs it for the one host, and writes the replies to the sink. The words of a run are
+/// `run`. Nothing is run, and nothing is written, unless the whole source was read and each line is in the grammar.
+pub fn run_tee<S: Source, W: Sink, A: Application>(
+    alloc: Global,
+    words: &[String],
+    source: &mut S,
+    sink: &mut W,
+    mut hosts: Vec<Host<A>>,
+    seed: [u8; 32],
+) -> Status
+    requires fit { HostsFit hosts.items }
+    requires one { IsOneHost hosts.items }
+    ensures bad_words { (result ≡ Status.BadWords) ↔ ¬ AreRunWords words.now }
+    ensures too_long { result ≡ Status.TooLong → HasMoreThan 1048576 (S.left source.old) }
+    ensures read_fault { result ≡ Status.ReadFault → Rose (S.failures source.old) (S.failures source.new) }
+    ensures write_fault { result ≡ Status.WriteFault → Rose (W.failures sink.old) (W.failures sink.new) }
+    ensures done { result ≡ Status.Done → IsAtEnd (S.left source.new) }
+    ensures unwritten { IsUnrun result → sink.new ≡ sink.old }
+{
+    if !are_run_words(words) {
+        return Status::BadWords;
+    }
+    let lines = match read_lines(alloc, source, hosts.as_slice()) {
+        Ok(lines) => lines,
+        Err(status) => return status,
+    };
+    match hosts.pop() {
+        Some(host) => serve(alloc, lines, sink, host, seed),
+        None => Status::Done,
+    }
+}
