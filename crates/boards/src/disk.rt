@@ -180,9 +180,10 @@ impl Disk {
         if fate != Fate::Pass || self.counter == u64::MAX {
             return Err(self.fail());
         }
-        self.counter += 1;
+        let next = self.counter + 1;
+        self.counter = next;
         self.unsettled = false;
-        Ok(self.counter)
+        Ok(next)
     }
 
     /// Makes durable what reads give.
@@ -243,8 +244,8 @@ impl Disk {
             return pick;
         }
         self.unsettled = false;
-        if pick % 2 == 1 && self.counter < u64::MAX {
-            self.counter += 1;
+        if pick % 2 == 1 {
+            self.counter = self.counter.saturating_add(1);
         }
         pick / 2
     }

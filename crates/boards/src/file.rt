@@ -1,5 +1,8 @@
 //! A board over three files: the blocks, the counter and the keys. It is an edge that is trusted, and tells no contents.
-ghost use Rattle.std.specs.Prelude.{◌≡◌, ◌<◌, ◌^◌, false};
+ghost use Rattle.std.specs.Prelude.{◌≡◌, ◌<◌, ◌^◌, false, IfOk};
+ghost use Rattle.std.specs.IoError.{error_kind};
+ghost use Rattle.boards.specs.FileBoardFailed.{failed_by};
+ghost use Rattle.boards.specs.declared.file.FileBoardFailed.TheVariants.{NoMemory};
 
 use crate::counts::Counts;
 use board::fuse::Fuse;
@@ -25,17 +28,20 @@ pub enum FileBoardFailed {
 }
 
 impl From<AllocError> for FileBoardFailed {
+    ghost from_gives = { λ _ e. e ≡ NoMemory };
+
     fn from(_error: AllocError) -> FileBoardFailed {
         FileBoardFailed::NoMemory
     }
 }
 
 impl From<io::Error> for FileBoardFailed {
+    ghost from_gives = { λ error e. e ≡ failed_by (error_kind error) };
+
     fn from(error: io::Error) -> FileBoardFailed {
-        if error.kind() == io::ErrorKind::OutOfMemory {
-            FileBoardFailed::NoMemory
-        } else {
-            FileBoardFailed::Failed
+        match error.kind() {
+            io::ErrorKind::OutOfMemory => FileBoardFailed::NoMemory,
+            _ => FileBoardFailed::Failed,
         }
     }
 }
@@ -53,7 +59,7 @@ pub struct FileBoard<F> {
 }
 
 impl<F: Read + Write + Seek + OpenFile + Drop> FileBoard<F> {
-    ghost use Rattle.boards.specs.FileBoard.{seed_of};
+    ghost use Rattle.boards.specs.FileBoard.{view_of, seed_of, IsOpened};
 
     /// Opens the board of the files `IMAGE`, `IMAGE.ctr` and `IMAGE.key`. The first two are made, blank, where they
     /// are missing. `Failed` where the key file is missing or hasn't 64 bytes, where the image isn't whole blocks or
@@ -62,7 +68,9 @@ impl<F: Read + Write + Seek + OpenFile + Drop> FileBoard<F> {
         rt: &R,
         alloc: Global,
         image: &str,
-    ) -> Result<FileBoard<F>, FileBoardFailed> {
+    ) -> Result<FileBoard<F>, FileBoardFailed>
+        ensures { IfOk result (λ b. IsOpened (view_of b)) }
+    {
         let (key, seed) = read_keys(rt, format!(in alloc; "{image}.key")?.as_str())?;
         let blocks = open_or_make(rt, image, NEW_BLOCKS * BLOCK as u64)?;
         let counter = open_or_make(
@@ -170,7 +178,7 @@ impl<F: Read + Write + Seek + OpenFile> Board for FileBoard<F> {
 
     ghost view = { view_of };
 
-    ghost honest = { λ b. ⊥ };
+    ghost honest = { λ _. ⊥ };
 
     ghost consistent = { λ b h. absurd h };
 

@@ -26,13 +26,13 @@ pub fn split(alloc: Global, image: &[u8]) -> Result<Vec<[u8; 1024]>, NoMemory>
     ensures blocks { IfOk result (λ v. (k : ℕ) → k < vec_len v → slice_index_or v.items k [] ≡ block_at image.now k) }
 {
     let count = image.len() / 1024;
-    let mut blocks = Vec::with_capacity(alloc, count)?;
+    let mut pieces = Vec::with_capacity(alloc, count)?;
     for at in 0..count {
         let mut block = [0; 1024];
         block.copy_from_slice(&image[1024 * at..1024 * at + 1024]);
-        blocks.push(block)?;
+        pieces.push(block)?;
     }
-    Ok(blocks)
+    Ok(pieces)
 }
 
 /// The image that these blocks make.

@@ -11,3 +11,8 @@ mod schedule;
 
 pub use file::{FileBoard, FileBoardFailed, NEW_BLOCKS};
 pub use memory::MemBoard;
+
+#[cfg(test)]
+mod file_tests;
+#[cfg(test)]
+mod memory_tests;

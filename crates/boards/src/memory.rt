@@ -100,13 +100,13 @@ impl MemBoard {
 }
 
 impl Board for MemBoard {
-    ghost use Rattle.boards.specs.MemoryBoard.{view_of, memory_of};
+    ghost use Rattle.boards.specs.MemoryBoard.{view_of, memory_of, IsHonest};
 
     ghost tells_reads = { true };
 
     ghost view = { view_of };
 
-    ghost honest = { λ b. Unit {0} };
+    ghost honest = { IsHonest };
 
     ghost consistent = { λ b h. record { as_read = b.whole.as_read; whole = b.whole.blocks; counter = b.whole.counter } };
 
@@ -126,7 +126,7 @@ impl Board for MemBoard {
         ensures writes { (view_of self.new).writes ≡ (view_of self.old).writes }
         ensures bytes { OnOk result (into.new ≡ (view_of self.old).state.reads block) }
         ensures same { (view_of self.new).state.reads ≡ (view_of self.old).state.reads }
-        ensures honest { Unit {0} → Unit {0} × Answered (view_of self.old) (view_of self.new)
+        ensures honest { IsHonest self.old → IsHonest self.new × Answered (view_of self.old) (view_of self.new)
             × Unchanged (view_of self.old).state (view_of self.new).state }
         ensures exact { IsExact true (is_ok result) (memory_of self.old) (memory_of self.new) }
         ensures offered { (memory_of self.new).offered ≡ (memory_of self.old).offered }
@@ -140,7 +140,7 @@ impl Board for MemBoard {
         requires { block < (view_of self.old).size }
         ensures call { Called (is_ok result) (view_of self.old) (view_of self.new) }
         ensures writes { (view_of self.new).writes ≡ capped ((view_of self.old).writes + 1) }
-        ensures honest { Unit {0} → Unit {0} × Answered (view_of self.old) (view_of self.new)
+        ensures honest { IsHonest self.old → IsHonest self.new × Answered (view_of self.old) (view_of self.new)
             × Wrote block from.now (is_ok result) (view_of self.old).state (view_of self.new).state }
         ensures exact { IsExact true (is_ok result) (memory_of self.old) (memory_of self.new) }
         ensures earlier { is_ok result ≡ false → (view_of self.new).state.reads ≡ (view_of self.old).state.reads }
@@ -156,7 +156,7 @@ impl Board for MemBoard {
     fn sync(&mut self) -> Result<(), BoardFailed>
         ensures call { Called (is_ok result) (view_of self.old) (view_of self.new) }
         ensures writes { (view_of self.new).writes ≡ (view_of self.old).writes }
-        ensures honest { Unit {0} → Unit {0} × Answered (view_of self.old) (view_of self.new)
+        ensures honest { IsHonest self.old → IsHonest self.new × Answered (view_of self.old) (view_of self.new)
             × Synced (is_ok result) (view_of self.old).state (view_of self.new).state }
         ensures exact { IsExact true (is_ok result) (memory_of self.old) (memory_of self.new) }
         ensures offered { (memory_of self.new).offered ≡ (memory_of self.old).offered }
@@ -169,7 +169,7 @@ impl Board for MemBoard {
     fn counter(&mut self) -> Result<u64, BoardFailed>
         ensures call { Called (is_ok result) (view_of self.old) (view_of self.new) }
         ensures writes { (view_of self.new).writes ≡ (view_of self.old).writes }
-        ensures honest { Unit {0} → Unit {0} × Answered (view_of self.old) (view_of self.new)
+        ensures honest { IsHonest self.old → IsHonest self.new × Answered (view_of self.old) (view_of self.new)
             × Counted result (view_of self.old).state (view_of self.new).state }
         ensures exact { IsExact true (is_ok result) (memory_of self.old) (memory_of self.new) }
         ensures value { IfOk result (λ n. n ≡ (view_of self.old).state.counter) }
@@ -183,7 +183,7 @@ impl Board for MemBoard {
     fn advance(&mut self) -> Result<u64, BoardFailed>
         ensures call { Called (is_ok result) (view_of self.old) (view_of self.new) }
         ensures writes { (view_of self.new).writes ≡ (view_of self.old).writes }
-        ensures honest { Unit {0} → Unit {0} × Answered (view_of self.old) (view_of self.new)
+        ensures honest { IsHonest self.old → IsHonest self.new × Answered (view_of self.old) (view_of self.new)
             × Advanced result (view_of self.old).state (view_of self.new).state }
         ensures exact { IsExact (nat_lt (view_of self.old).state.counter (2 ^ 64 - 1)) (is_ok result)
             (memory_of self.old) (memory_of self.new) }
@@ -200,7 +200,7 @@ impl Board for MemBoard {
     fn fuse(&mut self, calls: u32)
         ensures ordered { Ordered calls (view_of self.old) (view_of self.new) }
         ensures fuse { (view_of self.new).fuse ≡ refitted (view_of self.old).fuse calls }
-        ensures honest { Unit {0} → Unit {0} × Passes (view_of self.old) (view_of self.new)
+        ensures honest { IsHonest self.old → IsHonest self.new × Passes (view_of self.old) (view_of self.new)
             × Unchanged (view_of self.old).state (view_of self.new).state }
         ensures exact { IsOrder (memory_of self.old) (memory_of self.new) }
     {
@@ -213,7 +213,7 @@ impl Board for MemBoard {
     fn power(&mut self, pick: u64)
         ensures ordered { Ordered pick (view_of self.old) (view_of self.new) }
         ensures fuse { (view_of self.new).fuse ≡ Unset }
-        ensures honest { Unit {0} → Unit {0} × Passes (view_of self.old) (view_of self.new)
+        ensures honest { IsHonest self.old → IsHonest self.new × Passes (view_of self.old) (view_of self.new)
             × Powered (view_of self.old).state (view_of self.new).state }
         ensures exact { IsOrder (memory_of self.old) (memory_of self.new) }
         ensures image { (k : ℕ) → (view_of self.new).state.reads k ≡ image_after pick (memory_of self.old) k }

@@ -4,4 +4,4 @@ use Rattle.boards.proofs.image.split.Given as goal
 
 abbrev pub invariant-loop-at : goal.invariant-loop-at
 invariant-loop-at l =
-    (vec_len l.blocks ≡ l.at) × AreBlocks l.blocks.items × ((k : ℕ) → k < l.at → slice_index_or l.blocks.items k [] ≡ block_at l.image k)
+    (vec_len l.pieces ≡ l.at) × AreBlocks l.pieces.items × ((k : ℕ) → k < l.at → slice_index_or l.pieces.items k [] ≡ block_at l.image k)

@@ -1,0 +1,123 @@
+//! The board over files: fresh files, files that are no board, and files that are opened again.
+use crate::{FileBoard, FileBoardFailed, NEW_BLOCKS};
+use board::Board;
+use std::fs::File;
+use std::test::Fail;
+use std::{env, fs, process};
+
+/// A path of this process.
+fn path_of(rt: &HostRuntime, name: &str) -> Result<String, Fail> {
+    let folder = env::temp_dir(rt)?;
+    let id = process::id(rt.process());
+    let name = format!(in rt.alloc(); "keuldis-{id}-{name}")?;
+    Ok(folder.join(rt.alloc(), name.as_str())?.into_string())
+}
+
+fn keys() -> [u8; 64] {
+    let mut keys = [1; 64];
+    for at in 32..64 {
+        keys[at] = 2;
+    }
+    keys
+}
+
+/// Opens the files after the key file was written.
+fn opened(
+    rt: &HostRuntime,
+    image: &str,
+    keys: &[u8],
+) -> Result<Result<FileBoard<File>, FileBoardFailed>, Fail> {
+    fs::write(rt, format!(in rt.alloc(); "{image}.key")?.as_str(), keys)?;
+    Ok(FileBoard::open(rt, rt.alloc(), image))
+}
+
+fn remove(rt: &HostRuntime, image: &str) -> Result<(), Fail> {
+    fs::remove_file(rt, image)?;
+    fs::remove_file(rt, format!(in rt.alloc(); "{image}.ctr")?.as_str())?;
+    fs::remove_file(rt, format!(in rt.alloc(); "{image}.key")?.as_str())?;
+    Ok(())
+}
+
+#[test]
+fn fresh_files_are_made_and_opened_again(rt: HostRuntime) -> Result<(), Fail> {
+    let image = path_of(&rt, "fresh")?;
+    let mut board = opened(&rt, image.as_str(), &keys())??;
+    assert_eq!(rt;
+        (board.blocks(), board.key(), board.random_seed()),
+        (NEW_BLOCKS, [1; 32], [2; 32])
+    );
+    assert_eq!(rt; board.counter()?, 0);
+    assert!(rt; 8741 < board.blocks());
+    let mut bytes = [9; 1024];
+    board.read(8741, &mut bytes)?;
+    assert_eq!(rt; bytes, [0; 1024]);
+    board.write(8741, &[5; 1024])?;
+    board.sync()?;
+    assert_eq!(rt; board.advance()?, 1);
+    drop(board);
+    let counter = fs::read(&rt, format!(in rt.alloc(); "{image}.ctr")?.as_str())?;
+    assert_eq!(rt; counter.as_slice(), [1, 0, 0, 0, 0, 0, 0, 0].as_slice());
+    assert_eq!(rt; fs::metadata(&rt, image.as_str())?.len(), 8_951_808);
+    let mut board = FileBoard::open(&rt, rt.alloc(), image.as_str())?;
+    assert!(rt; 8741 < board.blocks());
+    board.read(8741, &mut bytes)?;
+    assert_eq!(rt; bytes, [5; 1024]);
+    assert_eq!(rt; board.counter()?, 1);
+    board.fuse(0);
+    assert!(rt; board.sync().is_err());
+    board.power(3);
+    board.sync()?;
+    assert_eq!(rt;
+        (
+            board.faults(),
+            board.writes(),
+            board.orders(),
+            board.ordered()
+        ),
+        (1, 0, 2, 3)
+    );
+    drop(board);
+    remove(&rt, image.as_str())
+}
+
+#[test]
+fn files_that_are_no_board_are_refused(rt: HostRuntime) -> Result<(), Fail> {
+    let image = path_of(&rt, "refused")?;
+    let missing = FileBoard::open(&rt, rt.alloc(), image.as_str());
+    assert!(rt;
+        matches!(missing, Err(FileBoardFailed::Failed)),
+        "no key file"
+    );
+    assert!(rt;
+        fs::metadata(&rt, image.as_str()).is_err(),
+        "nothing is made"
+    );
+    let short = opened(&rt, image.as_str(), &[1; 63])?;
+    assert!(rt;
+        matches!(short, Err(FileBoardFailed::Failed)),
+        "a short key file"
+    );
+    assert!(rt; opened(&rt, image.as_str(), &keys())?.is_ok());
+    fs::write(&rt, image.as_str(), [0; 1025].as_slice())?;
+    let torn = FileBoard::open(&rt, rt.alloc(), image.as_str());
+    assert!(rt;
+        matches!(torn, Err(FileBoardFailed::Failed)),
+        "no whole blocks"
+    );
+    fs::write(&rt, image.as_str(), [0; 2048].as_slice())?;
+    assert_eq!(rt;
+        FileBoard::open(&rt, rt.alloc(), image.as_str())?.blocks(),
+        2
+    );
+    fs::write(
+        &rt,
+        format!(in rt.alloc(); "{image}.ctr")?.as_str(),
+        [0; 7].as_slice(),
+    )?;
+    let counter = FileBoard::open(&rt, rt.alloc(), image.as_str());
+    assert!(rt;
+        matches!(counter, Err(FileBoardFailed::Failed)),
+        "a short counter file"
+    );
+    remove(&rt, image.as_str())
+}
