@@ -24,7 +24,7 @@ are_bytes_in least most bits = nat_le least bits && nat_le bits most && ((bits %
 -- the size fits the kind; none fits what is no kind of key
 unfoldable pub size_fits : ℕ → ℕ → Bool
 size_fits kind bits =
-  if kind == aes then (bits == 128) || (bits == 192) || (bits == 256)
-  else if kind == hmac_sha256 then are_bytes_in 192 1024 bits
-  else if (kind == hmac_sha384) || (kind == hmac_sha512) then are_bytes_in 256 1024 bits
-  else false
+    if kind == aes then (bits == 128) || (bits == 192) || (bits == 256)
+    else if kind == hmac_sha256 then are_bytes_in 192 1024 bits
+    else if (kind == hmac_sha384) || (kind == hmac_sha512) then are_bytes_in 256 1024 bits
+    else false
