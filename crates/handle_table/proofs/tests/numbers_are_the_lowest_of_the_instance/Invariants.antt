@@ -2,4 +2,4 @@ use Rattle.std.proofs.Common.{◌≡◌, None}
 use Rattle.handle_table.proofs.tests.numbers_are_the_lowest_of_the_instance.Given as goal
 
 abbrev pub invariant-loop-wanted : goal.invariant-loop-wanted
-invariant-loop-wanted l = l.table.pending ≡ None
+invariant-loop-wanted g l = l.table.pending ≡ None
