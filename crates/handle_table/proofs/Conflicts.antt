@@ -1,5 +1,5 @@
 -- The order of the shares makes no difference to a conflict.
-use Rattle.std.proofs.Common.{◌≡◌, ◌<◌, ◌≤◌, ◌+◌, ℕ, suc, Bool, true, false, not, cond, ◌&&◌, ◌||◌, List, [], ◌∷◌, length, map, filter, nat_lt, count_by, refl, sym, ap, ◌∙◌, arith, rules}
+use Rattle.std.proofs.Common.{◌≡◌, ◌+◌, ℕ, suc, Bool, true, false, not, cond, ◌&&◌, ◌||◌, List, [], ◌∷◌, length, map, filter, nat_lt, count_by, refl, sym, ap, ◌∙◌, arith}
 use Rattle.std.specs.List.{list_any, list_all}
 use Rattle.std.proofs.lemmas.Bool.{lt-ltb}
 use Rattle.std.proofs.lemmas.List.{length-map}
@@ -7,7 +7,7 @@ use Rattle.std.proofs.lemmas.List.Sums.{sum_by-cons, length-filter}
 use Rattle.tee_base.specs.declared.codes.Flags.{Flags}
 use Rattle.share_rules.specs.declared.index.Share.{Share}
 use Rattle.share_rules.specs.declared.uses.Uses.{Uses}
-use Rattle.share_rules.specs.Sharing.{is_on, flags_on, uses_of, conflicts, conflict, has, access_read, access_write, access_write_meta, share_read, share_write}
+use Rattle.share_rules.specs.Sharing.{is_on, flags_on, conflicts, conflict, has, access_read, access_write, access_write_meta, share_read, share_write}
 use Rattle.handle_table.specs.Handles.{HoldsFor}
 
 any_or : (b rest : Bool) (n : ℕ) → rest ≡ nat_lt 0 n → (b || rest) ≡ nat_lt 0 (cond b 1 0 + n)

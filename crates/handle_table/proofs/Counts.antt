@@ -1,8 +1,8 @@
 -- Shares that are noted, counted by any test.
-use Rattle.std.proofs.Common.{◌≡◌, ◌<◌, ◌≤◌, ◌+◌, ℕ, zero, suc, Bool, true, false, not, cond, ◌&&◌, ◌||◌, List, Option, None, Some, [], ◌∷◌, ◌++◌, length, get_or, take, map, filter, position, remove, nat_lt, count_by, sum_by, IsTrue, refl, sym, ap, subst, ◌∙◌, ⊎_elim, arith, rules}
+use Rattle.std.proofs.Common.{◌≡◌, ◌<◌, ◌≤◌, ◌+◌, ℕ, Bool, true, false, not, cond, List, Option, None, Some, [], ◌∷◌, ◌++◌, length, get_or, take, filter, position, remove, nat_lt, count_by, sum_by, IsTrue, refl, sym, ap, ◌∙◌, ⊎_elim, arith, rules}
 use Rattle.std.specs.List.{list_any, position_or_len, cons_option}
 use Rattle.std.specs.Option.{option_to_list}
-use Rattle.std.proofs.lemmas.Bool.{cases_Bool, and_parts, and_from, eq-eqb, both_ways, cond-true, cond-false, ltb-false, eqb-true}
+use Rattle.std.proofs.lemmas.Bool.{cases_Bool, and_parts, and_from, eq-eqb, both_ways, cond-true, ltb-false, eqb-true}
 use Rattle.std.proofs.lemmas.List.Folds.{list_any_none}
 use Rattle.std.proofs.lemmas.List.Quantifiers.{position-Some}
 use Rattle.std.proofs.lemmas.List.Sums.{sum_by-cons, sum_by-append, sum_by-remove, fails_before_first, sum_by_more, sum_by_more_le_part}

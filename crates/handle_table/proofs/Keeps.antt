@@ -1,5 +1,5 @@
 -- Each change of a table keeps what a table keeps.
-use Rattle.std.proofs.Common.{◌≡◌, ◌<◌, ◌≤◌, ◌+◌, ◌==◌, ℕ, Bool, true, false, not, cond, nat_le, List, Option, None, Some, append-nil, [], ◌∷◌, ◌++◌, length, filter, find, count_by, sum_by, option_map, IsTrue, refl, sym, ap, subst, ◌∙◌, ⊎_elim, arith, rules}
+use Rattle.std.proofs.Common.{◌≡◌, ◌<◌, ◌≤◌, ◌+◌, ◌==◌, ℕ, Bool, true, false, not, cond, List, Option, None, Some, [], ◌∷◌, ◌++◌, filter, find, count_by, sum_by, option_map, IsTrue, refl, sym, ap, subst, ◌∙◌, ⊎_elim, arith}
 use Rattle.std.specs.Option.{option_to_list, option_and_then}
 use Rattle.std.proofs.lemmas.Bool.{cases_Bool, leb-false, eqb-true}
 use Rattle.std.proofs.lemmas.List.Sums.{sum_by-cons, sum_by_push}
@@ -8,10 +8,9 @@ use Rattle.tee_base.specs.declared.codes.Flags.{Flags}
 use Rattle.share_rules.specs.declared.index.Share.{Share}
 use Rattle.share_rules.specs.Sharing.{is_noted, released, conflict}
 use Rattle.handle_table.specs.declared.handle.Handle.{Handle}
-use Rattle.handle_table.specs.declared.handle.Handle.TheVariants.{Persistent, Transient}
 use Rattle.handle_table.specs.declared.handle.Entry.{Entry}
 use Rattle.handle_table.specs.declared.handle.Rename.{Rename}
-use Rattle.handle_table.specs.Handles.{Table, IsTable, HoldsFor, noted, shares_of, share_of, entry_share, share_at, pending_share, is_of, is_at, is_full, may_open, change_first, entry_sought, entry_moved, sought, moved}
+use Rattle.handle_table.specs.Handles.{Table, IsTable, HoldsFor, noted, shares_of, share_of, entry_share, share_at, pending_share, is_of, is_at, is_full, may_open, change_first, entry_sought, entry_moved}
 use Rattle.handle_table.proofs.Counts.{weight, weight_of, count-shares_of, count_option, count-released, noted_from_weight}
 use Rattle.handle_table.proofs.Conflicts.{conflict_same}
 use Rattle.handle_table.proofs.Changes.{sum_change, sought_weight, sum_moved, on_other}
@@ -99,10 +98,6 @@ pub moved_pending : (to : List ℕ) (flags : Flags) (o : Option Share) → Some 
 moved_pending to flags None e = absurd (some_none flags e)
 moved_pending to flags (Some s) e = let same : s.flags ≡ flags = (let both : Some flags ≡ Some s.flags = e in cc) in ap (λ f. Some (on_other to (record { id = to; flags = f }))) same
 
-pub none_moved : (to : List ℕ) (o : Option Share) → None ≡ option_map (λ s. s.flags) o → option_map (on_other to) o ≡ None
-none_moved to None e = refl
-none_moved to (Some s) e = absurd (some_none s.flags (sym e))
-
 -- what is noted while the rename is pending
 abbrev pub Pending : List Share → List Entry → Rename → Type 0
 Pending shares handles r = HoldsFor shares (shares_of handles ++ option_to_list (pending_share (Some r) handles))
@@ -138,24 +133,6 @@ back_noted shares handles r flags holds at =
 pub back_holds : (shares : List Share) (handles : List Entry) (r : Rename) (flags : Flags) → Pending shares handles r → Some flags ≡ option_map (λ s. s.flags) (share_at handles r.instance r.number) → HoldsFor (released shares r.to flags) (shares_of handles)
 back_holds shares handles r flags holds at p =
     omega (arith, pending_count shares handles r holds p, ap (weight p) (moved_pending r.to flags (share_at handles r.instance r.number) at), count-released p shares r.to flags (back_noted shares handles r flags holds at), count-shares_of p handles)
-
-pub back_nothing : (shares : List Share) (handles : List Entry) (r : Rename) → Pending shares handles r → None ≡ option_map (λ s. s.flags) (share_at handles r.instance r.number) → HoldsFor shares (shares_of handles)
-back_nothing shares handles r holds at p =
-    omega (arith, pending_count shares handles r holds p, ap (weight p) (none_moved r.to (share_at handles r.instance r.number) at), count-shares_of p handles)
-
-pub note_flags : (shares after : List Share) (handles : List Entry) (r : Rename) (id : List ℕ) (flags : Flags) → Some flags ≡ option_map (λ s. s.flags) (share_at handles r.instance r.number) → id ≡ r.to → after ≡ shares ++ record { id = id; flags = flags } ∷ [] → after ≡ shares ++ option_to_list (pending_share (Some r) handles)
-note_flags shares after handles r id flags at same e =
-    e ∙ ap (λ (i : List ℕ). (let s : Share = record { id = i; flags = flags } in shares ++ s ∷ [])) same ∙ ap (λ (o : Option Share). shares ++ option_to_list o) (sym (moved_pending r.to flags (share_at handles r.instance r.number) at))
-
-pub note_nothing : (shares : List Share) (handles : List Entry) (r : Rename) → None ≡ option_map (λ s. s.flags) (share_at handles r.instance r.number) → shares ≡ shares ++ option_to_list (pending_share (Some r) handles)
-note_nothing shares handles r at =
-    sym (append-nil shares) ∙ ap (λ (o : Option Share). shares ++ option_to_list o) (sym (none_moved r.to (share_at handles r.instance r.number) at))
-
-pub started_IsTable : (before shares : List Share) (t now : Table) (r : Rename) → t ≡ now → now.pending ≡ None → shares ≡ before ++ option_to_list (pending_share (Some r) t.handles) → IsTable before t → IsTable shares (record { handles = t.handles; pending = Some r })
-started_IsTable before shares t now r same none more old = record {
-  few = old.few;
-  noted = λ p. omega (arith, ap (count_by p) more, count_option p before (pending_share (Some r) t.handles), count_option p (shares_of t.handles) (pending_share (Some r) t.handles), bare before t.handles t.pending (none_pending t now same none) old.noted p);
-}
 
 ended_few : (took : Bool) (handles : List Entry) (r : Rename) → ((i : ℕ) → count_by (is_of i) handles ≤ 16) → (i : ℕ) → count_by (is_of i) (cond took (change_first (is_at r.instance r.number) (entry_moved r.to) handles) handles) ≤ 16
 ended_few true handles r few i = omega (arith, few i, sum_change (is_at r.instance r.number) (entry_moved r.to) (λ (e : Entry). cond (is_of i e) 1 0) (λ e. refl) handles)

@@ -4,7 +4,6 @@
 mod handle;
 mod lists;
 mod table;
-
 #[cfg(test)]
 mod tests;
 

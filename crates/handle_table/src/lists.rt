@@ -107,7 +107,11 @@ pub fn take_out(handles: &mut Vec<Entry>, closing: Closing)
 }
 
 /// Notes what the handle will share once the rename took.
-pub fn note_rename(shares: &mut ShareIndex, handles: &[Entry], rename: &Rename) -> Result<(), NoMemory>
+pub fn note_rename(
+    shares: &mut ShareIndex,
+    handles: &[Entry],
+    rename: &Rename,
+) -> Result<(), NoMemory>
     ensures noted { OnOk result (shares.new ≡ shares.old ++ option_to_list (pending_share (Some rename.now) handles.now)) }
     ensures unchanged { OnErr result (shares.new ≡ shares.old) }
 {

@@ -31,7 +31,12 @@ fn shares_go_with_the_handles(rt: HostRuntime) -> Result<(), Fail> {
     assert!(rt; !table.may_open(b"a", Flags::ACCESS_WRITE_META));
     assert!(rt; table.is_open(b"a") && !table.is_open(b"b"));
     table.seek(1, 1, 7);
-    assert!(rt; matches!(table.get(1, 1), Some(Handle::Persistent { position: 7, .. })));
+    assert!(rt;
+        matches!(
+            table.get(1, 1),
+            Some(Handle::Persistent { position: 7, .. })
+        )
+    );
     table.close(1, 1);
     assert!(rt; table.get(1, 1).is_none());
     table.start_rename(2, 1, b"b")?;

@@ -1,7 +1,7 @@
-use Rattle.std.proofs.Common.{◌≡◌, IsTrue, ap, sym, subst, ◌∙◌, List, ℕ, option_map}
+use Rattle.std.proofs.Common.{IsTrue, ap, sym, subst, ◌∙◌, List, ℕ, option_map}
 use Rattle.share_rules.specs.Sharing.{is_noted, released}
 use Rattle.handle_table.specs.Handles.{HoldsFor, shares_of, share_at}
-use Rattle.handle_table.proofs.Keeps.{took_noted, took_holds, took_nothing, back_noted, back_holds, back_nothing}
+use Rattle.handle_table.proofs.Keeps.{took_noted, took_holds, took_nothing, back_noted, back_holds}
 use Rattle.handle_table.proofs.lists.end_rename.Goals as goal
 
 pub release-requires : goal.release-requires

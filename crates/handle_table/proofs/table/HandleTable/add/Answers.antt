@@ -1,4 +1,4 @@
-use Rattle.std.proofs.Common.{◌≡◌, ◌++◌, ◌∷◌, [], List, ℕ, ap, sym, ◌∙◌}
+use Rattle.std.proofs.Common.{◌++◌, ◌∷◌, [], List, ℕ, ap, sym, ◌∙◌}
 use Rattle.handle_table.specs.declared.handle.Handle.TheVariants.{Persistent}
 use Rattle.handle_table.proofs.Keeps.{entry_of, added_IsTable, pushed_count, pushed_noted, taken_back, same_IsTable}
 use Rattle.handle_table.proofs.table.HandleTable.add.Goals as goal

@@ -1,6 +1,6 @@
 use Rattle.std.proofs.Common.{not, filter, List, subst}
 use Rattle.handle_table.specs.declared.handle.Entry.{Entry}
-use Rattle.handle_table.specs.declared.handle.Closing.TheVariants.{One, All as Every}
+use Rattle.handle_table.specs.declared.handle.Closing.TheVariants.{One}
 use Rattle.handle_table.specs.Handles.{goes, HoldsFor, shares_of}
 use Rattle.handle_table.proofs.Keeps.{closed_IsTable}
 use Rattle.handle_table.proofs.table.HandleTable.close.Goals as goal
