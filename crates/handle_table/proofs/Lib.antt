@@ -1,0 +1,4 @@
+pub mod Counts
+pub mod Conflicts
+pub mod Changes
+pub mod Keeps
