@@ -48,6 +48,13 @@ impl OpQueue {
         let _ = &self.next;
     }
 
+    /// The number of the next call: those below it were used.
+    pub fn next(&self) -> u64
+        ensures { result ≡ self.now.next }
+    {
+        self.next
+    }
+
     /// Queues a call, and answers its number.
     ///
     /// # Errors
@@ -93,7 +100,7 @@ impl OpQueue {
         ensures after { self.new ≡ skipped self.old }
     {
         let number = self.next;
-        self.next += 1;
+        self.next = number + 1;
         number
     }
 
