@@ -1,5 +1,5 @@
 -- What `facts` tells of an operation, as its callers need it: an operation that is told of is there, and one that is told to run runs.
-use Rattle.std.proofs.Common.{◌≡◌, ℕ, Bool, true, false, Option, None, Some, is_some, option_map, refl, sym, ap, subst, ◌∙◌}
+use Rattle.std.proofs.Common.{◌≡◌, ℕ, true, false, Option, None, Some, is_some, option_map, refl, sym, ap, ◌∙◌}
 use Rattle.op_queue.specs.declared.operation.Operation.{Operation}
 use Rattle.op_queue.specs.declared.operation.OpFacts.{OpFacts}
 use Rattle.op_queue.specs.Queue.{Queue, operation_of, facts_of, runs, if_operation, is_running}

@@ -1,4 +1,4 @@
-use Rattle.std.proofs.Common.{◌≡◌, ◌==◌, not, ℕ, is_some, Bool, true, false, List, Option, None, Some, IsTrue, set, remove, map, filter, refl, sym, ap, subst, ◌∙◌}
+use Rattle.std.proofs.Common.{◌≡◌, ◌==◌, not, is_some, false, List, Option, IsTrue, filter, sym, ap, subst, ◌∙◌}
 use Rattle.op_queue.specs.declared.operation.Operation.{Operation}
 use Rattle.op_queue.specs.Queue.{Queue, IsQueue, without}
 use Rattle.op_queue.proofs.Keeps.{without_IsQueue}
