@@ -37,10 +37,10 @@ pub first_free-least : (k n m : ℕ) (xs : List ℕ) → n ≤ m → m < first_f
 first_free-least zero n m xs above below = absurd (omega arith)
 first_free-least (suc k) n m xs above below =
     let step : (b : Bool) → list_any (nat_eq n) xs ≡ b → m < cond b (first_free k (n + 1) xs) n → list_any (nat_eq m) xs ≡ true =
-      λ b. elim b as (λ v. list_any (nat_eq n) xs ≡ v → m < cond v (first_free k (n + 1) xs) n → list_any (nat_eq m) xs ≡ true) [
-        true ↦ λ e lt. ⊎_elim (λ (same : n ≡ m). subst (λ (x : ℕ). list_any (nat_eq x) xs ≡ true) same e) (λ (other : n ≡ m → ⊥). first_free-least k (n + 1) m xs (omega arith) lt) (cases_eq n m)
+    λ b. elim b as (λ v. list_any (nat_eq n) xs ≡ v → m < cond v (first_free k (n + 1) xs) n → list_any (nat_eq m) xs ≡ true) [
+      | true ↦ λ e lt. ⊎_elim (λ (same : n ≡ m). subst (λ (x : ℕ). list_any (nat_eq x) xs ≡ true) same e) (λ (other : n ≡ m → ⊥). first_free-least k (n + 1) m xs (omega arith) lt) (cases_eq n m)
       | false ↦ λ e lt. absurd (omega arith)
-      ] in
+    ] in
     step (list_any (nat_eq n) xs) refl below
 
 -- it isn't taken, where not as many numbers as were looked at are
@@ -48,20 +48,20 @@ pub first_free-free : (k n : ℕ) (xs : List ℕ) → first_free k n xs < n + k 
 first_free-free zero n xs below = absurd (omega arith)
 first_free-free (suc k) n xs below =
     let step : (b : Bool) → list_any (nat_eq n) xs ≡ b → cond b (first_free k (n + 1) xs) n < n + suc k → list_any (nat_eq (cond b (first_free k (n + 1) xs) n)) xs ≡ false =
-      λ b. elim b as (λ v. list_any (nat_eq n) xs ≡ v → cond v (first_free k (n + 1) xs) n < n + suc k → list_any (nat_eq (cond v (first_free k (n + 1) xs) n)) xs ≡ false) [
-        true ↦ λ e lt. first_free-free k (n + 1) xs (omega arith)
+    λ b. elim b as (λ v. list_any (nat_eq n) xs ≡ v → cond v (first_free k (n + 1) xs) n < n + suc k → list_any (nat_eq (cond v (first_free k (n + 1) xs) n)) xs ≡ false) [
+      | true ↦ λ e lt. first_free-free k (n + 1) xs (omega arith)
       | false ↦ λ e lt. e
-      ] in
+    ] in
     step (list_any (nat_eq n) xs) refl below
 
 some_pass : (p : ℕ → Bool) (xs : List ℕ) → list_any p xs ≡ true → 0 < length (filter p xs)
 some_pass p [] h = absurd (both_ways _ refl h)
 some_pass p (x ∷ xs) h =
     let step : (b : Bool) → p x ≡ b → 0 < length (cond b (x ∷ filter p xs) (filter p xs)) =
-      λ b. elim b as (λ v. p x ≡ v → 0 < length (cond v (x ∷ filter p xs) (filter p xs))) [
-        true ↦ λ e. omega arith
+    λ b. elim b as (λ v. p x ≡ v → 0 < length (cond v (x ∷ filter p xs) (filter p xs))) [
+      | true ↦ λ e. omega arith
       | false ↦ λ e. some_pass p xs (rw e at h)
-      ] in
+    ] in
     step (p x) refl
 
 -- a list that has each of k numbers in a row isn't shorter
@@ -73,7 +73,7 @@ row_fits (suc k) n xs h =
     let fewer : length (filter is_last xs) + length others ≡ length xs = length-filter_both is_last (λ y. not (is_last y)) (λ x. refl) xs in
     let one : 0 < length (filter is_last xs) = some_pass is_last xs (h (n + k) (omega arith) (omega arith)) in
     let kept : (m : ℕ) → n ≤ m → m < n + k → list_any (nat_eq m) others ≡ true = λ m low high.
-      any-filter_same (nat_eq m) (λ y. not (is_last y)) true (λ y e. ap not (ne_eqb (n + k) y (λ same. omega (arith, eqb-true m y e)))) xs ∙ h m low (omega arith) in
+    any-filter_same (nat_eq m) (λ y. not (is_last y)) true (λ y e. ap not (ne_eqb (n + k) y (λ same. omega (arith, eqb-true m y e)))) xs ∙ h m low (omega arith) in
     let rest : k ≤ length others = row_fits k n others kept in
     omega arith
 
@@ -82,14 +82,14 @@ unfolding lowest_free
 lowest_free-untaken xs =
     ⊎_elim (λ (below : first_free (length xs) 1 xs < 1 + length xs). first_free-free (length xs) 1 xs below)
     (λ (end : 1 + length xs ≤ first_free (length xs) 1 xs). ⊎_elim
-      (λ (taken : list_any (nat_eq (first_free (length xs) 1 xs)) xs ≡ true).
-        let all : (m : ℕ) → 1 ≤ m → m < 1 + suc (length xs) → list_any (nat_eq m) xs ≡ true = λ m low high. ⊎_elim
-          (λ (lt : m < first_free (length xs) 1 xs). first_free-least (length xs) 1 m xs low lt)
-          (λ (ge : first_free (length xs) 1 xs ≤ m). let same : first_free (length xs) 1 xs ≡ m = omega (arith, first_free-le (length xs) 1 xs) in subst (λ (x : ℕ). list_any (nat_eq x) xs ≡ true) same taken)
-          (cases_lt m (first_free (length xs) 1 xs)) in
-        absurd (omega (arith, row_fits (suc (length xs)) 1 xs all)))
-      (λ (free : list_any (nat_eq (first_free (length xs) 1 xs)) xs ≡ false). free)
-      (cases_Bool (list_any (nat_eq (first_free (length xs) 1 xs)) xs)))
+    (λ (taken : list_any (nat_eq (first_free (length xs) 1 xs)) xs ≡ true).
+    let all : (m : ℕ) → 1 ≤ m → m < 1 + suc (length xs) → list_any (nat_eq m) xs ≡ true = λ m low high. ⊎_elim
+    (λ (lt : m < first_free (length xs) 1 xs). first_free-least (length xs) 1 m xs low lt)
+    (λ (ge : first_free (length xs) 1 xs ≤ m). let same : first_free (length xs) 1 xs ≡ m = omega (arith, first_free-le (length xs) 1 xs) in subst (λ (x : ℕ). list_any (nat_eq x) xs ≡ true) same taken)
+    (cases_lt m (first_free (length xs) 1 xs)) in
+    absurd (omega (arith, row_fits (suc (length xs)) 1 xs all)))
+    (λ (free : list_any (nat_eq (first_free (length xs) 1 xs)) xs ≡ false). free)
+    (cases_Bool (list_any (nat_eq (first_free (length xs) 1 xs)) xs)))
     (cases_lt (first_free (length xs) 1 xs) (1 + length xs))
 
 pub lowest_free-free : (xs : List ℕ) → ¬ Contains xs (lowest_free xs)

@@ -33,5 +33,4 @@ pub fn lowest_free_is_least()
     ensures least { (n : ℕ) → 1 ≤ n → n < lowest_free taken → Contains taken n }
     ensures positive { 1 ≤ lowest_free taken }
     ensures near { lowest_free taken ≤ length taken + 1 }
-{
-}
+{}
