@@ -1,9 +1,7 @@
 -- Instances and sessions of one application (TEE Internal Core API 1.3, sections 2.1.3 and 4.5; TEE Client API 1.0, section 4.5.5).
-use Rattle.std.specs.Prelude.{ℕ, ◌≡◌, ◌≢◌, ◌≤◌, ◌<◌, ◌==◌, nat_le, Bool, true, false, not, ◌&&◌, ◌||◌, List, [], ◌∷◌, ◌++◌, Option, None, Some, is_some, option_map, Result, Ok, Err, if◌then◌else◌, find, filter, map, length, All, AllPairs}
+use Rattle.std.specs.Prelude.{ℕ, ◌≡◌, ◌≢◌, ◌≤◌, ◌==◌, nat_le, Bool, true, false, not, ◌&&◌, ◌||◌, List, [], ◌∷◌, ◌++◌, Option, None, Some, is_some, Result, Ok, Err, if◌then◌else◌, find, filter, map, length, All, AllPairs}
 use Rattle.std.specs.List.{list_any}
 use Rattle.tee_base.specs.Numbers.{lowest_free}
-use Rattle.tee_base.specs.declared.codes.Code.{Code}
-use Rattle.tee_base.specs.declared.codes.Origin.{Origin}
 use Rattle.tee_base.specs.declared.codes.Origin.TheVariants.{Api, Tee}
 use Rattle.app_api.specs.declared.host.Properties.{Properties}
 use Rattle.instances.specs.declared.session.Session.{Session}

@@ -4,6 +4,8 @@
 mod instances;
 mod session;
 mod tables;
+#[cfg(test)]
+mod tests;
 
 pub use instances::{Admission, Instances, Refusal};
 pub use session::{SessionFacts, SessionState};

@@ -1,2 +1,4 @@
 pub mod Keeps
 pub mod Places
+pub mod Runs
+pub mod Told

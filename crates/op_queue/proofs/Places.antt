@@ -1,14 +1,13 @@
 -- A place in a list of operations: what is found there, one entry changed, and one taken out.
-use Rattle.std.proofs.Common.{◌≡◌, ◌≢◌, ◌<◌, ◌≤◌, ◌+◌, ◌==◌, ℕ, zero, suc, Bool, true, false, not, cond, List, [], ◌∷◌, ◌++◌, Option, None, Some, length, get_or, set, take, drop, map, filter, find, position, remove, nat_lt, All, AllPairs, refl, sym, ap, subst, ◌∙◌, ◌⊎◌, ⊎_elim, drop-cons, arith, rules, length-set, length-take, length-drop, get_or-set_same, get_or-set_other}
+use Rattle.std.proofs.Common.{◌≡◌, ◌≢◌, ◌<◌, ◌+◌, ◌==◌, ℕ, zero, suc, Bool, true, false, not, cond, List, [], ◌∷◌, ◌++◌, Option, None, Some, length, get_or, set, take, drop, map, filter, find, position, remove, nat_lt, AllPairs, refl, sym, ap, subst, ◌∙◌, ◌⊎◌, ⊎_elim, drop-cons, arith, length-set, length-take, length-drop, get_or-set_same, get_or-set_other}
 use Rattle.std.specs.List.{position_or_len}
-use Rattle.std.proofs.lemmas.Bool.{ne_eqb, both_ways, cases_Bool, cases_eq, cases_order, ltb-false, eqb-true, cond-true, cond-false}
+use Rattle.std.proofs.lemmas.Bool.{ne_eqb, cases_Bool, cases_eq, cases_order, ltb-false, eqb-true, cond-true, cond-false}
 use Rattle.std.proofs.lemmas.List.{get_or-map, length-map, same_lists, get_or_read, get_or-take, get_or-drop, take-append-drop}
 use Rattle.std.proofs.lemmas.List.Quantifiers.{position-Some}
 use Rattle.std.proofs.lemmas.List.Elements.{filter-append}
 use Rattle.std.proofs.lemmas.List.Sums.{fails_before_first}
 use Rattle.op_queue.specs.declared.operation.Operation.{Operation}
 use Rattle.op_queue.specs.declared.operation.Progress.TheVariants.{Running}
-use Rattle.op_queue.specs.declared.operation.Cancelled.{Cancelled}
 use Rattle.op_queue.specs.declared.operation.Cancelled.TheVariants.{Dropped, Flagged, Nothing}
 use Rattle.op_queue.specs.Queue.{Queue, IsQueue, ComesBefore, operation_of, cancel_of, is_close, is_running, started, requested, with_request, masked_as, with_mask}
 

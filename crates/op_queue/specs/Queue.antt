@@ -1,5 +1,5 @@
 -- Client operations of one application, and their cancellation (TEE Client API 1.0, sections 4.5.5 to 4.5.8; TEE Internal Core API 1.3, section 4.10).
-use Rattle.std.specs.Prelude.{ℕ, ◌+◌, ◌≡◌, ◌≤◌, ◌<◌, ◌==◌, nat_le, nat_lt, Bool, true, false, not, ◌&&◌, ◌||◌, List, [], ◌∷◌, ◌++◌, Option, None, Some, is_some, option_map, if◌then◌else◌, find, filter, map, count_by, length, All, AllPairs}
+use Rattle.std.specs.Prelude.{ℕ, ◌+◌, ◌≤◌, ◌<◌, ◌==◌, nat_le, nat_lt, Bool, true, false, not, ◌&&◌, List, [], ◌∷◌, ◌++◌, Option, None, Some, option_map, if◌then◌else◌, find, filter, map, count_by, All, AllPairs}
 use Rattle.app_api.specs.declared.call.Call.{Call}
 use Rattle.app_api.specs.declared.call.Call.TheVariants.{Open, Invoke, Close}
 use Rattle.op_queue.specs.declared.operation.Operation.{Operation}

@@ -4,6 +4,8 @@
 mod operation;
 mod queue;
 mod scans;
+#[cfg(test)]
+mod tests;
 
 pub use operation::{Begun, Cancelled, OpFacts, Operation, Progress, QueueAnswer};
 pub use queue::OpQueue;

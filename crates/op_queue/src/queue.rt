@@ -93,7 +93,7 @@ impl OpQueue {
         ensures after { self.new ≡ skipped self.old }
     {
         let number = self.next;
-        self.next += 1;
+        self.next = number + 1;
         number
     }
 
@@ -195,7 +195,7 @@ impl OpQueue {
         }
     }
 
-    /// The number of the next call.
+    /// The number of the next call: those below it were used.
     pub fn next_number(&self) -> u64
         ensures { result ≡ self.now.next }
     {

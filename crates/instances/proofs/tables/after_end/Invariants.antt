@@ -1,4 +1,4 @@
-use Rattle.std.proofs.Common.{◌≡◌, ◌≤◌, ◌==◌, not, map, filter, take}
+use Rattle.std.proofs.Common.{◌≡◌, ◌≤◌, map, filter, take}
 use Rattle.arrayvec.specs.ArrayVec.{array_vec_len}
 use Rattle.instances.specs.Instances.{killed, stays_after_end}
 use Rattle.instances.proofs.tables.after_end.Given as goal

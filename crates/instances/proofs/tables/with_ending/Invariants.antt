@@ -1,4 +1,4 @@
-use Rattle.std.proofs.Common.{◌≡◌, ◌≤◌, ◌==◌, not, map, filter, take}
+use Rattle.std.proofs.Common.{◌≡◌, map, take}
 use Rattle.arrayvec.specs.ArrayVec.{array_vec_len}
 use Rattle.instances.specs.Instances.{with_ending}
 use Rattle.instances.proofs.tables.with_ending.Given as goal

@@ -1,4 +1,4 @@
-use Rattle.std.proofs.Common.{◌≡◌, ◌≤◌, ◌==◌, not, map, filter, take}
+use Rattle.std.proofs.Common.{◌≡◌, ◌≤◌, ◌==◌, not, filter, take}
 use Rattle.arrayvec.specs.ArrayVec.{array_vec_len}
 use Rattle.instances.proofs.tables.without_session.Given as goal
 

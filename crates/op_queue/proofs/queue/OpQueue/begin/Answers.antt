@@ -1,7 +1,6 @@
-use Rattle.std.proofs.Common.{◌≡◌, ◌<◌, ℕ, List, Option, None, Some, length, get_or, set, map, find, position, AllPairs, refl, sym, ap, subst, ◌∙◌}
+use Rattle.std.proofs.Common.{◌≡◌, ℕ, List, Option, None, Some, get_or, set, map, find, position, refl, sym, ap, subst, ◌∙◌}
 use Rattle.op_queue.specs.declared.operation.Operation.{Operation}
-use Rattle.op_queue.specs.declared.operation.Begun.{Begun}
-use Rattle.op_queue.specs.Queue.{Queue, IsQueue, ComesBefore, waits_for, first_waiting, begun_at, begun_of, started, after_begin}
+use Rattle.op_queue.specs.Queue.{Queue, IsQueue, waits_for, first_waiting, begun_at, started, after_begin}
 use Rattle.op_queue.proofs.Keeps.{started_IsQueue}
 use Rattle.op_queue.proofs.Places.{place_inside, place_found, place_none, started_here}
 use Rattle.op_queue.proofs.queue.OpQueue.begin.Goals as goal

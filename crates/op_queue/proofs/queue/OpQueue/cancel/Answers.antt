@@ -1,6 +1,6 @@
-use Rattle.std.proofs.Common.{◌≡◌, ◌==◌, not, ℕ, Bool, true, false, List, Option, None, Some, IsTrue, set, remove, map, filter, refl, sym, ap, subst, ◌∙◌}
+use Rattle.std.proofs.Common.{◌≡◌, ◌==◌, not, true, false, List, set, map, filter, sym, ap, subst, ◌∙◌}
 use Rattle.op_queue.specs.declared.operation.Operation.{Operation}
-use Rattle.op_queue.specs.declared.operation.Cancelled.TheVariants.{Dropped, Flagged, Nothing}
+use Rattle.op_queue.specs.declared.operation.Cancelled.TheVariants.{Flagged}
 use Rattle.op_queue.specs.Queue.{Queue, IsQueue, cancel_of, after_cancel, requested, without}
 use Rattle.op_queue.proofs.Keeps.{requested_IsQueue, without_IsQueue}
 use Rattle.op_queue.proofs.Places.{no_operation, found_at, the_operation, requests, operation_removed, cancel_close, cancel_open}

@@ -1,6 +1,6 @@
-use Rattle.std.proofs.Common.{◌≡◌, ℕ, Bool, true, false, List, Option, None, Some, IsTrue, set, remove, map, filter, refl, sym, ap, subst, ◌∙◌}
+use Rattle.std.proofs.Common.{false, Option, sym, ap, ◌∙◌}
 use Rattle.op_queue.specs.declared.operation.Operation.{Operation}
-use Rattle.op_queue.specs.Queue.{flag_of, reads_flag, if_operation}
+use Rattle.op_queue.specs.Queue.{reads_flag, if_operation}
 use Rattle.op_queue.proofs.Places.{no_operation, found_at, the_operation}
 use Rattle.op_queue.proofs.queue.OpQueue.flag.Goals as goal
 

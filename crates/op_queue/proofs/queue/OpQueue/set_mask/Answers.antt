@@ -1,6 +1,6 @@
-use Rattle.std.proofs.Common.{◌≡◌, ℕ, is_some, Bool, true, false, List, Option, None, Some, IsTrue, set, remove, map, filter, refl, sym, ap, subst, ◌∙◌}
+use Rattle.std.proofs.Common.{◌≡◌, true, false, List, Option, IsTrue, set, map, sym, ap, subst, ◌∙◌}
 use Rattle.op_queue.specs.declared.operation.Operation.{Operation}
-use Rattle.op_queue.specs.Queue.{Queue, IsQueue, mask_at, mask_of, mask_set, masked_as, runs, is_running, if_operation}
+use Rattle.op_queue.specs.Queue.{Queue, IsQueue, mask_of, mask_set, masked_as, is_running, if_operation}
 use Rattle.op_queue.proofs.Keeps.{masked_IsQueue}
 use Rattle.op_queue.proofs.Places.{no_operation, found_at, the_operation, masks}
 use Rattle.op_queue.proofs.queue.OpQueue.set_mask.Goals as goal
