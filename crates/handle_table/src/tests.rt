@@ -40,6 +40,10 @@ fn shares_go_with_the_handles(rt: HostRuntime) -> Result<(), Fail> {
     table.close(1, 1);
     assert!(rt; table.get(1, 1).is_none());
     table.start_rename(2, 1, b"b")?;
+    table.end_rename(false);
+    assert!(rt; table.is_open(b"a") && !table.is_open(b"b"));
+    assert!(rt; table.may_open(b"b", Flags::ACCESS_WRITE_META));
+    table.start_rename(2, 1, b"b")?;
     table.end_rename(true);
     assert!(rt; table.is_open(b"b") && !table.is_open(b"a"));
     assert!(rt; table.may_open(b"a", Flags::ACCESS_WRITE_META));

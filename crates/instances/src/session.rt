@@ -29,7 +29,11 @@ impl SessionState {
 }
 
 impl Default for SessionState {
-    fn default() -> SessionState {
+    ghost use Rattle.std.specs.Prelude.{◌≡◌};
+
+    fn default() -> SessionState
+        ensures { result ≡ SessionState.Opening }
+    {
         SessionState::Opening
     }
 }
