@@ -1,8 +1,16 @@
--- What a run of the program is given.
-use Rattle.std.specs.Prelude.{ℕ, ◌≡◌, ◌⊎◌, List, [], ◌∷◌, codes, length, All, String, string_bytes}
+-- What a run of the program is given, and what it writes.
+use Rattle.std.specs.Prelude.{ℕ, ◌≡◌, ◌≤◌, List, [], ◌∷◌, Option, Some, IfSome, Result, Ok, Err, codes, length, map, All, String, string_bytes}
 use Rattle.std.specs.Global.{Global}
+use Rattle.std.specs.Io.KnownBytes.{Appends}
+use Rattle.tee_base.specs.Faults.{Rose}
+use Rattle.tee_base.specs.Transfer.{AppendsFront}
+use Rattle.app_api.specs.declared.ask.Ask.{Ask}
+use Rattle.app_api.specs.declared.ask.Given.{Given}
 use Rattle.app_api.specs.declared.host.Host.{Host}
 use Rattle.app_side.specs.Represents.{IsOneInstance}
+use Rattle.script.specs.declared.line.Line.{Line}
+use Rattle.script.specs.Scripts.{script_of}
+use Rattle.tee_top.specs.Transcript.{transcript}
 use Rattle.tee_top.specs.declared.status.Status.{Status}
 use Rattle.tee_top.specs.declared.status.Status.TheVariants.{Done, BadWords, BadLine, TooLong, NoMemory, ReadFault, WriteFault}
 
@@ -43,3 +51,35 @@ IsUnrun TooLong = Unit {0}
 IsUnrun NoMemory = ⊥
 IsUnrun ReadFault = Unit {0}
 IsUnrun WriteFault = ⊥
+
+-- the text was appended, or a front of it where the run stopped
+abbrev pub Writes : {X E : Type 0} → Result X E → List ℕ → Option (List ℕ) → Option (List ℕ) → Type 0
+Writes (Ok x) text old new = Appends old new text
+Writes (Err stop) text old new = AppendsFront text old new
+
+-- the text is a script of these lines
+abbrev pub IsText : {A : Type 0} → List (Host A) → List ℕ → List Line → Type 0
+IsText hosts text script = script_of (map (λ host. host.name) hosts) text ≡ Ok script
+
+-- the text is no script: line n is the first outside the grammar
+abbrev pub IsBadText : {A : Type 0} → List (Host A) → List ℕ → ℕ → Type 0
+IsBadText hosts text n = script_of (map (λ host. host.name) hosts) text ≡ Err n
+
+-- what the source had left, where it tells that, is a script of these lines
+abbrev pub ReadsTo : {A : Type 0} → List (Host A) → Option (List ℕ) → List Line → Type 0
+ReadsTo hosts left script = IfSome left (λ text. IsText hosts text script)
+
+-- what the source had left, where it tells that, is no script
+abbrev pub IsBadAt : {A : Type 0} → List (Host A) → Option (List ℕ) → ℕ → Type 0
+IsBadAt hosts left n = IfSome left (λ text. IsBadText hosts text n)
+
+-- the words are those of a run, the source tells a text within the limit, and no read of it failed
+pub record IsReadable (words : List (String Global)) (left : Option (List ℕ)) (text : List ℕ) (before after : ℕ) : Type 0 where
+  pub run : AreRunWords words
+  pub told : left ≡ Some text
+  pub within : length text ≤ 1048576
+  pub unfailed : ¬ Rose before after
+
+-- what was written is said of the transcript of the script that the source held, for the one host
+abbrev pub IsOfTranscript : {A : Type 0} → (A → Given → A) → (A → Given → Ask) → List (Host A) → List ℕ → Option (List ℕ) → (List ℕ → Type 0) → Type 0
+IsOfTranscript {A} next asks hosts seed left IsWritten = (host : Host A) × (script : List Line) × (hosts ≡ host ∷ []) × ReadsTo hosts left script × IsWritten (transcript next asks host seed script)

@@ -1,11 +1,13 @@
 //! The run of a script.
 
-ghost use Rattle.std.specs.Prelude.{◌≡◌, ◌↔◌, ◌≤◌, IsTrue, IsErrOf, IfErr, OnOk};
-ghost use Rattle.std.specs.Io.KnownBytes.{IsAtEnd, Keeps};
+ghost use Rattle.std.specs.Prelude.{◌≡◌, ◌⊎◌, ◌↔◌, ◌≤◌, ℕ, List, IsTrue, IsErrOf, IfErr, IfOk, IfSome, OnOk, length};
+ghost use Rattle.std.specs.Io.KnownBytes.{Appends, IsAtEnd};
 ghost use Rattle.app_api.specs.Hosts.{HostsFit};
+ghost use Rattle.script.specs.declared.line.Line.{Line};
 ghost use Rattle.tee_base.specs.Faults.{Rose};
-ghost use Rattle.tee_base.specs.Transfer.{HasMoreThan};
-ghost use Rattle.tee_top.specs.Runs.{AreRunWords, IsOneHost, IsServed, IsUnrun, IsReadStatus};
+ghost use Rattle.tee_base.specs.Transfer.{AppendsFront, HasMoreThan};
+ghost use Rattle.tee_top.specs.Runs.{AreRunWords, IsOneHost, IsServed, IsUnrun, IsReadStatus, ReadsTo, IsBadAt, IsOfTranscript, IsReadable, IsText, IsBadText};
+ghost use Rattle.tee_top.specs.Transcript.{transcript};
 ghost use Rattle.app_side.specs.Represents.{IsOneInstance};
 
 use crate::lines::{Stop, run_lines};
@@ -30,6 +32,8 @@ fn read_lines<S: Source, A: Application>(
     hosts: &[Host<A>],
 ) -> Result<Vec<Line>, Status>
     requires { HostsFit hosts.now }
+    ensures read { IfOk result (λ lines. ReadsTo hosts.now (S.left source.old) lines.items) }
+    ensures bad { (n : ℕ) → IsErrOf result (Status.BadLine n) → IsBadAt hosts.now (S.left source.old) n × IsAtEnd (S.left source.new) }
     ensures at_end { OnOk result (IsAtEnd (S.left source.new)) }
     ensures too_long { IsErrOf result Status.TooLong → HasMoreThan 1048576 (S.left source.old) }
     ensures fault { IsErrOf result Status.ReadFault → Rose (S.failures source.old) (S.failures source.new) }
@@ -58,6 +62,8 @@ fn serve<W: Sink, A: Application>(
     seed: [u8; 32],
 ) -> Status
     requires { IsOneInstance host }
+    ensures done { result ≡ Status.Done → Appends (W.written sink.old) (W.written sink.new) (transcript A.next A.asks host seed lines.items) }
+    ensures stopped { AppendsFront (transcript A.next A.asks host seed lines.items) (W.written sink.old) (W.written sink.new) }
     ensures fault { result ≡ Status.WriteFault → Rose (W.failures sink.old) (W.failures sink.new) }
     ensures later { W.failures sink.old ≤ W.failures sink.new }
     ensures few { IsServed result }
@@ -87,7 +93,13 @@ pub fn run_tee<S: Source, W: Sink, A: Application>(
 ) -> Status
     requires fit { HostsFit hosts.items }
     requires one { IsOneHost hosts.items }
+    ensures written { result ≡ Status.Done → IsOfTranscript A.next A.asks hosts.items seed (S.left source.old) (Appends (W.written sink.old) (W.written sink.new)) }
+    ensures cut_short { result ≡ Status.WriteFault → IsOfTranscript A.next A.asks hosts.items seed (S.left source.old) (λ text. AppendsFront text (W.written sink.old) (W.written sink.new)) }
+    ensures no_memory { result ≡ Status.NoMemory → (sink.new ≡ sink.old) ⊎ IsOfTranscript A.next A.asks hosts.items seed (S.left source.old) (λ text. AppendsFront text (W.written sink.old) (W.written sink.new)) }
     ensures bad_words { (result ≡ Status.BadWords) ↔ ¬ AreRunWords words.now }
+    ensures bad_line { (n : ℕ) → result ≡ Status.BadLine n → IsBadAt hosts.items (S.left source.old) n × IsAtEnd (S.left source.new) }
+    ensures each_bad_line { (text : List ℕ) (n : ℕ) → IsReadable words.now (S.left source.old) text (S.failures source.old) (S.failures source.new) → IsBadText hosts.items text n → (result ≡ Status.BadLine n) ⊎ (result ≡ Status.NoMemory) }
+    ensures complete { (text : List ℕ) (script : List Line) → IsReadable words.now (S.left source.old) text (S.failures source.old) (S.failures source.new) → ¬ Rose (W.failures sink.old) (W.failures sink.new) → IsText hosts.items text script → (result ≡ Status.Done) ⊎ (result ≡ Status.NoMemory) }
     ensures too_long { result ≡ Status.TooLong → HasMoreThan 1048576 (S.left source.old) }
     ensures read_fault { result ≡ Status.ReadFault → Rose (S.failures source.old) (S.failures source.new) }
     ensures write_fault { result ≡ Status.WriteFault → Rose (W.failures sink.old) (W.failures sink.new) }

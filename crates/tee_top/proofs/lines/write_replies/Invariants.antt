@@ -1,6 +1,10 @@
-use Rattle.std.proofs.Common.{◌≤◌}
+use Rattle.std.proofs.Common.{◌≤◌, ℕ}
+use Rattle.tee_top.proofs.Writing.{WrittenTo}
 use Rattle.tee_top.proofs.lines.write_replies.Given as goal
 
--- the sink's count doesn't fall
+-- what was written so far and the lines of the replies from here on are those of all
 abbrev pub invariant-loop-reply : goal.invariant-loop-reply
-invariant-loop-reply g l = g.W.Sink.failures l.fn.sink ≤ g.W.Sink.failures l.sink
+invariant-loop-reply g l = record {
+  front : WrittenTo l.name l.replies l.reply-index (g.W.Sink.written l.fn.sink) (g.W.Sink.written l.sink);
+  later : g.W.Sink.failures l.fn.sink ≤ g.W.Sink.failures l.sink;
+}

@@ -1,0 +1,52 @@
+-- What a status of reading says of a text that is told, and the one host.
+use Rattle.std.proofs.Common.{◌≡◌, ◌≤◌, ◌⊎◌, ◌++◌, ℕ, List, [], ◌∷◌, Option, Some, IfSome, Result, Ok, Err, length, length-append, refl, sym, ap, subst, ◌∙◌, inl, inr, arith}
+use Rattle.app_api.specs.declared.host.Host.{Host}
+use Rattle.script.specs.declared.line.Line.{Line}
+use Rattle.tee_base.specs.Faults.{Rose}
+use Rattle.tee_base.specs.Transfer.{HasMoreThan}
+use Rattle.tee_top.specs.declared.status.Status.{Status}
+use Rattle.tee_top.specs.declared.status.Status.TheVariants.{Done, BadWords, BadLine, TooLong, NoMemory, ReadFault, WriteFault}
+use Rattle.tee_top.specs.Runs.{IsReadStatus, IsText, IsBadText, IsBadAt}
+
+same_line : (m n : ℕ) (r : Result (List Line) ℕ) → r ≡ Err m → r ≡ Err n → m ≡ n
+same_line m n r one other = let both : Err m ≡ Err n = sym one ∙ other in cc
+
+no_script : (n : ℕ) (script : List Line) (r : Result (List Line) ℕ) → r ≡ Err n → r ≡ Ok script → ⊥
+no_script n script r one other = let both : Err n ≡ Ok script = sym one ∙ other in cc
+
+-- what reading says when it isn't Ok
+pub record Says {A : Type 0} (hosts : List (Host A)) (left : Option (List ℕ)) (before after : ℕ) (status : Status) : Type 0 where
+  pub few : IsReadStatus status
+  pub bad : (n : ℕ) → status ≡ BadLine n → IsBadAt hosts left n
+  pub too_long : status ≡ TooLong → HasMoreThan 1048576 left
+  pub fault : status ≡ ReadFault → Rose before after
+
+module _ {A : Type 0} (hosts : List (Host A)) (left : Option (List ℕ)) (before after : ℕ) (text : List ℕ) where
+  too_long_for : left ≡ Some text → length text ≤ 1048576 → HasMoreThan 1048576 left → ⊥
+  too_long_for told within more = let longer = subst (HasMoreThan 1048576) told more in omega (arith, longer, within)
+
+  pub bad_line_told : (status : Status) (n : ℕ) → Says hosts left before after status → left ≡ Some text → length text ≤ 1048576 → ¬ Rose before after → IsBadText hosts text n → (status ≡ BadLine n) ⊎ (status ≡ NoMemory)
+  bad_line_told Done n says told within unfailed bad = absurd says.few
+  bad_line_told BadWords n says told within unfailed bad = absurd says.few
+  bad_line_told WriteFault n says told within unfailed bad = absurd says.few
+  bad_line_told (BadLine m) n says told within unfailed bad = inl (ap BadLine (same_line m n _ (subst (λ l. IsBadAt hosts l m) told (says.bad m refl)) bad))
+  bad_line_told TooLong n says told within unfailed bad = absurd (too_long_for told within (says.too_long refl))
+  bad_line_told ReadFault n says told within unfailed bad = absurd (unfailed (says.fault refl))
+  bad_line_told NoMemory n says told within unfailed bad = inr refl
+
+  pub script_told : (status : Status) (script : List Line) → Says hosts left before after status → left ≡ Some text → length text ≤ 1048576 → ¬ Rose before after → IsText hosts text script → (status ≡ Done) ⊎ (status ≡ NoMemory)
+  script_told Done script says told within unfailed good = inl refl
+  script_told BadWords script says told within unfailed good = absurd says.few
+  script_told WriteFault script says told within unfailed good = absurd says.few
+  script_told (BadLine m) script says told within unfailed good = absurd (no_script m script _ (subst (λ l. IsBadAt hosts l m) told (says.bad m refl)) good)
+  script_told TooLong script says told within unfailed good = absurd (too_long_for told within (says.too_long refl))
+  script_told ReadFault script says told within unfailed good = absurd (unfailed (says.fault refl))
+  script_told NoMemory script says told within unfailed good = inr refl
+
+-- the last of one is the one
+pub only_host : {X : Type 0} (xs ys : List X) (x y : X) → xs ≡ y ∷ [] → xs ≡ ys ++ x ∷ [] → xs ≡ x ∷ []
+only_host xs [] x y one last = last
+only_host {X} xs (z ∷ zs) x y one last = absurd (longer zs x y (ap length (sym one ∙ last)))
+  where
+    longer : (zs : List X) (x y : X) → length (y ∷ []) ≡ length (z ∷ (zs ++ x ∷ [])) → ⊥
+    longer zs x y e = omega (arith, e, length-append zs (x ∷ []))

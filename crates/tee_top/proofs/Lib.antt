@@ -1,0 +1,6 @@
+pub mod Answered
+pub mod Ended
+pub mod Events
+pub mod Resting
+pub mod Serving
+pub mod Writing

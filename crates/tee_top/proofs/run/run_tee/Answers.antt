@@ -1,0 +1,59 @@
+use Rattle.std.proofs.Common.{◌≡◌, ◌⊎◌, ◌∙◌, Err, ap, sym, subst, inr}
+use Rattle.std.specs.Io.KnownBytes.{IsAtEnd}
+use Rattle.tee_top.specs.Runs.{IsBadAt, ReadsTo}
+use Rattle.tee_top.proofs.Ended.{Says, bad_line_told, script_told, only_host}
+use Rattle.tee_top.proofs.run.run_tee.Goals as goal
+
+pub returns-in-Err-clause-bad_line : goal.returns-in-Err-clause-bad_line
+returns-in-Err-clause-bad_line g c = λ n e.
+    let bad = c.in-Err.ensures.bad n (ap Err e) in
+    (subst (λ hosts. IsBadAt hosts (g.S.Source.left c.args.source.now) n) c.as_slice.ensures.value bad.0, bad.1)
+
+pub returns-in-Err-clause-each_bad_line : goal.returns-in-Err-clause-each_bad_line
+returns-in-Err-clause-each_bad_line g c = λ text n readable bad.
+    bad_line_told c.args.hosts.items (g.S.Source.left c.args.source.now) (g.S.Source.failures c.args.source.now) (g.S.Source.failures c.read_lines.new.source) text c.in-Err.status n
+    (record {
+      few = c.in-Err.ensures.few;
+      bad = λ k e. subst (λ hosts. IsBadAt hosts (g.S.Source.left c.args.source.now) k) c.as_slice.ensures.value (c.in-Err.ensures.bad k (ap Err e)).0;
+      too_long = λ e. c.in-Err.ensures.too_long (ap Err e);
+      fault = λ e. c.in-Err.ensures.fault (ap Err e);
+    })
+    readable.told readable.within readable.unfailed bad
+
+pub returns-in-Err-clause-complete : goal.returns-in-Err-clause-complete
+returns-in-Err-clause-complete g c = λ text script readable unfailed good.
+    script_told c.args.hosts.items (g.S.Source.left c.args.source.now) (g.S.Source.failures c.args.source.now) (g.S.Source.failures c.read_lines.new.source) text c.in-Err.status script
+    (record {
+      few = c.in-Err.ensures.few;
+      bad = λ k e. subst (λ hosts. IsBadAt hosts (g.S.Source.left c.args.source.now) k) c.as_slice.ensures.value (c.in-Err.ensures.bad k (ap Err e)).0;
+      too_long = λ e. c.in-Err.ensures.too_long (ap Err e);
+      fault = λ e. c.in-Err.ensures.fault (ap Err e);
+    })
+    readable.told readable.within readable.unfailed good
+
+pub returns-in-Some-clause-written : goal.returns-in-Some-clause-written
+returns-in-Some-clause-written g c = λ done. (
+    c.in-Some.host,
+    c.in-Ok.lines.items,
+    only_host c.args.hosts.items c.pop.new.self.items c.in-Some.host c.requires.one.0 c.requires.one.1 c.in-Some.ensures.items,
+    subst (λ hosts. ReadsTo hosts (g.S.Source.left c.args.source.now) c.in-Ok.lines.items) c.as_slice.ensures.value c.in-Ok.ensures.read,
+    c.serve.ensures.done done,
+)
+
+pub returns-in-Some-clause-cut_short : goal.returns-in-Some-clause-cut_short
+returns-in-Some-clause-cut_short g c = λ fault. (
+    c.in-Some.host,
+    c.in-Ok.lines.items,
+    only_host c.args.hosts.items c.pop.new.self.items c.in-Some.host c.requires.one.0 c.requires.one.1 c.in-Some.ensures.items,
+    subst (λ hosts. ReadsTo hosts (g.S.Source.left c.args.source.now) c.in-Ok.lines.items) c.as_slice.ensures.value c.in-Ok.ensures.read,
+    c.serve.ensures.stopped,
+)
+
+pub returns-in-Some-clause-no_memory : goal.returns-in-Some-clause-no_memory
+returns-in-Some-clause-no_memory g c = λ none. inr (
+    c.in-Some.host,
+    c.in-Ok.lines.items,
+    only_host c.args.hosts.items c.pop.new.self.items c.in-Some.host c.requires.one.0 c.requires.one.1 c.in-Some.ensures.items,
+    subst (λ hosts. ReadsTo hosts (g.S.Source.left c.args.source.now) c.in-Ok.lines.items) c.as_slice.ensures.value c.in-Ok.ensures.read,
+    c.serve.ensures.stopped,
+)
