@@ -8,4 +8,4 @@ mod script;
 mod words;
 
 pub use line::Line;
-pub use script::{Script, ScriptAnswer, parse};
+pub use script::{Script, ScriptAnswer, one_reading, parse};

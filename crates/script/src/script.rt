@@ -1,7 +1,8 @@
 //! A whole script.
 
-ghost use Rattle.std.specs.Prelude.{◌≡◌, ◌≤◌, ◌-◌, ◌+◌, List, ℕ, length, map, take};
+ghost use Rattle.std.specs.Prelude.{◌≡◌, ◌≤◌, ◌-◌, ◌+◌, ◌⊎◌, List, ℕ, Ok, Err, IfOk, IsErrOf, length, map, take};
 ghost use Rattle.app_api.specs.Hosts.{HostsFit};
+ghost use Rattle.script.specs.Grammar.{CanName, FirstBad, Reads, names_of};
 ghost use Rattle.script.specs.Scripts.{Answers, AnswersWith, lines_from, script_from, script_of};
 ghost use Rattle.script.specs.declared.script.ScriptAnswer.TheVariants.{NoMemory as OutOfMemory};
 
@@ -115,6 +116,16 @@ fn lines_between<A>(
     Ok(lines)
 }
 
+/// What a text reads to, line by line.
+fn read_script<A>(alloc: Global, text: &[u8], hosts: &[Host<A>]) -> Result<Script, ScriptAnswer>
+    requires { length hosts.now ≤ 16 }
+    ensures { Answers result (script_of (names_of hosts.now) text.now) }
+{
+    let pieces = parts_of(alloc, text, b'\n')?;
+    let lines = lines_between(alloc, hosts, pieces.as_slice())?;
+    Ok(Script { lines })
+}
+
 /// Reads a script, each line of which ends with a line feed. `BadLine` comes exactly where a line is outside the grammar,
 /// with the number of the first such line.
 pub fn parse<A: Application>(
@@ -123,9 +134,31 @@ pub fn parse<A: Application>(
     hosts: &[Host<A>],
 ) -> Result<Script, ScriptAnswer>
     requires { HostsFit hosts.now }
-    ensures { Answers result (script_of (map (λ host. host.name) hosts.now) text.now) }
+    // What is read is what the grammar reads.
+    ensures found { IfOk result (λ script. Reads (names_of hosts.now) text.now script) }
+    // What the grammar reads is read, unless memory runs out.
+    ensures complete { (script : List Line) → Reads (names_of hosts.now) text.now script
+        → Answers result (Ok script) }
+    // The line that is named is the first one outside the grammar.
+    ensures bad_line { (n : ℕ) → IsErrOf result (ScriptAnswer.BadLine n)
+        → FirstBad (names_of hosts.now) text.now n }
+    // The first line outside the grammar is named, unless memory runs out.
+    ensures first_bad { (n : ℕ) → FirstBad (names_of hosts.now) text.now n
+        → Answers result (Err n) }
+    // The same by a function that cuts the text.
+    ensures computed { Answers result (script_of (names_of hosts.now) text.now) }
 {
-    let pieces = parts_of(alloc, text, b'\n')?;
-    let lines = lines_between(alloc, hosts, pieces.as_slice())?;
-    Ok(Script { lines })
+    read_script(alloc, text, hosts)
 }
+
+/// Each text reads to one script, or has one first line outside the grammar, and never both.
+pub fn one_reading()
+    ensures script { (names : List (List ℕ)) (text : List ℕ) (a b : List Line) → CanName names
+        → Reads names text a → Reads names text b → a ≡ b }
+    ensures line { (names : List (List ℕ)) (text : List ℕ) (m n : ℕ) → CanName names
+        → FirstBad names text m → FirstBad names text n → m ≡ n }
+    ensures not_both { (names : List (List ℕ)) (text : List ℕ) (script : List Line) (n : ℕ) → CanName names
+        → Reads names text script → FirstBad names text n → ⊥ }
+    ensures either { (names : List (List ℕ)) (text : List ℕ) → CanName names
+        → ((script : List Line) × Reads names text script) ⊎ ((n : ℕ) × FirstBad names text n) }
+{}

@@ -1,0 +1,7 @@
+pub mod Cuts
+pub mod Decimals
+pub mod HexDigits
+pub mod ParamTexts
+pub mod LineTexts
+pub mod ScriptTexts
+pub mod ParseLaws

@@ -1,0 +1,14 @@
+use Rattle.script.proofs.ParseLaws.{either, not_both, one_line, one_script}
+use Rattle.script.proofs.script.one_reading.Goals as goal
+
+pub returns-clause-script : goal.returns-clause-script
+returns-clause-script c = one_script
+
+pub returns-clause-line : goal.returns-clause-line
+returns-clause-line c = one_line
+
+pub returns-clause-not_both : goal.returns-clause-not_both
+returns-clause-not_both c = not_both
+
+pub returns-clause-either : goal.returns-clause-either
+returns-clause-either c = either
