@@ -1,4 +1,4 @@
--- A whole script.
+-- A whole script, read by cutting its text at the line feeds.
 use Rattle.std.specs.Prelude.{ℕ, ◌≡◌, ◌==◌, ◌+◌, ◌-◌, nat_lt, slice_index_or, take, List, [], ◌∷◌, ◌++◌, Option, None, Some, Result, Ok, Err, if◌then◌else◌, length}
 use Rattle.std.specs.List.{slice_split}
 use Rattle.script.specs.declared.line.Line.{Line}
@@ -32,7 +32,7 @@ ended_by n (c ∷ cs) (Err bad) = Err bad
 abbrev pub script_from : List (List ℕ) → List (List ℕ) → Result (List Line) ℕ
 script_from names pieces = ended_by (length pieces) (slice_index_or pieces (length pieces - 1) []) (lines_from names 1 0 (take (length pieces - 1) pieces))
 
--- what a text reads to: the lines, or the number of the first line outside the grammar
+-- what the pieces of a text say: the lines, or the number of the first line outside the grammar
 abbrev pub script_of : List (List ℕ) → List ℕ → Result (List Line) ℕ
 script_of names text = script_from names (slice_split (λ c. c == 10) text)
 
