@@ -1,18 +1,15 @@
 -- What a status of reading says of a text that is told, and the one host.
 use Rattle.std.proofs.Common.{◌≡◌, ◌≤◌, ◌⊎◌, ◌++◌, ℕ, List, [], ◌∷◌, Option, Some, IfSome, Result, Ok, Err, length, length-append, refl, sym, ap, subst, ◌∙◌, inl, inr, arith}
 use Rattle.app_api.specs.declared.host.Host.{Host}
+use Rattle.app_api.specs.Hosts.{HostsFit}
 use Rattle.script.specs.declared.line.Line.{Line}
+use Rattle.script.specs.Grammar.{CanName, names_of}
+use Rattle.script.proofs.ParseLaws.{hosts_can_name, one_line, not_both}
 use Rattle.tee_base.specs.Faults.{Rose}
 use Rattle.tee_base.specs.Transfer.{HasMoreThan}
 use Rattle.tee_top.specs.declared.status.Status.{Status}
 use Rattle.tee_top.specs.declared.status.Status.TheVariants.{Done, BadWords, BadLine, TooLong, NoMemory, ReadFault, WriteFault}
 use Rattle.tee_top.specs.Runs.{IsReadStatus, IsText, IsBadText, IsBadAt}
-
-same_line : (m n : ℕ) (r : Result (List Line) ℕ) → r ≡ Err m → r ≡ Err n → m ≡ n
-same_line m n r one other = let both : Err m ≡ Err n = sym one ∙ other in cc
-
-no_script : (n : ℕ) (script : List Line) (r : Result (List Line) ℕ) → r ≡ Err n → r ≡ Ok script → ⊥
-no_script n script r one other = let both : Err n ≡ Ok script = sym one ∙ other in cc
 
 -- what reading says when it isn't Ok
 pub record Says {A : Type 0} (hosts : List (Host A)) (left : Option (List ℕ)) (before after : ℕ) (status : Status) : Type 0 where
@@ -21,7 +18,10 @@ pub record Says {A : Type 0} (hosts : List (Host A)) (left : Option (List ℕ)) 
   pub too_long : status ≡ TooLong → HasMoreThan 1048576 left
   pub fault : status ≡ ReadFault → Rose before after
 
-module _ {A : Type 0} (hosts : List (Host A)) (left : Option (List ℕ)) (before after : ℕ) (text : List ℕ) where
+module _ {A : Type 0} (hosts : List (Host A)) (fit : HostsFit hosts) (left : Option (List ℕ)) (before after : ℕ) (text : List ℕ) where
+  can : CanName (names_of hosts)
+  can = hosts_can_name hosts fit
+
   too_long_for : left ≡ Some text → length text ≤ 1048576 → HasMoreThan 1048576 left → ⊥
   too_long_for told within more = let longer = subst (HasMoreThan 1048576) told more in omega (arith, longer, within)
 
@@ -29,7 +29,7 @@ module _ {A : Type 0} (hosts : List (Host A)) (left : Option (List ℕ)) (before
   bad_line_told Done n says told within unfailed bad = absurd says.few
   bad_line_told BadWords n says told within unfailed bad = absurd says.few
   bad_line_told WriteFault n says told within unfailed bad = absurd says.few
-  bad_line_told (BadLine m) n says told within unfailed bad = inl (ap BadLine (same_line m n _ (subst (λ l. IsBadAt hosts l m) told (says.bad m refl)) bad))
+  bad_line_told (BadLine m) n says told within unfailed bad = inl (ap BadLine (one_line (names_of hosts) text m n can (subst (λ l. IsBadAt hosts l m) told (says.bad m refl)) bad))
   bad_line_told TooLong n says told within unfailed bad = absurd (too_long_for told within (says.too_long refl))
   bad_line_told ReadFault n says told within unfailed bad = absurd (unfailed (says.fault refl))
   bad_line_told NoMemory n says told within unfailed bad = inr refl
@@ -38,7 +38,7 @@ module _ {A : Type 0} (hosts : List (Host A)) (left : Option (List ℕ)) (before
   script_told Done script says told within unfailed good = inl refl
   script_told BadWords script says told within unfailed good = absurd says.few
   script_told WriteFault script says told within unfailed good = absurd says.few
-  script_told (BadLine m) script says told within unfailed good = absurd (no_script m script _ (subst (λ l. IsBadAt hosts l m) told (says.bad m refl)) good)
+  script_told (BadLine m) script says told within unfailed good = absurd (not_both (names_of hosts) text script m can good (subst (λ l. IsBadAt hosts l m) told (says.bad m refl)))
   script_told TooLong script says told within unfailed good = absurd (too_long_for told within (says.too_long refl))
   script_told ReadFault script says told within unfailed good = absurd (unfailed (says.fault refl))
   script_told NoMemory script says told within unfailed good = inr refl

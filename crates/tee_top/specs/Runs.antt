@@ -1,5 +1,5 @@
 -- What a run of the program is given, and what it writes.
-use Rattle.std.specs.Prelude.{ℕ, ◌≡◌, ◌≤◌, List, [], ◌∷◌, Option, Some, IfSome, Result, Ok, Err, codes, length, map, All, String, string_bytes}
+use Rattle.std.specs.Prelude.{ℕ, ◌≡◌, ◌≤◌, List, [], ◌∷◌, Option, Some, IfSome, Result, Ok, Err, codes, length, All, String, string_bytes}
 use Rattle.std.specs.Global.{Global}
 use Rattle.std.specs.Io.KnownBytes.{Appends}
 use Rattle.tee_base.specs.Faults.{Rose}
@@ -9,7 +9,7 @@ use Rattle.app_api.specs.declared.ask.Given.{Given}
 use Rattle.app_api.specs.declared.host.Host.{Host}
 use Rattle.app_side.specs.Represents.{IsOneInstance}
 use Rattle.script.specs.declared.line.Line.{Line}
-use Rattle.script.specs.Scripts.{script_of}
+use Rattle.script.specs.Grammar.{FirstBad, Reads, names_of}
 use Rattle.tee_top.specs.Transcript.{transcript}
 use Rattle.tee_top.specs.declared.status.Status.{Status}
 use Rattle.tee_top.specs.declared.status.Status.TheVariants.{Done, BadWords, BadLine, TooLong, NoMemory, ReadFault, WriteFault}
@@ -59,11 +59,11 @@ Writes (Err stop) text old new = AppendsFront text old new
 
 -- the text is a script of these lines
 abbrev pub IsText : {A : Type 0} → List (Host A) → List ℕ → List Line → Type 0
-IsText hosts text script = script_of (map (λ host. host.name) hosts) text ≡ Ok script
+IsText hosts text script = Reads (names_of hosts) text script
 
 -- the text is no script: line n is the first outside the grammar
 abbrev pub IsBadText : {A : Type 0} → List (Host A) → List ℕ → ℕ → Type 0
-IsBadText hosts text n = script_of (map (λ host. host.name) hosts) text ≡ Err n
+IsBadText hosts text n = FirstBad (names_of hosts) text n
 
 -- what the source had left, where it tells that, is a script of these lines
 abbrev pub ReadsTo : {A : Type 0} → List (Host A) → Option (List ℕ) → List Line → Type 0

@@ -1,5 +1,7 @@
 use Rattle.std.proofs.Common.{◌≡◌, ◌⊎◌, ◌∙◌, Err, ap, sym, subst, inr}
 use Rattle.std.specs.Io.KnownBytes.{IsAtEnd}
+use Rattle.script.specs.Grammar.{names_of}
+use Rattle.script.proofs.ParseLaws.{hosts_can_name, not_both}
 use Rattle.tee_top.specs.Runs.{IsBadAt, ReadsTo}
 use Rattle.tee_top.proofs.Ended.{Says, bad_line_told, script_told, only_host}
 use Rattle.tee_top.proofs.run.run_tee.Goals as goal
@@ -11,7 +13,7 @@ returns-in-Err-clause-bad_line g c = λ n e.
 
 pub returns-in-Err-clause-each_bad_line : goal.returns-in-Err-clause-each_bad_line
 returns-in-Err-clause-each_bad_line g c = λ text n readable bad.
-    bad_line_told c.args.hosts.items (g.S.Source.left c.args.source.now) (g.S.Source.failures c.args.source.now) (g.S.Source.failures c.read_lines.new.source) text c.in-Err.status n
+    bad_line_told c.args.hosts.items c.requires.fit (g.S.Source.left c.args.source.now) (g.S.Source.failures c.args.source.now) (g.S.Source.failures c.read_lines.new.source) text c.in-Err.status n
     (record {
       few = c.in-Err.ensures.few;
       bad = λ k e. subst (λ hosts. IsBadAt hosts (g.S.Source.left c.args.source.now) k) c.as_slice.ensures.value (c.in-Err.ensures.bad k (ap Err e)).0;
@@ -22,7 +24,7 @@ returns-in-Err-clause-each_bad_line g c = λ text n readable bad.
 
 pub returns-in-Err-clause-complete : goal.returns-in-Err-clause-complete
 returns-in-Err-clause-complete g c = λ text script readable unfailed good.
-    script_told c.args.hosts.items (g.S.Source.left c.args.source.now) (g.S.Source.failures c.args.source.now) (g.S.Source.failures c.read_lines.new.source) text c.in-Err.status script
+    script_told c.args.hosts.items c.requires.fit (g.S.Source.left c.args.source.now) (g.S.Source.failures c.args.source.now) (g.S.Source.failures c.read_lines.new.source) text c.in-Err.status script
     (record {
       few = c.in-Err.ensures.few;
       bad = λ k e. subst (λ hosts. IsBadAt hosts (g.S.Source.left c.args.source.now) k) c.as_slice.ensures.value (c.in-Err.ensures.bad k (ap Err e)).0;
@@ -57,3 +59,8 @@ returns-in-Some-clause-no_memory g c = λ none. inr (
     subst (λ hosts. ReadsTo hosts (g.S.Source.left c.args.source.now) c.in-Ok.lines.items) c.as_slice.ensures.value c.in-Ok.ensures.read,
     c.serve.ensures.stopped,
 )
+
+pub returns-in-Some-clause-each_bad_line : goal.returns-in-Some-clause-each_bad_line
+returns-in-Some-clause-each_bad_line g c = λ text n readable bad.
+    let reads = subst (λ hosts. ReadsTo hosts (g.S.Source.left c.args.source.now) c.in-Ok.lines.items) c.as_slice.ensures.value c.in-Ok.ensures.read in
+    absurd (not_both (names_of c.args.hosts.items) text c.in-Ok.lines.items n (hosts_can_name c.args.hosts.items c.requires.fit) (subst (λ left. ReadsTo c.args.hosts.items left c.in-Ok.lines.items) readable.told reads) bad)
