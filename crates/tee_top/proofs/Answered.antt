@@ -1,5 +1,5 @@
 -- A call line is answered within its turns.
-use Rattle.std.proofs.Common.{◌≡◌, ◌==◌, ◌⊎◌, ◌+◌, ◌<◌, ◌≤◌, ◌∷◌, ◌++◌, ℕ, Bool, true, false, cond, List, [], Option, None, Some, Result, Ok, Err, is_some, find, option_map, map, refl, sym, ap, subst, ◌∙◌, inl, inr, ⊎_elim, arith}
+use Rattle.std.proofs.Common.{◌≡◌, ◌==◌, ◌⊎◌, ◌≤◌, ◌∷◌, ◌++◌, ℕ, true, false, cond, List, [], Option, None, Some, Result, Ok, Err, is_some, option_map, refl, sym, ap, subst, inl, inr, ⊎_elim, arith}
 use Rattle.std.specs.List.{AllByRecursion}
 use Rattle.std.proofs.lemmas.Bool.{cond_both}
 use Rattle.tee_base.specs.declared.codes.Code.{Code}
@@ -21,15 +21,15 @@ use Rattle.instances.specs.Instances.{Table, session_of, facts_of, is_dead, admi
 use Rattle.op_queue.specs.Queue.{is_full}
 use Rattle.op_queue.specs.declared.operation.Progress.TheVariants.{Waiting}
 use Rattle.alone.specs.declared.running.Instance.{Instance}
-use Rattle.alone.specs.Machine.{Machine, start, is_number}
-use Rattle.alone.specs.Step.{Event, Called, Stepped, called, called_open, called_invoke, opened_as, invoked_in, invoked_at, closed_in, closed_at, known, admitted, queued, answered_at_once, bad_parameters, bad_state, busy, success, target_dead, is_answered}
+use Rattle.alone.specs.Machine.{Machine, start}
+use Rattle.alone.specs.Step.{Event, Called, Stepped, called, called_open, opened_as, invoked_in, invoked_at, closed_in, closed_at, known, admitted, queued, answered_at_once, bad_parameters, bad_state, busy, success, target_dead}
 use Rattle.app_side.proofs.PlaceLemmas.{found_number}
 use Rattle.script.specs.declared.line.Line.{Line}
 use Rattle.script.specs.declared.line.Line.TheVariants as lines
-use Rattle.tee_top.specs.Transcript.{most_turns, machine_after, turns_until, turns_of_call, events_of_line, events_of}
+use Rattle.tee_top.specs.Transcript.{most_turns, machine_after, turns_of_call, events_of_line, events_of}
 use Rattle.tee_top.specs.Laws.{IsUnposted, CallIsAnswered}
 use Rattle.tee_top.proofs.Events.{machine_after_both, turns_done}
-use Rattle.tee_top.proofs.Resting.{IsIdle, HasInstance, AreHome, IsServedAt, IsResting, IsEntered, each_found, each_map, put_found, served_found, home_set, home_removed, entered_IsEntered}
+use Rattle.tee_top.proofs.Resting.{HasInstance, IsServedAt, IsResting, each_map, served_found, home_set, home_removed, entered_IsEntered}
 use Rattle.tee_top.proofs.Serving.{IsServing, IsServed, operation, served_within, answered_when_served, serving_from}
 
 -- a call is answered at once, or is served from now on

@@ -1,5 +1,5 @@
 -- What a status of reading says of a text that is told, and the one host.
-use Rattle.std.proofs.Common.{◌≡◌, ◌≤◌, ◌⊎◌, ◌++◌, ℕ, List, [], ◌∷◌, Option, Some, IfSome, Result, Ok, Err, length, length-append, refl, sym, ap, subst, ◌∙◌, inl, inr, arith}
+use Rattle.std.proofs.Common.{◌≡◌, ◌≤◌, ◌⊎◌, ◌++◌, ℕ, List, [], ◌∷◌, Option, Some, length, length-append, refl, sym, ap, subst, ◌∙◌, inl, inr, arith}
 use Rattle.app_api.specs.declared.host.Host.{Host}
 use Rattle.app_api.specs.Hosts.{HostsFit}
 use Rattle.script.specs.declared.line.Line.{Line}

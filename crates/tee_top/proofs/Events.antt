@@ -10,10 +10,9 @@ use Rattle.alone.specs.Machine.{Machine}
 use Rattle.app_api.specs.declared.call.Call.{Call}
 use Rattle.alone.specs.declared.reply.Reply.{Reply}
 use Rattle.alone.specs.Step.{Event, Called, Turned, step, called, turned, is_answered}
-use Rattle.script.specs.declared.line.Line.{Line}
 use Rattle.script.specs.declared.line.Line.TheVariants as lines
 use Rattle.tee_top.specs.Runs.{Writes}
-use Rattle.tee_top.specs.Transcript.{replies_text, machine_after, text_of, turns_until, turns_of_call, events_of_line, events_of, most_turns}
+use Rattle.tee_top.specs.Transcript.{replies_text, machine_after, text_of, turns_until, turns_of_call, events_of_line, most_turns}
 use Rattle.tee_top.proofs.Writing.{front_whole, front_after, front_longer}
 
 module _ {A : Type 0} (next : A → Given → A) (asks : A → Given → Ask) where
@@ -100,8 +99,8 @@ module _ {A : Type 0} (next : A → Given → A) (asks : A → Given → Ask) wh
       → (run : Along name Stands m all rest old new) → rest run.now ≡ []
       → Stands (machine_after next asks m all) × Appends old new (text_of next asks name m all)
   along_whole name Stands m all rest old new run e = (
-      subst Stands (ap (machine_after next asks run.now) (sym e) ∙ run.machine) run.stands,
-      subst (Appends old new) (sym (append-nil run.front) ∙ ap (λ zs. run.front ++ text_of next asks name run.now zs) (sym e) ∙ run.text) run.appended,
+    subst Stands (ap (machine_after next asks run.now) (sym e) ∙ run.machine) run.stands,
+    subst (Appends old new) (sym (append-nil run.front) ∙ ap (λ zs. run.front ++ text_of next asks name run.now zs) (sym e) ∙ run.text) run.appended,
   )
 
 -- ---- what loops and calls append

@@ -1,11 +1,11 @@
 -- Machines that rest between two call lines: nothing waits, nothing runs, and what a call may be sent to is there.
-use Rattle.std.proofs.Common.{◌≡◌, ◌≢◌, ◌==◌, ◌&&◌, ◌||◌, ◌⊎◌, ◌+◌, ◌<◌, ℕ, Bool, true, false, not, cond, List, [], ◌∷◌, ◌++◌, Option, None, Some, Result, Ok, Err, IfOk, is_some, find, filter, map, nat_le, nat_lt, nat_eq, length, get_or, suc, AllPairs, refl, sym, ap, subst, ◌∙◌, inl, inr, ⊎_elim, eq-eqb, arith}
+use Rattle.std.proofs.Common.{◌≡◌, ◌≢◌, ◌==◌, ◌&&◌, ◌||◌, ◌⊎◌, ◌<◌, ℕ, Bool, true, false, not, cond, List, [], ◌∷◌, ◌++◌, None, Some, Result, Ok, Err, IfOk, is_some, find, filter, map, nat_le, nat_eq, length, get_or, suc, AllPairs, refl, sym, ap, subst, ◌∙◌, inl, inr, ⊎_elim, eq-eqb, arith}
 use Rattle.std.specs.List.{AllByRecursion, list_any}
 use Rattle.std.proofs.lemmas.Bool.{cases_Bool, cond-true, cond-false, cond_both, eqb-true, both_ways}
 use Rattle.instances.specs.declared.session.Session.{Session}
 use Rattle.instances.specs.declared.session.Slot.{Slot}
 use Rattle.instances.specs.declared.session.SessionState.{SessionState}
-use Rattle.instances.specs.declared.session.SessionState.TheVariants.{Opening, Open, Closing, Dead}
+use Rattle.instances.specs.declared.session.SessionState.TheVariants.{Opening, Dead}
 use Rattle.instances.specs.declared.instances.Admission.{Admission}
 use Rattle.instances.specs.declared.instances.Refusal.{Refusal}
 use Rattle.tee_base.specs.Numbers.{lowest_free}
@@ -201,10 +201,10 @@ home_set {A} t xs n state h served = record {
     both : (ss : List Session) → AllByRecursion (λ s. is_dead s.state ≡ false → HasInstance xs s.instance) ss → AllByRecursion (λ s. s.number ≡ n → HasInstance xs s.instance) ss → AllByRecursion (λ s. is_dead s.state ≡ false → HasInstance xs s.instance) (map (with_state n state) ss)
     both [] home served = tt
     both (s ∷ ss) home served = (
-        cond_both (s.number == n) (record s { state = state }) s (λ (o : Session). is_dead o.state ≡ false → HasInstance xs o.instance)
-        (λ yes alive. served.0 (eqb-true s.number n yes))
-        (λ _. home.0),
-        both ss home.1 served.1,
+      cond_both (s.number == n) (record s { state = state }) s (λ (o : Session). is_dead o.state ≡ false → HasInstance xs o.instance)
+          (λ yes alive. served.0 (eqb-true s.number n yes))
+          (λ _. home.0),
+      both ss home.1 served.1,
     )
 
 pub home_removed : {A : Type 0} (t : Table) (xs : List (Instance A)) (n : ℕ) → AreHome t xs → AreHome (session_removed t n) xs
@@ -232,6 +232,7 @@ home_ended {A} t xs i h = record {
   where
     kept : List (Instance A)
     kept = filter (λ other. not (is_number i other)) xs
+
     not_true : (b : Bool) → not b ≡ true → b ≡ false
     not_true true e = absurd (both_ways _ refl e)
     not_true false e = refl

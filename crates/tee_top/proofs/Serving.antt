@@ -1,7 +1,7 @@
 -- A call that is run until it is answered: each turn of its instance brings it nearer.
-use Rattle.std.proofs.Common.{◌≡◌, ◌==◌, ◌&&◌, ◌||◌, ◌⊎◌, ◌+◌, ◌-◌, ◌*◌, ◌<◌, ◌≤◌, ℕ, zero, suc, Bool, true, false, not, cond, List, [], ◌∷◌, ◌++◌, Option, None, Some, find, filter, map, is_some, option_map, nat_le, nat_lt, refl, sym, ap, subst, ◌∙◌, inl, inr, ⊎_elim, eq-eqb, arith}
+use Rattle.std.proofs.Common.{◌≡◌, ◌==◌, ◌&&◌, ◌⊎◌, ◌+◌, ◌-◌, ◌*◌, ◌<◌, ◌≤◌, ℕ, zero, suc, Bool, true, false, not, cond, List, [], ◌∷◌, Option, None, Some, find, filter, map, is_some, option_map, nat_lt, refl, sym, ap, subst, ◌∙◌, inl, inr, ⊎_elim, eq-eqb, arith}
 use Rattle.std.specs.List.{AllByRecursion}
-use Rattle.std.proofs.lemmas.Bool.{cases_Bool, cond-true, cond-false, cond_both, both_ways, lt-ltb}
+use Rattle.std.proofs.lemmas.Bool.{cond_both, lt-ltb}
 use Rattle.tee_base.specs.declared.codes.Code.{Code}
 use Rattle.app_api.specs.declared.ask.Ask.{Ask}
 use Rattle.app_api.specs.declared.ask.Given.{Given}
@@ -10,22 +10,21 @@ use Rattle.app_api.specs.declared.call.Call.TheVariants as calls
 use Rattle.app_api.specs.declared.out.Outs.{Outs}
 use Rattle.instances.specs.Instances.{Table, state_set, session_removed, ended}
 use Rattle.instances.specs.declared.session.SessionState.TheVariants.{Open}
-use Rattle.op_queue.specs.declared.operation.Begun.{Begun}
 use Rattle.op_queue.specs.declared.operation.Operation.{Operation}
 use Rattle.op_queue.specs.declared.operation.Progress.{Progress}
 use Rattle.op_queue.specs.declared.operation.Progress.TheVariants.{Waiting, Running as Runs}
-use Rattle.op_queue.specs.Queue.{Queue, is_close_call, is_running, after_begin, begun_at, first_waiting, started, operation_of, facts_of as operation_facts}
+use Rattle.op_queue.specs.Queue.{is_close_call, is_running, after_begin, begun_at, first_waiting, started, operation_of, facts_of as operation_facts}
 use Rattle.alone.specs.declared.running.Instance.{Instance}
 use Rattle.alone.specs.declared.running.Running.{Running}
 use Rattle.alone.specs.declared.running.Stage.{Stage}
 use Rattle.alone.specs.declared.running.Stage.TheVariants as stages
 use Rattle.alone.specs.declared.running.Waits.{Waits}
 use Rattle.alone.specs.declared.running.Waits.TheVariants as waits
-use Rattle.alone.specs.Machine.{Machine, is_number, put_instance, instance_at, with_instance}
+use Rattle.alone.specs.Machine.{Machine, is_number, put_instance, with_instance}
 use Rattle.alone.specs.declared.reply.Outputs.{Outputs}
 use Rattle.alone.specs.Places.{delivered}
 use Rattle.alone.specs.Replies.{no_outputs}
-use Rattle.alone.specs.Step.{success, Event, Called, Turned, Stepped, quiet, begun, begun_with, thought, went_on, turned, turned_at, turned_by, returned, answered, create_failed, acted, ending_of, first_entry, start_begun, is_success, is_answered, belongs_to}
+use Rattle.alone.specs.Step.{success, Turned, Stepped, quiet, begun, begun_with, thought, went_on, turned, turned_at, turned_by, returned, answered, create_failed, ending_of, first_entry, start_begun, is_success, is_answered, belongs_to}
 use Rattle.app_side.proofs.PlaceLemmas.{put_put, find_put, filter_put}
 use Rattle.tee_top.specs.Transcript.{machine_after, turns_until}
 use Rattle.tee_top.proofs.Events.{turns_done}

@@ -21,10 +21,10 @@ front_first front behind text a b e h = (front, behind, sym e, h)
 -- a text, and then a front of what follows
 pub front_after : (one more : List ℕ) (a b c : Option (List ℕ)) → Appends a b one → AppendsFront more b c → AppendsFront (one ++ more) a c
 front_after one more a b c h k = (
-    one ++ k.0,
-    k.1,
-    ap (λ zs. one ++ zs) k.2 ∙ sym (append_assoc one k.0 k.1),
-    Appends-trans a b c one k.0 h k.3,
+  one ++ k.0,
+  k.1,
+  ap (λ zs. one ++ zs) k.2 ∙ sym (append_assoc one k.0 k.1),
+  Appends-trans a b c one k.0 h k.3,
 )
 
 -- the front of a text is one of the text that goes on
@@ -44,10 +44,11 @@ replies_split name replies i r within here =
 
 pub replies_further : (name : List ℕ) (replies : List Reply) (i : ℕ) (r : Reply) (piece : List ℕ) (a b c : Option (List ℕ)) → i < length replies → r ≡ get_or replies i r → piece ≡ reply_text name r → WrittenTo name replies i a b → Appends b c piece → WrittenTo name replies (i + 1) a c
 replies_further name replies i r piece a b c within here line old new =
-    let rest = replies_text name (drop (i + 1) replies) in
-    (old.0 ++ piece,
-    append_assoc old.0 piece rest ∙ ap (λ zs. old.0 ++ (zs ++ rest)) line ∙ ap (λ zs. old.0 ++ zs) (sym (replies_split name replies i r within here)) ∙ old.1,
-    Appends-trans a b c old.0 piece old.2 new)
+    let rest = replies_text name (drop (i + 1) replies) in (
+      old.0 ++ piece,
+      append_assoc old.0 piece rest ∙ ap (λ zs. old.0 ++ (zs ++ rest)) line ∙ ap (λ zs. old.0 ++ zs) (sym (replies_split name replies i r within here)) ∙ old.1,
+      Appends-trans a b c old.0 piece old.2 new,
+    )
 
 -- a front of the next line was appended
 pub replies_cut : (name : List ℕ) (replies : List Reply) (i : ℕ) (r : Reply) (piece : List ℕ) (a b c : Option (List ℕ)) → i < length replies → r ≡ get_or replies i r → piece ≡ reply_text name r → WrittenTo name replies i a b → AppendsFront piece b c → AppendsFront (replies_text name replies) a c

@@ -4,8 +4,7 @@ use Rattle.std.specs.List.{AllByRecursion}
 use Rattle.app_api.specs.declared.ask.Ask.{Ask}
 use Rattle.app_api.specs.declared.ask.Given.{Given}
 use Rattle.app_api.specs.declared.call.Call.{Call}
-use Rattle.app_api.specs.declared.host.Host.{Host}
-use Rattle.alone.specs.Machine.{Machine, start}
+use Rattle.alone.specs.Machine.{Machine}
 use Rattle.alone.specs.Step.{Called, is_answered}
 use Rattle.script.specs.declared.line.Line.{Line}
 use Rattle.script.specs.declared.line.Line.TheVariants as lines

@@ -1,5 +1,5 @@
 -- What the lines of a script make happen in the machine of the one host, and the text that is written of it.
-use Rattle.std.specs.Prelude.{ℕ, zero, suc, List, [], ◌∷◌, ◌++◌, Bool, true, false, if◌then◌else◌}
+use Rattle.std.specs.Prelude.{ℕ, zero, suc, List, [], ◌∷◌, ◌++◌, true, false, if◌then◌else◌}
 use Rattle.std.specs.List.{flat_map}
 use Rattle.app_api.specs.declared.ask.Ask.{Ask}
 use Rattle.app_api.specs.declared.ask.Given.{Given}

@@ -13,5 +13,4 @@ use app_api::Application;
 /// what stops it.
 pub fn call_lines_are_answered<A: Application>()
     ensures { (host : Host A) (seed : List ℕ) (script : List Line) (client : ℕ) (call : Call) → CallIsAnswered A.next A.asks (start host 0 seed) script client call }
-{
-}
+{}

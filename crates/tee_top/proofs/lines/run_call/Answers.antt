@@ -1,4 +1,4 @@
-use Rattle.std.proofs.Common.{◌≡◌, ◌∙◌, sym}
+use Rattle.std.proofs.Common.{◌∙◌}
 use Rattle.tee_top.proofs.Events.{call_stopped, call_written, writes_err}
 use Rattle.tee_top.proofs.lines.run_call.Goals as goal
 

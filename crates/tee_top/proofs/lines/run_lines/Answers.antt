@@ -1,4 +1,4 @@
-use Rattle.std.proofs.Common.{◌≡◌, ◌≤◌, ◌∙◌, sym, ap, arith, refl}
+use Rattle.std.proofs.Common.{ap, arith, refl}
 use Rattle.app_side.specs.Represents.{Represents}
 use Rattle.tee_top.specs.Transcript.{events_of, events_of_line, machine_after}
 use Rattle.tee_top.proofs.Events.{along_start, along_more, along_stopped, writes_err}

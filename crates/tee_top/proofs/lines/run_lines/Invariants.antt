@@ -1,4 +1,4 @@
-use Rattle.std.proofs.Common.{◌≤◌, ℕ, length}
+use Rattle.std.proofs.Common.{◌≤◌, length}
 use Rattle.alone.specs.Machine.{Machine}
 use Rattle.app_side.specs.Represents.{Represents}
 use Rattle.tee_top.specs.Transcript.{events_of}

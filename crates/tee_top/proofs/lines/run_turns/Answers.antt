@@ -1,4 +1,4 @@
-use Rattle.std.proofs.Common.{◌≡◌, ◌≤◌, ◌∙◌, sym, arith}
+use Rattle.std.proofs.Common.{◌∙◌, sym, arith}
 use Rattle.app_side.specs.Represents.{Represents}
 use Rattle.tee_top.proofs.Events.{turns_start, turns_further, turns_stopped, turns_answered, turns_used, writes_err}
 use Rattle.tee_top.proofs.lines.run_turns.Goals as goal

@@ -1,4 +1,4 @@
-use Rattle.std.proofs.Common.{◌≤◌, ◌-◌, ℕ}
+use Rattle.std.proofs.Common.{◌≤◌, ◌-◌}
 use Rattle.alone.specs.Machine.{Machine}
 use Rattle.app_side.specs.Represents.{Represents}
 use Rattle.tee_top.specs.Transcript.{most_turns, turns_until}

@@ -1,4 +1,4 @@
-use Rattle.std.proofs.Common.{◌≡◌, ◌≤◌, ◌∙◌, sym, arith}
+use Rattle.std.proofs.Common.{◌∙◌, arith}
 use Rattle.tee_top.proofs.Writing.{replies_further, replies_cut}
 use Rattle.tee_top.proofs.lines.write_replies.Goals as goal
 

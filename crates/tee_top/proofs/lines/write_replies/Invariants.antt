@@ -1,4 +1,4 @@
-use Rattle.std.proofs.Common.{◌≤◌, ℕ}
+use Rattle.std.proofs.Common.{◌≤◌}
 use Rattle.tee_top.proofs.Writing.{WrittenTo}
 use Rattle.tee_top.proofs.lines.write_replies.Given as goal
 

@@ -1,9 +1,8 @@
-use Rattle.std.proofs.Common.{◌≡◌, ◌⊎◌, ◌∙◌, Err, ap, sym, subst, inr}
-use Rattle.std.specs.Io.KnownBytes.{IsAtEnd}
+use Rattle.std.proofs.Common.{Err, ap, subst, inr}
 use Rattle.script.specs.Grammar.{names_of}
 use Rattle.script.proofs.ParseLaws.{hosts_can_name, not_both}
 use Rattle.tee_top.specs.Runs.{IsBadAt, ReadsTo}
-use Rattle.tee_top.proofs.Ended.{Says, bad_line_told, script_told, only_host}
+use Rattle.tee_top.proofs.Ended.{bad_line_told, script_told, only_host}
 use Rattle.tee_top.proofs.run.run_tee.Goals as goal
 
 pub returns-in-Err-clause-bad_line : goal.returns-in-Err-clause-bad_line
@@ -35,29 +34,29 @@ returns-in-Err-clause-complete g c = λ text script readable unfailed good.
 
 pub returns-in-Some-clause-written : goal.returns-in-Some-clause-written
 returns-in-Some-clause-written g c = λ done. (
-    c.in-Some.host,
-    c.in-Ok.lines.items,
-    only_host c.args.hosts.items c.pop.new.self.items c.in-Some.host c.requires.one.0 c.requires.one.1 c.in-Some.ensures.items,
-    subst (λ hosts. ReadsTo hosts (g.S.Source.left c.args.source.now) c.in-Ok.lines.items) c.as_slice.ensures.value c.in-Ok.ensures.read,
-    c.serve.ensures.done done,
+  c.in-Some.host,
+  c.in-Ok.lines.items,
+  only_host c.args.hosts.items c.pop.new.self.items c.in-Some.host c.requires.one.0 c.requires.one.1 c.in-Some.ensures.items,
+  subst (λ hosts. ReadsTo hosts (g.S.Source.left c.args.source.now) c.in-Ok.lines.items) c.as_slice.ensures.value c.in-Ok.ensures.read,
+  c.serve.ensures.done done,
 )
 
 pub returns-in-Some-clause-cut_short : goal.returns-in-Some-clause-cut_short
 returns-in-Some-clause-cut_short g c = λ fault. (
-    c.in-Some.host,
-    c.in-Ok.lines.items,
-    only_host c.args.hosts.items c.pop.new.self.items c.in-Some.host c.requires.one.0 c.requires.one.1 c.in-Some.ensures.items,
-    subst (λ hosts. ReadsTo hosts (g.S.Source.left c.args.source.now) c.in-Ok.lines.items) c.as_slice.ensures.value c.in-Ok.ensures.read,
-    c.serve.ensures.stopped,
+  c.in-Some.host,
+  c.in-Ok.lines.items,
+  only_host c.args.hosts.items c.pop.new.self.items c.in-Some.host c.requires.one.0 c.requires.one.1 c.in-Some.ensures.items,
+  subst (λ hosts. ReadsTo hosts (g.S.Source.left c.args.source.now) c.in-Ok.lines.items) c.as_slice.ensures.value c.in-Ok.ensures.read,
+  c.serve.ensures.stopped,
 )
 
 pub returns-in-Some-clause-no_memory : goal.returns-in-Some-clause-no_memory
 returns-in-Some-clause-no_memory g c = λ none. inr (
-    c.in-Some.host,
-    c.in-Ok.lines.items,
-    only_host c.args.hosts.items c.pop.new.self.items c.in-Some.host c.requires.one.0 c.requires.one.1 c.in-Some.ensures.items,
-    subst (λ hosts. ReadsTo hosts (g.S.Source.left c.args.source.now) c.in-Ok.lines.items) c.as_slice.ensures.value c.in-Ok.ensures.read,
-    c.serve.ensures.stopped,
+  c.in-Some.host,
+  c.in-Ok.lines.items,
+  only_host c.args.hosts.items c.pop.new.self.items c.in-Some.host c.requires.one.0 c.requires.one.1 c.in-Some.ensures.items,
+  subst (λ hosts. ReadsTo hosts (g.S.Source.left c.args.source.now) c.in-Ok.lines.items) c.as_slice.ensures.value c.in-Ok.ensures.read,
+  c.serve.ensures.stopped,
 )
 
 pub returns-in-Some-clause-each_bad_line : goal.returns-in-Some-clause-each_bad_line
