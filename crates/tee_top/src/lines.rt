@@ -48,7 +48,7 @@ fn write_replies<W: Sink>(
 {
     for reply in replies {
         let line = reply_line(alloc, name, reply)?;
-        match write_all(sink, line.as_slice()) {
+        drop(write_all(sink, line.as_slice())); match write_all(sink, line.as_slice()) {
             Ok(()) => {}
             Err(WriteFault) => return Err(Stop::WriteFault),
         }
