@@ -1,0 +1,4 @@
+pub mod Algorithms
+pub mod Operations
+pub mod Random
+pub mod Represents
