@@ -1,9 +1,9 @@
 -- The bytes that a generator writes are those of the stream's words.
-use Rattle.std.proofs.Common.{◌≡◌, ℕ, zero, suc, ◌+◌, ◌*◌, ◌/◌, ◌%◌, ◌^◌, ◌<◌, List, [], ◌++◌, take, refl, sym, ap, ◌∙◌, arith, add-zero, lit<}
+use Rattle.std.proofs.Common.{◌≡◌, ℕ, zero, suc, ◌+◌, ◌%◌, ◌^◌, ◌<◌, List, [], ◌++◌, take, sym, ap, ◌∙◌, arith, add-zero, lit<}
 use Rattle.std.proofs.Math.Nat.{mod-eq_of_lt, mod-add-mod, mod-lt}
 use Rattle.std.specs.Int.{w32, to_le_bytes}
 use Rattle.rand_core.specs.Steps.{word_bytes, fill_via_u32}
-use Rattle.rand_chacha.specs.ChaCha.{ChaCha, next_word, word_at}
+use Rattle.rand_chacha.specs.ChaCha.{ChaCha, next_word}
 use Rattle.crypto_ops.specs.Random.{words_from, words_for, random_from, moved}
 
 -- the generator so many words later

@@ -1,5 +1,5 @@
 -- Cryptographic operations: what each is, and what each call answers and leaves (TEE Internal Core API 1.3, sections 6.2 to 6.6).
-use Rattle.std.specs.Prelude.{ℕ, ◌+◌, ◌*◌, ◌%◌, ◌==◌, ◌&&◌, ◌||◌, ◌≡◌, ◌≤◌, ◌<◌, not, nat_lt, Bool, true, false, List, [], ◌++◌, length, drop, replicate, bit_and, Option, None, Some, is_some, is_none, Result, Ok, Err, is_ok, IsTrue, if◌then◌else◌}
+use Rattle.std.specs.Prelude.{ℕ, ◌+◌, ◌*◌, ◌==◌, ◌&&◌, ◌||◌, ◌≡◌, ◌≤◌, ◌<◌, not, nat_lt, Bool, true, false, List, [], ◌++◌, length, drop, replicate, bit_and, Option, None, Some, is_none, Result, Ok, Err, is_ok, IsTrue, if◌then◌else◌}
 use Rattle.std.specs.Str.{bytes_eq}
 use Rattle.tee_base.specs.KeySizes.{size_fits}
 use Rattle.aes_modes.specs.declared.modes.Mode as modes

@@ -1,5 +1,5 @@
 -- What a value of the program means: an operation.
-use Rattle.std.specs.Prelude.{◌≡◌, true, Option, Result, Ok, Err, List, ℕ}
+use Rattle.std.specs.Prelude.{◌≡◌, true, Result, Ok, Err}
 use Rattle.aes_modes.specs.Stream as streams
 use Rattle.mac_digest.specs.Digester.{HoldsMessage}
 use Rattle.mac_digest.specs.Mac.{HoldsKeyedMessage}

@@ -1,5 +1,5 @@
 -- A key that was set has a size that fits, so that it expands.
-use Rattle.std.proofs.Common.{◌≡◌, sym, ◌∙◌, subst, length, Option, Some, List, ℕ, Bool, true, false}
+use Rattle.std.proofs.Common.{◌≡◌, sym, ◌∙◌, subst, length, Option, Some, List, ℕ, true, false}
 use Rattle.std.specs.Bool.{IsTrue}
 use Rattle.aes_core.specs.KeyExpansion.{is_key_length}
 use Rattle.crypto_ops.specs.Operations.{KeyFits}
