@@ -69,7 +69,7 @@ fn run_turn<A: Application, W: Sink>(
     ensures fault { IsErrOf result Stop.WriteFault → Rose (W.failures sink.old) (W.failures sink.new) }
     ensures later { W.failures sink.old ≤ W.failures sink.new }
 {
-    let replies = alone::Replies::none(); drop(side.turn(instance)?);
+    let replies = side.turn(instance)?;
     write_replies(alloc, name, replies.as_slice(), sink)
 }
 
