@@ -1,0 +1,3 @@
+pub mod InHand
+pub mod Lists
+pub mod Taken
