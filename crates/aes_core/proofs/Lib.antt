@@ -7,3 +7,4 @@ pub mod StandardFacts
 pub mod TableEntries
 pub mod LawLemmas
 pub mod WideLemmas
+pub mod SharedLemmas

@@ -26,15 +26,15 @@ unfolding add_round_key mix_columns mix_column shift_rows sub_bytes word_bytes
 encrypt_round_is a b c d k l m n p q r s A B C D ea eb ec ed ep eq er es =
     four_words p q r s _ _ _ _ (rw (ea, eb, ec, ed) at ep) (rw (ea, eb, ec, ed) at eq) (rw (ea, eb, ec, ed) at er) (rw (ea, eb, ec, ed) at es)
 
-pub last_encrypt_round_is : (a b c d p q r s : ℕ) (A B C D : List ℕ)
+pub last_encrypt_round_is : (a b c d k l m n p q r s : ℕ) (A B C D : List ℕ)
     → A ≡ word_bytes a → B ≡ word_bytes b → C ≡ word_bytes c → D ≡ word_bytes d
-    → word_bytes p ≡ (substitute (slice_index A 0)) ∷ (substitute (slice_index B 1)) ∷ (substitute (slice_index C 2)) ∷ (substitute (slice_index D 3)) ∷ []
-    → word_bytes q ≡ (substitute (slice_index B 0)) ∷ (substitute (slice_index C 1)) ∷ (substitute (slice_index D 2)) ∷ (substitute (slice_index A 3)) ∷ []
-    → word_bytes r ≡ (substitute (slice_index C 0)) ∷ (substitute (slice_index D 1)) ∷ (substitute (slice_index A 2)) ∷ (substitute (slice_index B 3)) ∷ []
-    → word_bytes s ≡ (substitute (slice_index D 0)) ∷ (substitute (slice_index A 1)) ∷ (substitute (slice_index B 2)) ∷ (substitute (slice_index C 3)) ∷ []
-    → block_of p q r s ≡ shift_rows (sub_bytes (block_of a b c d))
-unfolding shift_rows sub_bytes word_bytes
-last_encrypt_round_is a b c d p q r s A B C D ea eb ec ed ep eq er es =
+    → word_bytes p ≡ add_columns (substitute (slice_index A 0) ∷ substitute (slice_index B 1) ∷ substitute (slice_index C 2) ∷ substitute (slice_index D 3) ∷ []) (word_bytes k)
+    → word_bytes q ≡ add_columns (substitute (slice_index B 0) ∷ substitute (slice_index C 1) ∷ substitute (slice_index D 2) ∷ substitute (slice_index A 3) ∷ []) (word_bytes l)
+    → word_bytes r ≡ add_columns (substitute (slice_index C 0) ∷ substitute (slice_index D 1) ∷ substitute (slice_index A 2) ∷ substitute (slice_index B 3) ∷ []) (word_bytes m)
+    → word_bytes s ≡ add_columns (substitute (slice_index D 0) ∷ substitute (slice_index A 1) ∷ substitute (slice_index B 2) ∷ substitute (slice_index C 3) ∷ []) (word_bytes n)
+    → block_of p q r s ≡ add_round_key (shift_rows (sub_bytes (block_of a b c d))) (block_of k l m n)
+unfolding add_round_key shift_rows sub_bytes word_bytes
+last_encrypt_round_is a b c d k l m n p q r s A B C D ea eb ec ed ep eq er es =
     four_words p q r s _ _ _ _ (rw (ea, eb, ec, ed) at ep) (rw (ea, eb, ec, ed) at eq) (rw (ea, eb, ec, ed) at er) (rw (ea, eb, ec, ed) at es)
 
 pub decrypt_round_is : (a b c d k l m n p q r s : ℕ) (A B C D : List ℕ)

@@ -3,9 +3,9 @@ use Rattle.std.proofs.Common.{◌≡◌, ℕ, ◌<◌, ◌≤◌, ◌^◌, ◌+�
 use Rattle.std.proofs.lemmas.List.{get_or-map, get_or-take, get_or-drop}
 use Rattle.std.proofs.lemmas.List.FromFn.{get_or-map-range_with_len, get_or-range_with_len}
 use Rattle.std.specs.List.{range_with_len}
-use Rattle.aes_core.specs.declared.tables.TheConstants.{SUBSTITUTE, INVERSE_SUBSTITUTE, ENCRYPT, DECRYPT, ROUND_CONSTANTS}
+use Rattle.aes_core.specs.declared.tables.TheConstants.{SUBSTITUTE, INVERSE_SUBSTITUTE, ENCRYPT, LAST, DECRYPT, ROUND_CONSTANTS}
 use Rattle.aes_core.specs.Field.{xtimes, multiply_powers, multiply, power, inverse, byte_of_bits, affine, inverse_affine, substitute, inverse_substitute}
-use Rattle.aes_core.specs.Columns.{mixed_0, mixed_1, mixed_2, mixed_3, inv_mixed_0, inv_mixed_1, inv_mixed_2, inv_mixed_3}
+use Rattle.aes_core.specs.Columns.{mixed_0, mixed_1, mixed_2, mixed_3, placed_0, placed_1, placed_2, placed_3, inv_mixed_0, inv_mixed_1, inv_mixed_2, inv_mixed_3}
 use Rattle.aes_core.specs.KeyExpansion.{round_constant}
 use Rattle.aes_core.specs.Words.{word_bytes}
 
@@ -78,6 +78,46 @@ entry_encrypt_3 t x e h =
     word_entry t SUBSTITUTE mixed_3 768 x (ap (λ (l : List ℕ). map word_bytes (take 256 (drop 768 l))) e ∙ test_encrypt_3)
     (ap (λ (l : List ℕ). length (take 256 (drop 768 l))) e ∙ refl) refl h
     ∙ ap mixed_3 (entry_substitute SUBSTITUTE x refl h)
+
+test_last_0 : map word_bytes (take 256 (drop 0 LAST)) ≡ map placed_0 SUBSTITUTE
+unfolding word_bytes placed_0
+test_last_0 = refl
+
+pub entry_last_0 : (t : List ℕ) (x : ℕ) → t ≡ LAST → x < 2 ^ 8 → word_bytes (get_or t x 0) ≡ placed_0 (substitute x)
+entry_last_0 t x e h =
+    ap (λ (k : ℕ). word_bytes (get_or t k 0)) (sym (zero-add x)) ∙ word_entry t SUBSTITUTE placed_0 0 x (ap (λ (l : List ℕ). map word_bytes (take 256 (drop 0 l))) e ∙ test_last_0)
+    (ap (λ (l : List ℕ). length (take 256 (drop 0 l))) e ∙ refl) refl h
+    ∙ ap placed_0 (entry_substitute SUBSTITUTE x refl h)
+
+test_last_1 : map word_bytes (take 256 (drop 256 LAST)) ≡ map placed_1 SUBSTITUTE
+unfolding word_bytes placed_1
+test_last_1 = refl
+
+pub entry_last_1 : (t : List ℕ) (x : ℕ) → t ≡ LAST → x < 2 ^ 8 → word_bytes (get_or t (256 + x) 0) ≡ placed_1 (substitute x)
+entry_last_1 t x e h =
+    word_entry t SUBSTITUTE placed_1 256 x (ap (λ (l : List ℕ). map word_bytes (take 256 (drop 256 l))) e ∙ test_last_1)
+    (ap (λ (l : List ℕ). length (take 256 (drop 256 l))) e ∙ refl) refl h
+    ∙ ap placed_1 (entry_substitute SUBSTITUTE x refl h)
+
+test_last_2 : map word_bytes (take 256 (drop 512 LAST)) ≡ map placed_2 SUBSTITUTE
+unfolding word_bytes placed_2
+test_last_2 = refl
+
+pub entry_last_2 : (t : List ℕ) (x : ℕ) → t ≡ LAST → x < 2 ^ 8 → word_bytes (get_or t (512 + x) 0) ≡ placed_2 (substitute x)
+entry_last_2 t x e h =
+    word_entry t SUBSTITUTE placed_2 512 x (ap (λ (l : List ℕ). map word_bytes (take 256 (drop 512 l))) e ∙ test_last_2)
+    (ap (λ (l : List ℕ). length (take 256 (drop 512 l))) e ∙ refl) refl h
+    ∙ ap placed_2 (entry_substitute SUBSTITUTE x refl h)
+
+test_last_3 : map word_bytes (take 256 (drop 768 LAST)) ≡ map placed_3 SUBSTITUTE
+unfolding word_bytes placed_3
+test_last_3 = refl
+
+pub entry_last_3 : (t : List ℕ) (x : ℕ) → t ≡ LAST → x < 2 ^ 8 → word_bytes (get_or t (768 + x) 0) ≡ placed_3 (substitute x)
+entry_last_3 t x e h =
+    word_entry t SUBSTITUTE placed_3 768 x (ap (λ (l : List ℕ). map word_bytes (take 256 (drop 768 l))) e ∙ test_last_3)
+    (ap (λ (l : List ℕ). length (take 256 (drop 768 l))) e ∙ refl) refl h
+    ∙ ap placed_3 (entry_substitute SUBSTITUTE x refl h)
 
 test_decrypt_0 : map word_bytes (take 256 (drop 0 DECRYPT)) ≡ map inv_mixed_0 INVERSE_SUBSTITUTE
 unfolding xtimes multiply_powers multiply word_bytes inv_mixed_0

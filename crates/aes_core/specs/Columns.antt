@@ -27,3 +27,16 @@ inv_mixed_2 s = multiply 13 s ∷ multiply 11 s ∷ multiply 14 s ∷ multiply 9
 
 unfoldable pub inv_mixed_3 : ℕ → List ℕ
 inv_mixed_3 s = multiply 9 s ∷ multiply 13 s ∷ multiply 11 s ∷ multiply 14 s ∷ []
+
+-- what the byte is to its column in the last round, which mixes no columns (section 5.1)
+unfoldable pub placed_0 : ℕ → List ℕ
+placed_0 s = s ∷ 0 ∷ 0 ∷ 0 ∷ []
+
+unfoldable pub placed_1 : ℕ → List ℕ
+placed_1 s = 0 ∷ s ∷ 0 ∷ 0 ∷ []
+
+unfoldable pub placed_2 : ℕ → List ℕ
+placed_2 s = 0 ∷ 0 ∷ s ∷ 0 ∷ []
+
+unfoldable pub placed_3 : ℕ → List ℕ
+placed_3 s = 0 ∷ 0 ∷ 0 ∷ s ∷ []

@@ -6,3 +6,4 @@ pub mod Transformations
 pub mod Words
 pub mod Key
 pub mod Laws
+pub mod Shared

@@ -6,8 +6,8 @@ ghost use Rattle.aes_core.specs.Key.{key_bytes};
 
 use crate::key::Key;
 use crate::rounds::{
-    add_key, decrypt_round, encrypt_round, key_of_round, load, shift_and_substitute_back, store,
-    substitute_and_shift,
+    add_key, decrypt_round, encrypt_round, key_of_round, last_round, load,
+    shift_and_substitute_back, store,
 };
 
 /// Encrypts a block in place. It takes no memory.
@@ -23,8 +23,7 @@ pub fn encrypt_block(key: &Key, block: &mut [u8; 16])
         let next = encrypt_round(state, key_of_round(words, round));
         state = next;
     }
-    let mixed = substitute_and_shift(state);
-    let last = add_key(mixed, key_of_round(words, rounds));
+    let last = last_round(state, key_of_round(words, rounds));
     *block = store(last);
 }
 

@@ -9,6 +9,7 @@ mod laws;
 mod plain;
 mod rounds;
 mod schedule;
+mod shared;
 mod tables;
 #[cfg(test)]
 mod tests;
@@ -17,3 +18,4 @@ pub use block::{decrypt_block, encrypt_block};
 pub use key::{Key, WrongKeyLength};
 pub use laws::decryption_undoes_encryption;
 pub use schedule::expand;
+pub use shared::{SharedStart, encrypt_shared, shared_start};

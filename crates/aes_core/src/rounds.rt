@@ -1,12 +1,16 @@
 // The rounds of the cipher over a block as four words, a word for each column of the state.
 
-ghost use Rattle.std.specs.Prelude.{◌≡◌, ◌+◌, ◌*◌, ◌^◌, ◌<◌, [], ◌∷◌};
+ghost use Rattle.std.specs.Prelude.{◌≡◌, ◌+◌, ◌*◌, ◌^◌, ◌<◌, [], ◌∷◌, slice_index};
+ghost use Rattle.aes_core.specs.Columns.{mixed_0, mixed_1, mixed_2, mixed_3, placed_0, placed_1, placed_2, placed_3};
 ghost use Rattle.aes_core.specs.Field.{substitute, inverse_substitute};
 ghost use Rattle.aes_core.specs.KeyExpansion.{round_key};
 ghost use Rattle.aes_core.specs.Transformations.{sub_bytes, shift_rows, mix_columns, add_round_key, inv_sub_bytes, inv_shift_rows, inv_mix_columns};
-ghost use Rattle.aes_core.specs.Words.{word_bytes, block_bytes};
+ghost use Rattle.aes_core.specs.Words.{word_bytes, block_bytes, add_columns};
 
-use crate::columns::{decrypt_column, encrypt_column, inverse_substitute, substitute};
+use crate::columns::{
+    decrypt_column, encrypt_0, encrypt_1, encrypt_2, encrypt_3, inverse_substitute, last_0, last_1,
+    last_2, last_3,
+};
 
 /// The word of four bytes, highest first.
 #[inline(always)]
@@ -16,14 +20,7 @@ fn word(a: u8, b: u8, c: u8, d: u8) -> u32
     u32::from_be_bytes([a, b, c, d])
 }
 
-/// The word of four bytes substituted.
-#[inline(always)]
-pub(crate) fn substitute_word(a: u8, b: u8, c: u8, d: u8) -> u32
-    ensures { word_bytes result ≡ substitute a ∷ substitute b ∷ substitute c ∷ substitute d ∷ [] }
-{
-    word(substitute(a), substitute(b), substitute(c), substitute(d))
-}
-
+/// The word of four bytes substituted back.
 #[inline(always)]
 fn inverse_substitute_word(a: u8, b: u8, c: u8, d: u8) -> u32
     ensures { word_bytes result
@@ -93,37 +90,67 @@ pub(crate) fn add_key(state: [u32; 4], key: [u32; 4]) -> [u32; 4]
     ]
 }
 
+/// The columns with what the bytes of a word add to them in a round, turned by one place: the first is the last.
+#[inline(always)]
+fn with_shares(columns: [u32; 4], x: u32) -> [u32; 4]
+    ensures first { word_bytes (slice_index result 3)
+        ≡ add_columns (word_bytes (slice_index columns 0)) (mixed_0 (substitute (slice_index (word_bytes x) 0))) }
+    ensures second { word_bytes (slice_index result 0)
+        ≡ add_columns (word_bytes (slice_index columns 1)) (mixed_3 (substitute (slice_index (word_bytes x) 3))) }
+    ensures third { word_bytes (slice_index result 1)
+        ≡ add_columns (word_bytes (slice_index columns 2)) (mixed_2 (substitute (slice_index (word_bytes x) 2))) }
+    ensures fourth { word_bytes (slice_index result 2)
+        ≡ add_columns (word_bytes (slice_index columns 3)) (mixed_1 (substitute (slice_index (word_bytes x) 1))) }
+{
+    let b = x.to_be_bytes();
+    let second = columns[1] ^ encrypt_3(b[3]);
+    let third = columns[2] ^ encrypt_2(b[2]);
+    let first = columns[0] ^ encrypt_0(b[0]);
+    let fourth = columns[3] ^ encrypt_1(b[1]);
+    [second, third, fourth, first]
+}
+
 /// A round of the cipher.
 #[inline(always)]
 pub(crate) fn encrypt_round(state: [u32; 4], key: [u32; 4]) -> [u32; 4]
     ensures { block_bytes result
         ≡ add_round_key (mix_columns (shift_rows (sub_bytes (block_bytes state)))) (block_bytes key) }
 {
-    let a = state[0].to_be_bytes();
-    let b = state[1].to_be_bytes();
-    let c = state[2].to_be_bytes();
-    let d = state[3].to_be_bytes();
-    let first = encrypt_column(a[0], b[1], c[2], d[3], key[0]);
-    let second = encrypt_column(b[0], c[1], d[2], a[3], key[1]);
-    let third = encrypt_column(c[0], d[1], a[2], b[3], key[2]);
-    let fourth = encrypt_column(d[0], a[1], b[2], c[3], key[3]);
-    [first, second, third, fourth]
+    let one = with_shares(key, state[0]);
+    let two = with_shares(one, state[1]);
+    let three = with_shares(two, state[2]);
+    with_shares(three, state[3])
 }
 
-/// The last round of the cipher, before its key.
+/// The columns with the bytes of a word substituted, in the last round, turned by one place.
 #[inline(always)]
-pub(crate) fn substitute_and_shift(state: [u32; 4]) -> [u32; 4]
-    ensures { block_bytes result ≡ shift_rows (sub_bytes (block_bytes state)) }
+fn with_placed(columns: [u32; 4], x: u32) -> [u32; 4]
+    ensures first { word_bytes (slice_index result 3)
+        ≡ add_columns (word_bytes (slice_index columns 0)) (placed_0 (substitute (slice_index (word_bytes x) 0))) }
+    ensures second { word_bytes (slice_index result 0)
+        ≡ add_columns (word_bytes (slice_index columns 1)) (placed_3 (substitute (slice_index (word_bytes x) 3))) }
+    ensures third { word_bytes (slice_index result 1)
+        ≡ add_columns (word_bytes (slice_index columns 2)) (placed_2 (substitute (slice_index (word_bytes x) 2))) }
+    ensures fourth { word_bytes (slice_index result 2)
+        ≡ add_columns (word_bytes (slice_index columns 3)) (placed_1 (substitute (slice_index (word_bytes x) 1))) }
 {
-    let a = state[0].to_be_bytes();
-    let b = state[1].to_be_bytes();
-    let c = state[2].to_be_bytes();
-    let d = state[3].to_be_bytes();
-    let first = substitute_word(a[0], b[1], c[2], d[3]);
-    let second = substitute_word(b[0], c[1], d[2], a[3]);
-    let third = substitute_word(c[0], d[1], a[2], b[3]);
-    let fourth = substitute_word(d[0], a[1], b[2], c[3]);
-    [first, second, third, fourth]
+    let b = x.to_be_bytes();
+    let second = columns[1] ^ last_3(b[3]);
+    let third = columns[2] ^ last_2(b[2]);
+    let first = columns[0] ^ last_0(b[0]);
+    let fourth = columns[3] ^ last_1(b[1]);
+    [second, third, fourth, first]
+}
+
+/// The last round of the cipher.
+#[inline(always)]
+pub(crate) fn last_round(state: [u32; 4], key: [u32; 4]) -> [u32; 4]
+    ensures { block_bytes result ≡ add_round_key (shift_rows (sub_bytes (block_bytes state))) (block_bytes key) }
+{
+    let one = with_placed(key, state[0]);
+    let two = with_placed(one, state[1]);
+    let three = with_placed(two, state[2]);
+    with_placed(three, state[3])
 }
 
 /// A round of the inverse cipher, where `key` has been through InvMixColumns.

@@ -1,11 +1,14 @@
 -- Blocks of a list, and the text of the first blocks.
-use Rattle.std.proofs.Common.{get_or, ◌≡◌, ℕ, zero, suc, ◌+◌, ◌-◌, ◌*◌, ◌<◌, ◌≤◌, List, [], ◌∷◌, ◌++◌, bit_xor, length, take, drop, refl, sym, ap, ◌∙◌, arith, add-one, append-nil}
-use Rattle.std.proofs.lemmas.List.{drop-drop, drop_all, drop_at, length-take-le, length-drop}
+use Rattle.std.proofs.Common.{get_or, inl, inr, ◌≡◌, ℕ, zero, suc, ◌+◌, ◌-◌, ◌*◌, ◌<◌, ◌≤◌, List, [], ◌∷◌, ◌++◌, bit_xor, length, take, drop, refl, sym, ap, ◌∙◌, arith, add-one, append-nil, append_assoc}
+use Rattle.std.proofs.lemmas.List.{drop-drop, drop_all, take_at, drop_at, length-take, length-take-le, length-drop, length-append, get_or-take, get_or-drop, get_or_past}
+use Rattle.std.proofs.lemmas.Bool.{cases_lt}
 use Rattle.std.proofs.lemmas.Slice.{take-put_mid, drop-put_mid}
 use borrow.Rule.Slice.PartMut.{put_mid, post_of}
-use Rattle.std.proofs.lemmas.Nat.{xor_mod}
-use Rattle.std.specs.Int.{w128, from_be_bytes, to_be_bytes}
+use Rattle.std.proofs.lemmas.Nat.{xor_mod, be_bytes_4}
+use Rattle.std.specs.Int.{w32, w128, from_be_bytes, to_be_bytes}
+use Rattle.aes_core.specs.Words.{word_bytes, block_of}
 use Rattle.aes_core.proofs.ColumnLemmas.{xor_part}
+use Rattle.aes_core.proofs.RoundLemmas.{block_written}
 use Rattle.aes_core.proofs.WideLemmas.{be_bytes_16}
 use Rattle.aes_modes.specs.Modes.{block_at, xor_bytes}
 use Rattle.aes_modes.specs.Stream.{step_text, step_vector, vector_after, blocks_text}
@@ -80,3 +83,70 @@ stored_rest out before block i k width long room same =
     drop-put_mid (16 * i) k out block (16 * (i + 1)) (omega arith) (omega arith) (omega arith)
     ∙ ap (λ (n : ℕ). drop n out) (sym at) ∙ sym (drop-drop 16 (16 * i) out) ∙ ap (drop 16) same
     ∙ drop-drop 16 (16 * i) before ∙ ap (λ (n : ℕ). drop n before) at
+
+-- ---- a block and four words
+-- the bytes of a sum of words
+bytes-word_xor : (x y : ℕ) → to_be_bytes w32 (bit_xor x y) ≡ xor_bytes (to_be_bytes w32 x) (to_be_bytes w32 y)
+unfolding xor_bytes
+bytes-word_xor x y = joint (xor_part x y 24) (joint (xor_part x y 16) (joint (xor_part x y 8) (joint (xor_mod x y 8) refl)))
+
+-- the sum of four bytes and a word
+pub add_word_is : (a : List ℕ) (x y : ℕ) → length a ≡ 4 → ((i : ℕ) → get_or a i 0 < 256) → x ≡ from_be_bytes w32 a
+    → to_be_bytes w32 (bit_xor x y) ≡ xor_bytes a (word_bytes y)
+unfolding word_bytes
+add_word_is a x y long fits e =
+    bytes-word_xor x y ∙ ap (λ (l : List ℕ). xor_bytes l (to_be_bytes w32 y)) (be_bytes_4 a x long fits e)
+
+-- the bytes of a piece
+pub piece_fits : (xs ys : List ℕ) (at n : ℕ) → ys ≡ take n (drop at xs) → ((i : ℕ) → get_or xs i 0 < 256) → (i : ℕ) → get_or ys i 0 < 256
+piece_fits xs ys at n e fits i = elim (cases_lt i n) [
+  | inl lt ↦
+      let here : get_or ys i 0 ≡ get_or xs (at + i) 0 =
+      ap (λ (l : List ℕ). get_or l i 0) e ∙ get_or-take n (drop at xs) i 0 lt ∙ get_or-drop at xs i 0 in
+      omega (arith, fits (at + i))
+  | inr ge ↦
+      let short : length ys ≤ i = omega (arith, ap length e, length-take n (drop at xs)) in
+      rw (get_or_past ys i 0 short) (omega arith)
+]
+
+-- a piece stored behind what was stored
+put_behind : (n k : ℕ) (done rest piece : List ℕ) → length done ≡ n → put_mid n k (done ++ rest) piece ≡ (done ++ piece) ++ drop k rest
+put_behind n k done rest piece e =
+    let front : take n (done ++ rest) ≡ done = take_at done rest n e in
+    let back : drop n (done ++ rest) ≡ rest = drop_at done rest n e in
+    rw (front, back) (sym (append_assoc done piece (drop k rest)))
+
+-- four words written into a block
+pub four_written : (out p q r s : List ℕ) (k : ℕ) → length out ≡ 16 → length p ≡ 4 → length q ≡ 4 → length r ≡ 4 → length s ≡ 4 → k ≡ 4
+    → put_mid 12 k (put_mid 8 4 (put_mid 4 4 (put_mid 0 4 out p) q) r) s ≡ p ++ (q ++ (r ++ s))
+four_written out p q r s k lo lp lq lr ls ek =
+    let pq : length (p ++ q) ≡ 8 = omega (arith, length-append p q) in
+    let pqr : length ((p ++ q) ++ r) ≡ 12 = omega (arith, length-append (p ++ q) r) in
+    let one : put_mid 0 4 out p ≡ p ++ drop 4 out = put_behind 0 4 [] out p refl in
+    let two : put_mid 4 4 (p ++ drop 4 out) q ≡ (p ++ q) ++ drop 4 (drop 4 out) = put_behind 4 4 p (drop 4 out) q lp in
+    let three : put_mid 8 4 ((p ++ q) ++ drop 4 (drop 4 out)) r ≡ ((p ++ q) ++ r) ++ drop 4 (drop 4 (drop 4 out)) = put_behind 8 4 (p ++ q) (drop 4 (drop 4 out)) r pq in
+    let four : put_mid 12 4 (((p ++ q) ++ r) ++ drop 4 (drop 4 (drop 4 out))) s ≡ (((p ++ q) ++ r) ++ s) ++ drop 4 (drop 4 (drop 4 (drop 4 out))) =
+    put_behind 12 4 ((p ++ q) ++ r) (drop 4 (drop 4 (drop 4 out))) s pqr in
+    let none : drop 4 (drop 4 (drop 4 (drop 4 out))) ≡ [] =
+    drop_all 4 (drop 4 (drop 4 (drop 4 out))) (omega (arith, length-drop 4 out, length-drop 4 (drop 4 out), length-drop 4 (drop 4 (drop 4 out)))) in
+    ap (λ (z : List ℕ). put_mid 12 k (put_mid 8 4 (put_mid 4 4 z q) r) s) one
+    ∙ ap (λ (z : List ℕ). put_mid 12 k (put_mid 8 4 z r) s) two
+    ∙ ap (λ (z : List ℕ). put_mid 12 k z s) three
+    ∙ ap (λ (j : ℕ). put_mid 12 j (((p ++ q) ++ r) ++ drop 4 (drop 4 (drop 4 out))) s) ek
+    ∙ four ∙ ap (λ (z : List ℕ). (((p ++ q) ++ r) ++ s) ++ z) none ∙ append-nil (((p ++ q) ++ r) ++ s)
+    ∙ append_assoc (p ++ q) r s ∙ append_assoc p q (r ++ s)
+
+-- the sum of a block and four words, word by word
+pub four_sums : (f : ℕ → ℕ) (b : List ℕ) (w x y z : ℕ)
+    → b ≡ f 0 ∷ f 1 ∷ f 2 ∷ f 3 ∷ f 4 ∷ f 5 ∷ f 6 ∷ f 7 ∷ f 8 ∷ f 9 ∷ f 10 ∷ f 11 ∷ f 12 ∷ f 13 ∷ f 14 ∷ f 15 ∷ []
+    → xor_bytes (take 4 (drop 0 b)) (word_bytes w) ++ (xor_bytes (take 4 (drop 4 b)) (word_bytes x)
+    ++ (xor_bytes (take 4 (drop 8 b)) (word_bytes y) ++ xor_bytes (take 4 (drop 12 b)) (word_bytes z))) ≡ xor_bytes b (block_of w x y z)
+unfolding xor_bytes word_bytes
+four_sums f b w x y z e = rw e refl
+
+pub sum_written : (b out p q r s : List ℕ) (w x y z k : ℕ) → length b ≡ 16 → length out ≡ 16 → length p ≡ 4 → length q ≡ 4 → length r ≡ 4 → length s ≡ 4 → k ≡ 4
+    → p ≡ xor_bytes (take 4 (drop 0 b)) (word_bytes w) → q ≡ xor_bytes (take 4 (drop 4 b)) (word_bytes x)
+    → r ≡ xor_bytes (take 4 (drop 8 b)) (word_bytes y) → s ≡ xor_bytes (take 4 (drop 12 b)) (word_bytes z)
+    → put_mid 12 k (put_mid 8 4 (put_mid 4 4 (put_mid 0 4 out p) q) r) s ≡ xor_bytes b (block_of w x y z)
+sum_written b out p q r s w x y z k lb lo lp lq lr ls ek ep eq er es =
+    four_written out p q r s k lo lp lq lr ls ek ∙ rw (ep, eq, er, es) (four_sums (λ i. get_or b i 0) b w x y z (block_written b lb))

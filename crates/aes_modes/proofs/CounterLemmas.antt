@@ -1,11 +1,15 @@
 -- Counter mode by blocks and parts of blocks.
-use Rattle.std.proofs.Common.{◌≡◌, ℕ, zero, suc, ◌+◌, ◌-◌, ◌*◌, ◌/◌, ◌%◌, ◌^◌, ◌<◌, ◌≤◌, List, [], ◌∷◌, ◌++◌, bit_xor, length, take, drop, slice_index, refl, sym, ap, ◌∙◌, arith}
+use Rattle.std.proofs.Common.{◌≡◌, ℕ, zero, suc, ◌+◌, ◌-◌, ◌*◌, ◌/◌, ◌%◌, ◌^◌, ◌<◌, ◌≤◌, List, [], ◌∷◌, ◌++◌, bit_xor, bit_and, length, take, drop, slice_index, refl, sym, ap, ◌∙◌, arith}
 use Rattle.std.proofs.Math.Seq.{take-add}
 use Rattle.std.proofs.lemmas.List.{drop-drop, drop_more, length-append, length-take, length-drop, length-take-le, drop_at, take_at}
 use Rattle.std.specs.Int.{w128, to_be_bytes}
 use Rattle.std.proofs.lemmas.Slice.{drop-put_mid}
+use Rattle.std.proofs.lemmas.Nat.{and_mask, shr-shr}
 use borrow.Rule.Slice.PartMut.{put_mid}
-use Rattle.aes_core.specs.Cipher.{cipher, cipher_from, inv_cipher, inv_cipher_from}
+use Rattle.aes_core.specs.declared.key.Key.{Key}
+use Rattle.aes_core.specs.declared.shared.SharedStart.{SharedStart}
+use Rattle.aes_core.specs.Shared.{with_last, IsSharedStart}
+use Rattle.aes_core.specs.Cipher.{cipher_rounds, cipher, cipher_from, inv_cipher, inv_cipher_from}
 use Rattle.aes_core.specs.Transformations.{add_round_key}
 use Rattle.aes_modes.specs.Modes.{xor_bytes, number_of, counter_block, ctr_from}
 
@@ -101,3 +105,43 @@ rest_more out before piece at k end e width room same =
     ∙ ap (λ (n : ℕ). drop n out) (sym e) ∙ sym (swapped out) ∙ ap (drop k) same ∙ swapped before ∙ ap (λ (n : ℕ). drop n before) e where
       swapped : (xs : List ℕ) → drop k (drop at xs) ≡ drop (at + k) xs
       swapped xs = drop-drop k at xs
+
+-- ---- counter blocks that differ in their last byte alone
+pub with_own_last : (n : ℕ) → with_last (counter_block n) (bit_and n 0xff) ≡ counter_block n
+unfolding with_last counter_block
+with_own_last n =
+    let e : bit_and n 0xff ≡ n % 2 ^ 128 % 256 = and_mask n 8 ∙ omega arith in
+    ap (λ (z : ℕ). take 15 (to_be_bytes w128 (n % 2 ^ 128)) ++ z ∷ []) e
+
+-- the bytes of a number but the last
+front_bytes : ℕ → List ℕ
+front_bytes q =
+    q / 2 ^ 112 % 256 ∷ q / 2 ^ 104 % 256 ∷ q / 2 ^ 96 % 256 ∷ q / 2 ^ 88 % 256 ∷ q / 2 ^ 80 % 256 ∷ q / 2 ^ 72 % 256 ∷ q / 2 ^ 64 % 256 ∷ q / 2 ^ 56 % 256
+    ∷ q / 2 ^ 48 % 256 ∷ q / 2 ^ 40 % 256 ∷ q / 2 ^ 32 % 256 ∷ q / 2 ^ 24 % 256 ∷ q / 2 ^ 16 % 256 ∷ q / 2 ^ 8 % 256 ∷ q % 256 ∷ []
+
+joint : {a b : ℕ} {xs ys : List ℕ} → a ≡ b → xs ≡ ys → a ∷ xs ≡ b ∷ ys
+joint ea es = cc
+
+front_of : (n : ℕ) → take 15 (to_be_bytes w128 n) ≡ front_bytes (n / 2 ^ 8)
+unfolding front_bytes
+front_of n =
+    joint (part 112) (joint (part 104) (joint (part 96) (joint (part 88) (joint (part 80) (joint (part 72) (joint (part 64) (joint (part 56) (joint (part 48) (joint (part 40) (joint (part 32) (joint (part 24) (joint (part 16) (joint (part 8) refl))))))))))))) where
+      part : (k : ℕ) → n / 2 ^ (8 + k) % 256 ≡ n / 2 ^ 8 / 2 ^ k % 256
+      part k = ap (λ (z : ℕ). z % 256) (sym (shr-shr n 8 k))
+
+front_same : (m n : ℕ) → n ≡ (m + 1) % 2 ^ 128 → 0 < bit_and n 0xff → take 15 (counter_block m) ≡ take 15 (counter_block n)
+unfolding counter_block
+front_same m n e some =
+    let last : 0 < n % 256 = rw (and_mask n 8) at some in
+    let q : m % 2 ^ 128 / 2 ^ 8 ≡ n % 2 ^ 128 / 2 ^ 8 = omega arith in
+    front_of (m % 2 ^ 128) ∙ ap front_bytes q ∙ sym (front_of (n % 2 ^ 128))
+
+pub start_kept : (key : Key) (start : SharedStart) (m n : ℕ) → n ≡ (m + 1) % 2 ^ 128 → 0 < bit_and n 0xff → IsSharedStart key (counter_block m) start
+    → IsSharedStart key (counter_block n) start
+unfolding with_last
+start_kept key start m n e some h =
+    record {
+      two_rounds = λ x p q r s t hx ep eq er es et.
+          h.two_rounds x p q r s t hx ep eq er es et
+          ∙ ap (λ (z : List ℕ). cipher_rounds key.words (z ++ x ∷ []) 2) (front_same m n e some);
+    }

@@ -2,6 +2,7 @@
 
 ghost use Rattle.std.specs.Prelude.{◌≡◌, ◌+◌, ◌≤◌, ◌^◌, ◌<◌, length, take, drop};
 ghost use Rattle.std.specs.Int.{w128, to_be_bytes};
+ghost use Rattle.aes_core.specs.Words.{word_bytes, block_bytes};
 ghost use Rattle.aes_modes.specs.Modes.{xor_bytes};
 
 /// The block at a place.
@@ -35,4 +36,33 @@ pub(crate) fn xor(a: &[u8; 16], b: &[u8; 16]) -> [u8; 16]
     ensures { result ≡ xor_bytes a.now b.now }
 {
     block_of_number(u128::from_be_bytes(*a) ^ u128::from_be_bytes(*b))
+}
+
+/// The sum of a word and the four bytes at a place.
+#[inline(always)]
+fn add_word(input: &[u8], at: usize, word: u32) -> [u8; 4]
+    requires fits { at + 4 < 2 ^ 64 }
+    requires within { at + 4 ≤ length input.now }
+    ensures { result ≡ xor_bytes (take 4 (drop at input.now)) (word_bytes word) }
+{
+    let mut bytes = [0; 4];
+    bytes.copy_from_slice(&input[at..at + 4]);
+    (u32::from_be_bytes(bytes) ^ word).to_be_bytes()
+}
+
+/// Writes the sum of a block and the block of four words.
+#[inline(always)]
+pub(crate) fn write_sum(input: &[u8], words: [u32; 4], output: &mut [u8])
+    requires whole { length input.now ≡ 16 }
+    requires room { length output.old ≡ 16 }
+    ensures { output.new ≡ xor_bytes input.now (block_bytes words) }
+{
+    let first = add_word(input, 0, words[0]);
+    let second = add_word(input, 4, words[1]);
+    let third = add_word(input, 8, words[2]);
+    let fourth = add_word(input, 12, words[3]);
+    output[..4].copy_from_slice(&first);
+    output[4..8].copy_from_slice(&second);
+    output[8..12].copy_from_slice(&third);
+    output[12..16].copy_from_slice(&fourth);
 }

@@ -20,5 +20,5 @@ returns c =
     let long : length c.args.key.now.words ≡ 60 = search rules in
     c.store.ensures
     ∙ cipher_from_last c.args.key.now.words c.args.block.now _ _ _ _ c.args.key.now.rounds c.loop-round.round (omega (arith, bounds))
-    c.loop-round.invariant c.substitute_and_shift-mixed.ensures c.add_key-last.ensures c.key_of_round-2.ensures
+    c.loop-round.invariant refl c.last_round-last.ensures c.key_of_round-2.ensures
     ∙ cipher_from_words _ _ _ c.args.block.now long c.args.key.now.expansion

@@ -1,10 +1,32 @@
+use Rattle.std.proofs.Common.{refl, ℕ, slice_index}
+use Rattle.aes_core.specs.Columns.{mixed_0, mixed_1, mixed_2, mixed_3}
+use Rattle.aes_core.specs.Field.{substitute}
 use Rattle.aes_core.specs.Words.{word_bytes, block_bytes}
+use Rattle.aes_core.proofs.ColumnLemmas.{mixed_sum, column_from_0, column_from_1, column_from_2, column_from_3}
 use Rattle.aes_core.proofs.RoundLemmas.{encrypt_round_is}
 use Rattle.aes_core.proofs.rounds.encrypt_round.Goals as goal
 
 pub returns : goal.returns
-unfolding word_bytes block_bytes
+unfolding block_bytes
 returns c =
-    encrypt_round_is _ _ _ _ _ _ _ _ _ _ _ _ _ _ _ _
-    c.to_be_bytes-a.ensures c.to_be_bytes-b.ensures c.to_be_bytes-c.ensures c.to_be_bytes-d.ensures
-    c.encrypt_column-first.ensures c.encrypt_column-second.ensures c.encrypt_column-third.ensures c.encrypt_column-fourth.ensures
+    let state = c.args.state in
+    let byte = λ (i j : ℕ). substitute (slice_index (word_bytes (slice_index state i)) j) in
+    let key = λ (i : ℕ). slice_index c.args.key i in
+    let w = λ (i : ℕ). mixed_0 (byte i 0) in
+    let x = λ (i : ℕ). mixed_1 (byte i 1) in
+    let y = λ (i : ℕ). mixed_2 (byte i 2) in
+    let z = λ (i : ℕ). mixed_3 (byte i 3) in
+    let one = c.with_shares-one in
+    let two = c.with_shares-two in
+    let three = c.with_shares-three in
+    let four = c.with_shares in
+    encrypt_round_is (slice_index state 0) (slice_index state 1) (slice_index state 2) (slice_index state 3) (key 0) (key 1) (key 2) (key 3)
+    (slice_index four.result 0) (slice_index four.result 1) (slice_index four.result 2) (slice_index four.result 3) _ _ _ _ refl refl refl refl
+    (column_from_0 (key 0) _ _ _ _ (w 0) (x 1) (y 2) (z 3) _ (mixed_sum (byte 0 0) (byte 1 1) (byte 2 2) (byte 3 3))
+    one.ensures.first two.ensures.fourth three.ensures.third four.ensures.second)
+    (column_from_3 (key 1) _ _ _ _ (w 1) (x 2) (y 3) (z 0) _ (mixed_sum (byte 1 0) (byte 2 1) (byte 3 2) (byte 0 3))
+    one.ensures.second two.ensures.first three.ensures.fourth four.ensures.third)
+    (column_from_2 (key 2) _ _ _ _ (w 2) (x 3) (y 0) (z 1) _ (mixed_sum (byte 2 0) (byte 3 1) (byte 0 2) (byte 1 3))
+    one.ensures.third two.ensures.second three.ensures.first four.ensures.fourth)
+    (column_from_1 (key 3) _ _ _ _ (w 3) (x 0) (y 1) (z 2) _ (mixed_sum (byte 3 0) (byte 0 1) (byte 1 2) (byte 2 3))
+    one.ensures.fourth two.ensures.third three.ensures.second four.ensures.first)

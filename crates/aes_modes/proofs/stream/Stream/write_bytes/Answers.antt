@@ -8,7 +8,7 @@ use Rattle.aes_modes.proofs.stream.Stream.write_bytes.Goals as goal
 
 pub loop-i-init : goal.loop-i-init
 unfolding ctr_from
-loop-i-init c = (omega arith, omega arith, λ j e. refl, refl)
+loop-i-init c = (omega arith, omega arith, λ j e. refl, refl, c.start_at-start.ensures)
 
 pub loop-i-preserved : goal.loop-i-preserved
 loop-i-preserved c =
@@ -31,4 +31,5 @@ loop-i-preserved c =
           (c.write_piece.ensures
           ∙ rw (counter_block_at c.loop-i.counter c.args.self.now.counter (number_of c.args.self.now.iv) j i inv.1 e) refl),
       rest_more c.loop-i.output c.args.output.now c.write_piece.new.output at (end - at) end (omega arith) width (omega arith) inv.3,
+      c.go_on.ensures c.loop-i.counter refl inv.4,
     )
