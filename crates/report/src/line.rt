@@ -20,7 +20,7 @@ impl Model for Line {
 }
 
 impl Line {
-    ghost use Rattle.std.specs.Prelude.{◌≡◌, ◌++◌, [], OnOk};
+    ghost use Rattle.std.specs.Prelude.{◌≡◌, ◌++◌, [], OnOk, OnErr};
     ghost use Rattle.std.specs.Fmt.{decimal};
     ghost use Rattle.hex.specs.Hex.{encode_lower};
     ghost use Rattle.report.specs.Texts.{code_text, parameter_text};
@@ -35,41 +35,45 @@ impl Line {
         }
     }
 
-    /// Appends these bytes.
+    /// Appends these bytes. Want of memory changes nothing.
     pub fn text(&mut self, piece: &[u8]) -> Result<(), NoMemory>
-        ensures { OnOk result (self.new ≡ self.old ++ piece.now) }
+        ensures appended { OnOk result (self.new ≡ self.old ++ piece.now) }
+        ensures unchanged { OnErr result (self.new ≡ self.old) }
     {
         self.bytes.extend_from_slice(piece)?;
         Ok(())
     }
 
-    /// Appends a number in decimal digits.
+    /// Appends a number in decimal digits. Want of memory changes nothing.
     pub fn number(&mut self, number: u64) -> Result<(), NoMemory>
-        ensures { OnOk result (self.new ≡ self.old ++ decimal number) }
+        ensures appended { OnOk result (self.new ≡ self.old ++ decimal number) }
+        ensures unchanged { OnErr result (self.new ≡ self.old) }
     {
         let digits = number.to_string(self.alloc)?;
         self.bytes.extend_from_slice(digits.as_bytes())?;
         Ok(())
     }
 
-    /// Appends bytes in lower-case hexadecimal digits, two for each.
+    /// Appends bytes in lower-case hexadecimal digits, two for each. Want of memory changes nothing.
     pub fn hex(&mut self, bytes: &[u8]) -> Result<(), NoMemory>
-        ensures { OnOk result (self.new ≡ self.old ++ encode_lower bytes.now) }
+        ensures appended { OnOk result (self.new ≡ self.old ++ encode_lower bytes.now) }
+        ensures unchanged { OnErr result (self.new ≡ self.old) }
     {
         let digits = hex::encode(self.alloc, bytes)?;
         self.bytes.extend_from_slice(digits.as_bytes())?;
         Ok(())
     }
 
-    /// Appends a code in eight hexadecimal digits.
+    /// Appends a code in eight hexadecimal digits. Want of memory changes nothing.
     pub fn code(&mut self, code: Code) -> Result<(), NoMemory>
-        ensures { OnOk result (self.new ≡ self.old ++ code_text code) }
+        ensures appended { OnOk result (self.new ≡ self.old ++ code_text code) }
+        ensures unchanged { OnErr result (self.new ≡ self.old) }
     {
         self.hex(code.0.to_be_bytes().as_slice())
     }
 
     /// Appends what stands before the output of this index.
-    pub fn parameter(&mut self, index: u64) -> Result<(), NoMemory>
+    pub(crate) fn parameter(&mut self, index: u64) -> Result<(), NoMemory>
         ensures { OnOk result (self.new ≡ self.old ++ parameter_text index) }
     {
         self.text(b" p")?;
