@@ -1,8 +1,10 @@
 -- Lists of instances: the first of a number, and another in its place.
-use Rattle.std.proofs.Common.{ℕ, ◌≡◌, ◌<◌, ◌==◌, suc, zero, true, false, not, cond, List, [], ◌∷◌, None, Some, find, filter, length, get_or, set, refl, sym, ap, ◌∙◌, ⊎_elim, eq-eqb, arith}
-use Rattle.std.proofs.lemmas.Bool.{cases_Bool, cond-true, cond-false, eqb-true}
+use Rattle.std.proofs.Common.{ℕ, ◌≡◌, ◌<◌, ◌+◌, ◌==◌, ◌||◌, nat_eq, suc, zero, true, false, not, cond, List, [], ◌∷◌, None, Some, find, filter, map, length, get_or, set, refl, sym, ap, ◌∙◌, ⊎_elim, eq-eqb, arith}
+use Rattle.std.specs.List.{list_any}
+use Rattle.std.proofs.lemmas.Bool.{cases_Bool, cond-true, cond-false, cond_both, eqb-true, ne_eqb, both_ways}
 use Rattle.alone.specs.declared.running.Instance.{Instance}
 use Rattle.alone.specs.Machine.{is_number, put_instance}
+use Rattle.alone.proofs.Totals.{total, found_here, found_later, nothing_found}
 
 pub found_at : {A : Type 0} (i : ℕ) (xs : List (Instance A)) (place : ℕ) (d : Instance A) → place < length xs → ((k : ℕ) → k < place → is_number i (get_or xs k d) ≡ false) → is_number i (get_or xs place d) ≡ true → find (is_number i) xs ≡ Some (get_or xs place d)
 found_at i [] place d within before here = absurd (omega arith)
@@ -91,4 +93,62 @@ filter_put i new (x ∷ xs) same = ⊎_elim
     ∙ ap (λ b. cond (not b) (x ∷ filter (λ other. not (is_number i other)) (put_instance new xs)) (filter (λ other. not (is_number i other)) (put_instance new xs))) no
     ∙ ap (λ ys. x ∷ ys) (filter_put i new xs same)
     ∙ sym (ap (λ b. cond (not b) (x ∷ filter (λ other. not (is_number i other)) xs) (filter (λ other. not (is_number i other)) xs)) no))
+    (cases_Bool (x.number == i))
+
+-- what was put is what is found
+pub find_put : {A : Type 0} (i : ℕ) (new old : Instance A) (xs : List (Instance A)) → new.number ≡ i → find (is_number i) xs ≡ Some old → find (is_number i) (put_instance new xs) ≡ Some new
+find_put i new old [] same found = absurd (nothing_found old found)
+find_put i new old (x ∷ xs) same found = ⊎_elim
+    (λ (yes : (x.number == i) ≡ true).
+    let here : (x.number == new.number) ≡ true = ap (λ n. x.number == n) same ∙ yes in
+    ap (find (is_number i)) (cond-true (x.number == new.number) (new ∷ xs) (x ∷ put_instance new xs) here)
+    ∙ cond-true (is_number i new) (Some new) (find (is_number i) xs) (eq-eqb new.number i same))
+    (λ (no : (x.number == i) ≡ false).
+    let here : (x.number == new.number) ≡ false = ap (λ n. x.number == n) same ∙ no in
+    ap (find (is_number i)) (cond-false (x.number == new.number) (new ∷ xs) (x ∷ put_instance new xs) here)
+    ∙ cond-false (is_number i x) (Some x) (find (is_number i) (put_instance new xs)) no
+    ∙ find_put i new old xs same (sym (cond-false (is_number i x) (Some x) (find (is_number i) xs) no) ∙ found))
+    (cases_Bool (x.number == i))
+
+-- a sum changes by what the instance that is put has more than the one that was found
+pub total_put : {A : Type 0} (f : Instance A → ℕ) (new old : Instance A) (xs : List (Instance A)) → find (is_number new.number) xs ≡ Some old → total f (put_instance new xs) + f old ≡ total f xs + f new
+total_put f new old [] found = absurd (nothing_found old found)
+total_put f new old (x ∷ xs) found = ⊎_elim
+    (λ (yes : (x.number == new.number) ≡ true).
+    let here : x ≡ old = found_here (is_number new.number) x old xs found yes in
+    let put = ap (total f) (cond-true (x.number == new.number) (new ∷ xs) (x ∷ put_instance new xs) yes) in
+    omega (arith, put, ap f here))
+    (λ (no : (x.number == new.number) ≡ false).
+    let put = ap (total f) (cond-false (x.number == new.number) (new ∷ xs) (x ∷ put_instance new xs) no) in
+    omega (arith, put, total_put f new old xs (found_later (is_number new.number) x old xs found no)))
+    (cases_Bool (x.number == new.number))
+
+-- an instance that is put leaves the numbers
+pub numbers_put : {A : Type 0} (new : Instance A) (xs : List (Instance A)) → map (λ x. x.number) (put_instance new xs) ≡ map (λ x. x.number) xs
+numbers_put new [] = refl
+numbers_put new (x ∷ xs) =
+    cond_both (x.number == new.number) (new ∷ xs) (x ∷ put_instance new xs) (λ ys. map (λ y. y.number) ys ≡ x.number ∷ map (λ y. y.number) xs)
+    (λ yes. ap (λ n. n ∷ map (λ y. y.number) xs) (sym (eqb-true x.number new.number yes)))
+    (λ _. ap (λ ns. x.number ∷ ns) (numbers_put new xs))
+
+-- none of a number is found where all of it went
+pub found_none : {A : Type 0} (i : ℕ) (xs : List (Instance A)) → find (is_number i) (filter (λ other. not (is_number i other)) xs) ≡ None
+found_none i [] = refl
+found_none {A} i (x ∷ xs) = ⊎_elim
+    (λ (yes : (x.number == i) ≡ true).
+    ap (λ b. find (is_number i) (cond (not b) (x ∷ filter (λ (other : Instance A). not (is_number i other)) xs) (filter (λ (other : Instance A). not (is_number i other)) xs))) yes ∙ found_none i xs)
+    (λ (no : (x.number == i) ≡ false).
+    ap (λ b. find (is_number i) (cond (not b) (x ∷ filter (λ (other : Instance A). not (is_number i other)) xs) (filter (λ (other : Instance A). not (is_number i other)) xs))) no
+    ∙ cond-false (x.number == i) (Some x) (find (is_number i) (filter (λ (other : Instance A). not (is_number i other)) xs)) no
+    ∙ found_none i xs)
+    (cases_Bool (x.number == i))
+
+-- a number that stands in the list is found
+pub number_found : {A : Type 0} (i : ℕ) (xs : List (Instance A)) → list_any (nat_eq i) (map (λ x. x.number) xs) ≡ true → find (is_number i) xs ≡ None → ⊥
+number_found i [] h none = both_ways _ refl h
+number_found i (x ∷ xs) h none = ⊎_elim
+    (λ (yes : (x.number == i) ≡ true). nothing_found x (sym none ∙ cond-true (x.number == i) (Some x) (find (is_number i) xs) yes))
+    (λ (no : (x.number == i) ≡ false).
+    let other : nat_eq i x.number ≡ false = ne_eqb i x.number (λ same. both_ways _ no (eq-eqb x.number i (sym same))) in
+    number_found i xs (sym (ap (λ b. b || list_any (nat_eq i) (map (λ (y : Instance _). y.number) xs)) other) ∙ h) (sym (cond-false (x.number == i) (Some x) (find (is_number i) xs) no) ∙ none))
     (cases_Bool (x.number == i))

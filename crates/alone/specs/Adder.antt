@@ -1,6 +1,5 @@
 -- The application of this crate's tests: it keeps a sum, and command 1 adds to it.
 use Rattle.std.specs.Prelude.{ℕ, ◌==◌, Bool, if◌then◌else◌}
-use Rattle.tee_base.specs.declared.codes.Code.{Code}
 use Rattle.app_api.specs.declared.ask.Ask.{Ask}
 use Rattle.app_api.specs.declared.ask.Ask.TheVariants.{Return}
 use Rattle.app_api.specs.declared.ask.Given.{Given}

@@ -1,12 +1,15 @@
 -- The machine that hosts one application alone.
-use Rattle.std.specs.Prelude.{ℕ, ◌==◌, Bool, List, [], ◌∷◌, Option, if◌then◌else◌, find}
+use Rattle.std.specs.Prelude.{ℕ, ◌==◌, Bool, false, List, [], ◌∷◌, Option, None, if◌then◌else◌, find}
 use Rattle.app_api.specs.declared.host.Host.{Host}
 use Rattle.instances.specs.Instances.{Table, no_instances}
 use Rattle.op_queue.specs.Queue.{Queue, empty_queue}
+use Rattle.store_api.specs.Stores.{Store}
+use Rattle.handle_table.specs.declared.handle.Entry.{Entry}
 use Rattle.alone.specs.declared.running.Instance.{Instance}
 
 -- one application's machine: what its instances begin as, its index among the hosts, the seed, the sessions, the instances,
--- the unanswered operations, how many turns were made
+-- the unanswered operations, how many turns were made; its objects, whether the storage is lost, the store that a change left
+-- of which isn't known whether it is kept, if there is one, and the object handles of all instances
 pub record Machine (A : Type 0) : Type 0 where
   pub template : A
   pub index : ℕ
@@ -15,10 +18,14 @@ pub record Machine (A : Type 0) : Type 0 where
   pub instances : List (Instance A)
   pub queue : Queue
   pub turns : ℕ
+  pub store : Store
+  pub lost : Bool
+  pub in_doubt : Option Store
+  pub handles : List Entry
 
--- how each machine begins
-abbrev pub start : {A : Type 0} → Host A → ℕ → List ℕ → Machine A
-start host index seed = record {
+-- how each machine begins, over a store
+abbrev pub start : {A : Type 0} → Host A → ℕ → List ℕ → Store → Machine A
+start host index seed store = record {
   template = host.template;
   index = index;
   seed = seed;
@@ -26,6 +33,10 @@ start host index seed = record {
   instances = [];
   queue = empty_queue;
   turns = 0;
+  store = store;
+  lost = false;
+  in_doubt = None;
+  handles = [];
 }
 
 abbrev pub is_number : {A : Type 0} → ℕ → Instance A → Bool

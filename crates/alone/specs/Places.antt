@@ -9,6 +9,8 @@ use Rattle.app_api.specs.declared.out.Out.TheVariants as outs
 use Rattle.alone.specs.declared.places.Place.{Place}
 use Rattle.alone.specs.declared.places.Place.TheVariants as places
 use Rattle.alone.specs.declared.places.Places.{Places}
+use Rattle.alone.specs.declared.running.Stage.{Stage}
+use Rattle.alone.specs.declared.running.Stage.TheVariants as stages
 use Rattle.alone.specs.declared.reply.Shown.{Shown}
 use Rattle.alone.specs.declared.reply.Shown.TheVariants as shown
 use Rattle.alone.specs.declared.reply.Outputs.{Outputs}
@@ -84,3 +86,10 @@ abbrev pub is_misuse : Places → Outs → Bool
 is_misuse ps os =
     is_too_long os.p0 || is_too_long os.p1 || is_too_long os.p2 || is_too_long os.p3
     || is_misused_at ps.p0 os.p0 || is_misused_at ps.p1 os.p1 || is_misused_at ps.p2 os.p2 || is_misused_at ps.p3 os.p3
+
+-- the output positions of the entry that runs
+abbrev pub places_at : Stage → Places
+places_at (stages.Create session ps) = no_places
+places_at (stages.Start session ps) = ps
+places_at (stages.Invoke session ps) = ps
+places_at (stages.Stop session) = no_places

@@ -1,6 +1,6 @@
--- One step of the machine: a client's call, or a turn of an instance. Numbers of sections are those of TEE Internal Core API 1.3
+-- One step of the machine: a client's call, a turn of an instance, or the loss of the storage. Numbers of sections are those of TEE Internal Core API 1.3
 -- (instances and sessions: 2.1.3; entry points: 4.3) and TEE Client API 1.0 (calls: 4.5.5 to 4.5.7; origins: 4.4.3).
-use Rattle.std.specs.Prelude.{ℕ, ◌+◌, ◌==◌, Bool, true, false, not, ◌&&◌, ◌||◌, List, [], ◌∷◌, ◌++◌, Option, None, Some, Result, Ok, Err, is_some, nat_lt, option_map, if◌then◌else◌, nat_le, filter, map}
+use Rattle.std.specs.Prelude.{ℕ, ◌+◌, ◌==◌, Bool, true, false, not, ◌&&◌, List, [], ◌∷◌, ◌++◌, Option, None, Some, Result, Ok, Err, is_some, nat_lt, option_map, if◌then◌else◌, filter, map}
 use Rattle.tee_base.specs.declared.codes.Code.{Code}
 use Rattle.tee_base.specs.declared.codes.Origin.{Origin}
 use Rattle.tee_base.specs.declared.codes.Origin.TheVariants.{Api, Tee, App}
@@ -12,7 +12,6 @@ use Rattle.app_api.specs.declared.ask.Given.TheVariants as givens
 use Rattle.app_api.specs.declared.ask.Entry.{Entry}
 use Rattle.app_api.specs.declared.ask.Entry.TheVariants as entries
 use Rattle.app_api.specs.declared.ask.Ask.{Ask}
-use Rattle.app_api.specs.declared.ask.Ask.TheVariants as asked
 use Rattle.app_api.specs.declared.out.Outs.{Outs}
 use Rattle.app_api.specs.Params.{first_oversized}
 use Rattle.app_api.specs.Outs.{no_outs}
@@ -25,38 +24,24 @@ use Rattle.instances.specs.Instances.{session_of, facts_of, admission_of, entere
 use Rattle.op_queue.specs.declared.operation.Operation.{Operation}
 use Rattle.op_queue.specs.declared.operation.Begun.{Begun}
 use Rattle.op_queue.specs.Queue.{is_full, submitted, skipped, first_waiting, begun_at, after_begin, without, operation_of, facts_of as operation_facts}
-use Rattle.alone.specs.declared.places.Places.{Places}
 use Rattle.alone.specs.declared.reply.Outputs.{Outputs}
 use Rattle.alone.specs.declared.reply.Reply.{Reply}
-use Rattle.alone.specs.declared.running.Ending.{Ending}
+use Rattle.object_asks.specs.declared.outcome.Ending.{Ending}
 use Rattle.alone.specs.declared.running.Instance.{Instance}
 use Rattle.alone.specs.declared.running.Running.{Running}
 use Rattle.alone.specs.declared.running.Stage.{Stage}
 use Rattle.alone.specs.declared.running.Stage.TheVariants as stages
 use Rattle.alone.specs.declared.running.Waits.{Waits}
 use Rattle.alone.specs.declared.running.Waits.TheVariants as waits
+use Rattle.handle_table.specs.Handles.{all_closed}
+use Rattle.store_api.specs.Stores.{Store}
+use Rattle.object_asks.specs.Asks.{Outcome, Answered, Returned, Panicked, Course, Settled, ComesToStore, Serving, Serves, Fails, Damaged, came_of, changes_store, comes_to_store, may_need_store, refused}
+use Rattle.alone.specs.Asks.{course_after}
+use Rattle.object_asks.specs.Codes.{success, bad_parameters, bad_state, busy, not_implemented, storage_not_available, target_dead}
+use Rattle.object_asks.specs.Handles.{settled}
 use Rattle.alone.specs.Machine.{Machine, is_number, instance_at, with_instance}
-use Rattle.alone.specs.Places.{no_places, places_of, delivered, is_misuse}
+use Rattle.alone.specs.Places.{places_of, delivered}
 use Rattle.alone.specs.Replies.{no_outputs}
-
--- codes
-abbrev pub success : Code
-success = record { 0 = 0 }
-
-abbrev pub bad_parameters : Code
-bad_parameters = record { 0 = 4294901766 }
-
-abbrev pub bad_state : Code
-bad_state = record { 0 = 4294901767 }
-
-abbrev pub not_implemented : Code
-not_implemented = record { 0 = 4294901769 }
-
-abbrev pub busy : Code
-busy = record { 0 = 4294901773 }
-
-abbrev pub target_dead : Code
-target_dead = record { 0 = 4294914084 }
 
 -- the machine after an event, and the replies to the client operations that it answered, in ascending order
 pub record Stepped (A : Type 0) : Type 0 where
@@ -190,13 +175,14 @@ answered m inst op code outputs = record {
 abbrev pub belongs_to : ℕ → Operation → Bool
 belongs_to i o = o.instance == i
 
--- create failed: the instance ends, and with it its sessions and its operations, which are answered with the code
+-- create failed: the instance ends, and with it its sessions, its handles and its operations, which are answered with the code
 abbrev pub create_failed : {A : Type 0} → Machine A → Instance A → Code → Stepped A
 create_failed m inst code = record {
   machine = record m {
     table = ended m.table inst.number;
     instances = filter (λ other. not (is_number inst.number other)) m.instances;
     queue = record m.queue { operations = filter (λ o. not (belongs_to inst.number o)) m.queue.operations };
+    handles = (all_closed (settled m.handles) inst.number).handles;
   };
   replies = map (λ o. reply_of o.number code App no_outputs) (filter (belongs_to inst.number) m.queue.operations);
   instance = 0;
@@ -215,54 +201,111 @@ returned m inst op (stages.Start session places) code outs =
 returned m inst op (stages.Invoke session places) code outs = answered m inst op code (delivered places outs)
 returned m inst op (stages.Stop session) code outs = answered (record m { table = session_removed m.table session }) inst op success no_outputs
 
--- how an entry ends at an ask that isn't built
+-- how an entry ends at a panic, until panics are built
 abbrev pub not_built : Ending
 not_built = record { code = not_implemented; outs = no_outs }
 
--- the output positions of the entry that runs
-abbrev pub places_at : Stage → Places
-places_at (stages.Create session ps) = no_places
-places_at (stages.Start session places) = places
-places_at (stages.Invoke session places) = places
-places_at (stages.Stop session) = no_places
+-- the machine after the ask of the entry that runs: an answer is given next, and the ask is counted
+abbrev pub acted : {A : Type 0} → Machine A → Instance A → Running → Outcome (Machine A) → Stepped A
+acted m inst r (Answered after answer) = quiet (with_instance after (record inst { running = Some (record { op = r.op; stage = r.stage; waits = waits.Given (givens.Answer answer); asks = r.asks + 1 }) }))
+acted m inst r (Returned code outs) = returned m inst r.op r.stage code outs
+acted m inst r Panicked = returned m inst r.op r.stage not_built.code not_built.outs
 
--- how the entry ends at what it asks for: only a return is built. Any other ask, misuse, and an ask after 65,536 others end it too
-abbrev pub ending_of : Stage → ℕ → Ask → Ending
-ending_of stage made (asked.Return code outs) = if nat_le 65536 made || is_misuse (places_at stage) outs then not_built else record { code = code; outs = outs }
-ending_of stage made ask = not_built
+-- the store that the ask would have left
+abbrev pub store_left : {A : Type 0} → Machine A → Outcome (Machine A) → Store
+store_left m (Answered after answer) = after.store
+store_left m (Returned code outs) = m.store
+store_left m Panicked = m.store
 
-abbrev pub acted : {A : Type 0} → Machine A → Instance A → Running → Ending → Stepped A
-acted m inst r end = returned m inst r.op r.stage end.code end.outs
+-- the storage is lost, and where the ask was to change the store, what it would have left is in doubt
+abbrev pub lost_at : {A : Type 0} → Machine A → Bool → Outcome (Machine A) → Machine A
+lost_at m changes plain = record m { lost = true; in_doubt = if changes then Some (store_left m plain) else m.in_doubt }
+
+-- what comes of the ask in a turn in which the store does so
+abbrev pub served : {A : Type 0} → Serving → Machine A → Ask → Course (Machine A) → Outcome (Machine A)
+served serving m ask (Settled outcome) = outcome
+served Serves m ask (ComesToStore kept plain) = came_of Serves m.lost (ComesToStore kept plain)
+served Fails m ask (ComesToStore kept plain) = refused (lost_at kept (changes_store ask) plain) storage_not_available
+served Damaged m ask (ComesToStore kept plain) = came_of Damaged m.lost (ComesToStore kept plain)
 
 -- ---- a turn
 
-abbrev pub went_on : {A : Type 0} → (A → Given → A) → (A → Given → Ask) → Machine A → Instance A → Running → Waits → Stepped A
-went_on next asks m inst r (waits.Given given) = quiet (thought next asks m inst r given)
-went_on next asks m inst r (waits.Ask ask) = acted m inst r (ending_of r.stage r.asks ask)
+abbrev pub went_on : {A : Type 0} → (A → Given → A) → (A → Given → Ask) → Serving → Machine A → Instance A → Running → Waits → Stepped A
+went_on next asks serving m inst r (waits.Given given) = quiet (thought next asks m inst r given)
+went_on next asks serving m inst r (waits.Ask ask) = acted m inst r (served serving m ask (course_after r.asks m inst.number r.stage ask))
 
-abbrev pub turned_by : {A : Type 0} → (A → Given → A) → (A → Given → Ask) → Machine A → Instance A → Option Running → Stepped A
-turned_by next asks m inst None = quiet (begun m inst)
-turned_by next asks m inst (Some r) = went_on next asks m inst r r.waits
+abbrev pub turned_by : {A : Type 0} → (A → Given → A) → (A → Given → Ask) → Serving → Machine A → Instance A → Option Running → Stepped A
+turned_by next asks serving m inst None = quiet (begun m inst)
+turned_by next asks serving m inst (Some r) = went_on next asks serving m inst r r.waits
 
-abbrev pub turned_at : {A : Type 0} → (A → Given → A) → (A → Given → Ask) → Machine A → Option (Instance A) → Stepped A
-turned_at next asks m None = quiet m
-turned_at next asks m (Some inst) = turned_by next asks m inst inst.running
+abbrev pub turned_at : {A : Type 0} → (A → Given → A) → (A → Given → Ask) → Serving → Machine A → Option (Instance A) → Stepped A
+turned_at next asks serving m None = quiet m
+turned_at next asks serving m (Some inst) = turned_by next asks serving m inst inst.running
 
--- a turn of an instance: the entry that runs goes on, or the next operation begins, or nothing happens. Each turn counts
-unfoldable pub turned : {A : Type 0} → (A → Given → A) → (A → Given → Ask) → Machine A → ℕ → Stepped A
-turned next asks m i = let now = record m { turns = m.turns + 1 } in turned_at next asks now (instance_at now i)
+-- a turn of an instance in which the store does so: the entry that runs goes on, or the next operation begins, or nothing
+-- happens. Each turn counts
+unfoldable pub turned_as : {A : Type 0} → (A → Given → A) → (A → Given → Ask) → Serving → Machine A → ℕ → Stepped A
+turned_as next asks serving m i = let now = record m { turns = m.turns + 1 } in turned_at next asks serving now (instance_at now i)
+
+-- a turn in which the store serves
+abbrev pub turned : {A : Type 0} → (A → Given → A) → (A → Given → Ask) → Machine A → ℕ → Stepped A
+turned next asks m i = turned_as next asks Serves m i
 
 -- the operation was called, and is no longer unanswered
 abbrev pub is_answered : {A : Type 0} → Machine A → ℕ → Bool
 is_answered m op = nat_lt op m.queue.next && not (is_some (option_map operation_facts (operation_of m.queue op)))
 
+-- ---- what waits in an instance
+
+-- a fact about the ask that waits, false where none does
+abbrev pub of_waits : (ℕ → Stage → Ask → Bool) → Running → Waits → Bool
+of_waits test r (waits.Given given) = false
+of_waits test r (waits.Ask ask) = test r.asks r.stage ask
+
+abbrev pub of_running : (ℕ → Stage → Ask → Bool) → Option Running → Bool
+of_running test None = false
+of_running test (Some r) = of_waits test r r.waits
+
+abbrev pub of_instance : {A : Type 0} → (ℕ → Stage → Ask → Bool) → Option (Instance A) → Bool
+of_instance test None = false
+of_instance test (Some inst) = of_running test inst.running
+
+-- an ask waits in the instance that may need the store
+abbrev pub needs_store : {A : Type 0} → Machine A → ℕ → Bool
+needs_store m i = of_instance (λ made stage ask. may_need_store ask) (instance_at m i)
+
+-- an ask waits in the instance that is to change the store
+abbrev pub is_changing : {A : Type 0} → Machine A → ℕ → Bool
+is_changing m i = of_instance (λ made stage ask. changes_store ask) (instance_at m i)
+
+-- an ask waits in the instance, the entry has made fewer than 65,536, neither misuse nor a refusal stands before the store, and
+-- it comes to the store
+abbrev pub reaches : {A : Type 0} → Machine A → ℕ → Bool
+reaches m i = of_instance (λ made stage ask. comes_to_store (course_after made m i stage ask)) (instance_at m i)
+
 -- ---- events
 
+-- a client's call; a turn; a turn in which a call of the store fails; one in which what the store reads is damaged; and that the
+-- storage is lost for another reason
 pub data Event : Type 0 where
   Called : (client : ℕ) (call : Call) → Event
   Turned : (instance : ℕ) → Event
+  TurnLost : (instance : ℕ) → Event
+  Corrupted : (instance : ℕ) → Event
+  Lost : Event
+
+-- where each event may stand
+abbrev pub may_stand : {A : Type 0} → Machine A → Event → Bool
+may_stand m (Called client call) = true
+may_stand m (Turned instance) = true
+may_stand m (TurnLost instance) = reaches m instance && not m.lost
+may_stand m (Corrupted instance) = reaches m instance && not m.lost
+may_stand m Lost = not m.lost
 
 -- one step; next and asks are the application's two functions
 abbrev pub step : {A : Type 0} → (A → Given → A) → (A → Given → Ask) → Machine A → Event → Stepped A
 step next asks m (Called client call) = called m client call
 step next asks m (Turned instance) = turned next asks m instance
+step next asks m (TurnLost instance) = turned_as next asks Fails m instance
+step next asks m (Corrupted instance) = turned_as next asks Damaged m instance
+step next asks m Lost = quiet (record m { lost = true })

@@ -1,8 +1,7 @@
 //! An instance of the application, and the entry that it runs.
 
 use crate::places::Places;
-use app_api::{Ask, Given, Outs, Params};
-use tee_base::Code;
+use app_api::{Ask, Given, Params};
 
 /// The entry that runs, with what its return needs.
 #[derive(Debug, Drop)]
@@ -42,11 +41,4 @@ pub struct Instance<A> {
     /// Its create entry has succeeded.
     pub created: bool,
     pub running: Option<Running>,
-}
-
-/// What an entry returns.
-#[derive(Debug, Drop)]
-pub struct Ending {
-    pub code: Code,
-    pub outs: Outs,
 }

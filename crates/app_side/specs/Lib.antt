@@ -1,2 +1,4 @@
 pub mod Places
+pub mod Probe
 pub mod Represents
+pub mod Serving

@@ -2,13 +2,15 @@
 #![tactic(auto)]
 
 mod calls;
-mod deliver;
-mod entries;
 mod place;
 mod public;
 mod returns;
+mod serving;
 mod side;
+#[cfg(test)]
+mod tests;
 mod turns;
+mod waiting;
 
-pub use alone::{Call, Replies, Reply};
-pub use side::{AppSide, Called};
+pub use alone::{Call, Replies, Reply, TurnKind};
+pub use side::{AppSide, Called, Turned};

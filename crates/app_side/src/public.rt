@@ -1,16 +1,20 @@
 //! The calls of a running application, each of them a step of every machine that the value represents.
 
-ghost use Rattle.std.specs.Prelude.{◌≡◌, IfOk, OnErr};
+ghost use Rattle.std.specs.Prelude.{◌≡◌, IfOk, OnOk, OnErr, IsTrue, false, true};
+ghost use Rattle.store_api.specs.Stores.{Store};
 ghost use Rattle.alone.specs.Machine.{Machine, start};
-ghost use Rattle.alone.specs.Step.{called, turned, is_answered};
-ghost use Rattle.app_side.specs.Represents.{Represents, IsOneInstance};
+ghost use Rattle.alone.specs.Step.{called, is_answered, is_changing, may_stand, step, Lost};
+ghost use Rattle.app_side.specs.Represents.{event_of, is_lost, Represents, IsOneInstance};
+ghost use Rattle.object_asks.specs.Serving.{HasStanding, IsUndamaged, SaysChange, ShowsDamage};
 
-use crate::side::{AppSide, Called};
-use alone::{Call, Replies};
+use crate::side::{AppSide, Called, Turned};
+use alone::Call;
 use app_api::{Application, Host};
 use instances::Instances;
+use object_asks::Handles;
 use op_queue::OpQueue;
 use std::alloc::Global;
+use store_api::AppStore;
 use tee_base::NoMemory;
 
 /// How many calls are numbered and turns are counted: more than any script makes.
@@ -26,7 +30,8 @@ impl<A: Application> AppSide<A> {
         seed: [u8; 32],
     ) -> Result<AppSide<A>, NoMemory>
         requires { IsOneInstance host }
-        ensures { IfOk result (λ side. Represents side (start host application seed)) }
+        ensures start { IfOk result (λ side. (store : Store) → Represents side (start host application seed store)) }
+        ensures lost { IfOk result (λ side. is_lost side ≡ false) }
     {
         Ok(AppSide {
             alloc,
@@ -37,6 +42,9 @@ impl<A: Application> AppSide<A> {
             instances: Vec::new(alloc),
             queue: OpQueue::new(alloc),
             turns: 0,
+            lost: false,
+            in_doubt: false,
+            handles: Handles::new(alloc),
         })
     }
 
@@ -47,6 +55,7 @@ impl<A: Application> AppSide<A> {
         ensures replies { IfOk result (λ made. (m : Machine A) → Represents self.old m → made.replies ≡ (called m client call).replies) }
         ensures instance { IfOk result (λ made. (m : Machine A) → Represents self.old m → made.instance ≡ (called m client call).instance) }
         ensures number { IfOk result (λ made. (m : Machine A) → Represents self.old m → made.op ≡ m.queue.next) }
+        ensures lost { is_lost self.new ≡ is_lost self.old }
         ensures err { OnErr result ((m : Machine A) → Represents self.old m → Represents self.new m) }
     {
         if self.queue.next_number() >= MOST {
@@ -55,15 +64,44 @@ impl<A: Application> AppSide<A> {
         self.serve(client, call)
     }
 
-    /// A turn of the instance: its entry goes on, or its next operation begins, or nothing happens.
-    pub fn turn(&mut self, instance: u8) -> Result<Replies, NoMemory>
-        ensures ok { IfOk result (λ given. (m : Machine A) → Represents self.old m → Represents self.new (turned A.next A.asks m instance).machine) }
-        ensures replies { IfOk result (λ given. (m : Machine A) → Represents self.old m → given ≡ (turned A.next A.asks m instance).replies) }
+    /// A turn of the instance: its entry goes on, or its next operation begins, or nothing happens. The store handed in keeps
+    /// the application's objects; a turn takes all its memory before it changes it, which it does at most once.
+    ///
+    /// # Errors
+    ///
+    /// Want of memory ends the run: the entry that ran is gone.
+    pub fn turn<T: AppStore>(&mut self, instance: u8, store: &mut T) -> Result<Turned, NoMemory>
+        requires { is_lost self.old ≡ (T.standing store.old).lost }
+        ensures step { IfOk result (λ turned. IsTrue T.tells → (m : Machine A) → Represents self.old m → m.store ≡ (T.kept store.old).store → Represents self.new (step A.next A.asks m (event_of turned.kind instance)).machine) }
+        ensures store { IfOk result (λ turned. IsTrue T.tells → (m : Machine A) → Represents self.old m → m.store ≡ (T.kept store.old).store → (step A.next A.asks m (event_of turned.kind instance)).machine.store ≡ (T.kept store.new).store) }
+        ensures replies { IfOk result (λ turned. IsTrue T.tells → (m : Machine A) → Represents self.old m → m.store ≡ (T.kept store.old).store → turned.replies ≡ (step A.next A.asks m (event_of turned.kind instance)).replies) }
+        ensures stands { IfOk result (λ turned. IsTrue T.tells → (m : Machine A) → Represents self.old m → m.store ≡ (T.kept store.old).store → may_stand m (event_of turned.kind instance) ≡ true) }
+        ensures change { IfOk result (λ turned. (m : Machine A) → Represents self.old m → SaysChange turned.kind (is_changing m instance)) }
+        ensures standing { IfOk result (λ turned. HasStanding turned.kind (T.standing store.old) (T.standing store.new)) }
+        ensures damage { IfOk result (λ turned. ShowsDamage turned.kind (T.damage store.new)) }
+        ensures honest { IfOk result (λ turned. T.honest store.old → T.honest store.new × IsUndamaged turned.kind) }
+        ensures lost { OnOk result (is_lost self.new ≡ (T.standing store.new).lost) }
     {
         if self.turns >= MOST {
             return Err(NoMemory);
         }
-        self.advance(instance)
+        self.advance(store, instance)
+    }
+
+    /// The storage is lost, for a reason that lies outside of this application.
+    pub fn lose(&mut self)
+        requires { is_lost self.old ≡ false }
+        ensures step { (m : Machine A) → Represents self.old m → Represents self.new (step A.next A.asks m Lost).machine }
+        ensures lost { is_lost self.new ≡ true }
+    {
+        self.lost = true;
+    }
+
+    /// How many turns were made so far.
+    pub fn turns(&self) -> u64
+        ensures { (m : Machine A) → Represents self.now m → result ≡ m.turns }
+    {
+        self.turns
     }
 
     /// Whether the operation was called and is answered.

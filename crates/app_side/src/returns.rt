@@ -10,10 +10,8 @@ ghost use Rattle.alone.specs.Step.{answered, belongs_to, create_failed, reply_of
 ghost use Rattle.app_side.specs.Places.{IsPlace};
 ghost use Rattle.app_side.specs.Represents.{machine_of, IsTurned};
 
-use crate::deliver::deliver;
-use crate::entries::start_entry;
 use crate::side::AppSide;
-use alone::{Ending, Instance, Outputs, REPLIES, Replies, Reply, Stage};
+use alone::{Ending, Instance, Outputs, REPLIES, Replies, Reply, Stage, deliver, start_entry};
 use app_api::{Application, Params};
 use instances::SessionState;
 use op_queue::Operation;
@@ -96,6 +94,7 @@ impl<A: Application> AppSide<A> {
         let replies = failures(self.queue.operations(), number, code)?;
         self.queue.clear(number);
         self.table.end(number);
+        self.handles.close_all(number);
         leave_out(&mut self.instances, number);
         Ok(replies)
     }

@@ -1,13 +1,15 @@
 //! What is kept of a running application.
 
-use alone::{Instance, Replies};
+use alone::{Instance, Replies, TurnKind};
 use app_api::{Application, Host};
 use instances::Instances;
+use object_asks::Handles;
 use op_queue::OpQueue;
 use std::alloc::Global;
 use tee_base::NoMemory;
 
-/// A running application: its instances, its sessions and its unanswered operations.
+/// A running application: its instances, its sessions, its unanswered operations and its handles. Its objects are kept
+/// elsewhere.
 #[derive(Drop)]
 pub struct AppSide<A> {
     pub(crate) alloc: Global,
@@ -18,6 +20,11 @@ pub struct AppSide<A> {
     pub(crate) instances: Vec<Instance<A>>,
     pub(crate) queue: OpQueue,
     pub(crate) turns: u64,
+    /// Whether the storage is lost.
+    pub(crate) lost: bool,
+    /// Whether a change is in doubt.
+    pub(crate) in_doubt: bool,
+    pub(crate) handles: Handles,
 }
 
 /// What became of a call.
@@ -27,5 +34,12 @@ pub struct Called {
     pub op: u64,
     /// The instance for which it waits, 0 where it is answered already.
     pub instance: u8,
+    pub replies: Replies,
+}
+
+/// What became of a turn.
+#[derive(Debug, Drop)]
+pub struct Turned {
+    pub kind: TurnKind,
     pub replies: Replies,
 }

@@ -1,5 +1,5 @@
--- What a status of reading says of a text that is told, and the one host.
-use Rattle.std.proofs.Common.{◌≡◌, ◌≤◌, ◌⊎◌, ◌++◌, ℕ, List, [], ◌∷◌, Option, Some, length, length-append, refl, sym, ap, subst, ◌∙◌, inl, inr, arith}
+-- What a status of reading says of a text that is told.
+use Rattle.std.proofs.Common.{◌≡◌, ◌<◌, ◌≤◌, ◌⊎◌, ℕ, List, Option, Some, length, refl, ap, subst, inl, inr, arith}
 use Rattle.app_api.specs.declared.host.Host.{Host}
 use Rattle.app_api.specs.Hosts.{HostsFit}
 use Rattle.script.specs.declared.line.Line.{Line}
@@ -9,7 +9,7 @@ use Rattle.tee_base.specs.Faults.{Rose}
 use Rattle.tee_base.specs.Transfer.{HasMoreThan}
 use Rattle.tee_top.specs.declared.status.Status.{Status}
 use Rattle.tee_top.specs.declared.status.Status.TheVariants.{Done, BadWords, BadLine, TooLong, NoMemory, ReadFault, WriteFault}
-use Rattle.tee_top.specs.Runs.{IsReadStatus, IsText, IsBadText, IsBadAt}
+use Rattle.tee_top.specs.Runs.{IsReadStatus, IsText, IsBadText, IsBadAt, IsWithin}
 
 -- what reading says when it isn't Ok
 pub record Says {A : Type 0} (hosts : List (Host A)) (left : Option (List ℕ)) (before after : ℕ) (status : Status) : Type 0 where
@@ -24,6 +24,9 @@ module _ {A : Type 0} (hosts : List (Host A)) (fit : HostsFit hosts) (left : Opt
 
   too_long_for : left ≡ Some text → length text ≤ 1048576 → HasMoreThan 1048576 left → ⊥
   too_long_for told within more = let longer = subst (HasMoreThan 1048576) told more in omega (arith, longer, within)
+
+  pub within_for : left ≡ Some text → 1048576 < length text → IsWithin left → ⊥
+  within_for told beyond within = let shorter = subst IsWithin told within in omega (arith, shorter, beyond)
 
   pub bad_line_told : (status : Status) (n : ℕ) → Says hosts left before after status → left ≡ Some text → length text ≤ 1048576 → ¬ Rose before after → IsBadText hosts text n → (status ≡ BadLine n) ⊎ (status ≡ NoMemory)
   bad_line_told Done n says told within unfailed bad = absurd says.few
@@ -43,10 +46,11 @@ module _ {A : Type 0} (hosts : List (Host A)) (fit : HostsFit hosts) (left : Opt
   script_told ReadFault script says told within unfailed good = absurd (unfailed (says.fault refl))
   script_told NoMemory script says told within unfailed good = inr refl
 
--- the last of one is the one
-pub only_host : {X : Type 0} (xs ys : List X) (x y : X) → xs ≡ y ∷ [] → xs ≡ ys ++ x ∷ [] → xs ≡ x ∷ []
-only_host xs [] x y one last = last
-only_host {X} xs (z ∷ zs) x y one last = absurd (longer zs x y (ap length (sym one ∙ last)))
-  where
-    longer : (zs : List X) (x y : X) → length (y ∷ []) ≡ length (z ∷ (zs ++ x ∷ [])) → ⊥
-    longer zs x y e = omega (arith, e, length-append zs (x ∷ []))
+  pub too_long_told : (status : Status) → Says hosts left before after status → ((n : ℕ) → status ≡ BadLine n → IsWithin left) → left ≡ Some text → 1048576 < length text → ¬ Rose before after → (status ≡ TooLong) ⊎ (status ≡ NoMemory)
+  too_long_told Done says within told beyond unfailed = absurd says.few
+  too_long_told BadWords says within told beyond unfailed = absurd says.few
+  too_long_told WriteFault says within told beyond unfailed = absurd says.few
+  too_long_told (BadLine n) says within told beyond unfailed = absurd (within_for told beyond (within n refl))
+  too_long_told TooLong says within told beyond unfailed = inl refl
+  too_long_told ReadFault says within told beyond unfailed = absurd (unfailed (says.fault refl))
+  too_long_told NoMemory says within told beyond unfailed = inr refl

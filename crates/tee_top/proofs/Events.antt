@@ -1,113 +1,104 @@
 -- Runs of events, one part after another.
-use Rattle.std.proofs.Common.{◌≡◌, ◌++◌, ◌<◌, ◌≤◌, ◌-◌, ◌+◌, ℕ, zero, suc, List, [], ◌∷◌, Option, Result, Ok, Err, IsErr, Bool, true, false, cond, refl, sym, ◌∙◌, ap, subst, append_assoc, append-nil, arith}
+use Rattle.std.proofs.Common.{◌≡◌, ◌++◌, ◌≤◌, ℕ, zero, suc, List, [], ◌∷◌, Option, None, Some, Result, Ok, Err, IsErr, Bool, true, false, length, refl, sym, ◌∙◌, ap, subst, append_assoc, append-nil, arith}
+use Rattle.std.specs.Prelude.{slice_get, slice_index_or, slice_set}
 use Rattle.std.proofs.lemmas.Bool.{both_ways}
+use Rattle.std.proofs.lemmas.Grind.{flat_map-append}
 use Rattle.std.specs.Io.KnownBytes.{Appends}
 use Rattle.std.proofs.KnownBytes.{Appends-nil, Appends-trans}
 use Rattle.tee_base.specs.Transfer.{AppendsFront}
 use Rattle.app_api.specs.declared.ask.Ask.{Ask}
 use Rattle.app_api.specs.declared.ask.Given.{Given}
-use Rattle.alone.specs.Machine.{Machine}
 use Rattle.app_api.specs.declared.call.Call.{Call}
+use Rattle.alone.specs.Machine.{Machine}
 use Rattle.alone.specs.declared.reply.Reply.{Reply}
-use Rattle.alone.specs.Step.{Event, Called, Turned, step, called, turned, is_answered}
+use Rattle.alone.specs.Runs.{events_of_call, replies_to, turns_of_call}
+use Rattle.alone.specs.Step.{Event, Called, step}
+use Rattle.report.specs.Texts.{reply_text}
 use Rattle.script.specs.declared.line.Line.TheVariants as lines
+use Rattle.tee_core.specs.declared.happened.Happened.{Happened}
+use Rattle.tee_core.specs.Happenings.{happening, replying, told_of_call, told_with}
+use Rattle.tee_core.specs.World.{World, AppEvent, called_at, events_at, moved_at, replied_at, world_after, world_replies, world_step}
+use Rattle.tee_core.proofs.Worlds.{get_set}
 use Rattle.tee_top.specs.Runs.{Writes}
-use Rattle.tee_top.specs.Transcript.{replies_text, machine_after, text_of, turns_until, turns_of_call, events_of_line, most_turns}
+use Rattle.tee_top.specs.Told.{told_text}
+use Rattle.tee_top.specs.Transcript.{line_events, replies_text, text_of}
 use Rattle.tee_top.proofs.Writing.{front_whole, front_after, front_longer}
 
 module _ {A : Type 0} (next : A → Given → A) (asks : A → Given → Ask) where
-  pub machine_after_both : (m : Machine A) (xs ys : List Event) → machine_after next asks m (xs ++ ys) ≡ machine_after next asks (machine_after next asks m xs) ys
-  machine_after_both m [] ys = refl
-  machine_after_both m (x ∷ xs) ys = machine_after_both (step next asks m x).machine xs ys
+  pub world_after_both : (w : World A) (xs ys : List AppEvent) → world_after next asks w (xs ++ ys) ≡ world_after next asks (world_after next asks w xs) ys
+  world_after_both w [] ys = refl
+  world_after_both w (x ∷ xs) ys = world_after_both (world_step next asks w x) xs ys
 
-  pub text_of_both : (name : List ℕ) (m : Machine A) (xs ys : List Event) → text_of next asks name m (xs ++ ys) ≡ text_of next asks name m xs ++ text_of next asks name (machine_after next asks m xs) ys
-  text_of_both name m [] ys = refl
-  text_of_both name m (x ∷ xs) ys =
-      let here = replies_text name (step next asks m x).replies in
-      ap (λ zs. here ++ zs) (text_of_both name (step next asks m x).machine xs ys)
-      ∙ sym (append_assoc here (text_of next asks name (step next asks m x).machine xs) (text_of next asks name (machine_after next asks (step next asks m x).machine xs) ys))
+  pub text_of_both : (names : List (List ℕ)) (w : World A) (xs ys : List AppEvent) → text_of next asks names w (xs ++ ys) ≡ text_of next asks names w xs ++ text_of next asks names (world_after next asks w xs) ys
+  text_of_both names w [] ys = refl
+  text_of_both names w (x ∷ xs) ys =
+      let here = replies_text (slice_index_or names x.app []) (world_replies next asks w x) in
+      ap (λ zs. here ++ zs) (text_of_both names (world_step next asks w x) xs ys)
+      ∙ sym (append_assoc here (text_of next asks names (world_step next asks w x) xs) (text_of next asks names (world_after next asks (world_step next asks w x) xs) ys))
 
-  -- turns end where the operation is answered
-  pub turns_done : (k : ℕ) (m : Machine A) (i op : ℕ) → is_answered m op ≡ true → turns_until next asks k m i op ≡ []
-  turns_done zero m i op h = refl
-  turns_done (suc k) m i op h = ap (λ b. cond b [] (Turned i ∷ turns_until next asks k (turned next asks m i).machine i op)) h
-
-  pub turns_none : (k : ℕ) (m : Machine A) (i op : ℕ) → k ≡ 0 → turns_until next asks k m i op ≡ []
-  turns_none k m i op h = ap (λ n. turns_until next asks n m i op) h
-
-  -- and go on where it isn't
-  pub turns_on : (k j : ℕ) (m : Machine A) (i op : ℕ) → k ≡ suc j → is_answered m op ≡ false → turns_until next asks k m i op ≡ (Turned i ∷ []) ++ turns_until next asks j (turned next asks m i).machine i op
-  turns_on k j m i op e h =
-      ap (λ n. turns_until next asks n m i op) e
-      ∙ ap (λ b. cond b [] (Turned i ∷ turns_until next asks j (turned next asks m i).machine i op)) h
-
-  -- a run of all these events has come to a machine that is stood for, before what rest says of it, and a front of the text was appended
-  pub record Along (name : List ℕ) (Stands : Machine A → Type 0) (m : Machine A) (all : List Event) (rest : Machine A → List Event) (old new : Option (List ℕ)) : Type 0 where
-    pub now : Machine A
+  -- a run of all these events has come to a world that is stood for, before what rest says of it, and a front of the text was appended
+  pub record Along (names : List (List ℕ)) (Stands : World A → Type 0) (m : World A) (all : List AppEvent) (rest : World A → List AppEvent) (old new : Option (List ℕ)) : Type 0 where
+    pub now : World A
     pub front : List ℕ
     pub stands : Stands now
-    pub machine : machine_after next asks now (rest now) ≡ machine_after next asks m all
-    pub text : front ++ text_of next asks name now (rest now) ≡ text_of next asks name m all
+    pub machine : world_after next asks now (rest now) ≡ world_after next asks m all
+    pub text : front ++ text_of next asks names now (rest now) ≡ text_of next asks names m all
     pub appended : Appends old new front
 
-  pub along_start : (name : List ℕ) (Stands : Machine A → Type 0) (m : Machine A) (all : List Event) (rest : Machine A → List Event) (old : Option (List ℕ)) → Stands m → rest m ≡ all → Along name Stands m all rest old old
-  along_start name Stands m all rest old stands e = record {
+  pub along_start : (names : List (List ℕ)) (Stands : World A → Type 0) (m : World A) (all : List AppEvent) (rest : World A → List AppEvent) (old : Option (List ℕ)) → Stands m → rest m ≡ all → Along names Stands m all rest old old
+  along_start names Stands m all rest old stands e = record {
     now = m;
     front = [];
     stands = stands;
-    machine = ap (machine_after next asks m) e;
-    text = ap (text_of next asks name m) e;
+    machine = ap (world_after next asks m) e;
+    text = ap (text_of next asks names m) e;
     appended = Appends-nil old;
   }
 
   -- some more events
-  pub along_more : (name : List ℕ) (Stands Stands_then : Machine A → Type 0) (m : Machine A) (all : List Event) (rest rest_then : Machine A → List Event) (old mid new : Option (List ℕ))
-      → (run : Along name Stands m all rest old mid) (events : List Event) (text : List ℕ)
-      → rest run.now ≡ events ++ rest_then (machine_after next asks run.now events)
-      → Stands_then (machine_after next asks run.now events)
-      → text_of next asks name run.now events ≡ text → Appends mid new text
-      → Along name Stands_then m all rest_then old new
-  along_more name Stands Stands_then m all rest rest_then old mid new run events text e stands t h =
-      let after = machine_after next asks run.now events in
+  pub along_more : (names : List (List ℕ)) (Stands Stands_then : World A → Type 0) (m : World A) (all : List AppEvent) (rest rest_then : World A → List AppEvent) (old mid new : Option (List ℕ))
+      → (run : Along names Stands m all rest old mid) (events : List AppEvent) (text : List ℕ)
+      → rest run.now ≡ events ++ rest_then (world_after next asks run.now events)
+      → Stands_then (world_after next asks run.now events)
+      → text_of next asks names run.now events ≡ text → Appends mid new text
+      → Along names Stands_then m all rest_then old new
+  along_more names Stands Stands_then m all rest rest_then old mid new run events text e stands t h =
+      let after = world_after next asks run.now events in
       record {
         now = after;
         front = run.front ++ text;
         stands = stands;
-        machine = sym (machine_after_both run.now events (rest_then after)) ∙ ap (machine_after next asks run.now) (sym e) ∙ run.machine;
+        machine = sym (world_after_both run.now events (rest_then after)) ∙ ap (world_after next asks run.now) (sym e) ∙ run.machine;
         text =
-            append_assoc run.front text (text_of next asks name after (rest_then after))
-            ∙ ap (λ zs. run.front ++ (zs ++ text_of next asks name after (rest_then after))) (sym t)
-            ∙ ap (λ zs. run.front ++ zs) (sym (text_of_both name run.now events (rest_then after)) ∙ ap (text_of next asks name run.now) (sym e))
+            append_assoc run.front text (text_of next asks names after (rest_then after))
+            ∙ ap (λ zs. run.front ++ (zs ++ text_of next asks names after (rest_then after))) (sym t)
+            ∙ ap (λ zs. run.front ++ zs) (sym (text_of_both names run.now events (rest_then after)) ∙ ap (text_of next asks names run.now) (sym e))
             ∙ run.text;
         appended = Appends-trans old mid new run.front text run.appended h;
       }
 
   -- the run stops within some more events
-  pub along_stopped : (name : List ℕ) (Stands : Machine A → Type 0) (m : Machine A) (all : List Event) (rest : Machine A → List Event) (old mid new : Option (List ℕ))
-      → (run : Along name Stands m all rest old mid) (events more : List Event)
-      → rest run.now ≡ events ++ more → AppendsFront (text_of next asks name run.now events) mid new
-      → AppendsFront (text_of next asks name m all) old new
-  along_stopped name Stands m all rest old mid new run events more e h =
-      let here = text_of next asks name run.now events in
-      let behind = text_of next asks name (machine_after next asks run.now events) more in
+  pub along_stopped : (names : List (List ℕ)) (Stands : World A → Type 0) (m : World A) (all : List AppEvent) (rest : World A → List AppEvent) (old mid new : Option (List ℕ))
+      → (run : Along names Stands m all rest old mid) (events more : List AppEvent)
+      → rest run.now ≡ events ++ more → AppendsFront (text_of next asks names run.now events) mid new
+      → AppendsFront (text_of next asks names m all) old new
+  along_stopped names Stands m all rest old mid new run events more e h =
+      let here = text_of next asks names run.now events in
+      let behind = text_of next asks names (world_after next asks run.now events) more in
       subst (λ zs. AppendsFront zs old new)
-      (ap (λ zs. run.front ++ zs) (sym (text_of_both name run.now events more) ∙ ap (text_of next asks name run.now) (sym e)) ∙ run.text)
+      (ap (λ zs. run.front ++ zs) (sym (text_of_both names run.now events more) ∙ ap (text_of next asks names run.now) (sym e)) ∙ run.text)
       (front_after run.front (here ++ behind) old mid new run.appended (front_longer here behind mid new h))
 
   -- the run is at its end
-  pub along_whole : (name : List ℕ) (Stands : Machine A → Type 0) (m : Machine A) (all : List Event) (rest : Machine A → List Event) (old new : Option (List ℕ))
-      → (run : Along name Stands m all rest old new) → rest run.now ≡ []
-      → Stands (machine_after next asks m all) × Appends old new (text_of next asks name m all)
-  along_whole name Stands m all rest old new run e = (
-    subst Stands (ap (machine_after next asks run.now) (sym e) ∙ run.machine) run.stands,
-    subst (Appends old new) (sym (append-nil run.front) ∙ ap (λ zs. run.front ++ text_of next asks name run.now zs) (sym e) ∙ run.text) run.appended,
+  pub along_whole : (names : List (List ℕ)) (Stands : World A → Type 0) (m : World A) (all : List AppEvent) (rest : World A → List AppEvent) (old new : Option (List ℕ))
+      → (run : Along names Stands m all rest old new) → rest run.now ≡ []
+      → Stands (world_after next asks m all) × Appends old new (text_of next asks names m all)
+  along_whole names Stands m all rest old new run e = (
+    subst Stands (ap (world_after next asks run.now) (sym e) ∙ run.machine) run.stands,
+    subst (Appends old new) (sym (append-nil run.front) ∙ ap (λ zs. run.front ++ text_of next asks names run.now zs) (sym e) ∙ run.text) run.appended,
   )
 
 -- ---- what loops and calls append
-
-pub most_is : most_turns ≡ 10000000
-unfolding most_turns
-most_is = refl
 
 -- an error is a run that stopped
 pub writes_err : {X E : Type 0} (r : Result X E) (text : List ℕ) (a b : Option (List ℕ)) → IsErr r → AppendsFront text a b → Writes r text a b
@@ -124,69 +115,69 @@ pub writes_front : {X E : Type 0} (r : Result X E) (text : List ℕ) (a b : Opti
 writes_front (Ok x) text a b h = front_whole text a b h
 writes_front (Err e) text a b h = h
 
+-- ---- a line
+
+-- the text of replies, and of others behind them
+pub replies_both : (name : List ℕ) (xs ys : List Reply) → replies_text name (xs ++ ys) ≡ replies_text name xs ++ replies_text name ys
+replies_both name xs ys = flat_map-append (reply_text name) xs ys
+
+-- a happening without a reply has no text
+told_one : (name : List ℕ) (h : Happened) (replies : List Reply) (more : List Happened) → h.replies ≡ replies → told_text name (told_with replies h more) ≡ replies_text name replies ++ told_text name more
+told_one name h [] more e = refl
+told_one name h (reply ∷ replies) more e = ap (λ rs. replies_text name rs ++ told_text name more) e
+
 module _ {A : Type 0} (next : A → Given → A) (asks : A → Given → Ask) where
-  -- ---- turns of a call
+  -- what is told of events is their replies
+  told_is : (name : List ℕ) (m : Machine A) (events : List Event) → told_text name (replying next asks m events) ≡ replies_text name (replies_to next asks m events)
+  told_is name m [] = refl
+  told_is name m (event ∷ events) =
+      let s = step next asks m event in
+      told_one name (happening next asks m event) s.replies (replying next asks s.machine events) refl
+      ∙ ap (λ zs. replies_text name s.replies ++ zs) (told_is name s.machine events)
+      ∙ sym (replies_both name s.replies (replies_to next asks s.machine events))
 
-  -- turns of which some were made
-  abbrev pub TurnsTo : List ℕ → (Machine A → Type 0) → Machine A → ℕ → ℕ → ℕ → Option (List ℕ) → Option (List ℕ) → Type 0
-  TurnsTo name Stands m i op k old new = Along next asks name Stands m (turns_until next asks most_turns m i op) (λ now. turns_until next asks (most_turns - k) now i op) old new
+  told_call : (name : List ℕ) (m : Machine A) (client : ℕ) (call : Call) → told_text name (told_of_call next asks m client call) ≡ replies_text name (replies_to next asks m (events_of_call next asks m client call))
+  told_call name m client call =
+      let s = step next asks m (Called client call) in
+      ap (λ zs. replies_text name s.replies ++ zs) (told_is name s.machine (turns_of_call next asks m client call))
+      ∙ sym (replies_both name s.replies (replies_to next asks s.machine (turns_of_call next asks m client call)))
 
-  pub turns_start : (name : List ℕ) (Stands : Machine A → Type 0) (m : Machine A) (i op : ℕ) (old : Option (List ℕ)) → Stands m → TurnsTo name Stands m i op 0 old old
-  turns_start name Stands m i op old stands =
-      along_start next asks name Stands m (turns_until next asks most_turns m i op) (λ now. turns_until next asks (most_turns - 0) now i op) old stands (ap (λ k. turns_until next asks k m i op) (omega arith))
+  -- the text of events of one application
+  text_at : (names : List (List ℕ)) (w : World A) (app : ℕ) (m : Machine A) (events : List Event) → slice_get w app ≡ Some m → text_of next asks names w (events_at next asks app events) ≡ replies_text (slice_index_or names app []) (replies_to next asks m events)
+  text_at names w app m [] here = refl
+  text_at names w app m (event ∷ events) here =
+      let name = slice_index_or names app [] in
+      let s = step next asks m event in
+      ap (λ o. replies_text name (replied_at next asks event o) ++ text_of next asks names (moved_at next asks w app event o) (events_at next asks app events)) here
+      ∙ ap (λ zs. replies_text name s.replies ++ zs) (text_at names (slice_set w app s.machine) app s.machine events (get_set w app m s.machine here))
+      ∙ sym (replies_both name s.replies (replies_to next asks s.machine events))
 
-  one_more : (k : ℕ) (m : Machine A) (i op : ℕ) → k < 10000000 → is_answered m op ≡ false → turns_until next asks (most_turns - k) m i op ≡ (Turned i ∷ []) ++ turns_until next asks (most_turns - (k + 1)) (turned next asks m i).machine i op
-  one_more k m i op within not_yet = turns_on next asks (most_turns - k) (most_turns - (k + 1)) m i op (omega (arith, within, most_is)) not_yet
+  -- the line of a call, whose replies were told
+  pub call_text : (names : List (List ℕ)) (w : World A) (m : Machine A) (app client : ℕ) (call : Call) → slice_get w app ≡ Some m → told_text (slice_index_or names app []) (told_of_call next asks m client call) ≡ text_of next asks names w (line_events next asks w (lines.Call app client false call))
+  call_text names w m app client call here =
+      told_call (slice_index_or names app []) m client call
+      ∙ sym (text_at names w app m (events_of_call next asks m client call) here)
+      ∙ ap (λ o. text_of next asks names w (called_at next asks app client call o)) (sym here)
 
-  pub turns_further : (name : List ℕ) (Stands Stands_then : Machine A → Type 0) (m : Machine A) (i op k : ℕ) (old mid new : Option (List ℕ)) → (run : TurnsTo name Stands m i op k old mid)
-      → k < 10000000 → is_answered run.now op ≡ false → Stands_then (turned next asks run.now i).machine → Appends mid new (replies_text name (turned next asks run.now i).replies)
-      → TurnsTo name Stands_then m i op (k + 1) old new
-  turns_further name Stands Stands_then m i op k old mid new run within not_yet stands h =
-      along_more next asks name Stands Stands_then m (turns_until next asks most_turns m i op) (λ now. turns_until next asks (most_turns - k) now i op) (λ now. turns_until next asks (most_turns - (k + 1)) now i op) old mid new
-      run (Turned i ∷ []) (replies_text name (turned next asks run.now i).replies) (one_more k run.now i op within not_yet) stands (append-nil (replies_text name (turned next asks run.now i).replies)) h
+  -- a posted call's line
+  pub post_text : (names : List (List ℕ)) (w : World A) (m : Machine A) (app client : ℕ) (call : Call) → slice_get w app ≡ Some m → replies_text (slice_index_or names app []) (happening next asks m (Called client call)).replies ≡ text_of next asks names w (line_events next asks w (lines.Call app client true call))
+  post_text names w m app client call here =
+      let name = slice_index_or names app [] in
+      let s = step next asks m (Called client call) in
+      sym (append-nil (replies_text name s.replies))
+      ∙ ap (λ o. replies_text name (replied_at next asks (Called client call) o) ++ []) (sym here)
 
-  pub turns_stopped : (name : List ℕ) (Stands : Machine A → Type 0) (m : Machine A) (i op k : ℕ) (old mid new : Option (List ℕ)) → (run : TurnsTo name Stands m i op k old mid)
-      → k < 10000000 → is_answered run.now op ≡ false → AppendsFront (replies_text name (turned next asks run.now i).replies) mid new
-      → AppendsFront (text_of next asks name m (turns_until next asks most_turns m i op)) old new
-  turns_stopped name Stands m i op k old mid new run within not_yet h =
-      along_stopped next asks name Stands m (turns_until next asks most_turns m i op) (λ now. turns_until next asks (most_turns - k) now i op) old mid new
-      run (Turned i ∷ []) (turns_until next asks (most_turns - (k + 1)) (turned next asks run.now i).machine i op) (one_more k run.now i op within not_yet)
-      (subst (λ zs. AppendsFront zs mid new) (sym (append-nil (replies_text name (turned next asks run.now i).replies))) h)
+  -- nothing happens to an application that there isn't
+  pub no_events : (w : World A) (app client : ℕ) (post : Bool) (call : Call) → slice_get w app ≡ None → world_after next asks w (line_events next asks w (lines.Call app client post call)) ≡ w
+  no_events w app client true call none = ap (moved_at next asks w app (Called client call)) none
+  no_events w app client false call none = ap (λ o. world_after next asks w (called_at next asks app client call o)) none
 
-  pub turns_answered : (name : List ℕ) (Stands : Machine A → Type 0) (m : Machine A) (i op k : ℕ) (old new : Option (List ℕ)) → (run : TurnsTo name Stands m i op k old new) → is_answered run.now op ≡ true
-      → Stands (machine_after next asks m (turns_until next asks most_turns m i op)) × Appends old new (text_of next asks name m (turns_until next asks most_turns m i op))
-  turns_answered name Stands m i op k old new run done =
-      along_whole next asks name Stands m (turns_until next asks most_turns m i op) (λ now. turns_until next asks (most_turns - k) now i op) old new run (turns_done next asks (most_turns - k) run.now i op done)
+  pub no_text : (names : List (List ℕ)) (w : World A) (app client : ℕ) (post : Bool) (call : Call) → slice_get w app ≡ None → text_of next asks names w (line_events next asks w (lines.Call app client post call)) ≡ []
+  no_text names w app client true call none = ap (λ o. replies_text (slice_index_or names app []) (replied_at next asks (Called client call) o) ++ []) none
+  no_text names w app client false call none = ap (λ o. text_of next asks names w (called_at next asks app client call o)) none
 
-  pub turns_used : (name : List ℕ) (Stands : Machine A → Type 0) (m : Machine A) (i op k : ℕ) (old new : Option (List ℕ)) → (run : TurnsTo name Stands m i op k old new) → 10000000 ≤ k
-      → Stands (machine_after next asks m (turns_until next asks most_turns m i op)) × Appends old new (text_of next asks name m (turns_until next asks most_turns m i op))
-  turns_used name Stands m i op k old new run all =
-      along_whole next asks name Stands m (turns_until next asks most_turns m i op) (λ now. turns_until next asks (most_turns - k) now i op) old new run (turns_none next asks (most_turns - k) run.now i op (omega (arith, all, most_is)))
-
-  -- ---- a call line
-
-  -- a call line begins with the call
-  begins_with_call : (m : Machine A) (app client : ℕ) (post : Bool) (call : Call) → (rest : List Event) × (events_of_line next asks m (lines.Call app client post call) ≡ Called client call ∷ rest)
-  begins_with_call m app client true call = ([], refl)
-  begins_with_call m app client false call = (turns_of_call next asks m client call, refl)
-
-  pub call_stopped : (name : List ℕ) (m : Machine A) (app client : ℕ) (post : Bool) (call : Call) (replies : List Reply) (a b : Option (List ℕ)) → replies ≡ (called m client call).replies
-      → AppendsFront (replies_text name replies) a b → AppendsFront (text_of next asks name m (events_of_line next asks m (lines.Call app client post call))) a b
-  call_stopped name m app client post call replies a b same h =
-      let first = begins_with_call m app client post call in
-      subst (λ es. AppendsFront (text_of next asks name m es) a b) (sym first.1)
-      (front_longer (replies_text name (called m client call).replies) (text_of next asks name (called m client call).machine first.0) a b
-      (subst (λ rs. AppendsFront (replies_text name rs) a b) same h))
-
-  pub call_written : {X E : Type 0} (r : Result X E) (name : List ℕ) (m : Machine A) (app client : ℕ) (post : Bool) (call : Call) (replies : List Reply) (i op : ℕ) (a b c : Option (List ℕ))
-      → replies ≡ (called m client call).replies → i ≡ (called m client call).instance → op ≡ m.queue.next → post ≡ false
-      → Appends a b (replies_text name replies) → Writes r (text_of next asks name (called m client call).machine (turns_until next asks most_turns (called m client call).machine i op)) b c
-      → Writes r (text_of next asks name m (events_of_line next asks m (lines.Call app client post call))) a c
-  call_written r name m app client post call replies i op a b c same same_instance same_op unposted h k =
-      let s = called m client call in
-      let turns = turns_of_call next asks m client call in
-      let behind : Writes r (text_of next asks name s.machine turns) b c =
-      subst (λ n. Writes r (text_of next asks name s.machine (turns_until next asks most_turns s.machine n m.queue.next)) b c) same_instance
-      (subst (λ n. Writes r (text_of next asks name s.machine (turns_until next asks most_turns s.machine i n)) b c) same_op k) in
-      subst (λ p. Writes r (text_of next asks name m (events_of_line next asks m (lines.Call app client p call))) a c) (sym unposted)
-      (writes_after r (replies_text name s.replies) (text_of next asks name s.machine turns) a b c (subst (λ rs. Appends a b (replies_text name rs)) same h) behind)
+-- there is nothing behind the end
+pub none_behind : {X : Type 0} (xs : List X) (i : ℕ) → length xs ≤ i → slice_get xs i ≡ None
+none_behind [] i le = refl
+none_behind (x ∷ xs) zero le = absurd (omega (arith, le))
+none_behind (x ∷ xs) (suc i) le = none_behind xs i (omega (arith, le))

@@ -1,6 +1,5 @@
-pub mod Answered
+pub mod Apart
 pub mod Ended
 pub mod Events
-pub mod Resting
-pub mod Serving
+pub mod LinesFor
 pub mod Writing

@@ -3,9 +3,7 @@ use Rattle.std.proofs.Common.{◌≡◌, ◌<◌, ◌+◌, ◌++◌, ℕ, suc, L
 use Rattle.std.specs.Io.KnownBytes.{Appends}
 use Rattle.std.proofs.KnownBytes.{Appends-nil, Appends-trans}
 use Rattle.tee_base.specs.Transfer.{AppendsFront}
-use Rattle.alone.specs.declared.reply.Reply.{Reply}
-use Rattle.report.specs.Texts.{reply_text}
-use Rattle.tee_top.specs.Transcript.{replies_text}
+use Rattle.std.specs.List.{flat_map}
 
 -- nothing is a front of any text
 pub front_none : (text : List ℕ) (a : Option (List ℕ)) → AppendsFront text a a
@@ -31,29 +29,30 @@ front_after one more a b c h k = (
 pub front_longer : (text more : List ℕ) (a b : Option (List ℕ)) → AppendsFront text a b → AppendsFront (text ++ more) a b
 front_longer text more a b h = (h.0, h.1 ++ more, ap (λ zs. zs ++ more) h.2 ∙ append_assoc h.0 h.1 more, h.3)
 
--- ---- the lines of replies, of which some were written
+-- ---- pieces one after the other, of which some were written
 
--- a front of the text was appended, and the lines of the replies from here on are the rest
-abbrev pub WrittenTo : List ℕ → List Reply → ℕ → Option (List ℕ) → Option (List ℕ) → Type 0
-WrittenTo name replies i old new = (front : List ℕ) × (front ++ replies_text name (drop i replies) ≡ replies_text name replies) × Appends old new front
+module _ {X : Type 0} (piece_of : X → List ℕ) where
+  -- a front of the text was appended, and the pieces from here on are the rest
+  abbrev pub WrittenTo : List X → ℕ → Option (List ℕ) → Option (List ℕ) → Type 0
+  WrittenTo xs i old new = (front : List ℕ) × (front ++ flat_map piece_of (drop i xs) ≡ flat_map piece_of xs) × Appends old new front
 
-replies_split : (name : List ℕ) (replies : List Reply) (i : ℕ) (r : Reply) → i < length replies → r ≡ get_or replies i r → replies_text name (drop i replies) ≡ reply_text name r ++ replies_text name (drop (i + 1) replies)
-replies_split name replies i r within here =
-    ap (replies_text name) (drop-cons replies i r within ∙ ap (λ x. x ∷ drop (suc i) replies) (sym here))
-    ∙ ap (λ k. reply_text name r ++ replies_text name (drop k replies)) (sym (add-one i))
+  pieces_split : (xs : List X) (i : ℕ) (x : X) → i < length xs → x ≡ get_or xs i x → flat_map piece_of (drop i xs) ≡ piece_of x ++ flat_map piece_of (drop (i + 1) xs)
+  pieces_split xs i x within here =
+      ap (flat_map piece_of) (drop-cons xs i x within ∙ ap (λ y. y ∷ drop (suc i) xs) (sym here))
+      ∙ ap (λ k. piece_of x ++ flat_map piece_of (drop k xs)) (sym (add-one i))
 
-pub replies_further : (name : List ℕ) (replies : List Reply) (i : ℕ) (r : Reply) (piece : List ℕ) (a b c : Option (List ℕ)) → i < length replies → r ≡ get_or replies i r → piece ≡ reply_text name r → WrittenTo name replies i a b → Appends b c piece → WrittenTo name replies (i + 1) a c
-replies_further name replies i r piece a b c within here line old new =
-    let rest = replies_text name (drop (i + 1) replies) in (
-      old.0 ++ piece,
-      append_assoc old.0 piece rest ∙ ap (λ zs. old.0 ++ (zs ++ rest)) line ∙ ap (λ zs. old.0 ++ zs) (sym (replies_split name replies i r within here)) ∙ old.1,
-      Appends-trans a b c old.0 piece old.2 new,
-    )
+  pub pieces_further : (xs : List X) (i : ℕ) (x : X) (piece : List ℕ) (a b c : Option (List ℕ)) → i < length xs → x ≡ get_or xs i x → piece ≡ piece_of x → WrittenTo xs i a b → Appends b c piece → WrittenTo xs (i + 1) a c
+  pieces_further xs i x piece a b c within here line old new =
+      let rest = flat_map piece_of (drop (i + 1) xs) in (
+        old.0 ++ piece,
+        append_assoc old.0 piece rest ∙ ap (λ zs. old.0 ++ (zs ++ rest)) line ∙ ap (λ zs. old.0 ++ zs) (sym (pieces_split xs i x within here)) ∙ old.1,
+        Appends-trans a b c old.0 piece old.2 new,
+      )
 
--- a front of the next line was appended
-pub replies_cut : (name : List ℕ) (replies : List Reply) (i : ℕ) (r : Reply) (piece : List ℕ) (a b c : Option (List ℕ)) → i < length replies → r ≡ get_or replies i r → piece ≡ reply_text name r → WrittenTo name replies i a b → AppendsFront piece b c → AppendsFront (replies_text name replies) a c
-replies_cut name replies i r piece a b c within here line old new =
-    let rest = replies_text name (drop (i + 1) replies) in
-    subst (λ zs. AppendsFront zs a c)
-    (ap (λ zs. old.0 ++ (zs ++ rest)) line ∙ ap (λ zs. old.0 ++ zs) (sym (replies_split name replies i r within here)) ∙ old.1)
-    (front_after old.0 (piece ++ rest) a b c old.2 (front_longer piece rest b c new))
+  -- a front of the next piece was appended
+  pub pieces_cut : (xs : List X) (i : ℕ) (x : X) (piece : List ℕ) (a b c : Option (List ℕ)) → i < length xs → x ≡ get_or xs i x → piece ≡ piece_of x → WrittenTo xs i a b → AppendsFront piece b c → AppendsFront (flat_map piece_of xs) a c
+  pieces_cut xs i x piece a b c within here line old new =
+      let rest = flat_map piece_of (drop (i + 1) xs) in
+      subst (λ zs. AppendsFront zs a c)
+      (ap (λ zs. old.0 ++ (zs ++ rest)) line ∙ ap (λ zs. old.0 ++ zs) (sym (pieces_split xs i x within here)) ∙ old.1)
+      (front_after old.0 (piece ++ rest) a b c old.2 (front_longer piece rest b c new))

@@ -1,4 +1,5 @@
-pub mod Laws
+pub mod Isolation
 pub mod Runs
 pub mod Statuses
+pub mod Told
 pub mod Transcript

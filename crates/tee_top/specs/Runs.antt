@@ -1,5 +1,5 @@
 -- What a run of the program is given, and what it writes.
-use Rattle.std.specs.Prelude.{ℕ, ◌≡◌, ◌≤◌, List, [], ◌∷◌, Option, Some, IfSome, Result, Ok, Err, codes, length, All, String, string_bytes}
+use Rattle.std.specs.Prelude.{ℕ, ◌≡◌, ◌≤◌, ◌<◌, List, Option, Some, IfSome, Result, Ok, Err, codes, length, All, String, string_bytes}
 use Rattle.std.specs.Global.{Global}
 use Rattle.std.specs.Io.KnownBytes.{Appends}
 use Rattle.tee_base.specs.Faults.{Rose}
@@ -8,6 +8,7 @@ use Rattle.app_api.specs.declared.ask.Ask.{Ask}
 use Rattle.app_api.specs.declared.ask.Given.{Given}
 use Rattle.app_api.specs.declared.host.Host.{Host}
 use Rattle.app_side.specs.Represents.{IsOneInstance}
+use Rattle.store_api.specs.Stores.{empty_store}
 use Rattle.script.specs.declared.line.Line.{Line}
 use Rattle.script.specs.Grammar.{FirstBad, Reads, names_of}
 use Rattle.tee_top.specs.Transcript.{transcript}
@@ -18,9 +19,9 @@ use Rattle.tee_top.specs.declared.status.Status.TheVariants.{Done, BadWords, Bad
 abbrev pub AreRunWords : List (String Global) → Type 0
 AreRunWords words = (length words ≡ 1) × All (λ word. string_bytes word ≡ codes "run") words
 
--- one host, whose one instance serves all sessions and stays
-abbrev pub IsOneHost : {A : Type 0} → List (Host A) → Type 0
-IsOneHost {A} hosts = (host : Host A) × (hosts ≡ host ∷ []) × IsOneInstance host
+-- each host has one instance, which serves all sessions and stays
+abbrev pub AreOneInstance : {A : Type 0} → List (Host A) → Type 0
+AreOneInstance hosts = All (λ host. IsOneInstance host) hosts
 
 -- a status of a run whose script was read and all of whose lines are in the grammar
 abbrev pub IsServed : Status → Type 0
@@ -80,6 +81,17 @@ pub record IsReadable (words : List (String Global)) (left : Option (List ℕ)) 
   pub within : length text ≤ 1048576
   pub unfailed : ¬ Rose before after
 
--- what was written is said of the transcript of the script that the source held, for the one host
+-- no more bytes were left than a script may have, where the source tells what was
+abbrev pub IsWithin : Option (List ℕ) → Type 0
+IsWithin left = IfSome left (λ text. length text ≤ 1048576)
+
+-- the words are those of a run, the source tells a text beyond the limit, and no read of it failed
+pub record IsTooMuch (words : List (String Global)) (left : Option (List ℕ)) (text : List ℕ) (before after : ℕ) : Type 0 where
+  pub run : AreRunWords words
+  pub told : left ≡ Some text
+  pub beyond : 1048576 < length text
+  pub unfailed : ¬ Rose before after
+
+-- what was written is said of the transcript of the script that the source held, over empty stores
 abbrev pub IsOfTranscript : {A : Type 0} → (A → Given → A) → (A → Given → Ask) → List (Host A) → List ℕ → Option (List ℕ) → (List ℕ → Type 0) → Type 0
-IsOfTranscript {A} next asks hosts seed left IsWritten = (host : Host A) × (script : List Line) × (hosts ≡ host ∷ []) × ReadsTo hosts left script × IsWritten (transcript next asks host seed script)
+IsOfTranscript {A} next asks hosts seed left IsWritten = (script : List Line) × ReadsTo hosts left script × IsWritten (transcript next asks hosts seed (λ app. empty_store) script)

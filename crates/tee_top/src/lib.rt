@@ -1,11 +1,11 @@
 //! The run of a script: from the words of a command line and the bytes of a source to the bytes of a sink.
 #![tactic(auto)]
 
-mod laws;
+mod isolation;
 mod lines;
 mod run;
 mod status;
 
-pub use laws::call_lines_are_answered;
+pub use isolation::applications_are_apart;
 pub use run::run_tee;
 pub use status::{Status, status_line};

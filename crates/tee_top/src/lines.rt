@@ -1,21 +1,21 @@
 //! Lines, one after the other: each is run until it is answered, and its replies are written before the next is run.
 
-ghost use Rattle.std.specs.Prelude.{◌≡◌, ◌≤◌, ℕ, IsErrOf, OnOk};
-ghost use Rattle.alone.specs.Machine.{Machine};
-ghost use Rattle.alone.specs.Step.{turned};
-ghost use Rattle.app_side.specs.Represents.{Represents};
+ghost use Rattle.std.specs.Prelude.{◌≡◌, ◌≤◌, ◌<◌, ℕ, List, [], IsErrOf, OnOk, length, slice_index_or};
 ghost use Rattle.tee_base.specs.Faults.{Rose};
+ghost use Rattle.tee_core.specs.Represents.{app_count, Represents};
+ghost use Rattle.tee_core.specs.World.{World, world_after};
 ghost use Rattle.tee_top.specs.Runs.{Writes};
-ghost use Rattle.tee_top.specs.Transcript.{events_of, events_of_line, machine_after, most_turns, replies_text, text_of, turns_of_call, turns_until};
+ghost use Rattle.tee_top.specs.Told.{told_text};
+ghost use Rattle.tee_top.specs.Transcript.{events_of, line_events, replies_text, text_of};
 
 use alone::Reply;
-use app_api::Application;
-use app_side::{AppSide, Call};
+use app_api::{Application, Call};
 use report::reply_line;
 use script::Line;
 use std::alloc::Global;
 use std::collections::VecDeque;
-use tee_base::{NoMemory, Sink, WriteFault, limits, write_all};
+use tee_base::{Bytes, NoMemory, Sink, WriteFault, write_all};
+use tee_core::{Event, Happened, Tee};
 
 /// Why the lines were not all run.
 #[derive(Clone, Copy, Debug, PartialEq, Eq)]
@@ -56,67 +56,47 @@ fn write_replies<W: Sink>(
     Ok(())
 }
 
-/// One turn, whose replies are written.
-fn run_turn<A: Application, W: Sink>(
+/// Writes the lines of the replies of these happenings.
+fn write_told<W: Sink>(
     alloc: Global,
     name: &[u8],
-    side: &mut AppSide<A>,
-    instance: u8,
+    told: &[Happened],
     sink: &mut W,
 ) -> Result<(), Stop>
-    ensures side { OnOk result ((m : Machine A) → Represents side.old m → Represents side.new (turned A.next A.asks m instance).machine) }
-    ensures written { (m : Machine A) → Represents side.old m → Writes result (replies_text name.now (turned A.next A.asks m instance).replies) (W.written sink.old) (W.written sink.new) }
+    ensures written { Writes result (told_text name.now told.now) (W.written sink.old) (W.written sink.new) }
     ensures fault { IsErrOf result Stop.WriteFault → Rose (W.failures sink.old) (W.failures sink.new) }
     ensures later { W.failures sink.old ≤ W.failures sink.new }
 {
-    let replies = side.turn(instance)?;
-    write_replies(alloc, name, replies.as_slice(), sink)
-}
-
-/// Turns of the instance until the operation is answered.
-fn run_turns<A: Application, W: Sink>(
-    alloc: Global,
-    name: &[u8],
-    side: &mut AppSide<A>,
-    instance: u8,
-    op: u64,
-    sink: &mut W,
-) -> Result<(), Stop>
-    ensures side { OnOk result ((m : Machine A) → Represents side.old m → Represents side.new (machine_after A.next A.asks m (turns_until A.next A.asks most_turns m instance op))) }
-    ensures written { (m : Machine A) → Represents side.old m → Writes result (text_of A.next A.asks name.now m (turns_until A.next A.asks most_turns m instance op)) (W.written sink.old) (W.written sink.new) }
-    ensures fault { IsErrOf result Stop.WriteFault → Rose (W.failures sink.old) (W.failures sink.new) }
-    ensures later { W.failures sink.old ≤ W.failures sink.new }
-{
-    for _ in 0..limits::CALL_TURNS {
-        if side.answered(op) {
-            return Ok(());
-        }
-        run_turn(alloc, name, side, instance, sink)?;
+    for happened in told {
+        write_replies(alloc, name, happened.replies.as_slice(), sink)?;
     }
     Ok(())
 }
 
-/// Runs a call, and then turns of its instance until it is answered, unless it is posted.
+/// A call, and unless it is posted turns of its instance until it is answered.
 fn run_call<A: Application, W: Sink>(
     alloc: Global,
     name: &[u8],
-    side: &mut AppSide<A>,
+    tee: &mut Tee<A>,
+    app: u8,
     client: u8,
     post: bool,
     call: Call,
     sink: &mut W,
 ) -> Result<(), Stop>
-    ensures side { (app : ℕ) → OnOk result ((m : Machine A) → Represents side.old m → Represents side.new (machine_after A.next A.asks m (events_of_line A.next A.asks m (Line.Call app client post call)))) }
-    ensures written { (app : ℕ) (m : Machine A) → Represents side.old m → Writes result (text_of A.next A.asks name.now m (events_of_line A.next A.asks m (Line.Call app client post call))) (W.written sink.old) (W.written sink.new) }
+    requires { app < app_count tee.old }
+    ensures world { OnOk result ((world : World A) → Represents tee.old world → Represents tee.new (world_after A.next A.asks world (line_events A.next A.asks world (Line.Call app client post call)))) }
+    ensures written { (names : List (List ℕ)) (world : World A) → Represents tee.old world → name.now ≡ slice_index_or names app [] → Writes result (text_of A.next A.asks names world (line_events A.next A.asks world (Line.Call app client post call))) (W.written sink.old) (W.written sink.new) }
+    ensures apps { app_count tee.new ≡ app_count tee.old }
     ensures fault { IsErrOf result Stop.WriteFault → Rose (W.failures sink.old) (W.failures sink.new) }
     ensures later { W.failures sink.old ≤ W.failures sink.new }
 {
-    let called = side.call(client, call)?;
-    write_replies(alloc, name, called.replies.as_slice(), sink)?;
     if post {
-        return Ok(());
+        let happened = tee.event(Event::Call { app, client, call })?;
+        return write_replies(alloc, name, happened.replies.as_slice(), sink);
     }
-    run_turns(alloc, name, side, called.instance, called.op, sink)
+    let told = tee.run(alloc, app, client, call)?;
+    write_told(alloc, name, told.as_slice(), sink)
 }
 
 /// The parts of a call line.
@@ -146,38 +126,60 @@ fn parts(line: Line) -> CallLine
     }
 }
 
-/// Runs a line.
+/// Runs a line of an application that there is.
 fn run_line<A: Application, W: Sink>(
     alloc: Global,
-    name: &[u8],
-    side: &mut AppSide<A>,
+    names: &[Bytes],
+    tee: &mut Tee<A>,
     line: Line,
     sink: &mut W,
 ) -> Result<(), Stop>
-    ensures side { OnOk result ((m : Machine A) → Represents side.old m → Represents side.new (machine_after A.next A.asks m (events_of_line A.next A.asks m line))) }
-    ensures written { (m : Machine A) → Represents side.old m → Writes result (text_of A.next A.asks name.now m (events_of_line A.next A.asks m line)) (W.written sink.old) (W.written sink.new) }
+    requires { length names.now ≡ app_count tee.old }
+    ensures world { OnOk result ((world : World A) → Represents tee.old world → Represents tee.new (world_after A.next A.asks world (line_events A.next A.asks world line))) }
+    ensures written { (world : World A) → Represents tee.old world → Writes result (text_of A.next A.asks names.now world (line_events A.next A.asks world line)) (W.written sink.old) (W.written sink.new) }
+    ensures apps { app_count tee.new ≡ app_count tee.old }
     ensures fault { IsErrOf result Stop.WriteFault → Rose (W.failures sink.old) (W.failures sink.new) }
     ensures later { W.failures sink.old ≤ W.failures sink.new }
 {
-    let line = parts(line);
-    run_call(alloc, name, side, line.client, line.post, line.call, sink)
+    let CallLine {
+        app,
+        client,
+        post,
+        call,
+    } = parts(line);
+    let index = app as usize;
+    if index >= names.len() {
+        drop(call);
+        return Ok(());
+    }
+    run_call(
+        alloc,
+        names[index].as_slice(),
+        tee,
+        app,
+        client,
+        post,
+        call,
+        sink,
+    )
 }
 
 /// Runs all lines of a script.
 pub fn run_lines<A: Application, W: Sink>(
     alloc: Global,
-    name: &[u8],
-    side: &mut AppSide<A>,
+    names: &[Bytes],
+    tee: &mut Tee<A>,
     lines: Vec<Line>,
     sink: &mut W,
 ) -> Result<(), Stop>
-    ensures written { (m : Machine A) → Represents side.old m → Writes result (text_of A.next A.asks name.now m (events_of A.next A.asks m lines.items)) (W.written sink.old) (W.written sink.new) }
+    requires { length names.now ≡ app_count tee.old }
+    ensures written { (world : World A) → Represents tee.old world → Writes result (text_of A.next A.asks names.now world (events_of A.next A.asks world lines.items)) (W.written sink.old) (W.written sink.new) }
     ensures fault { IsErrOf result Stop.WriteFault → Rose (W.failures sink.old) (W.failures sink.new) }
     ensures later { W.failures sink.old ≤ W.failures sink.new }
 {
     let mut rest = VecDeque::from(lines);
     while let Some(line) = rest.pop_front() {
-        run_line(alloc, name, side, line, sink)?;
+        run_line(alloc, names, tee, line, sink)?;
     }
     Ok(())
 }

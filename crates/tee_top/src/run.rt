@@ -3,20 +3,21 @@
 ghost use Rattle.std.specs.Prelude.{◌≡◌, ◌⊎◌, ◌↔◌, ◌≤◌, ℕ, List, IsTrue, IsErrOf, IfErr, IfOk, IfSome, OnOk, length};
 ghost use Rattle.std.specs.Io.KnownBytes.{Appends, IsAtEnd};
 ghost use Rattle.app_api.specs.Hosts.{HostsFit};
+ghost use Rattle.store_api.specs.Stores.{empty_store};
 ghost use Rattle.script.specs.declared.line.Line.{Line};
+ghost use Rattle.script.specs.Grammar.{names_of};
 ghost use Rattle.tee_base.specs.Faults.{Rose};
 ghost use Rattle.tee_base.specs.Transfer.{AppendsFront, HasMoreThan};
-ghost use Rattle.tee_top.specs.Runs.{AreRunWords, IsOneHost, IsServed, IsUnrun, IsReadStatus, ReadsTo, IsBadAt, IsOfTranscript, IsReadable, IsText, IsBadText};
+ghost use Rattle.tee_top.specs.Runs.{AreRunWords, AreOneInstance, IsServed, IsUnrun, IsReadStatus, ReadsTo, IsBadAt, IsOfTranscript, IsReadable, IsText, IsBadText, IsTooMuch, IsWithin};
 ghost use Rattle.tee_top.specs.Transcript.{transcript};
-ghost use Rattle.app_side.specs.Represents.{IsOneInstance};
 
 use crate::lines::{Stop, run_lines};
 use crate::status::Status;
 use app_api::{Application, Host};
-use app_side::AppSide;
 use script::{Line, ScriptAnswer, parse};
 use std::alloc::Global;
-use tee_base::{ReadAnswer, Sink, Source, limits, read_all};
+use tee_base::{Bytes, NoMemory, ReadAnswer, Sink, Source, limits, read_all};
+use tee_core::Tee;
 
 /// Whether the words are those of a run.
 fn are_run_words(words: &[String]) -> bool
@@ -35,6 +36,8 @@ fn read_lines<S: Source, A: Application>(
     ensures read { IfOk result (λ lines. ReadsTo hosts.now (S.left source.old) lines.items) }
     ensures bad { (n : ℕ) → IsErrOf result (Status.BadLine n) → IsBadAt hosts.now (S.left source.old) n × IsAtEnd (S.left source.new) }
     ensures at_end { OnOk result (IsAtEnd (S.left source.new)) }
+    ensures within { OnOk result (IsWithin (S.left source.old)) }
+    ensures bad_within { (n : ℕ) → IsErrOf result (Status.BadLine n) → IsWithin (S.left source.old) }
     ensures too_long { IsErrOf result Status.TooLong → HasMoreThan 1048576 (S.left source.old) }
     ensures fault { IsErrOf result Status.ReadFault → Rose (S.failures source.old) (S.failures source.new) }
     ensures later { S.failures source.old ≤ S.failures source.new }
@@ -53,46 +56,58 @@ fn read_lines<S: Source, A: Application>(
     }
 }
 
-/// Runs the lines for the one host.
+/// The names of the hosts, in their order.
+fn names_of<A: Application>(alloc: Global, hosts: &[Host<A>]) -> Result<Vec<Bytes>, NoMemory>
+    ensures { IfOk result (λ names. names.items ≡ names_of hosts.now) }
+{
+    let mut names = Vec::new(alloc);
+    for host in hosts {
+        names.push(host.name.copy(alloc)?)?;
+    }
+    Ok(names)
+}
+
+/// Runs the lines for these hosts.
 fn serve<W: Sink, A: Application>(
     alloc: Global,
     lines: Vec<Line>,
     sink: &mut W,
-    host: Host<A>,
+    hosts: Vec<Host<A>>,
     seed: [u8; 32],
 ) -> Status
-    requires { IsOneInstance host }
-    ensures done { result ≡ Status.Done → Appends (W.written sink.old) (W.written sink.new) (transcript A.next A.asks host seed lines.items) }
-    ensures stopped { AppendsFront (transcript A.next A.asks host seed lines.items) (W.written sink.old) (W.written sink.new) }
+    requires fit { HostsFit hosts.items }
+    requires one { AreOneInstance hosts.items }
+    ensures done { result ≡ Status.Done → Appends (W.written sink.old) (W.written sink.new) (transcript A.next A.asks hosts.items seed (λ app. empty_store) lines.items) }
+    ensures stopped { AppendsFront (transcript A.next A.asks hosts.items seed (λ app. empty_store) lines.items) (W.written sink.old) (W.written sink.new) }
     ensures fault { result ≡ Status.WriteFault → Rose (W.failures sink.old) (W.failures sink.new) }
     ensures later { W.failures sink.old ≤ W.failures sink.new }
     ensures few { IsServed result }
 {
-    let Ok(name) = host.name.copy(alloc) else {
+    let Ok(names) = names_of(alloc, hosts.as_slice()) else {
         return Status::NoMemory;
     };
-    let Ok(mut side) = AppSide::new(alloc, host, 0, seed) else {
+    let Ok(mut tee) = Tee::new(alloc, hosts, seed) else {
         return Status::NoMemory;
     };
-    match run_lines(alloc, name.as_slice(), &mut side, lines, sink) {
+    match run_lines(alloc, names.as_slice(), &mut tee, lines, sink) {
         Ok(()) => Status::Done,
         Err(Stop::NoMemory) => Status::NoMemory,
         Err(Stop::WriteFault) => Status::WriteFault,
     }
 }
 
-/// Reads a script from the source, runs it for the one host, and writes the replies to the sink. The words of a run are
+/// Reads a script from the source, runs it for the hosts, and writes the replies to the sink. The words of a run are
 /// `run`. Nothing is run, and nothing is written, unless the whole source was read and each line is in the grammar.
 pub fn run_tee<S: Source, W: Sink, A: Application>(
     alloc: Global,
     words: &[String],
     source: &mut S,
     sink: &mut W,
-    mut hosts: Vec<Host<A>>,
+    hosts: Vec<Host<A>>,
     seed: [u8; 32],
 ) -> Status
     requires fit { HostsFit hosts.items }
-    requires one { IsOneHost hosts.items }
+    requires one { AreOneInstance hosts.items }
     ensures written { result ≡ Status.Done → IsOfTranscript A.next A.asks hosts.items seed (S.left source.old) (Appends (W.written sink.old) (W.written sink.new)) }
     ensures cut_short { result ≡ Status.WriteFault → IsOfTranscript A.next A.asks hosts.items seed (S.left source.old) (λ text. AppendsFront text (W.written sink.old) (W.written sink.new)) }
     ensures no_memory { result ≡ Status.NoMemory → (sink.new ≡ sink.old) ⊎ IsOfTranscript A.next A.asks hosts.items seed (S.left source.old) (λ text. AppendsFront text (W.written sink.old) (W.written sink.new)) }
@@ -101,6 +116,7 @@ pub fn run_tee<S: Source, W: Sink, A: Application>(
     ensures each_bad_line { (text : List ℕ) (n : ℕ) → IsReadable words.now (S.left source.old) text (S.failures source.old) (S.failures source.new) → IsBadText hosts.items text n → (result ≡ Status.BadLine n) ⊎ (result ≡ Status.NoMemory) }
     ensures complete { (text : List ℕ) (script : List Line) → IsReadable words.now (S.left source.old) text (S.failures source.old) (S.failures source.new) → ¬ Rose (W.failures sink.old) (W.failures sink.new) → IsText hosts.items text script → (result ≡ Status.Done) ⊎ (result ≡ Status.NoMemory) }
     ensures too_long { result ≡ Status.TooLong → HasMoreThan 1048576 (S.left source.old) }
+    ensures each_too_long { (text : List ℕ) → IsTooMuch words.now (S.left source.old) text (S.failures source.old) (S.failures source.new) → (result ≡ Status.TooLong) ⊎ (result ≡ Status.NoMemory) }
     ensures read_fault { result ≡ Status.ReadFault → Rose (S.failures source.old) (S.failures source.new) }
     ensures write_fault { result ≡ Status.WriteFault → Rose (W.failures sink.old) (W.failures sink.new) }
     ensures done { result ≡ Status.Done → IsAtEnd (S.left source.new) }
@@ -113,8 +129,5 @@ pub fn run_tee<S: Source, W: Sink, A: Application>(
         Ok(lines) => lines,
         Err(status) => return status,
     };
-    match hosts.pop() {
-        Some(host) => serve(alloc, lines, sink, host, seed),
-        None => Status::Done,
-    }
+    serve(alloc, lines, sink, hosts, seed)
 }

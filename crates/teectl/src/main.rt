@@ -1,23 +1,22 @@
-//! `teectl`: runs a script of client calls for the sample application.
+//! `teectl`: runs a script of client calls for the sample applications.
 #![tactic(auto)]
 
-mod count;
 #[cfg(test)]
 mod tests;
 mod words;
 
 ghost use Rattle.std.specs.Prelude.{IfOk};
-ghost use Rattle.tee_top.specs.Runs.{IsOneHost};
+ghost use Rattle.app_api.specs.Hosts.{HostsFit};
+ghost use Rattle.tee_top.specs.Runs.{AreOneInstance};
 
-use app_api::{Host, Properties, hosts_fit};
-use count::Count;
+use app_api::Host;
+use sample_apps::{Sample, sample_hosts};
 use std::alloc::Global;
 use std::io;
 use std::process::ExitCode;
 use std::string::String;
-use tee_base::{Bytes, NoMemory, StdSink, StdSource};
+use tee_base::{NoMemory, StdSink, StdSource};
 use tee_top::{Status, run_tee, status_line};
-use uuid::Uuid;
 
 const HELP: &str = "\
 teectl runs a script of client calls for the trusted applications that it hosts.
@@ -34,32 +33,19 @@ docs/SCRIPT.md describes the script language and the printed lines.
 
 const VERSION: &str = "teectl 0.1.0\n";
 
-/// The host `keep`.
-fn sample_hosts(alloc: Global) -> Result<Vec<Host<Count>>, NoMemory>
-    ensures { IfOk result (λ hosts. IsOneHost hosts.items) }
+/// The hosts of the sample applications. Each has one instance, which takes all sessions and stays.
+fn samples(alloc: Global) -> Result<Vec<Host<Sample>>, NoMemory>
+    ensures fit { IfOk result (λ hosts. HostsFit hosts.items) }
+    ensures one { IfOk result (λ hosts. AreOneInstance hosts.items) }
 {
-    let mut hosts = Vec::new(alloc);
-    hosts.push(Host {
-        name: Bytes::from_slice(alloc, b"keep")?,
-        id: Uuid::from_u128(0x0000_0000_0000_4000_8000_0000_0000_0003),
-        properties: Properties {
-            single: true,
-            multi: true,
-            keep: true,
-        },
-        template: Count::new(),
-    })?;
-    Ok(hosts)
+    sample_hosts(alloc)
 }
 
 /// Runs the words, and says how it ended.
 fn run<R: Input + Print>(rt: &R, alloc: Global, words: &[String]) -> Status {
-    let Ok(hosts) = sample_hosts(alloc) else {
+    let Ok(hosts) = samples(alloc) else {
         return Status::NoMemory;
     };
-    if !hosts_fit(hosts.as_slice()) {
-        return Status::NoMemory;
-    }
     let mut source = StdSource::new(rt.reader());
     let mut sink = StdSink::new(io::writer(rt));
     run_tee(alloc, words, &mut source, &mut sink, hosts, [0; 32])

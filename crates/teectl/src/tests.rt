@@ -1,28 +1,34 @@
 //! Whole scripts, from bytes to bytes.
 
-use crate::sample_hosts;
-use app_api::hosts_fit;
+ghost use Rattle.std.specs.Prelude.{IsTrue};
+ghost use Rattle.app_api.specs.Hosts.{HostsFit};
+ghost use Rattle.tee_top.specs.Runs.{AreOneInstance};
+
+use crate::samples;
+use app_api::{Host, Properties, hosts_fit};
+use sample_apps::{Sample, Store};
 use std::alloc::Global;
 use std::test::Fail;
 use tee_base::{Bytes, MemSink, MemSource};
 use tee_top::{Status, run_tee, status_line};
+use uuid::Uuid;
 
-/// What a script makes of a run whose reads and writes of these numbers fail.
-fn run(
+/// What a script makes of a run for these hosts, whose reads and writes of these numbers fail.
+fn run_for(
     alloc: Global,
+    hosts: Vec<Host<Sample>>,
     word: &str,
     script: &str,
     reads: &[u64],
     writes: &[u64],
-) -> Result<(Status, MemSink), Fail> {
+) -> Result<(Status, MemSink), Fail>
+    requires fit { HostsFit hosts.items }
+    requires one { AreOneInstance hosts.items }
+{
     let text = Bytes::from_slice(alloc, script.as_bytes())?;
     let mut source = MemSource::new(alloc, text, reads)?;
     let mut sink = MemSink::new(alloc, writes)?;
     let words = vec![in alloc; String::from_str(alloc, word)?]?;
-    let hosts = sample_hosts(alloc)?;
-    if !hosts_fit(hosts.as_slice()) {
-        return Ok((Status::BadWords, sink));
-    }
     let status = run_tee(
         alloc,
         words.as_slice(),
@@ -32,6 +38,18 @@ fn run(
         [0; 32],
     );
     Ok((status, sink))
+}
+
+/// The same for the sample applications.
+fn run(
+    alloc: Global,
+    word: &str,
+    script: &str,
+    reads: &[u64],
+    writes: &[u64],
+) -> Result<(Status, MemSink), Fail> {
+    let hosts = samples(alloc)?;
+    run_for(alloc, hosts, word, script, reads, writes)
 }
 
 const USE: &str = "keep open 1\nkeep invoke 1 1 vi:5:0 vo\nkeep close 1\n";
@@ -132,5 +150,124 @@ fn statuses_have_numbers_and_texts(rt: HostRuntime) -> Result<(), Fail> {
             text.as_bytes()
         );
     }
+    Ok(())
+}
+
+const KEPT: [&str; 5] = [
+    "vault open 1\n",
+    "vault invoke 1 2 mi:61 vi:3:0 mi:31 vo\n",
+    "vault invoke 1 7 vi:1:4 mo:4\n",
+    "vault invoke 1 8 vi:1:0 mi:32\n",
+    "vault invoke 1 7 vi:1:4 mo:4\n",
+];
+
+const KEPT_LINES: [&str; 5] = [
+    "vault 1 00000000 4\n",
+    "vault 2 00000000 4 p3=1,0\n",
+    "vault 3 00000000 4 p1=1:31\n",
+    "vault 4 00000000 4\n",
+    "vault 5 00000000 4 p1=0:\n",
+];
+
+/// The lines, with two others put in before those of these places.
+fn with_two(
+    alloc: Global,
+    lines: &[&str; 5],
+    first: usize,
+    second: usize,
+    others: [&str; 2],
+) -> Result<String, Fail> {
+    let mut text = String::new(alloc);
+    for (place, line) in lines.iter().enumerate() {
+        if place == first {
+            text.push_str(others[0])?;
+        }
+        if place == second {
+            text.push_str(others[1])?;
+        }
+        text.push_str(line)?;
+    }
+    if first >= lines.len() {
+        text.push_str(others[0])?;
+    }
+    if second >= lines.len() {
+        text.push_str(others[1])?;
+    }
+    Ok(text)
+}
+
+#[test]
+fn applications_stand_side_by_side(rt: HostRuntime) -> Result<(), Fail> {
+    let alloc = rt.alloc();
+    for first in 0..6usize {
+        for second in first..6usize {
+            let script = with_two(
+                alloc,
+                &KEPT,
+                first,
+                second,
+                ["keep open 1\n", "keep invoke 1 1 vi:5:0 vo\n"],
+            )?;
+            let output = with_two(
+                alloc,
+                &KEPT_LINES,
+                first,
+                second,
+                ["keep 1 00000000 4\n", "keep 2 00000000 4 p1=5,1\n"],
+            )?;
+            let (status, sink) = run(alloc, "run", script.as_str(), &[], &[])?;
+            assert_eq!(rt; status, Status::Done);
+            assert_eq!(rt; sink.written(), output.as_bytes(), "{script}");
+        }
+    }
+    Ok(())
+}
+
+/// A host of the name that runs Store.
+fn store_host(alloc: Global, name: &str, id: u128) -> Result<Host<Sample>, Fail> {
+    Ok(Host {
+        name: Bytes::from_slice(alloc, name.as_bytes())?,
+        id: Uuid::from_u128(id),
+        properties: Properties {
+            single: true,
+            multi: true,
+            keep: true,
+        },
+        template: Sample::Store(Store::Idle),
+    })
+}
+
+/// Whether each host has one instance, which takes all sessions and stays.
+fn are_one_instance(hosts: &[Host<Sample>]) -> bool
+    ensures { IsTrue result → AreOneInstance hosts.now }
+{
+    hosts.iter().all(|host| host.properties.single && host.properties.multi && host.properties.keep)
+}
+
+const FILLED: &str = "\
+one open 1
+one invoke 1 2 mi:61 vi:3:0 mf:260096:00 vo
+one invoke 1 2 mi:62 vi:3:0 mi: vo
+two open 1
+two invoke 1 2 mi:61 vi:3:0 mf:260096:00 vo
+";
+
+const FILLED_LINES: &str = "\
+one 1 00000000 4
+one 2 00000000 4 p3=1,0
+one 3 ffff3041 4 p3=0,0
+two 1 00000000 4
+two 2 00000000 4 p3=1,0
+";
+
+#[test]
+fn a_quota_is_one_application_s(rt: HostRuntime) -> Result<(), Fail> {
+    let alloc = rt.alloc();
+    let hosts = vec![in alloc; store_host(alloc, "one", 1)?, store_host(alloc, "two", 2)?]?;
+    assert!(rt; hosts_fit(hosts.as_slice()));
+    assert!(rt; are_one_instance(hosts.as_slice()));
+    let (status, sink) = run_for(alloc, hosts, "run", FILLED, &[], &[])?;
+    assert_eq!(rt; status, Status::Done);
+    assert_eq!(rt; sink.written(), FILLED_LINES.as_bytes());
     Ok(())
 }

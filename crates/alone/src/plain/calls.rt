@@ -1,6 +1,6 @@
 //! Clients' calls.
 
-ghost use Rattle.std.specs.Prelude.{◌≡◌, ◌<◌, ◌^◌, ◌++◌, [], ◌∷◌, IfOk, OnOk, Ok, false, not, ◌&&◌};
+ghost use Rattle.std.specs.Prelude.{◌≡◌, ◌<◌, ◌^◌, [], ◌∷◌, IfOk, OnOk, Ok, false, not, ◌&&◌};
 ghost use Rattle.instances.specs.Instances.{admission_of};
 ghost use Rattle.op_queue.specs.Queue.{is_full, is_close_call};
 ghost use Rattle.alone.specs.Plain.{machine_of, IsStepped};
@@ -78,6 +78,21 @@ impl<A: Application> Plain<A> {
     {
         let op = self.queue.skip();
         one(alloc, reply_of(op, code, origin, Outputs::nothing()))
+    }
+
+    /// A call that is answered at once, and goes.
+    fn refused(
+        &mut self,
+        alloc: Global,
+        call: Call,
+        code: Code,
+        origin: Origin,
+    ) -> Result<Vec<Reply>, NoMemory>
+        requires { self.old.queue.next < 2 ^ 63 }
+        ensures { IfOk result (λ given. IsStepped self.new given.items (machine.answered_at_once (machine_of self.old) code origin)) }
+    {
+        drop(call);
+        self.answered_at_once(alloc, code, origin)
     }
 
     /// A call that waits for the instance.
@@ -180,12 +195,12 @@ impl<A: Application> Plain<A> {
         ensures { IfOk result (λ given. IsStepped self.new given.items (machine.invoked_at (machine_of self.old) client call s s.state)) }
     {
         match s.state {
-            SessionState::Opening => self.answered_at_once(alloc, Code::BAD_STATE, Origin::Api),
-            SessionState::Closing => self.answered_at_once(alloc, Code::BAD_STATE, Origin::Api),
-            SessionState::Dead => self.answered_at_once(alloc, Code::TARGET_DEAD, Origin::Tee),
+            SessionState::Opening => self.refused(alloc, call, Code::BAD_STATE, Origin::Api),
+            SessionState::Closing => self.refused(alloc, call, Code::BAD_STATE, Origin::Api),
+            SessionState::Dead => self.refused(alloc, call, Code::TARGET_DEAD, Origin::Tee),
             SessionState::Open => {
                 if self.queue.is_full() {
-                    self.answered_at_once(alloc, Code::BUSY, Origin::Tee)
+                    self.refused(alloc, call, Code::BUSY, Origin::Tee)
                 } else {
                     self.queued(alloc, client, s.instance, s.session, call)
                 }
@@ -204,7 +219,7 @@ impl<A: Application> Plain<A> {
         ensures { IfOk result (λ given. IsStepped self.new given.items (machine.invoked_in (machine_of self.old) client call known)) }
     {
         match known {
-            None => self.answered_at_once(alloc, Code::BAD_STATE, Origin::Api),
+            None => self.refused(alloc, call, Code::BAD_STATE, Origin::Api),
             Some(s) => self.invoked_at(alloc, client, call, s),
         }
     }
@@ -275,7 +290,12 @@ impl<A: Application> Plain<A> {
     }
 
     #[tactic(auto, unfolding(crate::specs::Step::called))]
-    pub fn called(&mut self, alloc: Global, client: u8, call: Call) -> Result<Vec<Reply>, NoMemory>
+    pub(crate) fn called(
+        &mut self,
+        alloc: Global,
+        client: u8,
+        call: Call,
+    ) -> Result<Vec<Reply>, NoMemory>
         requires { self.old.queue.next < 2 ^ 63 }
         ensures { IfOk result (λ given. IsStepped self.new given.items (machine.called (machine_of self.old) client call)) }
     {

@@ -3,20 +3,23 @@
 ghost use Rattle.std.specs.Prelude.{◌≡◌, true, if◌then◌else◌, Some, IfOk, OnOk, not, map, filter};
 ghost use Rattle.tee_base.specs.declared.codes.Origin.TheVariants as origins;
 ghost use Rattle.instances.specs.Instances.{state_set, session_removed};
+ghost use Rattle.app_api.specs.declared.out.Outs.{Outs};
 ghost use Rattle.alone.specs.declared.running.Instance.{Instance};
-ghost use Rattle.alone.specs.Machine.{is_number, with_instance};
+ghost use Rattle.alone.specs.Machine.{instance_at, is_number, with_instance};
 ghost use Rattle.alone.specs.Plain.{machine_of, IsStepped};
 ghost use Rattle.alone.specs.Replies.{no_outputs};
 ghost use Rattle.alone.specs.Step as machine;
 
+use crate::delivery::deliver;
+use crate::entries::start_entry;
 use crate::plain::Plain;
 use crate::plain::calls::{none, one, reply_of};
-use crate::plain::delivery::delivered;
-use crate::plain::entries::start_begun;
+use crate::plain::in_hand::set_created;
 use crate::reply::{Outputs, Reply};
 use crate::running::{Instance, Stage};
-use app_api::{Application, Outs, Params};
+use app_api::{Application, Params};
 use instances::SessionState;
+use object_asks::Ending;
 use op_queue::Operation;
 use std::alloc::Global;
 use tee_base::{Code, NoMemory, Origin};
@@ -62,20 +65,20 @@ impl<A: Application> Plain<A> {
     fn answered(
         &mut self,
         alloc: Global,
-        mut inst: Instance<A>,
+        number: u8,
         op: u64,
         code: Code,
         outputs: Outputs,
     ) -> Result<Vec<Reply>, NoMemory>
-        ensures { IfOk result (λ given. IsStepped self.new given.items (machine.answered (machine_of self.old) inst op code outputs)) }
+        ensures { IfOk result (λ given. (inst : Instance A) → instance_at (machine_of self.old) number ≡ Some inst → IsStepped self.new given.items (machine.answered (machine_of self.old) inst op code outputs)) }
     {
         self.queue.answer(op);
-        inst.running = None;
-        self.with_instance(inst);
+        self.with_running(number, None);
         one(alloc, reply_of(op, code, Origin::App, outputs))
     }
 
-    /// Create failed: the instance ends, and with it its sessions and its operations, which are answered with the code.
+    /// Create failed: the instance ends, and with it its sessions, its handles and its operations, which are answered with the
+    /// code.
     fn create_failed(
         &mut self,
         alloc: Global,
@@ -87,6 +90,7 @@ impl<A: Application> Plain<A> {
         let replies = failures(alloc, number, self.queue.operations(), code)?;
         self.queue.clear(number);
         self.table.end(number);
+        self.handles.close_all(number);
         leave_out(&mut self.instances, number);
         Ok(replies)
     }
@@ -95,17 +99,15 @@ impl<A: Application> Plain<A> {
     fn created(
         &mut self,
         alloc: Global,
-        mut inst: Instance<A>,
+        number: u8,
         op: u64,
         session: u8,
         params: Params,
     ) -> Result<(), NoMemory>
-        ensures { OnOk result (machine_of self.new ≡ with_instance (machine_of self.old) (record inst { created = true; running = Some (machine.start_begun op session params) })) }
+        ensures { OnOk result ((inst : Instance A) → instance_at (machine_of self.old) number ≡ Some inst → machine_of self.new ≡ with_instance (machine_of self.old) (record inst { created = true; running = Some (machine.start_begun op session params) })) }
     {
-        let running = start_begun(alloc, op, session, params)?;
-        inst.created = true;
-        inst.running = Some(running);
-        self.with_instance(inst);
+        let running = start_entry(alloc, op, session, params)?;
+        set_created(number, running, self.instances.as_mut_slice());
         Ok(())
     }
 
@@ -120,40 +122,56 @@ impl<A: Application> Plain<A> {
         }
     }
 
-    /// What a return does, by the entry of the operation that returns.
-    pub fn returned(
+    /// What the return of a create entry does.
+    fn create_returned(
         &mut self,
         alloc: Global,
-        inst: Instance<A>,
+        number: u8,
+        op: u64,
+        session: u8,
+        params: Params,
+        code: Code,
+    ) -> Result<Vec<Reply>, NoMemory>
+        ensures { IfOk result (λ given. (inst : Instance A) → instance_at (machine_of self.old) number ≡ Some inst → inst.number ≡ number → (outs : Outs) → IsStepped self.new given.items (machine.returned (machine_of self.old) inst op (Stage.Create session params) code outs)) }
+    {
+        if is_success(code) {
+            self.created(alloc, number, op, session, params)?;
+            return Ok(none(alloc));
+        }
+        drop(params);
+        self.create_failed(alloc, number, code)
+    }
+
+    /// What a return does, by the entry of the operation that returns.
+    pub(crate) fn returned(
+        &mut self,
+        alloc: Global,
+        number: u8,
         op: u64,
         stage: Stage,
-        code: Code,
-        outs: Outs,
+        ending: Ending,
     ) -> Result<Vec<Reply>, NoMemory>
-        ensures { IfOk result (λ given. IsStepped self.new given.items (machine.returned (machine_of self.old) inst op stage code outs)) }
+        ensures { IfOk result (λ given. (inst : Instance A) → instance_at (machine_of self.old) number ≡ Some inst → inst.number ≡ number → IsStepped self.new given.items (machine.returned (machine_of self.old) inst op stage ending.code ending.outs)) }
     {
+        let Ending { code, outs } = ending;
         match stage {
             Stage::Create { session, params } => {
-                if is_success(code) {
-                    self.created(alloc, inst, op, session, params)?;
-                    return Ok(none(alloc));
-                }
-                let number = inst.number;
-                drop(inst);
-                self.create_failed(alloc, number, code)
+                drop(outs);
+                self.create_returned(alloc, number, op, session, params, code)
             }
             Stage::Start { session, places } => {
-                let outputs = delivered(alloc, places, outs);
+                let outputs = deliver(alloc, places, outs);
                 self.started(session, code);
-                self.answered(alloc, inst, op, code, outputs)
+                self.answered(alloc, number, op, code, outputs)
             }
             Stage::Invoke { places, .. } => {
-                let outputs = delivered(alloc, places, outs);
-                self.answered(alloc, inst, op, code, outputs)
+                let outputs = deliver(alloc, places, outs);
+                self.answered(alloc, number, op, code, outputs)
             }
             Stage::Stop { session } => {
+                drop(outs);
                 self.table.remove(session);
-                self.answered(alloc, inst, op, Code::SUCCESS, Outputs::nothing())
+                self.answered(alloc, number, op, Code::SUCCESS, Outputs::nothing())
             }
         }
     }

@@ -1,14 +1,40 @@
-use Rattle.std.proofs.Common.{◌∙◌}
-use Rattle.tee_top.proofs.Events.{call_stopped, call_written, writes_err}
+use Rattle.std.proofs.Common.{◌∙◌, Bool, ap, sym, subst}
+use Rattle.alone.specs.Step.{Called}
+use Rattle.script.specs.declared.line.Line.TheVariants as lines
+use Rattle.tee_core.specs.declared.happened.Happened.{Happened}
+use Rattle.tee_core.specs.Happenings.{happening, told_of_call}
+use Rattle.tee_core.proofs.Worlds.{hosted_at}
+use Rattle.tee_top.specs.Runs.{Writes}
+use Rattle.tee_top.specs.Told.{told_text}
+use Rattle.tee_top.specs.Transcript.{line_events, replies_text, text_of}
+use Rattle.tee_top.proofs.Events.{call_text, post_text}
 use Rattle.tee_top.proofs.lines.run_call.Goals as goal
 
-pub returns-in_err-write_replies-clause-written : goal.returns-in_err-write_replies-clause-written
-returns-in_err-write_replies-clause-written g c = λ app m stands.
-    writes_err c.from_residual-in_err-write_replies.result _ _ _ c.from_residual-in_err-write_replies.ensures.0
-    (call_stopped g.A.Application.next g.A.Application.asks c.args.name.now m app c.args.client c.args.post c.args.call c.as_slice.result.now _ _ (c.as_slice.ensures ∙ c.in_ok-called.ensures.replies m stands) c.in_err-write_replies.ensures.written)
+pub returns-then-post-clause-written : goal.returns-then-post-clause-written
+returns-then-post-clause-written g c = λ names w stands named.
+    let next = g.A.Application.next in
+    let asks = g.A.Application.asks in
+    let app = c.args.app in
+    let p = hosted_at c.args.tee.now.hosted.items w app stands c.requires in
+    let name = c.args.name.now in
+    subst (λ text. Writes c.write_replies.result text (g.W.Sink.written c.args.sink.now) (g.W.Sink.written c.write_replies.new.sink))
+    (ap (replies_text name) c.as_slice.ensures
+    ∙ ap (λ (h : Happened). replies_text name h.replies) (c.in_ok-happened.ensures.told w p.0 stands p.1)
+    ∙ ap (λ n. replies_text n (happening next asks p.0 (Called c.args.client c.args.call)).replies) named
+    ∙ post_text next asks names w p.0 app c.args.client c.args.call p.1
+    ∙ ap (λ (b : Bool). text_of next asks names w (line_events next asks w (lines.Call app c.args.client b c.args.call))) (sym c.if-post.true))
+    c.write_replies.ensures.written
 
 pub returns-clause-written : goal.returns-clause-written
-returns-clause-written g c = λ app m stands.
-    call_written g.A.Application.next g.A.Application.asks c.run_turns.result c.args.name.now m app c.args.client c.args.post c.args.call c.as_slice.result.now c.in_ok-called.called.instance c.in_ok-called.called.op _ _ _
-    (c.as_slice.ensures ∙ c.in_ok-called.ensures.replies m stands) (c.in_ok-called.ensures.instance m stands) (c.in_ok-called.ensures.number m stands) c.if-post.false c.in_ok-write_replies.ensures.written
-    (c.run_turns.ensures.written _ (c.in_ok-called.ensures.ok m stands))
+returns-clause-written g c = λ names w stands named.
+    let next = g.A.Application.next in
+    let asks = g.A.Application.asks in
+    let app = c.args.app in
+    let p = hosted_at c.args.tee.now.hosted.items w app stands c.requires in
+    let name = c.args.name.now in
+    subst (λ text. Writes c.write_told.result text (g.W.Sink.written c.args.sink.now) (g.W.Sink.written c.write_told.new.sink))
+    (ap (told_text name) (c.as_slice-2.ensures ∙ c.in_ok-told.ensures.told w p.0 stands p.1)
+    ∙ ap (λ n. told_text n (told_of_call next asks p.0 c.args.client c.args.call)) named
+    ∙ call_text next asks names w p.0 app c.args.client c.args.call p.1
+    ∙ ap (λ (b : Bool). text_of next asks names w (line_events next asks w (lines.Call app c.args.client b c.args.call))) (sym c.if-post.false))
+    c.write_told.ensures.written

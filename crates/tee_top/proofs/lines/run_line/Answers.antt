@@ -1,21 +1,28 @@
-use Rattle.std.proofs.Common.{sym, subst}
-use Rattle.std.proofs.lemmas.Result.{on_ok_weaker}
-use Rattle.app_side.specs.Represents.{Represents}
-use Rattle.tee_top.specs.Runs.{Writes}
-use Rattle.tee_top.specs.Transcript.{events_of_line, machine_after, text_of}
+use Rattle.std.proofs.Common.{◌≡◌, ◌∙◌, None, ap, sym, subst, arith}
+use Rattle.std.specs.Prelude.{slice_get}
+use Rattle.std.specs.Io.KnownBytes.{Appends}
+use Rattle.std.proofs.KnownBytes.{Appends-nil}
+use Rattle.script.specs.declared.line.Line.{Line}
+use Rattle.tee_core.specs.Represents.{Represents}
+use Rattle.tee_core.specs.World.{World, world_after}
+use Rattle.tee_core.proofs.Worlds.{hosted_length}
+use Rattle.tee_top.specs.Transcript.{line_events, text_of}
+use Rattle.tee_top.proofs.Events.{no_events, no_text, none_behind}
 use Rattle.tee_top.proofs.lines.run_line.Goals as goal
 
-pub returns-clause-side : goal.returns-clause-side
-returns-clause-side g c =
+pub returns-then-index-names-clause-world : goal.returns-then-index-names-clause-world
+returns-then-index-names-clause-world g c = λ w stands.
     let next = g.A.Application.next in
     let asks = g.A.Application.asks in
-    on_ok_weaker c.run_call.result
-    (λ h m stands. subst (λ l. Represents c.run_call.new.side (machine_after next asks m (events_of_line next asks m l))) (sym c.parts-line.ensures) (h m stands))
-    (c.run_call.ensures.side c.parts-line.result.app)
+    let l = c.parts-app.result in
+    let none : slice_get w l.app ≡ None = none_behind w l.app (omega (arith, c.if-index-names.true, c.requires, hosted_length c.args.tee.now.hosted.items w stands)) in
+    subst (λ (world : World g.row.A.Denot). Represents c.args.tee.now world) (sym (ap (λ (line : Line). world_after next asks w (line_events next asks w line)) c.parts-app.ensures ∙ no_events next asks w l.app l.client l.post l.call none)) stands
 
-pub returns-clause-written : goal.returns-clause-written
-returns-clause-written g c = λ m stands.
+pub returns-then-index-names-clause-written : goal.returns-then-index-names-clause-written
+returns-then-index-names-clause-written g c = λ w stands.
     let next = g.A.Application.next in
     let asks = g.A.Application.asks in
-    subst (λ l. Writes c.run_call.result (text_of next asks c.args.name.now m (events_of_line next asks m l)) (g.W.Sink.written c.args.sink.now) (g.W.Sink.written c.run_call.new.sink)) (sym c.parts-line.ensures)
-    (c.run_call.ensures.written c.parts-line.result.app m stands)
+    let l = c.parts-app.result in
+    let none : slice_get w l.app ≡ None = none_behind w l.app (omega (arith, c.if-index-names.true, c.requires, hosted_length c.args.tee.now.hosted.items w stands)) in
+    let old = g.W.Sink.written c.args.sink.now in
+    subst (Appends old old) (sym (ap (λ (line : Line). text_of next asks c.args.names.now w (line_events next asks w line)) c.parts-app.ensures ∙ no_text next asks c.args.names.now w l.app l.client l.post l.call none)) (Appends-nil old)

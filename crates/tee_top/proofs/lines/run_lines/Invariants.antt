@@ -1,6 +1,6 @@
-use Rattle.std.proofs.Common.{◌≤◌, length}
-use Rattle.alone.specs.Machine.{Machine}
-use Rattle.app_side.specs.Represents.{Represents}
+use Rattle.std.proofs.Common.{◌≡◌, ◌≤◌, length}
+use Rattle.tee_core.specs.Represents.{app_count, Represents}
+use Rattle.tee_core.specs.World.{World}
 use Rattle.tee_top.specs.Transcript.{events_of}
 use Rattle.tee_top.proofs.Events.{Along}
 use Rattle.tee_top.proofs.lines.run_lines.Given as goal
@@ -11,7 +11,8 @@ invariant-loop-line g l =
     let next = g.A.Application.next in
     let asks = g.A.Application.asks in
     record {
-      run : (m : Machine g.row.A.Denot) → Represents l.fn.side m → Along next asks l.name (Represents l.side) m (events_of next asks m l.fn.lines.items) (λ now. events_of next asks now l.rest.items) (g.W.Sink.written l.fn.sink) (g.W.Sink.written l.sink);
+      run : (world : World g.row.A.Denot) → Represents l.fn.tee world → Along next asks l.names (Represents l.tee) world (events_of next asks world l.fn.lines.items) (λ now. events_of next asks now l.rest.items) (g.W.Sink.written l.fn.sink) (g.W.Sink.written l.sink);
+      apps : app_count l.tee ≡ app_count l.fn.tee;
       later : g.W.Sink.failures l.fn.sink ≤ g.W.Sink.failures l.sink;
     }
 

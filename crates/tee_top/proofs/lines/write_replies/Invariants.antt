@@ -1,10 +1,11 @@
 use Rattle.std.proofs.Common.{◌≤◌}
+use Rattle.report.specs.Texts.{reply_text}
 use Rattle.tee_top.proofs.Writing.{WrittenTo}
 use Rattle.tee_top.proofs.lines.write_replies.Given as goal
 
 -- what was written so far and the lines of the replies from here on are those of all
 abbrev pub invariant-loop-reply : goal.invariant-loop-reply
 invariant-loop-reply g l = record {
-  front : WrittenTo l.name l.replies l.reply-index (g.W.Sink.written l.fn.sink) (g.W.Sink.written l.sink);
+  front : WrittenTo (reply_text l.name) l.replies l.reply-index (g.W.Sink.written l.fn.sink) (g.W.Sink.written l.sink);
   later : g.W.Sink.failures l.fn.sink ≤ g.W.Sink.failures l.sink;
 }

@@ -1,8 +1,8 @@
-use Rattle.std.proofs.Common.{Err, ap, subst, inr}
+use Rattle.std.proofs.Common.{Err, ap, subst}
 use Rattle.script.specs.Grammar.{names_of}
 use Rattle.script.proofs.ParseLaws.{hosts_can_name, not_both}
 use Rattle.tee_top.specs.Runs.{IsBadAt, ReadsTo}
-use Rattle.tee_top.proofs.Ended.{bad_line_told, script_told, only_host}
+use Rattle.tee_top.proofs.Ended.{bad_line_told, script_told, too_long_told, within_for}
 use Rattle.tee_top.proofs.run.run_tee.Goals as goal
 
 pub returns-in-Err-clause-bad_line : goal.returns-in-Err-clause-bad_line
@@ -32,34 +32,22 @@ returns-in-Err-clause-complete g c = λ text script readable unfailed good.
     })
     readable.told readable.within readable.unfailed good
 
-pub returns-in-Some-clause-written : goal.returns-in-Some-clause-written
-returns-in-Some-clause-written g c = λ done. (
-  c.in-Some.host,
-  c.in-Ok.lines.items,
-  only_host c.args.hosts.items c.pop.new.self.items c.in-Some.host c.requires.one.0 c.requires.one.1 c.in-Some.ensures.items,
-  subst (λ hosts. ReadsTo hosts (g.S.Source.left c.args.source.now) c.in-Ok.lines.items) c.as_slice.ensures.value c.in-Ok.ensures.read,
-  c.serve.ensures.done done,
-)
-
-pub returns-in-Some-clause-cut_short : goal.returns-in-Some-clause-cut_short
-returns-in-Some-clause-cut_short g c = λ fault. (
-  c.in-Some.host,
-  c.in-Ok.lines.items,
-  only_host c.args.hosts.items c.pop.new.self.items c.in-Some.host c.requires.one.0 c.requires.one.1 c.in-Some.ensures.items,
-  subst (λ hosts. ReadsTo hosts (g.S.Source.left c.args.source.now) c.in-Ok.lines.items) c.as_slice.ensures.value c.in-Ok.ensures.read,
-  c.serve.ensures.stopped,
-)
-
-pub returns-in-Some-clause-no_memory : goal.returns-in-Some-clause-no_memory
-returns-in-Some-clause-no_memory g c = λ none. inr (
-  c.in-Some.host,
-  c.in-Ok.lines.items,
-  only_host c.args.hosts.items c.pop.new.self.items c.in-Some.host c.requires.one.0 c.requires.one.1 c.in-Some.ensures.items,
-  subst (λ hosts. ReadsTo hosts (g.S.Source.left c.args.source.now) c.in-Ok.lines.items) c.as_slice.ensures.value c.in-Ok.ensures.read,
-  c.serve.ensures.stopped,
-)
-
-pub returns-in-Some-clause-each_bad_line : goal.returns-in-Some-clause-each_bad_line
-returns-in-Some-clause-each_bad_line g c = λ text n readable bad.
+pub returns-clause-each_bad_line : goal.returns-clause-each_bad_line
+returns-clause-each_bad_line g c = λ text n readable bad.
     let reads = subst (λ hosts. ReadsTo hosts (g.S.Source.left c.args.source.now) c.in-Ok.lines.items) c.as_slice.ensures.value c.in-Ok.ensures.read in
     absurd (not_both (names_of c.args.hosts.items) text c.in-Ok.lines.items n (hosts_can_name c.args.hosts.items c.requires.fit) (subst (λ left. ReadsTo c.args.hosts.items left c.in-Ok.lines.items) readable.told reads) bad)
+
+pub returns-in-Err-clause-each_too_long : goal.returns-in-Err-clause-each_too_long
+returns-in-Err-clause-each_too_long g c = λ text much.
+    too_long_told c.args.hosts.items c.requires.fit (g.S.Source.left c.args.source.now) (g.S.Source.failures c.args.source.now) (g.S.Source.failures c.read_lines.new.source) text c.in-Err.status
+    (record {
+      few = c.in-Err.ensures.few;
+      bad = λ k e. subst (λ hosts. IsBadAt hosts (g.S.Source.left c.args.source.now) k) c.as_slice.ensures.value (c.in-Err.ensures.bad k (ap Err e)).0;
+      too_long = λ e. c.in-Err.ensures.too_long (ap Err e);
+      fault = λ e. c.in-Err.ensures.fault (ap Err e);
+    })
+    (λ k e. c.in-Err.ensures.bad_within k (ap Err e)) much.told much.beyond much.unfailed
+
+pub returns-clause-each_too_long : goal.returns-clause-each_too_long
+returns-clause-each_too_long g c = λ text much.
+    absurd (within_for c.args.hosts.items c.requires.fit (g.S.Source.left c.args.source.now) (g.S.Source.failures c.args.source.now) (g.S.Source.failures c.read_lines.new.source) text much.told much.beyond c.in-Ok.ensures.within)

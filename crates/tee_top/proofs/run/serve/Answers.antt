@@ -1,7 +1,9 @@
-use Rattle.std.proofs.Common.{◌∙◌, subst}
+use Rattle.std.proofs.Common.{◌≡◌, ◌∙◌, Err, ap, subst}
 use Rattle.std.specs.Io.KnownBytes.{Appends}
-use Rattle.alone.specs.Machine.{start}
+use Rattle.store_api.specs.Stores.{empty_store}
 use Rattle.tee_base.specs.Transfer.{AppendsFront}
+use Rattle.script.specs.Grammar.{names_of}
+use Rattle.tee_core.specs.World.{world_of}
 use Rattle.tee_top.specs.Transcript.{events_of, text_of}
 use Rattle.tee_top.proofs.Writing.{front_whole}
 use Rattle.tee_top.proofs.run.serve.Goals as goal
@@ -10,23 +12,29 @@ pub returns-in-Ok-run_lines-clause-stopped : goal.returns-in-Ok-run_lines-clause
 returns-in-Ok-run_lines-clause-stopped g c =
     let next = g.A.Application.next in
     let asks = g.A.Application.asks in
-    let m = start c.args.host 0 c.args.seed in
+    let world = world_of c.args.hosts.items c.args.seed (λ app. empty_store) in
+    let names : c.as_slice-2.result.now ≡ names_of c.args.hosts.items = c.as_slice-2.ensures.value ∙ c.in-Ok.ensures ∙ ap names_of c.as_slice.ensures.value in
     front_whole _ _ _
-    (subst (λ name. Appends (g.W.Sink.written c.args.sink.now) (g.W.Sink.written c.run_lines.new.sink) (text_of next asks name m (events_of next asks m c.args.lines.items))) (c.as_slice.ensures ∙ c.in-Ok.ensures)
-    (c.in-Ok-run_lines.ensures.written m c.in-Ok-new.ensures))
+    (subst (λ ns. Appends (g.W.Sink.written c.args.sink.now) (g.W.Sink.written c.run_lines.new.sink) (text_of next asks ns world (events_of next asks world c.args.lines.items))) names
+    (c.in-Ok-run_lines.ensures.written world c.in-Ok-new.ensures.world))
 
 pub returns-in-Err-NoMemory-clause-stopped : goal.returns-in-Err-NoMemory-clause-stopped
 returns-in-Err-NoMemory-clause-stopped g c =
     let next = g.A.Application.next in
     let asks = g.A.Application.asks in
-    let m = start c.args.host 0 c.args.seed in
-    subst (λ name. AppendsFront (text_of next asks name m (events_of next asks m c.args.lines.items)) (g.W.Sink.written c.args.sink.now) (g.W.Sink.written c.run_lines.new.sink)) (c.as_slice.ensures ∙ c.in-Ok.ensures)
-    (c.in-Err-NoMemory.ensures.written m c.in-Ok-new.ensures)
+    let world = world_of c.args.hosts.items c.args.seed (λ app. empty_store) in
+    let names : c.as_slice-2.result.now ≡ names_of c.args.hosts.items = c.as_slice-2.ensures.value ∙ c.in-Ok.ensures ∙ ap names_of c.as_slice.ensures.value in
+    subst (λ ns. AppendsFront (text_of next asks ns world (events_of next asks world c.args.lines.items)) (g.W.Sink.written c.args.sink.now) (g.W.Sink.written c.run_lines.new.sink)) names
+    (c.in-Err-NoMemory.ensures.written world c.in-Ok-new.ensures.world)
 
 pub returns-clause-stopped : goal.returns-clause-stopped
 returns-clause-stopped g c =
     let next = g.A.Application.next in
     let asks = g.A.Application.asks in
-    let m = start c.args.host 0 c.args.seed in
-    subst (λ name. AppendsFront (text_of next asks name m (events_of next asks m c.args.lines.items)) (g.W.Sink.written c.args.sink.now) (g.W.Sink.written c.run_lines.new.sink)) (c.as_slice.ensures ∙ c.in-Ok.ensures)
-    (c.in-Err-WriteFault.ensures.written m c.in-Ok-new.ensures)
+    let world = world_of c.args.hosts.items c.args.seed (λ app. empty_store) in
+    let names : c.as_slice-2.result.now ≡ names_of c.args.hosts.items = c.as_slice-2.ensures.value ∙ c.in-Ok.ensures ∙ ap names_of c.as_slice.ensures.value in
+    subst (λ ns. AppendsFront (text_of next asks ns world (events_of next asks world c.args.lines.items)) (g.W.Sink.written c.args.sink.now) (g.W.Sink.written c.run_lines.new.sink)) names
+    (c.in-Err-WriteFault.ensures.written world c.in-Ok-new.ensures.world)
+
+pub returns-clause-fault : goal.returns-clause-fault
+returns-clause-fault g c = λ same. c.run_lines.ensures.fault (c.in-Err-WriteFault.is ∙ ap Err c.in-Err-WriteFault.field-0-is)

@@ -1,15 +1,35 @@
-use Rattle.std.proofs.Common.{◌≡◌, ◌+◌, ◌∙◌, List, Option, Some, find, ap, sym, subst}
-use Rattle.std.proofs.lemmas.Result.{IfOk-weaker}
+use Rattle.std.proofs.Common.{◌≡◌, ◌∙◌, ◌+◌, List, Option, Some, None, find, refl, sym, ap, subst}
 use Rattle.alone.specs.declared.running.Instance.{Instance}
-use Rattle.alone.specs.Machine.{Machine, is_number}
-use Rattle.alone.specs.Step.{turned, turned_at}
-use Rattle.app_side.specs.Represents.{IsTurned, machine_of}
+use Rattle.alone.specs.Machine.{is_number}
+use Rattle.app_side.specs.Represents.{IsStep, machine_over}
+use Rattle.object_asks.specs.Serving.{serving_of}
+use Rattle.app_side.proofs.Carried.{plain_turn}
+use Rattle.std.proofs.lemmas.Result.{IfOk-weaker}
+use Rattle.alone.specs.Step.{turned_as, turned_at}
 use Rattle.app_side.proofs.side.AppSide.advance.Goals as goal
 
+pub returns-in-None : goal.returns-in-None
+unfolding turned_as
+returns-in-None g c =
+    let t = g.T.AppStore in
+    let before = t.kept c.args.store.now in
+    let none : find (is_number c.args.instance) c.args.self.now.instances.items ≡ None = ap (λ (xs : List (Instance g.row.A.Denot)). find (is_number c.args.instance) xs) (sym c.as_slice.ensures.value) ∙ c.in-None.ensures.none in
+    record {
+      step = λ tells same doubt.
+          subst (λ (o : Option (Instance g.row.A.Denot)). IsStep (record c.args.self.now { turns = c.args.self.now.turns + 1 }) before.store c.plain.result.replies (turned_at g.A.Application.next g.A.Application.asks (serving_of c.plain.result.kind) (record (machine_over c.args.self.now before.store doubt) { turns = c.args.self.now.turns + 1 }) o)) (sym none)
+          (record { doubt = doubt; machine = refl; replies = c.plain.ensures.replies ∙ c.none.ensures });
+      kind = plain_turn t.tells t.kept t.standing t.damage t.honest c.plain.result.kind _ _ _ _ c.args.store.now c.plain.ensures.kind refl;
+    }
+
 pub returns-in-Some : goal.returns-in-Some
-unfolding turned
+unfolding turned_as
 returns-in-Some g c =
-    let now : Machine g.row.A.Denot = record (machine_of c.args.self.now) { turns = c.args.self.now.turns + 1 } in
+    let t = g.T.AppStore in
+    let before = t.kept c.args.store.now in
     let there = c.in-Some.ensures.found.some in
     let here : find (is_number c.args.instance) c.args.self.now.instances.items ≡ Some there.0 = ap (λ (xs : List (Instance g.row.A.Denot)). find (is_number c.args.instance) xs) (sym c.as_slice.ensures.value) ∙ there.1 in
-    IfOk-weaker c.go_on.result _ _ (λ given step. subst (λ (o : Option (Instance g.row.A.Denot)). IsTurned c.go_on.new.self given (turned_at g.A.Application.next g.A.Application.asks now o)) (sym here) (step there.0 here)) c.go_on.ensures
+    record {
+      step = IfOk-weaker c.go_on.result _ _ (λ turned step tells same doubt.
+          subst (λ (o : Option (Instance g.row.A.Denot)). IsStep c.go_on.new.self (t.kept c.go_on.new.store).store turned.replies (turned_at g.A.Application.next g.A.Application.asks (serving_of turned.kind) (record (machine_over c.args.self.now before.store doubt) { turns = c.args.self.now.turns + 1 }) o)) (sym here) (step tells same doubt there.0 here)) c.go_on.ensures.step;
+      kind = c.go_on.ensures.kind;
+    }

@@ -1,0 +1,21 @@
+-- What holds of every machine that events can lead to: a client's call is answered (TEE Client API 1.0, sections 4.5.5 to 4.5.7), and
+-- few operations are unanswered.
+use Rattle.std.specs.Prelude.{ℕ, ◌≡◌, ◌≤◌, true, not, ◌∷◌, length, count_by}
+use Rattle.app_api.specs.declared.ask.Ask.{Ask}
+use Rattle.app_api.specs.declared.ask.Given.{Given}
+use Rattle.app_api.specs.declared.call.Call.{Call}
+use Rattle.op_queue.specs.Queue.{is_close}
+use Rattle.alone.specs.Machine.{Machine}
+use Rattle.alone.specs.Step.{Called, belongs_to, is_answered}
+use Rattle.alone.specs.Runs.{machine_after, turns_of_call}
+
+-- a client's call is answered within the turns that it has
+abbrev pub CallIsAnswered : {A : Type 0} → (A → Given → A) → (A → Given → Ask) → Machine A → ℕ → Call → Type 0
+CallIsAnswered next asks m client call = is_answered (machine_after next asks m (Called client call ∷ turns_of_call next asks m client call)) m.queue.next ≡ true
+
+-- sixteen operations other than closes may be unanswered, and a close for each of eight sessions; so 24 in all, and for one instance
+pub record OperationsAreFew {A : Type 0} (m : Machine A) : Type 0 where
+  pub others : count_by (λ o. not (is_close o.progress)) m.queue.operations ≤ 16
+  pub closes : count_by (λ o. is_close o.progress) m.queue.operations ≤ 8
+  pub all : length m.queue.operations ≤ 24
+  pub of_instance : (i : ℕ) → count_by (belongs_to i) m.queue.operations ≤ 24

@@ -1,0 +1,168 @@
+-- Calls, beginnings and returns don't look at the objects, and leave them.
+use Rattle.std.proofs.Common.{ℕ, ◌≡◌, Bool, true, false, cond, Option, None, Some, Result, Ok, Err, is_some, refl, sym, ap, ◌∙◌}
+use Rattle.tee_base.specs.declared.codes.Code.{Code}
+use Rattle.app_api.specs.declared.out.Outs.{Outs}
+use Rattle.app_api.specs.declared.param.Params.{Params}
+use Rattle.app_api.specs.declared.call.Call.{Call}
+use Rattle.app_api.specs.declared.call.Call.TheVariants as calls
+use Rattle.app_api.specs.Params.{first_oversized}
+use Rattle.instances.specs.declared.instances.Admission.{Admission}
+use Rattle.instances.specs.declared.instances.Refusal.{Refusal}
+use Rattle.instances.specs.declared.session.SessionFacts.{SessionFacts}
+use Rattle.instances.specs.declared.session.SessionState.{SessionState}
+use Rattle.instances.specs.declared.session.SessionState.TheVariants.{Opening, Open, Closing, Dead}
+use Rattle.instances.specs.Instances.{admission_of}
+use Rattle.op_queue.specs.declared.operation.Begun.{Begun}
+use Rattle.op_queue.specs.Queue.{is_full, first_waiting, begun_at, after_begin}
+use Rattle.store_api.specs.Stores.{Store, empty_store}
+use Rattle.alone.specs.declared.running.Instance.{Instance}
+use Rattle.alone.specs.declared.running.Stage.{Stage}
+use Rattle.alone.specs.declared.running.Stage.TheVariants as stages
+use Rattle.alone.specs.Machine.{Machine}
+use Rattle.alone.specs.Step.{Stepped, begun, begun_with, called, called_open, closed_at, closed_in, invoked_at, invoked_in, is_success, known, opened_as, quiet, returned}
+use Rattle.app_side.specs.declared.side.AppSide.{AppSide}
+use Rattle.app_side.specs.Represents.{Represents, doubtful, machine_of, machine_over, over}
+
+-- what a step leaves, with other objects
+abbrev pub step_over : {A : Type 0} → Store → Option Store → Stepped A → Stepped A
+step_over store doubt s = record s { machine = over store doubt s.machine }
+
+opened_over : {A : Type 0} (store : Store) (doubt : Option Store) (m : Machine A) (client label : ℕ) (ps : Params) (r : Result Admission Refusal) → opened_as (over store doubt m) client label ps r ≡ step_over store doubt (opened_as m client label ps r)
+opened_over store doubt m client label ps (Err refusal) = refl
+opened_over store doubt m client label ps (Ok a) = refl
+
+-- a choice is the same on both sides
+chosen : {A : Type 0} (store : Store) (doubt : Option Store) (b : Bool) (x y : Stepped A) (x2 y2 : Stepped A) → x2 ≡ step_over store doubt x → y2 ≡ step_over store doubt y → cond b x2 y2 ≡ step_over store doubt (cond b x y)
+chosen store doubt true x y x2 y2 ex ey = ex
+chosen store doubt false x y x2 y2 ex ey = ey
+
+open_over : {A : Type 0} (store : Store) (doubt : Option Store) (m : Machine A) (client label : ℕ) (ps : Params) → called_open (over store doubt m) client label ps ≡ step_over store doubt (called_open m client label ps)
+open_over store doubt m client label ps =
+    chosen store doubt (is_some (first_oversized ps)) _ _ _ _ refl
+    (chosen store doubt (is_some (known m client label)) _ _ _ _ refl
+    (chosen store doubt (is_full m.queue) _ _ _ _ refl
+    (opened_over store doubt m client label ps (admission_of m.table client label))))
+
+invoke_at_over : {A : Type 0} (store : Store) (doubt : Option Store) (m : Machine A) (client : ℕ) (call : Call) (s : SessionFacts) (state : SessionState) → invoked_at (over store doubt m) client call s state ≡ step_over store doubt (invoked_at m client call s state)
+invoke_at_over store doubt m client call s Opening = refl
+invoke_at_over store doubt m client call s Closing = refl
+invoke_at_over store doubt m client call s Dead = refl
+invoke_at_over store doubt m client call s Open = chosen store doubt (is_full m.queue) _ _ _ _ refl refl
+
+invoke_in_over : {A : Type 0} (store : Store) (doubt : Option Store) (m : Machine A) (client : ℕ) (call : Call) (o : Option SessionFacts) → invoked_in (over store doubt m) client call o ≡ step_over store doubt (invoked_in m client call o)
+invoke_in_over store doubt m client call None = refl
+invoke_in_over store doubt m client call (Some s) = invoke_at_over store doubt m client call s s.state
+
+close_at_over : {A : Type 0} (store : Store) (doubt : Option Store) (m : Machine A) (client label : ℕ) (s : SessionFacts) (state : SessionState) → closed_at (over store doubt m) client label s state ≡ step_over store doubt (closed_at m client label s state)
+close_at_over store doubt m client label s Opening = refl
+close_at_over store doubt m client label s Closing = refl
+close_at_over store doubt m client label s Dead = refl
+close_at_over store doubt m client label s Open = refl
+
+close_in_over : {A : Type 0} (store : Store) (doubt : Option Store) (m : Machine A) (client label : ℕ) (o : Option SessionFacts) → closed_in (over store doubt m) client label o ≡ step_over store doubt (closed_in m client label o)
+close_in_over store doubt m client label None = refl
+close_in_over store doubt m client label (Some s) = close_at_over store doubt m client label s s.state
+
+pub called_over : {A : Type 0} (store : Store) (doubt : Option Store) (m : Machine A) (client : ℕ) (call : Call) → called (over store doubt m) client call ≡ step_over store doubt (called m client call)
+unfolding called
+called_over store doubt m client (calls.Open label ps) = open_over store doubt m client label ps
+called_over store doubt m client (calls.Invoke label command ps) =
+    chosen store doubt (is_some (first_oversized ps)) _ _ _ _ refl (invoke_in_over store doubt m client (calls.Invoke label command ps) (known m client label))
+called_over store doubt m client (calls.Close label) = close_in_over store doubt m client label (known m client label)
+
+begun_with_over : {A : Type 0} (store : Store) (doubt : Option Store) (m : Machine A) (inst : Instance A) (o : Option Begun) → begun_with (over store doubt m) inst o ≡ over store doubt (begun_with m inst o)
+begun_with_over store doubt m inst None = refl
+begun_with_over store doubt m inst (Some b) = refl
+
+pub begun_over : {A : Type 0} (store : Store) (doubt : Option Store) (m : Machine A) (inst : Instance A) → begun (over store doubt m) inst ≡ over store doubt (begun m inst)
+begun_over store doubt m inst = begun_with_over store doubt (record m { queue = after_begin m.queue (first_waiting m.queue inst.number) }) inst (begun_at (first_waiting m.queue inst.number))
+
+pub returned_over : {A : Type 0} (store : Store) (doubt : Option Store) (m : Machine A) (inst : Instance A) (op : ℕ) (stage : Stage) (code : Code) (outs : Outs) → returned (over store doubt m) inst op stage code outs ≡ step_over store doubt (returned m inst op stage code outs)
+returned_over store doubt m inst op (stages.Create session ps) code outs = chosen store doubt (is_success code) _ _ _ _ refl refl
+returned_over store doubt m inst op (stages.Start session places) code outs = refl
+returned_over store doubt m inst op (stages.Invoke session places) code outs = refl
+returned_over store doubt m inst op (stages.Stop session) code outs = refl
+
+-- ---- what a value stands for
+
+some_of : (b : Bool) (store : Store) → is_some (doubtful b store) ≡ b
+some_of true store = refl
+some_of false store = refl
+
+-- a step that leaves the objects leaves whether there are others in doubt
+doubt_stays : {A : Type 0} (old new : AppSide A) (f : Machine A → Stepped A) → ((store : Store) (doubt : Option Store) (m : Machine A) → f (over store doubt m) ≡ step_over store doubt (f m)) → machine_of new ≡ (f (machine_of old)).machine → new.in_doubt ≡ old.in_doubt
+doubt_stays {A} old new f law is =
+    sym (some_of new.in_doubt empty_store) ∙ ap (λ (m : Machine A). is_some m.in_doubt) is ∙ ap (λ (s : Stepped A). is_some s.machine.in_doubt) (law empty_store (doubtful old.in_doubt empty_store) (machine_of old)) ∙ some_of old.in_doubt empty_store
+
+-- such a step over any objects
+pub stands_over : {A : Type 0} (old new : AppSide A) (f : Machine A → Stepped A) → ((store : Store) (doubt : Option Store) (m : Machine A) → f (over store doubt m) ≡ step_over store doubt (f m)) → machine_of new ≡ (f (machine_of old)).machine
+    → (store doubt : Store) → machine_over new store doubt ≡ (f (machine_over old store doubt)).machine
+stands_over {A} old new f law is store doubt =
+    ap (λ (b : Bool). over store (doubtful b doubt) (machine_of new)) (doubt_stays old new f law is)
+    ∙ ap (λ (m : Machine A). over store (doubtful old.in_doubt doubt) m) is
+    ∙ ap (λ (s : Stepped A). s.machine) (sym (law store (doubtful old.in_doubt doubt) (machine_of old)))
+
+-- and what it replies
+pub replies_over : {A : Type 0} (old : AppSide A) (f : Machine A → Stepped A) → ((store : Store) (doubt : Option Store) (m : Machine A) → f (over store doubt m) ≡ step_over store doubt (f m)) → (store doubt : Store) → (f (machine_of old)).replies ≡ (f (machine_over old store doubt)).replies
+replies_over {A} old f law store doubt = ap (λ (s : Stepped A). s.replies) (sym (law store (doubtful old.in_doubt doubt) (machine_of old)))
+
+pub instance_over : {A : Type 0} (old : AppSide A) (f : Machine A → Stepped A) → ((store : Store) (doubt : Option Store) (m : Machine A) → f (over store doubt m) ≡ step_over store doubt (f m)) → (store doubt : Store) → (f (machine_of old)).instance ≡ (f (machine_over old store doubt)).instance
+instance_over {A} old f law store doubt = ap (λ (s : Stepped A). s.instance) (sym (law store (doubtful old.in_doubt doubt) (machine_of old)))
+
+store_over : {A : Type 0} (old : AppSide A) (f : Machine A → Stepped A) → ((store : Store) (doubt : Option Store) (m : Machine A) → f (over store doubt m) ≡ step_over store doubt (f m)) → (store doubt : Store) → (f (machine_over old store doubt)).machine.store ≡ store
+store_over {A} old f law store doubt = ap (λ (s : Stepped A). s.machine.store) (law store (doubtful old.in_doubt doubt) (machine_of old))
+
+-- a step over any objects of a value that stands for a machine
+pub step_stands : {A : Type 0} (old new : AppSide A) (f : Machine A → Stepped A) → ((store : Store) (doubt : Option Store) (m : Machine A) → f (over store doubt m) ≡ step_over store doubt (f m)) → machine_of new ≡ (f (machine_of old)).machine
+    → (m : Machine A) → Represents old m → Represents new (f m).machine
+step_stands {A} old new f law is m stands =
+    let here : machine_over new m.store stands.doubt ≡ (f m).machine = stands_over old new f law is m.store stands.doubt ∙ ap (λ (x : Machine A). (f x).machine) (sym stands.parts) in
+    let kept : m.store ≡ (f m).machine.store = sym (store_over old f law m.store stands.doubt) ∙ ap (λ (x : Machine A). (f x).machine.store) (sym stands.parts) in
+    record { doubt = stands.doubt; parts = sym here ∙ ap (λ (s : Store). machine_over new s stands.doubt) kept }
+
+pub step_replies : {A : Type 0} (old : AppSide A) (f : Machine A → Stepped A) → ((store : Store) (doubt : Option Store) (m : Machine A) → f (over store doubt m) ≡ step_over store doubt (f m)) → (m : Machine A) → Represents old m → (f (machine_of old)).replies ≡ (f m).replies
+step_replies {A} old f law m stands = replies_over old f law m.store stands.doubt ∙ ap (λ (x : Machine A). (f x).replies) (sym stands.parts)
+
+pub step_instance : {A : Type 0} (old : AppSide A) (f : Machine A → Stepped A) → ((store : Store) (doubt : Option Store) (m : Machine A) → f (over store doubt m) ≡ step_over store doubt (f m)) → (m : Machine A) → Represents old m → (f (machine_of old)).instance ≡ (f m).instance
+step_instance {A} old f law m stands = instance_over old f law m.store stands.doubt ∙ ap (λ (x : Machine A). (f x).instance) (sym stands.parts)
+
+-- ---- a call leaves whether the storage is lost
+
+stays_lost : {A : Type 0} (lost b : Bool) (x y : Stepped A) → x.machine.lost ≡ lost → y.machine.lost ≡ lost → (cond b x y).machine.lost ≡ lost
+stays_lost lost true x y ex ey = ex
+stays_lost lost false x y ex ey = ey
+
+opened_lost : {A : Type 0} (m : Machine A) (client label : ℕ) (ps : Params) (r : Result Admission Refusal) → (opened_as m client label ps r).machine.lost ≡ m.lost
+opened_lost m client label ps (Err refusal) = refl
+opened_lost m client label ps (Ok a) = refl
+
+invoked_lost : {A : Type 0} (m : Machine A) (client : ℕ) (call : Call) (s : SessionFacts) (state : SessionState) → (invoked_at m client call s state).machine.lost ≡ m.lost
+invoked_lost m client call s Opening = refl
+invoked_lost m client call s Closing = refl
+invoked_lost m client call s Dead = refl
+invoked_lost m client call s Open = stays_lost m.lost (is_full m.queue) _ _ refl refl
+
+invoked_in_lost : {A : Type 0} (m : Machine A) (client : ℕ) (call : Call) (o : Option SessionFacts) → (invoked_in m client call o).machine.lost ≡ m.lost
+invoked_in_lost m client call None = refl
+invoked_in_lost m client call (Some s) = invoked_lost m client call s s.state
+
+closed_lost : {A : Type 0} (m : Machine A) (client label : ℕ) (s : SessionFacts) (state : SessionState) → (closed_at m client label s state).machine.lost ≡ m.lost
+closed_lost m client label s Opening = refl
+closed_lost m client label s Closing = refl
+closed_lost m client label s Dead = refl
+closed_lost m client label s Open = refl
+
+closed_in_lost : {A : Type 0} (m : Machine A) (client label : ℕ) (o : Option SessionFacts) → (closed_in m client label o).machine.lost ≡ m.lost
+closed_in_lost m client label None = refl
+closed_in_lost m client label (Some s) = closed_lost m client label s s.state
+
+pub called_lost : {A : Type 0} (m : Machine A) (client : ℕ) (call : Call) → (called m client call).machine.lost ≡ m.lost
+unfolding called
+called_lost m client (calls.Open label ps) =
+    stays_lost m.lost (is_some (first_oversized ps)) _ _ refl (stays_lost m.lost (is_some (known m client label)) _ _ refl (stays_lost m.lost (is_full m.queue) _ _ refl (opened_lost m client label ps (admission_of m.table client label))))
+called_lost m client (calls.Invoke label command ps) = stays_lost m.lost (is_some (first_oversized ps)) _ _ refl (invoked_in_lost m client (calls.Invoke label command ps) (known m client label))
+called_lost m client (calls.Close label) = closed_in_lost m client label (known m client label)
+
+-- the machine is as it was
+pub same_stands : {A : Type 0} (old new : AppSide A) → machine_of new ≡ machine_of old → (m : Machine A) → Represents old m → Represents new m
+same_stands {A} old new same m stands = step_stands old new (λ (x : Machine A). quiet x) (λ s d x. refl) same m stands

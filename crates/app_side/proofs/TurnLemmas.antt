@@ -1,0 +1,147 @@
+-- From what a turn leaves of a value to what it leaves of the machines that the value stands for.
+use Rattle.std.proofs.Common.{ℕ, Bool, true, false, cond, is_some, None, ◌≡◌, ◌+◌, ◌∙◌, List, Option, Some, find, sym, ap, subst, refl}
+use Rattle.tee_base.specs.declared.codes.Code.{Code}
+use Rattle.app_api.specs.declared.out.Outs.{Outs}
+use Rattle.app_api.specs.declared.ask.Ask.{Ask}
+use Rattle.op_queue.specs.declared.operation.Begun.{Begun}
+use Rattle.op_queue.specs.Queue.{first_waiting, begun_at, after_begin}
+use Rattle.store_api.specs.declared.answer.StoreAnswer.{StoreAnswer}
+use Rattle.store_api.specs.Keeping.{Standing, Kept}
+use Rattle.alone.specs.declared.running.Stage.{Stage}
+use Rattle.alone.specs.declared.running.Stage.TheVariants as stages
+use Rattle.app_api.specs.declared.ask.Answer.{Answer}
+use Rattle.app_api.specs.declared.ask.Given.{Given}
+use Rattle.app_api.specs.declared.ask.Given.TheVariants as givens
+use Rattle.store_api.specs.Stores.{Store}
+use Rattle.alone.specs.declared.reply.Reply.{Reply}
+use Rattle.object_asks.specs.declared.outcome.Ending.{Ending}
+use Rattle.alone.specs.declared.running.Instance.{Instance}
+use Rattle.alone.specs.declared.running.Running.{Running}
+use Rattle.alone.specs.declared.running.Waits.TheVariants as waits
+use Rattle.object_asks.specs.declared.turn.TurnKind.{TurnKind}
+use Rattle.object_asks.specs.declared.turn.TurnKind.TheVariants.{Plain, Lost, Corrupted}
+use Rattle.object_asks.specs.Asks.{Outcome, Answered, comes_to_store}
+use Rattle.alone.specs.Asks.{course_after, objects_of}
+use Rattle.alone.specs.Machine.{Machine, is_number, with_instance}
+use Rattle.alone.specs.Step.{Stepped, acted, begun, begun_with, create_failed, is_success, start_begun, is_changing, may_stand, of_instance, of_running, of_waits, reaches, quiet, returned, step, thought, turned_as}
+use Rattle.app_side.specs.declared.side.AppSide.{AppSide}
+use Rattle.app_side.specs.Represents.{IsStep, IsTurned, Represents, event_of, machine_of, machine_over}
+use Rattle.object_asks.specs.Serving.{HasStanding, Meets, SaysChange, serving_of}
+use Rattle.app_side.specs.Serving.{IsTurnOf, changing, reaching}
+use Rattle.app_side.proofs.Carried.{reaching_is}
+use Rattle.alone.specs.declared.running.Waits.{Waits}
+use Rattle.std.specs.Prelude.{◌&&◌, not}
+use Rattle.app_side.proofs.Stored.{begun_over, replies_over, returned_over, stands_over}
+
+pub begins : {A : Type 0} (old new : AppSide A) (given : List Reply) (inst : Instance A) (store doubt : Store) → machine_of new ≡ begun (machine_of old) inst → given ≡ (quiet (machine_of new)).replies → IsStep new store given (quiet (begun (machine_over old store doubt) inst))
+begins {A} old new given inst store doubt is none = record {
+  doubt = doubt;
+  machine = stands_over old new (λ (m : Machine A). quiet (begun m inst)) (λ s d m. ap quiet (begun_over s d m inst)) is store doubt;
+  replies = none;
+}
+
+pub thinks : {A : Type 0} (next : A → Given → A) (asks : A → Given → Ask) (old new : AppSide A) (given : List Reply) (inst : Instance A) (r : Running) (g : Given) (store doubt : Store) → machine_of new ≡ thought next asks (machine_of old) inst r g → given ≡ (quiet (machine_of new)).replies → IsStep new store given (quiet (thought next asks (machine_over old store doubt) inst r g))
+thinks {A} next asks old new given inst r g store doubt is none = record {
+  doubt = doubt;
+  machine = stands_over old new (λ (m : Machine A). quiet (thought next asks m inst r g)) (λ s d m. refl) is store doubt;
+  replies = none;
+}
+
+pub returns : {A : Type 0} (old new : AppSide A) (given : List Reply) (inst : Instance A) (r : Running) (ending : Ending) (m : Machine A) (store doubt : Store) → IsTurned new given (returned (machine_of old) inst r.op r.stage ending.code ending.outs) → machine_over old store doubt ≡ m → IsStep new store given (returned m inst r.op r.stage ending.code ending.outs)
+returns {A} old new given inst r ending m store doubt is same = subst (λ (x : Machine A). IsStep new store given (returned x inst r.op r.stage ending.code ending.outs)) same (record {
+  doubt = doubt;
+  machine = stands_over old new (λ (x : Machine A). returned x inst r.op r.stage ending.code ending.outs) (λ s d x. returned_over s d x inst r.op r.stage ending.code ending.outs) is.machine store doubt;
+  replies = is.replies ∙ replies_over old (λ (x : Machine A). returned x inst r.op r.stage ending.code ending.outs) (λ s d x. returned_over s d x inst r.op r.stage ending.code ending.outs) store doubt;
+})
+
+pub answers : {A : Type 0} (old new : AppSide A) (given : List Reply) (inst : Instance A) (r : Running) (answer : Answer) (store after : Store) (stated : Outcome (Machine A))
+    → machine_of new ≡ with_instance (machine_of old) (record inst { running = Some (record { op = r.op; stage = r.stage; waits = waits.Given (givens.Answer answer); asks = r.asks + 1 }) }) → given ≡ (quiet (machine_of new)).replies → stated ≡ Answered (machine_over old store after) answer
+    → (m : Machine A) → IsStep new store given (acted m inst r stated)
+answers {A} old new given inst r answer store after stated is none same m =
+    let inst2 : Instance A = record inst { running = Some (record { op = r.op; stage = r.stage; waits = waits.Given (givens.Answer answer); asks = r.asks + 1 }) } in
+    subst (λ (o : Outcome (Machine A)). IsStep new store given (acted m inst r o)) (sym same) (record {
+      doubt = after;
+      machine = stands_over old new (λ (x : Machine A). quiet (with_instance x inst2)) (λ s d x. refl) is store after;
+      replies = none;
+    })
+
+-- the event of a turn of a kind is that turn
+pub event_is : {A : Type 0} (next : A → Given → A) (asks : A → Given → Ask) (m : Machine A) (kind : TurnKind) (i : ℕ) → turned_as next asks (serving_of kind) m i ≡ step next asks m (event_of kind i)
+event_is next asks m Plain i = refl
+event_is next asks m (Lost changes) i = refl
+event_is next asks m Corrupted i = refl
+
+-- a step of each machine that the value stands for, from one over all objects
+pub turn_stands : {A : Type 0} (next : A → Given → A) (asks : A → Given → Ask) (old new : AppSide A) (kind : TurnKind) (i : ℕ) (before store : Store) (given : List Reply)
+    → ((doubt : Store) → IsStep new store given (turned_as next asks (serving_of kind) (machine_over old before doubt) i))
+    → (m : Machine A) → Represents old m → m.store ≡ before → IsStep new store given (step next asks m (event_of kind i))
+turn_stands {A} next asks old new kind i before store given each m stands same =
+    subst (λ (s : Stepped A). IsStep new store given s) (event_is next asks m kind i)
+    (subst (λ (x : Machine A). IsStep new store given (turned_as next asks (serving_of kind) x i)) (sym (stands.parts ∙ ap (λ (s : Store). machine_over old s stands.doubt) same)) (each stands.doubt))
+
+pub step_store : {A : Type 0} (new : AppSide A) (store : Store) (given : List Reply) (s : Stepped A) → IsStep new store given s → s.machine.store ≡ store
+step_store {A} new store given s is = ap (λ (m : Machine A). m.store) (sym is.machine)
+
+pub step_represents : {A : Type 0} (new : AppSide A) (store : Store) (given : List Reply) (s : Stepped A) → IsStep new store given s → Represents new s.machine
+step_represents new store given s is = record { doubt = is.doubt; parts = sym is.machine ∙ ap (λ (x : Store). machine_over new x is.doubt) (sym (step_store new store given s is)) }
+
+-- ---- the loss of the storage, and which ask waits
+
+pub none_of : (o : Option Running) → is_some o ≡ false → o ≡ None
+none_of None e = refl
+none_of (Some r) e = absurd (let f : true ≡ false = e in cc)
+
+begun_with_lost : {A : Type 0} (m : Machine A) (inst : Instance A) (o : Option Begun) → (begun_with m inst o).lost ≡ m.lost
+begun_with_lost m inst None = refl
+begun_with_lost m inst (Some b) = refl
+
+pub begun_lost : {A : Type 0} (m : Machine A) (inst : Instance A) → (begun m inst).lost ≡ m.lost
+begun_lost m inst = begun_with_lost (record m { queue = after_begin m.queue (first_waiting m.queue inst.number) }) inst (begun_at (first_waiting m.queue inst.number))
+
+pub returned_lost : {A : Type 0} (m : Machine A) (inst : Instance A) (op : ℕ) (stage : Stage) (code : Code) (outs : Outs) → (returned m inst op stage code outs).machine.lost ≡ m.lost
+returned_lost {A} m inst op (stages.Create session ps) code outs =
+    elim (is_success code) as (λ b. (let s : Stepped A = cond b (quiet (with_instance m (record inst { created = true; running = Some (start_begun op session ps) }))) (create_failed m inst code) in s.machine.lost ≡ m.lost)) [ true ↦ refl | false ↦ refl ]
+returned_lost m inst op (stages.Start session places) code outs = refl
+returned_lost m inst op (stages.Invoke session places) code outs = refl
+returned_lost m inst op (stages.Stop session) code outs = refl
+
+pub turned_lost : {A : Type 0} (old new : AppSide A) (given : List Reply) (inst : Instance A) (op : ℕ) (stage : Stage) (code : Code) (outs : Outs) → IsTurned new given (returned (machine_of old) inst op stage code outs) → old.lost ≡ new.lost
+turned_lost {A} old new given inst op stage code outs is = sym (ap (λ (m : Machine A). m.lost) is.machine ∙ returned_lost (machine_of old) inst op stage code outs)
+
+of_waits_same : (one other : ℕ → Stage → Ask → Bool) (r : Running) (w : Waits) → ((made : ℕ) (stage : Stage) (ask : Ask) → one made stage ask ≡ other made stage ask) → of_waits one r w ≡ of_waits other r w
+of_waits_same one other r (waits.Given given) same = refl
+of_waits_same one other r (waits.Ask ask) same = same r.asks r.stage ask
+
+of_running_same : (one other : ℕ → Stage → Ask → Bool) (o : Option Running) → ((made : ℕ) (stage : Stage) (ask : Ask) → one made stage ask ≡ other made stage ask) → of_running one o ≡ of_running other o
+of_running_same one other None same = refl
+of_running_same one other (Some r) same = of_waits_same one other r r.waits same
+
+of_instance_same : {A : Type 0} (one other : ℕ → Stage → Ask → Bool) (o : Option (Instance A)) → ((made : ℕ) (stage : Stage) (ask : Ask) → one made stage ask ≡ other made stage ask) → of_instance one o ≡ of_instance other o
+of_instance_same one other None same = refl
+of_instance_same one other (Some inst) same = of_running_same one other inst.running same
+
+both_true : (a b : Bool) → a ≡ true → b ≡ false → (a && not b) ≡ true
+both_true a b ha hb = rw (ha, hb) refl
+
+reaches_is : {A : Type 0} (old : AppSide A) (store doubt : Store) (i : ℕ) → of_instance (reaching (objects_of (machine_over old store doubt)) i) (find (is_number i) old.instances.items) ≡ reaches (machine_over old store doubt) i
+reaches_is old store doubt i = of_instance_same _ (λ made stage ask. comes_to_store (course_after made (machine_over old store doubt) i stage ask)) (find (is_number i) old.instances.items) (λ made stage ask. reaching_is (machine_over old store doubt) i made stage ask)
+
+-- the event of a turn may stand
+pub turn_may_stand : {A : Type 0} (old : AppSide A) (store : Store) (kind : TurnKind) (i : ℕ) (before after : Standing) → old.lost ≡ before.lost → HasStanding kind before after
+    → Meets kind (of_instance (reaching (record { store = store; handles = old.handles }) i) (find (is_number i) old.instances.items)) → (m : Machine A) → Represents old m → m.store ≡ store → may_stand m (event_of kind i) ≡ true
+turn_may_stand old store Plain i before after same stands meets m of_m kept = refl
+turn_may_stand {A} old store (Lost changes) i before after same stands meets m of_m kept =
+    subst (λ (x : Machine A). (reaches x i && not x.lost) ≡ true) (sym (of_m.parts ∙ ap (λ (s : Store). machine_over old s of_m.doubt) kept)) (both_true _ _ (sym (reaches_is old store of_m.doubt i) ∙ meets) (same ∙ stands.cause.0))
+turn_may_stand {A} old store Corrupted i before after same stands meets m of_m kept =
+    subst (λ (x : Machine A). (reaches x i && not x.lost) ≡ true) (sym (of_m.parts ∙ ap (λ (s : Store). machine_over old s of_m.doubt) kept)) (both_true _ _ (sym (reaches_is old store of_m.doubt i) ∙ meets) (same ∙ stands.cause.0))
+
+pub turn_change : {A : Type 0} (old : AppSide A) (kind : TurnKind) (i : ℕ) → SaysChange kind (of_instance changing (find (is_number i) old.instances.items)) → (m : Machine A) → Represents old m → SaysChange kind (is_changing m i)
+turn_change {A} old kind i says m of_m = subst (λ (x : Machine A). SaysChange kind (is_changing x i)) (sym of_m.parts) says
+
+module _ {D : Type 0} (is_telling : Bool) (kept_of : D → Kept) (standing_of : D → Standing) (damage_of : D → StoreAnswer → Type 0) (IsHonest : D → Type 0) where
+  pub moves : (kind : TurnKind) (comes comes2 changes changes2 lost left left2 : Bool) (old new : D) → comes ≡ comes2 → changes ≡ changes2 → left ≡ left2
+      → IsTurnOf is_telling kept_of standing_of damage_of IsHonest kind comes changes lost left old new → IsTurnOf is_telling kept_of standing_of damage_of IsHonest kind comes2 changes2 lost left2 old new
+  moves kind comes comes2 changes changes2 lost left left2 old new c h l is =
+      subst (λ (b : Bool). IsTurnOf is_telling kept_of standing_of damage_of IsHonest kind b changes2 lost left2 old new) c
+      (subst (λ (b : Bool). IsTurnOf is_telling kept_of standing_of damage_of IsHonest kind comes b lost left2 old new) h
+      (subst (λ (b : Bool). IsTurnOf is_telling kept_of standing_of damage_of IsHonest kind comes changes lost b old new) l is))

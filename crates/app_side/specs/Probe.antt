@@ -1,0 +1,68 @@
+-- The application of the tests: a command names the ask that it makes, and it returns what it is answered.
+use Rattle.std.specs.Prelude.{ℕ, ◌==◌, if◌then◌else◌}
+use Rattle.tee_base.specs.declared.codes.Code.{Code}
+use Rattle.app_api.specs.declared.param.Param.{Param}
+use Rattle.app_api.specs.declared.param.Param.TheVariants as params
+use Rattle.app_api.specs.declared.param.Params.{Params}
+use Rattle.app_api.specs.declared.out.Out.{Out}
+use Rattle.app_api.specs.declared.out.Out.TheVariants as outs
+use Rattle.app_api.specs.declared.ask.Answer.{Answer}
+use Rattle.app_api.specs.declared.ask.Answer.TheVariants as answers
+use Rattle.app_api.specs.declared.ask.Ask.{Ask}
+use Rattle.app_api.specs.declared.ask.Ask.TheVariants as asked
+use Rattle.app_api.specs.declared.ask.Entry.{Entry}
+use Rattle.app_api.specs.declared.ask.Entry.TheVariants as entries
+use Rattle.app_api.specs.declared.ask.Given.{Given}
+use Rattle.app_api.specs.declared.ask.Given.TheVariants as givens
+
+-- the return of this code, with this as the last output
+abbrev pub returns : Code → Out → Ask
+returns code out = asked.Return code (record { p0 = outs.Nothing; p1 = outs.Nothing; p2 = outs.Nothing; p3 = out })
+
+abbrev pub fine : Out → Ask
+fine out = returns (record { 0 = 0 }) out
+
+-- the numbers of a value, and the bytes of a memory
+abbrev pub first_of : Param → ℕ
+first_of (params.ValueIn a b) = a
+first_of p = 0
+
+abbrev pub second_of : Param → ℕ
+second_of (params.ValueIn a b) = b
+second_of p = 0
+
+abbrev pub open_of : ℕ → ℕ → Param → Ask
+open_of flags storage (params.MemIn id) = asked.ObjOpen storage id flags
+open_of flags storage p = fine outs.Nothing
+
+abbrev pub create_of : ℕ → ℕ → Param → Param → Ask
+create_of flags attr (params.MemIn id) (params.MemIn content) = asked.ObjCreate 1 id flags attr content
+create_of flags attr p q = fine outs.Nothing
+
+abbrev pub write_of : ℕ → Param → Ask
+write_of object (params.MemIn bytes) = asked.ObjWrite object bytes
+write_of object p = fine outs.Nothing
+
+abbrev pub ask_of : ℕ → Params → Ask
+ask_of command ps =
+    if command == 1 then open_of (first_of ps.p0) (second_of ps.p0) ps.p1
+    else if command == 2 then create_of (first_of ps.p0) (second_of ps.p0) ps.p1 ps.p2
+    else if command == 3 then asked.ObjClose (first_of ps.p0)
+    else if command == 6 then asked.ObjInfo (first_of ps.p0)
+    else if command == 7 then asked.ObjRead (first_of ps.p0) (second_of ps.p0)
+    else if command == 8 then write_of (first_of ps.p0) ps.p1
+    else fine outs.Nothing
+
+abbrev pub told_by : Answer → Ask
+told_by (answers.Refused code) = returns code outs.Nothing
+told_by (answers.Number n) = fine (outs.Value n 0)
+told_by (answers.Content bytes) = fine (outs.Mem bytes)
+told_by answer = fine outs.Nothing
+
+abbrev pub at_entry : Entry → Ask
+at_entry (entries.Invoke session command ps) = ask_of command ps
+at_entry entry = fine outs.Nothing
+
+unfoldable pub next_ask : Given → Ask
+next_ask (givens.Entry entry) = at_entry entry
+next_ask (givens.Answer answer) = told_by answer

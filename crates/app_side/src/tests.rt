@@ -1,0 +1,4 @@
+//! Turns over a store in memory, some of whose calls fail.
+
+mod probe;
+mod turns;

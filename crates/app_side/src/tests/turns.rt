@@ -1,0 +1,309 @@
+//! Calls and their turns, over stores of which some calls fail.
+
+ghost use Rattle.std.specs.Prelude.{◌≡◌, IfOk, OnOk};
+ghost use Rattle.app_side.specs.Represents.{is_lost, IsOneInstance};
+
+use super::probe::Probe;
+use crate::{AppSide, Call, TurnKind};
+use alone::{Reply, Shown};
+use app_api::{Host, Param, Params, Properties};
+use std::alloc::Global;
+use std::process::Abort;
+use std::test::Fail;
+use store_api::MapStore;
+use tee_base::{Bytes, Code};
+use uuid::Uuid;
+
+/// Reads, writes and lets others do so.
+const ALL: u32 = 0x33;
+
+/// A command in words that a table can hold.
+#[derive(Clone, Copy, Debug)]
+enum Step<'a> {
+    Open(u32, &'a [u8]),
+    Create(u32, &'a [u8], &'a [u8]),
+    Close(u32),
+    Info(u32),
+    Read(u32, u32),
+    Write(u32, &'a [u8]),
+}
+
+/// What is shown of it.
+#[derive(Clone, Copy, Debug, PartialEq)]
+enum Told<'a> {
+    Code(Code),
+    Number(u32),
+    Bytes(&'a [u8]),
+}
+
+fn memory(alloc: Global, bytes: &[u8]) -> Result<Param, Fail> {
+    Ok(Param::MemIn(Bytes::from_slice(alloc, bytes)?))
+}
+
+fn invoke(alloc: Global, step: Step<'_>) -> Result<Call, Fail> {
+    let (command, p0, p1, p2, p3) = match step {
+        Step::Open(flags, id) => (
+            1,
+            Param::ValueIn(flags, 1),
+            memory(alloc, id)?,
+            Param::Nothing,
+            Param::ValueOut,
+        ),
+        Step::Create(flags, id, content) => (
+            2,
+            Param::ValueIn(flags, 0),
+            memory(alloc, id)?,
+            memory(alloc, content)?,
+            Param::ValueOut,
+        ),
+        Step::Close(object) => (
+            3,
+            Param::ValueIn(object, 0),
+            Param::Nothing,
+            Param::Nothing,
+            Param::Nothing,
+        ),
+        Step::Info(object) => (
+            6,
+            Param::ValueIn(object, 0),
+            Param::Nothing,
+            Param::Nothing,
+            Param::Nothing,
+        ),
+        Step::Read(object, count) => (
+            7,
+            Param::ValueIn(object, count),
+            Param::Nothing,
+            Param::Nothing,
+            Param::MemOut(64),
+        ),
+        Step::Write(object, bytes) => (
+            8,
+            Param::ValueIn(object, 0),
+            memory(alloc, bytes)?,
+            Param::Nothing,
+            Param::Nothing,
+        ),
+    };
+    Ok(Call::Invoke {
+        label: 1,
+        command,
+        params: Params { p0, p1, p2, p3 },
+    })
+}
+
+fn host(alloc: Global) -> Result<Host<Probe>, Fail>
+    ensures { IfOk result (λ host. IsOneInstance host) }
+{
+    Ok(Host {
+        name: Bytes::from_slice(alloc, b"probe")?,
+        id: Uuid::nil(),
+        properties: Properties {
+            single: true,
+            multi: true,
+            keep: true,
+        },
+        template: Probe { number: 0 },
+    })
+}
+
+/// What is shown of a reply's last output.
+fn shown(reply: &Reply) -> Told<'_> {
+    match &reply.outputs.p3 {
+        _ if reply.code != Code::SUCCESS => Told::Code(reply.code),
+        Shown::Value(number, _) => Told::Number(*number),
+        Shown::Mem { bytes, .. } => Told::Bytes(bytes.as_slice()),
+        _ => Told::Code(Code::SUCCESS),
+    }
+}
+
+/// Eight turns: enough for an entry with one ask. Some turn is of this kind, and one has the reply that is wanted.
+fn run(
+    rt: &impl Abort,
+    side: &mut AppSide<Probe>,
+    store: &mut MapStore,
+    kind: TurnKind,
+    wanted: Option<Told<'_>>,
+) -> Result<(), Fail>
+    requires { is_lost side.old ≡ store.old.lost }
+    ensures { OnOk result (is_lost side.new ≡ store.new.lost) }
+{
+    let mut met = false;
+    let mut replies = 0u32;
+    for _ in 0..8u8 {
+        let turned = side.turn(1, store)?;
+        if turned.kind == kind {
+            met = true;
+        } else {
+            assert_eq!(rt; turned.kind, TurnKind::Plain);
+        }
+        for reply in turned.replies.as_slice() {
+            replies = replies.saturating_add(1);
+            if let Some(wanted) = wanted {
+                assert_eq!(rt; shown(reply), wanted);
+            }
+        }
+    }
+    assert!(rt; met);
+    assert_eq!(rt; replies, 1);
+    Ok(())
+}
+
+/// Opens a session, and makes the steps over a store whose calls of these numbers fail.
+fn check(
+    rt: &impl Abort,
+    alloc: Global,
+    failing: &[u64],
+    steps: &[(Step<'_>, TurnKind, Told<'_>)],
+) -> Result<(), Fail> {
+    let mut side = AppSide::new(alloc, host(alloc)?, 0, [0; 32])?;
+    let mut store = MapStore::new(alloc, failing)?;
+    let open = Call::Open {
+        label: 1,
+        params: Params {
+            p0: Param::Nothing,
+            p1: Param::Nothing,
+            p2: Param::Nothing,
+            p3: Param::Nothing,
+        },
+    };
+    let _called = side.call(0, open)?;
+    run(rt, &mut side, &mut store, TurnKind::Plain, None)?;
+    for (step, kind, wanted) in steps {
+        let _called = side.call(0, invoke(alloc, *step)?)?;
+        run(rt, &mut side, &mut store, *kind, Some(*wanted))?;
+    }
+    Ok(())
+}
+
+const PLAIN: TurnKind = TurnKind::Plain;
+
+const FINE: Told<'static> = Told::Code(Code::SUCCESS);
+
+#[test]
+fn objects_are_kept_and_shared(rt: HostRuntime) -> Result<(), Fail> {
+    check(
+        &rt,
+        rt.alloc(),
+        &[],
+        &[
+            (
+                Step::Open(ALL, b"a"),
+                PLAIN,
+                Told::Code(Code::ITEM_NOT_FOUND),
+            ),
+            (Step::Create(ALL, b"a", b"1234"), PLAIN, Told::Number(1)),
+            (Step::Read(1, 3), PLAIN, Told::Bytes(b"123")),
+            (Step::Read(1, 3), PLAIN, Told::Bytes(b"4")),
+            (Step::Read(1, 3), PLAIN, Told::Bytes(b"")),
+            (Step::Write(1, b"56"), PLAIN, FINE),
+            (Step::Open(ALL, b"a"), PLAIN, Told::Number(2)),
+            (
+                Step::Open(1, b"a"),
+                PLAIN,
+                Told::Code(Code::ACCESS_CONFLICT),
+            ),
+            (Step::Read(2, 9), PLAIN, Told::Bytes(b"123456")),
+            (
+                Step::Create(0x403, b"a", b""),
+                PLAIN,
+                Told::Code(Code::ACCESS_CONFLICT),
+            ),
+            (Step::Close(1), PLAIN, FINE),
+            (Step::Close(2), PLAIN, FINE),
+            (Step::Close(0), PLAIN, FINE),
+            (
+                Step::Create(3, b"a", b""),
+                PLAIN,
+                Told::Code(Code::ACCESS_CONFLICT),
+            ),
+            (Step::Create(0x403, b"a", b"x"), PLAIN, Told::Number(1)),
+            (Step::Read(1, 9), PLAIN, Told::Bytes(b"x")),
+            (Step::Close(5), PLAIN, Told::Code(Code::NOT_IMPLEMENTED)),
+            (Step::Info(1), PLAIN, Told::Code(Code::NOT_IMPLEMENTED)),
+            (
+                Step::Open(0x800, b"a"),
+                PLAIN,
+                Told::Code(Code::NOT_IMPLEMENTED),
+            ),
+        ],
+    )
+}
+
+#[test]
+fn bytes_go_where_the_handle_stands(rt: HostRuntime) -> Result<(), Fail> {
+    const MISUSE: Told<'static> = Told::Code(Code::NOT_IMPLEMENTED);
+    check(
+        &rt,
+        rt.alloc(),
+        &[],
+        &[
+            (Step::Create(ALL, b"a", b"123456"), PLAIN, Told::Number(1)),
+            (Step::Read(1, 2), PLAIN, Told::Bytes(b"12")),
+            (Step::Write(1, b"xy"), PLAIN, FINE),
+            (Step::Read(1, 9), PLAIN, Told::Bytes(b"56")),
+            (Step::Close(1), PLAIN, FINE),
+            (Step::Open(1, b"a"), PLAIN, Told::Number(1)),
+            (Step::Write(1, b"z"), PLAIN, MISUSE),
+            (Step::Read(1, 524_289), PLAIN, MISUSE),
+            (Step::Read(1, 524_288), PLAIN, Told::Bytes(b"12xy56")),
+        ],
+    )
+}
+
+#[test]
+fn a_lost_store_is_told(rt: HostRuntime) -> Result<(), Fail> {
+    const GONE: Told<'static> = Told::Code(Code::STORAGE_NOT_AVAILABLE);
+    check(
+        &rt,
+        rt.alloc(),
+        &[2],
+        &[
+            (Step::Create(ALL, b"a", b"1234"), PLAIN, Told::Number(1)),
+            (Step::Read(1, 1), PLAIN, Told::Bytes(b"1")),
+            (Step::Write(1, b"5"), TurnKind::Lost { change: true }, GONE),
+            (Step::Read(1, 1), PLAIN, GONE),
+            (Step::Read(1, 0), PLAIN, Told::Bytes(b"")),
+            (Step::Create(ALL, b"b", b""), PLAIN, GONE),
+            (Step::Open(ALL, b"a"), PLAIN, GONE),
+            (Step::Close(1), PLAIN, FINE),
+        ],
+    )?;
+    check(
+        &rt,
+        rt.alloc(),
+        &[1],
+        &[
+            (Step::Create(ALL, b"a", b"1234"), PLAIN, Told::Number(1)),
+            (
+                Step::Open(ALL, b"a"),
+                TurnKind::Lost { change: false },
+                GONE,
+            ),
+            (Step::Close(2), PLAIN, Told::Code(Code::NOT_IMPLEMENTED)),
+        ],
+    )?;
+    check(
+        &rt,
+        rt.alloc(),
+        &[1],
+        &[
+            (Step::Create(ALL, b"a", b"1234"), PLAIN, Told::Number(1)),
+            (Step::Read(1, 2), TurnKind::Lost { change: false }, GONE),
+            (Step::Write(1, b"5"), PLAIN, GONE),
+        ],
+    )?;
+    check(
+        &rt,
+        rt.alloc(),
+        &[0],
+        &[
+            (
+                Step::Create(ALL, b"a", b"1234"),
+                TurnKind::Lost { change: true },
+                GONE,
+            ),
+            (Step::Close(1), PLAIN, Told::Code(Code::NOT_IMPLEMENTED)),
+        ],
+    )
+}

@@ -1,0 +1,4 @@
+pub mod HandleLemmas
+pub mod ServingLemmas
+pub mod SoundAsks
+pub mod SoundHandles

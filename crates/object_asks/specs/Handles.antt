@@ -1,0 +1,29 @@
+-- What holds of an application's handles between two events.
+use Rattle.std.specs.Prelude.{◌≡◌, Bool, true, nat_le, List, None, length}
+use Rattle.std.specs.List.{list_all}
+use Rattle.handle_table.specs.declared.handle.Entry.{Entry}
+use Rattle.handle_table.specs.declared.handle.Handle.{Handle}
+use Rattle.handle_table.specs.declared.handle.Handle.TheVariants.{Persistent, Transient}
+use Rattle.handle_table.specs.Handles.{Table}
+use Rattle.store_api.specs.Limits.{IsIdentifier}
+
+-- the handles as a table in which no rename is pending: between two events none ever is
+abbrev pub settled : List Entry → Table
+settled handles = record { handles = handles; pending = None }
+
+-- the identifier, where there is one, has at most 64 bytes
+abbrev pub HasIdentifier : Handle → Type 0
+HasIdentifier (Persistent id flags position) = IsIdentifier id
+HasIdentifier Transient = Unit {0}
+
+abbrev pub has_identifier : Handle → Bool
+has_identifier (Persistent id flags position) = nat_le (length id) 64
+has_identifier Transient = true
+
+abbrev pub entry_has_identifier : Entry → Bool
+entry_has_identifier e = has_identifier e.handle
+
+-- no rename is pending, and each identifier has at most 64 bytes
+pub record IsBetweenEvents (t : Table) : Type 0 where
+  pub no_rename : t.pending ≡ None
+  pub identifiers : list_all entry_has_identifier t.handles ≡ true

@@ -1,0 +1,4 @@
+pub mod Asks
+pub mod Codes
+pub mod Handles
+pub mod Serving

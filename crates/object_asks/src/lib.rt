@@ -1,0 +1,14 @@
+//! What comes of asks about objects, over the handles of one application and whatever keeps its store.
+#![tactic(auto)]
+
+mod handles;
+mod objects;
+mod outcome;
+#[cfg(test)]
+mod tests;
+mod turn;
+
+pub use handles::Handles;
+pub use objects::serve;
+pub use outcome::{Ending, Outcome, Served, answered, panicked, refused};
+pub use turn::TurnKind;

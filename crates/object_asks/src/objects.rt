@@ -1,0 +1,388 @@
+//! Asks about persistent objects: one function for each, misuse first, then the refusals in their order, then what the store
+//! gives (TEE Internal Core API 1.3, sections 5.7 and 5.9).
+
+ghost use Rattle.std.specs.Prelude.{◌≡◌, ◌≤◌, ◌+◌, Bool, List, false, true, min, IfOk, IsTrue, length};
+ghost use Rattle.store_api.specs.Limits.{IsIdentifier};
+ghost use Rattle.store_api.specs.Stores.{found, read_at, change};
+ghost use Rattle.store_api.specs.declared.change.Change.TheVariants.{Write as write_at};
+ghost use Rattle.share_rules.specs.Sharing.{has as has_bit};
+ghost use Rattle.handle_table.specs.Handles.{handle_at, is_full, is_open, is_there};
+ghost use Rattle.object_asks.specs.Handles.{settled};
+ghost use Rattle.store_api.specs.Keeping.{Kept};
+ghost use Rattle.handle_table.specs.declared.handle.Entry.{Entry};
+ghost use Rattle.object_asks.specs.Codes.{access_conflict};
+ghost use Rattle.object_asks.specs.Asks.{Serves, came_of, changes_store, close_course, create_course, created, created_by, has_unknown_bits, is_long_identifier, is_too_much, kept_flags, object_course, open_course, opened_by, overwrites, put_of, read_by, refused, read_course, write_course, written_by};
+ghost use Rattle.object_asks.specs.Serving.{IsGiven, IsOutcome, IsServed, objects_in};
+
+use crate::handles::Handles;
+use crate::outcome::{Served, answered, panicked, refused, told};
+use crate::turn::TurnKind;
+use app_api::{Answer, Ask};
+use handle_table::Handle;
+use std::alloc::Global;
+use store_api::{AppStore, Change, StoreAnswer};
+use tee_base::{Bytes, Code, Flags, NoMemory, limits};
+
+/// The one storage that there is.
+const PRIVATE: u32 = 1;
+
+/// The kind of an object without attributes (TEE Internal Core API 1.3, section 6.11).
+const DATA: u32 = 0xA000_00BF;
+
+/// The flags that a handle keeps: the known ones but `OVERWRITE`.
+const KEPT: u32 = 0x37;
+
+fn is_long_identifier(id: &[u8]) -> bool
+    ensures { result ≡ is_long_identifier id.now }
+{
+    id.len() > limits::IDENTIFIER_BYTES
+}
+
+/// Whether it is more than an ask may bring or want.
+fn is_too_much(count: usize) -> bool
+    ensures { result ≡ is_too_much count }
+{
+    count > limits::ASK_BYTES as usize
+}
+
+fn has_unknown_bits(flags: u32) -> bool
+    ensures { result ≡ has_unknown_bits flags }
+{
+    flags & Flags::KNOWN.0 != flags
+}
+
+fn has_bit(bit: Flags, flags: Flags) -> bool
+    ensures { result ≡ has_bit bit.0 flags }
+{
+    flags.0 & bit.0 != 0
+}
+
+fn kept_flags(flags: u32) -> Flags
+    ensures { result ≡ kept_flags flags }
+{
+    Flags(flags & KEPT)
+}
+
+/// The position that so many bytes lead to.
+fn behind(position: u32, count: usize) -> u32
+    ensures { result ≡ min (position + count) 4294967295 }
+{
+    let end = (position as usize).saturating_add(count);
+    u32::try_from(end).unwrap_or(u32::MAX)
+}
+
+/// Opens an object that may be there.
+fn open_found<T: AppStore>(
+    handles: &mut Handles,
+    store: &mut T,
+    instance: u8,
+    id: &[u8],
+    flags: Flags,
+) -> Result<Answer, StoreAnswer>
+    requires id { IsIdentifier id.now }
+    requires room { is_full (settled handles.old) instance ≡ false }
+    ensures { IsGiven T.tells T.kept T.standing T.damage T.honest result (opened_by (objects_in handles.old (T.kept store.old)) instance id.now flags (found (T.kept store.old).store id.now)) handles.old handles.new store.old store.new }
+{
+    let _facts = store.find(id)?;
+    if !handles.may_open(id, flags) {
+        return Ok(Answer::Refused(Code::ACCESS_CONFLICT));
+    }
+    Ok(Answer::Number(handles.add(instance, id, flags)?))
+}
+
+#[tactic(auto, using(crate::proofs::ServingLemmas::by_store, crate::proofs::ServingLemmas::by_panic, crate::proofs::ServingLemmas::by_answer))]
+fn open<T: AppStore>(
+    handles: &mut Handles,
+    store: &mut T,
+    instance: u8,
+    storage: u32,
+    id: &[u8],
+    flags: u32,
+) -> Result<Served, NoMemory>
+    ensures { IfOk result (λ served. IsServed T.tells T.kept T.standing T.damage T.honest served (open_course (objects_in handles.old (T.kept store.old)) instance storage id.now flags) false handles.old handles.new store.old store.new) }
+{
+    if is_long_identifier(id) || has_unknown_bits(flags) {
+        return Ok(panicked());
+    }
+    if storage != PRIVATE {
+        return Ok(refused(Code::ITEM_NOT_FOUND));
+    }
+    if handles.is_full(instance) {
+        return Ok(refused(Code::BUSY));
+    }
+    told(
+        open_found(handles, store, instance, id, kept_flags(flags)),
+        false,
+    )
+}
+
+/// A create over an object that is open. The store is asked, since a lost one is answered first.
+fn conflict<T: AppStore>(store: &mut T, id: &[u8]) -> Result<Answer, StoreAnswer>
+    requires { IsIdentifier id.now }
+    ensures { (handles : List Entry) → IsGiven T.tells T.kept T.standing T.damage T.honest result (refused (objects_in handles (T.kept store.old)) access_conflict) handles handles store.old store.new }
+{
+    match store.find(id) {
+        Ok(_) | Err(StoreAnswer::NotFound | StoreAnswer::Exists | StoreAnswer::NoSpace) => {
+            Ok(Answer::Refused(Code::ACCESS_CONFLICT))
+        }
+        Err(answer) => Err(answer),
+    }
+}
+
+/// Makes an object on which no handle is open. Its handle is there before the store is changed, and goes again where the
+/// store refuses.
+#[tactic(auto, using(crate::proofs::HandleLemmas::closed_opens, crate::proofs::HandleLemmas::closed_again))]
+fn create_closed<T: AppStore>(
+    alloc: Global,
+    handles: &mut Handles,
+    store: &mut T,
+    instance: u8,
+    id: Bytes,
+    flags: u32,
+    content: Bytes,
+) -> Result<Answer, StoreAnswer>
+    requires id { IsIdentifier id }
+    requires content { length content ≤ 524288 }
+    requires room { is_full (settled handles.old) instance ≡ false }
+    requires closed { is_open (settled handles.old) id ≡ false }
+    ensures { IsGiven T.tells T.kept T.standing T.damage T.honest result (created_by (objects_in handles.old (T.kept store.old)) instance id (kept_flags flags) (change (T.kept store.old).store (put_of id content (overwrites flags)))) handles.old handles.new store.old store.new }
+{
+    let number = handles.add(instance, id.as_slice(), kept_flags(flags))?;
+    let change = Change::Put {
+        id,
+        kind: DATA,
+        usage: u32::MAX,
+        secret: Bytes::empty(alloc),
+        content,
+        overwrite: has_bit(Flags::OVERWRITE, Flags(flags)),
+    };
+    match store.apply(&change) {
+        Ok(()) => Ok(Answer::Number(number)),
+        Err(answer) => {
+            handles.close(instance, number);
+            Err(answer)
+        }
+    }
+}
+
+fn create_object<T: AppStore>(
+    alloc: Global,
+    handles: &mut Handles,
+    store: &mut T,
+    instance: u8,
+    id: Bytes,
+    flags: u32,
+    content: Bytes,
+) -> Result<Answer, StoreAnswer>
+    requires id { IsIdentifier id }
+    requires content { length content ≤ 524288 }
+    requires room { is_full (settled handles.old) instance ≡ false }
+    ensures { IsGiven T.tells T.kept T.standing T.damage T.honest result (created (objects_in handles.old (T.kept store.old)) instance id flags content) handles.old handles.new store.old store.new }
+{
+    if handles.is_open(id.as_slice()) {
+        return conflict(store, id.as_slice());
+    }
+    create_closed(alloc, handles, store, instance, id, flags, content)
+}
+
+#[tactic(auto, using(crate::proofs::ServingLemmas::by_store, crate::proofs::ServingLemmas::by_panic, crate::proofs::ServingLemmas::by_answer))]
+fn create<T: AppStore>(
+    alloc: Global,
+    handles: &mut Handles,
+    store: &mut T,
+    instance: u8,
+    storage: u32,
+    id: Bytes,
+    flags: u32,
+    attr: u32,
+    content: Bytes,
+) -> Result<Served, NoMemory>
+    ensures { IfOk result (λ served. IsServed T.tells T.kept T.standing T.damage T.honest served (create_course (objects_in handles.old (T.kept store.old)) instance storage id flags attr content) true handles.old handles.new store.old store.new) }
+{
+    if is_long_identifier(id.as_slice())
+        || is_too_much(content.len())
+        || has_unknown_bits(flags)
+        || attr != 0
+    {
+        return Ok(panicked());
+    }
+    if storage != PRIVATE {
+        return Ok(refused(Code::ITEM_NOT_FOUND));
+    }
+    if handles.is_full(instance) {
+        return Ok(refused(Code::BUSY));
+    }
+    told(
+        create_object(alloc, handles, store, instance, id, flags, content),
+        true,
+    )
+}
+
+fn close(handles: &mut Handles, instance: u8, object: u32) -> Served
+    ensures kind { result.kind ≡ TurnKind.Plain }
+    ensures outcome { (kept : Kept) (lost : Bool) → IsOutcome result.outcome (came_of Serves lost (close_course (objects_in handles.old kept) instance object)) (objects_in handles.old kept) (objects_in handles.new kept) }
+{
+    if object == 0 {
+        return answered(Answer::Done);
+    }
+    if !handles.is_there(instance, object) {
+        return panicked();
+    }
+    handles.close(instance, object);
+    answered(Answer::Done)
+}
+
+/// Reads from the position on, and the handle stands behind what was read.
+fn read_on<T: AppStore>(
+    handles: &mut Handles,
+    store: &mut T,
+    instance: u8,
+    object: u32,
+    id: Bytes,
+    position: u32,
+    count: u32,
+) -> Result<Answer, StoreAnswer>
+    requires id { IsIdentifier id }
+    requires count { count ≤ 524288 }
+    requires there { IsTrue (is_there (settled handles.old) instance object) }
+    ensures { IsGiven T.tells T.kept T.standing T.damage T.honest result (read_by (objects_in handles.old (T.kept store.old)) instance object position (read_at (T.kept store.old).store id position count)) handles.old handles.new store.old store.new }
+{
+    let bytes = store.read(id.as_slice(), position, count)?;
+    handles.seek(instance, object, behind(position, bytes.len()));
+    Ok(Answer::Content(bytes))
+}
+
+#[tactic(auto, using(crate::proofs::ServingLemmas::by_store, crate::proofs::ServingLemmas::by_panic, crate::proofs::ServingLemmas::by_answer))]
+fn read<T: AppStore>(
+    alloc: Global,
+    handles: &mut Handles,
+    store: &mut T,
+    instance: u8,
+    object: u32,
+    count: u32,
+) -> Result<Served, NoMemory>
+    ensures { IfOk result (λ served. IsServed T.tells T.kept T.standing T.damage T.honest served (read_course (objects_in handles.old (T.kept store.old)) instance object count (handle_at (settled handles.old) instance object)) false handles.old handles.new store.old store.new) }
+{
+    let Some(
+        Handle::Persistent {
+            id,
+            flags,
+            position,
+        },
+    ) = handles.get(instance, object)
+    else {
+        return Ok(panicked());
+    };
+    if is_too_much(count as usize) || !has_bit(Flags::ACCESS_READ, *flags) {
+        return Ok(panicked());
+    }
+    if count == 0 {
+        return Ok(answered(Answer::Content(Bytes::empty(alloc))));
+    }
+    let position = *position;
+    let id = id.copy(alloc)?;
+    told(
+        read_on(handles, store, instance, object, id, position, count),
+        false,
+    )
+}
+
+/// Writes the bytes at the position, and the handle stands behind them.
+fn write_through<T: AppStore>(
+    handles: &mut Handles,
+    store: &mut T,
+    instance: u8,
+    object: u32,
+    id: Bytes,
+    position: u32,
+    bytes: Bytes,
+) -> Result<Answer, StoreAnswer>
+    requires id { IsIdentifier id }
+    requires bytes { length bytes ≤ 524288 }
+    requires within { position + length bytes ≤ 4294967295 }
+    requires there { IsTrue (is_there (settled handles.old) instance object) }
+    ensures { IsGiven T.tells T.kept T.standing T.damage T.honest result (written_by (objects_in handles.old (T.kept store.old)) instance object (position + length bytes) (change (T.kept store.old).store (write_at id position bytes))) handles.old handles.new store.old store.new }
+{
+    let end = behind(position, bytes.len());
+    store.apply(&Change::Write {
+        id,
+        at: position,
+        bytes,
+    })?;
+    handles.seek(instance, object, end);
+    Ok(Answer::Done)
+}
+
+#[tactic(auto, using(crate::proofs::ServingLemmas::by_store, crate::proofs::ServingLemmas::by_panic, crate::proofs::ServingLemmas::by_answer))]
+fn write<T: AppStore>(
+    alloc: Global,
+    handles: &mut Handles,
+    store: &mut T,
+    instance: u8,
+    object: u32,
+    bytes: Bytes,
+) -> Result<Served, NoMemory>
+    ensures { IfOk result (λ served. IsServed T.tells T.kept T.standing T.damage T.honest served (write_course (objects_in handles.old (T.kept store.old)) instance object bytes (handle_at (settled handles.old) instance object)) true handles.old handles.new store.old store.new) }
+{
+    let Some(
+        Handle::Persistent {
+            id,
+            flags,
+            position,
+        },
+    ) = handles.get(instance, object)
+    else {
+        return Ok(panicked());
+    };
+    if is_too_much(bytes.len()) || !has_bit(Flags::ACCESS_WRITE, *flags) {
+        return Ok(panicked());
+    }
+    if bytes.len() == 0 {
+        return Ok(answered(Answer::Done));
+    }
+    if *position as usize + bytes.len() > u32::MAX as usize {
+        return Ok(refused(Code::OVERFLOW));
+    }
+    let position = *position;
+    let id = id.copy(alloc)?;
+    told(
+        write_through(handles, store, instance, object, id, position, bytes),
+        true,
+    )
+}
+
+/// An ask about objects. Any other isn't built, and ends the entry as a panic does.
+#[tactic(auto, unfolding(crate::specs::Asks::object_course))]
+pub fn serve<T: AppStore>(
+    alloc: Global,
+    handles: &mut Handles,
+    store: &mut T,
+    instance: u8,
+    ask: Ask,
+) -> Result<Served, NoMemory>
+    ensures { IfOk result (λ served. IsServed T.tells T.kept T.standing T.damage T.honest served (object_course (objects_in handles.old (T.kept store.old)) instance ask) (changes_store ask) handles.old handles.new store.old store.new) }
+{
+    match ask {
+        Ask::ObjOpen { storage, id, flags } => open(
+            handles,
+            store,
+            instance,
+            storage,
+            id.as_slice(),
+            flags,
+        ),
+        Ask::ObjCreate {
+            storage,
+            id,
+            flags,
+            attr,
+            content,
+        } => create(
+            alloc, handles, store, instance, storage, id, flags, attr, content,
+        ),
+        Ask::ObjClose { object } => Ok(close(handles, instance, object)),
+        Ask::ObjRead { object, count } => read(alloc, handles, store, instance, object, count),
+        Ask::ObjWrite { object, bytes } => write(alloc, handles, store, instance, object, bytes),
+        _ => Ok(panicked()),
+    }
+}

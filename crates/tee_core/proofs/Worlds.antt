@@ -1,0 +1,101 @@
+-- Applications side by side, and the world that they stand for.
+use Rattle.std.proofs.Common.{◌≡◌, ◌++◌, ◌<◌, ◌+◌, ℕ, zero, suc, List, [], ◌∷◌, None, Some, length, get_or, set, refl, sym, subst, ◌∙◌, ap, append_assoc, arith}
+use Rattle.std.specs.Prelude.{slice_get}
+use Rattle.app_api.specs.declared.ask.Ask.{Ask}
+use Rattle.app_api.specs.declared.ask.Given.{Given}
+use Rattle.app_api.specs.declared.host.Host.{Host}
+use Rattle.store_api.specs.Stores.{Store}
+use Rattle.alone.specs.Machine.{Machine, start}
+use Rattle.app_api.specs.declared.call.Call.{Call}
+use Rattle.alone.specs.Runs.{events_of_call, machine_after}
+use Rattle.alone.specs.Step.{Event, step}
+use Rattle.tee_core.specs.Represents.{AreHosted, IsHosted}
+use Rattle.tee_core.specs.World.{World, called_at, events_at, moved_at, run_events, starts_from, world_after, world_step}
+use Rattle.tee_core.specs.declared.hosted.Hosted.{Hosted}
+
+-- one more of each
+pub hosted_more : {A : Type 0} (hs : List (Hosted A)) (world : World A) (h : Hosted A) (m : Machine A) → AreHosted hs world → IsHosted h m → AreHosted (hs ++ h ∷ []) (world ++ m ∷ [])
+hosted_more [] [] h m are is = (is, tt)
+hosted_more [] (n ∷ world) h m are is = absurd are
+hosted_more (k ∷ hs) [] h m are is = absurd are
+hosted_more (k ∷ hs) (n ∷ world) h m are is = (are.0, hosted_more hs world h m are.1 is)
+
+-- the machine at a place
+pub hosted_at : {A : Type 0} (hs : List (Hosted A)) (world : World A) (i : ℕ) → AreHosted hs world → i < length hs → (m : Machine A) × (slice_get world i ≡ Some m) × ((d : Hosted A) → IsHosted (get_or hs i d) m)
+hosted_at [] world i are lt = absurd (omega (arith, lt))
+hosted_at (h ∷ hs) [] i are lt = absurd are
+hosted_at (h ∷ hs) (m ∷ world) zero are lt = (m, refl, λ d. are.0)
+hosted_at (h ∷ hs) (m ∷ world) (suc i) are lt = hosted_at hs world i are.1 (omega (arith, lt))
+
+-- what is stood for at a place is the machine there
+pub hosted_here : {A : Type 0} (hs : List (Hosted A)) (world : World A) (i : ℕ) (old d : Hosted A) (m : Machine A) → AreHosted hs world → i < length hs → old ≡ get_or hs i d → slice_get world i ≡ Some m → IsHosted old m
+hosted_here {A} hs world i old d m are lt value here =
+    let p = hosted_at hs world i are lt in
+    let same : p.0 ≡ m = let e : Some p.0 ≡ Some m = sym p.1 ∙ here in cc in
+    subst (λ (n : Machine A). IsHosted old n) same (subst (λ (h : Hosted A). IsHosted h p.0) (sym value) (p.2 d))
+
+-- another one at a place
+pub hosted_set : {A : Type 0} (hs : List (Hosted A)) (world : World A) (i : ℕ) (h : Hosted A) (m : Machine A) → AreHosted hs world → IsHosted h m → AreHosted (set hs i h) (set world i m)
+hosted_set [] [] i h m are is = tt
+hosted_set [] (n ∷ world) i h m are is = absurd are
+hosted_set (k ∷ hs) [] i h m are is = absurd are
+hosted_set (k ∷ hs) (n ∷ world) zero h m are is = (is, are.1)
+hosted_set (k ∷ hs) (n ∷ world) (suc i) h m are is = (are.0, hosted_set hs world i h m are.1 is)
+
+pub set_same : {X : Type 0} (xs : List X) (i : ℕ) (x : X) → slice_get xs i ≡ Some x → set xs i x ≡ xs
+set_same [] i x e = refl
+set_same (y ∷ xs) zero x e = ap (λ z. z ∷ xs) (let f : Some y ≡ Some x = e in cc)
+set_same (y ∷ xs) (suc i) x e = ap (λ zs. y ∷ zs) (set_same xs i x e)
+
+pub get_set : {X : Type 0} (xs : List X) (i : ℕ) (x y : X) → slice_get xs i ≡ Some x → slice_get (set xs i y) i ≡ Some y
+get_set [] i x y e = absurd (let f : None ≡ Some x = e in cc)
+get_set (z ∷ xs) zero x y e = refl
+get_set (z ∷ xs) (suc i) x y e = get_set xs i x y e
+
+pub set_set : {X : Type 0} (xs : List X) (i : ℕ) (x y : X) → set (set xs i x) i y ≡ set xs i y
+set_set [] i x y = refl
+set_set (z ∷ xs) zero x y = refl
+set_set (z ∷ xs) (suc i) x y = ap (λ zs. z ∷ zs) (set_set xs i x y)
+
+-- events of one application move its machine, and no other
+module _ {A : Type 0} (next : A → Given → A) (asks : A → Given → Ask) where
+  pub moves_one : (world : World A) (app : ℕ) (m : Machine A) (events : List Event) → slice_get world app ≡ Some m → world_after next asks world (events_at next asks app events) ≡ set world app (machine_after next asks m events)
+  moves_one world app m [] here = sym (set_same world app m here)
+  moves_one world app m (event ∷ events) here =
+      let then : Machine A = (step next asks m event).machine in
+      ap (λ o. world_after next asks (moved_at next asks world app event o) (events_at next asks app events)) here
+      ∙ moves_one (set world app then) app then events (get_set world app m then here)
+      ∙ set_set world app then (machine_after next asks then events)
+
+  -- the application at a place takes a step
+  pub event_moves : (hs : List (Hosted A)) (world : World A) (app : ℕ) (old new d : Hosted A) (event : Event) → AreHosted hs world → app < length hs → old ≡ get_or hs app d
+      → ((m : Machine A) → IsHosted old m → IsHosted new (step next asks m event).machine) → AreHosted (set hs app new) (world_step next asks world (record { app = app; event = event }))
+  event_moves hs world app old new d event are lt value moves =
+      let p = hosted_at hs world app are lt in
+      subst (λ o. AreHosted (set hs app new) (moved_at next asks world app event o)) (sym p.1)
+      (hosted_set hs world app new (step next asks p.0 event).machine are (moves p.0 (hosted_here hs world app old d p.0 are lt value p.1)))
+
+  -- it is called, and gets turns until it has answered
+  pub run_moves : (hs : List (Hosted A)) (world : World A) (app : ℕ) (old new d : Hosted A) (client : ℕ) (call : Call) → AreHosted hs world → app < length hs → old ≡ get_or hs app d
+      → ((m : Machine A) → IsHosted old m → IsHosted new (machine_after next asks m (events_of_call next asks m client call))) → AreHosted (set hs app new) (world_after next asks world (run_events next asks world app client call))
+  run_moves hs world app old new d client call are lt value moves =
+      let p = hosted_at hs world app are lt in
+      let events = events_of_call next asks p.0 client call in
+      subst (λ o. AreHosted (set hs app new) (world_after next asks world (called_at next asks app client call o))) (sym p.1)
+      (subst (AreHosted (set hs app new)) (sym (moves_one world app p.0 events p.1))
+      (hosted_set hs world app new (machine_after next asks p.0 events) are (moves p.0 (hosted_here hs world app old d p.0 are lt value p.1))))
+
+-- the first host's machine, and those of the others behind it
+pub starts_one : {A : Type 0} (front : World A) (n : ℕ) (host : Host A) (hosts : List (Host A)) (seed : List ℕ) (stores : ℕ → Store) → (front ++ start host n seed (stores n) ∷ []) ++ starts_from (n + 1) hosts seed stores ≡ front ++ starts_from n (host ∷ hosts) seed stores
+starts_one front n host hosts seed stores = append_assoc front (start host n seed (stores n) ∷ []) (starts_from (n + 1) hosts seed stores)
+
+-- there are as many as there are machines, and as many machines as hosts
+pub hosted_length : {A : Type 0} (hs : List (Hosted A)) (world : World A) → AreHosted hs world → length hs ≡ length world
+hosted_length [] [] are = refl
+hosted_length [] (m ∷ world) are = absurd are
+hosted_length (h ∷ hs) [] are = absurd are
+hosted_length (h ∷ hs) (m ∷ world) are = ap (λ n. suc n) (hosted_length hs world are.1)
+
+pub starts_length : {A : Type 0} (n : ℕ) (hosts : List (Host A)) (seed : List ℕ) (stores : ℕ → Store) → length (starts_from n hosts seed stores) ≡ length hosts
+starts_length n [] seed stores = refl
+starts_length n (host ∷ hosts) seed stores = ap (λ k. suc k) (starts_length (n + 1) hosts seed stores)

@@ -1,0 +1,58 @@
+-- What is told of events of one application's machine.
+use Rattle.std.specs.Prelude.{ℕ, List, [], ◌∷◌, ◌++◌}
+use Rattle.app_api.specs.declared.ask.Ask.{Ask}
+use Rattle.app_api.specs.declared.ask.Given.{Given}
+use Rattle.app_api.specs.declared.call.Call.{Call}
+use Rattle.object_asks.specs.declared.turn.TurnKind.TheVariants.{Plain}
+use Rattle.alone.specs.declared.reply.Reply.{Reply}
+use Rattle.alone.specs.Machine.{Machine}
+use Rattle.alone.specs.Runs.{turns_of_call}
+use Rattle.alone.specs.Step.{Event, Called, Turned, TurnLost, Corrupted, Lost, Stepped, called, step}
+use Rattle.tee_core.specs.declared.happened.Happened.{Happened}
+
+-- the number of the operation that an event calls, 0 for one that calls none
+abbrev pub op_called : {A : Type 0} → Machine A → Event → ℕ
+op_called m (Called client call) = m.queue.next
+op_called m (Turned instance) = 0
+op_called m (TurnLost instance) = 0
+op_called m (Corrupted instance) = 0
+op_called m Lost = 0
+
+-- the instance of an event: for a call the one for which it waits, 0 where it is answered
+abbrev pub instance_met : {A : Type 0} → Event → Stepped A → ℕ
+instance_met (Called client call) s = s.instance
+instance_met (Turned instance) s = instance
+instance_met (TurnLost instance) s = instance
+instance_met (Corrupted instance) s = instance
+instance_met Lost s = 0
+
+-- a happening is told where it has a reply
+abbrev pub told_with : List Reply → Happened → List Happened → List Happened
+told_with [] h more = more
+told_with (reply ∷ replies) h more = h ∷ more
+
+-- what was told before, and then a happening if it has a reply
+abbrev pub told_behind : List Happened → Happened → List Reply → List Happened
+told_behind told h [] = told
+told_behind told h (reply ∷ replies) = told ++ h ∷ []
+
+-- next and asks are the application's two functions
+module _ {A : Type 0} (next : A → Given → A) (asks : A → Given → Ask) where
+  -- what is told of an event in which the store served: how many turns were made after it, and its replies
+  abbrev pub happening : Machine A → Event → Happened
+  happening m event = let s = step next asks m event in record {
+    kind = Plain;
+    turn = s.machine.turns;
+    op = op_called m event;
+    instance = instance_met event s;
+    replies = s.replies;
+  }
+
+  -- the happenings of events that have a reply
+  abbrev pub replying : Machine A → List Event → List Happened
+  replying m [] = []
+  replying m (event ∷ events) = let h = happening m event in told_with h.replies h (replying (step next asks m event).machine events)
+
+  -- what is told of a call that is run until it is answered: the call, and the turns that have a reply
+  abbrev pub told_of_call : Machine A → ℕ → Call → List Happened
+  told_of_call m client call = happening m (Called client call) ∷ replying (called m client call).machine (turns_of_call next asks m client call)

@@ -1,0 +1,4 @@
+pub mod Creator
+pub mod Happenings
+pub mod Represents
+pub mod World

@@ -1,0 +1,65 @@
+-- The world: one machine for each host, side by side.
+use Rattle.std.specs.Prelude.{ℕ, ◌+◌, List, [], ◌∷◌, Option, None, Some, map, slice_get, slice_set}
+use Rattle.app_api.specs.declared.ask.Ask.{Ask}
+use Rattle.app_api.specs.declared.ask.Given.{Given}
+use Rattle.app_api.specs.declared.call.Call.{Call}
+use Rattle.app_api.specs.declared.host.Host.{Host}
+use Rattle.store_api.specs.Stores.{Store}
+use Rattle.alone.specs.declared.reply.Reply.{Reply}
+use Rattle.alone.specs.Machine.{Machine, start}
+use Rattle.alone.specs.Runs.{events_of_call}
+use Rattle.alone.specs.Step.{Event, step}
+
+-- the machines of the hosts, in their order
+abbrev pub World : Type 0 → Type 0
+World A = List (Machine A)
+
+-- what happens to the application of an index
+pub record AppEvent : Type 0 where
+  pub app : ℕ
+  pub event : Event
+
+-- the machines of hosts at their start, of which the first has this index; each begins over the store of its index
+abbrev pub starts_from : {A : Type 0} → ℕ → List (Host A) → List ℕ → (ℕ → Store) → World A
+starts_from index [] seed stores = []
+starts_from index (host ∷ hosts) seed stores = start host index seed (stores index) ∷ starts_from (index + 1) hosts seed stores
+
+-- how the world begins
+abbrev pub world_of : {A : Type 0} → List (Host A) → List ℕ → (ℕ → Store) → World A
+world_of hosts seed stores = starts_from 0 hosts seed stores
+
+-- next and asks are the applications' two functions
+module _ {A : Type 0} (next : A → Given → A) (asks : A → Given → Ask) where
+  -- the world after its machine of this index has met an event; nothing happens to a machine that there isn't
+  abbrev pub moved_at : World A → ℕ → Event → Option (Machine A) → World A
+  moved_at world app event None = world
+  moved_at world app event (Some m) = slice_set world app (step next asks m event).machine
+
+  abbrev pub replied_at : Event → Option (Machine A) → List Reply
+  replied_at event None = []
+  replied_at event (Some m) = (step next asks m event).replies
+
+  -- an event moves the machine of its application, and no other
+  abbrev pub world_step : World A → AppEvent → World A
+  world_step world e = moved_at world e.app e.event (slice_get world e.app)
+
+  -- its replies
+  abbrev pub world_replies : World A → AppEvent → List Reply
+  world_replies world e = replied_at e.event (slice_get world e.app)
+
+  -- the world after events
+  abbrev pub world_after : World A → List AppEvent → World A
+  world_after world [] = world
+  world_after world (e ∷ more) = world_after (world_step world e) more
+
+  -- events of one application
+  abbrev pub events_at : ℕ → List Event → List AppEvent
+  events_at app events = map (λ event. record { app = app; event = event }) events
+
+  abbrev pub called_at : ℕ → ℕ → Call → Option (Machine A) → List AppEvent
+  called_at app client call None = []
+  called_at app client call (Some m) = events_at app (events_of_call next asks m client call)
+
+  -- a call of an application, and turns of its instance until it is answered
+  abbrev pub run_events : World A → ℕ → ℕ → Call → List AppEvent
+  run_events world app client call = called_at app client call (slice_get world app)

@@ -1,0 +1,86 @@
+//! Events of all applications, each of them one event of every world that the value represents.
+
+ghost use Rattle.std.specs.Prelude.{◌≡◌, ◌<◌, ◌≤◌, IfOk, OnOk, Some, All, length, slice_get};
+ghost use Rattle.store_api.specs.Stores.{empty_store};
+ghost use Rattle.app_api.specs.Hosts.{HostsFit};
+ghost use Rattle.app_side.specs.Represents.{IsOneInstance};
+ghost use Rattle.alone.specs.Machine.{Machine};
+ghost use Rattle.tee_core.specs.Happenings.{happening, told_of_call};
+ghost use Rattle.tee_core.specs.Represents.{app_count, app_of, event_of, machine_event, AreHosted, Represents};
+ghost use Rattle.tee_core.specs.World.{World, world_after, world_of, world_step, run_events};
+
+use crate::happened::{Event, Happened, RunReplies};
+use crate::hosted::Hosted;
+use crate::tee::Tee;
+use alone::Call;
+use app_api::{Application, Host};
+use std::alloc::Global;
+use std::collections::VecDeque;
+use tee_base::NoMemory;
+
+/// The hosts' applications, none of which has run anything yet, over empty stores.
+fn start_all<A: Application>(
+    alloc: Global,
+    hosts: Vec<Host<A>>,
+    seed: [u8; 32],
+) -> Result<Vec<Hosted<A>>, NoMemory>
+    requires one { All (λ host. IsOneInstance host) hosts.items }
+    requires few { length hosts.items ≤ 16 }
+    ensures { IfOk result (λ hosted. AreHosted hosted.items (world_of hosts.items seed (λ app. empty_store))) }
+{
+    let mut rest = VecDeque::from(hosts);
+    let mut hosted = Vec::new(alloc);
+    while let Some(host) = rest.pop_front() {
+        let index = hosted.len() as u8;
+        hosted.push(Hosted::new(alloc, host, index, seed)?)?;
+    }
+    Ok(hosted)
+}
+
+impl<A: Application> Tee<A> {
+    /// Applications that have run nothing, over empty stores. Each has one instance, which serves all sessions and stays, as
+    /// long as other properties aren't built.
+    pub fn new(alloc: Global, hosts: Vec<Host<A>>, seed: [u8; 32]) -> Result<Tee<A>, NoMemory>
+        requires fit { HostsFit hosts.items }
+        requires one { All (λ host. IsOneInstance host) hosts.items }
+        ensures world { IfOk result (λ tee. Represents tee (world_of hosts.items seed (λ app. empty_store))) }
+        ensures apps { IfOk result (λ tee. app_count tee ≡ length hosts.items) }
+    {
+        let hosted = start_all(alloc, hosts, seed)?;
+        Ok(Tee { hosted })
+    }
+
+    /// One event: the machine of its application moves, and no other. Want of memory in a call changes nothing; in a turn it
+    /// ends the run, and nothing more is said of the value.
+    pub fn event(&mut self, event: Event) -> Result<Happened, NoMemory>
+        requires { app_of event < app_count self.old }
+        ensures world { OnOk result ((world : World A) → Represents self.old world → Represents self.new (world_step A.next A.asks world (event_of event))) }
+        ensures told { IfOk result (λ told. (world : World A) (m : Machine A) → Represents self.old world → slice_get world (app_of event) ≡ Some m → told ≡ happening A.next A.asks m (machine_event event)) }
+        ensures apps { app_count self.new ≡ app_count self.old }
+    {
+        match event {
+            Event::Call { app, client, call } => self.hosted[app as usize].call(client, call),
+            Event::Turn { app, instance } => self.hosted[app as usize].turn(instance),
+        }
+    }
+
+    /// A call of a known application, and then turns of its instance until it is answered.
+    ///
+    /// # Errors
+    ///
+    /// Want of memory. It ends the run: nothing more is said of the value.
+    pub fn run(
+        &mut self,
+        alloc: Global,
+        app: u8,
+        client: u8,
+        call: Call,
+    ) -> Result<RunReplies, NoMemory>
+        requires { app < app_count self.old }
+        ensures world { OnOk result ((world : World A) → Represents self.old world → Represents self.new (world_after A.next A.asks world (run_events A.next A.asks world app client call))) }
+        ensures told { IfOk result (λ told. (world : World A) (m : Machine A) → Represents self.old world → slice_get world app ≡ Some m → told ≡ told_of_call A.next A.asks m client call) }
+        ensures apps { app_count self.new ≡ app_count self.old }
+    {
+        self.hosted[app as usize].run(alloc, client, call)
+    }
+}

@@ -1,0 +1,83 @@
+//! What happens to an application, and what is told of it.
+
+use alone::{Call, Replies, TurnKind};
+use std::alloc::Global;
+use std::marker::Model;
+use tee_base::NoMemory;
+
+/// What happens to the application of an index.
+#[derive(Debug, Drop)]
+pub enum Event {
+    /// A client calls it.
+    Call { app: u8, client: u8, call: Call },
+    /// An instance of it gets a turn.
+    Turn { app: u8, instance: u8 },
+}
+
+/// What is told of an event.
+#[derive(Debug, Drop)]
+pub struct Happened {
+    pub kind: TurnKind,
+    /// How many turns the application has made after it.
+    pub turn: u64,
+    /// The number of the operation that was called, 0 for a turn.
+    pub op: u64,
+    /// For a call the instance for which it waits, 0 where it is answered already; for a turn its instance.
+    pub instance: u8,
+    pub replies: Replies,
+}
+
+/// What is told of a call that was run until it was answered: the call, and then each turn that had a reply, in order.
+#[derive(Debug, Drop)]
+pub struct RunReplies {
+    items: Vec<Happened>,
+}
+
+impl Model for RunReplies {
+    ghost use Rattle.std.specs.Prelude.{List};
+    ghost use Rattle.tee_core.specs.declared.happened.Happened.{Happened};
+
+    ghost Value = { List Happened };
+
+    ghost view = { λ r. r.items.items };
+}
+
+impl RunReplies {
+    ghost use Rattle.std.specs.Prelude.{◌≡◌, ◌++◌, [], ◌∷◌, OnOk, OnErr};
+    ghost use Rattle.tee_core.specs.Happenings.{told_behind};
+
+    /// Nothing told yet. It takes no memory.
+    pub fn new(alloc: Global) -> RunReplies
+        ensures { result ≡ [] }
+    {
+        RunReplies {
+            items: Vec::new(alloc),
+        }
+    }
+
+    /// Tells one more. Want of memory changes nothing.
+    pub fn push(&mut self, happened: Happened) -> Result<(), NoMemory>
+        ensures ok { OnOk result (self.new ≡ self.old ++ happened ∷ []) }
+        ensures err { OnErr result (self.new ≡ self.old) }
+    {
+        self.items.push(happened)?;
+        Ok(())
+    }
+
+    /// Tells of a happening if it has a reply. Want of memory changes nothing.
+    pub fn tell(&mut self, happened: Happened) -> Result<(), NoMemory>
+        ensures ok { OnOk result (self.new ≡ told_behind self.old happened happened.replies) }
+        ensures err { OnErr result (self.new ≡ self.old) }
+    {
+        if happened.replies.is_empty() {
+            return Ok(());
+        }
+        self.push(happened)
+    }
+
+    pub fn as_slice(&self) -> &[Happened]
+        ensures { result.now ≡ self.now }
+    {
+        self.items.as_slice()
+    }
+}

@@ -1,0 +1,114 @@
+//! Calls and turns of one application, and calls that are run until they are answered.
+
+ghost use Rattle.std.specs.Prelude.{◌≡◌, ◌++◌, ◌∷◌, [], IfOk, OnOk, OnErr, IsTrue};
+ghost use Rattle.store_api.specs.Stores.{empty_store};
+ghost use Rattle.alone.specs.Machine.{Machine, start};
+ghost use Rattle.alone.specs.Runs.{events_of_call, machine_after, most_turns, turns_until};
+ghost use Rattle.alone.specs.Step.{called, is_answered, turned, Called, Turned};
+ghost use Rattle.app_side.specs.Represents.{IsOneInstance};
+ghost use Rattle.tee_core.specs.Happenings.{happening, replying, told_of_call};
+ghost use Rattle.tee_core.specs.Represents.{IsHosted};
+
+use crate::happened::{Happened, RunReplies};
+use crate::hosted::Hosted;
+use alone::{Call, TurnKind};
+use app_api::{Application, Host};
+use app_side::AppSide;
+use std::alloc::Global;
+use store_api::MapStore;
+use tee_base::{NoMemory, limits};
+
+impl<A: Application> Hosted<A> {
+    /// An application that has run nothing, over an empty store whose calls don't fail.
+    pub fn new(
+        alloc: Global,
+        host: Host<A>,
+        application: u8,
+        seed: [u8; 32],
+    ) -> Result<Hosted<A>, NoMemory>
+        requires { IsOneInstance host }
+        ensures { IfOk result (λ hosted. IsHosted hosted (start host application seed empty_store)) }
+    {
+        let side = AppSide::new(alloc, host, application, seed)?;
+        let store = MapStore::new(alloc, &[])?;
+        Ok(Hosted {
+            side,
+            store,
+            spent: false,
+        })
+    }
+
+    /// A client's call. Want of memory changes nothing.
+    pub fn call(&mut self, client: u8, call: Call) -> Result<Happened, NoMemory>
+        ensures hosted { OnOk result ((m : Machine A) → IsHosted self.old m → IsHosted self.new (called m client call).machine) }
+        ensures told { IfOk result (λ told. (m : Machine A) → IsHosted self.old m → told ≡ happening A.next A.asks m (Called client call)) }
+        ensures err { OnErr result ((m : Machine A) → IsHosted self.old m → IsHosted self.new m) }
+    {
+        let made = self.side.call(client, call)?;
+        Ok(Happened {
+            kind: TurnKind::Plain,
+            turn: self.side.turns(),
+            op: made.op,
+            instance: made.instance,
+            replies: made.replies,
+        })
+    }
+
+    /// A turn of the instance.
+    ///
+    /// # Errors
+    ///
+    /// Want of memory, after which nothing more is served. A call of the store that fails would be told so too; none does.
+    pub fn turn(&mut self, instance: u8) -> Result<Happened, NoMemory>
+        ensures hosted { OnOk result ((m : Machine A) → IsHosted self.old m → IsHosted self.new (turned A.next A.asks m instance).machine) }
+        ensures told { IfOk result (λ told. (m : Machine A) → IsHosted self.old m → told ≡ happening A.next A.asks m (Turned instance)) }
+    {
+        if self.spent {
+            return Err(NoMemory);
+        }
+        self.spent = true;
+        let made = self.side.turn(instance, &mut self.store)?;
+        match made.kind {
+            TurnKind::Plain => {
+                self.spent = false;
+                Ok(Happened {
+                    kind: TurnKind::Plain,
+                    turn: self.side.turns(),
+                    op: 0,
+                    instance,
+                    replies: made.replies,
+                })
+            }
+            TurnKind::Lost { .. } | TurnKind::Corrupted => Err(NoMemory),
+        }
+    }
+
+    /// Turns of the instance until the operation is answered; those that have a reply are told.
+    fn turn_until(&mut self, instance: u8, op: u64, told: &mut RunReplies) -> Result<(), NoMemory>
+        ensures hosted { OnOk result ((m : Machine A) → IsHosted self.old m → IsHosted self.new (machine_after A.next A.asks m (turns_until A.next A.asks most_turns m instance op))) }
+        ensures told { OnOk result ((m : Machine A) → IsHosted self.old m → told.new ≡ told.old ++ replying A.next A.asks m (turns_until A.next A.asks most_turns m instance op)) }
+    {
+        for _ in 0..limits::CALL_TURNS {
+            if self.side.answered(op) {
+                return Ok(());
+            }
+            let happened = self.turn(instance)?;
+            told.tell(happened)?;
+        }
+        Ok(())
+    }
+
+    /// A client's call, and then turns of its instance until it is answered.
+    pub fn run(&mut self, alloc: Global, client: u8, call: Call) -> Result<RunReplies, NoMemory>
+        ensures hosted { OnOk result ((m : Machine A) → IsHosted self.old m → IsHosted self.new (machine_after A.next A.asks m (events_of_call A.next A.asks m client call))) }
+        ensures told { IfOk result (λ told. (m : Machine A) → IsHosted self.old m → told ≡ told_of_call A.next A.asks m client call) }
+    {
+        let mut told = RunReplies::new(alloc);
+        let made = self.call(client, call)?;
+        let op = made.op;
+        let instance = made.instance;
+        told.push(made)?;
+        self.turn_until(instance, op, &mut told)?;
+        Ok(told)
+    }
+}

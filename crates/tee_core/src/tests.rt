@@ -1,0 +1,4 @@
+//! Two applications side by side.
+
+mod creator;
+mod pairs;
