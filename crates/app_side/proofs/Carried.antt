@@ -1,7 +1,7 @@
 -- From what comes of an ask about objects to what it leaves of the machine.
 use Rattle.std.proofs.Common.{ℕ, ◌≡◌, Bool, true, false, not, nat_le, cond, List, Option, Some, refl, sym, ap, subst, ◌∙◌, arith}
-use Rattle.std.specs.Prelude.{◌||◌, ◌&&◌, ◌<◌, ◌≤◌}
-use Rattle.std.proofs.lemmas.Bool.{le-leb, leb-true}
+use Rattle.std.specs.Prelude.{◌||◌, ◌&&◌, ◌<◌}
+use Rattle.std.proofs.lemmas.Bool.{lt-leb}
 use Rattle.tee_base.specs.declared.codes.Code.{Code}
 use Rattle.app_api.specs.declared.out.Outs.{Outs}
 use Rattle.app_api.specs.declared.ask.Ask.{Ask}
@@ -13,34 +13,27 @@ use Rattle.handle_table.specs.declared.handle.Entry.{Entry}
 use Rattle.alone.specs.declared.running.Stage.{Stage}
 use Rattle.object_asks.specs.declared.turn.TurnKind.{TurnKind}
 use Rattle.object_asks.specs.declared.turn.TurnKind.TheVariants.{Plain, Lost, Corrupted}
-use Rattle.object_asks.specs.Asks.{Outcome, Answered, Returned, Panicked, Course, Settled, ComesToStore, Objects, Serves, Damaged, came_of, changes_store, comes_to_store, course_in, object_course, outcome_in, refused}
-use Rattle.alone.specs.Asks.{course, course_after, return_course, objects_of, with_objects}
+use Rattle.object_asks.specs.Asks.{Outcome, Answered, Returned, Panicked, Course, Settled, ComesToStore, Objects, came_of, changes_store, comes_to_store, course_in, object_course, outcome_in, refused}
+use Rattle.alone.specs.Asks.{course, course_after, objects_of, with_objects}
 use Rattle.object_asks.specs.Codes.{storage_not_available}
 use Rattle.alone.specs.Machine.{Machine}
 use Rattle.alone.specs.Step.{lost_at, served, store_left}
 use Rattle.object_asks.specs.declared.outcome.Outcome.{Outcome as Result_of}
 use Rattle.object_asks.specs.declared.outcome.Outcome.TheVariants as outcomes
+use Rattle.object_asks.proofs.Crashes.{idle_quiet}
+use Rattle.alone.proofs.Courses.{course_comes, damaged_in, no_return, serves_in}
 use Rattle.app_side.specs.declared.side.AppSide.{AppSide}
 use Rattle.app_side.specs.Represents.{IsLeft, doubtful, machine_over, noted}
 use Rattle.object_asks.specs.declared.outcome.Served.{Served}
 use Rattle.store_api.specs.declared.answer.StoreAnswer.{StoreAnswer}
-use Rattle.store_api.specs.Keeping.{Standing, Kept}
-use Rattle.object_asks.specs.Serving.{HasStanding, IsOutcome, Meets, SaysChange, ShowsDamage, plainly, serving_of}
+use Rattle.store_api.specs.Keeping.{Standing, Kept, Remains}
+use Rattle.object_asks.specs.Serving.{HasStanding, IsOutcome, Meets, SaysChange, ShowsDamage, TriesOnce, plainly, serving_of}
 use Rattle.alone.specs.Asks.{return_of}
 use Rattle.app_side.specs.Serving.{IsTurnOf, reaching}
 use Rattle.alone.specs.Places.{is_misuse, places_at}
 
 abbrev objects : Store → List Entry → Objects
 objects store handles = record { store = store; handles = handles }
-
-serves_in : {A : Type 0} (m : Machine A) (ask : Ask) (c : Course Objects) → served Serves m ask (course_in (with_objects m) c) ≡ outcome_in (with_objects m) (came_of Serves m.lost c)
-serves_in m ask (Settled outcome) = refl
-serves_in m ask (ComesToStore kept plain) =
-    elim m.lost as (λ b. cond b (refused (with_objects m kept) storage_not_available) (outcome_in (with_objects m) plain) ≡ outcome_in (with_objects m) (cond b (refused kept storage_not_available) plain)) [ true ↦ refl | false ↦ refl ]
-
-damaged_in : {A : Type 0} (m : Machine A) (ask : Ask) (c : Course Objects) → served Damaged m ask (course_in (with_objects m) c) ≡ outcome_in (with_objects m) (came_of Damaged m.lost c)
-damaged_in m ask (Settled outcome) = refl
-damaged_in m ask (ComesToStore kept plain) = refl
 
 -- the objects and handles that are left, and all else as before
 left_in : {A : Type 0} (old new : AppSide A) (ko kn doubt : Store) (left : List Entry) (outcome : Result_of) (stated : Outcome Objects) (whole : Outcome (Machine A))
@@ -85,11 +78,6 @@ carried_in old new ko kn doubt left ask (Lost changes) outcome (Settled o) is re
 carried_in old new ko kn doubt left ask (Lost changes) outcome (ComesToStore kept plain) is reaches says notes =
     lost_in old new ko kn doubt left outcome changes (changes_store ask) kept (outcome_in (with_objects (machine_over old ko doubt)) plain) is says notes
 
-pub no_return : {A : Type 0} (m : Machine A) (i : ℕ) (stage : Stage) (ask : Ask) → ((code : Code) (outs : Outs) → ask ≡ asked.Return code outs → ⊥) → course m i stage ask ≡ course_in (with_objects m) (object_course (objects_of m) i ask)
-unfolding course
-no_return m i stage (asked.Return code outs) other = absurd (other code outs refl)
-no_return m i stage ask other = refl
-
 pub carried : {A : Type 0} (old new : AppSide A) (ko kn doubt : Store) (left : List Entry) (i : ℕ) (stage : Stage) (ask : Ask) (kind : TurnKind) (outcome : Result_of)
     → ((code : Code) (outs : Outs) → ask ≡ asked.Return code outs → ⊥)
     → IsOutcome outcome (came_of (serving_of kind) old.lost (object_course (objects ko old.handles) i ask)) (objects ko old.handles) (objects kn left) → Meets kind (comes_to_store (object_course (objects ko old.handles) i ask)) → SaysChange kind (changes_store ask) → new ≡ noted (record old { handles = left }) kind
@@ -97,18 +85,6 @@ pub carried : {A : Type 0} (old new : AppSide A) (ko kn doubt : Store) (left : L
 carried {A} old new ko kn doubt left i stage ask kind outcome other is reaches says notes =
     subst (λ (c : Course (Machine A)). IsLeft outcome (served (serving_of kind) (machine_over old ko doubt) ask c) new kn doubt (machine_over old ko doubt)) (sym (no_return (machine_over old ko doubt) i stage ask other))
     (carried_in old new ko kn doubt left ask kind outcome (object_course (objects ko old.handles) i ask) is reaches says notes)
-
-comes_in : {A : Type 0} (m : Machine A) (c : Course Objects) → comes_to_store c ≡ comes_to_store (course_in (with_objects m) c)
-comes_in m (Settled o) = refl
-comes_in m (ComesToStore kept plain) = refl
-
-returns_settled : (A : Type 0) (stage : Stage) (code : Code) (outs : Outs) → false ≡ comes_to_store {S = Machine A} (return_course stage code outs)
-returns_settled A stage code outs = elim (is_misuse (places_at stage) outs) as (λ b. false ≡ comes_to_store {S = Machine A} (cond b (Settled Panicked) (Settled (Returned code outs)))) [ true ↦ refl | false ↦ refl ]
-
-course_comes : {A : Type 0} (m : Machine A) (i : ℕ) (stage : Stage) (ask : Ask) → comes_to_store (object_course (objects_of m) i ask) ≡ comes_to_store (course m i stage ask)
-unfolding course object_course
-course_comes {A} m i stage (asked.Return code outs) = returns_settled A stage code outs
-course_comes m i stage ask = comes_in m (object_course (objects_of m) i ask)
 
 -- an ask comes to the store where that about objects does
 pub reaching_is : {A : Type 0} (m : Machine A) (i made : ℕ) (stage : Stage) (ask : Ask) → reaching (objects_of m) i made stage ask ≡ comes_to_store (course_after made m i stage ask)
@@ -138,7 +114,7 @@ pub plain_says : (kind : TurnKind) (b : Bool) → kind ≡ Plain → SaysChange 
 plain_says kind b e = subst (λ (k : TurnKind). SaysChange k b) (sym e) tt
 
 pub plain_stands : (kind : TurnKind) (s : Standing) → kind ≡ Plain → HasStanding kind s s
-plain_stands kind s e = subst (λ (k : TurnKind). HasStanding k s s) (sym e) (record { cause = refl; later = omega arith; orders_stay = refl })
+plain_stands kind s e = subst (λ (k : TurnKind). HasStanding k s s) (sym e) (record { cause = refl; later = omega arith; orders_stay = refl; told = omega arith })
 
 pub plain_shows : (kind : TurnKind) (damage : StoreAnswer → Type 0) → kind ≡ Plain → ShowsDamage kind damage
 plain_shows kind damage e = subst (λ (k : TurnKind). ShowsDamage k damage) (sym e) tt
@@ -155,27 +131,23 @@ noted_lost side Plain before after stands same = same ∙ sym stands.cause
 noted_lost side (Lost changes) before after stands same = sym stands.cause.1
 noted_lost side Corrupted before after stands same = same ∙ stands.cause.0 ∙ sym stands.cause.1
 
-lt_leb_false : (made : ℕ) → made < 65536 → nat_le 65536 made ≡ false
-lt_leb_false made lt = elim (nat_le 65536 made) as (λ b. nat_le 65536 made ≡ b → b ≡ false) [ true ↦ λ e. absurd (omega (arith, leb-true 65536 made e)) | false ↦ λ e. refl ] refl
-
 pub below : (made : ℕ) (b : Bool) → made < 65536 → (not (nat_le 65536 made) && b) ≡ b
-below made b lt = let e : nat_le 65536 made ≡ false = lt_leb_false made lt in rw e refl
+below made b lt = ap (λ (c : Bool). not c && b) (lt-leb 65536 made lt)
 
-pub course_below : {A : Type 0} (made : ℕ) (m : Machine A) (i j : ℕ) (stage : Stage) (ask : Ask) → made < 65536 → i ≡ j → course_after made m i stage ask ≡ course m j stage ask
-course_below {A} made m i j stage ask lt same =
-    let e : nat_le 65536 made ≡ false = lt_leb_false made lt in
-    ap (λ (b : Bool). cond b (Settled Panicked) (course m i stage ask)) e ∙ ap (λ (n : ℕ). course m n stage ask) same
+-- a turn without the store tries no change
+pub none_tried : (changes : Bool) (s : Standing) → TriesOnce changes s s
+none_tried true s = (omega arith, omega arith)
+none_tried false s = refl
 
-pub course_above : {A : Type 0} (made : ℕ) (m : Machine A) (i : ℕ) (stage : Stage) (ask : Ask) → 65536 ≤ made → course_after made m i stage ask ≡ Settled Panicked
-course_above {A} made m i stage ask le = ap (λ (b : Bool). cond b (Settled Panicked) (course m i stage ask)) (le-leb 65536 made le)
-
-module _ {D : Type 0} (is_telling : Bool) (kept_of : D → Kept) (standing_of : D → Standing) (damage_of : D → StoreAnswer → Type 0) (IsHonest : D → Type 0) where
-  pub plain_turn : (kind : TurnKind) (comes changes lost left : Bool) (old : D) → kind ≡ Plain → left ≡ lost → IsTurnOf is_telling kept_of standing_of damage_of IsHonest kind comes changes lost left old old
+module _ {D : Type 0} (is_telling : Bool) (kept_of : D → Kept) (standing_of : D → Standing) (damage_of : D → StoreAnswer → Type 0) (IsHonest : D → Type 0) (moment : D → ℕ) (left_since : D → ℕ → Remains → Type 0) where
+  pub plain_turn : (kind : TurnKind) (comes changes lost left : Bool) (old : D) → kind ≡ Plain → left ≡ lost → IsTurnOf is_telling kept_of standing_of damage_of IsHonest moment left_since kind comes changes lost left old old
   plain_turn kind comes changes lost left old plain same = record {
     stands = λ t. plain_meets kind comes plain;
     change = plain_says kind changes plain;
     standing = plain_stands kind (standing_of old) plain;
     damage = plain_shows kind (damage_of old) plain;
     honest = λ h. (h, plain_shows kind (λ answer. ⊥) plain);
+    beside = λ t. record { rest = refl; number = omega arith };
+    quiet = λ lost. idle_quiet kept_of moment left_since old;
     lost = λ e. same ∙ e;
   }

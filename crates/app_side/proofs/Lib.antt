@@ -1,6 +1,6 @@
 pub mod CallLemmas
 pub mod Carried
-pub mod PlaceLemmas
+pub mod Crashed
 pub mod Stored
 pub mod Taken
 pub mod TurnLemmas

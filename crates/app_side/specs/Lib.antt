@@ -1,4 +1,3 @@
-pub mod Places
 pub mod Probe
 pub mod Represents
 pub mod Serving

@@ -2,7 +2,6 @@
 #![tactic(auto)]
 
 mod calls;
-mod place;
 mod public;
 mod returns;
 mod serving;

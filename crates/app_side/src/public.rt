@@ -1,11 +1,12 @@
 //! The calls of a running application, each of them a step of every machine that the value represents.
 
 ghost use Rattle.std.specs.Prelude.{◌≡◌, IfOk, OnOk, OnErr, IsTrue, false, true};
+ghost use Rattle.store_api.specs.Keeping.{LeavesJust, LeavesNothingNew};
 ghost use Rattle.store_api.specs.Stores.{Store};
 ghost use Rattle.alone.specs.Machine.{Machine, start};
 ghost use Rattle.alone.specs.Step.{called, is_answered, is_changing, may_stand, step, Lost};
 ghost use Rattle.app_side.specs.Represents.{event_of, is_lost, Represents, IsOneInstance};
-ghost use Rattle.object_asks.specs.Serving.{HasStanding, IsUndamaged, SaysChange, ShowsDamage};
+ghost use Rattle.object_asks.specs.Serving.{CrashTurns, EndsUnchanged, HasStanding, IsUndamaged, SaysChange, ShowsDamage, StaysBeside, TriesOnce};
 
 use crate::side::{AppSide, Called, Turned};
 use alone::Call;
@@ -65,11 +66,14 @@ impl<A: Application> AppSide<A> {
     }
 
     /// A turn of the instance: its entry goes on, or its next operation begins, or nothing happens. The store handed in keeps
-    /// the application's objects; a turn takes all its memory before it changes it, which it does at most once.
+    /// the application's objects. It is asked for a change at most once, and only where the ask that waits is one of those that
+    /// change it. The turn's kind says whether a call of the store failed, or told of damage. A crash within the turn leaves what
+    /// was kept before it or after it; where the turn is lost, what was kept before it or the store that is then in doubt.
     ///
     /// # Errors
     ///
-    /// Want of memory ends the run: the entry that ran is gone.
+    /// Want of memory ends the run: the entry that ran is gone. No call of the store failed then, and it keeps what it kept, since
+    /// a turn takes all its memory before it asks for a change.
     pub fn turn<T: AppStore>(&mut self, instance: u8, store: &mut T) -> Result<Turned, NoMemory>
         requires { is_lost self.old ≡ (T.standing store.old).lost }
         ensures step { IfOk result (λ turned. IsTrue T.tells → (m : Machine A) → Represents self.old m → m.store ≡ (T.kept store.old).store → Represents self.new (step A.next A.asks m (event_of turned.kind instance)).machine) }
@@ -78,9 +82,14 @@ impl<A: Application> AppSide<A> {
         ensures stands { IfOk result (λ turned. IsTrue T.tells → (m : Machine A) → Represents self.old m → m.store ≡ (T.kept store.old).store → may_stand m (event_of turned.kind instance) ≡ true) }
         ensures change { IfOk result (λ turned. (m : Machine A) → Represents self.old m → SaysChange turned.kind (is_changing m instance)) }
         ensures standing { IfOk result (λ turned. HasStanding turned.kind (T.standing store.old) (T.standing store.new)) }
+        ensures tried { (m : Machine A) → Represents self.old m → TriesOnce (is_changing m instance) (T.standing store.old) (T.standing store.new) }
+        ensures want { OnErr result (EndsUnchanged T.tells T.kept T.standing T.damage T.honest T.moment T.left_since store.old store.new) }
+        ensures beside { IfOk result (λ turned. IsTrue T.tells → StaysBeside (T.kept store.old) (T.kept store.new)) }
         ensures damage { IfOk result (λ turned. ShowsDamage turned.kind (T.damage store.new)) }
         ensures honest { IfOk result (λ turned. T.honest store.old → T.honest store.new × IsUndamaged turned.kind) }
         ensures lost { OnOk result (is_lost self.new ≡ (T.standing store.new).lost) }
+        ensures quiet { IfOk result (λ turned. IsTrue (T.standing store.old).lost → LeavesNothingNew T.moment T.left_since store.old store.new) }
+        ensures crash { IfOk result (λ turned. T.honest store.old → LeavesJust T.moment T.left_since store.old (T.kept store.old) → (m : Machine A) → Represents self.old m → m.store ≡ (T.kept store.old).store → CrashTurns T.kept T.moment T.left_since turned.kind (step A.next A.asks m (event_of turned.kind instance)).machine.in_doubt store.old store.new) }
     {
         if self.turns >= MOST {
             return Err(NoMemory);

@@ -7,7 +7,7 @@ ghost use Rattle.alone.specs.declared.running.Instance.{Instance};
 ghost use Rattle.alone.specs.Machine.{is_number, with_instance};
 ghost use Rattle.alone.specs.Replies.{no_outputs};
 ghost use Rattle.alone.specs.Step.{answered, belongs_to, create_failed, reply_of, returned, start_begun, is_success};
-ghost use Rattle.app_side.specs.Places.{IsPlace};
+ghost use Rattle.alone.specs.InList.{IsPlace};
 ghost use Rattle.app_side.specs.Represents.{machine_of, IsTurned};
 
 use crate::side::AppSide;

@@ -1,4 +1,5 @@
-//! Turns over a store in memory, some of whose calls fail.
+//! Turns over stores of which some calls fail, or tell of damage.
 
+mod damaged;
 mod probe;
 mod turns;

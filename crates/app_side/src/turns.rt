@@ -1,20 +1,20 @@
 //! Turns of an instance.
 
-ghost use Rattle.std.specs.Prelude.{◌≡◌, ℕ, ◌<◌, ◌^◌, ◌+◌, IfOk, OnOk, IsTrue, Some, find, length};
+ghost use Rattle.std.specs.Prelude.{◌≡◌, ℕ, ◌<◌, ◌^◌, ◌+◌, IfOk, OnOk, OnErr, IsTrue, Some, find, length};
+ghost use Rattle.store_api.specs.Keeping.{LeavesJust};
 ghost use Rattle.store_api.specs.Stores.{Store};
 ghost use Rattle.object_asks.specs.Asks.{changes_store};
 ghost use Rattle.alone.specs.declared.running.Instance.{Instance};
 ghost use Rattle.alone.specs.declared.running.Waits.{Waits};
 ghost use Rattle.alone.specs.Machine.{is_number, with_instance};
 ghost use Rattle.alone.specs.Step.{begun, of_instance, of_waits, thought, turned_as, turned_by, went_on};
-ghost use Rattle.app_side.specs.Places.{IsPlace};
+ghost use Rattle.alone.specs.InList.{IsPlace};
 ghost use Rattle.app_side.specs.Represents.{is_lost, machine_of, machine_over, IsStep};
-ghost use Rattle.object_asks.specs.Serving.{objects_in, serving_of};
+ghost use Rattle.object_asks.specs.Serving.{objects_in, serving_of, CrashTurns, EndsUnchanged, TriesOnce};
 ghost use Rattle.app_side.specs.Serving.{changing, reaching, IsTurnOf};
 
-use crate::place::place_of;
 use crate::side::{AppSide, Turned};
-use alone::{Replies, Running, Stage, TurnKind, Waits, first_entry, not_built};
+use alone::{Replies, Running, Stage, TurnKind, Waits, first_entry, not_built, place_of};
 use app_api::{Answer, Application, Ask, Given};
 use object_asks::{Outcome, Served};
 use store_api::AppStore;
@@ -104,7 +104,10 @@ impl<A: Application> AppSide<A> {
     ) -> Result<Turned, NoMemory>
         requires { IsPlace number self.old.instances.items place }
         ensures step { IfOk result (λ turned. IsTrue T.tells → is_lost self.old ≡ (T.standing store.old).lost → (doubt : Store) (inst : Instance A) → find (is_number number) self.old.instances.items ≡ Some inst → inst.number ≡ number → IsStep self.new (T.kept store.new).store turned.replies (went_on A.next A.asks (serving_of turned.kind) (machine_over self.old (T.kept store.old).store doubt) inst (record { op = running.op; stage = running.stage; waits = Waits.Ask running.ask; asks = running.asks }) (Waits.Ask running.ask))) }
-        ensures kind { IfOk result (λ turned. IsTurnOf T.tells T.kept T.standing T.damage T.honest turned.kind (reaching (objects_in self.old.handles (T.kept store.old)) number running.asks running.stage running.ask) (changes_store running.ask) (is_lost self.old) (is_lost self.new) store.old store.new) }
+        ensures crash { IfOk result (λ turned. T.honest store.old → LeavesJust T.moment T.left_since store.old (T.kept store.old) → (doubt : Store) (inst : Instance A) → find (is_number number) self.old.instances.items ≡ Some inst → inst.number ≡ number → CrashTurns T.kept T.moment T.left_since turned.kind (went_on A.next A.asks (serving_of turned.kind) (machine_over self.old (T.kept store.old).store doubt) inst (record { op = running.op; stage = running.stage; waits = Waits.Ask running.ask; asks = running.asks }) (Waits.Ask running.ask)).machine.in_doubt store.old store.new) }
+        ensures kind { IfOk result (λ turned. IsTurnOf T.tells T.kept T.standing T.damage T.honest T.moment T.left_since turned.kind (reaching (objects_in self.old.handles (T.kept store.old)) number running.asks running.stage running.ask) (changes_store running.ask) (is_lost self.old) (is_lost self.new) store.old store.new) }
+        ensures tried { TriesOnce (changes_store running.ask) (T.standing store.old) (T.standing store.new) }
+        ensures want { OnErr result (EndsUnchanged T.tells T.kept T.standing T.damage T.honest T.moment T.left_since store.old store.new) }
     {
         let Asked {
             op,
@@ -146,7 +149,10 @@ impl<A: Application> AppSide<A> {
     ) -> Result<Turned, NoMemory>
         requires { IsPlace number self.old.instances.items place }
         ensures step { IfOk result (λ turned. IsTrue T.tells → is_lost self.old ≡ (T.standing store.old).lost → (doubt : Store) (inst : Instance A) → find (is_number number) self.old.instances.items ≡ Some inst → inst.number ≡ number → IsStep self.new (T.kept store.new).store turned.replies (went_on A.next A.asks (serving_of turned.kind) (machine_over self.old (T.kept store.old).store doubt) inst running running.waits)) }
-        ensures kind { IfOk result (λ turned. IsTurnOf T.tells T.kept T.standing T.damage T.honest turned.kind (of_waits (reaching (objects_in self.old.handles (T.kept store.old)) number) running running.waits) (of_waits changing running running.waits) (is_lost self.old) (is_lost self.new) store.old store.new) }
+        ensures crash { IfOk result (λ turned. T.honest store.old → LeavesJust T.moment T.left_since store.old (T.kept store.old) → (doubt : Store) (inst : Instance A) → find (is_number number) self.old.instances.items ≡ Some inst → inst.number ≡ number → CrashTurns T.kept T.moment T.left_since turned.kind (went_on A.next A.asks (serving_of turned.kind) (machine_over self.old (T.kept store.old).store doubt) inst running running.waits).machine.in_doubt store.old store.new) }
+        ensures kind { IfOk result (λ turned. IsTurnOf T.tells T.kept T.standing T.damage T.honest T.moment T.left_since turned.kind (of_waits (reaching (objects_in self.old.handles (T.kept store.old)) number) running running.waits) (of_waits changing running running.waits) (is_lost self.old) (is_lost self.new) store.old store.new) }
+        ensures tried { TriesOnce (of_waits changing running running.waits) (T.standing store.old) (T.standing store.new) }
+        ensures want { OnErr result (EndsUnchanged T.tells T.kept T.standing T.damage T.honest T.moment T.left_since store.old store.new) }
     {
         let Running {
             op,
@@ -182,7 +188,10 @@ impl<A: Application> AppSide<A> {
     ) -> Result<Turned, NoMemory>
         requires { IsPlace number self.old.instances.items place }
         ensures step { IfOk result (λ turned. IsTrue T.tells → is_lost self.old ≡ (T.standing store.old).lost → (doubt : Store) (inst : Instance A) → find (is_number number) self.old.instances.items ≡ Some inst → IsStep self.new (T.kept store.new).store turned.replies (turned_by A.next A.asks (serving_of turned.kind) (machine_over self.old (T.kept store.old).store doubt) inst inst.running)) }
-        ensures kind { IfOk result (λ turned. IsTurnOf T.tells T.kept T.standing T.damage T.honest turned.kind (of_instance (reaching (objects_in self.old.handles (T.kept store.old)) number) (find (is_number number) self.old.instances.items)) (of_instance changing (find (is_number number) self.old.instances.items)) (is_lost self.old) (is_lost self.new) store.old store.new) }
+        ensures crash { IfOk result (λ turned. T.honest store.old → LeavesJust T.moment T.left_since store.old (T.kept store.old) → (doubt : Store) (inst : Instance A) → find (is_number number) self.old.instances.items ≡ Some inst → CrashTurns T.kept T.moment T.left_since turned.kind (turned_by A.next A.asks (serving_of turned.kind) (machine_over self.old (T.kept store.old).store doubt) inst inst.running).machine.in_doubt store.old store.new) }
+        ensures kind { IfOk result (λ turned. IsTurnOf T.tells T.kept T.standing T.damage T.honest T.moment T.left_since turned.kind (of_instance (reaching (objects_in self.old.handles (T.kept store.old)) number) (find (is_number number) self.old.instances.items)) (of_instance changing (find (is_number number) self.old.instances.items)) (is_lost self.old) (is_lost self.new) store.old store.new) }
+        ensures tried { TriesOnce (of_instance changing (find (is_number number) self.old.instances.items)) (T.standing store.old) (T.standing store.new) }
+        ensures want { OnErr result (EndsUnchanged T.tells T.kept T.standing T.damage T.honest T.moment T.left_since store.old store.new) }
     {
         if self.instances[place].running.is_none() {
             self.begin(place, number)?;
@@ -203,7 +212,10 @@ impl<A: Application> AppSide<A> {
     ) -> Result<Turned, NoMemory>
         requires { self.old.turns < 2 ^ 63 }
         ensures step { IfOk result (λ turned. IsTrue T.tells → is_lost self.old ≡ (T.standing store.old).lost → (doubt : Store) → IsStep self.new (T.kept store.new).store turned.replies (turned_as A.next A.asks (serving_of turned.kind) (machine_over self.old (T.kept store.old).store doubt) instance)) }
-        ensures kind { IfOk result (λ turned. IsTurnOf T.tells T.kept T.standing T.damage T.honest turned.kind (of_instance (reaching (objects_in self.old.handles (T.kept store.old)) instance) (find (is_number instance) self.old.instances.items)) (of_instance changing (find (is_number instance) self.old.instances.items)) (is_lost self.old) (is_lost self.new) store.old store.new) }
+        ensures crash { IfOk result (λ turned. T.honest store.old → LeavesJust T.moment T.left_since store.old (T.kept store.old) → (doubt : Store) → CrashTurns T.kept T.moment T.left_since turned.kind (turned_as A.next A.asks (serving_of turned.kind) (machine_over self.old (T.kept store.old).store doubt) instance).machine.in_doubt store.old store.new) }
+        ensures kind { IfOk result (λ turned. IsTurnOf T.tells T.kept T.standing T.damage T.honest T.moment T.left_since turned.kind (of_instance (reaching (objects_in self.old.handles (T.kept store.old)) instance) (find (is_number instance) self.old.instances.items)) (of_instance changing (find (is_number instance) self.old.instances.items)) (is_lost self.old) (is_lost self.new) store.old store.new) }
+        ensures tried { TriesOnce (of_instance changing (find (is_number instance) self.old.instances.items)) (T.standing store.old) (T.standing store.new) }
+        ensures want { OnErr result (EndsUnchanged T.tells T.kept T.standing T.damage T.honest T.moment T.left_since store.old store.new) }
     {
         self.turns += 1;
         match place_of(self.instances.as_slice(), instance) {

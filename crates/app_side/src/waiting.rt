@@ -6,9 +6,8 @@ ghost use Rattle.alone.specs.Machine.{Machine};
 ghost use Rattle.alone.specs.Step.{needs_store, of_running};
 ghost use Rattle.app_side.specs.Represents.{Represents};
 
-use crate::place::place_of;
 use crate::side::AppSide;
-use alone::{Running, Waits};
+use alone::{Running, Waits, place_of};
 use app_api::{Application, Ask};
 
 /// Whether the ask may need the store.

@@ -1,3 +1,4 @@
+pub mod Crashes
 pub mod HandleLemmas
 pub mod ServingLemmas
 pub mod SoundAsks

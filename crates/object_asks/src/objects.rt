@@ -1,7 +1,7 @@
 //! Asks about persistent objects: one function for each, misuse first, then the refusals in their order, then what the store
 //! gives (TEE Internal Core API 1.3, sections 5.7 and 5.9).
 
-ghost use Rattle.std.specs.Prelude.{◌≡◌, ◌≤◌, ◌+◌, Bool, List, false, true, min, IfOk, IsTrue, length};
+ghost use Rattle.std.specs.Prelude.{◌≡◌, ◌≤◌, ◌+◌, Bool, List, false, true, min, IfOk, OnErr, IsTrue, length};
 ghost use Rattle.store_api.specs.Limits.{IsIdentifier};
 ghost use Rattle.store_api.specs.Stores.{found, read_at, change};
 ghost use Rattle.store_api.specs.declared.change.Change.TheVariants.{Write as write_at};
@@ -12,7 +12,7 @@ ghost use Rattle.store_api.specs.Keeping.{Kept};
 ghost use Rattle.handle_table.specs.declared.handle.Entry.{Entry};
 ghost use Rattle.object_asks.specs.Codes.{access_conflict};
 ghost use Rattle.object_asks.specs.Asks.{Serves, came_of, changes_store, close_course, create_course, created, created_by, has_unknown_bits, is_long_identifier, is_too_much, kept_flags, object_course, open_course, opened_by, overwrites, put_of, read_by, refused, read_course, write_course, written_by};
-ghost use Rattle.object_asks.specs.Serving.{IsGiven, IsOutcome, IsServed, objects_in};
+ghost use Rattle.object_asks.specs.Serving.{EndsUnchanged, IsGiven, IsOutcome, IsServed, TriesOnce, objects_in};
 
 use crate::handles::Handles;
 use crate::outcome::{Served, answered, panicked, refused, told};
@@ -81,7 +81,7 @@ fn open_found<T: AppStore>(
 ) -> Result<Answer, StoreAnswer>
     requires id { IsIdentifier id.now }
     requires room { is_full (settled handles.old) instance ≡ false }
-    ensures { IsGiven T.tells T.kept T.standing T.damage T.honest result (opened_by (objects_in handles.old (T.kept store.old)) instance id.now flags (found (T.kept store.old).store id.now)) handles.old handles.new store.old store.new }
+    ensures { IsGiven T.tells T.kept T.standing T.damage T.honest T.moment T.left_since result (opened_by (objects_in handles.old (T.kept store.old)) instance id.now flags (found (T.kept store.old).store id.now)) false handles.old handles.new store.old store.new }
 {
     let _facts = store.find(id)?;
     if !handles.may_open(id, flags) {
@@ -90,7 +90,7 @@ fn open_found<T: AppStore>(
     Ok(Answer::Number(handles.add(instance, id, flags)?))
 }
 
-#[tactic(auto, using(crate::proofs::ServingLemmas::by_store, crate::proofs::ServingLemmas::by_panic, crate::proofs::ServingLemmas::by_answer))]
+#[tactic(auto, using(crate::proofs::ServingLemmas::by_want, crate::proofs::ServingLemmas::by_nothing, crate::proofs::ServingLemmas::by_panic, crate::proofs::ServingLemmas::by_answer))]
 fn open<T: AppStore>(
     handles: &mut Handles,
     store: &mut T,
@@ -99,7 +99,9 @@ fn open<T: AppStore>(
     id: &[u8],
     flags: u32,
 ) -> Result<Served, NoMemory>
-    ensures { IfOk result (λ served. IsServed T.tells T.kept T.standing T.damage T.honest served (open_course (objects_in handles.old (T.kept store.old)) instance storage id.now flags) false handles.old handles.new store.old store.new) }
+    ensures served { IfOk result (λ served. IsServed T.tells T.kept T.standing T.damage T.honest T.moment T.left_since served (open_course (objects_in handles.old (T.kept store.old)) instance storage id.now flags) false handles.old handles.new store.old store.new) }
+    ensures tried { TriesOnce false (T.standing store.old) (T.standing store.new) }
+    ensures want { OnErr result (EndsUnchanged T.tells T.kept T.standing T.damage T.honest T.moment T.left_since store.old store.new) }
 {
     if is_long_identifier(id) || has_unknown_bits(flags) {
         return Ok(panicked());
@@ -119,7 +121,7 @@ fn open<T: AppStore>(
 /// A create over an object that is open. The store is asked, since a lost one is answered first.
 fn conflict<T: AppStore>(store: &mut T, id: &[u8]) -> Result<Answer, StoreAnswer>
     requires { IsIdentifier id.now }
-    ensures { (handles : List Entry) → IsGiven T.tells T.kept T.standing T.damage T.honest result (refused (objects_in handles (T.kept store.old)) access_conflict) handles handles store.old store.new }
+    ensures { (handles : List Entry) → IsGiven T.tells T.kept T.standing T.damage T.honest T.moment T.left_since result (refused (objects_in handles (T.kept store.old)) access_conflict) true handles handles store.old store.new }
 {
     match store.find(id) {
         Ok(_) | Err(StoreAnswer::NotFound | StoreAnswer::Exists | StoreAnswer::NoSpace) => {
@@ -145,7 +147,7 @@ fn create_closed<T: AppStore>(
     requires content { length content ≤ 524288 }
     requires room { is_full (settled handles.old) instance ≡ false }
     requires closed { is_open (settled handles.old) id ≡ false }
-    ensures { IsGiven T.tells T.kept T.standing T.damage T.honest result (created_by (objects_in handles.old (T.kept store.old)) instance id (kept_flags flags) (change (T.kept store.old).store (put_of id content (overwrites flags)))) handles.old handles.new store.old store.new }
+    ensures { IsGiven T.tells T.kept T.standing T.damage T.honest T.moment T.left_since result (created_by (objects_in handles.old (T.kept store.old)) instance id (kept_flags flags) (change (T.kept store.old).store (put_of id content (overwrites flags)))) true handles.old handles.new store.old store.new }
 {
     let number = handles.add(instance, id.as_slice(), kept_flags(flags))?;
     let change = Change::Put {
@@ -177,7 +179,7 @@ fn create_object<T: AppStore>(
     requires id { IsIdentifier id }
     requires content { length content ≤ 524288 }
     requires room { is_full (settled handles.old) instance ≡ false }
-    ensures { IsGiven T.tells T.kept T.standing T.damage T.honest result (created (objects_in handles.old (T.kept store.old)) instance id flags content) handles.old handles.new store.old store.new }
+    ensures { IsGiven T.tells T.kept T.standing T.damage T.honest T.moment T.left_since result (created (objects_in handles.old (T.kept store.old)) instance id flags content) true handles.old handles.new store.old store.new }
 {
     if handles.is_open(id.as_slice()) {
         return conflict(store, id.as_slice());
@@ -185,7 +187,7 @@ fn create_object<T: AppStore>(
     create_closed(alloc, handles, store, instance, id, flags, content)
 }
 
-#[tactic(auto, using(crate::proofs::ServingLemmas::by_store, crate::proofs::ServingLemmas::by_panic, crate::proofs::ServingLemmas::by_answer))]
+#[tactic(auto, using(crate::proofs::ServingLemmas::by_want, crate::proofs::ServingLemmas::by_nothing, crate::proofs::ServingLemmas::by_panic, crate::proofs::ServingLemmas::by_answer))]
 fn create<T: AppStore>(
     alloc: Global,
     handles: &mut Handles,
@@ -197,7 +199,9 @@ fn create<T: AppStore>(
     attr: u32,
     content: Bytes,
 ) -> Result<Served, NoMemory>
-    ensures { IfOk result (λ served. IsServed T.tells T.kept T.standing T.damage T.honest served (create_course (objects_in handles.old (T.kept store.old)) instance storage id flags attr content) true handles.old handles.new store.old store.new) }
+    ensures served { IfOk result (λ served. IsServed T.tells T.kept T.standing T.damage T.honest T.moment T.left_since served (create_course (objects_in handles.old (T.kept store.old)) instance storage id flags attr content) true handles.old handles.new store.old store.new) }
+    ensures tried { TriesOnce true (T.standing store.old) (T.standing store.new) }
+    ensures want { OnErr result (EndsUnchanged T.tells T.kept T.standing T.damage T.honest T.moment T.left_since store.old store.new) }
 {
     if is_long_identifier(id.as_slice())
         || is_too_much(content.len())
@@ -245,14 +249,14 @@ fn read_on<T: AppStore>(
     requires id { IsIdentifier id }
     requires count { count ≤ 524288 }
     requires there { IsTrue (is_there (settled handles.old) instance object) }
-    ensures { IsGiven T.tells T.kept T.standing T.damage T.honest result (read_by (objects_in handles.old (T.kept store.old)) instance object position (read_at (T.kept store.old).store id position count)) handles.old handles.new store.old store.new }
+    ensures { IsGiven T.tells T.kept T.standing T.damage T.honest T.moment T.left_since result (read_by (objects_in handles.old (T.kept store.old)) instance object position (read_at (T.kept store.old).store id position count)) false handles.old handles.new store.old store.new }
 {
     let bytes = store.read(id.as_slice(), position, count)?;
     handles.seek(instance, object, behind(position, bytes.len()));
     Ok(Answer::Content(bytes))
 }
 
-#[tactic(auto, using(crate::proofs::ServingLemmas::by_store, crate::proofs::ServingLemmas::by_panic, crate::proofs::ServingLemmas::by_answer))]
+#[tactic(auto, using(crate::proofs::ServingLemmas::by_want, crate::proofs::ServingLemmas::by_nothing, crate::proofs::ServingLemmas::by_panic, crate::proofs::ServingLemmas::by_answer))]
 fn read<T: AppStore>(
     alloc: Global,
     handles: &mut Handles,
@@ -261,7 +265,9 @@ fn read<T: AppStore>(
     object: u32,
     count: u32,
 ) -> Result<Served, NoMemory>
-    ensures { IfOk result (λ served. IsServed T.tells T.kept T.standing T.damage T.honest served (read_course (objects_in handles.old (T.kept store.old)) instance object count (handle_at (settled handles.old) instance object)) false handles.old handles.new store.old store.new) }
+    ensures served { IfOk result (λ served. IsServed T.tells T.kept T.standing T.damage T.honest T.moment T.left_since served (read_course (objects_in handles.old (T.kept store.old)) instance object count (handle_at (settled handles.old) instance object)) false handles.old handles.new store.old store.new) }
+    ensures tried { TriesOnce false (T.standing store.old) (T.standing store.new) }
+    ensures want { OnErr result (EndsUnchanged T.tells T.kept T.standing T.damage T.honest T.moment T.left_since store.old store.new) }
 {
     let Some(
         Handle::Persistent {
@@ -301,7 +307,7 @@ fn write_through<T: AppStore>(
     requires bytes { length bytes ≤ 524288 }
     requires within { position + length bytes ≤ 4294967295 }
     requires there { IsTrue (is_there (settled handles.old) instance object) }
-    ensures { IsGiven T.tells T.kept T.standing T.damage T.honest result (written_by (objects_in handles.old (T.kept store.old)) instance object (position + length bytes) (change (T.kept store.old).store (write_at id position bytes))) handles.old handles.new store.old store.new }
+    ensures { IsGiven T.tells T.kept T.standing T.damage T.honest T.moment T.left_since result (written_by (objects_in handles.old (T.kept store.old)) instance object (position + length bytes) (change (T.kept store.old).store (write_at id position bytes))) true handles.old handles.new store.old store.new }
 {
     let end = behind(position, bytes.len());
     store.apply(&Change::Write {
@@ -313,7 +319,7 @@ fn write_through<T: AppStore>(
     Ok(Answer::Done)
 }
 
-#[tactic(auto, using(crate::proofs::ServingLemmas::by_store, crate::proofs::ServingLemmas::by_panic, crate::proofs::ServingLemmas::by_answer))]
+#[tactic(auto, using(crate::proofs::ServingLemmas::by_want, crate::proofs::ServingLemmas::by_nothing, crate::proofs::ServingLemmas::by_panic, crate::proofs::ServingLemmas::by_answer))]
 fn write<T: AppStore>(
     alloc: Global,
     handles: &mut Handles,
@@ -322,7 +328,9 @@ fn write<T: AppStore>(
     object: u32,
     bytes: Bytes,
 ) -> Result<Served, NoMemory>
-    ensures { IfOk result (λ served. IsServed T.tells T.kept T.standing T.damage T.honest served (write_course (objects_in handles.old (T.kept store.old)) instance object bytes (handle_at (settled handles.old) instance object)) true handles.old handles.new store.old store.new) }
+    ensures served { IfOk result (λ served. IsServed T.tells T.kept T.standing T.damage T.honest T.moment T.left_since served (write_course (objects_in handles.old (T.kept store.old)) instance object bytes (handle_at (settled handles.old) instance object)) true handles.old handles.new store.old store.new) }
+    ensures tried { TriesOnce true (T.standing store.old) (T.standing store.new) }
+    ensures want { OnErr result (EndsUnchanged T.tells T.kept T.standing T.damage T.honest T.moment T.left_since store.old store.new) }
 {
     let Some(
         Handle::Persistent {
@@ -360,7 +368,9 @@ pub fn serve<T: AppStore>(
     instance: u8,
     ask: Ask,
 ) -> Result<Served, NoMemory>
-    ensures { IfOk result (λ served. IsServed T.tells T.kept T.standing T.damage T.honest served (object_course (objects_in handles.old (T.kept store.old)) instance ask) (changes_store ask) handles.old handles.new store.old store.new) }
+    ensures served { IfOk result (λ served. IsServed T.tells T.kept T.standing T.damage T.honest T.moment T.left_since served (object_course (objects_in handles.old (T.kept store.old)) instance ask) (changes_store ask) handles.old handles.new store.old store.new) }
+    ensures tried { TriesOnce (changes_store ask) (T.standing store.old) (T.standing store.new) }
+    ensures want { OnErr result (EndsUnchanged T.tells T.kept T.standing T.damage T.honest T.moment T.left_since store.old store.new) }
 {
     match ask {
         Ask::ObjOpen { storage, id, flags } => open(

@@ -1,5 +1,5 @@
 -- What a keeper of a store answers, when, and what a crash may leave of it.
-use Rattle.std.specs.Prelude.{ℕ, ◌≡◌, ◌≢◌, ◌≤◌, ◌<◌, ◌⊎◌, Bool, true, false, List, Option, Some, Result, Ok, Err}
+use Rattle.std.specs.Prelude.{ℕ, ◌≡◌, ◌≢◌, ◌+◌, ◌≤◌, ◌<◌, ◌⊎◌, Bool, true, false, List, Option, Some, Result, Ok, Err}
 use Rattle.tee_base.specs.Crash.{LeavesOnly}
 use Rattle.tee_base.specs.Faults.{Rose}
 use Rattle.store_api.specs.declared.answer.StoreAnswer.{StoreAnswer}
@@ -15,11 +15,19 @@ Answers (Err NoSpace) stated = stated ≡ Err NoSpace
 Answers (Err _) stated = Unit {0}
 
 -- what is known of a keeper, whether it tells its store or not: whether it is lost, how often what it stands on failed,
--- and how many orders were made to that
+-- how many orders were made to that, how often it told of damage, and how many changes it was asked for
 pub record Standing : Type 0 where
   pub lost : Bool
   pub faults : ℕ
   pub orders : ℕ
+  pub damage_told : ℕ
+  pub changes_tried : ℕ
+
+-- how often an answer tells of damage
+abbrev pub damage_in : {A : Type 0} → Result A StoreAnswer → ℕ
+damage_in (Err (Corrupt tags)) = 1
+damage_in (Err (Garbled leaf)) = 1
+damage_in _ = 0
 
 -- when each answer comes, and whether the keeper is lost afterwards
 abbrev pub Cause : {A : Type 0} → Result A StoreAnswer → Standing → Standing → Type 0
@@ -32,6 +40,11 @@ pub record HasCause {A : Type 0} (result : Result A StoreAnswer) (old new : Stan
   pub cause : Cause result old new
   pub later : old.faults ≤ new.faults
   pub orders_stay : new.orders ≡ old.orders
+  pub told : new.damage_told ≡ old.damage_told + damage_in result
+
+-- a call tries so many changes
+abbrev pub Tries : ℕ → Standing → Standing → Type 0
+Tries n old new = new.changes_tried ≡ old.changes_tried + n
 
 -- an answer of damage tells of some that there is
 abbrev pub TellsDamage : {A : Type 0} → Result A StoreAnswer → (StoreAnswer → Type 0) → Type 0

@@ -6,3 +6,4 @@ pub mod Moments
 pub mod Objects
 pub mod Past
 pub mod Stores
+pub mod Tallies

@@ -7,12 +7,13 @@ use Rattle.store_api.specs.declared.answer.StoreAnswer.TheVariants.{Lost, Failed
 use Rattle.store_api.specs.Stores.{Store, empty_store, coded_store}
 use Rattle.store_api.specs.Keeping.{Standing, Rest, Kept, Remains}
 
--- the store, the stores before it with the last of them first, which calls fail, and whether one did
+-- the store, the stores before it with the last of them first, which calls fail, whether one did, and how many changes were tried
 pub record MapState : Type 0 where
   pub store : Store
   pub past : List Store
   pub plan : Plan
   pub lost : Bool
+  pub changes_tried : ℕ
 
 abbrev pub coded_plan : Coded Plan
 coded_plan =
@@ -21,15 +22,15 @@ coded_plan =
 
 abbrev pub coded_state : Coded MapState
 coded_state =
-    code_by ((Store × List Store) × (Plan × Bool)) (coded× (coded× coded_store (coded_list coded_store)) (coded× coded_plan coded_bool))
-    (λ s. ((s.store, s.past), (s.plan, s.lost)))
-    (λ p. record { store = p.0.0; past = p.0.1; plan = p.1.0; lost = p.1.1 }) (λ _. refl)
+    code_by ((Store × List Store) × (Plan × (Bool × ℕ))) (coded× (coded× coded_store (coded_list coded_store)) (coded× coded_plan (coded× coded_bool coded_ℕ)))
+    (λ s. ((s.store, s.past), (s.plan, (s.lost, s.changes_tried))))
+    (λ p. record { store = p.0.0; past = p.0.1; plan = p.1.0; lost = p.1.1.0; changes_tried = p.1.1.1 }) (λ _. refl)
 
 abbrev pub opening_state : List ℕ → MapState
-opening_state failing = record { store = empty_store; past = []; plan = opening_plan failing; lost = false }
+opening_state failing = record { store = empty_store; past = []; plan = opening_plan failing; lost = false; changes_tried = 0 }
 
 abbrev pub standing_of : MapState → Standing
-standing_of s = record { lost = s.lost; faults = s.plan.faults; orders = 0 }
+standing_of s = record { lost = s.lost; faults = s.plan.faults; orders = 0; damage_told = 0; changes_tried = s.changes_tried }
 
 -- memory keeps nothing beside the store
 abbrev pub nothing_else : Rest

@@ -8,6 +8,7 @@ mod map_store;
 mod object;
 mod objects;
 mod store;
+mod tally;
 #[cfg(test)]
 mod tests;
 
@@ -17,3 +18,4 @@ pub use laws::change_laws;
 pub use map_store::MapStore;
 pub use object::{Facts, Listed, Object};
 pub use store::AppStore;
+pub use tally::Tally;

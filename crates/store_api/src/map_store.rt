@@ -1,7 +1,7 @@
 //! A store in memory, some of whose calls fail as they are told.
 
 ghost use Rattle.std.specs.Prelude.{◌≡◌, ◌≤◌, true, refl, IsTrue, IsErrOf, option_copied, take, drop};
-ghost use Rattle.store_api.specs.Keeping.{Standing, Kept, Remains, Answers, HasCause, IsIntact, Applied, LeavesJust, LeavesNothingNew, CrashLeaves, CrashChanges};
+ghost use Rattle.store_api.specs.Keeping.{Standing, Kept, Remains, Answers, HasCause, Tries, IsIntact, Applied, LeavesJust, LeavesNothingNew, CrashLeaves, CrashChanges};
 ghost use Rattle.store_api.specs.Limits.{IsIdentifier, IsChange};
 ghost use Rattle.store_api.specs.Stores.{found, secret_at, read_at, next_after, change as change_of};
 ghost use Rattle.store_api.specs.MapStores.{standing_of, kept_of, moment_of, left_of, FailsAsPlanned, Begins};
@@ -14,6 +14,7 @@ use crate::change::Change;
 use crate::object::{Facts, Listed};
 use crate::objects::Objects;
 use crate::store::AppStore;
+use crate::tally::Tally;
 use std::alloc::Global;
 use std::marker::Model;
 use std::snapshot::Snapshot;
@@ -84,6 +85,7 @@ pub struct MapStore {
     past: Past,
     schedule: Schedule,
     lost: bool,
+    changes_tried: Tally,
     alloc: Global,
 }
 
@@ -94,11 +96,11 @@ impl Model for MapStore {
 
     ghost coded = { coded_state };
 
-    ghost view = { λ s. record { store = s.objects; past = s.past; plan = s.schedule; lost = s.lost } };
+    ghost view = { λ s. record { store = s.objects; past = s.past; plan = s.schedule; lost = s.lost; changes_tried = s.changes_tried } };
 }
 
 impl MapStore {
-    ghost use Rattle.std.specs.Prelude.{◌≡◌, ◌≤◌, IfOk, IsErrOf};
+    ghost use Rattle.std.specs.Prelude.{◌≡◌, ◌≤◌, ◌+◌, IfOk, IsErrOf};
     ghost use Rattle.tee_base.specs.Faults.{Rose};
     ghost use Rattle.store_api.specs.declared.answer.StoreAnswer.TheVariants.{Failed};
     ghost use Rattle.store_api.specs.MapStores.{opening_state, Begins};
@@ -112,6 +114,7 @@ impl MapStore {
             objects: Objects::new(alloc),
             past: Past::start(),
             lost: false,
+            changes_tried: Tally::none(),
             alloc,
         })
     }
@@ -130,6 +133,16 @@ impl MapStore {
             return Err(StoreAnswer::Failed);
         }
         Ok(())
+    }
+
+    /// Begins a change, which counts as tried however it begins.
+    fn begin_change(&mut self) -> Result<(), StoreAnswer>
+        ensures begun { Begins result (record self.old { changes_tried = self.old.changes_tried + 1 }) self.new }
+        ensures later { self.old.plan.faults ≤ self.new.plan.faults }
+        ensures rose { IsErrOf result Failed → Rose self.old.plan.faults self.new.plan.faults }
+    {
+        self.changes_tried = self.changes_tried.one_more();
+        self.begin()
     }
 }
 
@@ -158,6 +171,7 @@ impl AppStore for MapStore {
         ensures answer { Answers result (found self.old.store id.now) }
         ensures same { kept_of self.new ≡ kept_of self.old }
         ensures cause { HasCause result (standing_of self.old) (standing_of self.new) }
+        ensures tried { Tries 0 (standing_of self.old) (standing_of self.new) }
         ensures quiet { IsTrue self.old.lost → LeavesNothingNew moment_of left_of self.old self.new }
         ensures crash { LeavesJust moment_of left_of self.old (kept_of self.old) → CrashLeaves moment_of left_of (kept_of self.old) self.old self.new }
         ensures intact { IsIntact result }
@@ -173,6 +187,7 @@ impl AppStore for MapStore {
         ensures answer { Answers result (secret_at self.old.store id.now) }
         ensures same { kept_of self.new ≡ kept_of self.old }
         ensures cause { HasCause result (standing_of self.old) (standing_of self.new) }
+        ensures tried { Tries 0 (standing_of self.old) (standing_of self.new) }
         ensures quiet { IsTrue self.old.lost → LeavesNothingNew moment_of left_of self.old self.new }
         ensures crash { LeavesJust moment_of left_of self.old (kept_of self.old) → CrashLeaves moment_of left_of (kept_of self.old) self.old self.new }
         ensures intact { IsIntact result }
@@ -189,6 +204,7 @@ impl AppStore for MapStore {
         ensures answer { Answers result (read_at self.old.store id.now from count) }
         ensures same { kept_of self.new ≡ kept_of self.old }
         ensures cause { HasCause result (standing_of self.old) (standing_of self.new) }
+        ensures tried { Tries 0 (standing_of self.old) (standing_of self.new) }
         ensures quiet { IsTrue self.old.lost → LeavesNothingNew moment_of left_of self.old self.new }
         ensures crash { LeavesJust moment_of left_of self.old (kept_of self.old) → CrashLeaves moment_of left_of (kept_of self.old) self.old self.new }
         ensures intact { IsIntact result }
@@ -204,6 +220,7 @@ impl AppStore for MapStore {
         ensures answer { Answers result (next_after self.old.store (option_copied last.entry)) }
         ensures same { kept_of self.new ≡ kept_of self.old }
         ensures cause { HasCause result (standing_of self.old) (standing_of self.new) }
+        ensures tried { Tries 0 (standing_of self.old) (standing_of self.new) }
         ensures quiet { IsTrue self.old.lost → LeavesNothingNew moment_of left_of self.old self.new }
         ensures crash { LeavesJust moment_of left_of self.old (kept_of self.old) → CrashLeaves moment_of left_of (kept_of self.old) self.old self.new }
         ensures intact { IsIntact result }
@@ -221,12 +238,13 @@ impl AppStore for MapStore {
         requires { IsChange change.now }
         ensures applied { Applied result (change_of self.old.store change.now) (kept_of self.old) (kept_of self.new) }
         ensures cause { HasCause result (standing_of self.old) (standing_of self.new) }
+        ensures tried { Tries 1 (standing_of self.old) (standing_of self.new) }
         ensures quiet { IsTrue self.old.lost → LeavesNothingNew moment_of left_of self.old self.new }
         ensures crash { LeavesJust moment_of left_of self.old (kept_of self.old) → CrashChanges moment_of left_of result (change_of self.old.store change.now) kept_of self.old self.new }
         ensures intact { IsIntact result }
         ensures fails { FailsAsPlanned result self.old }
     {
-        self.begin()?;
+        self.begin_change()?;
         let past = self.past.then(&self.objects);
         self.objects.apply(change)?;
         self.past = past;

@@ -2,7 +2,7 @@
 
 ghost use Rattle.std.specs.Prelude.{◌≡◌, ◌≤◌, ℕ, Bool, IsTrue, length, option_copied};
 ghost use Rattle.store_api.specs.declared.answer.StoreAnswer.{StoreAnswer};
-ghost use Rattle.store_api.specs.Keeping.{Standing, Kept, Remains, Answers, HasCause, TellsDamage, IsIntact, Applied, LeavesJust, LeavesNothingNew, CrashLeaves, CrashChanges};
+ghost use Rattle.store_api.specs.Keeping.{Standing, Kept, Remains, Answers, HasCause, Tries, TellsDamage, IsIntact, Applied, LeavesJust, LeavesNothingNew, CrashLeaves, CrashChanges};
 ghost use Rattle.store_api.specs.Limits.{IsIdentifier, IsChange};
 ghost use Rattle.store_api.specs.Stores.{found, secret_at, read_at, next_after, change as change_of};
 
@@ -20,7 +20,7 @@ pub trait AppStore {
     /// The store, all else that is kept with it, and a number that rises with the changes, where it tells them.
     ghost kept: { Self → Kept };
 
-    /// Whether it is lost, and how often what it stands on failed.
+    /// Whether it is lost, and the counts of what befell it.
     ghost standing: { Self → Standing };
 
     /// What it stands on keeps to its rules, and what is kept there is well formed.
@@ -41,6 +41,7 @@ pub trait AppStore {
         ensures answer { IsTrue tells → Answers result (found (kept self.old).store id.now) }
         ensures same { IsTrue tells → kept self.new ≡ kept self.old }
         ensures cause { HasCause result (standing self.old) (standing self.new) }
+        ensures tried { Tries 0 (standing self.old) (standing self.new) }
         ensures damage { TellsDamage result (damage self.new) }
         ensures honest { honest self.old → honest self.new × IsIntact result }
         ensures quiet { IsTrue (standing self.old).lost → LeavesNothingNew moment left_since self.old self.new }
@@ -52,6 +53,7 @@ pub trait AppStore {
         ensures answer { IsTrue tells → Answers result (secret_at (kept self.old).store id.now) }
         ensures same { IsTrue tells → kept self.new ≡ kept self.old }
         ensures cause { HasCause result (standing self.old) (standing self.new) }
+        ensures tried { Tries 0 (standing self.old) (standing self.new) }
         ensures damage { TellsDamage result (damage self.new) }
         ensures honest { honest self.old → honest self.new × IsIntact result }
         ensures quiet { IsTrue (standing self.old).lost → LeavesNothingNew moment left_since self.old self.new }
@@ -65,6 +67,7 @@ pub trait AppStore {
         ensures answer { IsTrue tells → Answers result (read_at (kept self.old).store id.now from count) }
         ensures same { IsTrue tells → kept self.new ≡ kept self.old }
         ensures cause { HasCause result (standing self.old) (standing self.new) }
+        ensures tried { Tries 0 (standing self.old) (standing self.new) }
         ensures damage { TellsDamage result (damage self.new) }
         ensures honest { honest self.old → honest self.new × IsIntact result }
         ensures quiet { IsTrue (standing self.old).lost → LeavesNothingNew moment left_since self.old self.new }
@@ -76,6 +79,7 @@ pub trait AppStore {
         ensures answer { IsTrue tells → Answers result (next_after (kept self.old).store (option_copied last.entry)) }
         ensures same { IsTrue tells → kept self.new ≡ kept self.old }
         ensures cause { HasCause result (standing self.old) (standing self.new) }
+        ensures tried { Tries 0 (standing self.old) (standing self.new) }
         ensures damage { TellsDamage result (damage self.new) }
         ensures honest { honest self.old → honest self.new × IsIntact result }
         ensures quiet { IsTrue (standing self.old).lost → LeavesNothingNew moment left_since self.old self.new }
@@ -86,6 +90,7 @@ pub trait AppStore {
         requires { IsChange change.now }
         ensures applied { IsTrue tells → Applied result (change_of (kept self.old).store change.now) (kept self.old) (kept self.new) }
         ensures cause { HasCause result (standing self.old) (standing self.new) }
+        ensures tried { Tries 1 (standing self.old) (standing self.new) }
         ensures damage { TellsDamage result (damage self.new) }
         ensures honest { honest self.old → honest self.new × IsIntact result }
         ensures quiet { IsTrue (standing self.old).lost → LeavesNothingNew moment left_since self.old self.new }

@@ -1,6 +1,6 @@
 //! Calls and their turns, over stores of which some calls fail.
 
-ghost use Rattle.std.specs.Prelude.{◌≡◌, IfOk, OnOk};
+ghost use Rattle.std.specs.Prelude.{◌≡◌, IfOk, OnOk, false};
 ghost use Rattle.app_side.specs.Represents.{is_lost, IsOneInstance};
 
 use super::probe::Probe;
@@ -10,16 +10,16 @@ use app_api::{Host, Param, Params, Properties};
 use std::alloc::Global;
 use std::process::Abort;
 use std::test::Fail;
-use store_api::MapStore;
+use store_api::{AppStore, MapStore};
 use tee_base::{Bytes, Code};
 use uuid::Uuid;
 
 /// Reads, writes and lets others do so.
-const ALL: u32 = 0x33;
+pub const ALL: u32 = 0x33;
 
 /// A command in words that a table can hold.
 #[derive(Clone, Copy, Debug)]
-enum Step<'a> {
+pub enum Step<'a> {
     Open(u32, &'a [u8]),
     Create(u32, &'a [u8], &'a [u8]),
     Close(u32),
@@ -30,7 +30,7 @@ enum Step<'a> {
 
 /// What is shown of it.
 #[derive(Clone, Copy, Debug, PartialEq)]
-enum Told<'a> {
+pub enum Told<'a> {
     Code(Code),
     Number(u32),
     Bytes(&'a [u8]),
@@ -118,15 +118,15 @@ fn shown(reply: &Reply) -> Told<'_> {
 }
 
 /// Eight turns: enough for an entry with one ask. Some turn is of this kind, and one has the reply that is wanted.
-fn run(
+fn run<T: AppStore>(
     rt: &impl Abort,
     side: &mut AppSide<Probe>,
-    store: &mut MapStore,
+    store: &mut T,
     kind: TurnKind,
     wanted: Option<Told<'_>>,
 ) -> Result<(), Fail>
-    requires { is_lost side.old ≡ store.old.lost }
-    ensures { OnOk result (is_lost side.new ≡ store.new.lost) }
+    requires { is_lost side.old ≡ (T.standing store.old).lost }
+    ensures { OnOk result (is_lost side.new ≡ (T.standing store.new).lost) }
 {
     let mut met = false;
     let mut replies = 0u32;
@@ -149,15 +149,16 @@ fn run(
     Ok(())
 }
 
-/// Opens a session, and makes the steps over a store whose calls of these numbers fail.
-fn check(
+/// Opens a session, and makes the steps over this store.
+pub fn check_over<T: AppStore>(
     rt: &impl Abort,
     alloc: Global,
-    failing: &[u64],
+    store: &mut T,
     steps: &[(Step<'_>, TurnKind, Told<'_>)],
-) -> Result<(), Fail> {
+) -> Result<(), Fail>
+    requires { (T.standing store.old).lost ≡ false }
+{
     let mut side = AppSide::new(alloc, host(alloc)?, 0, [0; 32])?;
-    let mut store = MapStore::new(alloc, failing)?;
     let open = Call::Open {
         label: 1,
         params: Params {
@@ -168,15 +169,25 @@ fn check(
         },
     };
     let _called = side.call(0, open)?;
-    run(rt, &mut side, &mut store, TurnKind::Plain, None)?;
+    run(rt, &mut side, store, TurnKind::Plain, None)?;
     for (step, kind, wanted) in steps {
         let _called = side.call(0, invoke(alloc, *step)?)?;
-        run(rt, &mut side, &mut store, *kind, Some(*wanted))?;
+        run(rt, &mut side, store, *kind, Some(*wanted))?;
     }
     Ok(())
 }
 
-const PLAIN: TurnKind = TurnKind::Plain;
+/// The same over a store in memory whose calls of these numbers fail.
+fn check(
+    rt: &impl Abort,
+    alloc: Global,
+    failing: &[u64],
+    steps: &[(Step<'_>, TurnKind, Told<'_>)],
+) -> Result<(), Fail> {
+    check_over(rt, alloc, &mut MapStore::new(alloc, failing)?, steps)
+}
+
+pub const PLAIN: TurnKind = TurnKind::Plain;
 
 const FINE: Told<'static> = Told::Code(Code::SUCCESS);
 

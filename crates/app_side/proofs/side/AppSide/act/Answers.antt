@@ -8,14 +8,18 @@ use Rattle.alone.specs.Machine.{Machine, is_number}
 use Rattle.alone.specs.Step.{acted, not_built, returned, served}
 use Rattle.object_asks.specs.declared.outcome.Outcome.{Outcome as Result_of}
 use Rattle.object_asks.specs.declared.outcome.Outcome.TheVariants as outcomes
-use Rattle.app_side.specs.Places.{IsPlace}
+use Rattle.alone.specs.InList.{IsPlace}
 use Rattle.app_side.specs.Represents.{IsLeft, IsStep, IsTurned, machine_of, machine_over}
-use Rattle.object_asks.specs.Serving.{serving_of}
-use Rattle.app_side.proofs.Carried.{below, course_above, course_below, plain_turn}
+use Rattle.object_asks.specs.Serving.{CrashTurns, serving_of}
+use Rattle.alone.proofs.Courses.{course_above, course_below}
+use Rattle.app_side.proofs.Carried.{below, none_tried, plain_turn}
 use Rattle.object_asks.specs.declared.outcome.Ending.{Ending}
 use Rattle.alone.specs.declared.reply.Reply.{Reply}
-use Rattle.app_side.proofs.PlaceLemmas.{found_number}
+use Rattle.alone.proofs.Lists.{found_number}
 use Rattle.app_side.proofs.TurnLemmas.{answers, moves, returns, turned_lost}
+use Rattle.object_asks.proofs.Crashes.{idle_crash}
+use Rattle.app_side.specs.Serving.{in_doubt_by}
+use Rattle.app_side.proofs.Crashed.{acted_crash}
 use Rattle.app_side.proofs.side.AppSide.act.Goals as goal
 
 pub returns-then-asks-ge-ASKS : goal.returns-then-asks-ge-ASKS
@@ -29,7 +33,10 @@ returns-then-asks-ge-ASKS g c =
           let m : Machine g.row.A.Denot = machine_over c.args.self.now before.store doubt in
           subst (λ (k : Course (Machine g.row.A.Denot)). IsStep c.end_entry.new.self before.store c.plain.result.replies (acted m inst r (served (serving_of c.plain.result.kind) m c.args.running.ask k))) (sym (course_above c.args.running.asks m inst.number c.args.running.stage c.args.running.ask c.if-asks-ge-ASKS.true))
           (returns c.args.self.now c.end_entry.new.self c.plain.result.replies inst r not_built m before.store doubt (subst (λ (e : Ending). IsTurned c.end_entry.new.self c.plain.result.replies (returned (machine_of c.args.self.now) inst r.op r.stage e.code e.outs)) c.not_built.ensures (subst (λ (given : List Reply). IsTurned c.end_entry.new.self given (returned (machine_of c.args.self.now) inst r.op r.stage c.not_built.result.code c.not_built.result.outs)) (sym c.plain.ensures.replies) (c.in_ok-replies.ensures inst found numbered))) refl);
-      kind = plain_turn t.tells t.kept t.standing t.damage t.honest c.plain.result.kind _ _ _ _ c.args.store.now c.plain.ensures.kind (sym (turned_lost c.args.self.now c.end_entry.new.self c.in_ok-replies.replies there.0 c.args.running.op c.args.running.stage c.not_built.result.code c.not_built.result.outs (c.in_ok-replies.ensures there.0 there.1 (found_number c.args.number c.args.self.now.instances.items there.0 there.1))));
+      kind = plain_turn t.tells t.kept t.standing t.damage t.honest t.moment t.left_since c.plain.result.kind _ _ _ _ c.args.store.now c.plain.ensures.kind (sym (turned_lost c.args.self.now c.end_entry.new.self c.in_ok-replies.replies there.0 c.args.running.op c.args.running.stage c.not_built.result.code c.not_built.result.outs (c.in_ok-replies.ensures there.0 there.1 (found_number c.args.number c.args.self.now.instances.items there.0 there.1))));
+      tried = none_tried _ (t.standing c.args.store.now);
+      want = tt;
+      crash = λ honest just doubt inst found numbered. idle_crash t.kept t.moment t.left_since _ _ c.args.store.now just;
     }
 
 pub returns-in-Answered : goal.returns-in-Answered
@@ -55,8 +62,15 @@ returns-in-Answered g c =
           answers mid new c.none.result inst r c.in-Answered.answer after.store left.0 (served (serving_of done.kind) m ask (course_after c.args.running.asks m inst.number c.args.running.stage ask))
           (c.answer_next.ensures c.args.number at inst (found_in inst found)) c.none.ensures
           (ap (λ (k : Course (Machine g.row.A.Denot)). served (serving_of done.kind) m ask k) (course_below c.args.running.asks m inst.number c.args.number c.args.running.stage ask c.if-asks-ge-ASKS.false numbered) ∙ left.1) m;
-      kind = moves t.tells t.kept t.standing t.damage t.honest done.kind _ _ _ _ _ _ _ c.args.store.now c.carry_out.new.store (sym (below c.args.running.asks _ c.if-asks-ge-ASKS.false)) refl
+      kind = moves t.tells t.kept t.standing t.damage t.honest t.moment t.left_since done.kind _ _ _ _ _ _ _ c.args.store.now c.carry_out.new.store (sym (below c.args.running.asks _ c.if-asks-ge-ASKS.false)) refl
           (sym (ap (λ (m : Machine g.row.A.Denot). m.lost) (c.answer_next.ensures c.args.number at there.0 (found_in there.0 there.1)))) met.kind;
+      tried = c.carry_out.ensures.tried;
+      want = tt;
+      crash = λ honest just doubt inst found numbered.
+          let m : Machine g.row.A.Denot = machine_over c.args.self.now before.store doubt in
+          acted_crash t.kept t.moment t.left_since c.args.store.now c.carry_out.new.store m inst r done.kind (served (serving_of done.kind) m ask (course_after c.args.running.asks m inst.number c.args.running.stage ask))
+          (subst (λ (k : Course (Machine g.row.A.Denot)). CrashTurns t.kept t.moment t.left_since done.kind (in_doubt_by (served (serving_of done.kind) m ask k)) c.args.store.now c.carry_out.new.store)
+          (sym (course_below c.args.running.asks m inst.number c.args.number c.args.running.stage ask c.if-asks-ge-ASKS.false numbered)) (met.crash honest just doubt));
     }
 
 pub returns-in_ok-replies-in-Returned : goal.returns-in_ok-replies-in-Returned
@@ -82,8 +96,15 @@ returns-in_ok-replies-in-Returned g c =
           let whole : served (serving_of done.kind) m ask (course_after c.args.running.asks m inst.number c.args.running.stage ask) ≡ Returned c.in-Returned.ending.code c.in-Returned.ending.outs = ap (λ (k : Course (Machine g.row.A.Denot)). served (serving_of done.kind) m ask k) (course_below c.args.running.asks m inst.number c.args.number c.args.running.stage ask c.if-asks-ge-ASKS.false numbered) ∙ left.0 in
           subst (λ (o : Outcome (Machine g.row.A.Denot)). IsStep new after.store c.in_ok-replies-in-Returned.replies (acted m inst r o)) (sym whole)
           (returns mid new c.in_ok-replies-in-Returned.replies inst r (c.in-Returned.ending) m after.store doubt (c.in_ok-replies-in-Returned.ensures inst (found_in inst found) numbered) left.1);
-      kind = moves t.tells t.kept t.standing t.damage t.honest done.kind _ _ _ _ _ _ _ c.args.store.now c.carry_out.new.store (sym (below c.args.running.asks _ c.if-asks-ge-ASKS.false)) refl
+      kind = moves t.tells t.kept t.standing t.damage t.honest t.moment t.left_since done.kind _ _ _ _ _ _ _ c.args.store.now c.carry_out.new.store (sym (below c.args.running.asks _ c.if-asks-ge-ASKS.false)) refl
           (turned_lost mid new c.in_ok-replies-in-Returned.replies there.0 c.args.running.op c.args.running.stage c.in-Returned.ending.code c.in-Returned.ending.outs (c.in_ok-replies-in-Returned.ensures there.0 (found_in there.0 there.1) named)) met.kind;
+      tried = c.carry_out.ensures.tried;
+      want = tt;
+      crash = λ honest just doubt inst found numbered.
+          let m : Machine g.row.A.Denot = machine_over c.args.self.now before.store doubt in
+          acted_crash t.kept t.moment t.left_since c.args.store.now c.carry_out.new.store m inst r done.kind (served (serving_of done.kind) m ask (course_after c.args.running.asks m inst.number c.args.running.stage ask))
+          (subst (λ (k : Course (Machine g.row.A.Denot)). CrashTurns t.kept t.moment t.left_since done.kind (in_doubt_by (served (serving_of done.kind) m ask k)) c.args.store.now c.carry_out.new.store)
+          (sym (course_below c.args.running.asks m inst.number c.args.number c.args.running.stage ask c.if-asks-ge-ASKS.false numbered)) (met.crash honest just doubt));
     }
 
 pub returns-in_ok-replies-in-Panicked : goal.returns-in_ok-replies-in-Panicked
@@ -109,6 +130,13 @@ returns-in_ok-replies-in-Panicked g c =
           let whole : served (serving_of done.kind) m ask (course_after c.args.running.asks m inst.number c.args.running.stage ask) ≡ Panicked = ap (λ (k : Course (Machine g.row.A.Denot)). served (serving_of done.kind) m ask k) (course_below c.args.running.asks m inst.number c.args.number c.args.running.stage ask c.if-asks-ge-ASKS.false numbered) ∙ left.0 in
           subst (λ (o : Outcome (Machine g.row.A.Denot)). IsStep new after.store c.in_ok-replies-in-Panicked.replies (acted m inst r o)) (sym whole)
           (returns mid new c.in_ok-replies-in-Panicked.replies inst r (not_built) m after.store doubt (subst (λ (e : Ending). IsTurned new c.in_ok-replies-in-Panicked.replies (returned (machine_of mid) inst r.op r.stage e.code e.outs)) c.not_built-in-Panicked.ensures (c.in_ok-replies-in-Panicked.ensures inst (found_in inst found) numbered)) left.1);
-      kind = moves t.tells t.kept t.standing t.damage t.honest done.kind _ _ _ _ _ _ _ c.args.store.now c.carry_out.new.store (sym (below c.args.running.asks _ c.if-asks-ge-ASKS.false)) refl
+      kind = moves t.tells t.kept t.standing t.damage t.honest t.moment t.left_since done.kind _ _ _ _ _ _ _ c.args.store.now c.carry_out.new.store (sym (below c.args.running.asks _ c.if-asks-ge-ASKS.false)) refl
           (turned_lost mid new c.in_ok-replies-in-Panicked.replies there.0 c.args.running.op c.args.running.stage c.not_built-in-Panicked.result.code c.not_built-in-Panicked.result.outs (c.in_ok-replies-in-Panicked.ensures there.0 (found_in there.0 there.1) named)) met.kind;
+      tried = c.carry_out.ensures.tried;
+      want = tt;
+      crash = λ honest just doubt inst found numbered.
+          let m : Machine g.row.A.Denot = machine_over c.args.self.now before.store doubt in
+          acted_crash t.kept t.moment t.left_since c.args.store.now c.carry_out.new.store m inst r done.kind (served (serving_of done.kind) m ask (course_after c.args.running.asks m inst.number c.args.running.stage ask))
+          (subst (λ (k : Course (Machine g.row.A.Denot)). CrashTurns t.kept t.moment t.left_since done.kind (in_doubt_by (served (serving_of done.kind) m ask k)) c.args.store.now c.carry_out.new.store)
+          (sym (course_below c.args.running.asks m inst.number c.args.number c.args.running.stage ask c.if-asks-ge-ASKS.false numbered)) (met.crash honest just doubt));
     }

@@ -1,5 +1,5 @@
 use Rattle.std.proofs.Common.{refl}
-use Rattle.app_side.proofs.PlaceLemmas.{found_number}
+use Rattle.alone.proofs.Lists.{found_number}
 use Rattle.app_side.proofs.side.AppSide.begin.Goals as goal
 
 pub returns-in-None : goal.returns-in-None

@@ -9,7 +9,10 @@ use Rattle.object_asks.specs.declared.outcome.Served.{Served}
 use Rattle.app_side.specs.Represents.{IsLeft, machine_over}
 use Rattle.object_asks.specs.Serving.{IsOutcome, objects_in, serving_of}
 use Rattle.alone.specs.Asks.{return_of}
-use Rattle.app_side.proofs.Carried.{carried, noted_instances, noted_lost, plain_turn, return_left, return_plain}
+use Rattle.app_side.proofs.Carried.{carried, none_tried, noted_instances, noted_lost, plain_turn, return_left, return_plain}
+use Rattle.object_asks.proofs.Crashes.{idle_crash}
+use Rattle.object_asks.proofs.ServingLemmas.{by_nothing, ends_with}
+use Rattle.app_side.proofs.Crashed.{carried_crash}
 use Rattle.app_side.proofs.side.AppSide.carry_out.Goals as goal
 
 pub returns-in-Return : goal.returns-in-Return
@@ -21,8 +24,12 @@ returns-in-Return g c =
       left = λ tells same doubt.
           let Left : Ask → Served → Type 0 = λ (ask : Ask) (r : Served). IsLeft r.outcome (served (serving_of r.kind) (machine_over c.args.self.now kept.store doubt) ask (course (machine_over c.args.self.now kept.store doubt) c.args.instance c.args.stage.now ask)) c.args.self.now kept.store doubt (machine_over c.args.self.now kept.store doubt) in
           subst (λ (r : Served). Left c.args.ask r) (sym c.returned.ensures) (subst (λ (ask : Ask). Left ask (return_of c.args.stage.now c.in-Return.code c.in-Return.outs)) (sym c.in-Return.is) (return_left c.args.self.now kept.store doubt c.args.instance c.args.stage.now c.in-Return.code c.in-Return.outs));
-      kind = plain_turn t.tells t.kept t.standing t.damage t.honest c.returned.result.kind _ _ _ _ c.args.store.now plain refl;
+      kind = plain_turn t.tells t.kept t.standing t.damage t.honest t.moment t.left_since c.returned.result.kind _ _ _ _ c.args.store.now plain refl;
+      ends = ends_with c.returned.result.outcome _ (by_nothing t.tells t.kept t.standing t.damage t.honest t.moment t.left_since c.args.store.now);
+      tried = none_tried _ (t.standing c.args.store.now);
+      want = tt;
       instances = refl;
+      crash = λ honest just doubt. idle_crash t.kept t.moment t.left_since _ _ c.args.store.now just;
     }
 
 pub returns-in_ok-served-in_default : goal.returns-in_ok-served-in_default
@@ -31,7 +38,7 @@ returns-in_ok-served-in_default g c =
     let before = t.kept c.args.store.now in
     let after = t.kept c.serve.new.store in
     let done = c.in_ok-served-in_default.served in
-    let is = c.in_ok-served-in_default.ensures in
+    let is = c.in_ok-served-in_default.ensures.served in
     record {
       left = λ tells same doubt. carried c.args.self.now c.note.new.self before.store after.store doubt c.serve.new.handles c.args.instance c.args.stage.now c.args.ask done.kind done.outcome c.in_default.not-Return
           (subst (λ (b : Bool). IsOutcome done.outcome (came_of (serving_of done.kind) b (object_course (objects_in c.args.self.now.handles before) c.args.instance c.args.ask)) (objects_in c.args.self.now.handles before) (objects_in c.serve.new.handles after)) (sym same) (is.outcome tells))
@@ -42,7 +49,13 @@ returns-in_ok-served-in_default g c =
         standing = is.standing;
         damage = is.damage;
         honest = is.honest;
+        beside = is.beside;
+        quiet = is.quiet;
         lost = λ same. ap (λ (s : AppSide g.row.A.Denot). s.lost) c.note.ensures ∙ noted_lost _ done.kind _ _ is.standing same;
       };
+      ends = is.ends;
+      tried = c.in_ok-served-in_default.ensures.tried;
+      want = tt;
       instances = ap (λ (s : AppSide g.row.A.Denot). s.instances) c.note.ensures ∙ noted_instances _ done.kind;
+      crash = λ honest just doubt. carried_crash t.kept t.moment t.left_since c.args.store.now c.serve.new.store (machine_over c.args.self.now before.store doubt) c.args.instance c.args.stage.now c.args.ask done.kind c.in_default.not-Return is.change (is.crash honest just);
     }

@@ -1,0 +1,54 @@
+-- From what a crash within an ask may leave to what one within the turn may leave: the store in doubt is the machine's.
+use Rattle.std.proofs.Common.{ℕ, ◌≡◌, Bool, true, false, cond, Option, Some, sym, ap, subst}
+use Rattle.app_api.specs.declared.ask.Ask.{Ask}
+use Rattle.app_api.specs.declared.ask.Ask.TheVariants as asked
+use Rattle.app_api.specs.declared.out.Outs.{Outs}
+use Rattle.tee_base.specs.declared.codes.Code.{Code}
+use Rattle.store_api.specs.Keeping.{Kept, Remains}
+use Rattle.store_api.specs.Stores.{Store}
+use Rattle.object_asks.specs.declared.turn.TurnKind.{TurnKind}
+use Rattle.object_asks.specs.declared.turn.TurnKind.TheVariants.{Plain, Lost, Corrupted}
+use Rattle.object_asks.specs.Asks.{Answered, ComesToStore, Course, Objects, Outcome, Panicked, Returned, Settled, changes_store, course_in, object_course, outcome_in}
+use Rattle.object_asks.specs.Serving.{CrashTurns, SaysChange, serving_of, would_leave}
+use Rattle.object_asks.proofs.Crashes.{in_any}
+use Rattle.alone.specs.declared.running.Instance.{Instance}
+use Rattle.alone.specs.declared.running.Running.{Running}
+use Rattle.alone.specs.declared.running.Stage.{Stage}
+use Rattle.alone.specs.Asks.{course, objects_of, with_objects}
+use Rattle.alone.specs.Machine.{Machine}
+use Rattle.alone.specs.Step.{acted, served, store_left}
+use Rattle.alone.proofs.Courses.{no_return}
+use Rattle.app_side.specs.Serving.{in_doubt_by}
+
+-- the store in doubt where a change's call failed
+doubt_left : {A : Type 0} (m kept : Machine A) (changes : Bool) (plain : Outcome (Machine A)) → true ≡ changes → cond changes (Some (store_left kept plain)) kept.in_doubt ≡ Some (store_left kept plain)
+doubt_left m kept changes plain e = ap (λ (b : Bool). cond b (Some (store_left kept plain)) kept.in_doubt) (sym e)
+
+module _ {D : Type 0} (kept_of : D → Kept) (moment : D → ℕ) (left_since : D → ℕ → Remains → Type 0) (old new : D) where
+  abbrev Crash : TurnKind → Option Store → Type 0
+  Crash kind in_doubt = CrashTurns kept_of moment left_since kind in_doubt old new
+
+  -- a change's call failed: what the ask would leave is in doubt
+  lost_in : {A : Type 0} (m : Machine A) (ask : Ask) (kept : Objects) (plain : Outcome Objects) → true ≡ changes_store ask → Crash (Lost true) (would_leave (ComesToStore kept plain))
+      → Crash (Lost true) (in_doubt_by (served (serving_of (Lost true)) m ask (course_in (with_objects m) (ComesToStore kept plain))))
+  lost_in m ask kept (Answered after answer) says crash = subst (Crash (Lost true)) (sym (doubt_left m (with_objects m kept) (changes_store ask) (outcome_in (with_objects m) (Answered after answer)) says)) crash
+  lost_in m ask kept (Returned code outs) says crash = in_any kept_of moment left_since (Lost true) _ old new crash
+  lost_in m ask kept Panicked says crash = in_any kept_of moment left_since (Lost true) _ old new crash
+
+  carried_in : {A : Type 0} (m : Machine A) (ask : Ask) (kind : TurnKind) (c : Course Objects) → SaysChange kind (changes_store ask) → Crash kind (would_leave c) → Crash kind (in_doubt_by (served (serving_of kind) m ask (course_in (with_objects m) c)))
+  carried_in m ask Plain c says crash = record { any_moment = crash.any_moment; afterwards = crash.afterwards }
+  carried_in m ask Corrupted c says crash = record { any_moment = crash.any_moment; afterwards = crash.afterwards }
+  carried_in m ask (Lost false) c says crash = record { any_moment = crash.any_moment; afterwards = crash.afterwards }
+  carried_in m ask (Lost true) (Settled outcome) says crash = in_any kept_of moment left_since (Lost true) _ old new crash
+  carried_in m ask (Lost true) (ComesToStore kept plain) says crash = lost_in m ask kept plain says crash
+
+  pub carried_crash : {A : Type 0} (m : Machine A) (i : ℕ) (stage : Stage) (ask : Ask) (kind : TurnKind) → ((code : Code) (outs : Outs) → ask ≡ asked.Return code outs → ⊥) → SaysChange kind (changes_store ask)
+      → Crash kind (would_leave (object_course (objects_of m) i ask)) → Crash kind (in_doubt_by (served (serving_of kind) m ask (course m i stage ask)))
+  carried_crash {A} m i stage ask kind other says crash =
+      subst (λ (c : Course (Machine A)). Crash kind (in_doubt_by (served (serving_of kind) m ask c))) (sym (no_return m i stage ask other)) (carried_in m ask kind (object_course (objects_of m) i ask) says crash)
+
+  -- the machine behind the ask has that store in doubt
+  pub acted_crash : {A : Type 0} (m : Machine A) (inst : Instance A) (r : Running) (kind : TurnKind) (o : Outcome (Machine A)) → Crash kind (in_doubt_by o) → Crash kind (acted m inst r o).machine.in_doubt
+  acted_crash m inst r kind (Answered after answer) crash = crash
+  acted_crash m inst r kind (Returned code outs) crash = in_any kept_of moment left_since kind _ old new crash
+  acted_crash m inst r kind Panicked crash = in_any kept_of moment left_since kind _ old new crash
