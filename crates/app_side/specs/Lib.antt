@@ -1,3 +1,4 @@
+pub mod Endless
 pub mod Probe
 pub mod Represents
 pub mod Serving

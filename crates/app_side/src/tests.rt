@@ -1,5 +1,6 @@
 //! Turns over stores of which some calls fail, or tell of damage.
 
 mod damaged;
+mod endless;
 mod probe;
 mod turns;

@@ -92,7 +92,7 @@ fn invoke(alloc: Global, step: Step<'_>) -> Result<Call, Fail> {
     })
 }
 
-fn host(alloc: Global) -> Result<Host<Probe>, Fail>
+pub fn host<A: Drop>(alloc: Global, template: A) -> Result<Host<A>, Fail>
     ensures { IfOk result (λ host. IsOneInstance host) }
 {
     Ok(Host {
@@ -103,8 +103,16 @@ fn host(alloc: Global) -> Result<Host<Probe>, Fail>
             multi: true,
             keep: true,
         },
-        template: Probe { number: 0 },
+        template,
     })
+}
+
+/// A session is opened.
+pub fn open() -> Call {
+    Call::Open {
+        label: 1,
+        params: Params::nothing(),
+    }
 }
 
 /// What is shown of a reply's last output.
@@ -158,17 +166,8 @@ pub fn check_over<T: AppStore>(
 ) -> Result<(), Fail>
     requires { (T.standing store.old).lost ≡ false }
 {
-    let mut side = AppSide::new(alloc, host(alloc)?, 0, [0; 32])?;
-    let open = Call::Open {
-        label: 1,
-        params: Params {
-            p0: Param::Nothing,
-            p1: Param::Nothing,
-            p2: Param::Nothing,
-            p3: Param::Nothing,
-        },
-    };
-    let _called = side.call(0, open)?;
+    let mut side = AppSide::new(alloc, host(alloc, Probe { number: 0 })?, 0, [0; 32])?;
+    let _called = side.call(0, open())?;
     run(rt, &mut side, store, TurnKind::Plain, None)?;
     for (step, kind, wanted) in steps {
         let _called = side.call(0, invoke(alloc, *step)?)?;
