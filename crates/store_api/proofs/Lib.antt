@@ -1,4 +1,5 @@
 pub mod ChangeLaws
 pub mod Costs
 pub mod History
+pub mod MapCalls
 pub mod Named

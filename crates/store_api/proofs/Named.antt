@@ -215,3 +215,9 @@ met_content m p (Some entry) limits is =
     let e : List ℕ × Object = (entry.0.now.items, entry.1.now) in
     let most : blocks e.1 ≤ cost m = blocks_at_most m e.0 e.1 (finite.get-entries m e.0 ∙ found_there p (finite.entries m) e (finite.entries_sorted m) (sym is)) in
     omega (arith, most, limits.paid)
+
+pub met_identifier : (m : Store) (p : List ℕ → Bool) (r : Option (Bor (Vec ℕ) × Bor Object)) → IsWithinLimits m → option_map {U = List ℕ × Object} (λ entry. (entry.0.now.items, entry.1.now)) r ≡ find (λ e. p e.0) (finite.entries m) → IfSome r (λ entry. IsIdentifier entry.0.now.items)
+met_identifier m p None limits is = tt
+met_identifier m p (Some entry) limits is =
+    let e : List ℕ × Object = (entry.0.now.items, entry.1.now) in
+    limits.identifiers e.0 e.1 (finite.get-entries m e.0 ∙ found_there p (finite.entries m) e (finite.entries_sorted m) (sym is))

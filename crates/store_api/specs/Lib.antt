@@ -1,3 +1,4 @@
+pub mod Ascending
 pub mod Keeping
 pub mod Laws
 pub mod Limits
@@ -7,3 +8,4 @@ pub mod Objects
 pub mod Past
 pub mod Stores
 pub mod Tallies
+pub mod Volumes

@@ -1,13 +1,14 @@
 //! A store in memory, some of whose calls fail as they are told.
 
-ghost use Rattle.std.specs.Prelude.{◌≡◌, ◌≤◌, true, refl, IsTrue, IsErrOf, option_copied, take, drop};
-ghost use Rattle.store_api.specs.Keeping.{Standing, Kept, Remains, Answers, HasCause, Tries, IsIntact, Applied, LeavesJust, LeavesNothingNew, CrashLeaves, CrashChanges};
-ghost use Rattle.store_api.specs.Limits.{IsIdentifier, IsChange};
-ghost use Rattle.store_api.specs.Stores.{found, secret_at, read_at, next_after, change as change_of};
-ghost use Rattle.store_api.specs.MapStores.{standing_of, kept_of, moment_of, left_of, FailsAsPlanned, Begins};
+ghost use Rattle.std.specs.Prelude.{◌≡◌, ◌≤◌, IfOk, option_copied, length, take, drop};
+ghost use Rattle.store_api.specs.Keeping.{Answers, Reads, Applies, IsIntact};
+ghost use Rattle.store_api.specs.Limits.{IsIdentifier, IsChange, AreFacts, IsSecret, IsPart, IsListed};
+ghost use Rattle.store_api.specs.Stores.{found, secret_at, read_at, next_after};
+ghost use Rattle.store_api.specs.MapStores.{map_keeper, plan_after, FailsAsPlanned, IsOwn};
 ghost use Rattle.store_api.specs.Moments.{since_earlier};
 ghost use Rattle.store_api.specs.declared.answer.StoreAnswer.TheVariants.{Failed};
 ghost use Rattle.tee_base.specs.Faults.{Rose};
+ghost use Rattle.tee_base.specs.declared.limits.TheConstants.{ASK_BYTES};
 
 use crate::answer::StoreAnswer;
 use crate::change::Change;
@@ -71,11 +72,66 @@ impl Past {
 
 /// At most so many bytes from a place on.
 fn part(bytes: &[u8], from: usize, count: usize) -> &[u8]
-    ensures { result.now ≡ take count (drop from bytes.now) }
+    ensures bytes { result.now ≡ take count (drop from bytes.now) }
+    ensures few { length result.now ≤ count }
 {
     let from = from.min(bytes.len());
     let count = count.min(bytes.len() - from);
     &bytes[from..from + count]
+}
+
+/// An object's facts.
+fn facts_in(objects: &Objects, id: &[u8]) -> Result<Facts, StoreAnswer>
+    ensures own { IsOwn result }
+    ensures answer { Answers result (found objects.now id.now) }
+    ensures bounds { IfOk result (λ facts. AreFacts facts) }
+{
+    let object = objects.find(id).ok_or(StoreAnswer::NotFound)?;
+    Ok(object.facts())
+}
+
+/// A copy of an object's secret.
+fn secret_in(alloc: Global, objects: &Objects, id: &[u8]) -> Result<Bytes, StoreAnswer>
+    ensures own { IsOwn result }
+    ensures answer { Answers result (secret_at objects.now id.now) }
+    ensures bounds { IfOk result (λ secret. IsSecret secret) }
+{
+    let object = objects.find(id).ok_or(StoreAnswer::NotFound)?;
+    Ok(object.secret.copy(alloc)?)
+}
+
+/// A copy of a part of an object's content.
+fn part_in(
+    alloc: Global,
+    objects: &Objects,
+    id: &[u8],
+    from: u32,
+    count: u32,
+) -> Result<Bytes, StoreAnswer>
+    ensures own { IsOwn result }
+    ensures answer { Answers result (read_at objects.now id.now from count) }
+    ensures bounds { IfOk result (λ bytes. IsPart count bytes) }
+{
+    let object = objects.find(id).ok_or(StoreAnswer::NotFound)?;
+    let bytes = part(object.content.as_slice(), from as usize, count as usize);
+    Ok(Bytes::from_slice(alloc, bytes)?)
+}
+
+/// A copy of the next identifier, with its object's facts.
+fn listed_in(
+    alloc: Global,
+    objects: &Objects,
+    last: Option<&[u8]>,
+) -> Result<Listed, StoreAnswer>
+    ensures own { IsOwn result }
+    ensures answer { Answers result (next_after objects.now (option_copied last.entry)) }
+    ensures bounds { IfOk result (λ listed. IsListed listed) }
+{
+    let (id, object) = objects.next_after(last).ok_or(StoreAnswer::NotFound)?;
+    Ok(Listed {
+        id: Bytes::from_slice(alloc, id.as_slice())?,
+        facts: object.facts(),
+    })
 }
 
 /// A store in memory. It fails exactly at the calls that it was told, and is lost from then on.
@@ -85,7 +141,7 @@ pub struct MapStore {
     past: Past,
     schedule: Schedule,
     lost: bool,
-    changes_tried: Tally,
+    change_attempts: Tally,
     alloc: Global,
 }
 
@@ -96,13 +152,14 @@ impl Model for MapStore {
 
     ghost coded = { coded_state };
 
-    ghost view = { λ s. record { store = s.objects; past = s.past; plan = s.schedule; lost = s.lost; changes_tried = s.changes_tried } };
+    ghost view = { λ s. record { store = s.objects; past = s.past; plan = s.schedule; lost = s.lost; change_attempts = s.change_attempts } };
 }
 
 impl MapStore {
-    ghost use Rattle.std.specs.Prelude.{◌≡◌, ◌≤◌, ◌+◌, IfOk, IsErrOf};
+    ghost use Rattle.std.specs.Prelude.{◌≡◌, ◌≤◌, ◌+◌, IfErr, IfOk};
     ghost use Rattle.tee_base.specs.Faults.{Rose};
     ghost use Rattle.store_api.specs.declared.answer.StoreAnswer.TheVariants.{Failed};
+    ghost use Rattle.store_api.specs.Limits.{IsWithinLimits};
     ghost use Rattle.store_api.specs.MapStores.{opening_state, Begins};
 
     /// An empty store, whose calls with the numbers in `failing`, counted from 0, fail.
@@ -114,7 +171,7 @@ impl MapStore {
             objects: Objects::new(alloc),
             past: Past::start(),
             lost: false,
-            changes_tried: Tally::none(),
+            change_attempts: Tally::none(),
             alloc,
         })
     }
@@ -122,9 +179,11 @@ impl MapStore {
     /// Begins a call. It isn't made where the store is lost, nor where it is to fail, and then the store is lost.
     fn begin(&mut self) -> Result<(), StoreAnswer>
         ensures begun { Begins result self.old self.new }
+        ensures limits { IsWithinLimits self.old.store }
         ensures later { self.old.plan.faults ≤ self.new.plan.faults }
-        ensures rose { IsErrOf result Failed → Rose self.old.plan.faults self.new.plan.faults }
+        ensures rose { IfErr result (λ answer. answer ≡ Failed → Rose self.old.plan.faults self.new.plan.faults) }
     {
+        self.objects.keep_limits();
         if self.lost {
             return Err(StoreAnswer::Lost);
         }
@@ -137,110 +196,73 @@ impl MapStore {
 
     /// Begins a change, which counts as tried however it begins.
     fn begin_change(&mut self) -> Result<(), StoreAnswer>
-        ensures begun { Begins result (record self.old { changes_tried = self.old.changes_tried + 1 }) self.new }
+        ensures begun { Begins result (record self.old { change_attempts = self.old.change_attempts + 1 }) self.new }
+        ensures limits { IsWithinLimits self.old.store }
         ensures later { self.old.plan.faults ≤ self.new.plan.faults }
-        ensures rose { IsErrOf result Failed → Rose self.old.plan.faults self.new.plan.faults }
+        ensures rose { IfErr result (λ answer. answer ≡ Failed → Rose self.old.plan.faults self.new.plan.faults) }
     {
-        self.changes_tried = self.changes_tried.one_more();
+        self.change_attempts = self.change_attempts.one_more();
         self.begin()
     }
 }
 
 impl AppStore for MapStore {
-    ghost tells = { true };
+    ghost keeper = { map_keeper };
 
-    ghost kept = { kept_of };
-
-    ghost standing = { standing_of };
-
-    ghost honest = { λ _. Unit {0} };
-
-    ghost damage = { λ _ _. ⊥ };
-
-    ghost moment = { moment_of };
-
-    ghost left_since = { left_of };
-
-    ghost honest_tells = { λ _ _. refl };
+    ghost honest_model = { λ _ _. tt };
 
     ghost since_earlier = { λ s t u o le left. since_earlier s t u o le left };
 
-    /// Besides, no answer tells of damage, and it fails exactly at the calls that it was told. So do the others.
+    /// Besides, no answer tells of damage, it fails exactly at the calls that it was told, and each call counts once. So do
+    /// the others.
     fn find(&mut self, id: &[u8]) -> Result<Facts, StoreAnswer>
         requires { IsIdentifier id.now }
-        ensures answer { Answers result (found self.old.store id.now) }
-        ensures same { kept_of self.new ≡ kept_of self.old }
-        ensures cause { HasCause result (standing_of self.old) (standing_of self.new) }
-        ensures tried { Tries 0 (standing_of self.old) (standing_of self.new) }
-        ensures quiet { IsTrue self.old.lost → LeavesNothingNew moment_of left_of self.old self.new }
-        ensures crash { LeavesJust moment_of left_of self.old (kept_of self.old) → CrashLeaves moment_of left_of (kept_of self.old) self.old self.new }
+        ensures reads { Reads map_keeper (λ store. found store id.now) AreFacts result self.old self.new }
+        ensures plan { self.new.plan ≡ plan_after result self.old.plan }
         ensures intact { IsIntact result }
         ensures fails { FailsAsPlanned result self.old }
     {
         self.begin()?;
-        let object = self.objects.find(id).ok_or(StoreAnswer::NotFound)?;
-        Ok(object.facts())
+        facts_in(&self.objects, id)
     }
 
     fn secret(&mut self, id: &[u8]) -> Result<Bytes, StoreAnswer>
         requires { IsIdentifier id.now }
-        ensures answer { Answers result (secret_at self.old.store id.now) }
-        ensures same { kept_of self.new ≡ kept_of self.old }
-        ensures cause { HasCause result (standing_of self.old) (standing_of self.new) }
-        ensures tried { Tries 0 (standing_of self.old) (standing_of self.new) }
-        ensures quiet { IsTrue self.old.lost → LeavesNothingNew moment_of left_of self.old self.new }
-        ensures crash { LeavesJust moment_of left_of self.old (kept_of self.old) → CrashLeaves moment_of left_of (kept_of self.old) self.old self.new }
+        ensures reads { Reads map_keeper (λ store. secret_at store id.now) IsSecret result self.old self.new }
+        ensures plan { self.new.plan ≡ plan_after result self.old.plan }
         ensures intact { IsIntact result }
         ensures fails { FailsAsPlanned result self.old }
     {
         self.begin()?;
-        let object = self.objects.find(id).ok_or(StoreAnswer::NotFound)?;
-        Ok(object.secret.copy(self.alloc)?)
+        secret_in(self.alloc, &self.objects, id)
     }
 
     fn read(&mut self, id: &[u8], from: u32, count: u32) -> Result<Bytes, StoreAnswer>
         requires id { IsIdentifier id.now }
-        requires count { count ≤ 524288 }
-        ensures answer { Answers result (read_at self.old.store id.now from count) }
-        ensures same { kept_of self.new ≡ kept_of self.old }
-        ensures cause { HasCause result (standing_of self.old) (standing_of self.new) }
-        ensures tried { Tries 0 (standing_of self.old) (standing_of self.new) }
-        ensures quiet { IsTrue self.old.lost → LeavesNothingNew moment_of left_of self.old self.new }
-        ensures crash { LeavesJust moment_of left_of self.old (kept_of self.old) → CrashLeaves moment_of left_of (kept_of self.old) self.old self.new }
+        requires count { count ≤ ASK_BYTES }
+        ensures reads { Reads map_keeper (λ store. read_at store id.now from count) (IsPart count) result self.old self.new }
+        ensures plan { self.new.plan ≡ plan_after result self.old.plan }
         ensures intact { IsIntact result }
         ensures fails { FailsAsPlanned result self.old }
     {
         self.begin()?;
-        let object = self.objects.find(id).ok_or(StoreAnswer::NotFound)?;
-        let bytes = part(object.content.as_slice(), from as usize, count as usize);
-        Ok(Bytes::from_slice(self.alloc, bytes)?)
+        part_in(self.alloc, &self.objects, id, from, count)
     }
 
     fn next_after(&mut self, last: Option<&[u8]>) -> Result<Listed, StoreAnswer>
-        ensures answer { Answers result (next_after self.old.store (option_copied last.entry)) }
-        ensures same { kept_of self.new ≡ kept_of self.old }
-        ensures cause { HasCause result (standing_of self.old) (standing_of self.new) }
-        ensures tried { Tries 0 (standing_of self.old) (standing_of self.new) }
-        ensures quiet { IsTrue self.old.lost → LeavesNothingNew moment_of left_of self.old self.new }
-        ensures crash { LeavesJust moment_of left_of self.old (kept_of self.old) → CrashLeaves moment_of left_of (kept_of self.old) self.old self.new }
+        ensures reads { Reads map_keeper (λ store. next_after store (option_copied last.entry)) IsListed result self.old self.new }
+        ensures plan { self.new.plan ≡ plan_after result self.old.plan }
         ensures intact { IsIntact result }
         ensures fails { FailsAsPlanned result self.old }
     {
         self.begin()?;
-        let (id, object) = self.objects.next_after(last).ok_or(StoreAnswer::NotFound)?;
-        Ok(Listed {
-            id: Bytes::from_slice(self.alloc, id.as_slice())?,
-            facts: object.facts(),
-        })
+        listed_in(self.alloc, &self.objects, last)
     }
 
     fn apply(&mut self, change: &Change) -> Result<(), StoreAnswer>
         requires { IsChange change.now }
-        ensures applied { Applied result (change_of self.old.store change.now) (kept_of self.old) (kept_of self.new) }
-        ensures cause { HasCause result (standing_of self.old) (standing_of self.new) }
-        ensures tried { Tries 1 (standing_of self.old) (standing_of self.new) }
-        ensures quiet { IsTrue self.old.lost → LeavesNothingNew moment_of left_of self.old self.new }
-        ensures crash { LeavesJust moment_of left_of self.old (kept_of self.old) → CrashChanges moment_of left_of result (change_of self.old.store change.now) kept_of self.old self.new }
+        ensures applies { Applies map_keeper change.now result self.old self.new }
+        ensures plan { self.new.plan ≡ plan_after result self.old.plan }
         ensures intact { IsIntact result }
         ensures fails { FailsAsPlanned result self.old }
     {

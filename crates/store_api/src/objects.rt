@@ -4,7 +4,7 @@ ghost use Rattle.std.specs.Prelude.{◌≡◌, ◌+◌, ◌<◌, ◌≤◌, ◌^
 ghost use Rattle.std.specs.FinMap as finite;
 ghost use Rattle.store_api.specs.declared.object.Object.{Object as Kept};
 ghost use Rattle.store_api.specs.declared.change.Change.TheVariants.{Put, Delete, Rename, Write, Truncate};
-ghost use Rattle.store_api.specs.Limits.{IsIdentifier, IsChange};
+ghost use Rattle.store_api.specs.Limits.{IsIdentifier, IsChange, IsSecret, IsWithinLimits};
 ghost use Rattle.store_api.specs.Objects.{Changes, blocks_at};
 ghost use Rattle.store_api.specs.Stores.{empty_store, object_at, blocks_for, cost, quota, resized, written as written_of, is_after as is_after_of, change as change_of};
 
@@ -117,10 +117,17 @@ impl Objects {
         }
     }
 
+    /// It keeps its limits at any time: nothing is to be done for it.
+    pub fn keep_limits(&self)
+        ensures { IsWithinLimits self.now }
+    {
+        let _used = self.used;
+    }
+
     /// The object of an identifier.
     pub fn find(&self, id: &[u8]) -> Option<&Object>
         ensures object { option_copied result ≡ object_at self.now id.now }
-        ensures secret { IfSome result (λ o. length o.now.secret ≤ 128) }
+        ensures secret { IfSome result (λ o. IsSecret o.now.secret) }
         ensures content { IfSome result (λ o. length o.now.content ≤ 260096) }
     {
         self.map.get(id)
@@ -146,7 +153,7 @@ impl Objects {
     /// Keeps an object under an identifier, in place of the one that is there.
     fn set(&mut self, id: &[u8], object: Object) -> Result<(), NoMemory>
         requires id { IsIdentifier id.now }
-        requires secret { length object.secret ≤ 128 }
+        requires secret { IsSecret object.secret }
         requires room { cost (finite.insert self.old id.now object) ≤ quota }
         ensures ok { OnOk result (self.new ≡ finite.insert self.old id.now object) }
         ensures err { OnErr result (self.new ≡ self.old) }
@@ -171,7 +178,8 @@ impl Objects {
     /// The least identifier greater than the last one, with its object.
     pub fn next_after(&self, last: Option<&[u8]>) -> Option<(&Vec<u8>, &Object)>
         ensures next { option_map (λ entry. (entry.0.now.items, entry.1.now)) result ≡ find (λ entry. is_after_of (option_copied last.entry) entry.0) (finite.entries self.now) }
-        ensures secret { IfSome result (λ entry. length entry.1.now.secret ≤ 128) }
+        ensures identifier { IfSome result (λ entry. IsIdentifier entry.0.now.items) }
+        ensures secret { IfSome result (λ entry. IsSecret entry.1.now.secret) }
         ensures content { IfSome result (λ entry. length entry.1.now.content ≤ 260096) }
     {
         first_after(&self.map, last)
