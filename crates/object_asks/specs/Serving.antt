@@ -1,12 +1,13 @@
 -- How asks are served over a keeper of a store: what each function that serves one promises.
-use Rattle.std.specs.Prelude.{ℕ, ◌≡◌, ◌+◌, ◌≤◌, ◌<◌, ◌⊎◌, Bool, true, false, List, Option, None, Some, Result, Ok, Err, IsTrue, OnErr}
+use Rattle.std.specs.Prelude.{ℕ, ◌≡◌, ◌+◌, ◌≤◌, ◌<◌, ◌⊎◌, Bool, true, false, List, Option, None, Some, Result, Ok, Err, IfOk, IsTrue, OnErr}
 use Rattle.tee_base.specs.Crash.{LeavesOnly}
 use Rattle.tee_base.specs.Faults.{Rose}
+use Rattle.tee_base.specs.declared.bytes.NoMemory.{NoMemory as WantOfMemory}
 use Rattle.app_api.specs.declared.ask.Answer.{Answer}
 use Rattle.app_api.specs.declared.ask.Answer.TheVariants.{Refused}
 use Rattle.store_api.specs.declared.answer.StoreAnswer.{StoreAnswer}
 use Rattle.store_api.specs.declared.answer.StoreAnswer.TheVariants.{NotFound, Exists, NoSpace, Failed, Corrupt, Garbled, NoMemory}
-use Rattle.store_api.specs.Keeping.{Standing, Kept, Remains, HasCause, TellsDamage, IsIntact, LeavesJust, LeavesNothingNew, CrashLeaves}
+use Rattle.store_api.specs.Keeping.{Status, Contents, Remains, Keeper, HasCause, TellsDamage, IsIntact, LeavesJust, LeavesNothingNew, KeepsPast, CrashLeaves}
 use Rattle.store_api.specs.Stores.{Store}
 use Rattle.handle_table.specs.declared.handle.Entry.{Entry}
 use Rattle.object_asks.specs.declared.turn.TurnKind.{TurnKind}
@@ -43,8 +44,8 @@ told_of changes (Ok answer) = Some (plainly (outcomes.Answered answer))
 told_of changes (Err NoMemory) = None
 told_of changes (Err answer) = Some (record { kind = kind_of changes answer; outcome = outcomes.Answered (Refused (code_of answer)) })
 
-abbrev pub objects_in : List Entry → Kept → Objects
-objects_in handles kept = record { store = kept.store; handles = handles }
+abbrev pub objects_in : List Entry → Contents → Objects
+objects_in handles contents = record { store = contents.store; handles = handles }
 
 -- what the store's answer gives: an answer, or a refusal, which leaves all as it was; so does what keeps the store from serving
 abbrev pub Gives : Result Answer StoreAnswer → Outcome Objects → Objects → Objects → Type 0
@@ -73,7 +74,7 @@ Meets (Lost changes) condition = condition ≡ true
 Meets Corrupted condition = condition ≡ true
 
 -- when each kind of turn comes, and whether the store is lost afterwards
-abbrev pub IsKind : TurnKind → Standing → Standing → Type 0
+abbrev pub IsKind : TurnKind → Status → Status → Type 0
 IsKind Plain old new = new.lost ≡ old.lost
 IsKind (Lost changes) old new = (old.lost ≡ false) × (new.lost ≡ true) × Rose old.faults new.faults
 IsKind Corrupted old new = (old.lost ≡ false) × (new.lost ≡ false)
@@ -94,26 +95,27 @@ abbrev pub IsUndamaged : TurnKind → Type 0
 IsUndamaged kind = ShowsDamage kind (λ answer. ⊥)
 
 -- how often a keeper tells of damage in a turn of this kind
-abbrev pub damage_told_in : TurnKind → ℕ
-damage_told_in Plain = 0
-damage_told_in (Lost changes) = 0
-damage_told_in Corrupted = 1
+abbrev pub reports_in : TurnKind → ℕ
+reports_in Plain = 0
+reports_in (Lost changes) = 0
+reports_in Corrupted = 1
 
 -- what holds of the standing of a keeper: the turn is lost exactly where a call of it failed, and damaged exactly where it told of
 -- damage, which it does at most once
-pub record HasStanding (kind : TurnKind) (old new : Standing) : Type 0 where
+pub record HasStatus (kind : TurnKind) (old new : Status) : Type 0 where
   pub cause : IsKind kind old new
   pub later : old.faults ≤ new.faults
-  pub orders_stay : new.orders ≡ old.orders
-  pub told : new.damage_told ≡ old.damage_told + damage_told_in kind
+  pub orders : new.orders ≡ old.orders
+  pub ordered : new.ordered ≡ old.ordered
+  pub reports : new.damage_reports ≡ old.damage_reports + reports_in kind
 
 -- at most one change was tried, and none where the ask isn't to change the store
-abbrev pub TriesOnce : Bool → Standing → Standing → Type 0
-TriesOnce true old new = (old.changes_tried ≤ new.changes_tried) × (new.changes_tried ≤ old.changes_tried + 1)
-TriesOnce false old new = new.changes_tried ≡ old.changes_tried
+abbrev pub TriesOnce : Bool → Status → Status → Type 0
+TriesOnce true old new = (old.change_attempts ≤ new.change_attempts) × (new.change_attempts ≤ old.change_attempts + 1)
+TriesOnce false old new = new.change_attempts ≡ old.change_attempts
 
 -- all that is kept beside the store stays, and the number of what is kept doesn't fall
-pub record StaysBeside (old new : Kept) : Type 0 where
+pub record StaysBeside (old new : Contents) : Type 0 where
   pub rest : new.rest ≡ old.rest
   pub number : old.number ≤ new.number
 
@@ -129,12 +131,12 @@ would_leave (Settled outcome) = None
 would_leave (ComesToStore refused plain) = left_by plain
 
 -- a crash leaves what was kept, or this store in its place, with a greater number
-abbrev pub IsOldOr : Kept → Store → Remains → Type 0
+abbrev pub IsOldOr : Contents → Store → Remains → Type 0
 IsOldOr old store o = (o ≡ Some old) ⊎ ((n : ℕ) × (old.number < n) × (o ≡ Some (record { store = store; rest = old.rest; number = n })))
 
 -- what a crash within a turn may leave: what was kept before it or the store after it; where the turn is lost and a change in
 -- doubt, what was kept before or the store in doubt
-abbrev pub LeftByTurn : TurnKind → Option Store → Kept → Kept → Remains → Type 0
+abbrev pub LeftByTurn : TurnKind → Option Store → Contents → Contents → Remains → Type 0
 LeftByTurn Plain in_doubt old new o = IsOldOr old new.store o
 LeftByTurn (Lost true) (Some store) old new o = IsOldOr old store o
 LeftByTurn (Lost true) None old new o = o ≡ Some old
@@ -149,45 +151,61 @@ UnlessInDoubt (Lost false) fact = fact
 UnlessInDoubt Corrupted fact = fact
 
 -- moment is a keeper's clock, and left_since keeper t o says that a crash since t may have left o
-module _ {D : Type 0} (kept_of : D → Kept) (moment : D → ℕ) (left_since : D → ℕ → Remains → Type 0) where
+module _ {D : Type 0} (K : Keeper D) where
   -- a crash within a turn of this kind, and after it, where this store is in doubt
   pub record CrashTurns (kind : TurnKind) (in_doubt : Option Store) (old new : D) : Type 0 where
-    pub any_moment : LeavesOnly moment left_since old new (LeftByTurn kind in_doubt (kept_of old) (kept_of new))
-    pub afterwards : UnlessInDoubt kind (LeavesJust moment left_since new (kept_of new))
+    pub any_moment : LeavesOnly K.moment K.left_since old new (LeftByTurn kind in_doubt (K.contents old) (K.contents new))
+    pub afterwards : UnlessInDoubt kind (LeavesJust K new (K.contents new))
 
--- the members of a keeper: whether it tells what it keeps, what that is, how it stands, what damage there is, whether it is honest,
--- its clock, and what a crash may leave of it
-module _ {D : Type 0} (is_telling : Bool) (kept_of : D → Kept) (standing_of : D → Standing) (damage_of : D → StoreAnswer → Type 0) (IsHonest : D → Type 0) (moment : D → ℕ) (left_since : D → ℕ → Remains → Type 0) where
-  -- a turn that ends for want of memory: no call of the store failed, none told of damage, and what is kept is as it was
+  -- what every ask promises of the keeper, however it ends
+  pub record IsKept (old new : D) : Type 0 where
+    pub model : K.has_model old → K.has_model new
+    pub beside : K.has_model old → StaysBeside (K.contents old) (K.contents new)
+    pub quiet : IsTrue (K.status old).lost → LeavesNothingNew K old new
+    pub past : K.honest old → KeepsPast K old new
+
+  -- an ask that ends for want of memory: no call of the store failed, none told of damage, and what is kept is as it was
   pub record EndsUnchanged (old new : D) : Type 0 where
-    pub kept : IsTrue is_telling → kept_of new ≡ kept_of old
-    pub standing : HasStanding Plain (standing_of old) (standing_of new)
-    pub honest : IsHonest old → IsHonest new
-    pub quiet : IsTrue (standing_of old).lost → LeavesNothingNew moment left_since old new
-    pub crash : IsHonest old → LeavesJust moment left_since old (kept_of old) → CrashLeaves moment left_since (kept_of old) old new
+    pub contents : K.has_model old → K.contents new ≡ K.contents old
+    pub status : HasStatus Plain (K.status old) (K.status new)
+    pub honest : K.honest old → K.honest new
+    pub keeps : IsKept old new
+    pub crash : K.honest old → LeavesJust K old (K.contents old) → CrashLeaves K (K.contents old) old new
 
   -- an ask that came to the store: what the store's answer gave, of this plain outcome
   pub record IsGiven (result : Result Answer StoreAnswer) (plain : Outcome Objects) (changes : Bool) (handles left : List Entry) (old new : D) : Type 0 where
-    pub gives : IsTrue is_telling → Gives result plain (objects_in handles (kept_of old)) (objects_in left (kept_of new))
-    pub cause : ¬ (result ≡ Err NoMemory) → HasCause result (standing_of old) (standing_of new)
-    pub tried : TriesOnce changes (standing_of old) (standing_of new)
+    pub gives : K.has_model old → Gives result plain (objects_in handles (K.contents old)) (objects_in left (K.contents new))
+    pub cause : ¬ (result ≡ Err NoMemory) → HasCause result (K.status old) (K.status new)
+    pub tried : TriesOnce changes (K.status old) (K.status new)
     pub stays : OnErr result (left ≡ handles)
     pub want : result ≡ Err NoMemory → EndsUnchanged old new
-    pub beside : IsTrue is_telling → StaysBeside (kept_of old) (kept_of new)
-    pub damage : TellsDamage result (damage_of new)
-    pub honest : IsHonest old → IsHonest new × IsIntact result
-    pub quiet : IsTrue (standing_of old).lost → LeavesNothingNew moment left_since old new
-    pub crash : IsHonest old → LeavesJust moment left_since old (kept_of old) → CrashTurns kept_of moment left_since (kind_by changes result) (left_by plain) old new
+    pub damage : TellsDamage result (K.damage new)
+    pub honest : K.honest old → K.honest new × IsIntact result
+    pub keeps : IsKept old new
+    pub crash : K.honest old → LeavesJust K old (K.contents old) → CrashTurns (kind_by changes result) (left_by plain) old new
 
   -- an ask that was served, of this course
   pub record IsServed (served : Served) (course : Course Objects) (changes : Bool) (handles left : List Entry) (old new : D) : Type 0 where
-    pub outcome : IsTrue is_telling → IsOutcome served.outcome (came_of (serving_of served.kind) (standing_of old).lost course) (objects_in handles (kept_of old)) (objects_in left (kept_of new))
-    pub beside : IsTrue is_telling → StaysBeside (kept_of old) (kept_of new)
+    -- the outcome is the stated one, over the store that the keeper has
+    pub outcome : K.has_model old → IsOutcome served.outcome (came_of (serving_of served.kind) (K.status old).lost course) (objects_in handles (K.contents old)) (objects_in left (K.contents new))
+    -- an ask that ends the entry leaves what is kept
     pub ends : UnlessAnswered served.outcome (EndsUnchanged old new)
-    pub reaches : IsTrue is_telling → Meets served.kind (comes_to_store course)
+    -- a lost or damaged turn comes to the store
+    pub reaches : K.has_model old → Meets served.kind (comes_to_store course)
     pub change : SaysChange served.kind changes
-    pub standing : HasStanding served.kind (standing_of old) (standing_of new)
-    pub damage : ShowsDamage served.kind (damage_of new)
-    pub honest : IsHonest old → IsHonest new × IsUndamaged served.kind
-    pub quiet : IsTrue (standing_of old).lost → LeavesNothingNew moment left_since old new
-    pub crash : IsHonest old → LeavesJust moment left_since old (kept_of old) → CrashTurns kept_of moment left_since served.kind (would_leave course) old new
+    pub status : HasStatus served.kind (K.status old) (K.status new)
+    pub damage : ShowsDamage served.kind (K.damage new)
+    pub honest : K.honest old → K.honest new × IsUndamaged served.kind
+    pub keeps : IsKept old new
+    pub crash : K.honest old → LeavesJust K old (K.contents old) → CrashTurns served.kind (would_leave course) old new
+
+  -- an ask that finds no memory: the handles and the store are as they were
+  pub record FindsNoMemory (handles left : List Entry) (old new : D) : Type 0 where
+    pub handles : left ≡ handles
+    pub store : EndsUnchanged old new
+
+  -- what becomes of an ask: it is served, or there is no memory for it; at most one change is tried
+  pub record ServesAsk (result : Result Served WantOfMemory) (course : Course Objects) (changes : Bool) (handles left : List Entry) (old new : D) : Type 0 where
+    pub served : IfOk result (λ served. IsServed served course changes handles left old new)
+    pub tried : TriesOnce changes (K.status old) (K.status new)
+    pub want : OnErr result (FindsNoMemory handles left old new)

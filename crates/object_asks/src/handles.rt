@@ -88,7 +88,8 @@ impl Handles {
     {
         match self.table.add(instance, id, flags) {
             Ok(number) => Ok(number),
-            Err(HandleAnswer::NoMemory | HandleAnswer::Full) => Err(NoMemory),
+            Err(HandleAnswer::NoMemory) => Err(NoMemory),
+            Err(HandleAnswer::Full) => unreachable!(),
         }
     }
 

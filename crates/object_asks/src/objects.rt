@@ -1,18 +1,19 @@
 //! Asks about persistent objects: one function for each, misuse first, then the refusals in their order, then what the store
 //! gives (TEE Internal Core API 1.3, sections 5.7 and 5.9).
 
-ghost use Rattle.std.specs.Prelude.{◌≡◌, ◌≤◌, ◌+◌, Bool, List, false, true, min, IfOk, OnErr, IsTrue, length};
+ghost use Rattle.std.specs.Prelude.{◌≡◌, ◌≤◌, ◌+◌, Bool, List, false, true, min, IsTrue, length};
+ghost use Rattle.tee_base.specs.declared.limits.TheConstants.{ASK_BYTES};
 ghost use Rattle.store_api.specs.Limits.{IsIdentifier};
 ghost use Rattle.store_api.specs.Stores.{found, read_at, change};
 ghost use Rattle.store_api.specs.declared.change.Change.TheVariants.{Write as write_at};
 ghost use Rattle.share_rules.specs.Sharing.{has as has_bit};
 ghost use Rattle.handle_table.specs.Handles.{handle_at, is_full, is_open, is_there};
 ghost use Rattle.object_asks.specs.Handles.{settled};
-ghost use Rattle.store_api.specs.Keeping.{Kept};
+ghost use Rattle.store_api.specs.Keeping.{Contents};
 ghost use Rattle.handle_table.specs.declared.handle.Entry.{Entry};
 ghost use Rattle.object_asks.specs.Codes.{access_conflict};
 ghost use Rattle.object_asks.specs.Asks.{Serves, came_of, changes_store, close_course, create_course, created, created_by, has_unknown_bits, is_long_identifier, is_too_much, kept_flags, object_course, open_course, opened_by, overwrites, put_of, read_by, refused, read_course, write_course, written_by};
-ghost use Rattle.object_asks.specs.Serving.{EndsUnchanged, IsGiven, IsOutcome, IsServed, TriesOnce, objects_in};
+ghost use Rattle.object_asks.specs.Serving.{IsGiven, IsOutcome, ServesAsk, objects_in};
 
 use crate::handles::Handles;
 use crate::outcome::{Served, answered, panicked, refused, told};
@@ -81,7 +82,12 @@ fn open_found<T: AppStore>(
 ) -> Result<Answer, StoreAnswer>
     requires id { IsIdentifier id.now }
     requires room { is_full (settled handles.old) instance ≡ false }
-    ensures { IsGiven T.tells T.kept T.standing T.damage T.honest T.moment T.left_since result (opened_by (objects_in handles.old (T.kept store.old)) instance id.now flags (found (T.kept store.old).store id.now)) false handles.old handles.new store.old store.new }
+    ensures {
+        let before = objects_in handles.old (T.keeper.contents store.old)
+        in IsGiven T.keeper result
+        (opened_by before instance id.now flags (found before.store id.now))
+        false handles.old handles.new store.old store.new
+    }
 {
     let _facts = store.find(id)?;
     if !handles.may_open(id, flags) {
@@ -90,7 +96,7 @@ fn open_found<T: AppStore>(
     Ok(Answer::Number(handles.add(instance, id, flags)?))
 }
 
-#[tactic(auto, using(crate::proofs::ServingLemmas::by_want, crate::proofs::ServingLemmas::by_nothing, crate::proofs::ServingLemmas::by_panic, crate::proofs::ServingLemmas::by_answer))]
+#[tactic(auto, using(crate::proofs::ServingLemmas::serves_nothing, crate::proofs::ServingLemmas::serves_panic, crate::proofs::ServingLemmas::serves_answer))]
 fn open<T: AppStore>(
     handles: &mut Handles,
     store: &mut T,
@@ -99,9 +105,11 @@ fn open<T: AppStore>(
     id: &[u8],
     flags: u32,
 ) -> Result<Served, NoMemory>
-    ensures served { IfOk result (λ served. IsServed T.tells T.kept T.standing T.damage T.honest T.moment T.left_since served (open_course (objects_in handles.old (T.kept store.old)) instance storage id.now flags) false handles.old handles.new store.old store.new) }
-    ensures tried { TriesOnce false (T.standing store.old) (T.standing store.new) }
-    ensures want { OnErr result (EndsUnchanged T.tells T.kept T.standing T.damage T.honest T.moment T.left_since store.old store.new) }
+    ensures {
+        let before = objects_in handles.old (T.keeper.contents store.old)
+        in ServesAsk T.keeper result (open_course before instance storage id.now flags)
+        false handles.old handles.new store.old store.new
+    }
 {
     if is_long_identifier(id) || has_unknown_bits(flags) {
         return Ok(panicked());
@@ -121,7 +129,7 @@ fn open<T: AppStore>(
 /// A create over an object that is open. The store is asked, since a lost one is answered first.
 fn conflict<T: AppStore>(store: &mut T, id: &[u8]) -> Result<Answer, StoreAnswer>
     requires { IsIdentifier id.now }
-    ensures { (handles : List Entry) → IsGiven T.tells T.kept T.standing T.damage T.honest T.moment T.left_since result (refused (objects_in handles (T.kept store.old)) access_conflict) true handles handles store.old store.new }
+    ensures { (handles : List Entry) → IsGiven T.keeper result (refused (objects_in handles (T.keeper.contents store.old)) access_conflict) true handles handles store.old store.new }
 {
     match store.find(id) {
         Ok(_) | Err(StoreAnswer::NotFound | StoreAnswer::Exists | StoreAnswer::NoSpace) => {
@@ -144,10 +152,15 @@ fn create_closed<T: AppStore>(
     content: Bytes,
 ) -> Result<Answer, StoreAnswer>
     requires id { IsIdentifier id }
-    requires content { length content ≤ 524288 }
+    requires content { length content ≤ ASK_BYTES }
     requires room { is_full (settled handles.old) instance ≡ false }
     requires closed { is_open (settled handles.old) id ≡ false }
-    ensures { IsGiven T.tells T.kept T.standing T.damage T.honest T.moment T.left_since result (created_by (objects_in handles.old (T.kept store.old)) instance id (kept_flags flags) (change (T.kept store.old).store (put_of id content (overwrites flags)))) true handles.old handles.new store.old store.new }
+    ensures {
+        let before = objects_in handles.old (T.keeper.contents store.old)
+        in IsGiven T.keeper result
+        (created_by before instance id (kept_flags flags) (change before.store (put_of id content (overwrites flags))))
+        true handles.old handles.new store.old store.new
+    }
 {
     let number = handles.add(instance, id.as_slice(), kept_flags(flags))?;
     let change = Change::Put {
@@ -177,9 +190,14 @@ fn create_object<T: AppStore>(
     content: Bytes,
 ) -> Result<Answer, StoreAnswer>
     requires id { IsIdentifier id }
-    requires content { length content ≤ 524288 }
+    requires content { length content ≤ ASK_BYTES }
     requires room { is_full (settled handles.old) instance ≡ false }
-    ensures { IsGiven T.tells T.kept T.standing T.damage T.honest T.moment T.left_since result (created (objects_in handles.old (T.kept store.old)) instance id flags content) true handles.old handles.new store.old store.new }
+    ensures {
+        let before = objects_in handles.old (T.keeper.contents store.old)
+        in IsGiven T.keeper result
+        (created before instance id flags content)
+        true handles.old handles.new store.old store.new
+    }
 {
     if handles.is_open(id.as_slice()) {
         return conflict(store, id.as_slice());
@@ -187,7 +205,7 @@ fn create_object<T: AppStore>(
     create_closed(alloc, handles, store, instance, id, flags, content)
 }
 
-#[tactic(auto, using(crate::proofs::ServingLemmas::by_want, crate::proofs::ServingLemmas::by_nothing, crate::proofs::ServingLemmas::by_panic, crate::proofs::ServingLemmas::by_answer))]
+#[tactic(auto, using(crate::proofs::ServingLemmas::serves_nothing, crate::proofs::ServingLemmas::serves_panic, crate::proofs::ServingLemmas::serves_answer))]
 fn create<T: AppStore>(
     alloc: Global,
     handles: &mut Handles,
@@ -199,9 +217,11 @@ fn create<T: AppStore>(
     attr: u32,
     content: Bytes,
 ) -> Result<Served, NoMemory>
-    ensures served { IfOk result (λ served. IsServed T.tells T.kept T.standing T.damage T.honest T.moment T.left_since served (create_course (objects_in handles.old (T.kept store.old)) instance storage id flags attr content) true handles.old handles.new store.old store.new) }
-    ensures tried { TriesOnce true (T.standing store.old) (T.standing store.new) }
-    ensures want { OnErr result (EndsUnchanged T.tells T.kept T.standing T.damage T.honest T.moment T.left_since store.old store.new) }
+    ensures {
+        let before = objects_in handles.old (T.keeper.contents store.old)
+        in ServesAsk T.keeper result (create_course before instance storage id flags attr content)
+        true handles.old handles.new store.old store.new
+    }
 {
     if is_long_identifier(id.as_slice())
         || is_too_much(content.len())
@@ -224,7 +244,7 @@ fn create<T: AppStore>(
 
 fn close(handles: &mut Handles, instance: u8, object: u32) -> Served
     ensures kind { result.kind ≡ TurnKind.Plain }
-    ensures outcome { (kept : Kept) (lost : Bool) → IsOutcome result.outcome (came_of Serves lost (close_course (objects_in handles.old kept) instance object)) (objects_in handles.old kept) (objects_in handles.new kept) }
+    ensures outcome { (contents : Contents) (lost : Bool) → IsOutcome result.outcome (came_of Serves lost (close_course (objects_in handles.old contents) instance object)) (objects_in handles.old contents) (objects_in handles.new contents) }
 {
     if object == 0 {
         return answered(Answer::Done);
@@ -247,16 +267,21 @@ fn read_on<T: AppStore>(
     count: u32,
 ) -> Result<Answer, StoreAnswer>
     requires id { IsIdentifier id }
-    requires count { count ≤ 524288 }
+    requires count { count ≤ ASK_BYTES }
     requires there { IsTrue (is_there (settled handles.old) instance object) }
-    ensures { IsGiven T.tells T.kept T.standing T.damage T.honest T.moment T.left_since result (read_by (objects_in handles.old (T.kept store.old)) instance object position (read_at (T.kept store.old).store id position count)) false handles.old handles.new store.old store.new }
+    ensures {
+        let before = objects_in handles.old (T.keeper.contents store.old)
+        in IsGiven T.keeper result
+        (read_by before instance object position (read_at before.store id position count))
+        false handles.old handles.new store.old store.new
+    }
 {
     let bytes = store.read(id.as_slice(), position, count)?;
     handles.seek(instance, object, behind(position, bytes.len()));
     Ok(Answer::Content(bytes))
 }
 
-#[tactic(auto, using(crate::proofs::ServingLemmas::by_want, crate::proofs::ServingLemmas::by_nothing, crate::proofs::ServingLemmas::by_panic, crate::proofs::ServingLemmas::by_answer))]
+#[tactic(auto, using(crate::proofs::ServingLemmas::serves_nothing, crate::proofs::ServingLemmas::serves_panic, crate::proofs::ServingLemmas::serves_answer))]
 fn read<T: AppStore>(
     alloc: Global,
     handles: &mut Handles,
@@ -265,9 +290,11 @@ fn read<T: AppStore>(
     object: u32,
     count: u32,
 ) -> Result<Served, NoMemory>
-    ensures served { IfOk result (λ served. IsServed T.tells T.kept T.standing T.damage T.honest T.moment T.left_since served (read_course (objects_in handles.old (T.kept store.old)) instance object count (handle_at (settled handles.old) instance object)) false handles.old handles.new store.old store.new) }
-    ensures tried { TriesOnce false (T.standing store.old) (T.standing store.new) }
-    ensures want { OnErr result (EndsUnchanged T.tells T.kept T.standing T.damage T.honest T.moment T.left_since store.old store.new) }
+    ensures {
+        let before = objects_in handles.old (T.keeper.contents store.old)
+        in ServesAsk T.keeper result (read_course before instance object count (handle_at (settled handles.old) instance object))
+        false handles.old handles.new store.old store.new
+    }
 {
     let Some(
         Handle::Persistent {
@@ -304,10 +331,15 @@ fn write_through<T: AppStore>(
     bytes: Bytes,
 ) -> Result<Answer, StoreAnswer>
     requires id { IsIdentifier id }
-    requires bytes { length bytes ≤ 524288 }
+    requires bytes { length bytes ≤ ASK_BYTES }
     requires within { position + length bytes ≤ 4294967295 }
     requires there { IsTrue (is_there (settled handles.old) instance object) }
-    ensures { IsGiven T.tells T.kept T.standing T.damage T.honest T.moment T.left_since result (written_by (objects_in handles.old (T.kept store.old)) instance object (position + length bytes) (change (T.kept store.old).store (write_at id position bytes))) true handles.old handles.new store.old store.new }
+    ensures {
+        let before = objects_in handles.old (T.keeper.contents store.old)
+        in IsGiven T.keeper result
+        (written_by before instance object (position + length bytes) (change before.store (write_at id position bytes)))
+        true handles.old handles.new store.old store.new
+    }
 {
     let end = behind(position, bytes.len());
     store.apply(&Change::Write {
@@ -319,7 +351,7 @@ fn write_through<T: AppStore>(
     Ok(Answer::Done)
 }
 
-#[tactic(auto, using(crate::proofs::ServingLemmas::by_want, crate::proofs::ServingLemmas::by_nothing, crate::proofs::ServingLemmas::by_panic, crate::proofs::ServingLemmas::by_answer))]
+#[tactic(auto, using(crate::proofs::ServingLemmas::serves_nothing, crate::proofs::ServingLemmas::serves_panic, crate::proofs::ServingLemmas::serves_answer))]
 fn write<T: AppStore>(
     alloc: Global,
     handles: &mut Handles,
@@ -328,9 +360,11 @@ fn write<T: AppStore>(
     object: u32,
     bytes: Bytes,
 ) -> Result<Served, NoMemory>
-    ensures served { IfOk result (λ served. IsServed T.tells T.kept T.standing T.damage T.honest T.moment T.left_since served (write_course (objects_in handles.old (T.kept store.old)) instance object bytes (handle_at (settled handles.old) instance object)) true handles.old handles.new store.old store.new) }
-    ensures tried { TriesOnce true (T.standing store.old) (T.standing store.new) }
-    ensures want { OnErr result (EndsUnchanged T.tells T.kept T.standing T.damage T.honest T.moment T.left_since store.old store.new) }
+    ensures {
+        let before = objects_in handles.old (T.keeper.contents store.old)
+        in ServesAsk T.keeper result (write_course before instance object bytes (handle_at (settled handles.old) instance object))
+        true handles.old handles.new store.old store.new
+    }
 {
     let Some(
         Handle::Persistent {
@@ -368,9 +402,11 @@ pub fn serve<T: AppStore>(
     instance: u8,
     ask: Ask,
 ) -> Result<Served, NoMemory>
-    ensures served { IfOk result (λ served. IsServed T.tells T.kept T.standing T.damage T.honest T.moment T.left_since served (object_course (objects_in handles.old (T.kept store.old)) instance ask) (changes_store ask) handles.old handles.new store.old store.new) }
-    ensures tried { TriesOnce (changes_store ask) (T.standing store.old) (T.standing store.new) }
-    ensures want { OnErr result (EndsUnchanged T.tells T.kept T.standing T.damage T.honest T.moment T.left_since store.old store.new) }
+    ensures {
+        let before = objects_in handles.old (T.keeper.contents store.old)
+        in ServesAsk T.keeper result (object_course before instance ask)
+        (changes_store ask) handles.old handles.new store.old store.new
+    }
 {
     match ask {
         Ask::ObjOpen { storage, id, flags } => open(

@@ -1,3 +1,4 @@
+pub mod Ascends
 pub mod ChangeLaws
 pub mod Costs
 pub mod History

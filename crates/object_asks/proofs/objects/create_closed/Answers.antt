@@ -9,9 +9,8 @@ returns g c = record {
   tried = search rules;
   stays = search (rules, closed_again, closed_opens);
   want = search rules;
-  beside = search rules;
   damage = search rules;
   honest = search rules;
-  quiet = search rules;
+  keeps = search rules;
   crash = search rules;
 }

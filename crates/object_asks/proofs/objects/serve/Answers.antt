@@ -2,14 +2,14 @@ use Rattle.std.proofs.Common.{sym, subst}
 use Rattle.app_api.specs.declared.ask.Ask.{Ask}
 use Rattle.object_asks.specs.Asks.{Serves, came_of, changes_store, object_course}
 use Rattle.object_asks.specs.Serving.{IsOutcome, objects_in}
-use Rattle.object_asks.proofs.ServingLemmas.{by_kind}
+use Rattle.object_asks.proofs.ServingLemmas.{serves_kind}
 use Rattle.object_asks.proofs.objects.serve.Goals as goal
 
-pub returns-in-ObjClose-clause-served : goal.returns-in-ObjClose-clause-served
+pub returns-in-ObjClose : goal.returns-in-ObjClose
 unfolding object_course
-returns-in-ObjClose-clause-served g c =
-    let t = g.T.AppStore in
-    let before = objects_in c.args.handles.now (t.kept c.args.store.now) in
-    by_kind t.tells t.kept t.standing t.damage t.honest t.moment t.left_since c.close.result (object_course before c.args.instance c.args.ask) (changes_store c.args.ask) c.args.handles.now c.close.new.handles c.args.store.now c.close.ensures.kind
-    (subst (λ (ask : Ask). IsOutcome c.close.result.outcome (came_of Serves (t.standing c.args.store.now).lost (object_course before c.args.instance ask)) before (objects_in c.close.new.handles (t.kept c.args.store.now))) (sym c.in-ObjClose.is)
-    (c.close.ensures.outcome (t.kept c.args.store.now) (t.standing c.args.store.now).lost))
+returns-in-ObjClose g c =
+    let t = g.T.AppStore.keeper in
+    let before = objects_in c.args.handles.now (t.contents c.args.store.now) in
+    serves_kind t c.close.result (object_course before c.args.instance c.args.ask) (changes_store c.args.ask) c.args.handles.now c.close.new.handles c.args.store.now c.close.ensures.kind
+    (subst (λ (ask : Ask). IsOutcome c.close.result.outcome (came_of Serves (t.status c.args.store.now).lost (object_course before c.args.instance ask)) before (objects_in c.close.new.handles (t.contents c.args.store.now))) (sym c.in-ObjClose.is)
+    (c.close.ensures.outcome (t.contents c.args.store.now) (t.status c.args.store.now).lost))
