@@ -1,14 +1,12 @@
 -- Sources and sinks in memory: which of their calls fail.
-use Rattle.std.specs.Prelude.{ℕ, [], ◌+◌, ◌-◌, ◌^◌, min, List, Bool, if◌then◌else◌}
+use Rattle.std.specs.Prelude.{◌≡◌, ℕ, [], List, Bool, Contains, if◌then◌else◌}
+use Rattle.tee_base.specs.Faults.{counted}
 
 -- the numbers of the calls that are to fail, how many calls there were, how many failed; the counts stop at their type's end
 pub record Plan : Type 0 where
   pub failing : List ℕ
   pub calls : ℕ
   pub faults : ℕ
-
-abbrev pub counted : ℕ → ℕ
-counted n = min (n + 1) (2 ^ 64 - 1)
 
 abbrev pub opening_plan : List ℕ → Plan
 opening_plan failing = record { failing = failing; calls = 0; faults = 0 }
@@ -20,6 +18,10 @@ called fails plan = record {
   calls = counted plan.calls;
   faults = if fails then counted plan.faults else plan.faults;
 }
+
+-- the last call that the plan counted was to fail
+abbrev pub HasJustFailed : Plan → Type 0
+HasJustFailed plan = (n : ℕ) × (plan.calls ≡ counted n) × Contains plan.failing n
 
 -- a source in memory: the bytes left
 pub record Feed : Type 0 where

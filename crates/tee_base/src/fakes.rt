@@ -1,8 +1,8 @@
 //! Sources and sinks in memory, some of whose calls fail as they are told.
 
-ghost use Rattle.std.specs.Prelude.{◌≡◌, ◌<◌, ◌≤◌, ◌↔◌, ◌-◌, ◌^◌, ◌++◌, [], List, ℕ, Some, IfOk, IsErr, OnErr, Contains, length, take, drop};
+ghost use Rattle.std.specs.Prelude.{◌≡◌, ◌<◌, ◌≤◌, ◌↔◌, ◌-◌, ◌^◌, ◌++◌, [], List, ℕ, Some, IfOk, IsErr, OnErr, Contains, is_err, length, take, drop};
 ghost use Rattle.std.specs.Io.KnownBytes.{ReadConsumes, WriteAppends};
-ghost use Rattle.tee_base.specs.Faults.{Rose, TakesSome};
+ghost use Rattle.tee_base.specs.Faults.{Rose, TakesSome, faults_after};
 
 use crate::bytes::{Bytes, NoMemory};
 use crate::io::{Sink, SinkFailed, Source, SourceFailed};
@@ -27,8 +27,8 @@ impl Model for Schedule {
 
 impl Schedule {
     ghost use Rattle.std.specs.Prelude.{◌≡◌, ◌≤◌, ◌↔◌, IfOk, IsTrue, Contains};
-    ghost use Rattle.tee_base.specs.Fakes.{called, counted, opening_plan};
-    ghost use Rattle.tee_base.specs.Faults.{Rose};
+    ghost use Rattle.tee_base.specs.Fakes.{HasJustFailed, called, opening_plan};
+    ghost use Rattle.tee_base.specs.Faults.{Rose, counted};
 
     /// No calls yet, and those with the numbers in `failing`, counted from 0, will fail.
     pub fn new(alloc: Global, failing: &[u64]) -> Result<Schedule, NoMemory>
@@ -47,6 +47,7 @@ impl Schedule {
         ensures after { self.new ≡ called result self.old }
         ensures later { self.old.faults ≤ self.new.faults }
         ensures rose { IsTrue result → Rose self.old.faults self.new.faults }
+        ensures last { IsTrue result → HasJustFailed self.new }
     {
         let fails = self.failing.contains(&self.calls);
         self.calls = self.calls.saturating_add(1);
@@ -120,17 +121,24 @@ impl MemSource {
 }
 
 impl Source for MemSource {
+    ghost use Rattle.tee_base.specs.Fakes.{HasJustFailed, called};
+
     ghost left = { λ s. Some s.left };
 
     ghost failures = { λ s. s.plan.faults };
 
-    /// Besides, it fails exactly at the calls that it was told.
+    ghost just_failed = { λ s. HasJustFailed s.plan };
+
+    /// Besides, it fails exactly at the calls that it was told, and counts this call.
     fn read(&mut self, into: &mut [u8]) -> Result<usize, SourceFailed>
         ensures room { IfOk result (λ n. n ≤ length into.old) }
         ensures taken { ReadConsumes (Some self.old.left) (Some self.new.left) result into.new }
+        ensures counts { self.new.plan.faults ≡ faults_after result self.old.plan.faults }
+        ensures last { OnErr result (HasJustFailed self.new.plan) }
         ensures cause { OnErr result (Rose self.old.plan.faults self.new.plan.faults) }
         ensures later { self.old.plan.faults ≤ self.new.plan.faults }
         ensures fails { IsErr result ↔ Contains self.old.plan.failing self.old.plan.calls }
+        ensures plan { self.new.plan ≡ called (is_err result) self.old.plan }
     {
         if self.schedule.fails_now() {
             return Err(SourceFailed);
@@ -183,6 +191,8 @@ impl MemSink {
 }
 
 impl Sink for MemSink {
+    ghost use Rattle.tee_base.specs.Fakes.{called};
+
     ghost written = { λ s. Some s.written };
 
     ghost failures = { λ s. s.plan.faults };
@@ -192,10 +202,12 @@ impl Sink for MemSink {
         ensures room { IfOk result (λ n. n ≤ length piece.now) }
         ensures some { IfOk result (TakesSome piece.now) }
         ensures appended { WriteAppends (Some self.old.written) (Some self.new.written) result piece.now }
+        ensures counts { self.new.plan.faults ≡ faults_after result self.old.plan.faults }
         ensures cause { OnErr result (Rose self.old.plan.faults self.new.plan.faults) }
         ensures later { self.old.plan.faults ≤ self.new.plan.faults }
         ensures fails { Contains self.old.plan.failing self.old.plan.calls → IsErr result }
         ensures whole { IfOk result (λ n. n ≡ length piece.now) }
+        ensures plan { self.new.plan ≡ called (is_err result) self.old.plan }
     {
         if self.schedule.fails_now() {
             return Err(SinkFailed);
@@ -244,6 +256,8 @@ impl Source for SureSource {
     ghost left = { λ s. Some s };
 
     ghost failures = { λ _. 0 };
+
+    ghost just_failed = { λ _. ⊥ };
 
     fn read(&mut self, into: &mut [u8]) -> Result<usize, SourceFailed> {
         let count = copy_front(&self.bytes.as_slice()[self.at..], into);

@@ -2,7 +2,7 @@
 
 ghost use Rattle.std.specs.Prelude.{◌≡◌, ◌≤◌, ℕ, List, Option, OnErr, IfOk, length};
 ghost use Rattle.std.specs.Io.KnownBytes.{ReadConsumes, WriteAppends};
-ghost use Rattle.tee_base.specs.Faults.{Rose, TakesSome};
+ghost use Rattle.tee_base.specs.Faults.{Rose, TakesSome, faults_after};
 
 use thiserror::Error;
 
@@ -24,10 +24,15 @@ pub trait Source {
     /// How often the source has failed.
     ghost failures: { Self → ℕ };
 
+    /// Its last call of `read` failed, as far as it tells.
+    ghost just_failed: { Self → Type 0 };
+
     /// Moves the next bytes into the front of `into`, and says how many. None of them, where there is room, means the end.
     fn read(&mut self, into: &mut [u8]) -> Result<usize, SourceFailed>
         ensures room { IfOk result (λ n. n ≤ length into.old) }
         ensures taken { ReadConsumes (left self.old) (left self.new) result into.new }
+        ensures counts { failures self.new ≡ faults_after result (failures self.old) }
+        ensures last { OnErr result (just_failed self.new) }
         ensures cause { OnErr result (Rose (failures self.old) (failures self.new)) }
         ensures later { failures self.old ≤ failures self.new };
 
@@ -49,6 +54,7 @@ pub trait Sink {
         ensures room { IfOk result (λ n. n ≤ length piece.now) }
         ensures some { IfOk result (TakesSome piece.now) }
         ensures appended { WriteAppends (written self.old) (written self.new) result piece.now }
+        ensures counts { failures self.new ≡ faults_after result (failures self.old) }
         ensures cause { OnErr result (Rose (failures self.old) (failures self.new)) }
         ensures later { failures self.old ≤ failures self.new };
 

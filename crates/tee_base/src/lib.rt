@@ -9,6 +9,8 @@ pub mod keys;
 pub mod limits;
 mod numbers;
 mod streams;
+#[cfg(test)]
+mod tests;
 mod transfer;
 
 pub use bytes::{Bytes, NoMemory};

@@ -1,9 +1,11 @@
-//! The limits that the runtime keeps.
+//! The limits that the runtime keeps. Each stands here once; definitions and code cite it.
 
 /// Bytes of a script.
 pub const SCRIPT_BYTES: u32 = 1_048_576;
 /// Hosts of one runtime.
 pub const HOSTS: usize = 16;
+/// Characters of a host's name.
+pub const NAME_BYTES: usize = 16;
 /// Clients of a script, numbered from 0.
 pub const CLIENTS: u8 = 8;
 /// Instances of one application, numbered from 1.
@@ -12,6 +14,8 @@ pub const INSTANCES: usize = 4;
 pub const SESSIONS: usize = 8;
 /// Unanswered operations of one application other than closes.
 pub const OPERATIONS: usize = 16;
+/// Parameters of a call.
+pub const PARAMETERS: usize = 4;
 /// Object handles of one instance.
 pub const HANDLES: usize = 16;
 /// Crypto operations of one instance.
@@ -26,10 +30,20 @@ pub const ASK_BYTES: u32 = 524_288;
 pub const IDENTIFIER_BYTES: usize = 64;
 /// Bytes of an object's secret.
 pub const SECRET_BYTES: usize = 128;
+/// Bytes of one object's content, by the quota: the first block of an object holds none of them.
+pub const CONTENT_BYTES: u32 = 260_096;
+/// The greatest data position of an object's handle.
+pub const POSITION: u32 = 0xFFFF_FFFF;
 /// The cost that the objects of one application may reach, in blocks.
 pub const QUOTA: u32 = 255;
+/// Leaves of one application's region, each a block.
+pub const LEAVES: usize = 256;
 /// Bytes of a block.
 pub const BLOCK_BYTES: usize = 1024;
+/// Blocks of a new board.
+pub const BOARD_BLOCKS: u64 = 8_742;
+/// The greatest number that a script's fuse line may have.
+pub const FUSE_CALLS: u32 = 1_000_000;
 /// The sizes of all filled parameters of a script, added up.
 pub const FILL_BYTES: u32 = 268_435_456;
 /// Turns within which a call line is answered.
@@ -40,3 +54,9 @@ pub const LINE_TURNS: u32 = 1_000_000;
 pub const LOG_ENTRIES: usize = 262_144;
 /// Parameter bytes of one application's log.
 pub const LOG_BYTES: u32 = 67_108_864;
+/// Calls that one pass may make.
+pub const PASS_CALLS: u64 = 1 << 60;
+/// Seats of a storage cell.
+pub const STORE_SEATS: usize = 16;
+/// Seats of an application's cell.
+pub const APPLICATION_SEATS: usize = 8;

@@ -1,6 +1,7 @@
-//! The standard library's readers and writers as sources and sinks. They tell no bytes: what they read and write is trusted.
+//! The standard library's readers and writers as sources and sinks. They tell the bytes that the reader or writer
+//! itself tells. The system's streams and files tell none, so what these read and write is trusted.
 
-ghost use Rattle.std.specs.Prelude.{None};
+ghost use Rattle.std.specs.Prelude.{◌≡◌, ⊤};
 
 use crate::io::{Sink, SinkFailed, Source, SourceFailed};
 use std::io::{Read, Write};
@@ -13,15 +14,21 @@ pub struct StdSource<R> {
 }
 
 impl<R: Read> StdSource<R> {
-    pub fn new(reader: R) -> StdSource<R> {
+    /// The reader, with no failure yet.
+    pub fn new(reader: R) -> StdSource<R>
+        ensures same { ⟦<StdSource<R> as Source>⟧.left result ≡ R.remaining reader }
+        ensures none { ⟦<StdSource<R> as Source>⟧.failures result ≡ 0 }
+    {
         StdSource { reader, faults: 0 }
     }
 }
 
 impl<R: Read> Source for StdSource<R> {
-    ghost left = { λ _. None };
+    ghost left = { λ s. R.remaining s.reader };
 
     ghost failures = { λ s. s.faults };
+
+    ghost just_failed = { λ _. ⊤ };
 
     fn read(&mut self, into: &mut [u8]) -> Result<usize, SourceFailed> {
         match self.reader.read(into) {
@@ -46,13 +53,17 @@ pub struct StdSink<W> {
 }
 
 impl<W: Write> StdSink<W> {
-    pub fn new(writer: W) -> StdSink<W> {
+    /// The writer, with no failure yet.
+    pub fn new(writer: W) -> StdSink<W>
+        ensures same { ⟦<StdSink<W> as Sink>⟧.written result ≡ W.contents writer }
+        ensures none { ⟦<StdSink<W> as Sink>⟧.failures result ≡ 0 }
+    {
         StdSink { writer, faults: 0 }
     }
 }
 
 impl<W: Write> Sink for StdSink<W> {
-    ghost written = { λ _. None };
+    ghost written = { λ s. W.contents s.writer };
 
     ghost failures = { λ s. s.faults };
 

@@ -2,7 +2,7 @@
 
 ghost use Rattle.std.specs.Prelude.{◌≡◌, ◌≤◌, ◌<◌, ◌+◌, IfOk, IsErrOf, OnErr, OnOk, length};
 ghost use Rattle.std.specs.Io.KnownBytes.{Appends, Consumes, IsAtEnd};
-ghost use Rattle.tee_base.specs.Faults.{Rose};
+ghost use Rattle.tee_base.specs.Faults.{Rose, counted};
 ghost use Rattle.tee_base.specs.Transfer.{ConsumesWithin, AppendsFront, HasMoreThan};
 
 use crate::bytes::{Bytes, NoMemory};
@@ -38,6 +38,11 @@ pub fn read_all<S: Source>(alloc: Global, source: &mut S, limit: u32) -> Result<
     ensures within { IfOk result (λ bytes. length bytes ≤ limit) }
     ensures too_long { IsErrOf result ReadAnswer.TooLong → HasMoreThan limit (S.left source.old) }
     ensures read_fault { IsErrOf result ReadAnswer.ReadFault → Rose (S.failures source.old) (S.failures source.new) }
+    // one call failed, and no call was made after it
+    ensures once { IsErrOf result ReadAnswer.ReadFault
+        → (S.failures source.new ≡ counted (S.failures source.old)) × S.just_failed source.new }
+    // under every other answer no call failed
+    ensures no_fault { ¬ IsErrOf result ReadAnswer.ReadFault → S.failures source.new ≡ S.failures source.old }
     ensures err { OnErr result (ConsumesWithin (limit + 1) (S.left source.old) (S.left source.new)) }
     ensures later { S.failures source.old ≤ S.failures source.new }
 {
