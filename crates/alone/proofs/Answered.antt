@@ -1,4 +1,5 @@
 -- Few operations are unanswered, and a call is answered within its turns.
+use Rattle.app_api.specs.Behaviours.{Behaviour}
 use Rattle.std.proofs.Common.{ℕ, zero, suc, ◌≡◌, ◌≢◌, ◌+◌, ◌≤◌, ◌<◌, ◌==◌, ◌&&◌, nat_lt, Bool, true, false, not, cond, List, [], ◌∷◌, find, length, count_by, Option, None, Some, is_some, option_map, refl, sym, ap, subst, ◌∙◌, ⊎_elim, arith}
 use Rattle.std.specs.List.{AllByRecursion}
 use Rattle.std.proofs.lemmas.Bool.{cases_Bool, cases_lt, lt-ltb, ne_eqb, both_ways}
@@ -111,25 +112,25 @@ enough : 6553724 ≤ most_turns
 unfolding most_turns
 enough = omega arith
 
-module _ {A : Type 0} (next : A → Given → A) (asks : A → Given → Ask) where
-  within : (k : ℕ) (m : Machine A) (op i : ℕ) → IsSoundMachine m → op < m.queue.next → AllByRecursion (IsOf op i) m.queue.operations → measure i m.queue m.instances ≤ k → is_answered (machine_after next asks m (turns_until next asks k m i op)) op ≡ true
+module _ {A : Type 0} (behaviour : Behaviour A) where
+  within : (k : ℕ) (m : Machine A) (op i : ℕ) → IsSoundMachine m → op < m.queue.next → AllByRecursion (IsOf op i) m.queue.operations → measure i m.queue m.instances ≤ k → is_answered (machine_after behaviour m (turns_until behaviour k m i op)) op ≡ true
   within zero m op i h below owned le = answered_at_end m op i h below owned (omega (arith, le))
   within (suc k) m op i h below owned le =
-      let z : Machine A = (turned next asks m i).machine in
-      let on : List Event = Turned i ∷ turns_until next asks k z i op in
+      let z : Machine A = (turned behaviour m i).machine in
+      let on : List Event = Turned i ∷ turns_until behaviour k z i op in
       ⊎_elim
-      (λ (done : is_answered m op ≡ true). subst (λ (es : List Event). is_answered (machine_after next asks m es) op ≡ true) (sym (ap (λ b. cond b [] on) done)) done)
+      (λ (done : is_answered m op ≡ true). subst (λ (es : List Event). is_answered (machine_after behaviour m es) op ≡ true) (sym (ap (λ b. cond b [] on) done)) done)
       (λ (more : is_answered m op ≡ false).
-      let now = turns next asks Serves m i h in
+      let now = turns behaviour Serves m i h in
       let some : 1 ≤ measure i m.queue m.instances = ⊎_elim
       (λ (lt : 0 < measure i m.queue m.instances). lt)
       (λ (ge : measure i m.queue m.instances ≤ 0). absurd (both_ways _ more (answered_at_end m op i h below owned (omega (arith, ge)))))
       (cases_lt 0 (measure i m.queue m.instances)) in
-      let rest : is_answered (machine_after next asks z (turns_until next asks k z i op)) op ≡ true = within k z op i now.sound (omega (arith, below, now.next)) (now.owner op i owned) (omega (arith, now.less some, le)) in
-      subst (λ (es : List Event). is_answered (machine_after next asks m es) op ≡ true) (sym (ap (λ b. cond b [] on) more)) rest)
+      let rest : is_answered (machine_after behaviour z (turns_until behaviour k z i op)) op ≡ true = within k z op i now.sound (omega (arith, below, now.next)) (now.owner op i owned) (omega (arith, now.less some, le)) in
+      subst (λ (es : List Event). is_answered (machine_after behaviour m es) op ≡ true) (sym (ap (λ b. cond b [] on) more)) rest)
       (cases_Bool (is_answered m op))
 
-  call_is_answered : (m : Machine A) (client : ℕ) (call : Call) → IsSoundMachine m → CallIsAnswered next asks m client call
+  call_is_answered : (m : Machine A) (client : ℕ) (call : Call) → IsSoundMachine m → CallIsAnswered behaviour m client call
   call_is_answered m client call h =
       let s = called m client call in
       let now = takes m client call h in
@@ -137,23 +138,23 @@ module _ {A : Type 0} (next : A → Given → A) (asks : A → Given → Ask) wh
 
   -- ---- any events
 
-  step_sound : (m : Machine A) (event : Event) → IsSoundMachine m → IsSoundMachine (step next asks m event).machine
+  step_sound : (m : Machine A) (event : Event) → IsSoundMachine m → IsSoundMachine (step behaviour m event).machine
   step_sound m (Called client call) h = (takes m client call h).sound
-  step_sound m (Turned i) h = (turns next asks Serves m i h).sound
-  step_sound m (TurnLost i) h = (turns next asks Fails m i h).sound
-  step_sound m (Corrupted i) h = (turns next asks Damaged m i h).sound
+  step_sound m (Turned i) h = (turns behaviour Serves m i h).sound
+  step_sound m (TurnLost i) h = (turns behaviour Fails m i h).sound
+  step_sound m (Corrupted i) h = (turns behaviour Damaged m i h).sound
   step_sound m Lost h = h
 
-  events_sound : (m : Machine A) (events : List Event) → IsSoundMachine m → IsSoundMachine (machine_after next asks m events)
+  events_sound : (m : Machine A) (events : List Event) → IsSoundMachine m → IsSoundMachine (machine_after behaviour m events)
   events_sound m [] h = h
-  events_sound m (event ∷ events) h = events_sound (step next asks m event).machine events (step_sound m event h)
+  events_sound m (event ∷ events) h = events_sound (step behaviour m event).machine events (step_sound m event h)
 
-  pub always_answered : (host : Host A) (index : ℕ) (seed : List ℕ) (store : Store) (events : List Event) (client : ℕ) (call : Call) → CallIsAnswered next asks (machine_after next asks (start host index seed store) events) client call
+  pub always_answered : (host : Host A) (index : ℕ) (seed : List ℕ) (store : Store) (events : List Event) (client : ℕ) (call : Call) → CallIsAnswered behaviour (machine_after behaviour (start host index seed store) events) client call
   always_answered host index seed store events client call =
       let m = start host index seed store in
-      call_is_answered (machine_after next asks m events) client call (events_sound m events (start_sound host index seed store))
+      call_is_answered (machine_after behaviour m events) client call (events_sound m events (start_sound host index seed store))
 
-  pub always_few : (host : Host A) (index : ℕ) (seed : List ℕ) (store : Store) (events : List Event) → OperationsAreFew (machine_after next asks (start host index seed store) events)
+  pub always_few : (host : Host A) (index : ℕ) (seed : List ℕ) (store : Store) (events : List Event) → OperationsAreFew (machine_after behaviour (start host index seed store) events)
   always_few host index seed store events =
       let m = start host index seed store in
-      few (machine_after next asks m events) (events_sound m events (start_sound host index seed store))
+      few (machine_after behaviour m events) (events_sound m events (start_sound host index seed store))

@@ -1,5 +1,4 @@
 pub mod Answered
-pub mod AskOutcomes
 pub mod Called
 pub mod Changed
 pub mod Courses

@@ -1,4 +1,5 @@
 -- Each step leaves the handles sound over the store where they were.
+use Rattle.app_api.specs.Behaviours.{Behaviour}
 use Rattle.std.proofs.Common.{ℕ, ◌+◌, Bool, not, cond, nat_le, Option, None, Some, is_some, Result, Ok, Err}
 use Rattle.std.proofs.lemmas.Bool.{cond_both}
 use Rattle.tee_base.specs.declared.codes.Code.{Code}
@@ -125,29 +126,29 @@ begun_fine : {A : Type 0} (m : Machine A) (inst : Instance A) (b : Option Begun)
 begun_fine m inst None fine = fine
 begun_fine m inst (Some b) fine = fine
 
-module _ {A : Type 0} (next : A → Given → A) (asks : A → Given → Ask) (serving : Serving) where
-  went_fine : (m : Machine A) (inst : Instance A) (r : Running) (w : Waits) → IsFine m → Ends (went_on next asks serving m inst r w)
+module _ {A : Type 0} (behaviour : Behaviour A) (serving : Serving) where
+  went_fine : (m : Machine A) (inst : Instance A) (r : Running) (w : Waits) → IsFine m → Ends (went_on behaviour serving m inst r w)
   went_fine m inst r (waits.Given given) fine = fine
   went_fine m inst r (waits.Ask ask) fine =
       let c = course_after r.asks m inst.number r.stage ask in
       acted_fine m inst r (served serving m ask c) fine (served_fine serving m ask c (after_fine r.asks m inst.number r.stage ask fine))
 
-  turned_by_fine : (m : Machine A) (inst : Instance A) (r : Option Running) → IsFine m → Ends (turned_by next asks serving m inst r)
+  turned_by_fine : (m : Machine A) (inst : Instance A) (r : Option Running) → IsFine m → Ends (turned_by behaviour serving m inst r)
   turned_by_fine m inst None fine =
       let first = first_waiting m.queue inst.number in begun_fine (record m { queue = after_begin m.queue first }) inst (begun_at first) fine
   turned_by_fine m inst (Some r) fine = went_fine m inst r r.waits fine
 
-  turned_at_fine : (m : Machine A) (inst : Option (Instance A)) → IsFine m → Ends (turned_at next asks serving m inst)
+  turned_at_fine : (m : Machine A) (inst : Option (Instance A)) → IsFine m → Ends (turned_at behaviour serving m inst)
   turned_at_fine m None fine = fine
   turned_at_fine m (Some inst) fine = turned_by_fine m inst inst.running fine
 
-  turned_fine : (m : Machine A) (i : ℕ) → IsFine m → Ends (turned_as next asks serving m i)
+  turned_fine : (m : Machine A) (i : ℕ) → IsFine m → Ends (turned_as behaviour serving m i)
   unfolding turned_as
   turned_fine m i fine = let now = record m { turns = m.turns + 1 } in turned_at_fine now (instance_at now i) fine
 
-pub step_sound : {A : Type 0} (next : A → Given → A) (asks : A → Given → Ask) (m : Machine A) (event : Event) → IsFine m → Ends (step next asks m event)
-step_sound next asks m (Called client call) fine = called_fine m client call fine
-step_sound next asks m (Turned instance) fine = turned_fine next asks Serves m instance fine
-step_sound next asks m (TurnLost instance) fine = turned_fine next asks Fails m instance fine
-step_sound next asks m (Corrupted instance) fine = turned_fine next asks Damaged m instance fine
-step_sound next asks m Lost fine = fine
+pub step_sound : {A : Type 0} (behaviour : Behaviour A) (m : Machine A) (event : Event) → IsFine m → Ends (step behaviour m event)
+step_sound behaviour m (Called client call) fine = called_fine m client call fine
+step_sound behaviour m (Turned instance) fine = turned_fine behaviour Serves m instance fine
+step_sound behaviour m (TurnLost instance) fine = turned_fine behaviour Fails m instance fine
+step_sound behaviour m (Corrupted instance) fine = turned_fine behaviour Damaged m instance fine
+step_sound behaviour m Lost fine = fine

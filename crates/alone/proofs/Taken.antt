@@ -1,4 +1,5 @@
 -- A turn doesn't look at whether the running entry was taken out of its instance.
+use Rattle.app_api.specs.Behaviours.{Behaviour}
 use Rattle.std.proofs.Common.{ℕ, ◌≡◌, ◌+◌, nat_le, true, false, cond, List, Option, None, Some, refl, sym, ◌∙◌, ap}
 use Rattle.tee_base.specs.declared.codes.Code.{Code}
 use Rattle.app_api.specs.declared.out.Outs.{Outs}
@@ -18,9 +19,16 @@ use Rattle.alone.specs.declared.running.Waits.TheVariants as waits
 use Rattle.alone.specs.Asks.{course, course_after, objects_of, return_course, with_objects}
 use Rattle.alone.specs.Machine.{Machine, instance_at, put_instance, with_instance}
 use Rattle.alone.specs.Places.{is_misuse, places_at}
-use Rattle.alone.specs.Plain.{idle, taken}
 use Rattle.alone.specs.Step.{quiet, acted, begun, create_failed, is_success, not_built, returned, served, start_begun, store_left, turned_by, went_on}
 use Rattle.alone.proofs.Lists.{put_put, put_found, filter_put}
+
+-- the instance without its running entry
+abbrev pub idle : {A : Type 0} → Instance A → Instance A
+idle inst = record inst { running = None }
+
+-- the machine while the entry of an instance is in hand
+abbrev pub taken : {A : Type 0} → Machine A → Instance A → Machine A
+taken m inst = with_instance m (idle inst)
 
 -- the machine with other instances
 abbrev pub placed : {A : Type 0} → List (Instance A) → Machine A → Machine A
@@ -117,11 +125,11 @@ acted_taken {A} m inst r (Answered after answer) leaves =
 acted_taken m inst r (Returned code outs) leaves = returned_taken m inst r.op r.stage code outs
 acted_taken m inst r Panicked leaves = returned_taken m inst r.op r.stage not_built.code not_built.outs
 
-pub went_on_taken : {A : Type 0} (next : A → Given → A) (asks : A → Given → Ask) (serving : Serving) (m : Machine A) (inst : Instance A) (r : Running) (w : Waits) → went_on next asks serving (taken m inst) (idle inst) r w ≡ went_on next asks serving m inst r w
-went_on_taken {A} next asks serving m inst r (waits.Given given) =
-    let new : Instance A = record inst { state = next inst.state given; running = Some (record { op = r.op; stage = r.stage; waits = waits.Ask (asks inst.state given); asks = r.asks }) } in
+pub went_on_taken : {A : Type 0} (behaviour : Behaviour A) (serving : Serving) (m : Machine A) (inst : Instance A) (r : Running) (w : Waits) → went_on behaviour serving (taken m inst) (idle inst) r w ≡ went_on behaviour serving m inst r w
+went_on_taken {A} behaviour serving m inst r (waits.Given given) =
+    let new : Instance A = record inst { state = behaviour.next inst.state given; running = Some (record { op = r.op; stage = r.stage; waits = waits.Ask (behaviour.asks inst.state given); asks = r.asks }) } in
     ap (λ (xs : List (Instance A)). quiet (record m { instances = xs })) (put_put new (idle inst) m.instances refl)
-went_on_taken {A} next asks serving m inst r (waits.Ask ask) =
+went_on_taken {A} behaviour serving m inst r (waits.Ask ask) =
     let xs = put_instance (idle inst) m.instances in
     ap (λ (c : Course (Machine A)). acted (taken m inst) (idle inst) r (served serving (placed xs m) ask c)) (course_after_placed r.asks xs m inst.number r.stage ask)
     ∙ ap (λ (o : Outcome (Machine A)). acted (taken m inst) (idle inst) r o) (served_placed serving xs m ask (course_after r.asks m inst.number r.stage ask))
@@ -134,6 +142,6 @@ begun_taken {A} m i inst none found =
     ∙ ap (λ (xs : List (Instance A)). begun (record m { instances = xs }) inst) (put_found i inst m.instances found)
 
 -- a turn of an instance whose entry, or that it has none, is in hand
-pub turned_taken : {A : Type 0} (next : A → Given → A) (asks : A → Given → Ask) (serving : Serving) (m : Machine A) (i : ℕ) (inst : Instance A) (o : Option Running) → inst.running ≡ o → instance_at m i ≡ Some inst → turned_by next asks serving (taken m inst) (idle inst) o ≡ turned_by next asks serving m inst o
-turned_taken next asks serving m i inst None none found = ap quiet (begun_taken m i inst none found)
-turned_taken next asks serving m i inst (Some r) some found = went_on_taken next asks serving m inst r r.waits
+pub turned_taken : {A : Type 0} (behaviour : Behaviour A) (serving : Serving) (m : Machine A) (i : ℕ) (inst : Instance A) (o : Option Running) → inst.running ≡ o → instance_at m i ≡ Some inst → turned_by behaviour serving (taken m inst) (idle inst) o ≡ turned_by behaviour serving m inst o
+turned_taken behaviour serving m i inst None none found = ap quiet (begun_taken m i inst none found)
+turned_taken behaviour serving m i inst (Some r) some found = went_on_taken behaviour serving m inst r r.waits

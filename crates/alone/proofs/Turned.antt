@@ -1,4 +1,5 @@
 -- A turn of an instance leaves what holds of every machine, and brings the instance nearer to having no operation.
+use Rattle.app_api.specs.Behaviours.{Behaviour}
 use Rattle.std.proofs.Common.{ℕ, ◌≡◌, ◌+◌, ◌-◌, ◌*◌, ◌≤◌, ◌<◌, ◌==◌, ◌&&◌, Bool, true, false, not, cond, List, find, filter, map, Option, None, Some, refl, sym, ap, subst, ◌∙◌, arith}
 use Rattle.std.specs.List.{AllByRecursion}
 use Rattle.std.proofs.lemmas.Bool.{cond_both, and_parts, not-true, both_ways}
@@ -221,20 +222,20 @@ module _ {A : Type 0} where
   acts m inst r ask h found running w (Returned code outs) like = returns m inst r ask h found running w r.stage code outs refl
   acts m inst r ask h found running w Panicked like = returns m inst r ask h found running w r.stage not_built.code not_built.outs refl
 
-module _ {A : Type 0} (next : A → Given → A) (asks : A → Given → Ask) (serving : Serving) where
-  runs_on : (m : Machine A) (inst : Instance A) (r : Running) → IsSoundMachine m → find (is_number inst.number) m.instances ≡ Some inst → inst.running ≡ Some r → (w : Waits) → r.waits ≡ w → IsTurned inst.number m (went_on next asks serving m inst r w)
+module _ {A : Type 0} (behaviour : Behaviour A) (serving : Serving) where
+  runs_on : (m : Machine A) (inst : Instance A) (r : Running) → IsSoundMachine m → find (is_number inst.number) m.instances ≡ Some inst → inst.running ≡ Some r → (w : Waits) → r.waits ≡ w → IsTurned inst.number m (went_on behaviour serving m inst r w)
   runs_on m inst r h found running (waits.Given given) e =
       let i = inst.number in
-      let new : Instance A = record inst { state = next inst.state given; running = Some (record { op = r.op; stage = r.stage; waits = waits.Ask (asks inst.state given); asks = r.asks }) } in
+      let new : Instance A = record inst { state = behaviour.next inst.state given; running = Some (record { op = r.op; stage = r.stage; waits = waits.Ask (behaviour.asks inst.state given); asks = r.asks }) } in
       let before : left_of inst.running ≡ 2 * (65536 - r.asks) + 2 + turns_behind r.stage = ap left_of running ∙ ap (λ v. turns_left v (2 * (65536 - r.asks)) + turns_behind r.stage) e in
       goes_on m inst new h found (sym (ap (claim_of_entry i) running)) (sym (ap (run_of_entry i) running)) (omega (arith, before))
   runs_on m inst r h found running (waits.Ask ask) e = acts m inst r ask h found running e (served serving m ask (course_after r.asks m inst.number r.stage ask)) (ask_like m r.asks serving inst.number r.stage ask)
 
-  turns_by : (m : Machine A) (inst : Instance A) → IsSoundMachine m → find (is_number inst.number) m.instances ≡ Some inst → (running : Option Running) → inst.running ≡ running → IsTurned inst.number m (turned_by next asks serving m inst running)
+  turns_by : (m : Machine A) (inst : Instance A) → IsSoundMachine m → find (is_number inst.number) m.instances ≡ Some inst → (running : Option Running) → inst.running ≡ running → IsTurned inst.number m (turned_by behaviour serving m inst running)
   turns_by m inst h found None e = begins m inst h found e (first_waiting m.queue inst.number) refl
   turns_by m inst h found (Some r) e = runs_on m inst r h found e r.waits refl
 
-  turns_at : (m : Machine A) (i : ℕ) → IsSoundMachine m → (o : Option (Instance A)) → find (is_number i) m.instances ≡ o → IsTurned i m (turned_at next asks serving m o)
+  turns_at : (m : Machine A) (i : ℕ) → IsSoundMachine m → (o : Option (Instance A)) → find (is_number i) m.instances ≡ o → IsTurned i m (turned_at behaviour serving m o)
   turns_at m i h None e = record {
     sound = h;
     next = refl;
@@ -244,8 +245,8 @@ module _ {A : Type 0} (next : A → Given → A) (asks : A → Given → Ask) (s
   turns_at m i h (Some inst) e =
       let number : inst.number ≡ i = found_number i m.instances inst e in
       let found : find (is_number inst.number) m.instances ≡ Some inst = subst (λ n. find (is_number n) m.instances ≡ Some inst) (sym number) e in
-      subst (λ n. IsTurned n m (turned_at next asks serving m (Some inst))) number (turns_by m inst h found inst.running refl)
+      subst (λ n. IsTurned n m (turned_at behaviour serving m (Some inst))) number (turns_by m inst h found inst.running refl)
 
-  pub turns : (m : Machine A) (i : ℕ) → IsSoundMachine m → IsTurned i m (turned_as next asks serving m i)
+  pub turns : (m : Machine A) (i : ℕ) → IsSoundMachine m → IsTurned i m (turned_as behaviour serving m i)
   unfolding turned_as
   turns m i h = let now : Machine A = record m { turns = m.turns + 1 } in turns_at now i h (instance_at now i) refl

@@ -1,11 +1,8 @@
-pub mod Adder
 pub mod Answering
 pub mod Asks
 pub mod InList
-pub mod Keeper
 pub mod Machine
 pub mod Places
-pub mod Plain
 pub mod Replies
 pub mod Runs
 pub mod Step

@@ -1,5 +1,6 @@
 -- Runs of one application's machine: events one after the other, and the turns that a call is given (TEE Client API 1.0, sections
 -- 4.5.5 to 4.5.7).
+use Rattle.app_api.specs.Behaviours.{Behaviour}
 use Rattle.std.specs.Prelude.{ℕ, zero, suc, List, [], ◌∷◌, ◌++◌, if◌then◌else◌}
 use Rattle.app_api.specs.declared.ask.Ask.{Ask}
 use Rattle.app_api.specs.declared.ask.Given.{Given}
@@ -12,22 +13,22 @@ use Rattle.alone.specs.Step.{Event, Called, Turned, step, called, turned, is_ans
 unfoldable pub most_turns : ℕ
 most_turns = 10000000
 
--- next and asks are the application's two functions
-module _ {A : Type 0} (next : A → Given → A) (asks : A → Given → Ask) where
+-- behaviour has the application's two stated functions
+module _ {A : Type 0} (behaviour : Behaviour A) where
   -- the machine after events
   abbrev pub machine_after : Machine A → List Event → Machine A
   machine_after m [] = m
-  machine_after m (event ∷ events) = machine_after (step next asks m event).machine events
+  machine_after m (event ∷ events) = machine_after (step behaviour m event).machine events
 
   -- the replies to events
   abbrev pub replies_to : Machine A → List Event → List Reply
   replies_to m [] = []
-  replies_to m (event ∷ events) = let s = step next asks m event in s.replies ++ replies_to s.machine events
+  replies_to m (event ∷ events) = let s = step behaviour m event in s.replies ++ replies_to s.machine events
 
   -- turns of the instance until the operation is answered, at most so many
   abbrev pub turns_until : ℕ → Machine A → ℕ → ℕ → List Event
   turns_until zero m instance op = []
-  turns_until (suc more) m instance op = if is_answered m op then [] else Turned instance ∷ turns_until more (turned next asks m instance).machine instance op
+  turns_until (suc more) m instance op = if is_answered m op then [] else Turned instance ∷ turns_until more (turned behaviour m instance).machine instance op
 
   -- turns of the call's instance until the call is answered
   abbrev pub turns_of_call : Machine A → ℕ → Call → List Event

@@ -1,5 +1,6 @@
 -- One step of the machine: a client's call, a turn of an instance, or the loss of the storage. Numbers of sections are those of TEE Internal Core API 1.3
 -- (instances and sessions: 2.1.3; entry points: 4.3) and TEE Client API 1.0 (calls: 4.5.5 to 4.5.7; origins: 4.4.3).
+use Rattle.app_api.specs.Behaviours.{Behaviour}
 use Rattle.std.specs.Prelude.{ℕ, ◌+◌, ◌==◌, Bool, true, false, not, ◌&&◌, List, [], ◌∷◌, ◌++◌, Option, None, Some, Result, Ok, Err, is_some, nat_lt, option_map, if◌then◌else◌, filter, map}
 use Rattle.tee_base.specs.declared.codes.Code.{Code}
 use Rattle.tee_base.specs.declared.codes.Origin.{Origin}
@@ -159,8 +160,8 @@ begun m inst = let first = first_waiting m.queue inst.number in begun_with (reco
 -- ---- turns: think
 
 -- the application's step, and its ask waits
-abbrev pub thought : {A : Type 0} → (A → Given → A) → (A → Given → Ask) → Machine A → Instance A → Running → Given → Machine A
-thought next asks m inst r given = with_instance m (record inst { state = next inst.state given; running = Some (record { op = r.op; stage = r.stage; waits = waits.Ask (asks inst.state given); asks = r.asks }) })
+abbrev pub thought : {A : Type 0} → Behaviour A → Machine A → Instance A → Running → Given → Machine A
+thought behaviour m inst r given = with_instance m (record inst { state = behaviour.next inst.state given; running = Some (record { op = r.op; stage = r.stage; waits = waits.Ask (behaviour.asks inst.state given); asks = r.asks }) })
 
 -- ---- turns: act
 
@@ -230,26 +231,26 @@ served Damaged m ask (ComesToStore kept plain) = came_of Damaged m.lost (ComesTo
 
 -- ---- a turn
 
-abbrev pub went_on : {A : Type 0} → (A → Given → A) → (A → Given → Ask) → Serving → Machine A → Instance A → Running → Waits → Stepped A
-went_on next asks serving m inst r (waits.Given given) = quiet (thought next asks m inst r given)
-went_on next asks serving m inst r (waits.Ask ask) = acted m inst r (served serving m ask (course_after r.asks m inst.number r.stage ask))
+abbrev pub went_on : {A : Type 0} → Behaviour A → Serving → Machine A → Instance A → Running → Waits → Stepped A
+went_on behaviour serving m inst r (waits.Given given) = quiet (thought behaviour m inst r given)
+went_on behaviour serving m inst r (waits.Ask ask) = acted m inst r (served serving m ask (course_after r.asks m inst.number r.stage ask))
 
-abbrev pub turned_by : {A : Type 0} → (A → Given → A) → (A → Given → Ask) → Serving → Machine A → Instance A → Option Running → Stepped A
-turned_by next asks serving m inst None = quiet (begun m inst)
-turned_by next asks serving m inst (Some r) = went_on next asks serving m inst r r.waits
+abbrev pub turned_by : {A : Type 0} → Behaviour A → Serving → Machine A → Instance A → Option Running → Stepped A
+turned_by behaviour serving m inst None = quiet (begun m inst)
+turned_by behaviour serving m inst (Some r) = went_on behaviour serving m inst r r.waits
 
-abbrev pub turned_at : {A : Type 0} → (A → Given → A) → (A → Given → Ask) → Serving → Machine A → Option (Instance A) → Stepped A
-turned_at next asks serving m None = quiet m
-turned_at next asks serving m (Some inst) = turned_by next asks serving m inst inst.running
+abbrev pub turned_at : {A : Type 0} → Behaviour A → Serving → Machine A → Option (Instance A) → Stepped A
+turned_at behaviour serving m None = quiet m
+turned_at behaviour serving m (Some inst) = turned_by behaviour serving m inst inst.running
 
 -- a turn of an instance in which the store does so: the entry that runs goes on, or the next operation begins, or nothing
 -- happens. Each turn counts
-unfoldable pub turned_as : {A : Type 0} → (A → Given → A) → (A → Given → Ask) → Serving → Machine A → ℕ → Stepped A
-turned_as next asks serving m i = let now = record m { turns = m.turns + 1 } in turned_at next asks serving now (instance_at now i)
+unfoldable pub turned_as : {A : Type 0} → Behaviour A → Serving → Machine A → ℕ → Stepped A
+turned_as behaviour serving m i = let now = record m { turns = m.turns + 1 } in turned_at behaviour serving now (instance_at now i)
 
 -- a turn in which the store serves
-abbrev pub turned : {A : Type 0} → (A → Given → A) → (A → Given → Ask) → Machine A → ℕ → Stepped A
-turned next asks m i = turned_as next asks Serves m i
+abbrev pub turned : {A : Type 0} → Behaviour A → Machine A → ℕ → Stepped A
+turned behaviour m i = turned_as behaviour Serves m i
 
 -- the operation was called, and is no longer unanswered
 abbrev pub is_answered : {A : Type 0} → Machine A → ℕ → Bool
@@ -303,9 +304,9 @@ may_stand m (Corrupted instance) = reaches m instance && not m.lost
 may_stand m Lost = not m.lost
 
 -- one step; next and asks are the application's two functions
-abbrev pub step : {A : Type 0} → (A → Given → A) → (A → Given → Ask) → Machine A → Event → Stepped A
-step next asks m (Called client call) = called m client call
-step next asks m (Turned instance) = turned next asks m instance
-step next asks m (TurnLost instance) = turned_as next asks Fails m instance
-step next asks m (Corrupted instance) = turned_as next asks Damaged m instance
-step next asks m Lost = quiet (record m { lost = true })
+abbrev pub step : {A : Type 0} → Behaviour A → Machine A → Event → Stepped A
+step behaviour m (Called client call) = called m client call
+step behaviour m (Turned instance) = turned behaviour m instance
+step behaviour m (TurnLost instance) = turned_as behaviour Fails m instance
+step behaviour m (Corrupted instance) = turned_as behaviour Damaged m instance
+step behaviour m Lost = quiet (record m { lost = true })

@@ -1,5 +1,5 @@
-//! The machine of one application: the types that it shares with those who run it and print it, its definitions, a plain
-//! program for its step, and what is proved of every machine that events can lead to.
+//! The machine of one application: the types that it shares with those who run it and print it, its definitions, and what
+//! is proved of every machine that events can lead to.
 #![tactic(auto)]
 
 mod answering;
@@ -7,7 +7,6 @@ mod delivery;
 mod entries;
 mod place;
 mod places;
-mod plain;
 mod reply;
 mod running;
 mod validity;
@@ -19,10 +18,6 @@ pub use entries::{first_entry, not_built, returned, start_entry};
 pub use object_asks::{Ending, TurnKind};
 pub use place::place_of;
 pub use places::{Place, Places};
-pub use plain::{Event, Plain};
 pub use reply::{Outputs, REPLIES, Replies, Reply, Shown};
 pub use running::{Instance, Running, Stage, Waits};
 pub use validity::machines_stay_valid;
-
-#[cfg(test)]
-mod tests;

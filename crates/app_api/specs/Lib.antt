@@ -1,3 +1,4 @@
+pub mod Behaviours
 pub mod Outs
 pub mod Params
 pub mod Hosts

@@ -1,24 +1,20 @@
 //! An application: a state machine that is given an entry or an answer, and asks for one thing at a time.
 
 ghost use Rattle.std.specs.Prelude.{◌≡◌, IfOk, OnOk, OnErr};
-ghost use Rattle.app_api.specs.declared.ask.Given.{Given};
-ghost use Rattle.app_api.specs.declared.ask.Ask.{Ask};
+ghost use Rattle.app_api.specs.Behaviours.{Behaviour};
 
 use crate::ask::{Ask, Given};
 use std::alloc::Global;
 use tee_base::NoMemory;
 
 pub trait Application: Sized + Drop {
-    /// The state after what is given.
-    ghost next: { Self → Given → Self };
-
-    /// What is asked for.
-    ghost asks: { Self → Given → Ask };
+    /// Its two stated functions: the state after what is given, and what is asked for.
+    ghost behaviour: { Behaviour Self };
 
     /// One step: from what is given to what is asked for.
     fn step(&mut self, alloc: Global, given: Given) -> Result<Ask, NoMemory>
-        ensures ask { IfOk result (λ ask. ask ≡ asks self.old given) }
-        ensures state { OnOk result (self.new ≡ next self.old given) }
+        ensures ask { IfOk result (λ ask. ask ≡ behaviour.asks self.old given) }
+        ensures state { OnOk result (self.new ≡ behaviour.next self.old given) }
         ensures err { OnErr result (self.new ≡ self.old) };
 
     /// Another value of the same state.

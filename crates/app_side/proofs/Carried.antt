@@ -20,14 +20,14 @@ use Rattle.alone.specs.Machine.{Machine}
 use Rattle.alone.specs.Step.{lost_at, served, store_left}
 use Rattle.object_asks.specs.declared.outcome.Outcome.{Outcome as Result_of}
 use Rattle.object_asks.specs.declared.outcome.Outcome.TheVariants as outcomes
-use Rattle.object_asks.proofs.Crashes.{idle_quiet}
+use Rattle.object_asks.proofs.Crashes.{idle_keeps}
 use Rattle.alone.proofs.Courses.{course_comes, damaged_in, no_return, serves_in}
 use Rattle.app_side.specs.declared.side.AppSide.{AppSide}
 use Rattle.app_side.specs.Represents.{IsLeft, doubtful, machine_over, noted}
 use Rattle.object_asks.specs.declared.outcome.Served.{Served}
 use Rattle.store_api.specs.declared.answer.StoreAnswer.{StoreAnswer}
-use Rattle.store_api.specs.Keeping.{Standing, Kept, Remains}
-use Rattle.object_asks.specs.Serving.{HasStanding, IsOutcome, Meets, SaysChange, ShowsDamage, TriesOnce, plainly, serving_of}
+use Rattle.store_api.specs.Keeping.{Keeper, Status}
+use Rattle.object_asks.specs.Serving.{HasStatus, IsOutcome, Meets, SaysChange, ShowsDamage, TriesOnce, plainly, serving_of}
 use Rattle.alone.specs.Asks.{return_of}
 use Rattle.app_side.specs.Serving.{IsTurnOf, reaching}
 use Rattle.alone.specs.Places.{is_misuse, places_at}
@@ -105,20 +105,6 @@ return_left {A} side store doubt i stage code outs =
 pub return_plain : (stage : Stage) (code : Code) (outs : Outs) → (return_of stage code outs).kind ≡ Plain
 return_plain stage code outs = elim (is_misuse (places_at stage) outs) as (λ b. (let r : Served = cond b (plainly outcomes.Panicked) (plainly (outcomes.Returned (record { code = code; outs = outs }))) in r.kind ≡ Plain)) [ true ↦ refl | false ↦ refl ]
 
--- ---- turns of the plain kind
-
-pub plain_meets : (kind : TurnKind) (b : Bool) → kind ≡ Plain → Meets kind b
-plain_meets kind b e = subst (λ (k : TurnKind). Meets k b) (sym e) tt
-
-pub plain_says : (kind : TurnKind) (b : Bool) → kind ≡ Plain → SaysChange kind b
-plain_says kind b e = subst (λ (k : TurnKind). SaysChange k b) (sym e) tt
-
-pub plain_stands : (kind : TurnKind) (s : Standing) → kind ≡ Plain → HasStanding kind s s
-plain_stands kind s e = subst (λ (k : TurnKind). HasStanding k s s) (sym e) (record { cause = refl; later = omega arith; orders_stay = refl; told = omega arith })
-
-pub plain_shows : (kind : TurnKind) (damage : StoreAnswer → Type 0) → kind ≡ Plain → ShowsDamage kind damage
-plain_shows kind damage e = subst (λ (k : TurnKind). ShowsDamage k damage) (sym e) tt
-
 -- ---- what is noted
 
 pub noted_instances : {A : Type 0} (side : AppSide A) (kind : TurnKind) → (noted side kind).instances ≡ side.instances
@@ -126,7 +112,7 @@ noted_instances side Plain = refl
 noted_instances side (Lost changes) = refl
 noted_instances side Corrupted = refl
 
-pub noted_lost : {A : Type 0} (side : AppSide A) (kind : TurnKind) (before after : Standing) → HasStanding kind before after → side.lost ≡ before.lost → (noted side kind).lost ≡ after.lost
+pub noted_lost : {A : Type 0} (side : AppSide A) (kind : TurnKind) (before after : Status) → HasStatus kind before after → side.lost ≡ before.lost → (noted side kind).lost ≡ after.lost
 noted_lost side Plain before after stands same = same ∙ sym stands.cause
 noted_lost side (Lost changes) before after stands same = sym stands.cause.1
 noted_lost side Corrupted before after stands same = same ∙ stands.cause.0 ∙ sym stands.cause.1
@@ -135,19 +121,18 @@ pub below : (made : ℕ) (b : Bool) → made < 65536 → (not (nat_le 65536 made
 below made b lt = ap (λ (c : Bool). not c && b) (lt-leb 65536 made lt)
 
 -- a turn without the store tries no change
-pub none_tried : (changes : Bool) (s : Standing) → TriesOnce changes s s
+pub none_tried : (changes : Bool) (s : Status) → TriesOnce changes s s
 none_tried true s = (omega arith, omega arith)
 none_tried false s = refl
 
-module _ {D : Type 0} (is_telling : Bool) (kept_of : D → Kept) (standing_of : D → Standing) (damage_of : D → StoreAnswer → Type 0) (IsHonest : D → Type 0) (moment : D → ℕ) (left_since : D → ℕ → Remains → Type 0) where
-  pub plain_turn : (kind : TurnKind) (comes changes lost left : Bool) (old : D) → kind ≡ Plain → left ≡ lost → IsTurnOf is_telling kept_of standing_of damage_of IsHonest moment left_since kind comes changes lost left old old
-  plain_turn kind comes changes lost left old plain same = record {
-    stands = λ t. plain_meets kind comes plain;
-    change = plain_says kind changes plain;
-    standing = plain_stands kind (standing_of old) plain;
-    damage = plain_shows kind (damage_of old) plain;
-    honest = λ h. (h, plain_shows kind (λ answer. ⊥) plain);
-    beside = λ t. record { rest = refl; number = omega arith };
-    quiet = λ lost. idle_quiet kept_of moment left_since old;
+module _ {D : Type 0} (K : Keeper D) where
+  pub plain_turn : (comes changes lost left : Bool) (old : D) → left ≡ lost → IsTurnOf K Plain comes changes lost left old old
+  plain_turn comes changes lost left old same = record {
+    stands = λ t. tt;
+    change = tt;
+    status = record { cause = refl; later = omega arith; orders = refl; ordered = refl; reports = omega arith };
+    damage = tt;
+    honest = λ h. (h, tt);
+    keeps = idle_keeps K old;
     lost = λ e. same ∙ e;
   }

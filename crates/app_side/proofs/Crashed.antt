@@ -4,7 +4,7 @@ use Rattle.app_api.specs.declared.ask.Ask.{Ask}
 use Rattle.app_api.specs.declared.ask.Ask.TheVariants as asked
 use Rattle.app_api.specs.declared.out.Outs.{Outs}
 use Rattle.tee_base.specs.declared.codes.Code.{Code}
-use Rattle.store_api.specs.Keeping.{Kept, Remains}
+use Rattle.store_api.specs.Keeping.{Keeper}
 use Rattle.store_api.specs.Stores.{Store}
 use Rattle.object_asks.specs.declared.turn.TurnKind.{TurnKind}
 use Rattle.object_asks.specs.declared.turn.TurnKind.TheVariants.{Plain, Lost, Corrupted}
@@ -24,22 +24,22 @@ use Rattle.app_side.specs.Serving.{in_doubt_by}
 doubt_left : {A : Type 0} (m kept : Machine A) (changes : Bool) (plain : Outcome (Machine A)) → true ≡ changes → cond changes (Some (store_left kept plain)) kept.in_doubt ≡ Some (store_left kept plain)
 doubt_left m kept changes plain e = ap (λ (b : Bool). cond b (Some (store_left kept plain)) kept.in_doubt) (sym e)
 
-module _ {D : Type 0} (kept_of : D → Kept) (moment : D → ℕ) (left_since : D → ℕ → Remains → Type 0) (old new : D) where
+module _ {D : Type 0} (K : Keeper D) (old new : D) where
   abbrev Crash : TurnKind → Option Store → Type 0
-  Crash kind in_doubt = CrashTurns kept_of moment left_since kind in_doubt old new
+  Crash kind in_doubt = CrashTurns K kind in_doubt old new
 
   -- a change's call failed: what the ask would leave is in doubt
   lost_in : {A : Type 0} (m : Machine A) (ask : Ask) (kept : Objects) (plain : Outcome Objects) → true ≡ changes_store ask → Crash (Lost true) (would_leave (ComesToStore kept plain))
       → Crash (Lost true) (in_doubt_by (served (serving_of (Lost true)) m ask (course_in (with_objects m) (ComesToStore kept plain))))
   lost_in m ask kept (Answered after answer) says crash = subst (Crash (Lost true)) (sym (doubt_left m (with_objects m kept) (changes_store ask) (outcome_in (with_objects m) (Answered after answer)) says)) crash
-  lost_in m ask kept (Returned code outs) says crash = in_any kept_of moment left_since (Lost true) _ old new crash
-  lost_in m ask kept Panicked says crash = in_any kept_of moment left_since (Lost true) _ old new crash
+  lost_in m ask kept (Returned code outs) says crash = in_any K (Lost true) _ old new crash
+  lost_in m ask kept Panicked says crash = in_any K (Lost true) _ old new crash
 
   carried_in : {A : Type 0} (m : Machine A) (ask : Ask) (kind : TurnKind) (c : Course Objects) → SaysChange kind (changes_store ask) → Crash kind (would_leave c) → Crash kind (in_doubt_by (served (serving_of kind) m ask (course_in (with_objects m) c)))
   carried_in m ask Plain c says crash = record { any_moment = crash.any_moment; afterwards = crash.afterwards }
   carried_in m ask Corrupted c says crash = record { any_moment = crash.any_moment; afterwards = crash.afterwards }
   carried_in m ask (Lost false) c says crash = record { any_moment = crash.any_moment; afterwards = crash.afterwards }
-  carried_in m ask (Lost true) (Settled outcome) says crash = in_any kept_of moment left_since (Lost true) _ old new crash
+  carried_in m ask (Lost true) (Settled outcome) says crash = in_any K (Lost true) _ old new crash
   carried_in m ask (Lost true) (ComesToStore kept plain) says crash = lost_in m ask kept plain says crash
 
   pub carried_crash : {A : Type 0} (m : Machine A) (i : ℕ) (stage : Stage) (ask : Ask) (kind : TurnKind) → ((code : Code) (outs : Outs) → ask ≡ asked.Return code outs → ⊥) → SaysChange kind (changes_store ask)
@@ -50,5 +50,5 @@ module _ {D : Type 0} (kept_of : D → Kept) (moment : D → ℕ) (left_since : 
   -- the machine behind the ask has that store in doubt
   pub acted_crash : {A : Type 0} (m : Machine A) (inst : Instance A) (r : Running) (kind : TurnKind) (o : Outcome (Machine A)) → Crash kind (in_doubt_by o) → Crash kind (acted m inst r o).machine.in_doubt
   acted_crash m inst r kind (Answered after answer) crash = crash
-  acted_crash m inst r kind (Returned code outs) crash = in_any kept_of moment left_since kind _ old new crash
-  acted_crash m inst r kind Panicked crash = in_any kept_of moment left_since kind _ old new crash
+  acted_crash m inst r kind (Returned code outs) crash = in_any K kind _ old new crash
+  acted_crash m inst r kind Panicked crash = in_any K kind _ old new crash

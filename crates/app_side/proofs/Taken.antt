@@ -1,4 +1,5 @@
 -- An instance whose running entry is in hand keeps its place, and its turn is that of an instance with the entry.
+use Rattle.app_api.specs.Behaviours.{Behaviour}
 use Rattle.std.proofs.Common.{ℕ, ◌≡◌, List, Option, None, Some, find, get_or, get_or-set_same, length-set, set, set-set, sym, subst, ◌∙◌, ap, arith}
 use Rattle.app_api.specs.declared.ask.Ask.{Ask}
 use Rattle.app_api.specs.declared.ask.Given.{Given}
@@ -7,10 +8,9 @@ use Rattle.alone.specs.declared.running.Instance.{Instance}
 use Rattle.alone.specs.declared.running.Running.{Running}
 use Rattle.alone.specs.InList.{IsPlace}
 use Rattle.alone.specs.Machine.{Machine, is_number, put_instance}
-use Rattle.alone.specs.Plain.{idle, taken}
 use Rattle.alone.specs.Step.{Stepped, turned_by, went_on}
 use Rattle.alone.proofs.Lists.{find_put, put_put}
-use Rattle.alone.proofs.Taken.{went_on_taken}
+use Rattle.alone.proofs.Taken.{idle, taken, went_on_taken}
 
 -- an instance that is put where its number is keeps the place
 pub place_kept : {A : Type 0} (i : ℕ) (xs : List (Instance A)) (place : ℕ) (new : Instance A) → IsPlace i xs place → new.number ≡ i → IsPlace i (set xs place new) place
@@ -25,17 +25,19 @@ place_kept {A} i xs place new old same =
     }
 
 -- what holds of a turn whose running entry was taken out of its instance first
-pub go_on_turned : {A : Type 0} (next : A → Given → A) (asks : A → Given → Ask) (serving : Serving) (m : Machine A) (i place : ℕ) (x : Instance A) (left : Option Running) (r : Running) (P : Stepped A → Type 0)
+pub go_on_turned : {A : Type 0} (behaviour : Behaviour A) (serving : Serving) (m : Machine A) (i place : ℕ) (x : Instance A) (left : Option Running) (r : Running) (P : Stepped A → Type 0)
     → IsPlace i m.instances place → x ≡ get_or m.instances place x → left ≡ None → x.running ≡ Some r
-    → ((inst : Instance A) → find (is_number i) (set m.instances place (record x { running = left })) ≡ Some inst → inst.number ≡ i → P (went_on next asks serving (record m { instances = set m.instances place (record x { running = left }) }) inst r r.waits))
-    → (inst : Instance A) → find (is_number i) m.instances ≡ Some inst → P (turned_by next asks serving m inst inst.running)
-go_on_turned {A} next asks serving m i place x left r P at here none runs steps inst found =
+    → P (went_on behaviour serving (record m { instances = set m.instances place (record x { running = left }) }) (record x { running = left }) r r.waits)
+    → (inst : Instance A) → find (is_number i) m.instances ≡ Some inst → P (turned_by behaviour serving m inst inst.running)
+go_on_turned {A} behaviour serving m i place x left r P at here none runs steps inst found =
     let numbered : x.number ≡ i = ap (λ (y : Instance A). y.number) here ∙ at.named x in
     let there : find (is_number i) m.instances ≡ Some x = at.found x ∙ ap Some (sym here) in
     let both : Some x ≡ Some inst = sym there ∙ found in
     let same : x ≡ inst = cc in
-    let Steps : List (Instance A) → Type 0 = λ (xs : List (Instance A)). ((other : Instance A) → find (is_number i) xs ≡ Some other → other.number ≡ i → P (went_on next asks serving (record m { instances = xs }) other r r.waits)) in
-    let taken_steps : Steps (put_instance (idle x) m.instances) = subst Steps (ap (λ (o : Option Running). set m.instances place (record x { running = o })) none ∙ sym (at.put (idle x) numbered)) steps in
-    let goes : went_on next asks serving (taken m x) (idle x) r r.waits ≡ turned_by next asks serving m inst inst.running
-    = went_on_taken next asks serving m x r r.waits ∙ ap (turned_by next asks serving m x) (sym runs) ∙ ap (λ (y : Instance A). turned_by next asks serving m y y.running) same in
-    subst P goes (taken_steps (idle x) (find_put i (idle x) x m.instances numbered there) numbered)
+    let at_none : P (went_on behaviour serving (record m { instances = set m.instances place (idle x) }) (idle x) r r.waits)
+    = subst (λ (o : Option Running). P (went_on behaviour serving (record m { instances = set m.instances place (record x { running = o }) }) (record x { running = o }) r r.waits)) none steps in
+    let taken_steps : P (went_on behaviour serving (taken m x) (idle x) r r.waits)
+    = subst (λ (xs : List (Instance A)). P (went_on behaviour serving (record m { instances = xs }) (idle x) r r.waits)) (sym (at.put (idle x) numbered)) at_none in
+    let goes : went_on behaviour serving (taken m x) (idle x) r r.waits ≡ turned_by behaviour serving m inst inst.running
+    = went_on_taken behaviour serving m x r r.waits ∙ ap (turned_by behaviour serving m x) (sym runs) ∙ ap (λ (y : Instance A). turned_by behaviour serving m y y.running) same in
+    subst P goes taken_steps

@@ -1,4 +1,5 @@
 -- From what a turn leaves of a value to what it leaves of the machines that the value stands for.
+use Rattle.app_api.specs.Behaviours.{Behaviour}
 use Rattle.std.proofs.Common.{ℕ, Bool, true, false, cond, is_some, None, ◌≡◌, ◌+◌, ◌∙◌, List, Option, Some, find, sym, ap, subst, refl}
 use Rattle.tee_base.specs.declared.codes.Code.{Code}
 use Rattle.app_api.specs.declared.out.Outs.{Outs}
@@ -6,7 +7,7 @@ use Rattle.app_api.specs.declared.ask.Ask.{Ask}
 use Rattle.op_queue.specs.declared.operation.Begun.{Begun}
 use Rattle.op_queue.specs.Queue.{first_waiting, begun_at, after_begin}
 use Rattle.store_api.specs.declared.answer.StoreAnswer.{StoreAnswer}
-use Rattle.store_api.specs.Keeping.{Standing, Kept, Remains}
+use Rattle.store_api.specs.Keeping.{Keeper, Status}
 use Rattle.alone.specs.declared.running.Stage.{Stage}
 use Rattle.alone.specs.declared.running.Stage.TheVariants as stages
 use Rattle.app_api.specs.declared.ask.Answer.{Answer}
@@ -26,7 +27,7 @@ use Rattle.alone.specs.Machine.{Machine, is_number, with_instance}
 use Rattle.alone.specs.Step.{Stepped, acted, begun, begun_with, create_failed, is_success, start_begun, is_changing, may_stand, of_instance, of_running, of_waits, reaches, quiet, returned, step, thought, turned_as}
 use Rattle.app_side.specs.declared.side.AppSide.{AppSide}
 use Rattle.app_side.specs.Represents.{IsStep, IsTurned, Represents, event_of, machine_of, machine_over}
-use Rattle.object_asks.specs.Serving.{HasStanding, Meets, SaysChange, TriesOnce, serving_of}
+use Rattle.object_asks.specs.Serving.{HasStatus, Meets, SaysChange, TriesOnce, serving_of}
 use Rattle.app_side.specs.Serving.{IsTurnOf, changing, reaching}
 use Rattle.app_side.proofs.Carried.{reaching_is}
 use Rattle.alone.specs.declared.running.Waits.{Waits}
@@ -40,10 +41,10 @@ begins {A} old new given inst store doubt is none = record {
   replies = none;
 }
 
-pub thinks : {A : Type 0} (next : A → Given → A) (asks : A → Given → Ask) (old new : AppSide A) (given : List Reply) (inst : Instance A) (r : Running) (g : Given) (store doubt : Store) → machine_of new ≡ thought next asks (machine_of old) inst r g → given ≡ (quiet (machine_of new)).replies → IsStep new store given (quiet (thought next asks (machine_over old store doubt) inst r g))
-thinks {A} next asks old new given inst r g store doubt is none = record {
+pub thinks : {A : Type 0} (behaviour : Behaviour A) (old new : AppSide A) (given : List Reply) (inst : Instance A) (r : Running) (g : Given) (store doubt : Store) → machine_of new ≡ thought behaviour (machine_of old) inst r g → given ≡ (quiet (machine_of new)).replies → IsStep new store given (quiet (thought behaviour (machine_over old store doubt) inst r g))
+thinks {A} behaviour old new given inst r g store doubt is none = record {
   doubt = doubt;
-  machine = stands_over old new (λ (m : Machine A). quiet (thought next asks m inst r g)) (λ s d m. refl) is store doubt;
+  machine = stands_over old new (λ (m : Machine A). quiet (thought behaviour m inst r g)) (λ s d m. refl) is store doubt;
   replies = none;
 }
 
@@ -66,18 +67,18 @@ answers {A} old new given inst r answer store after stated is none same m =
     })
 
 -- the event of a turn of a kind is that turn
-pub event_is : {A : Type 0} (next : A → Given → A) (asks : A → Given → Ask) (m : Machine A) (kind : TurnKind) (i : ℕ) → turned_as next asks (serving_of kind) m i ≡ step next asks m (event_of kind i)
-event_is next asks m Plain i = refl
-event_is next asks m (Lost changes) i = refl
-event_is next asks m Corrupted i = refl
+pub event_is : {A : Type 0} (behaviour : Behaviour A) (m : Machine A) (kind : TurnKind) (i : ℕ) → turned_as behaviour (serving_of kind) m i ≡ step behaviour m (event_of kind i)
+event_is behaviour m Plain i = refl
+event_is behaviour m (Lost changes) i = refl
+event_is behaviour m Corrupted i = refl
 
 -- what holds of a turn over all objects holds of the step of each machine that the value stands for
-pub turn_stands : {A : Type 0} (next : A → Given → A) (asks : A → Given → Ask) (old : AppSide A) (kind : TurnKind) (i : ℕ) (before : Store) (P : Stepped A → Type 0)
-    → ((doubt : Store) → P (turned_as next asks (serving_of kind) (machine_over old before doubt) i))
-    → (m : Machine A) → Represents old m → m.store ≡ before → P (step next asks m (event_of kind i))
-turn_stands {A} next asks old kind i before P each m stands same =
-    subst P (event_is next asks m kind i)
-    (subst (λ (x : Machine A). P (turned_as next asks (serving_of kind) x i)) (sym (stands.parts ∙ ap (λ (s : Store). machine_over old s stands.doubt) same)) (each stands.doubt))
+pub turn_stands : {A : Type 0} (behaviour : Behaviour A) (old : AppSide A) (kind : TurnKind) (i : ℕ) (before : Store) (P : Stepped A → Type 0)
+    → ((doubt : Store) → P (turned_as behaviour (serving_of kind) (machine_over old before doubt) i))
+    → (m : Machine A) → Represents old m → m.store ≡ before → P (step behaviour m (event_of kind i))
+turn_stands {A} behaviour old kind i before P each m stands same =
+    subst P (event_is behaviour m kind i)
+    (subst (λ (x : Machine A). P (turned_as behaviour (serving_of kind) x i)) (sym (stands.parts ∙ ap (λ (s : Store). machine_over old s stands.doubt) same)) (each stands.doubt))
 
 pub step_store : {A : Type 0} (new : AppSide A) (store : Store) (given : List Reply) (s : Stepped A) → IsStep new store given s → s.machine.store ≡ store
 step_store {A} new store given s is = ap (λ (m : Machine A). m.store) (sym is.machine)
@@ -127,7 +128,7 @@ reaches_is : {A : Type 0} (old : AppSide A) (store doubt : Store) (i : ℕ) → 
 reaches_is old store doubt i = of_instance_same _ (λ made stage ask. comes_to_store (course_after made (machine_over old store doubt) i stage ask)) (find (is_number i) old.instances.items) (λ made stage ask. reaching_is (machine_over old store doubt) i made stage ask)
 
 -- the event of a turn may stand
-pub turn_may_stand : {A : Type 0} (old : AppSide A) (store : Store) (kind : TurnKind) (i : ℕ) (before after : Standing) → old.lost ≡ before.lost → HasStanding kind before after
+pub turn_may_stand : {A : Type 0} (old : AppSide A) (store : Store) (kind : TurnKind) (i : ℕ) (before after : Status) → old.lost ≡ before.lost → HasStatus kind before after
     → Meets kind (of_instance (reaching (record { store = store; handles = old.handles }) i) (find (is_number i) old.instances.items)) → (m : Machine A) → Represents old m → m.store ≡ store → may_stand m (event_of kind i) ≡ true
 turn_may_stand old store Plain i before after same stands meets m of_m kept = refl
 turn_may_stand {A} old store (Lost changes) i before after same stands meets m of_m kept =
@@ -138,13 +139,13 @@ turn_may_stand {A} old store Corrupted i before after same stands meets m of_m k
 pub turn_change : {A : Type 0} (old : AppSide A) (kind : TurnKind) (i : ℕ) → SaysChange kind (of_instance changing (find (is_number i) old.instances.items)) → (m : Machine A) → Represents old m → SaysChange kind (is_changing m i)
 turn_change {A} old kind i says m of_m = subst (λ (x : Machine A). SaysChange kind (is_changing x i)) (sym of_m.parts) says
 
-pub turn_tried : {A : Type 0} (old : AppSide A) (i : ℕ) (before after : Standing) → TriesOnce (of_instance changing (find (is_number i) old.instances.items)) before after → (m : Machine A) → Represents old m → TriesOnce (is_changing m i) before after
+pub turn_tried : {A : Type 0} (old : AppSide A) (i : ℕ) (before after : Status) → TriesOnce (of_instance changing (find (is_number i) old.instances.items)) before after → (m : Machine A) → Represents old m → TriesOnce (is_changing m i) before after
 turn_tried {A} old i before after tried m of_m = subst (λ (x : Machine A). TriesOnce (is_changing x i) before after) (sym of_m.parts) tried
 
-module _ {D : Type 0} (is_telling : Bool) (kept_of : D → Kept) (standing_of : D → Standing) (damage_of : D → StoreAnswer → Type 0) (IsHonest : D → Type 0) (moment : D → ℕ) (left_since : D → ℕ → Remains → Type 0) where
+module _ {D : Type 0} (K : Keeper D) where
   pub moves : (kind : TurnKind) (comes comes2 changes changes2 lost left left2 : Bool) (old new : D) → comes ≡ comes2 → changes ≡ changes2 → left ≡ left2
-      → IsTurnOf is_telling kept_of standing_of damage_of IsHonest moment left_since kind comes changes lost left old new → IsTurnOf is_telling kept_of standing_of damage_of IsHonest moment left_since kind comes2 changes2 lost left2 old new
+      → IsTurnOf K kind comes changes lost left old new → IsTurnOf K kind comes2 changes2 lost left2 old new
   moves kind comes comes2 changes changes2 lost left left2 old new c h l is =
-      subst (λ (b : Bool). IsTurnOf is_telling kept_of standing_of damage_of IsHonest moment left_since kind b changes2 lost left2 old new) c
-      (subst (λ (b : Bool). IsTurnOf is_telling kept_of standing_of damage_of IsHonest moment left_since kind comes b lost left2 old new) h
-      (subst (λ (b : Bool). IsTurnOf is_telling kept_of standing_of damage_of IsHonest moment left_since kind comes changes lost b old new) l is))
+      subst (λ (b : Bool). IsTurnOf K kind b changes2 lost left2 old new) c
+      (subst (λ (b : Bool). IsTurnOf K kind comes b lost left2 old new) h
+      (subst (λ (b : Bool). IsTurnOf K kind comes changes lost b old new) l is))

@@ -1,3 +1,5 @@
+pub mod Adder
+pub mod Asking
 pub mod Endless
 pub mod Probe
 pub mod Represents

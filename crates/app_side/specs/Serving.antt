@@ -1,14 +1,20 @@
 -- How a turn goes over a keeper of a store.
-use Rattle.std.specs.Prelude.{ℕ, nat_le, not, ◌&&◌, ◌≡◌, Bool, IsTrue, Option, None}
+use Rattle.std.specs.Prelude.{ℕ, nat_le, not, ◌&&◌, ◌≡◌, true, Bool, IfOk, OnErr, Option, None, Result}
+use Rattle.tee_base.specs.declared.bytes.NoMemory.{NoMemory}
+use Rattle.app_api.specs.Behaviours.{Behaviour}
 use Rattle.app_api.specs.declared.ask.Ask.{Ask}
-use Rattle.store_api.specs.declared.answer.StoreAnswer.{StoreAnswer}
-use Rattle.store_api.specs.Keeping.{Standing, Kept, Remains, LeavesNothingNew}
+use Rattle.store_api.specs.Keeping.{Keeper, LeavesJust}
 use Rattle.store_api.specs.Stores.{Store}
+use Rattle.object_asks.specs.declared.outcome.Served.{Served}
 use Rattle.object_asks.specs.declared.turn.TurnKind.{TurnKind}
-use Rattle.object_asks.specs.Asks.{Objects, Outcome, Answered, Returned, Panicked, changes_store, comes_to_store, object_course}
-use Rattle.object_asks.specs.Serving.{HasStanding, IsUndamaged, Meets, SaysChange, ShowsDamage, StaysBeside}
+use Rattle.object_asks.specs.Asks.{Objects, Outcome, Answered, Returned, Panicked, Serving, changes_store, comes_to_store, object_course}
+use Rattle.object_asks.specs.Serving.{CrashTurns, EndsUnchanged, HasStatus, IsKept, IsUndamaged, Meets, SaysChange, ShowsDamage, TriesOnce, UnlessAnswered, serving_of}
+use Rattle.alone.specs.declared.reply.Reply.{Reply}
 use Rattle.alone.specs.declared.running.Stage.{Stage}
 use Rattle.alone.specs.Machine.{Machine}
+use Rattle.alone.specs.Step.{Stepped, is_changing, may_stand, step}
+use Rattle.app_side.specs.declared.side.AppSide.{AppSide}
+use Rattle.app_side.specs.Represents.{IsLeft, IsStep, Represents, event_of, is_lost, machine_over}
 
 -- the ask that an instance makes after so many comes to the store
 abbrev pub reaching : Objects → ℕ → ℕ → Stage → Ask → Bool
@@ -24,17 +30,62 @@ in_doubt_by (Answered after answer) = after.in_doubt
 in_doubt_by (Returned code outs) = None
 in_doubt_by Panicked = None
 
--- the members of a keeper: whether it tells what it keeps, what that is, how it stands, what damage there is, whether it is honest,
--- its clock, and what a crash may leave of it
-module _ {D : Type 0} (is_telling : Bool) (kept_of : D → Kept) (standing_of : D → Standing) (damage_of : D → StoreAnswer → Type 0) (IsHonest : D → Type 0) (moment : D → ℕ) (left_since : D → ℕ → Remains → Type 0) where
+module _ {D : Type 0} (K : Keeper D) where
   -- how the store did in a turn, where the ask that waits comes to it, and changes it, as these say: the value's own note of the
   -- loss, before and after, goes with the store's
   pub record IsTurnOf (kind : TurnKind) (comes changes : Bool) (is_lost is_lost_after : Bool) (old new : D) : Type 0 where
-    pub beside : IsTrue is_telling → StaysBeside (kept_of old) (kept_of new)
-    pub stands : IsTrue is_telling → Meets kind comes
+    pub stands : K.has_model old → Meets kind comes
     pub change : SaysChange kind changes
-    pub standing : HasStanding kind (standing_of old) (standing_of new)
-    pub damage : ShowsDamage kind (damage_of new)
-    pub honest : IsHonest old → IsHonest new × IsUndamaged kind
-    pub quiet : IsTrue (standing_of old).lost → LeavesNothingNew moment left_since old new
-    pub lost : is_lost ≡ (standing_of old).lost → is_lost_after ≡ (standing_of new).lost
+    pub status : HasStatus kind (K.status old) (K.status new)
+    pub damage : ShowsDamage kind (K.damage new)
+    pub honest : K.honest old → K.honest new × IsUndamaged kind
+    pub keeps : IsKept K old new
+    pub lost : is_lost ≡ (K.status old).lost → is_lost_after ≡ (K.status new).lost
+
+  -- an ask that was carried out, where stated says what comes of it for a machine when the store does so: what it leaves, or that
+  -- there was no memory
+  pub record CarriesOut {A : Type 0} (stated : Serving → Machine A → Outcome (Machine A)) (comes changes : Bool) (result : Result Served NoMemory) (before after : AppSide A) (old new : D) : Type 0 where
+    pub left : IfOk result (λ done. K.has_model old → is_lost before ≡ (K.status old).lost → (doubt : Store)
+        → IsLeft done.outcome (stated (serving_of done.kind) (machine_over before (K.contents old).store doubt)) after (K.contents new).store doubt (machine_over before (K.contents old).store doubt))
+    pub kind : IfOk result (λ done. IsTurnOf done.kind comes changes (is_lost before) (is_lost after) old new)
+    pub crash : IfOk result (λ done. K.honest old → LeavesJust K old (K.contents old) → (doubt : Store)
+        → CrashTurns K done.kind (in_doubt_by (stated (serving_of done.kind) (machine_over before (K.contents old).store doubt))) old new)
+    pub ends : IfOk result (λ done. UnlessAnswered done.outcome (EndsUnchanged K old new))
+    pub tried : TriesOnce changes (K.status old) (K.status new)
+    pub want : OnErr result (EndsUnchanged K old new)
+    pub instances : IfOk result (λ done. after.instances ≡ before.instances)
+
+  -- a turn, or a part of one, where stated is its step for a machine when the store does so: the step and its replies, how the
+  -- store did, or that there was no memory
+  pub record TakesTurn {A : Type 0} (stated : Serving → Machine A → Stepped A) (comes changes : Bool) (result : Result TurnKind NoMemory) (before after : AppSide A) (replies : List Reply) (old new : D) : Type 0 where
+    pub step : IfOk result (λ kind. K.has_model old → is_lost before ≡ (K.status old).lost → (doubt : Store)
+        → IsStep after (K.contents new).store replies (stated (serving_of kind) (machine_over before (K.contents old).store doubt)))
+    pub kind : IfOk result (λ kind. IsTurnOf kind comes changes (is_lost before) (is_lost after) old new)
+    pub crash : IfOk result (λ kind. K.honest old → LeavesJust K old (K.contents old) → (doubt : Store)
+        → CrashTurns K kind (stated (serving_of kind) (machine_over before (K.contents old).store doubt)).machine.in_doubt old new)
+    pub tried : TriesOnce changes (K.status old) (K.status new)
+    pub want : OnErr result (EndsUnchanged K old new)
+
+  -- what a turn of an instance promises of a value that represents machines, of this kind and with these replies
+  pub record IsTurn {A : Type 0} (behaviour : Behaviour A) (instance : ℕ) (kind : TurnKind) (replies : List Reply) (before after : AppSide A) (old new : D) : Type 0 where
+    -- it is one step of every machine over the keeper's store, by the event of its kind, which may stand there
+    pub step : K.has_model old → (m : Machine A) → Represents before m → m.store ≡ (K.contents old).store
+        → Represents after (step behaviour m (event_of kind instance)).machine
+    pub store : K.has_model old → (m : Machine A) → Represents before m → m.store ≡ (K.contents old).store
+        → (step behaviour m (event_of kind instance)).machine.store ≡ (K.contents new).store
+    pub replies : K.has_model old → (m : Machine A) → Represents before m → m.store ≡ (K.contents old).store
+        → replies ≡ (step behaviour m (event_of kind instance)).replies
+    pub stands : K.has_model old → (m : Machine A) → Represents before m → m.store ≡ (K.contents old).store
+        → may_stand m (event_of kind instance) ≡ true
+    -- a lost turn says whether a change is in doubt
+    pub change : (m : Machine A) → Represents before m → SaysChange kind (is_changing m instance)
+    -- it is lost exactly where a call of the store failed, and damaged exactly where one told of damage
+    pub status : HasStatus kind (K.status old) (K.status new)
+    pub damage : ShowsDamage kind (K.damage new)
+    pub honest : K.honest old → K.honest new × IsUndamaged kind
+    pub lost : is_lost after ≡ (K.status new).lost
+    -- all that is kept beside the store stays
+    pub keeps : IsKept K old new
+    -- a crash within it leaves what was kept before it or the store after it; of a lost turn with a change, the one in doubt
+    pub crash : K.honest old → LeavesJust K old (K.contents old) → (m : Machine A) → Represents before m → m.store ≡ (K.contents old).store
+        → CrashTurns K kind (step behaviour m (event_of kind instance)).machine.in_doubt old new

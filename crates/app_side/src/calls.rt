@@ -10,6 +10,7 @@ use crate::side::{AppSide, Called};
 use alone::{Call, Instance, Outputs, Replies, Reply};
 use app_api::{Application, Params};
 use instances::{Admission, SessionState};
+use op_queue::QueueAnswer;
 use tee_base::{Code, NoMemory, Origin};
 
 impl<A: Application> AppSide<A> {
@@ -50,7 +51,8 @@ impl<A: Application> AppSide<A> {
                 instance,
                 replies: Replies::none(),
             }),
-            Err(_) => Err(NoMemory),
+            Err(QueueAnswer::Full) => unreachable!(),
+            Err(QueueAnswer::NoMemory) => Err(NoMemory),
         }
     }
 

@@ -1,15 +1,15 @@
 //! The calls of a running application, each of them a step of every machine that the value represents.
 
-ghost use Rattle.std.specs.Prelude.{◌≡◌, IfOk, OnOk, OnErr, IsTrue, false, true};
-ghost use Rattle.store_api.specs.Keeping.{LeavesJust, LeavesNothingNew};
+ghost use Rattle.std.specs.Prelude.{◌≡◌, IfOk, OnErr, false, true};
 ghost use Rattle.store_api.specs.Stores.{Store};
+ghost use Rattle.object_asks.specs.Serving.{EndsUnchanged, TriesOnce};
 ghost use Rattle.alone.specs.Machine.{Machine, start};
-ghost use Rattle.alone.specs.Step.{called, is_answered, is_changing, may_stand, step, Lost};
-ghost use Rattle.app_side.specs.Represents.{event_of, is_lost, Represents, IsOneInstance};
-ghost use Rattle.object_asks.specs.Serving.{CrashTurns, EndsUnchanged, HasStanding, IsUndamaged, SaysChange, ShowsDamage, StaysBeside, TriesOnce};
+ghost use Rattle.alone.specs.Step.{called, is_answered, is_changing, step, Lost};
+ghost use Rattle.app_side.specs.Represents.{is_lost, Represents, IsOneInstance};
+ghost use Rattle.app_side.specs.Serving.{IsTurn};
 
 use crate::side::{AppSide, Called, Turned};
-use alone::Call;
+use alone::{Call, Replies};
 use app_api::{Application, Host};
 use instances::Instances;
 use object_asks::Handles;
@@ -75,32 +75,29 @@ impl<A: Application> AppSide<A> {
     /// Want of memory ends the run: the entry that ran is gone. No call of the store failed then, and it keeps what it kept, since
     /// a turn takes all its memory before it asks for a change.
     pub fn turn<T: AppStore>(&mut self, instance: u8, store: &mut T) -> Result<Turned, NoMemory>
-        requires { is_lost self.old ≡ (T.standing store.old).lost }
-        ensures step { IfOk result (λ turned. IsTrue T.tells → (m : Machine A) → Represents self.old m → m.store ≡ (T.kept store.old).store → Represents self.new (step A.next A.asks m (event_of turned.kind instance)).machine) }
-        ensures store { IfOk result (λ turned. IsTrue T.tells → (m : Machine A) → Represents self.old m → m.store ≡ (T.kept store.old).store → (step A.next A.asks m (event_of turned.kind instance)).machine.store ≡ (T.kept store.new).store) }
-        ensures replies { IfOk result (λ turned. IsTrue T.tells → (m : Machine A) → Represents self.old m → m.store ≡ (T.kept store.old).store → turned.replies ≡ (step A.next A.asks m (event_of turned.kind instance)).replies) }
-        ensures stands { IfOk result (λ turned. IsTrue T.tells → (m : Machine A) → Represents self.old m → m.store ≡ (T.kept store.old).store → may_stand m (event_of turned.kind instance) ≡ true) }
-        ensures change { IfOk result (λ turned. (m : Machine A) → Represents self.old m → SaysChange turned.kind (is_changing m instance)) }
-        ensures standing { IfOk result (λ turned. HasStanding turned.kind (T.standing store.old) (T.standing store.new)) }
-        ensures tried { (m : Machine A) → Represents self.old m → TriesOnce (is_changing m instance) (T.standing store.old) (T.standing store.new) }
-        ensures want { OnErr result (EndsUnchanged T.tells T.kept T.standing T.damage T.honest T.moment T.left_since store.old store.new) }
-        ensures beside { IfOk result (λ turned. IsTrue T.tells → StaysBeside (T.kept store.old) (T.kept store.new)) }
-        ensures damage { IfOk result (λ turned. ShowsDamage turned.kind (T.damage store.new)) }
-        ensures honest { IfOk result (λ turned. T.honest store.old → T.honest store.new × IsUndamaged turned.kind) }
-        ensures lost { OnOk result (is_lost self.new ≡ (T.standing store.new).lost) }
-        ensures quiet { IfOk result (λ turned. IsTrue (T.standing store.old).lost → LeavesNothingNew T.moment T.left_since store.old store.new) }
-        ensures crash { IfOk result (λ turned. T.honest store.old → LeavesJust T.moment T.left_since store.old (T.kept store.old) → (m : Machine A) → Represents self.old m → m.store ≡ (T.kept store.old).store → CrashTurns T.kept T.moment T.left_since turned.kind (step A.next A.asks m (event_of turned.kind instance)).machine.in_doubt store.old store.new) }
+        requires { is_lost self.old ≡ (T.keeper.status store.old).lost }
+        ensures turn {
+            IfOk result (λ turned. IsTurn T.keeper A.behaviour instance turned.kind turned.replies
+            self.old self.new store.old store.new)
+        }
+        ensures tried {
+            (m : Machine A) → Represents self.old m
+            → TriesOnce (is_changing m instance) (T.keeper.status store.old) (T.keeper.status store.new)
+        }
+        ensures want { OnErr result (EndsUnchanged T.keeper store.old store.new) }
     {
         if self.turns >= MOST {
             return Err(NoMemory);
         }
-        self.advance(store, instance)
+        let mut replies = Replies::none();
+        let kind = self.advance(store, instance, &mut replies)?;
+        Ok(Turned { kind, replies })
     }
 
     /// The storage is lost, for a reason that lies outside of this application.
     pub fn lose(&mut self)
         requires { is_lost self.old ≡ false }
-        ensures step { (m : Machine A) → Represents self.old m → Represents self.new (step A.next A.asks m Lost).machine }
+        ensures step { (m : Machine A) → Represents self.old m → Represents self.new (step A.behaviour m Lost).machine }
         ensures lost { is_lost self.new ≡ true }
     {
         self.lost = true;

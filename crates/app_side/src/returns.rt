@@ -1,6 +1,6 @@
 //! What the return of an entry does.
 
-ghost use Rattle.std.specs.Prelude.{◌≡◌, ℕ, ◌<◌, ◌≤◌, ◌==◌, [], ◌∷◌, true, if◌then◌else◌, IfOk, OnOk, Some, map, filter, find, length, not};
+ghost use Rattle.std.specs.Prelude.{◌≡◌, ℕ, ◌<◌, ◌≤◌, ◌==◌, [], ◌∷◌, true, if◌then◌else◌, OnOk, Some, map, filter, find, length, not};
 ghost use Rattle.instances.specs.Instances.{state_set, session_removed};
 ghost use Rattle.op_queue.specs.declared.operation.Operation.{Operation};
 ghost use Rattle.alone.specs.declared.running.Instance.{Instance};
@@ -18,10 +18,19 @@ use op_queue::Operation;
 use tee_base::{Code, NoMemory, Origin};
 
 /// The replies to the operations of an instance whose create entry failed.
-fn failures(operations: &[Operation], instance: u8, code: Code) -> Result<Replies, NoMemory>
-    ensures { IfOk result (λ replies. replies ≡ map (λ o. reply_of o.number code Origin.App no_outputs) (filter (belongs_to instance) operations.now)) }
+fn failures(
+    operations: &[Operation],
+    instance: u8,
+    code: Code,
+    replies: &mut Replies,
+) -> Result<(), NoMemory>
+    requires { replies.old ≡ [] }
+    ensures {
+        OnOk result (replies.new
+        ≡ map (λ o. reply_of o.number code Origin.App no_outputs)
+        (filter (belongs_to instance) operations.now))
+    }
 {
-    let mut replies = Replies::none();
     for operation in operations {
         if operation.instance == instance {
             // More than these can't wait: sixteen operations, and a close for each session.
@@ -36,7 +45,19 @@ fn failures(operations: &[Operation], instance: u8, code: Code) -> Result<Replie
             });
         }
     }
-    Ok(replies)
+    Ok(())
+}
+
+/// A reply that the application itself gives.
+fn own_reply(op: u64, code: Code, outputs: Outputs) -> Reply
+    ensures { result ≡ reply_of op code Origin.App outputs }
+{
+    Reply {
+        op,
+        code,
+        origin: Origin::App,
+        outputs,
+    }
 }
 
 fn is_success(code: Code) -> bool
@@ -54,18 +75,25 @@ fn leave_out<A: Drop>(instances: &mut Vec<Instance<A>>, number: u8)
 
 impl<A: Application> AppSide<A> {
     /// The operation is answered, and its instance runs nothing any more.
-    fn answer(&mut self, place: usize, number: u8, op: u64, code: Code, outputs: Outputs) -> Replies
-        requires { IsPlace number self.old.instances.items place }
-        ensures { (inst : Instance A) → find (is_number number) self.old.instances.items ≡ Some inst → IsTurned self.new result (answered (machine_of self.old) inst op code outputs) }
+    fn answer(
+        &mut self,
+        place: usize,
+        number: u8,
+        reply: Reply,
+        replies: &mut Replies,
+    )
+        requires place { IsPlace number self.old.instances.items place }
+        requires none { replies.old ≡ [] }
+        requires origin { reply.origin ≡ Origin.App }
+        ensures {
+            (inst : Instance A) → find (is_number number) self.old.instances.items ≡ Some inst
+            → IsTurned self.new replies.new
+            (answered (machine_of self.old) inst reply.op reply.code reply.outputs)
+        }
     {
         self.instances[place].running = None;
-        self.queue.answer(op);
-        Replies::one(Reply {
-            op,
-            code,
-            origin: Origin::App,
-            outputs,
-        })
+        self.queue.answer(reply.op);
+        replies.push(reply);
     }
 
     /// The start entry of the operation begins, behind a create entry that succeeded.
@@ -88,15 +116,19 @@ impl<A: Application> AppSide<A> {
     }
 
     /// A create entry failed, and with it the instance.
-    fn fail(&mut self, number: u8, code: Code) -> Result<Replies, NoMemory>
-        ensures { IfOk result (λ given. (inst : Instance A) → inst.number ≡ number → IsTurned self.new given (create_failed (machine_of self.old) inst code)) }
+    fn fail(&mut self, number: u8, code: Code, replies: &mut Replies) -> Result<(), NoMemory>
+        requires { replies.old ≡ [] }
+        ensures {
+            OnOk result ((inst : Instance A) → inst.number ≡ number
+            → IsTurned self.new replies.new (create_failed (machine_of self.old) inst code))
+        }
     {
-        let replies = failures(self.queue.operations(), number, code)?;
+        failures(self.queue.operations(), number, code, replies)?;
         self.queue.clear(number);
         self.table.end(number);
         self.handles.close_all(number);
         leave_out(&mut self.instances, number);
-        Ok(replies)
+        Ok(())
     }
 
     /// A start entry returned: its session is open, or gone.
@@ -118,31 +150,41 @@ impl<A: Application> AppSide<A> {
         op: u64,
         stage: Stage,
         ending: Ending,
-    ) -> Result<Replies, NoMemory>
-        requires { IsPlace number self.old.instances.items place }
-        ensures { IfOk result (λ given. (inst : Instance A) → find (is_number number) self.old.instances.items ≡ Some inst → inst.number ≡ number → IsTurned self.new given (returned (machine_of self.old) inst op stage ending.code ending.outs)) }
+        replies: &mut Replies,
+    ) -> Result<(), NoMemory>
+        requires place { IsPlace number self.old.instances.items place }
+        requires none { replies.old ≡ [] }
+        ensures {
+            OnOk result ((inst : Instance A) → find (is_number number) self.old.instances.items ≡ Some inst
+            → inst.number ≡ number
+            → IsTurned self.new replies.new
+            (returned (machine_of self.old) inst op stage ending.code ending.outs))
+        }
     {
         let code = ending.code;
         match stage {
             Stage::Create { session, params } => {
                 if is_success(code) {
-                    self.start(place, number, op, session, params)?;
-                    return Ok(Replies::none());
+                    return self.start(place, number, op, session, params);
                 }
-                self.fail(number, code)
+                self.fail(number, code, replies)
             }
             Stage::Start { session, places } => {
                 let outputs = deliver(self.alloc, places, ending.outs);
                 self.end_start(session, code);
-                Ok(self.answer(place, number, op, code, outputs))
+                self.answer(place, number, own_reply(op, code, outputs), replies);
+                Ok(())
             }
             Stage::Invoke { places, .. } => {
                 let outputs = deliver(self.alloc, places, ending.outs);
-                Ok(self.answer(place, number, op, code, outputs))
+                self.answer(place, number, own_reply(op, code, outputs), replies);
+                Ok(())
             }
             Stage::Stop { session } => {
                 self.table.remove(session);
-                Ok(self.answer(place, number, op, Code::SUCCESS, Outputs::nothing()))
+                let reply = own_reply(op, Code::SUCCESS, Outputs::nothing());
+                self.answer(place, number, reply, replies);
+                Ok(())
             }
         }
     }

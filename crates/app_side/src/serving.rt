@@ -1,14 +1,12 @@
 //! What an instance asks for is carried out.
 
-ghost use Rattle.std.specs.Prelude.{◌≡◌, IfOk, OnOk, OnErr, IsTrue};
-ghost use Rattle.store_api.specs.Keeping.{LeavesJust};
-ghost use Rattle.store_api.specs.Stores.{Store};
+ghost use Rattle.std.specs.Prelude.{◌≡◌};
 ghost use Rattle.object_asks.specs.Asks.{changes_store, comes_to_store, object_course};
+ghost use Rattle.object_asks.specs.Serving.{objects_in};
 ghost use Rattle.alone.specs.Asks.{course};
 ghost use Rattle.alone.specs.Step.{served};
-ghost use Rattle.app_side.specs.Represents.{is_lost, machine_over, noted, IsLeft};
-ghost use Rattle.object_asks.specs.Serving.{serving_of, objects_in, CrashTurns, EndsUnchanged, TriesOnce, UnlessAnswered};
-ghost use Rattle.app_side.specs.Serving.{in_doubt_by, IsTurnOf};
+ghost use Rattle.app_side.specs.Represents.{noted};
+ghost use Rattle.app_side.specs.Serving.{CarriesOut};
 
 use crate::side::AppSide;
 use alone::{Stage, TurnKind, returned};
@@ -36,13 +34,12 @@ impl<A: Application> AppSide<A> {
         stage: &Stage,
         ask: Ask,
     ) -> Result<Served, NoMemory>
-        ensures left { IfOk result (λ done. IsTrue T.tells → is_lost self.old ≡ (T.standing store.old).lost → (doubt : Store) → IsLeft done.outcome (served (serving_of done.kind) (machine_over self.old (T.kept store.old).store doubt) ask (course (machine_over self.old (T.kept store.old).store doubt) instance stage.now ask)) self.new (T.kept store.new).store doubt (machine_over self.old (T.kept store.old).store doubt)) }
-        ensures kind { IfOk result (λ done. IsTurnOf T.tells T.kept T.standing T.damage T.honest T.moment T.left_since done.kind (comes_to_store (object_course (objects_in self.old.handles (T.kept store.old)) instance ask)) (changes_store ask) (is_lost self.old) (is_lost self.new) store.old store.new) }
-        ensures crash { IfOk result (λ done. T.honest store.old → LeavesJust T.moment T.left_since store.old (T.kept store.old) → (doubt : Store) → CrashTurns T.kept T.moment T.left_since done.kind (in_doubt_by (served (serving_of done.kind) (machine_over self.old (T.kept store.old).store doubt) ask (course (machine_over self.old (T.kept store.old).store doubt) instance stage.now ask))) store.old store.new) }
-        ensures ends { IfOk result (λ done. UnlessAnswered done.outcome (EndsUnchanged T.tells T.kept T.standing T.damage T.honest T.moment T.left_since store.old store.new)) }
-        ensures tried { TriesOnce (changes_store ask) (T.standing store.old) (T.standing store.new) }
-        ensures want { OnErr result (EndsUnchanged T.tells T.kept T.standing T.damage T.honest T.moment T.left_since store.old store.new) }
-        ensures instances { OnOk result (self.new.instances ≡ self.old.instances) }
+        ensures {
+            let before = objects_in self.old.handles (T.keeper.contents store.old)
+            in CarriesOut T.keeper (λ serving m. served serving m ask (course m instance stage.now ask))
+            (comes_to_store (object_course before instance ask)) (changes_store ask)
+            result self.old self.new store.old store.new
+        }
     {
         match ask {
             Ask::Return { code, outs } => Ok(returned(stage, code, outs)),

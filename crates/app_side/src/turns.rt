@@ -1,19 +1,18 @@
 //! Turns of an instance.
 
-ghost use Rattle.std.specs.Prelude.{◌≡◌, ℕ, ◌<◌, ◌^◌, ◌+◌, IfOk, OnOk, OnErr, IsTrue, Some, find, length};
-ghost use Rattle.store_api.specs.Keeping.{LeavesJust};
-ghost use Rattle.store_api.specs.Stores.{Store};
+ghost use Rattle.std.specs.Prelude.{◌≡◌, ℕ, ◌<◌, ◌^◌, ◌+◌, [], OnOk, Some, find, length};
 ghost use Rattle.object_asks.specs.Asks.{changes_store};
+ghost use Rattle.object_asks.specs.Serving.{objects_in};
 ghost use Rattle.alone.specs.declared.running.Instance.{Instance};
 ghost use Rattle.alone.specs.declared.running.Waits.{Waits};
 ghost use Rattle.alone.specs.Machine.{is_number, with_instance};
 ghost use Rattle.alone.specs.Step.{begun, of_instance, of_waits, thought, turned_as, turned_by, went_on};
 ghost use Rattle.alone.specs.InList.{IsPlace};
-ghost use Rattle.app_side.specs.Represents.{is_lost, machine_of, machine_over, IsStep};
-ghost use Rattle.object_asks.specs.Serving.{objects_in, serving_of, CrashTurns, EndsUnchanged, TriesOnce};
-ghost use Rattle.app_side.specs.Serving.{changing, reaching, IsTurnOf};
+ghost use Rattle.app_side.specs.Represents.{machine_of};
+ghost use Rattle.app_side.specs.Serving.{changing, reaching, TakesTurn};
+ghost use Rattle.app_side.specs.Asking.{asked_turn, comes};
 
-use crate::side::{AppSide, Turned};
+use crate::side::AppSide;
 use alone::{Replies, Running, Stage, TurnKind, Waits, first_entry, not_built, place_of};
 use app_api::{Answer, Application, Ask, Given};
 use object_asks::{Outcome, Served};
@@ -27,17 +26,6 @@ struct Asked {
     stage: Stage,
     asks: u32,
     ask: Ask,
-}
-
-/// A turn in which the store had no part, or served.
-fn plain(replies: Replies) -> Turned
-    ensures kind { result.kind ≡ TurnKind.Plain }
-    ensures replies { result.replies ≡ replies }
-{
-    Turned {
-        kind: TurnKind::Plain,
-        replies,
-    }
 }
 
 impl<A: Application> AppSide<A> {
@@ -67,7 +55,7 @@ impl<A: Application> AppSide<A> {
         given: Given,
     ) -> Result<(), NoMemory>
         requires { place < length self.old.instances.items }
-        ensures { OnOk result ((number : ℕ) → IsPlace number self.old.instances.items place → (inst : Instance A) → find (is_number number) self.old.instances.items ≡ Some inst → (waits : Waits) → machine_of self.new ≡ thought A.next A.asks (machine_of self.old) inst (record { op = op; stage = stage; waits = waits; asks = asks }) given) }
+        ensures { OnOk result ((number : ℕ) → IsPlace number self.old.instances.items place → (inst : Instance A) → find (is_number number) self.old.instances.items ≡ Some inst → (waits : Waits) → machine_of self.new ≡ thought A.behaviour (machine_of self.old) inst (record { op = op; stage = stage; waits = waits; asks = asks }) given) }
     {
         let alloc = self.alloc;
         let current = &mut self.instances[place];
@@ -101,13 +89,16 @@ impl<A: Application> AppSide<A> {
         place: usize,
         number: u8,
         running: Asked,
-    ) -> Result<Turned, NoMemory>
-        requires { IsPlace number self.old.instances.items place }
-        ensures step { IfOk result (λ turned. IsTrue T.tells → is_lost self.old ≡ (T.standing store.old).lost → (doubt : Store) (inst : Instance A) → find (is_number number) self.old.instances.items ≡ Some inst → inst.number ≡ number → IsStep self.new (T.kept store.new).store turned.replies (went_on A.next A.asks (serving_of turned.kind) (machine_over self.old (T.kept store.old).store doubt) inst (record { op = running.op; stage = running.stage; waits = Waits.Ask running.ask; asks = running.asks }) (Waits.Ask running.ask))) }
-        ensures crash { IfOk result (λ turned. T.honest store.old → LeavesJust T.moment T.left_since store.old (T.kept store.old) → (doubt : Store) (inst : Instance A) → find (is_number number) self.old.instances.items ≡ Some inst → inst.number ≡ number → CrashTurns T.kept T.moment T.left_since turned.kind (went_on A.next A.asks (serving_of turned.kind) (machine_over self.old (T.kept store.old).store doubt) inst (record { op = running.op; stage = running.stage; waits = Waits.Ask running.ask; asks = running.asks }) (Waits.Ask running.ask)).machine.in_doubt store.old store.new) }
-        ensures kind { IfOk result (λ turned. IsTurnOf T.tells T.kept T.standing T.damage T.honest T.moment T.left_since turned.kind (reaching (objects_in self.old.handles (T.kept store.old)) number running.asks running.stage running.ask) (changes_store running.ask) (is_lost self.old) (is_lost self.new) store.old store.new) }
-        ensures tried { TriesOnce (changes_store running.ask) (T.standing store.old) (T.standing store.new) }
-        ensures want { OnErr result (EndsUnchanged T.tells T.kept T.standing T.damage T.honest T.moment T.left_since store.old store.new) }
+        replies: &mut Replies,
+    ) -> Result<TurnKind, NoMemory>
+        requires place { IsPlace number self.old.instances.items place }
+        requires none { replies.old ≡ [] }
+        ensures {
+            (inst : Instance A) → find (is_number number) self.old.instances.items ≡ Some inst
+            → TakesTurn T.keeper (λ serving m. asked_turn A.behaviour serving m inst running)
+            (comes self.old number (T.keeper.contents store.old) running)
+            (changes_store running.ask) result self.old self.new replies.new store.old store.new
+        }
     {
         let Asked {
             op,
@@ -116,25 +107,22 @@ impl<A: Application> AppSide<A> {
             ask,
         } = running;
         if asks >= limits::ASKS {
-            let replies = self.end_entry(place, number, op, stage, not_built())?;
-            return Ok(plain(replies));
+            self.end_entry(place, number, op, stage, not_built(), replies)?;
+            return Ok(TurnKind::Plain);
         }
         let Served { kind, outcome } = self.carry_out(store, number, &stage, ask)?;
         match outcome {
             Outcome::Answered(answer) => {
                 self.answer_next(place, op, stage, asks + 1, answer);
-                Ok(Turned {
-                    kind,
-                    replies: Replies::none(),
-                })
+                Ok(kind)
             }
             Outcome::Returned(ending) => {
-                let replies = self.end_entry(place, number, op, stage, ending)?;
-                Ok(Turned { kind, replies })
+                self.end_entry(place, number, op, stage, ending, replies)?;
+                Ok(kind)
             }
             Outcome::Panicked => {
-                let replies = self.end_entry(place, number, op, stage, not_built())?;
-                Ok(Turned { kind, replies })
+                self.end_entry(place, number, op, stage, not_built(), replies)?;
+                Ok(kind)
             }
         }
     }
@@ -146,13 +134,18 @@ impl<A: Application> AppSide<A> {
         place: usize,
         number: u8,
         running: Running,
-    ) -> Result<Turned, NoMemory>
-        requires { IsPlace number self.old.instances.items place }
-        ensures step { IfOk result (λ turned. IsTrue T.tells → is_lost self.old ≡ (T.standing store.old).lost → (doubt : Store) (inst : Instance A) → find (is_number number) self.old.instances.items ≡ Some inst → inst.number ≡ number → IsStep self.new (T.kept store.new).store turned.replies (went_on A.next A.asks (serving_of turned.kind) (machine_over self.old (T.kept store.old).store doubt) inst running running.waits)) }
-        ensures crash { IfOk result (λ turned. T.honest store.old → LeavesJust T.moment T.left_since store.old (T.kept store.old) → (doubt : Store) (inst : Instance A) → find (is_number number) self.old.instances.items ≡ Some inst → inst.number ≡ number → CrashTurns T.kept T.moment T.left_since turned.kind (went_on A.next A.asks (serving_of turned.kind) (machine_over self.old (T.kept store.old).store doubt) inst running running.waits).machine.in_doubt store.old store.new) }
-        ensures kind { IfOk result (λ turned. IsTurnOf T.tells T.kept T.standing T.damage T.honest T.moment T.left_since turned.kind (of_waits (reaching (objects_in self.old.handles (T.kept store.old)) number) running running.waits) (of_waits changing running running.waits) (is_lost self.old) (is_lost self.new) store.old store.new) }
-        ensures tried { TriesOnce (of_waits changing running running.waits) (T.standing store.old) (T.standing store.new) }
-        ensures want { OnErr result (EndsUnchanged T.tells T.kept T.standing T.damage T.honest T.moment T.left_since store.old store.new) }
+        replies: &mut Replies,
+    ) -> Result<TurnKind, NoMemory>
+        requires place { IsPlace number self.old.instances.items place }
+        requires none { replies.old ≡ [] }
+        ensures {
+            (inst : Instance A) → find (is_number number) self.old.instances.items ≡ Some inst
+            → TakesTurn T.keeper (λ serving m. went_on A.behaviour serving m inst running running.waits)
+            (of_waits (reaching (objects_in self.old.handles (T.keeper.contents store.old)) number)
+            running running.waits)
+            (of_waits changing running running.waits)
+            result self.old self.new replies.new store.old store.new
+        }
     {
         let Running {
             op,
@@ -163,19 +156,17 @@ impl<A: Application> AppSide<A> {
         match waits {
             Waits::Given(given) => {
                 self.think(place, op, stage, asks, given)?;
-                Ok(plain(Replies::none()))
+                Ok(TurnKind::Plain)
             }
-            Waits::Ask(ask) => self.act(
-                store,
-                place,
-                number,
-                Asked {
+            Waits::Ask(ask) => {
+                let asked = Asked {
                     op,
                     stage,
                     asks,
                     ask,
-                },
-            ),
+                };
+                self.act(store, place, number, asked, replies)
+            }
         }
     }
 
@@ -185,21 +176,26 @@ impl<A: Application> AppSide<A> {
         store: &mut T,
         place: usize,
         number: u8,
-    ) -> Result<Turned, NoMemory>
-        requires { IsPlace number self.old.instances.items place }
-        ensures step { IfOk result (λ turned. IsTrue T.tells → is_lost self.old ≡ (T.standing store.old).lost → (doubt : Store) (inst : Instance A) → find (is_number number) self.old.instances.items ≡ Some inst → IsStep self.new (T.kept store.new).store turned.replies (turned_by A.next A.asks (serving_of turned.kind) (machine_over self.old (T.kept store.old).store doubt) inst inst.running)) }
-        ensures crash { IfOk result (λ turned. T.honest store.old → LeavesJust T.moment T.left_since store.old (T.kept store.old) → (doubt : Store) (inst : Instance A) → find (is_number number) self.old.instances.items ≡ Some inst → CrashTurns T.kept T.moment T.left_since turned.kind (turned_by A.next A.asks (serving_of turned.kind) (machine_over self.old (T.kept store.old).store doubt) inst inst.running).machine.in_doubt store.old store.new) }
-        ensures kind { IfOk result (λ turned. IsTurnOf T.tells T.kept T.standing T.damage T.honest T.moment T.left_since turned.kind (of_instance (reaching (objects_in self.old.handles (T.kept store.old)) number) (find (is_number number) self.old.instances.items)) (of_instance changing (find (is_number number) self.old.instances.items)) (is_lost self.old) (is_lost self.new) store.old store.new) }
-        ensures tried { TriesOnce (of_instance changing (find (is_number number) self.old.instances.items)) (T.standing store.old) (T.standing store.new) }
-        ensures want { OnErr result (EndsUnchanged T.tells T.kept T.standing T.damage T.honest T.moment T.left_since store.old store.new) }
+        replies: &mut Replies,
+    ) -> Result<TurnKind, NoMemory>
+        requires place { IsPlace number self.old.instances.items place }
+        requires none { replies.old ≡ [] }
+        ensures {
+            let found = find (is_number number) self.old.instances.items
+            in (inst : Instance A) → found ≡ Some inst
+            → TakesTurn T.keeper (λ serving m. turned_by A.behaviour serving m inst inst.running)
+            (of_instance (reaching (objects_in self.old.handles (T.keeper.contents store.old)) number) found)
+            (of_instance changing found)
+            result self.old self.new replies.new store.old store.new
+        }
     {
         if self.instances[place].running.is_none() {
             self.begin(place, number)?;
-            return Ok(plain(Replies::none()));
+            return Ok(TurnKind::Plain);
         }
         match self.instances[place].running.take() {
             None => unreachable!(),
-            Some(running) => self.resume(store, place, number, running),
+            Some(running) => self.resume(store, place, number, running, replies),
         }
     }
 
@@ -209,18 +205,22 @@ impl<A: Application> AppSide<A> {
         &mut self,
         store: &mut T,
         instance: u8,
-    ) -> Result<Turned, NoMemory>
-        requires { self.old.turns < 2 ^ 63 }
-        ensures step { IfOk result (λ turned. IsTrue T.tells → is_lost self.old ≡ (T.standing store.old).lost → (doubt : Store) → IsStep self.new (T.kept store.new).store turned.replies (turned_as A.next A.asks (serving_of turned.kind) (machine_over self.old (T.kept store.old).store doubt) instance)) }
-        ensures crash { IfOk result (λ turned. T.honest store.old → LeavesJust T.moment T.left_since store.old (T.kept store.old) → (doubt : Store) → CrashTurns T.kept T.moment T.left_since turned.kind (turned_as A.next A.asks (serving_of turned.kind) (machine_over self.old (T.kept store.old).store doubt) instance).machine.in_doubt store.old store.new) }
-        ensures kind { IfOk result (λ turned. IsTurnOf T.tells T.kept T.standing T.damage T.honest T.moment T.left_since turned.kind (of_instance (reaching (objects_in self.old.handles (T.kept store.old)) instance) (find (is_number instance) self.old.instances.items)) (of_instance changing (find (is_number instance) self.old.instances.items)) (is_lost self.old) (is_lost self.new) store.old store.new) }
-        ensures tried { TriesOnce (of_instance changing (find (is_number instance) self.old.instances.items)) (T.standing store.old) (T.standing store.new) }
-        ensures want { OnErr result (EndsUnchanged T.tells T.kept T.standing T.damage T.honest T.moment T.left_since store.old store.new) }
+        replies: &mut Replies,
+    ) -> Result<TurnKind, NoMemory>
+        requires few { self.old.turns < 2 ^ 63 }
+        requires none { replies.old ≡ [] }
+        ensures {
+            let found = find (is_number instance) self.old.instances.items
+            in TakesTurn T.keeper (λ serving m. turned_as A.behaviour serving m instance)
+            (of_instance (reaching (objects_in self.old.handles (T.keeper.contents store.old)) instance) found)
+            (of_instance changing found)
+            result self.old self.new replies.new store.old store.new
+        }
     {
         self.turns += 1;
         match place_of(self.instances.as_slice(), instance) {
-            None => Ok(plain(Replies::none())),
-            Some(place) => self.go_on(store, place, instance),
+            None => Ok(TurnKind::Plain),
+            Some(place) => self.go_on(store, place, instance, replies),
         }
     }
 }

@@ -36,7 +36,7 @@ ends_with outcomes.Panicked fact holds = holds
 
 module _ {D : Type 0} (K : Keeper D) where
   -- an ask that finds no memory before it comes to the store
-  by_nothing : (old : D) → EndsUnchanged K old old
+  pub by_nothing : (old : D) → EndsUnchanged K old old
   by_nothing old = record {
     contents = λ t. refl;
     status = stays (K.status old);
@@ -218,7 +218,7 @@ module _ {D : Type 0} (K : Keeper D) where
 
   -- an ask that finds no memory before it comes to the store
   pub serves_nothing : (course : Course Objects) (changes : Bool) (handles : List Entry) (old : D) (e : WantOfMemory) → ServesAsk K (Err e) course changes handles handles old old
-  serves_nothing course changes handles old e = record { served = tt; tried = idle_tries changes (K.status old); want = record { handles = refl; store = by_nothing old } }
+  serves_nothing course changes handles old e = record { served = tt; tried = idle_tries changes (K.status old); want = record { same_handles = refl; store = by_nothing old } }
 
   -- an ask that is settled before the store is asked
   pub serves_panic : (served : Served) (course : Course Objects) (changes : Bool) (handles : List Entry) (old : D)
@@ -240,7 +240,7 @@ module _ {D : Type 0} (K : Keeper D) where
   wants : (result : Result Answer StoreAnswer) (given : Result Served WantOfMemory) (plain : Outcome Objects) (changes : Bool) (handles left : List Entry) (old new : D)
       → OnErr given (told_of changes result ≡ None) → IsGiven K result plain changes handles left old new → OnErr given (FindsNoMemory K handles left old new)
   wants result (Ok served) plain changes handles left old new told is = tt
-  wants result (Err e) plain changes handles left old new told is = record { handles = left_there result changes handles left told is.stays; store = by_want result plain changes handles left old new told is }
+  wants result (Err e) plain changes handles left old new told is = record { same_handles = left_there result changes handles left told is.stays; store = by_want result plain changes handles left old new told is }
 
   -- an ask that came to the store
   pub serves_told : (result : Result Answer StoreAnswer) (given : Result Served WantOfMemory) (course : Course Objects) (plain : Outcome Objects) (changes : Bool) (handles left : List Entry) (old new : D)

@@ -201,7 +201,7 @@ module _ {D : Type 0} (K : Keeper D) where
 
   -- an ask that finds no memory: the handles and the store are as they were
   pub record FindsNoMemory (handles left : List Entry) (old new : D) : Type 0 where
-    pub handles : left ≡ handles
+    pub same_handles : left ≡ handles
     pub store : EndsUnchanged old new
 
   -- what becomes of an ask: it is served, or there is no memory for it; at most one change is tried

@@ -97,9 +97,7 @@ impl Count {
 impl Application for Count {
     ghost use Rattle.sample_apps.specs.Count.{next_state, next_ask};
 
-    ghost next = { next_state };
-
-    ghost asks = { next_ask };
+    ghost behaviour = { record { next = next_state; asks = next_ask } };
 
     #[tactic(auto, unfolding(crate::specs::Count::reaction))]
     fn step(&mut self, _alloc: Global, given: Given) -> Result<Ask, NoMemory> {

@@ -16,9 +16,7 @@ pub enum Sample {
 impl Application for Sample {
     ghost use Rattle.sample_apps.specs.Samples.{next_state, next_ask};
 
-    ghost next = { next_state };
-
-    ghost asks = { next_ask };
+    ghost behaviour = { record { next = next_state; asks = next_ask } };
 
     #[tactic(auto, unfolding(crate::specs::Samples::next_state, crate::specs::Samples::next_ask))]
     fn step(&mut self, alloc: Global, given: Given) -> Result<Ask, NoMemory> {

@@ -98,9 +98,7 @@ impl Store {
 impl Application for Store {
     ghost use Rattle.sample_apps.specs.Store.{next_state, next_ask};
 
-    ghost next = { next_state };
-
-    ghost asks = { next_ask };
+    ghost behaviour = { record { next = next_state; asks = next_ask } };
 
     #[tactic(auto, unfolding(crate::specs::Store::reaction))]
     fn step(&mut self, alloc: Global, given: Given) -> Result<Ask, NoMemory> {

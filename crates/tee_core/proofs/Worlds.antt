@@ -1,4 +1,5 @@
 -- Applications side by side, and the world that they stand for.
+use Rattle.app_api.specs.Behaviours.{Behaviour}
 use Rattle.std.proofs.Common.{◌≡◌, ◌++◌, ◌<◌, ◌+◌, ℕ, zero, suc, List, [], ◌∷◌, None, Some, length, get_or, set, refl, sym, subst, ◌∙◌, ap, append_assoc, arith}
 use Rattle.std.specs.Prelude.{slice_get}
 use Rattle.app_api.specs.declared.ask.Ask.{Ask}
@@ -57,33 +58,39 @@ set_set [] i x y = refl
 set_set (z ∷ xs) zero x y = refl
 set_set (z ∷ xs) (suc i) x y = ap (λ zs. z ∷ zs) (set_set xs i x y)
 
+-- an application at a place that still stands for what it stood for
+pub hosted_kept : {A : Type 0} (hs : List (Hosted A)) (world : World A) (i : ℕ) (old new d : Hosted A) → AreHosted hs world → i < length hs → old ≡ get_or hs i d → ((m : Machine A) → IsHosted old m → IsHosted new m) → AreHosted (set hs i new) world
+hosted_kept hs world i old new d are lt value keeps =
+    let p = hosted_at hs world i are lt in
+    subst (AreHosted (set hs i new)) (set_same world i p.0 p.1) (hosted_set hs world i new p.0 are (keeps p.0 (hosted_here hs world i old d p.0 are lt value p.1)))
+
 -- events of one application move its machine, and no other
-module _ {A : Type 0} (next : A → Given → A) (asks : A → Given → Ask) where
-  pub moves_one : (world : World A) (app : ℕ) (m : Machine A) (events : List Event) → slice_get world app ≡ Some m → world_after next asks world (events_at next asks app events) ≡ set world app (machine_after next asks m events)
+module _ {A : Type 0} (behaviour : Behaviour A) where
+  pub moves_one : (world : World A) (app : ℕ) (m : Machine A) (events : List Event) → slice_get world app ≡ Some m → world_after behaviour world (events_at behaviour app events) ≡ set world app (machine_after behaviour m events)
   moves_one world app m [] here = sym (set_same world app m here)
   moves_one world app m (event ∷ events) here =
-      let then : Machine A = (step next asks m event).machine in
-      ap (λ o. world_after next asks (moved_at next asks world app event o) (events_at next asks app events)) here
+      let then : Machine A = (step behaviour m event).machine in
+      ap (λ o. world_after behaviour (moved_at behaviour world app event o) (events_at behaviour app events)) here
       ∙ moves_one (set world app then) app then events (get_set world app m then here)
-      ∙ set_set world app then (machine_after next asks then events)
+      ∙ set_set world app then (machine_after behaviour then events)
 
   -- the application at a place takes a step
   pub event_moves : (hs : List (Hosted A)) (world : World A) (app : ℕ) (old new d : Hosted A) (event : Event) → AreHosted hs world → app < length hs → old ≡ get_or hs app d
-      → ((m : Machine A) → IsHosted old m → IsHosted new (step next asks m event).machine) → AreHosted (set hs app new) (world_step next asks world (record { app = app; event = event }))
+      → ((m : Machine A) → IsHosted old m → IsHosted new (step behaviour m event).machine) → AreHosted (set hs app new) (world_step behaviour world (record { app = app; event = event }))
   event_moves hs world app old new d event are lt value moves =
       let p = hosted_at hs world app are lt in
-      subst (λ o. AreHosted (set hs app new) (moved_at next asks world app event o)) (sym p.1)
-      (hosted_set hs world app new (step next asks p.0 event).machine are (moves p.0 (hosted_here hs world app old d p.0 are lt value p.1)))
+      subst (λ o. AreHosted (set hs app new) (moved_at behaviour world app event o)) (sym p.1)
+      (hosted_set hs world app new (step behaviour p.0 event).machine are (moves p.0 (hosted_here hs world app old d p.0 are lt value p.1)))
 
   -- it is called, and gets turns until it has answered
   pub run_moves : (hs : List (Hosted A)) (world : World A) (app : ℕ) (old new d : Hosted A) (client : ℕ) (call : Call) → AreHosted hs world → app < length hs → old ≡ get_or hs app d
-      → ((m : Machine A) → IsHosted old m → IsHosted new (machine_after next asks m (events_of_call next asks m client call))) → AreHosted (set hs app new) (world_after next asks world (run_events next asks world app client call))
+      → ((m : Machine A) → IsHosted old m → IsHosted new (machine_after behaviour m (events_of_call behaviour m client call))) → AreHosted (set hs app new) (world_after behaviour world (run_events behaviour world app client call))
   run_moves hs world app old new d client call are lt value moves =
       let p = hosted_at hs world app are lt in
-      let events = events_of_call next asks p.0 client call in
-      subst (λ o. AreHosted (set hs app new) (world_after next asks world (called_at next asks app client call o))) (sym p.1)
+      let events = events_of_call behaviour p.0 client call in
+      subst (λ o. AreHosted (set hs app new) (world_after behaviour world (called_at behaviour app client call o))) (sym p.1)
       (subst (AreHosted (set hs app new)) (sym (moves_one world app p.0 events p.1))
-      (hosted_set hs world app new (machine_after next asks p.0 events) are (moves p.0 (hosted_here hs world app old d p.0 are lt value p.1))))
+      (hosted_set hs world app new (machine_after behaviour p.0 events) are (moves p.0 (hosted_here hs world app old d p.0 are lt value p.1))))
 
 -- the first host's machine, and those of the others behind it
 pub starts_one : {A : Type 0} (front : World A) (n : ℕ) (host : Host A) (hosts : List (Host A)) (seed : List ℕ) (stores : ℕ → Store) → (front ++ start host n seed (stores n) ∷ []) ++ starts_from (n + 1) hosts seed stores ≡ front ++ starts_from n (host ∷ hosts) seed stores

@@ -1,4 +1,5 @@
 -- What is told of events of one application's machine.
+use Rattle.app_api.specs.Behaviours.{Behaviour}
 use Rattle.std.specs.Prelude.{ℕ, List, [], ◌∷◌, ◌++◌}
 use Rattle.app_api.specs.declared.ask.Ask.{Ask}
 use Rattle.app_api.specs.declared.ask.Given.{Given}
@@ -36,11 +37,11 @@ abbrev pub told_behind : List Happened → Happened → List Reply → List Happ
 told_behind told h [] = told
 told_behind told h (reply ∷ replies) = told ++ h ∷ []
 
--- next and asks are the application's two functions
-module _ {A : Type 0} (next : A → Given → A) (asks : A → Given → Ask) where
+-- behaviour has the application's two stated functions
+module _ {A : Type 0} (behaviour : Behaviour A) where
   -- what is told of an event in which the store served: how many turns were made after it, and its replies
   abbrev pub happening : Machine A → Event → Happened
-  happening m event = let s = step next asks m event in record {
+  happening m event = let s = step behaviour m event in record {
     kind = Plain;
     turn = s.machine.turns;
     op = op_called m event;
@@ -51,8 +52,8 @@ module _ {A : Type 0} (next : A → Given → A) (asks : A → Given → Ask) wh
   -- the happenings of events that have a reply
   abbrev pub replying : Machine A → List Event → List Happened
   replying m [] = []
-  replying m (event ∷ events) = let h = happening m event in told_with h.replies h (replying (step next asks m event).machine events)
+  replying m (event ∷ events) = let h = happening m event in told_with h.replies h (replying (step behaviour m event).machine events)
 
   -- what is told of a call that is run until it is answered: the call, and the turns that have a reply
   abbrev pub told_of_call : Machine A → ℕ → Call → List Happened
-  told_of_call m client call = happening m (Called client call) ∷ replying (called m client call).machine (turns_of_call next asks m client call)
+  told_of_call m client call = happening m (Called client call) ∷ replying (called m client call).machine (turns_of_call behaviour m client call)

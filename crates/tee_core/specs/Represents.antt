@@ -1,5 +1,5 @@
 -- Which machines and worlds the values stand for.
-use Rattle.std.specs.Prelude.{ℕ, ◌≡◌, false, List, [], ◌∷◌, length}
+use Rattle.std.specs.Prelude.{ℕ, ◌≡◌, ◌≢◌, false, List, [], ◌∷◌, length, slice_index_or}
 use Rattle.app_side.specs.Represents.{Represents as Runs_as}
 use Rattle.alone.specs.Machine.{Machine}
 use Rattle.alone.specs.Step.{Event as MachineEvent, Called, Turned}
@@ -42,3 +42,12 @@ machine_event (events.Turn app instance) = Turned instance
 
 abbrev pub event_of : Event → AppEvent
 event_of e = record { app = app_of e; event = machine_event e }
+
+-- every other application is as it was
+abbrev pub OthersStay : {A : Type 0} → ℕ → Tee A → Tee A → Type 0
+OthersStay {A} app old new = (other : ℕ) (d : Hosted A) → other ≢ app → slice_index_or new.hosted.items other d ≡ slice_index_or old.hosted.items other d
+
+-- what an event that found no memory leaves: a call leaves all, and a turn all other applications
+abbrev pub LeftByWant : {A : Type 0} → Event → Tee A → Tee A → Type 0
+LeftByWant {A} (events.Call app client call) old new = (world : World A) → Represents old world → Represents new world
+LeftByWant (events.Turn app instance) old new = OthersStay app old new

@@ -1,4 +1,5 @@
 -- The world: one machine for each host, side by side.
+use Rattle.app_api.specs.Behaviours.{Behaviour}
 use Rattle.std.specs.Prelude.{ℕ, ◌+◌, List, [], ◌∷◌, Option, None, Some, map, slice_get, slice_set}
 use Rattle.app_api.specs.declared.ask.Ask.{Ask}
 use Rattle.app_api.specs.declared.ask.Given.{Given}
@@ -28,16 +29,16 @@ starts_from index (host ∷ hosts) seed stores = start host index seed (stores i
 abbrev pub world_of : {A : Type 0} → List (Host A) → List ℕ → (ℕ → Store) → World A
 world_of hosts seed stores = starts_from 0 hosts seed stores
 
--- next and asks are the applications' two functions
-module _ {A : Type 0} (next : A → Given → A) (asks : A → Given → Ask) where
+-- behaviour has the applications' two stated functions
+module _ {A : Type 0} (behaviour : Behaviour A) where
   -- the world after its machine of this index has met an event; nothing happens to a machine that there isn't
   abbrev pub moved_at : World A → ℕ → Event → Option (Machine A) → World A
   moved_at world app event None = world
-  moved_at world app event (Some m) = slice_set world app (step next asks m event).machine
+  moved_at world app event (Some m) = slice_set world app (step behaviour m event).machine
 
   abbrev pub replied_at : Event → Option (Machine A) → List Reply
   replied_at event None = []
-  replied_at event (Some m) = (step next asks m event).replies
+  replied_at event (Some m) = (step behaviour m event).replies
 
   -- an event moves the machine of its application, and no other
   abbrev pub world_step : World A → AppEvent → World A
@@ -58,7 +59,7 @@ module _ {A : Type 0} (next : A → Given → A) (asks : A → Given → Ask) wh
 
   abbrev pub called_at : ℕ → ℕ → Call → Option (Machine A) → List AppEvent
   called_at app client call None = []
-  called_at app client call (Some m) = events_at app (events_of_call next asks m client call)
+  called_at app client call (Some m) = events_at app (events_of_call behaviour m client call)
 
   -- a call of an application, and turns of its instance until it is answered
   abbrev pub run_events : World A → ℕ → ℕ → Call → List AppEvent

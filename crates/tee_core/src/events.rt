@@ -1,12 +1,12 @@
 //! Events of all applications, each of them one event of every world that the value represents.
 
-ghost use Rattle.std.specs.Prelude.{◌≡◌, ◌<◌, ◌≤◌, IfOk, OnOk, Some, All, length, slice_get};
+ghost use Rattle.std.specs.Prelude.{◌≡◌, ◌<◌, ◌≤◌, IfOk, OnErr, OnOk, Some, All, length, slice_get};
 ghost use Rattle.store_api.specs.Stores.{empty_store};
 ghost use Rattle.app_api.specs.Hosts.{HostsFit};
 ghost use Rattle.app_side.specs.Represents.{IsOneInstance};
 ghost use Rattle.alone.specs.Machine.{Machine};
 ghost use Rattle.tee_core.specs.Happenings.{happening, told_of_call};
-ghost use Rattle.tee_core.specs.Represents.{app_count, app_of, event_of, machine_event, AreHosted, Represents};
+ghost use Rattle.tee_core.specs.Represents.{app_count, app_of, event_of, machine_event, AreHosted, LeftByWant, OthersStay, Represents};
 ghost use Rattle.tee_core.specs.World.{World, world_after, world_of, world_step, run_events};
 
 use crate::happened::{Event, Happened, RunReplies};
@@ -50,12 +50,16 @@ impl<A: Application> Tee<A> {
         Ok(Tee { hosted })
     }
 
-    /// One event: the machine of its application moves, and no other. Want of memory in a call changes nothing; in a turn it
-    /// ends the run, and nothing more is said of the value.
+    /// One event: the machine of its application moves, and no other.
+    ///
+    /// # Errors
+    ///
+    /// Want of memory. In a call it changes nothing; in a turn it ends the run of that application, and leaves the others.
     pub fn event(&mut self, event: Event) -> Result<Happened, NoMemory>
         requires { app_of event < app_count self.old }
-        ensures world { OnOk result ((world : World A) → Represents self.old world → Represents self.new (world_step A.next A.asks world (event_of event))) }
-        ensures told { IfOk result (λ told. (world : World A) (m : Machine A) → Represents self.old world → slice_get world (app_of event) ≡ Some m → told ≡ happening A.next A.asks m (machine_event event)) }
+        ensures world { OnOk result ((world : World A) → Represents self.old world → Represents self.new (world_step A.behaviour world (event_of event))) }
+        ensures told { IfOk result (λ told. (world : World A) (m : Machine A) → Represents self.old world → slice_get world (app_of event) ≡ Some m → told ≡ happening A.behaviour m (machine_event event)) }
+        ensures err { OnErr result (LeftByWant event self.old self.new) }
         ensures apps { app_count self.new ≡ app_count self.old }
     {
         match event {
@@ -68,7 +72,7 @@ impl<A: Application> Tee<A> {
     ///
     /// # Errors
     ///
-    /// Want of memory. It ends the run: nothing more is said of the value.
+    /// Want of memory. It ends the run of the application, and leaves the others.
     pub fn run(
         &mut self,
         alloc: Global,
@@ -77,8 +81,9 @@ impl<A: Application> Tee<A> {
         call: Call,
     ) -> Result<RunReplies, NoMemory>
         requires { app < app_count self.old }
-        ensures world { OnOk result ((world : World A) → Represents self.old world → Represents self.new (world_after A.next A.asks world (run_events A.next A.asks world app client call))) }
-        ensures told { IfOk result (λ told. (world : World A) (m : Machine A) → Represents self.old world → slice_get world app ≡ Some m → told ≡ told_of_call A.next A.asks m client call) }
+        ensures world { OnOk result ((world : World A) → Represents self.old world → Represents self.new (world_after A.behaviour world (run_events A.behaviour world app client call))) }
+        ensures told { IfOk result (λ told. (world : World A) (m : Machine A) → Represents self.old world → slice_get world app ≡ Some m → told ≡ told_of_call A.behaviour m client call) }
+        ensures err { OnErr result (OthersStay app self.old self.new) }
         ensures apps { app_count self.new ≡ app_count self.old }
     {
         self.hosted[app as usize].run(alloc, client, call)

@@ -41,7 +41,7 @@ impl<A: Application> Hosted<A> {
     /// A client's call. Want of memory changes nothing.
     pub fn call(&mut self, client: u8, call: Call) -> Result<Happened, NoMemory>
         ensures hosted { OnOk result ((m : Machine A) → IsHosted self.old m → IsHosted self.new (called m client call).machine) }
-        ensures told { IfOk result (λ told. (m : Machine A) → IsHosted self.old m → told ≡ happening A.next A.asks m (Called client call)) }
+        ensures told { IfOk result (λ told. (m : Machine A) → IsHosted self.old m → told ≡ happening A.behaviour m (Called client call)) }
         ensures err { OnErr result ((m : Machine A) → IsHosted self.old m → IsHosted self.new m) }
     {
         let made = self.side.call(client, call)?;
@@ -60,8 +60,8 @@ impl<A: Application> Hosted<A> {
     ///
     /// Want of memory, after which nothing more is served. A call of the store that fails would be told so too; none does.
     pub fn turn(&mut self, instance: u8) -> Result<Happened, NoMemory>
-        ensures hosted { OnOk result ((m : Machine A) → IsHosted self.old m → IsHosted self.new (turned A.next A.asks m instance).machine) }
-        ensures told { IfOk result (λ told. (m : Machine A) → IsHosted self.old m → told ≡ happening A.next A.asks m (Turned instance)) }
+        ensures hosted { OnOk result ((m : Machine A) → IsHosted self.old m → IsHosted self.new (turned A.behaviour m instance).machine) }
+        ensures told { IfOk result (λ told. (m : Machine A) → IsHosted self.old m → told ≡ happening A.behaviour m (Turned instance)) }
     {
         if self.spent {
             return Err(NoMemory);
@@ -85,8 +85,8 @@ impl<A: Application> Hosted<A> {
 
     /// Turns of the instance until the operation is answered; those that have a reply are told.
     fn turn_until(&mut self, instance: u8, op: u64, told: &mut RunReplies) -> Result<(), NoMemory>
-        ensures hosted { OnOk result ((m : Machine A) → IsHosted self.old m → IsHosted self.new (machine_after A.next A.asks m (turns_until A.next A.asks most_turns m instance op))) }
-        ensures told { OnOk result ((m : Machine A) → IsHosted self.old m → told.new ≡ told.old ++ replying A.next A.asks m (turns_until A.next A.asks most_turns m instance op)) }
+        ensures hosted { OnOk result ((m : Machine A) → IsHosted self.old m → IsHosted self.new (machine_after A.behaviour m (turns_until A.behaviour most_turns m instance op))) }
+        ensures told { OnOk result ((m : Machine A) → IsHosted self.old m → told.new ≡ told.old ++ replying A.behaviour m (turns_until A.behaviour most_turns m instance op)) }
     {
         for _ in 0..limits::CALL_TURNS {
             if self.side.answered(op) {
@@ -100,8 +100,8 @@ impl<A: Application> Hosted<A> {
 
     /// A client's call, and then turns of its instance until it is answered.
     pub fn run(&mut self, alloc: Global, client: u8, call: Call) -> Result<RunReplies, NoMemory>
-        ensures hosted { OnOk result ((m : Machine A) → IsHosted self.old m → IsHosted self.new (machine_after A.next A.asks m (events_of_call A.next A.asks m client call))) }
-        ensures told { IfOk result (λ told. (m : Machine A) → IsHosted self.old m → told ≡ told_of_call A.next A.asks m client call) }
+        ensures hosted { OnOk result ((m : Machine A) → IsHosted self.old m → IsHosted self.new (machine_after A.behaviour m (events_of_call A.behaviour m client call))) }
+        ensures told { IfOk result (λ told. (m : Machine A) → IsHosted self.old m → told ≡ told_of_call A.behaviour m client call) }
     {
         let mut told = RunReplies::new(alloc);
         let made = self.call(client, call)?;

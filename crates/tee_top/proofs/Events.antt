@@ -1,4 +1,5 @@
 -- Runs of events, one part after another.
+use Rattle.app_api.specs.Behaviours.{Behaviour}
 use Rattle.std.proofs.Common.{◌≡◌, ◌++◌, ◌≤◌, ℕ, zero, suc, List, [], ◌∷◌, Option, None, Some, Result, Ok, Err, IsErr, Bool, true, false, length, refl, sym, ◌∙◌, ap, subst, append_assoc, append-nil, arith}
 use Rattle.std.specs.Prelude.{slice_get, slice_index_or, slice_set}
 use Rattle.std.proofs.lemmas.Bool.{both_ways}
@@ -24,25 +25,25 @@ use Rattle.tee_top.specs.Told.{told_text}
 use Rattle.tee_top.specs.Transcript.{line_events, replies_text, text_of}
 use Rattle.tee_top.proofs.Writing.{front_whole, front_after, front_longer}
 
-module _ {A : Type 0} (next : A → Given → A) (asks : A → Given → Ask) where
-  pub world_after_both : (w : World A) (xs ys : List AppEvent) → world_after next asks w (xs ++ ys) ≡ world_after next asks (world_after next asks w xs) ys
+module _ {A : Type 0} (behaviour : Behaviour A) where
+  pub world_after_both : (w : World A) (xs ys : List AppEvent) → world_after behaviour w (xs ++ ys) ≡ world_after behaviour (world_after behaviour w xs) ys
   world_after_both w [] ys = refl
-  world_after_both w (x ∷ xs) ys = world_after_both (world_step next asks w x) xs ys
+  world_after_both w (x ∷ xs) ys = world_after_both (world_step behaviour w x) xs ys
 
-  pub text_of_both : (names : List (List ℕ)) (w : World A) (xs ys : List AppEvent) → text_of next asks names w (xs ++ ys) ≡ text_of next asks names w xs ++ text_of next asks names (world_after next asks w xs) ys
+  pub text_of_both : (names : List (List ℕ)) (w : World A) (xs ys : List AppEvent) → text_of behaviour names w (xs ++ ys) ≡ text_of behaviour names w xs ++ text_of behaviour names (world_after behaviour w xs) ys
   text_of_both names w [] ys = refl
   text_of_both names w (x ∷ xs) ys =
-      let here = replies_text (slice_index_or names x.app []) (world_replies next asks w x) in
-      ap (λ zs. here ++ zs) (text_of_both names (world_step next asks w x) xs ys)
-      ∙ sym (append_assoc here (text_of next asks names (world_step next asks w x) xs) (text_of next asks names (world_after next asks (world_step next asks w x) xs) ys))
+      let here = replies_text (slice_index_or names x.app []) (world_replies behaviour w x) in
+      ap (λ zs. here ++ zs) (text_of_both names (world_step behaviour w x) xs ys)
+      ∙ sym (append_assoc here (text_of behaviour names (world_step behaviour w x) xs) (text_of behaviour names (world_after behaviour (world_step behaviour w x) xs) ys))
 
   -- a run of all these events has come to a world that is stood for, before what rest says of it, and a front of the text was appended
   pub record Along (names : List (List ℕ)) (Stands : World A → Type 0) (m : World A) (all : List AppEvent) (rest : World A → List AppEvent) (old new : Option (List ℕ)) : Type 0 where
     pub now : World A
     pub front : List ℕ
     pub stands : Stands now
-    pub machine : world_after next asks now (rest now) ≡ world_after next asks m all
-    pub text : front ++ text_of next asks names now (rest now) ≡ text_of next asks names m all
+    pub machine : world_after behaviour now (rest now) ≡ world_after behaviour m all
+    pub text : front ++ text_of behaviour names now (rest now) ≡ text_of behaviour names m all
     pub appended : Appends old new front
 
   pub along_start : (names : List (List ℕ)) (Stands : World A → Type 0) (m : World A) (all : List AppEvent) (rest : World A → List AppEvent) (old : Option (List ℕ)) → Stands m → rest m ≡ all → Along names Stands m all rest old old
@@ -50,29 +51,29 @@ module _ {A : Type 0} (next : A → Given → A) (asks : A → Given → Ask) wh
     now = m;
     front = [];
     stands = stands;
-    machine = ap (world_after next asks m) e;
-    text = ap (text_of next asks names m) e;
+    machine = ap (world_after behaviour m) e;
+    text = ap (text_of behaviour names m) e;
     appended = Appends-nil old;
   }
 
   -- some more events
   pub along_more : (names : List (List ℕ)) (Stands Stands_then : World A → Type 0) (m : World A) (all : List AppEvent) (rest rest_then : World A → List AppEvent) (old mid new : Option (List ℕ))
       → (run : Along names Stands m all rest old mid) (events : List AppEvent) (text : List ℕ)
-      → rest run.now ≡ events ++ rest_then (world_after next asks run.now events)
-      → Stands_then (world_after next asks run.now events)
-      → text_of next asks names run.now events ≡ text → Appends mid new text
+      → rest run.now ≡ events ++ rest_then (world_after behaviour run.now events)
+      → Stands_then (world_after behaviour run.now events)
+      → text_of behaviour names run.now events ≡ text → Appends mid new text
       → Along names Stands_then m all rest_then old new
   along_more names Stands Stands_then m all rest rest_then old mid new run events text e stands t h =
-      let after = world_after next asks run.now events in
+      let after = world_after behaviour run.now events in
       record {
         now = after;
         front = run.front ++ text;
         stands = stands;
-        machine = sym (world_after_both run.now events (rest_then after)) ∙ ap (world_after next asks run.now) (sym e) ∙ run.machine;
+        machine = sym (world_after_both run.now events (rest_then after)) ∙ ap (world_after behaviour run.now) (sym e) ∙ run.machine;
         text =
-            append_assoc run.front text (text_of next asks names after (rest_then after))
-            ∙ ap (λ zs. run.front ++ (zs ++ text_of next asks names after (rest_then after))) (sym t)
-            ∙ ap (λ zs. run.front ++ zs) (sym (text_of_both names run.now events (rest_then after)) ∙ ap (text_of next asks names run.now) (sym e))
+            append_assoc run.front text (text_of behaviour names after (rest_then after))
+            ∙ ap (λ zs. run.front ++ (zs ++ text_of behaviour names after (rest_then after))) (sym t)
+            ∙ ap (λ zs. run.front ++ zs) (sym (text_of_both names run.now events (rest_then after)) ∙ ap (text_of behaviour names run.now) (sym e))
             ∙ run.text;
         appended = Appends-trans old mid new run.front text run.appended h;
       }
@@ -80,22 +81,22 @@ module _ {A : Type 0} (next : A → Given → A) (asks : A → Given → Ask) wh
   -- the run stops within some more events
   pub along_stopped : (names : List (List ℕ)) (Stands : World A → Type 0) (m : World A) (all : List AppEvent) (rest : World A → List AppEvent) (old mid new : Option (List ℕ))
       → (run : Along names Stands m all rest old mid) (events more : List AppEvent)
-      → rest run.now ≡ events ++ more → AppendsFront (text_of next asks names run.now events) mid new
-      → AppendsFront (text_of next asks names m all) old new
+      → rest run.now ≡ events ++ more → AppendsFront (text_of behaviour names run.now events) mid new
+      → AppendsFront (text_of behaviour names m all) old new
   along_stopped names Stands m all rest old mid new run events more e h =
-      let here = text_of next asks names run.now events in
-      let behind = text_of next asks names (world_after next asks run.now events) more in
+      let here = text_of behaviour names run.now events in
+      let behind = text_of behaviour names (world_after behaviour run.now events) more in
       subst (λ zs. AppendsFront zs old new)
-      (ap (λ zs. run.front ++ zs) (sym (text_of_both names run.now events more) ∙ ap (text_of next asks names run.now) (sym e)) ∙ run.text)
+      (ap (λ zs. run.front ++ zs) (sym (text_of_both names run.now events more) ∙ ap (text_of behaviour names run.now) (sym e)) ∙ run.text)
       (front_after run.front (here ++ behind) old mid new run.appended (front_longer here behind mid new h))
 
   -- the run is at its end
   pub along_whole : (names : List (List ℕ)) (Stands : World A → Type 0) (m : World A) (all : List AppEvent) (rest : World A → List AppEvent) (old new : Option (List ℕ))
       → (run : Along names Stands m all rest old new) → rest run.now ≡ []
-      → Stands (world_after next asks m all) × Appends old new (text_of next asks names m all)
+      → Stands (world_after behaviour m all) × Appends old new (text_of behaviour names m all)
   along_whole names Stands m all rest old new run e = (
-    subst Stands (ap (world_after next asks run.now) (sym e) ∙ run.machine) run.stands,
-    subst (Appends old new) (sym (append-nil run.front) ∙ ap (λ zs. run.front ++ text_of next asks names run.now zs) (sym e) ∙ run.text) run.appended,
+    subst Stands (ap (world_after behaviour run.now) (sym e) ∙ run.machine) run.stands,
+    subst (Appends old new) (sym (append-nil run.front) ∙ ap (λ zs. run.front ++ text_of behaviour names run.now zs) (sym e) ∙ run.text) run.appended,
   )
 
 -- ---- what loops and calls append
@@ -126,55 +127,55 @@ told_one : (name : List ℕ) (h : Happened) (replies : List Reply) (more : List 
 told_one name h [] more e = refl
 told_one name h (reply ∷ replies) more e = ap (λ rs. replies_text name rs ++ told_text name more) e
 
-module _ {A : Type 0} (next : A → Given → A) (asks : A → Given → Ask) where
+module _ {A : Type 0} (behaviour : Behaviour A) where
   -- what is told of events is their replies
-  told_is : (name : List ℕ) (m : Machine A) (events : List Event) → told_text name (replying next asks m events) ≡ replies_text name (replies_to next asks m events)
+  told_is : (name : List ℕ) (m : Machine A) (events : List Event) → told_text name (replying behaviour m events) ≡ replies_text name (replies_to behaviour m events)
   told_is name m [] = refl
   told_is name m (event ∷ events) =
-      let s = step next asks m event in
-      told_one name (happening next asks m event) s.replies (replying next asks s.machine events) refl
+      let s = step behaviour m event in
+      told_one name (happening behaviour m event) s.replies (replying behaviour s.machine events) refl
       ∙ ap (λ zs. replies_text name s.replies ++ zs) (told_is name s.machine events)
-      ∙ sym (replies_both name s.replies (replies_to next asks s.machine events))
+      ∙ sym (replies_both name s.replies (replies_to behaviour s.machine events))
 
-  told_call : (name : List ℕ) (m : Machine A) (client : ℕ) (call : Call) → told_text name (told_of_call next asks m client call) ≡ replies_text name (replies_to next asks m (events_of_call next asks m client call))
+  told_call : (name : List ℕ) (m : Machine A) (client : ℕ) (call : Call) → told_text name (told_of_call behaviour m client call) ≡ replies_text name (replies_to behaviour m (events_of_call behaviour m client call))
   told_call name m client call =
-      let s = step next asks m (Called client call) in
-      ap (λ zs. replies_text name s.replies ++ zs) (told_is name s.machine (turns_of_call next asks m client call))
-      ∙ sym (replies_both name s.replies (replies_to next asks s.machine (turns_of_call next asks m client call)))
+      let s = step behaviour m (Called client call) in
+      ap (λ zs. replies_text name s.replies ++ zs) (told_is name s.machine (turns_of_call behaviour m client call))
+      ∙ sym (replies_both name s.replies (replies_to behaviour s.machine (turns_of_call behaviour m client call)))
 
   -- the text of events of one application
-  text_at : (names : List (List ℕ)) (w : World A) (app : ℕ) (m : Machine A) (events : List Event) → slice_get w app ≡ Some m → text_of next asks names w (events_at next asks app events) ≡ replies_text (slice_index_or names app []) (replies_to next asks m events)
+  text_at : (names : List (List ℕ)) (w : World A) (app : ℕ) (m : Machine A) (events : List Event) → slice_get w app ≡ Some m → text_of behaviour names w (events_at behaviour app events) ≡ replies_text (slice_index_or names app []) (replies_to behaviour m events)
   text_at names w app m [] here = refl
   text_at names w app m (event ∷ events) here =
       let name = slice_index_or names app [] in
-      let s = step next asks m event in
-      ap (λ o. replies_text name (replied_at next asks event o) ++ text_of next asks names (moved_at next asks w app event o) (events_at next asks app events)) here
+      let s = step behaviour m event in
+      ap (λ o. replies_text name (replied_at behaviour event o) ++ text_of behaviour names (moved_at behaviour w app event o) (events_at behaviour app events)) here
       ∙ ap (λ zs. replies_text name s.replies ++ zs) (text_at names (slice_set w app s.machine) app s.machine events (get_set w app m s.machine here))
-      ∙ sym (replies_both name s.replies (replies_to next asks s.machine events))
+      ∙ sym (replies_both name s.replies (replies_to behaviour s.machine events))
 
   -- the line of a call, whose replies were told
-  pub call_text : (names : List (List ℕ)) (w : World A) (m : Machine A) (app client : ℕ) (call : Call) → slice_get w app ≡ Some m → told_text (slice_index_or names app []) (told_of_call next asks m client call) ≡ text_of next asks names w (line_events next asks w (lines.Call app client false call))
+  pub call_text : (names : List (List ℕ)) (w : World A) (m : Machine A) (app client : ℕ) (call : Call) → slice_get w app ≡ Some m → told_text (slice_index_or names app []) (told_of_call behaviour m client call) ≡ text_of behaviour names w (line_events behaviour w (lines.Call app client false call))
   call_text names w m app client call here =
       told_call (slice_index_or names app []) m client call
-      ∙ sym (text_at names w app m (events_of_call next asks m client call) here)
-      ∙ ap (λ o. text_of next asks names w (called_at next asks app client call o)) (sym here)
+      ∙ sym (text_at names w app m (events_of_call behaviour m client call) here)
+      ∙ ap (λ o. text_of behaviour names w (called_at behaviour app client call o)) (sym here)
 
   -- a posted call's line
-  pub post_text : (names : List (List ℕ)) (w : World A) (m : Machine A) (app client : ℕ) (call : Call) → slice_get w app ≡ Some m → replies_text (slice_index_or names app []) (happening next asks m (Called client call)).replies ≡ text_of next asks names w (line_events next asks w (lines.Call app client true call))
+  pub post_text : (names : List (List ℕ)) (w : World A) (m : Machine A) (app client : ℕ) (call : Call) → slice_get w app ≡ Some m → replies_text (slice_index_or names app []) (happening behaviour m (Called client call)).replies ≡ text_of behaviour names w (line_events behaviour w (lines.Call app client true call))
   post_text names w m app client call here =
       let name = slice_index_or names app [] in
-      let s = step next asks m (Called client call) in
+      let s = step behaviour m (Called client call) in
       sym (append-nil (replies_text name s.replies))
-      ∙ ap (λ o. replies_text name (replied_at next asks (Called client call) o) ++ []) (sym here)
+      ∙ ap (λ o. replies_text name (replied_at behaviour (Called client call) o) ++ []) (sym here)
 
   -- nothing happens to an application that there isn't
-  pub no_events : (w : World A) (app client : ℕ) (post : Bool) (call : Call) → slice_get w app ≡ None → world_after next asks w (line_events next asks w (lines.Call app client post call)) ≡ w
-  no_events w app client true call none = ap (moved_at next asks w app (Called client call)) none
-  no_events w app client false call none = ap (λ o. world_after next asks w (called_at next asks app client call o)) none
+  pub no_events : (w : World A) (app client : ℕ) (post : Bool) (call : Call) → slice_get w app ≡ None → world_after behaviour w (line_events behaviour w (lines.Call app client post call)) ≡ w
+  no_events w app client true call none = ap (moved_at behaviour w app (Called client call)) none
+  no_events w app client false call none = ap (λ o. world_after behaviour w (called_at behaviour app client call o)) none
 
-  pub no_text : (names : List (List ℕ)) (w : World A) (app client : ℕ) (post : Bool) (call : Call) → slice_get w app ≡ None → text_of next asks names w (line_events next asks w (lines.Call app client post call)) ≡ []
-  no_text names w app client true call none = ap (λ o. replies_text (slice_index_or names app []) (replied_at next asks (Called client call) o) ++ []) none
-  no_text names w app client false call none = ap (λ o. text_of next asks names w (called_at next asks app client call o)) none
+  pub no_text : (names : List (List ℕ)) (w : World A) (app client : ℕ) (post : Bool) (call : Call) → slice_get w app ≡ None → text_of behaviour names w (line_events behaviour w (lines.Call app client post call)) ≡ []
+  no_text names w app client true call none = ap (λ o. replies_text (slice_index_or names app []) (replied_at behaviour (Called client call) o) ++ []) none
+  no_text names w app client false call none = ap (λ o. text_of behaviour names w (called_at behaviour app client call o)) none
 
 -- there is nothing behind the end
 pub none_behind : {X : Type 0} (xs : List X) (i : ℕ) → length xs ≤ i → slice_get xs i ≡ None

@@ -1,4 +1,5 @@
 -- One application among others: its events, its lines of a script and its lines of the text that is written.
+use Rattle.app_api.specs.Behaviours.{Behaviour}
 use Rattle.std.specs.Prelude.{ℕ, ◌==◌, Bool, true, false, List, [], ◌∷◌, ◌++◌, codes, map}
 use Rattle.std.specs.List.{filter, flat_map, slice_split, starts_with}
 use Rattle.app_api.specs.declared.ask.Ask.{Ask}
@@ -29,14 +30,14 @@ app_of (lines.Call app client post call) = app
 abbrev pub own_lines : ℕ → List Line → List Line
 own_lines app script = filter (λ line. app_of line == app) script
 
--- next and asks are the application's two functions
-module _ {A : Type 0} (next : A → Given → A) (asks : A → Given → Ask) where
+-- behaviour has the application's two stated functions
+module _ {A : Type 0} (behaviour : Behaviour A) where
   -- what a line makes happen in one machine: a call, and then turns until it is answered; a posted one is the call alone
   abbrev pub own_line_events : Machine A → Line → List Event
   own_line_events m (lines.Call app client true call) = Called client call ∷ []
-  own_line_events m (lines.Call app client false call) = events_of_call next asks m client call
+  own_line_events m (lines.Call app client false call) = events_of_call behaviour m client call
 
   -- what lines make happen in one machine, one line after the other
   abbrev pub own_events : Machine A → List Line → List Event
   own_events m [] = []
-  own_events m (line ∷ more) = let events = own_line_events m line in events ++ own_events (machine_after next asks m events) more
+  own_events m (line ∷ more) = let events = own_line_events m line in events ++ own_events (machine_after behaviour m events) more

@@ -1,4 +1,5 @@
 -- What a run of the program is given, and what it writes.
+use Rattle.app_api.specs.Behaviours.{Behaviour}
 use Rattle.std.specs.Prelude.{ℕ, ◌≡◌, ◌≤◌, ◌<◌, List, Option, Some, IfSome, Result, Ok, Err, codes, length, All, String, string_bytes}
 use Rattle.std.specs.Global.{Global}
 use Rattle.std.specs.Io.KnownBytes.{Appends}
@@ -93,5 +94,5 @@ pub record IsTooMuch (words : List (String Global)) (left : Option (List ℕ)) (
   pub unfailed : ¬ Rose before after
 
 -- what was written is said of the transcript of the script that the source held, over empty stores
-abbrev pub IsOfTranscript : {A : Type 0} → (A → Given → A) → (A → Given → Ask) → List (Host A) → List ℕ → Option (List ℕ) → (List ℕ → Type 0) → Type 0
-IsOfTranscript {A} next asks hosts seed left IsWritten = (script : List Line) × ReadsTo hosts left script × IsWritten (transcript next asks hosts seed (λ app. empty_store) script)
+abbrev pub IsOfTranscript : {A : Type 0} → Behaviour A → List (Host A) → List ℕ → Option (List ℕ) → (List ℕ → Type 0) → Type 0
+IsOfTranscript {A} behaviour hosts seed left IsWritten = (script : List Line) × ReadsTo hosts left script × IsWritten (transcript behaviour hosts seed (λ app. empty_store) script)

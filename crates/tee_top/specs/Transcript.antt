@@ -1,4 +1,5 @@
 -- What the lines of a script make happen in the world, and the text that is written of it.
+use Rattle.app_api.specs.Behaviours.{Behaviour}
 use Rattle.std.specs.Prelude.{ℕ, List, [], ◌∷◌, ◌++◌, true, false, slice_index_or}
 use Rattle.std.specs.List.{flat_map}
 use Rattle.app_api.specs.declared.ask.Ask.{Ask}
@@ -17,22 +18,22 @@ use Rattle.tee_core.specs.World.{World, AppEvent, run_events, world_after, world
 abbrev pub replies_text : List ℕ → List Reply → List ℕ
 replies_text name replies = flat_map (reply_text name) replies
 
--- next and asks are the applications' two functions
-module _ {A : Type 0} (next : A → Given → A) (asks : A → Given → Ask) where
+-- behaviour has the applications' two stated functions
+module _ {A : Type 0} (behaviour : Behaviour A) where
   -- a call line is a call of its application, and then turns until it is answered; a posted one is the call alone
   abbrev pub line_events : World A → Line → List AppEvent
   line_events world (lines.Call app client true call) = record { app = app; event = Called client call } ∷ []
-  line_events world (lines.Call app client false call) = run_events next asks world app client call
+  line_events world (lines.Call app client false call) = run_events behaviour world app client call
 
   -- the events of lines, one line after the other
   abbrev pub events_of : World A → List Line → List AppEvent
   events_of world [] = []
-  events_of world (line ∷ more) = let events = line_events world line in events ++ events_of (world_after next asks world events) more
+  events_of world (line ∷ more) = let events = line_events world line in events ++ events_of (world_after behaviour world events) more
 
   -- the text of the replies to events, each under the name of its application
   abbrev pub text_of : List (List ℕ) → World A → List AppEvent → List ℕ
   text_of names world [] = []
-  text_of names world (e ∷ more) = replies_text (slice_index_or names e.app []) (world_replies next asks world e) ++ text_of names (world_step next asks world e) more
+  text_of names world (e ∷ more) = replies_text (slice_index_or names e.app []) (world_replies behaviour world e) ++ text_of names (world_step behaviour world e) more
 
   -- what is written of a script that these hosts run over these stores: the text of the replies that their machines give
   abbrev pub transcript : List (Host A) → List ℕ → (ℕ → Store) → List Line → List ℕ

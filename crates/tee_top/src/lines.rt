@@ -85,8 +85,8 @@ fn run_call<A: Application, W: Sink>(
     sink: &mut W,
 ) -> Result<(), Stop>
     requires { app < app_count tee.old }
-    ensures world { OnOk result ((world : World A) → Represents tee.old world → Represents tee.new (world_after A.next A.asks world (line_events A.next A.asks world (Line.Call app client post call)))) }
-    ensures written { (names : List (List ℕ)) (world : World A) → Represents tee.old world → name.now ≡ slice_index_or names app [] → Writes result (text_of A.next A.asks names world (line_events A.next A.asks world (Line.Call app client post call))) (W.written sink.old) (W.written sink.new) }
+    ensures world { OnOk result ((world : World A) → Represents tee.old world → Represents tee.new (world_after A.behaviour world (line_events A.behaviour world (Line.Call app client post call)))) }
+    ensures written { (names : List (List ℕ)) (world : World A) → Represents tee.old world → name.now ≡ slice_index_or names app [] → Writes result (text_of A.behaviour names world (line_events A.behaviour world (Line.Call app client post call))) (W.written sink.old) (W.written sink.new) }
     ensures apps { app_count tee.new ≡ app_count tee.old }
     ensures fault { IsErrOf result Stop.WriteFault → Rose (W.failures sink.old) (W.failures sink.new) }
     ensures later { W.failures sink.old ≤ W.failures sink.new }
@@ -135,8 +135,8 @@ fn run_line<A: Application, W: Sink>(
     sink: &mut W,
 ) -> Result<(), Stop>
     requires { length names.now ≡ app_count tee.old }
-    ensures world { OnOk result ((world : World A) → Represents tee.old world → Represents tee.new (world_after A.next A.asks world (line_events A.next A.asks world line))) }
-    ensures written { (world : World A) → Represents tee.old world → Writes result (text_of A.next A.asks names.now world (line_events A.next A.asks world line)) (W.written sink.old) (W.written sink.new) }
+    ensures world { OnOk result ((world : World A) → Represents tee.old world → Represents tee.new (world_after A.behaviour world (line_events A.behaviour world line))) }
+    ensures written { (world : World A) → Represents tee.old world → Writes result (text_of A.behaviour names.now world (line_events A.behaviour world line)) (W.written sink.old) (W.written sink.new) }
     ensures apps { app_count tee.new ≡ app_count tee.old }
     ensures fault { IsErrOf result Stop.WriteFault → Rose (W.failures sink.old) (W.failures sink.new) }
     ensures later { W.failures sink.old ≤ W.failures sink.new }
@@ -173,7 +173,7 @@ pub fn run_lines<A: Application, W: Sink>(
     sink: &mut W,
 ) -> Result<(), Stop>
     requires { length names.now ≡ app_count tee.old }
-    ensures written { (world : World A) → Represents tee.old world → Writes result (text_of A.next A.asks names.now world (events_of A.next A.asks world lines.items)) (W.written sink.old) (W.written sink.new) }
+    ensures written { (world : World A) → Represents tee.old world → Writes result (text_of A.behaviour names.now world (events_of A.behaviour world lines.items)) (W.written sink.old) (W.written sink.new) }
     ensures fault { IsErrOf result Stop.WriteFault → Rose (W.failures sink.old) (W.failures sink.new) }
     ensures later { W.failures sink.old ≤ W.failures sink.new }
 {

@@ -77,8 +77,8 @@ fn serve<W: Sink, A: Application>(
 ) -> Status
     requires fit { HostsFit hosts.items }
     requires one { AreOneInstance hosts.items }
-    ensures done { result ≡ Status.Done → Appends (W.written sink.old) (W.written sink.new) (transcript A.next A.asks hosts.items seed (λ app. empty_store) lines.items) }
-    ensures stopped { AppendsFront (transcript A.next A.asks hosts.items seed (λ app. empty_store) lines.items) (W.written sink.old) (W.written sink.new) }
+    ensures done { result ≡ Status.Done → Appends (W.written sink.old) (W.written sink.new) (transcript A.behaviour hosts.items seed (λ app. empty_store) lines.items) }
+    ensures stopped { AppendsFront (transcript A.behaviour hosts.items seed (λ app. empty_store) lines.items) (W.written sink.old) (W.written sink.new) }
     ensures fault { result ≡ Status.WriteFault → Rose (W.failures sink.old) (W.failures sink.new) }
     ensures later { W.failures sink.old ≤ W.failures sink.new }
     ensures few { IsServed result }
@@ -108,9 +108,9 @@ pub fn run_tee<S: Source, W: Sink, A: Application>(
 ) -> Status
     requires fit { HostsFit hosts.items }
     requires one { AreOneInstance hosts.items }
-    ensures written { result ≡ Status.Done → IsOfTranscript A.next A.asks hosts.items seed (S.left source.old) (Appends (W.written sink.old) (W.written sink.new)) }
-    ensures cut_short { result ≡ Status.WriteFault → IsOfTranscript A.next A.asks hosts.items seed (S.left source.old) (λ text. AppendsFront text (W.written sink.old) (W.written sink.new)) }
-    ensures no_memory { result ≡ Status.NoMemory → (sink.new ≡ sink.old) ⊎ IsOfTranscript A.next A.asks hosts.items seed (S.left source.old) (λ text. AppendsFront text (W.written sink.old) (W.written sink.new)) }
+    ensures written { result ≡ Status.Done → IsOfTranscript A.behaviour hosts.items seed (S.left source.old) (Appends (W.written sink.old) (W.written sink.new)) }
+    ensures cut_short { result ≡ Status.WriteFault → IsOfTranscript A.behaviour hosts.items seed (S.left source.old) (λ text. AppendsFront text (W.written sink.old) (W.written sink.new)) }
+    ensures no_memory { result ≡ Status.NoMemory → (sink.new ≡ sink.old) ⊎ IsOfTranscript A.behaviour hosts.items seed (S.left source.old) (λ text. AppendsFront text (W.written sink.old) (W.written sink.new)) }
     ensures bad_words { (result ≡ Status.BadWords) ↔ ¬ AreRunWords words.now }
     ensures bad_line { (n : ℕ) → result ≡ Status.BadLine n → IsBadAt hosts.items (S.left source.old) n × IsAtEnd (S.left source.new) }
     ensures each_bad_line { (text : List ℕ) (n : ℕ) → IsReadable words.now (S.left source.old) text (S.failures source.old) (S.failures source.new) → IsBadText hosts.items text n → (result ≡ Status.BadLine n) ⊎ (result ≡ Status.NoMemory) }

@@ -12,27 +12,28 @@ use tee_base::{Bytes, Code};
 struct Damaged {
     calls: u8,
     faults: u64,
-    damage_told: Tally,
-    changes_tried: Tally,
+    damage_reports: Tally,
+    change_attempts: Tally,
 }
 
 impl Model for Damaged {
     ghost use Rattle.std.specs.Prelude.{false};
-    ghost use Rattle.store_api.specs.Keeping.{Standing};
+    ghost use Rattle.store_api.specs.Keeping.{Status};
 
-    ghost Value = { Standing };
+    ghost Value = { Status };
 
-    ghost view = { λ d. record { lost = false; faults = d.faults; orders = 0; damage_told = d.damage_told; changes_tried = d.changes_tried } };
+    ghost view = { λ d. record { lost = false; faults = d.faults; orders = 0; ordered = 0; damage_reports = d.damage_reports; change_attempts = d.change_attempts } };
 }
 
 impl Damaged {
-    ghost use Rattle.store_api.specs.Keeping.{HasCause, TellsDamage, Tries};
+    ghost use Rattle.std.specs.Prelude.{IsErr};
+    ghost use Rattle.store_api.specs.Keeping.{Attempts, HasCause};
 
     /// What it answers to the call that is made now.
     fn answer<A>(&mut self) -> Result<A, StoreAnswer>
         ensures cause { HasCause result self.old self.new }
-        ensures tried { Tries 0 self.old self.new }
-        ensures damage { TellsDamage result (λ answer. Unit {0}) }
+        ensures attempts { Attempts 0 self.old self.new }
+        ensures err { IsErr result }
     {
         let answer = match self.calls {
             0 => StoreAnswer::Corrupt(Mismatch {
@@ -43,31 +44,28 @@ impl Damaged {
             _ => return Err(StoreAnswer::NotFound),
         };
         self.calls += 1;
-        self.damage_told = self.damage_told.one_more();
+        self.damage_reports = self.damage_reports.one_more();
         Err(answer)
     }
 }
 
 impl AppStore for Damaged {
-    ghost use Rattle.std.specs.Prelude.{[], false};
-    ghost use Rattle.store_api.specs.MapStores.{kept_after};
+    ghost use Rattle.std.specs.Prelude.{[]};
+    ghost use Rattle.store_api.specs.MapStores.{contents_after};
     ghost use Rattle.store_api.specs.Stores.{empty_store};
 
-    ghost tells = { false };
+    /// It has no store to answer from, and isn't honest.
+    ghost keeper = { record {
+        has_model = λ _. ⊥;
+        contents = λ _. contents_after [] empty_store;
+        status = λ status. status;
+        honest = λ _. ⊥;
+        damage = λ _ _. Unit {0};
+        moment = λ _. 0;
+        left_since = λ _ _ _. ⊥
+    } };
 
-    ghost kept = { λ _. kept_after [] empty_store };
-
-    ghost standing = { λ standing. standing };
-
-    ghost honest = { λ _. ⊥ };
-
-    ghost damage = { λ _ _. Unit {0} };
-
-    ghost moment = { λ _. 0 };
-
-    ghost left_since = { λ _ _ _. ⊥ };
-
-    ghost honest_tells = { λ _ h. absurd h };
+    ghost honest_model = { λ _ h. absurd h };
 
     ghost since_earlier = { λ _ _ _ _ _ left. left };
 
@@ -88,7 +86,7 @@ impl AppStore for Damaged {
     }
 
     fn apply(&mut self, _change: &Change) -> Result<(), StoreAnswer> {
-        self.changes_tried = self.changes_tried.one_more();
+        self.change_attempts = self.change_attempts.one_more();
         self.answer()
     }
 
@@ -105,8 +103,8 @@ fn damage_is_told_and_loses_nothing(rt: HostRuntime) -> Result<(), Fail> {
     let mut store = Damaged {
         calls: 0,
         faults: 0,
-        damage_told: Tally::none(),
-        changes_tried: Tally::none(),
+        damage_reports: Tally::none(),
+        change_attempts: Tally::none(),
     };
     let steps = [
         (Step::Create(ALL, b"a", b"1234"), DAMAGED, CORRUPT),

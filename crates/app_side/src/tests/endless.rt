@@ -19,9 +19,7 @@ struct Endless;
 impl Application for Endless {
     ghost use Rattle.app_side.specs.Endless.{next_ask};
 
-    ghost next = { λ state given. state };
-
-    ghost asks = { λ state given. next_ask given };
+    ghost behaviour = { record { next = λ state given. state; asks = λ state given. next_ask given } };
 
     fn step(&mut self, _alloc: Global, _given: Given) -> Result<Ask, NoMemory> {
         Ok(Ask::ObjClose { object: 0 })

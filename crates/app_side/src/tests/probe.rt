@@ -123,9 +123,7 @@ fn enter(entry: Entry) -> Ask
 impl Application for Probe {
     ghost use Rattle.app_side.specs.Probe.{next_ask};
 
-    ghost next = { λ state given. state };
-
-    ghost asks = { λ state given. next_ask given };
+    ghost behaviour = { record { next = λ state given. state; asks = λ state given. next_ask given } };
 
     #[tactic(auto, unfolding(crate::specs::Probe::next_ask))]
     fn step(&mut self, _alloc: Global, given: Given) -> Result<Ask, NoMemory> {

@@ -133,8 +133,8 @@ fn run<T: AppStore>(
     kind: TurnKind,
     wanted: Option<Told<'_>>,
 ) -> Result<(), Fail>
-    requires { is_lost side.old ≡ (T.standing store.old).lost }
-    ensures { OnOk result (is_lost side.new ≡ (T.standing store.new).lost) }
+    requires { is_lost side.old ≡ (T.keeper.status store.old).lost }
+    ensures { OnOk result (is_lost side.new ≡ (T.keeper.status store.new).lost) }
 {
     let mut met = false;
     let mut replies = 0u32;
@@ -164,7 +164,7 @@ pub fn check_over<T: AppStore>(
     store: &mut T,
     steps: &[(Step<'_>, TurnKind, Told<'_>)],
 ) -> Result<(), Fail>
-    requires { (T.standing store.old).lost ≡ false }
+    requires { (T.keeper.status store.old).lost ≡ false }
 {
     let mut side = AppSide::new(alloc, host(alloc, Probe { number: 0 })?, 0, [0; 32])?;
     let _called = side.call(0, open())?;

@@ -62,9 +62,7 @@ fn tell(steps: u32, answer: Answer) -> Ask
 impl Application for Creator {
     ghost use Rattle.tee_core.specs.Creator.{ask_of, counted};
 
-    ghost next = { λ a given. record a { steps = counted a.steps } };
-
-    ghost asks = { λ a given. ask_of (counted a.steps) given };
+    ghost behaviour = { record { next = λ a given. record a { steps = counted a.steps }; asks = λ a given. ask_of (counted a.steps) given } };
 
     fn step(&mut self, _alloc: Global, given: Given) -> Result<Ask, NoMemory> {
         self.steps = self.steps.saturating_add(1);

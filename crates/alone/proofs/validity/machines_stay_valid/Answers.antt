@@ -5,4 +5,4 @@ use Rattle.alone.proofs.validity.machines_stay_valid.Goals as goal
 
 pub returns-clause-step : goal.returns-clause-step
 returns-clause-step g c =
-    λ m event valid. valid_from_sound (step g.A.Application.next g.A.Application.asks m event).machine (step_sound g.A.Application.next g.A.Application.asks m event (sound_from_valid m valid))
+    λ m event valid. valid_from_sound (step g.A.Application.behaviour m event).machine (step_sound g.A.Application.behaviour m event (sound_from_valid m valid))

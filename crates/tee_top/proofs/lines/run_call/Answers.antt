@@ -12,29 +12,27 @@ use Rattle.tee_top.proofs.lines.run_call.Goals as goal
 
 pub returns-then-post-clause-written : goal.returns-then-post-clause-written
 returns-then-post-clause-written g c = λ names w stands named.
-    let next = g.A.Application.next in
-    let asks = g.A.Application.asks in
+    let behaviour = g.A.Application.behaviour in
     let app = c.args.app in
     let p = hosted_at c.args.tee.now.hosted.items w app stands c.requires in
     let name = c.args.name.now in
     subst (λ text. Writes c.write_replies.result text (g.W.Sink.written c.args.sink.now) (g.W.Sink.written c.write_replies.new.sink))
     (ap (replies_text name) c.as_slice.ensures
     ∙ ap (λ (h : Happened). replies_text name h.replies) (c.in_ok-happened.ensures.told w p.0 stands p.1)
-    ∙ ap (λ n. replies_text n (happening next asks p.0 (Called c.args.client c.args.call)).replies) named
-    ∙ post_text next asks names w p.0 app c.args.client c.args.call p.1
-    ∙ ap (λ (b : Bool). text_of next asks names w (line_events next asks w (lines.Call app c.args.client b c.args.call))) (sym c.if-post.true))
+    ∙ ap (λ n. replies_text n (happening behaviour p.0 (Called c.args.client c.args.call)).replies) named
+    ∙ post_text behaviour names w p.0 app c.args.client c.args.call p.1
+    ∙ ap (λ (b : Bool). text_of behaviour names w (line_events behaviour w (lines.Call app c.args.client b c.args.call))) (sym c.if-post.true))
     c.write_replies.ensures.written
 
 pub returns-clause-written : goal.returns-clause-written
 returns-clause-written g c = λ names w stands named.
-    let next = g.A.Application.next in
-    let asks = g.A.Application.asks in
+    let behaviour = g.A.Application.behaviour in
     let app = c.args.app in
     let p = hosted_at c.args.tee.now.hosted.items w app stands c.requires in
     let name = c.args.name.now in
     subst (λ text. Writes c.write_told.result text (g.W.Sink.written c.args.sink.now) (g.W.Sink.written c.write_told.new.sink))
     (ap (told_text name) (c.as_slice-2.ensures ∙ c.in_ok-told.ensures.told w p.0 stands p.1)
-    ∙ ap (λ n. told_text n (told_of_call next asks p.0 c.args.client c.args.call)) named
-    ∙ call_text next asks names w p.0 app c.args.client c.args.call p.1
-    ∙ ap (λ (b : Bool). text_of next asks names w (line_events next asks w (lines.Call app c.args.client b c.args.call))) (sym c.if-post.false))
+    ∙ ap (λ n. told_text n (told_of_call behaviour p.0 c.args.client c.args.call)) named
+    ∙ call_text behaviour names w p.0 app c.args.client c.args.call p.1
+    ∙ ap (λ (b : Bool). text_of behaviour names w (line_events behaviour w (lines.Call app c.args.client b c.args.call))) (sym c.if-post.false))
     c.write_told.ensures.written

@@ -12,17 +12,15 @@ use Rattle.tee_top.proofs.lines.run_line.Goals as goal
 
 pub returns-then-index-names-clause-world : goal.returns-then-index-names-clause-world
 returns-then-index-names-clause-world g c = λ w stands.
-    let next = g.A.Application.next in
-    let asks = g.A.Application.asks in
+    let behaviour = g.A.Application.behaviour in
     let l = c.parts-app.result in
     let none : slice_get w l.app ≡ None = none_behind w l.app (omega (arith, c.if-index-names.true, c.requires, hosted_length c.args.tee.now.hosted.items w stands)) in
-    subst (λ (world : World g.row.A.Denot). Represents c.args.tee.now world) (sym (ap (λ (line : Line). world_after next asks w (line_events next asks w line)) c.parts-app.ensures ∙ no_events next asks w l.app l.client l.post l.call none)) stands
+    subst (λ (world : World g.row.A.Denot). Represents c.args.tee.now world) (sym (ap (λ (line : Line). world_after behaviour w (line_events behaviour w line)) c.parts-app.ensures ∙ no_events behaviour w l.app l.client l.post l.call none)) stands
 
 pub returns-then-index-names-clause-written : goal.returns-then-index-names-clause-written
 returns-then-index-names-clause-written g c = λ w stands.
-    let next = g.A.Application.next in
-    let asks = g.A.Application.asks in
+    let behaviour = g.A.Application.behaviour in
     let l = c.parts-app.result in
     let none : slice_get w l.app ≡ None = none_behind w l.app (omega (arith, c.if-index-names.true, c.requires, hosted_length c.args.tee.now.hosted.items w stands)) in
     let old = g.W.Sink.written c.args.sink.now in
-    subst (Appends old old) (sym (ap (λ (line : Line). text_of next asks c.args.names.now w (line_events next asks w line)) c.parts-app.ensures ∙ no_text next asks c.args.names.now w l.app l.client l.post l.call none)) (Appends-nil old)
+    subst (Appends old old) (sym (ap (λ (line : Line). text_of behaviour c.args.names.now w (line_events behaviour w line)) c.parts-app.ensures ∙ no_text behaviour c.args.names.now w l.app l.client l.post l.call none)) (Appends-nil old)

@@ -7,34 +7,31 @@ use Rattle.tee_top.proofs.lines.run_lines.Goals as goal
 
 pub loop-line-init : goal.loop-line-init
 loop-line-init g c =
-    let next = g.A.Application.next in
-    let asks = g.A.Application.asks in
+    let behaviour = g.A.Application.behaviour in
     record {
-      run = λ w stands. along_start next asks c.args.names.now (Represents c.args.tee.now) w (events_of next asks w c.args.lines.items) (λ now. events_of next asks now c.from-rest.result.items) (g.W.Sink.written c.args.sink.now) stands (ap (events_of next asks w) c.from-rest.ensures.0);
+      run = λ w stands. along_start behaviour c.args.names.now (Represents c.args.tee.now) w (events_of behaviour w c.args.lines.items) (λ now. events_of behaviour now c.from-rest.result.items) (g.W.Sink.written c.args.sink.now) stands (ap (events_of behaviour w) c.from-rest.ensures.0);
       apps = refl;
       later = omega arith;
     }
 
 pub loop-line-preserved : goal.loop-line-preserved
 loop-line-preserved g c =
-    let next = g.A.Application.next in
-    let asks = g.A.Application.asks in
+    let behaviour = g.A.Application.behaviour in
     record {
       run = λ w stands.
           let run = c.loop-line.invariant.run w stands in
-          let events = line_events next asks run.now c.in-Some.line in
-          along_more next asks c.args.names.now (Represents c.loop-line.tee) (Represents c.run_line.new.tee) w (events_of next asks w c.args.lines.items) (λ now. events_of next asks now c.loop-line.rest.items) (λ now. events_of next asks now c.pop_front.new.self.items) _ _ _
-          run events _ (ap (events_of next asks run.now) c.in-Some.ensures.items) (c.in_ok-run_line.ensures.world run.now run.stands) refl (c.in_ok-run_line.ensures.written run.now run.stands);
+          let events = line_events behaviour run.now c.in-Some.line in
+          along_more behaviour c.args.names.now (Represents c.loop-line.tee) (Represents c.run_line.new.tee) w (events_of behaviour w c.args.lines.items) (λ now. events_of behaviour now c.loop-line.rest.items) (λ now. events_of behaviour now c.pop_front.new.self.items) _ _ _
+          run events _ (ap (events_of behaviour run.now) c.in-Some.ensures.items) (c.in_ok-run_line.ensures.world run.now run.stands) refl (c.in_ok-run_line.ensures.written run.now run.stands);
       apps = c.in_ok-run_line.ensures.apps ∙ c.loop-line.invariant.apps;
       later = omega (arith, c.loop-line.invariant.later, c.in_ok-run_line.ensures.later);
     }
 
 pub returns-in_err-run_line-clause-written : goal.returns-in_err-run_line-clause-written
 returns-in_err-run_line-clause-written g c = λ w stands.
-    let next = g.A.Application.next in
-    let asks = g.A.Application.asks in
+    let behaviour = g.A.Application.behaviour in
     let run = c.loop-line.invariant.run w stands in
-    let events = line_events next asks run.now c.in-Some.line in
+    let events = line_events behaviour run.now c.in-Some.line in
     writes_err c.from_residual.result _ _ _ c.from_residual.ensures.0
-    (along_stopped next asks c.args.names.now (Represents c.loop-line.tee) w (events_of next asks w c.args.lines.items) (λ now. events_of next asks now c.loop-line.rest.items) _ _ _
-    run events (events_of next asks (world_after next asks run.now events) c.pop_front.new.self.items) (ap (events_of next asks run.now) c.in-Some.ensures.items) (c.in_err-run_line.ensures.written run.now run.stands))
+    (along_stopped behaviour c.args.names.now (Represents c.loop-line.tee) w (events_of behaviour w c.args.lines.items) (λ now. events_of behaviour now c.loop-line.rest.items) _ _ _
+    run events (events_of behaviour (world_after behaviour run.now events) c.pop_front.new.self.items) (ap (events_of behaviour run.now) c.in-Some.ensures.items) (c.in_err-run_line.ensures.written run.now run.stands))

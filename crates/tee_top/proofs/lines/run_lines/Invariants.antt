@@ -8,10 +8,9 @@ use Rattle.tee_top.proofs.lines.run_lines.Given as goal
 -- the events of the lines so far and those of the rest are all
 abbrev pub invariant-loop-line : goal.invariant-loop-line
 invariant-loop-line g l =
-    let next = g.A.Application.next in
-    let asks = g.A.Application.asks in
+    let behaviour = g.A.Application.behaviour in
     record {
-      run : (world : World g.row.A.Denot) → Represents l.fn.tee world → Along next asks l.names (Represents l.tee) world (events_of next asks world l.fn.lines.items) (λ now. events_of next asks now l.rest.items) (g.W.Sink.written l.fn.sink) (g.W.Sink.written l.sink);
+      run : (world : World g.row.A.Denot) → Represents l.fn.tee world → Along behaviour l.names (Represents l.tee) world (events_of behaviour world l.fn.lines.items) (λ now. events_of behaviour now l.rest.items) (g.W.Sink.written l.fn.sink) (g.W.Sink.written l.sink);
       apps : app_count l.tee ≡ app_count l.fn.tee;
       later : g.W.Sink.failures l.fn.sink ≤ g.W.Sink.failures l.sink;
     }

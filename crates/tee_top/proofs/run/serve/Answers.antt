@@ -10,30 +10,27 @@ use Rattle.tee_top.proofs.run.serve.Goals as goal
 
 pub returns-in-Ok-run_lines-clause-stopped : goal.returns-in-Ok-run_lines-clause-stopped
 returns-in-Ok-run_lines-clause-stopped g c =
-    let next = g.A.Application.next in
-    let asks = g.A.Application.asks in
+    let behaviour = g.A.Application.behaviour in
     let world = world_of c.args.hosts.items c.args.seed (λ app. empty_store) in
     let names : c.as_slice-2.result.now ≡ names_of c.args.hosts.items = c.as_slice-2.ensures.value ∙ c.in-Ok.ensures ∙ ap names_of c.as_slice.ensures.value in
     front_whole _ _ _
-    (subst (λ ns. Appends (g.W.Sink.written c.args.sink.now) (g.W.Sink.written c.run_lines.new.sink) (text_of next asks ns world (events_of next asks world c.args.lines.items))) names
+    (subst (λ ns. Appends (g.W.Sink.written c.args.sink.now) (g.W.Sink.written c.run_lines.new.sink) (text_of behaviour ns world (events_of behaviour world c.args.lines.items))) names
     (c.in-Ok-run_lines.ensures.written world c.in-Ok-new.ensures.world))
 
 pub returns-in-Err-NoMemory-clause-stopped : goal.returns-in-Err-NoMemory-clause-stopped
 returns-in-Err-NoMemory-clause-stopped g c =
-    let next = g.A.Application.next in
-    let asks = g.A.Application.asks in
+    let behaviour = g.A.Application.behaviour in
     let world = world_of c.args.hosts.items c.args.seed (λ app. empty_store) in
     let names : c.as_slice-2.result.now ≡ names_of c.args.hosts.items = c.as_slice-2.ensures.value ∙ c.in-Ok.ensures ∙ ap names_of c.as_slice.ensures.value in
-    subst (λ ns. AppendsFront (text_of next asks ns world (events_of next asks world c.args.lines.items)) (g.W.Sink.written c.args.sink.now) (g.W.Sink.written c.run_lines.new.sink)) names
+    subst (λ ns. AppendsFront (text_of behaviour ns world (events_of behaviour world c.args.lines.items)) (g.W.Sink.written c.args.sink.now) (g.W.Sink.written c.run_lines.new.sink)) names
     (c.in-Err-NoMemory.ensures.written world c.in-Ok-new.ensures.world)
 
 pub returns-clause-stopped : goal.returns-clause-stopped
 returns-clause-stopped g c =
-    let next = g.A.Application.next in
-    let asks = g.A.Application.asks in
+    let behaviour = g.A.Application.behaviour in
     let world = world_of c.args.hosts.items c.args.seed (λ app. empty_store) in
     let names : c.as_slice-2.result.now ≡ names_of c.args.hosts.items = c.as_slice-2.ensures.value ∙ c.in-Ok.ensures ∙ ap names_of c.as_slice.ensures.value in
-    subst (λ ns. AppendsFront (text_of next asks ns world (events_of next asks world c.args.lines.items)) (g.W.Sink.written c.args.sink.now) (g.W.Sink.written c.run_lines.new.sink)) names
+    subst (λ ns. AppendsFront (text_of behaviour ns world (events_of behaviour world c.args.lines.items)) (g.W.Sink.written c.args.sink.now) (g.W.Sink.written c.run_lines.new.sink)) names
     (c.in-Err-WriteFault.ensures.written world c.in-Ok-new.ensures.world)
 
 pub returns-clause-fault : goal.returns-clause-fault

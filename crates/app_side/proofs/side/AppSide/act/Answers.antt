@@ -2,7 +2,7 @@ use Rattle.std.proofs.Common.{◌≡◌, ◌∙◌, List, Some, find, refl, sym,
 use Rattle.alone.specs.declared.running.Instance.{Instance}
 use Rattle.alone.specs.declared.running.Running.{Running}
 use Rattle.alone.specs.declared.running.Waits.TheVariants as waits
-use Rattle.object_asks.specs.Asks.{Course, Outcome, Panicked, Returned}
+use Rattle.object_asks.specs.Asks.{Course, Outcome, Panicked, Returned, Serves}
 use Rattle.alone.specs.Asks.{course, course_after}
 use Rattle.alone.specs.Machine.{Machine, is_number}
 use Rattle.alone.specs.Step.{acted, not_built, returned, served}
@@ -14,7 +14,6 @@ use Rattle.object_asks.specs.Serving.{CrashTurns, serving_of}
 use Rattle.alone.proofs.Courses.{course_above, course_below}
 use Rattle.app_side.proofs.Carried.{below, none_tried, plain_turn}
 use Rattle.object_asks.specs.declared.outcome.Ending.{Ending}
-use Rattle.alone.specs.declared.reply.Reply.{Reply}
 use Rattle.alone.proofs.Lists.{found_number}
 use Rattle.app_side.proofs.TurnLemmas.{answers, moves, returns, turned_lost}
 use Rattle.object_asks.proofs.Crashes.{idle_crash}
@@ -22,28 +21,31 @@ use Rattle.app_side.specs.Serving.{in_doubt_by}
 use Rattle.app_side.proofs.Crashed.{acted_crash}
 use Rattle.app_side.proofs.side.AppSide.act.Goals as goal
 
-pub returns-then-asks-ge-ASKS : goal.returns-then-asks-ge-ASKS
-returns-then-asks-ge-ASKS g c =
-    let t = g.T.AppStore in
-    let before = t.kept c.args.store.now in
+pub returns-in_ok-end_entry-then-asks-ge-ASKS : goal.returns-in_ok-end_entry-then-asks-ge-ASKS
+returns-in_ok-end_entry-then-asks-ge-ASKS g c inst found =
+    let t = g.T.AppStore.keeper in
+    let before = t.contents c.args.store.now in
+    let new = c.end_entry.new.self in
+    let replies = c.end_entry.new.replies in
     let r : Running = record { op = c.args.running.op; stage = c.args.running.stage; waits = waits.Ask c.args.running.ask; asks = c.args.running.asks } in
-    let there = c.requires.some in
+    let numbered : inst.number ≡ c.args.number = found_number c.args.number c.args.self.now.instances.items inst found in
+    let turned = c.in_ok-end_entry.ensures inst found numbered in
     record {
-      step = λ tells same doubt inst found numbered.
+      step = λ model same doubt.
           let m : Machine g.row.A.Denot = machine_over c.args.self.now before.store doubt in
-          subst (λ (k : Course (Machine g.row.A.Denot)). IsStep c.end_entry.new.self before.store c.plain.result.replies (acted m inst r (served (serving_of c.plain.result.kind) m c.args.running.ask k))) (sym (course_above c.args.running.asks m inst.number c.args.running.stage c.args.running.ask c.if-asks-ge-ASKS.true))
-          (returns c.args.self.now c.end_entry.new.self c.plain.result.replies inst r not_built m before.store doubt (subst (λ (e : Ending). IsTurned c.end_entry.new.self c.plain.result.replies (returned (machine_of c.args.self.now) inst r.op r.stage e.code e.outs)) c.not_built.ensures (subst (λ (given : List Reply). IsTurned c.end_entry.new.self given (returned (machine_of c.args.self.now) inst r.op r.stage c.not_built.result.code c.not_built.result.outs)) (sym c.plain.ensures.replies) (c.in_ok-replies.ensures inst found numbered))) refl);
-      kind = plain_turn t.tells t.kept t.standing t.damage t.honest t.moment t.left_since c.plain.result.kind _ _ _ _ c.args.store.now c.plain.ensures.kind (sym (turned_lost c.args.self.now c.end_entry.new.self c.in_ok-replies.replies there.0 c.args.running.op c.args.running.stage c.not_built.result.code c.not_built.result.outs (c.in_ok-replies.ensures there.0 there.1 (found_number c.args.number c.args.self.now.instances.items there.0 there.1))));
-      tried = none_tried _ (t.standing c.args.store.now);
+          subst (λ (k : Course (Machine g.row.A.Denot)). IsStep new before.store replies (acted m inst r (served Serves m c.args.running.ask k))) (sym (course_above c.args.running.asks m inst.number c.args.running.stage c.args.running.ask c.if-asks-ge-ASKS.true))
+          (returns c.args.self.now new replies inst r not_built m before.store doubt (subst (λ (e : Ending). IsTurned new replies (returned (machine_of c.args.self.now) inst r.op r.stage e.code e.outs)) c.not_built.ensures turned) refl);
+      kind = plain_turn t _ _ _ _ c.args.store.now (sym (turned_lost c.args.self.now new replies inst c.args.running.op c.args.running.stage c.not_built.result.code c.not_built.result.outs turned));
+      tried = none_tried _ (t.status c.args.store.now);
       want = tt;
-      crash = λ honest just doubt inst found numbered. idle_crash t.kept t.moment t.left_since _ _ c.args.store.now just;
+      crash = λ honest just doubt. idle_crash t _ _ c.args.store.now just;
     }
 
 pub returns-in-Answered : goal.returns-in-Answered
-returns-in-Answered g c =
-    let t = g.T.AppStore in
-    let before = t.kept c.args.store.now in
-    let after = t.kept c.carry_out.new.store in
+returns-in-Answered g c inst found =
+    let t = g.T.AppStore.keeper in
+    let before = t.contents c.args.store.now in
+    let after = t.contents c.carry_out.new.store in
     let mid = c.carry_out.new.self in
     let new = c.answer_next.new.self in
     let done = c.in_ok-kind.field-0 in
@@ -51,33 +53,33 @@ returns-in-Answered g c =
     let ask = c.args.running.ask in
     let r : Running = record { op = c.args.running.op; stage = c.args.running.stage; waits = waits.Ask ask; asks = c.args.running.asks } in
     let out : done.outcome ≡ outcomes.Answered c.in-Answered.answer = c.in-Answered.is in
-    let at : IsPlace c.args.number mid.instances.items c.args.place = subst (λ (xs : List (Instance g.row.A.Denot)). IsPlace c.args.number xs c.args.place) (ap (λ v. v.items) (sym met.instances)) c.requires in
+    let at : IsPlace c.args.number mid.instances.items c.args.place = subst (λ (xs : List (Instance g.row.A.Denot)). IsPlace c.args.number xs c.args.place) (ap (λ v. v.items) (sym met.instances)) c.requires.place in
     let found_in : (inst : Instance g.row.A.Denot) → find (is_number c.args.number) c.args.self.now.instances.items ≡ Some inst → find (is_number c.args.number) mid.instances.items ≡ Some inst = λ inst found. ap (λ v. find (is_number c.args.number) v.items) met.instances ∙ found in
-    let there = c.requires.some in
+    let numbered : inst.number ≡ c.args.number = found_number c.args.number c.args.self.now.instances.items inst found in
     record {
-      step = λ tells same doubt inst found numbered.
+      step = λ model same doubt.
           let m : Machine g.row.A.Denot = machine_over c.args.self.now before.store doubt in
           let stated : Outcome (Machine g.row.A.Denot) = served (serving_of done.kind) m ask (course m c.args.number c.args.running.stage ask) in
-          let left : IsLeft (outcomes.Answered c.in-Answered.answer) stated mid after.store doubt m = subst (λ (o : Result_of). IsLeft o stated mid after.store doubt m) out (met.left tells same doubt) in
-          answers mid new c.none.result inst r c.in-Answered.answer after.store left.0 (served (serving_of done.kind) m ask (course_after c.args.running.asks m inst.number c.args.running.stage ask))
-          (c.answer_next.ensures c.args.number at inst (found_in inst found)) c.none.ensures
+          let left : IsLeft (outcomes.Answered c.in-Answered.answer) stated mid after.store doubt m = subst (λ (o : Result_of). IsLeft o stated mid after.store doubt m) out (met.left model same doubt) in
+          answers mid new c.args.replies.now inst r c.in-Answered.answer after.store left.0 (served (serving_of done.kind) m ask (course_after c.args.running.asks m inst.number c.args.running.stage ask))
+          (c.answer_next.ensures c.args.number at inst (found_in inst found)) c.requires.none
           (ap (λ (k : Course (Machine g.row.A.Denot)). served (serving_of done.kind) m ask k) (course_below c.args.running.asks m inst.number c.args.number c.args.running.stage ask c.if-asks-ge-ASKS.false numbered) ∙ left.1) m;
-      kind = moves t.tells t.kept t.standing t.damage t.honest t.moment t.left_since done.kind _ _ _ _ _ _ _ c.args.store.now c.carry_out.new.store (sym (below c.args.running.asks _ c.if-asks-ge-ASKS.false)) refl
-          (sym (ap (λ (m : Machine g.row.A.Denot). m.lost) (c.answer_next.ensures c.args.number at there.0 (found_in there.0 there.1)))) met.kind;
+      kind = moves t done.kind _ _ _ _ _ _ _ c.args.store.now c.carry_out.new.store (sym (below c.args.running.asks _ c.if-asks-ge-ASKS.false)) refl
+          (sym (ap (λ (m : Machine g.row.A.Denot). m.lost) (c.answer_next.ensures c.args.number at inst (found_in inst found)))) met.kind;
       tried = c.carry_out.ensures.tried;
       want = tt;
-      crash = λ honest just doubt inst found numbered.
+      crash = λ honest just doubt.
           let m : Machine g.row.A.Denot = machine_over c.args.self.now before.store doubt in
-          acted_crash t.kept t.moment t.left_since c.args.store.now c.carry_out.new.store m inst r done.kind (served (serving_of done.kind) m ask (course_after c.args.running.asks m inst.number c.args.running.stage ask))
-          (subst (λ (k : Course (Machine g.row.A.Denot)). CrashTurns t.kept t.moment t.left_since done.kind (in_doubt_by (served (serving_of done.kind) m ask k)) c.args.store.now c.carry_out.new.store)
+          acted_crash t c.args.store.now c.carry_out.new.store m inst r done.kind (served (serving_of done.kind) m ask (course_after c.args.running.asks m inst.number c.args.running.stage ask))
+          (subst (λ (k : Course (Machine g.row.A.Denot)). CrashTurns t done.kind (in_doubt_by (served (serving_of done.kind) m ask k)) c.args.store.now c.carry_out.new.store)
           (sym (course_below c.args.running.asks m inst.number c.args.number c.args.running.stage ask c.if-asks-ge-ASKS.false numbered)) (met.crash honest just doubt));
     }
 
-pub returns-in_ok-replies-in-Returned : goal.returns-in_ok-replies-in-Returned
-returns-in_ok-replies-in-Returned g c =
-    let t = g.T.AppStore in
-    let before = t.kept c.args.store.now in
-    let after = t.kept c.carry_out.new.store in
+pub returns-in_ok-end_entry-in-Returned : goal.returns-in_ok-end_entry-in-Returned
+returns-in_ok-end_entry-in-Returned g c inst found =
+    let t = g.T.AppStore.keeper in
+    let before = t.contents c.args.store.now in
+    let after = t.contents c.carry_out.new.store in
     let mid = c.carry_out.new.self in
     let new = c.end_entry-in-Returned.new.self in
     let done = c.in_ok-kind.field-0 in
@@ -86,32 +88,31 @@ returns-in_ok-replies-in-Returned g c =
     let r : Running = record { op = c.args.running.op; stage = c.args.running.stage; waits = waits.Ask ask; asks = c.args.running.asks } in
     let out : done.outcome ≡ outcomes.Returned c.in-Returned.ending = c.in-Returned.is in
     let found_in : (inst : Instance g.row.A.Denot) → find (is_number c.args.number) c.args.self.now.instances.items ≡ Some inst → find (is_number c.args.number) mid.instances.items ≡ Some inst = λ inst found. ap (λ v. find (is_number c.args.number) v.items) met.instances ∙ found in
-    let there = c.requires.some in
-    let named : there.0.number ≡ c.args.number = found_number c.args.number c.args.self.now.instances.items there.0 there.1 in
+    let numbered : inst.number ≡ c.args.number = found_number c.args.number c.args.self.now.instances.items inst found in
     record {
-      step = λ tells same doubt inst found numbered.
+      step = λ model same doubt.
           let m : Machine g.row.A.Denot = machine_over c.args.self.now before.store doubt in
           let stated : Outcome (Machine g.row.A.Denot) = served (serving_of done.kind) m ask (course m c.args.number c.args.running.stage ask) in
-          let left : IsLeft (outcomes.Returned c.in-Returned.ending) stated mid after.store doubt m = subst (λ (o : Result_of). IsLeft o stated mid after.store doubt m) out (met.left tells same doubt) in
+          let left : IsLeft (outcomes.Returned c.in-Returned.ending) stated mid after.store doubt m = subst (λ (o : Result_of). IsLeft o stated mid after.store doubt m) out (met.left model same doubt) in
           let whole : served (serving_of done.kind) m ask (course_after c.args.running.asks m inst.number c.args.running.stage ask) ≡ Returned c.in-Returned.ending.code c.in-Returned.ending.outs = ap (λ (k : Course (Machine g.row.A.Denot)). served (serving_of done.kind) m ask k) (course_below c.args.running.asks m inst.number c.args.number c.args.running.stage ask c.if-asks-ge-ASKS.false numbered) ∙ left.0 in
-          subst (λ (o : Outcome (Machine g.row.A.Denot)). IsStep new after.store c.in_ok-replies-in-Returned.replies (acted m inst r o)) (sym whole)
-          (returns mid new c.in_ok-replies-in-Returned.replies inst r (c.in-Returned.ending) m after.store doubt (c.in_ok-replies-in-Returned.ensures inst (found_in inst found) numbered) left.1);
-      kind = moves t.tells t.kept t.standing t.damage t.honest t.moment t.left_since done.kind _ _ _ _ _ _ _ c.args.store.now c.carry_out.new.store (sym (below c.args.running.asks _ c.if-asks-ge-ASKS.false)) refl
-          (turned_lost mid new c.in_ok-replies-in-Returned.replies there.0 c.args.running.op c.args.running.stage c.in-Returned.ending.code c.in-Returned.ending.outs (c.in_ok-replies-in-Returned.ensures there.0 (found_in there.0 there.1) named)) met.kind;
+          subst (λ (o : Outcome (Machine g.row.A.Denot)). IsStep new after.store c.end_entry-in-Returned.new.replies (acted m inst r o)) (sym whole)
+          (returns mid new c.end_entry-in-Returned.new.replies inst r (c.in-Returned.ending) m after.store doubt (c.in_ok-end_entry-in-Returned.ensures inst (found_in inst found) numbered) left.1);
+      kind = moves t done.kind _ _ _ _ _ _ _ c.args.store.now c.carry_out.new.store (sym (below c.args.running.asks _ c.if-asks-ge-ASKS.false)) refl
+          (turned_lost mid new c.end_entry-in-Returned.new.replies inst c.args.running.op c.args.running.stage c.in-Returned.ending.code c.in-Returned.ending.outs (c.in_ok-end_entry-in-Returned.ensures inst (found_in inst found) numbered)) met.kind;
       tried = c.carry_out.ensures.tried;
       want = tt;
-      crash = λ honest just doubt inst found numbered.
+      crash = λ honest just doubt.
           let m : Machine g.row.A.Denot = machine_over c.args.self.now before.store doubt in
-          acted_crash t.kept t.moment t.left_since c.args.store.now c.carry_out.new.store m inst r done.kind (served (serving_of done.kind) m ask (course_after c.args.running.asks m inst.number c.args.running.stage ask))
-          (subst (λ (k : Course (Machine g.row.A.Denot)). CrashTurns t.kept t.moment t.left_since done.kind (in_doubt_by (served (serving_of done.kind) m ask k)) c.args.store.now c.carry_out.new.store)
+          acted_crash t c.args.store.now c.carry_out.new.store m inst r done.kind (served (serving_of done.kind) m ask (course_after c.args.running.asks m inst.number c.args.running.stage ask))
+          (subst (λ (k : Course (Machine g.row.A.Denot)). CrashTurns t done.kind (in_doubt_by (served (serving_of done.kind) m ask k)) c.args.store.now c.carry_out.new.store)
           (sym (course_below c.args.running.asks m inst.number c.args.number c.args.running.stage ask c.if-asks-ge-ASKS.false numbered)) (met.crash honest just doubt));
     }
 
-pub returns-in_ok-replies-in-Panicked : goal.returns-in_ok-replies-in-Panicked
-returns-in_ok-replies-in-Panicked g c =
-    let t = g.T.AppStore in
-    let before = t.kept c.args.store.now in
-    let after = t.kept c.carry_out.new.store in
+pub returns-in_ok-end_entry-in-Panicked : goal.returns-in_ok-end_entry-in-Panicked
+returns-in_ok-end_entry-in-Panicked g c inst found =
+    let t = g.T.AppStore.keeper in
+    let before = t.contents c.args.store.now in
+    let after = t.contents c.carry_out.new.store in
     let mid = c.carry_out.new.self in
     let new = c.end_entry-in-Panicked.new.self in
     let done = c.in_ok-kind.field-0 in
@@ -120,23 +121,22 @@ returns-in_ok-replies-in-Panicked g c =
     let r : Running = record { op = c.args.running.op; stage = c.args.running.stage; waits = waits.Ask ask; asks = c.args.running.asks } in
     let out : done.outcome ≡ outcomes.Panicked = c.in-Panicked.is in
     let found_in : (inst : Instance g.row.A.Denot) → find (is_number c.args.number) c.args.self.now.instances.items ≡ Some inst → find (is_number c.args.number) mid.instances.items ≡ Some inst = λ inst found. ap (λ v. find (is_number c.args.number) v.items) met.instances ∙ found in
-    let there = c.requires.some in
-    let named : there.0.number ≡ c.args.number = found_number c.args.number c.args.self.now.instances.items there.0 there.1 in
+    let numbered : inst.number ≡ c.args.number = found_number c.args.number c.args.self.now.instances.items inst found in
     record {
-      step = λ tells same doubt inst found numbered.
+      step = λ model same doubt.
           let m : Machine g.row.A.Denot = machine_over c.args.self.now before.store doubt in
           let stated : Outcome (Machine g.row.A.Denot) = served (serving_of done.kind) m ask (course m c.args.number c.args.running.stage ask) in
-          let left : IsLeft (outcomes.Panicked) stated mid after.store doubt m = subst (λ (o : Result_of). IsLeft o stated mid after.store doubt m) out (met.left tells same doubt) in
+          let left : IsLeft (outcomes.Panicked) stated mid after.store doubt m = subst (λ (o : Result_of). IsLeft o stated mid after.store doubt m) out (met.left model same doubt) in
           let whole : served (serving_of done.kind) m ask (course_after c.args.running.asks m inst.number c.args.running.stage ask) ≡ Panicked = ap (λ (k : Course (Machine g.row.A.Denot)). served (serving_of done.kind) m ask k) (course_below c.args.running.asks m inst.number c.args.number c.args.running.stage ask c.if-asks-ge-ASKS.false numbered) ∙ left.0 in
-          subst (λ (o : Outcome (Machine g.row.A.Denot)). IsStep new after.store c.in_ok-replies-in-Panicked.replies (acted m inst r o)) (sym whole)
-          (returns mid new c.in_ok-replies-in-Panicked.replies inst r (not_built) m after.store doubt (subst (λ (e : Ending). IsTurned new c.in_ok-replies-in-Panicked.replies (returned (machine_of mid) inst r.op r.stage e.code e.outs)) c.not_built-in-Panicked.ensures (c.in_ok-replies-in-Panicked.ensures inst (found_in inst found) numbered)) left.1);
-      kind = moves t.tells t.kept t.standing t.damage t.honest t.moment t.left_since done.kind _ _ _ _ _ _ _ c.args.store.now c.carry_out.new.store (sym (below c.args.running.asks _ c.if-asks-ge-ASKS.false)) refl
-          (turned_lost mid new c.in_ok-replies-in-Panicked.replies there.0 c.args.running.op c.args.running.stage c.not_built-in-Panicked.result.code c.not_built-in-Panicked.result.outs (c.in_ok-replies-in-Panicked.ensures there.0 (found_in there.0 there.1) named)) met.kind;
+          subst (λ (o : Outcome (Machine g.row.A.Denot)). IsStep new after.store c.end_entry-in-Panicked.new.replies (acted m inst r o)) (sym whole)
+          (returns mid new c.end_entry-in-Panicked.new.replies inst r (not_built) m after.store doubt (subst (λ (e : Ending). IsTurned new c.end_entry-in-Panicked.new.replies (returned (machine_of mid) inst r.op r.stage e.code e.outs)) c.not_built-in-Panicked.ensures (c.in_ok-end_entry-in-Panicked.ensures inst (found_in inst found) numbered)) left.1);
+      kind = moves t done.kind _ _ _ _ _ _ _ c.args.store.now c.carry_out.new.store (sym (below c.args.running.asks _ c.if-asks-ge-ASKS.false)) refl
+          (turned_lost mid new c.end_entry-in-Panicked.new.replies inst c.args.running.op c.args.running.stage c.not_built-in-Panicked.result.code c.not_built-in-Panicked.result.outs (c.in_ok-end_entry-in-Panicked.ensures inst (found_in inst found) numbered)) met.kind;
       tried = c.carry_out.ensures.tried;
       want = tt;
-      crash = λ honest just doubt inst found numbered.
+      crash = λ honest just doubt.
           let m : Machine g.row.A.Denot = machine_over c.args.self.now before.store doubt in
-          acted_crash t.kept t.moment t.left_since c.args.store.now c.carry_out.new.store m inst r done.kind (served (serving_of done.kind) m ask (course_after c.args.running.asks m inst.number c.args.running.stage ask))
-          (subst (λ (k : Course (Machine g.row.A.Denot)). CrashTurns t.kept t.moment t.left_since done.kind (in_doubt_by (served (serving_of done.kind) m ask k)) c.args.store.now c.carry_out.new.store)
+          acted_crash t c.args.store.now c.carry_out.new.store m inst r done.kind (served (serving_of done.kind) m ask (course_after c.args.running.asks m inst.number c.args.running.stage ask))
+          (subst (λ (k : Course (Machine g.row.A.Denot)). CrashTurns t done.kind (in_doubt_by (served (serving_of done.kind) m ask k)) c.args.store.now c.carry_out.new.store)
           (sym (course_below c.args.running.asks m inst.number c.args.number c.args.running.stage ask c.if-asks-ge-ASKS.false numbered)) (met.crash honest just doubt));
     }

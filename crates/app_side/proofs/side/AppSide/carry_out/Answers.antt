@@ -1,6 +1,8 @@
 use Rattle.std.proofs.Common.{◌≡◌, ◌∙◌, Bool, refl, sym, subst, ap}
 use Rattle.app_api.specs.declared.ask.Ask.{Ask}
+use Rattle.object_asks.specs.declared.turn.TurnKind.{TurnKind}
 use Rattle.object_asks.specs.declared.turn.TurnKind.TheVariants.{Plain}
+use Rattle.app_side.specs.Serving.{IsTurnOf}
 use Rattle.object_asks.specs.Asks.{came_of, object_course}
 use Rattle.alone.specs.Asks.{course}
 use Rattle.alone.specs.Step.{served}
@@ -17,26 +19,26 @@ use Rattle.app_side.proofs.side.AppSide.carry_out.Goals as goal
 
 pub returns-in-Return : goal.returns-in-Return
 returns-in-Return g c =
-    let t = g.T.AppStore in
-    let kept = t.kept c.args.store.now in
+    let t = g.T.AppStore.keeper in
+    let kept = t.contents c.args.store.now in
     let plain : c.returned.result.kind ≡ Plain = ap (λ (r : Served). r.kind) c.returned.ensures ∙ return_plain c.args.stage.now c.in-Return.code c.in-Return.outs in
     record {
       left = λ tells same doubt.
           let Left : Ask → Served → Type 0 = λ (ask : Ask) (r : Served). IsLeft r.outcome (served (serving_of r.kind) (machine_over c.args.self.now kept.store doubt) ask (course (machine_over c.args.self.now kept.store doubt) c.args.instance c.args.stage.now ask)) c.args.self.now kept.store doubt (machine_over c.args.self.now kept.store doubt) in
           subst (λ (r : Served). Left c.args.ask r) (sym c.returned.ensures) (subst (λ (ask : Ask). Left ask (return_of c.args.stage.now c.in-Return.code c.in-Return.outs)) (sym c.in-Return.is) (return_left c.args.self.now kept.store doubt c.args.instance c.args.stage.now c.in-Return.code c.in-Return.outs));
-      kind = plain_turn t.tells t.kept t.standing t.damage t.honest t.moment t.left_since c.returned.result.kind _ _ _ _ c.args.store.now plain refl;
-      ends = ends_with c.returned.result.outcome _ (by_nothing t.tells t.kept t.standing t.damage t.honest t.moment t.left_since c.args.store.now);
-      tried = none_tried _ (t.standing c.args.store.now);
+      kind = subst (λ (k : TurnKind). IsTurnOf t k _ _ _ _ c.args.store.now c.args.store.now) (sym plain) (plain_turn t _ _ _ _ c.args.store.now refl);
+      ends = ends_with c.returned.result.outcome _ (by_nothing t c.args.store.now);
+      tried = none_tried _ (t.status c.args.store.now);
       want = tt;
       instances = refl;
-      crash = λ honest just doubt. idle_crash t.kept t.moment t.left_since _ _ c.args.store.now just;
+      crash = λ honest just doubt. idle_crash t _ _ c.args.store.now just;
     }
 
 pub returns-in_ok-served-in_default : goal.returns-in_ok-served-in_default
 returns-in_ok-served-in_default g c =
-    let t = g.T.AppStore in
-    let before = t.kept c.args.store.now in
-    let after = t.kept c.serve.new.store in
+    let t = g.T.AppStore.keeper in
+    let before = t.contents c.args.store.now in
+    let after = t.contents c.serve.new.store in
     let done = c.in_ok-served-in_default.served in
     let is = c.in_ok-served-in_default.ensures.served in
     record {
@@ -46,16 +48,15 @@ returns-in_ok-served-in_default g c =
       kind = record {
         stands = is.reaches;
         change = is.change;
-        standing = is.standing;
+        status = is.status;
         damage = is.damage;
         honest = is.honest;
-        beside = is.beside;
-        quiet = is.quiet;
-        lost = λ same. ap (λ (s : AppSide g.row.A.Denot). s.lost) c.note.ensures ∙ noted_lost _ done.kind _ _ is.standing same;
+        keeps = is.keeps;
+        lost = λ same. ap (λ (s : AppSide g.row.A.Denot). s.lost) c.note.ensures ∙ noted_lost _ done.kind _ _ is.status same;
       };
       ends = is.ends;
       tried = c.in_ok-served-in_default.ensures.tried;
       want = tt;
       instances = ap (λ (s : AppSide g.row.A.Denot). s.instances) c.note.ensures ∙ noted_instances _ done.kind;
-      crash = λ honest just doubt. carried_crash t.kept t.moment t.left_since c.args.store.now c.serve.new.store (machine_over c.args.self.now before.store doubt) c.args.instance c.args.stage.now c.args.ask done.kind c.in_default.not-Return is.change (is.crash honest just);
+      crash = λ honest just doubt. carried_crash t c.args.store.now c.serve.new.store (machine_over c.args.self.now before.store doubt) c.args.instance c.args.stage.now c.args.ask done.kind c.in_default.not-Return is.change (is.crash honest just);
     }

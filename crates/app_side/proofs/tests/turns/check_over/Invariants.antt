@@ -4,4 +4,4 @@ use Rattle.app_side.proofs.tests.turns.check_over.Given as goal
 
 -- the application knows whether its store is lost
 abbrev pub invariant-loop-step : goal.invariant-loop-step
-invariant-loop-step g l = is_lost l.side ≡ (g.T.AppStore.standing l.store).lost
+invariant-loop-step g l = is_lost l.side ≡ (g.T.AppStore.keeper.status l.store).lost

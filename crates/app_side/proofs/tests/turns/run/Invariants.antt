@@ -4,4 +4,4 @@ use Rattle.app_side.proofs.tests.turns.run.Given as goal
 
 -- the application knows whether its store is lost
 abbrev pub invariant-loop : goal.invariant-loop
-invariant-loop g l = is_lost l.side ≡ (g.T.AppStore.standing l.store).lost
+invariant-loop g l = is_lost l.side ≡ (g.T.AppStore.keeper.status l.store).lost

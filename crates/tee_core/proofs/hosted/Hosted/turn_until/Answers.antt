@@ -5,31 +5,30 @@ use Rattle.tee_core.proofs.Turns.{HasTurned, turns_start, turns_further, turns_a
 use Rattle.tee_core.proofs.hosted.Hosted.turn_until.Goals as goal
 
 pub loop-init : goal.loop-init
-loop-init g c = λ m is. turns_start g.A.Application.next g.A.Application.asks (IsHosted c.args.self.now) m c.args.instance c.args.op c.args.told.now is
+loop-init g c = λ m is. turns_start g.A.Application.behaviour (IsHosted c.args.self.now) m c.args.instance c.args.op c.args.told.now is
 
 pub returns-then-answered-clause-hosted : goal.returns-then-answered-clause-hosted
 returns-then-answered-clause-hosted g c = λ m is.
     let run = c.loop.invariant m is in
-    (turns_answered g.A.Application.next g.A.Application.asks (IsHosted c.loop.self) m c.args.instance c.args.op c.loop.counter c.args.told.now c.loop.told run (sym (c.answered.ensures run.now run.stands.side) ∙ c.if-answered.true)).0
+    (turns_answered g.A.Application.behaviour (IsHosted c.loop.self) m c.args.instance c.args.op c.loop.counter c.args.told.now c.loop.told run (sym (c.answered.ensures run.now run.stands.side) ∙ c.if-answered.true)).0
 
 pub returns-then-answered-clause-told : goal.returns-then-answered-clause-told
 returns-then-answered-clause-told g c = λ m is.
     let run = c.loop.invariant m is in
-    (turns_answered g.A.Application.next g.A.Application.asks (IsHosted c.loop.self) m c.args.instance c.args.op c.loop.counter c.args.told.now c.loop.told run (sym (c.answered.ensures run.now run.stands.side) ∙ c.if-answered.true)).1
+    (turns_answered g.A.Application.behaviour (IsHosted c.loop.self) m c.args.instance c.args.op c.loop.counter c.args.told.now c.loop.told run (sym (c.answered.ensures run.now run.stands.side) ∙ c.if-answered.true)).1
 
 pub loop-preserved : goal.loop-preserved
 loop-preserved g c = λ m is.
-    let next = g.A.Application.next in
-    let asks = g.A.Application.asks in
+    let behaviour = g.A.Application.behaviour in
     let run = c.loop.invariant m is in
-    subst (λ (told : List Happened). HasTurned next asks (IsHosted c.turn.new.self) m c.args.instance c.args.op (c.loop.counter + 1) c.args.told.now told) (sym c.in_ok-tell.ensures.ok)
-    (turns_further next asks (IsHosted c.loop.self) (IsHosted c.turn.new.self) m c.args.instance c.args.op c.loop.counter c.args.told.now c.loop.told run c.loop-test.true (sym (c.answered.ensures run.now run.stands.side) ∙ c.if-answered.false)
+    subst (λ (told : List Happened). HasTurned behaviour (IsHosted c.turn.new.self) m c.args.instance c.args.op (c.loop.counter + 1) c.args.told.now told) (sym c.in_ok-tell.ensures.ok)
+    (turns_further behaviour (IsHosted c.loop.self) (IsHosted c.turn.new.self) m c.args.instance c.args.op c.loop.counter c.args.told.now c.loop.told run c.loop-test.true (sym (c.answered.ensures run.now run.stands.side) ∙ c.if-answered.false)
     (c.in_ok-happened.ensures.hosted run.now run.stands) c.in_ok-happened.happened (c.in_ok-happened.ensures.told run.now run.stands))
 
 pub returns-clause-hosted : goal.returns-clause-hosted
 returns-clause-hosted g c = λ m is.
-    (turns_used g.A.Application.next g.A.Application.asks (IsHosted c.loop.self) m c.args.instance c.args.op c.loop.counter c.args.told.now c.loop.told (c.loop.invariant m is) c.loop-test.false).0
+    (turns_used g.A.Application.behaviour (IsHosted c.loop.self) m c.args.instance c.args.op c.loop.counter c.args.told.now c.loop.told (c.loop.invariant m is) c.loop-test.false).0
 
 pub returns-clause-told : goal.returns-clause-told
 returns-clause-told g c = λ m is.
-    (turns_used g.A.Application.next g.A.Application.asks (IsHosted c.loop.self) m c.args.instance c.args.op c.loop.counter c.args.told.now c.loop.told (c.loop.invariant m is) c.loop-test.false).1
+    (turns_used g.A.Application.behaviour (IsHosted c.loop.self) m c.args.instance c.args.op c.loop.counter c.args.told.now c.loop.told (c.loop.invariant m is) c.loop-test.false).1

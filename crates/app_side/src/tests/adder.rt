@@ -2,7 +2,7 @@
 
 ghost use Rattle.std.specs.Prelude.{◌≡◌, ◌+◌, ◌-◌, ◌^◌, min};
 ghost use Rattle.app_api.specs.Outs.{no_outs};
-ghost use Rattle.alone.specs.Adder as adder;
+ghost use Rattle.app_side.specs.Adder as adder;
 
 use app_api::{Application, Ask, Entry, Given, Out, Outs, Param};
 use std::alloc::Global;
@@ -76,9 +76,11 @@ fn ask_at(fails: bool, sum: u32, entry: Entry) -> Ask
 }
 
 impl Application for Adder {
-    ghost next = { λ a given. record a { sum = min (a.sum + adder.added_by given) (2 ^ 32 - 1) } };
+    ghost behaviour = { record {
+        next = λ a given. record a { sum = min (a.sum + adder.added_by given) (2 ^ 32 - 1) };
+        asks = λ a given. adder.ask_of a.fails (min (a.sum + adder.added_by given) (2 ^ 32 - 1)) given
+    } };
 
-    ghost asks = { λ a given. adder.ask_of a.fails (min (a.sum + adder.added_by given) (2 ^ 32 - 1)) given };
 
     fn step(&mut self, _alloc: Global, given: Given) -> Result<Ask, NoMemory> {
         self.sum = self.sum.saturating_add(added_by(&given));
