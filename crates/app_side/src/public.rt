@@ -1,6 +1,6 @@
 //! The calls of a running application, each of them a step of every machine that the value represents.
 
-ghost use Rattle.std.specs.Prelude.{◌≡◌, IfOk, OnErr, false, true};
+ghost use Rattle.std.specs.Prelude.{◌≡◌, [], IfOk, OnErr, false, true};
 ghost use Rattle.store_api.specs.Stores.{Store};
 ghost use Rattle.object_asks.specs.Serving.{EndsUnchanged, TriesOnce};
 ghost use Rattle.alone.specs.Machine.{Machine, start};
@@ -9,7 +9,7 @@ ghost use Rattle.app_side.specs.Represents.{is_lost, Represents, IsOneInstance};
 ghost use Rattle.app_side.specs.Serving.{IsTurn};
 
 use crate::side::{AppSide, Called, Turned};
-use alone::{Call, Replies};
+use alone::{Call, Replies, TurnKind};
 use app_api::{Application, Host};
 use instances::Instances;
 use object_asks::Handles;
@@ -76,22 +76,37 @@ impl<A: Application> AppSide<A> {
     /// a turn takes all its memory before it asks for a change.
     pub fn turn<T: AppStore>(&mut self, instance: u8, store: &mut T) -> Result<Turned, NoMemory>
         requires { is_lost self.old ≡ (T.keeper.status store.old).lost }
-        ensures turn {
-            IfOk result (λ turned. IsTurn T.keeper A.behaviour instance turned.kind turned.replies
-            self.old self.new store.old store.new)
-        }
-        ensures tried {
-            (m : Machine A) → Represents self.old m
-            → TriesOnce (is_changing m instance) (T.keeper.status store.old) (T.keeper.status store.new)
-        }
+        ensures turn { IfOk result (λ turned. IsTurn T.keeper A.behaviour instance turned.kind turned.replies
+            self.old self.new store.old store.new) }
+        ensures tried { (m : Machine A) → Represents self.old m
+            → TriesOnce (is_changing m instance) (T.keeper.status store.old) (T.keeper.status store.new) }
+        ensures want { OnErr result (EndsUnchanged T.keeper store.old store.new) }
+    {
+        let mut replies = Replies::none();
+        let kind = self.turn_into(instance, store, &mut replies)?;
+        Ok(Turned { kind, replies })
+    }
+
+    /// The same, with its replies in a table that the caller keeps, so that many turns need one.
+    pub fn turn_into<T: AppStore>(
+        &mut self,
+        instance: u8,
+        store: &mut T,
+        replies: &mut Replies,
+    ) -> Result<TurnKind, NoMemory>
+        requires loss { is_lost self.old ≡ (T.keeper.status store.old).lost }
+        requires none { replies.old ≡ [] }
+        ensures turn { IfOk result (λ kind. IsTurn T.keeper A.behaviour instance kind replies.new
+            self.old self.new store.old store.new) }
+        ensures tried { (m : Machine A) → Represents self.old m
+            → TriesOnce (is_changing m instance) (T.keeper.status store.old) (T.keeper.status store.new) }
         ensures want { OnErr result (EndsUnchanged T.keeper store.old store.new) }
     {
         if self.turns >= MOST {
             return Err(NoMemory);
         }
-        let mut replies = Replies::none();
-        let kind = self.advance(store, instance, &mut replies)?;
-        Ok(Turned { kind, replies })
+        let kind = self.advance(store, instance, replies)?;
+        Ok(kind)
     }
 
     /// The storage is lost, for a reason that lies outside of this application.

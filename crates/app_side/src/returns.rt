@@ -25,11 +25,9 @@ fn failures(
     replies: &mut Replies,
 ) -> Result<(), NoMemory>
     requires { replies.old ≡ [] }
-    ensures {
-        OnOk result (replies.new
+    ensures { OnOk result (replies.new
         ≡ map (λ o. reply_of o.number code Origin.App no_outputs)
-        (filter (belongs_to instance) operations.now))
-    }
+        (filter (belongs_to instance) operations.now)) }
 {
     for operation in operations {
         if operation.instance == instance {
@@ -75,21 +73,13 @@ fn leave_out<A: Drop>(instances: &mut Vec<Instance<A>>, number: u8)
 
 impl<A: Application> AppSide<A> {
     /// The operation is answered, and its instance runs nothing any more.
-    fn answer(
-        &mut self,
-        place: usize,
-        number: u8,
-        reply: Reply,
-        replies: &mut Replies,
-    )
+    fn answer(&mut self, place: usize, number: u8, reply: Reply, replies: &mut Replies)
         requires place { IsPlace number self.old.instances.items place }
         requires none { replies.old ≡ [] }
         requires origin { reply.origin ≡ Origin.App }
-        ensures {
-            (inst : Instance A) → find (is_number number) self.old.instances.items ≡ Some inst
+        ensures { (inst : Instance A) → find (is_number number) self.old.instances.items ≡ Some inst
             → IsTurned self.new replies.new
-            (answered (machine_of self.old) inst reply.op reply.code reply.outputs)
-        }
+            (answered (machine_of self.old) inst reply.op reply.code reply.outputs) }
     {
         self.instances[place].running = None;
         self.queue.answer(reply.op);
@@ -118,10 +108,8 @@ impl<A: Application> AppSide<A> {
     /// A create entry failed, and with it the instance.
     fn fail(&mut self, number: u8, code: Code, replies: &mut Replies) -> Result<(), NoMemory>
         requires { replies.old ≡ [] }
-        ensures {
-            OnOk result ((inst : Instance A) → inst.number ≡ number
-            → IsTurned self.new replies.new (create_failed (machine_of self.old) inst code))
-        }
+        ensures { OnOk result ((inst : Instance A) → inst.number ≡ number
+            → IsTurned self.new replies.new (create_failed (machine_of self.old) inst code)) }
     {
         failures(self.queue.operations(), number, code, replies)?;
         self.queue.clear(number);
@@ -154,12 +142,10 @@ impl<A: Application> AppSide<A> {
     ) -> Result<(), NoMemory>
         requires place { IsPlace number self.old.instances.items place }
         requires none { replies.old ≡ [] }
-        ensures {
-            OnOk result ((inst : Instance A) → find (is_number number) self.old.instances.items ≡ Some inst
+        ensures { OnOk result ((inst : Instance A) → find (is_number number) self.old.instances.items ≡ Some inst
             → inst.number ≡ number
             → IsTurned self.new replies.new
-            (returned (machine_of self.old) inst op stage ending.code ending.outs))
-        }
+            (returned (machine_of self.old) inst op stage ending.code ending.outs)) }
     {
         let code = ending.code;
         match stage {

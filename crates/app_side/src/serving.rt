@@ -34,12 +34,10 @@ impl<A: Application> AppSide<A> {
         stage: &Stage,
         ask: Ask,
     ) -> Result<Served, NoMemory>
-        ensures {
-            let before = objects_in self.old.handles (T.keeper.contents store.old)
+        ensures { let before = objects_in self.old.handles (T.keeper.contents store.old)
             in CarriesOut T.keeper (λ serving m. served serving m ask (course m instance stage.now ask))
             (comes_to_store (object_course before instance ask)) (changes_store ask)
-            result self.old self.new store.old store.new
-        }
+            result self.old self.new store.old store.new }
     {
         match ask {
             Ask::Return { code, outs } => Ok(returned(stage, code, outs)),

@@ -93,12 +93,10 @@ impl<A: Application> AppSide<A> {
     ) -> Result<TurnKind, NoMemory>
         requires place { IsPlace number self.old.instances.items place }
         requires none { replies.old ≡ [] }
-        ensures {
-            (inst : Instance A) → find (is_number number) self.old.instances.items ≡ Some inst
+        ensures { (inst : Instance A) → find (is_number number) self.old.instances.items ≡ Some inst
             → TakesTurn T.keeper (λ serving m. asked_turn A.behaviour serving m inst running)
             (comes self.old number (T.keeper.contents store.old) running)
-            (changes_store running.ask) result self.old self.new replies.new store.old store.new
-        }
+            (changes_store running.ask) result self.old self.new replies.new store.old store.new }
     {
         let Asked {
             op,
@@ -138,14 +136,12 @@ impl<A: Application> AppSide<A> {
     ) -> Result<TurnKind, NoMemory>
         requires place { IsPlace number self.old.instances.items place }
         requires none { replies.old ≡ [] }
-        ensures {
-            (inst : Instance A) → find (is_number number) self.old.instances.items ≡ Some inst
+        ensures { (inst : Instance A) → find (is_number number) self.old.instances.items ≡ Some inst
             → TakesTurn T.keeper (λ serving m. went_on A.behaviour serving m inst running running.waits)
             (of_waits (reaching (objects_in self.old.handles (T.keeper.contents store.old)) number)
             running running.waits)
             (of_waits changing running running.waits)
-            result self.old self.new replies.new store.old store.new
-        }
+            result self.old self.new replies.new store.old store.new }
     {
         let Running {
             op,
@@ -180,14 +176,12 @@ impl<A: Application> AppSide<A> {
     ) -> Result<TurnKind, NoMemory>
         requires place { IsPlace number self.old.instances.items place }
         requires none { replies.old ≡ [] }
-        ensures {
-            let found = find (is_number number) self.old.instances.items
+        ensures { let found = find (is_number number) self.old.instances.items
             in (inst : Instance A) → found ≡ Some inst
             → TakesTurn T.keeper (λ serving m. turned_by A.behaviour serving m inst inst.running)
             (of_instance (reaching (objects_in self.old.handles (T.keeper.contents store.old)) number) found)
             (of_instance changing found)
-            result self.old self.new replies.new store.old store.new
-        }
+            result self.old self.new replies.new store.old store.new }
     {
         if self.instances[place].running.is_none() {
             self.begin(place, number)?;
@@ -209,13 +203,11 @@ impl<A: Application> AppSide<A> {
     ) -> Result<TurnKind, NoMemory>
         requires few { self.old.turns < 2 ^ 63 }
         requires none { replies.old ≡ [] }
-        ensures {
-            let found = find (is_number instance) self.old.instances.items
+        ensures { let found = find (is_number instance) self.old.instances.items
             in TakesTurn T.keeper (λ serving m. turned_as A.behaviour serving m instance)
             (of_instance (reaching (objects_in self.old.handles (T.keeper.contents store.old)) instance) found)
             (of_instance changing found)
-            result self.old self.new replies.new store.old store.new
-        }
+            result self.old self.new replies.new store.old store.new }
     {
         self.turns += 1;
         match place_of(self.instances.as_slice(), instance) {

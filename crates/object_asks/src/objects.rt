@@ -82,12 +82,10 @@ fn open_found<T: AppStore>(
 ) -> Result<Answer, StoreAnswer>
     requires id { IsIdentifier id.now }
     requires room { is_full (settled handles.old) instance ≡ false }
-    ensures {
-        let before = objects_in handles.old (T.keeper.contents store.old)
+    ensures { let before = objects_in handles.old (T.keeper.contents store.old)
         in IsGiven T.keeper result
         (opened_by before instance id.now flags (found before.store id.now))
-        false handles.old handles.new store.old store.new
-    }
+        false handles.old handles.new store.old store.new }
 {
     let _facts = store.find(id)?;
     if !handles.may_open(id, flags) {
@@ -105,11 +103,9 @@ fn open<T: AppStore>(
     id: &[u8],
     flags: u32,
 ) -> Result<Served, NoMemory>
-    ensures {
-        let before = objects_in handles.old (T.keeper.contents store.old)
+    ensures { let before = objects_in handles.old (T.keeper.contents store.old)
         in ServesAsk T.keeper result (open_course before instance storage id.now flags)
-        false handles.old handles.new store.old store.new
-    }
+        false handles.old handles.new store.old store.new }
 {
     if is_long_identifier(id) || has_unknown_bits(flags) {
         return Ok(panicked());
@@ -155,12 +151,10 @@ fn create_closed<T: AppStore>(
     requires content { length content ≤ ASK_BYTES }
     requires room { is_full (settled handles.old) instance ≡ false }
     requires closed { is_open (settled handles.old) id ≡ false }
-    ensures {
-        let before = objects_in handles.old (T.keeper.contents store.old)
+    ensures { let before = objects_in handles.old (T.keeper.contents store.old)
         in IsGiven T.keeper result
         (created_by before instance id (kept_flags flags) (change before.store (put_of id content (overwrites flags))))
-        true handles.old handles.new store.old store.new
-    }
+        true handles.old handles.new store.old store.new }
 {
     let number = handles.add(instance, id.as_slice(), kept_flags(flags))?;
     let change = Change::Put {
@@ -192,12 +186,10 @@ fn create_object<T: AppStore>(
     requires id { IsIdentifier id }
     requires content { length content ≤ ASK_BYTES }
     requires room { is_full (settled handles.old) instance ≡ false }
-    ensures {
-        let before = objects_in handles.old (T.keeper.contents store.old)
+    ensures { let before = objects_in handles.old (T.keeper.contents store.old)
         in IsGiven T.keeper result
         (created before instance id flags content)
-        true handles.old handles.new store.old store.new
-    }
+        true handles.old handles.new store.old store.new }
 {
     if handles.is_open(id.as_slice()) {
         return conflict(store, id.as_slice());
@@ -217,11 +209,9 @@ fn create<T: AppStore>(
     attr: u32,
     content: Bytes,
 ) -> Result<Served, NoMemory>
-    ensures {
-        let before = objects_in handles.old (T.keeper.contents store.old)
+    ensures { let before = objects_in handles.old (T.keeper.contents store.old)
         in ServesAsk T.keeper result (create_course before instance storage id flags attr content)
-        true handles.old handles.new store.old store.new
-    }
+        true handles.old handles.new store.old store.new }
 {
     if is_long_identifier(id.as_slice())
         || is_too_much(content.len())
@@ -269,12 +259,10 @@ fn read_on<T: AppStore>(
     requires id { IsIdentifier id }
     requires count { count ≤ ASK_BYTES }
     requires there { IsTrue (is_there (settled handles.old) instance object) }
-    ensures {
-        let before = objects_in handles.old (T.keeper.contents store.old)
+    ensures { let before = objects_in handles.old (T.keeper.contents store.old)
         in IsGiven T.keeper result
         (read_by before instance object position (read_at before.store id position count))
-        false handles.old handles.new store.old store.new
-    }
+        false handles.old handles.new store.old store.new }
 {
     let bytes = store.read(id.as_slice(), position, count)?;
     handles.seek(instance, object, behind(position, bytes.len()));
@@ -290,11 +278,9 @@ fn read<T: AppStore>(
     object: u32,
     count: u32,
 ) -> Result<Served, NoMemory>
-    ensures {
-        let before = objects_in handles.old (T.keeper.contents store.old)
+    ensures { let before = objects_in handles.old (T.keeper.contents store.old)
         in ServesAsk T.keeper result (read_course before instance object count (handle_at (settled handles.old) instance object))
-        false handles.old handles.new store.old store.new
-    }
+        false handles.old handles.new store.old store.new }
 {
     let Some(
         Handle::Persistent {
@@ -334,12 +320,10 @@ fn write_through<T: AppStore>(
     requires bytes { length bytes ≤ ASK_BYTES }
     requires within { position + length bytes ≤ 4294967295 }
     requires there { IsTrue (is_there (settled handles.old) instance object) }
-    ensures {
-        let before = objects_in handles.old (T.keeper.contents store.old)
+    ensures { let before = objects_in handles.old (T.keeper.contents store.old)
         in IsGiven T.keeper result
         (written_by before instance object (position + length bytes) (change before.store (write_at id position bytes)))
-        true handles.old handles.new store.old store.new
-    }
+        true handles.old handles.new store.old store.new }
 {
     let end = behind(position, bytes.len());
     store.apply(&Change::Write {
@@ -360,11 +344,9 @@ fn write<T: AppStore>(
     object: u32,
     bytes: Bytes,
 ) -> Result<Served, NoMemory>
-    ensures {
-        let before = objects_in handles.old (T.keeper.contents store.old)
+    ensures { let before = objects_in handles.old (T.keeper.contents store.old)
         in ServesAsk T.keeper result (write_course before instance object bytes (handle_at (settled handles.old) instance object))
-        true handles.old handles.new store.old store.new
-    }
+        true handles.old handles.new store.old store.new }
 {
     let Some(
         Handle::Persistent {
@@ -402,11 +384,9 @@ pub fn serve<T: AppStore>(
     instance: u8,
     ask: Ask,
 ) -> Result<Served, NoMemory>
-    ensures {
-        let before = objects_in handles.old (T.keeper.contents store.old)
+    ensures { let before = objects_in handles.old (T.keeper.contents store.old)
         in ServesAsk T.keeper result (object_course before instance ask)
-        (changes_store ask) handles.old handles.new store.old store.new
-    }
+        (changes_store ask) handles.old handles.new store.old store.new }
 {
     match ask {
         Ask::ObjOpen { storage, id, flags } => open(

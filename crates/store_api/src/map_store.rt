@@ -118,11 +118,7 @@ fn part_in(
 }
 
 /// A copy of the next identifier, with its object's facts.
-fn listed_in(
-    alloc: Global,
-    objects: &Objects,
-    last: Option<&[u8]>,
-) -> Result<Listed, StoreAnswer>
+fn listed_in(alloc: Global, objects: &Objects, last: Option<&[u8]>) -> Result<Listed, StoreAnswer>
     ensures own { IsOwn result }
     ensures answer { Answers result (next_after objects.now (option_copied last.entry)) }
     ensures bounds { IfOk result (λ listed. IsListed listed) }

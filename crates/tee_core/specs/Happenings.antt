@@ -37,6 +37,10 @@ abbrev pub told_behind : List Happened → Happened → List Reply → List Happ
 told_behind told h [] = told
 told_behind told h (reply ∷ replies) = told ++ h ∷ []
 
+-- a turn in which the store served, after which so many were made
+abbrev pub plain_turn : ℕ → ℕ → List Reply → Happened
+plain_turn turn instance replies = record { kind = Plain; turn = turn; op = 0; instance = instance; replies = replies }
+
 -- behaviour has the application's two stated functions
 module _ {A : Type 0} (behaviour : Behaviour A) where
   -- what is told of an event in which the store served: how many turns were made after it, and its replies

@@ -3,6 +3,7 @@
 use alone::{Call, Replies, TurnKind};
 use std::alloc::Global;
 use std::marker::Model;
+use std::mem;
 use tee_base::NoMemory;
 
 /// What happens to the application of an index.
@@ -44,7 +45,7 @@ impl Model for RunReplies {
 
 impl RunReplies {
     ghost use Rattle.std.specs.Prelude.{◌≡◌, ◌++◌, [], ◌∷◌, OnOk, OnErr};
-    ghost use Rattle.tee_core.specs.Happenings.{told_behind};
+    ghost use Rattle.tee_core.specs.Happenings.{plain_turn, told_behind};
 
     /// Nothing told yet. It takes no memory.
     pub fn new(alloc: Global) -> RunReplies
@@ -64,17 +65,32 @@ impl RunReplies {
         Ok(())
     }
 
-    /// Tells of a happening if it has a reply. Want of memory changes nothing.
-    pub fn tell(&mut self, happened: Happened) -> Result<(), NoMemory>
-        ensures ok { OnOk result (self.new ≡ told_behind self.old happened happened.replies) }
+    /// Tells of a turn in which the store served, if it has a reply, and takes its replies. Want of memory changes nothing
+    /// that is told.
+    pub fn tell_turn(
+        &mut self,
+        turn: u64,
+        instance: u8,
+        replies: &mut Replies,
+    ) -> Result<(), NoMemory>
+        ensures ok { OnOk result (self.new
+            ≡ told_behind self.old (plain_turn turn instance replies.old) replies.old) }
+        ensures taken { OnOk result (replies.new ≡ []) }
         ensures err { OnErr result (self.new ≡ self.old) }
     {
-        if happened.replies.is_empty() {
+        if replies.is_empty() {
             return Ok(());
         }
-        self.push(happened)
+        self.push(Happened {
+            kind: TurnKind::Plain,
+            turn,
+            op: 0,
+            instance,
+            replies: mem::replace(replies, Replies::none()),
+        })
     }
 
+    /// What was told, in order.
     pub fn as_slice(&self) -> &[Happened]
         ensures { result.now ≡ self.now }
     {

@@ -11,7 +11,7 @@ ghost use Rattle.tee_core.specs.Represents.{IsHosted};
 
 use crate::happened::{Happened, RunReplies};
 use crate::hosted::Hosted;
-use alone::{Call, TurnKind};
+use alone::{Call, Replies, TurnKind};
 use app_api::{Application, Host};
 use app_side::AppSide;
 use std::alloc::Global;
@@ -54,46 +54,63 @@ impl<A: Application> Hosted<A> {
         })
     }
 
+    /// A turn of the instance, with its replies.
+    fn advance(&mut self, instance: u8, replies: &mut Replies) -> Result<(), NoMemory>
+        requires { replies.old ≡ [] }
+        ensures hosted { OnOk result ((m : Machine A) → IsHosted self.old m
+            → IsHosted self.new (turned A.behaviour m instance).machine) }
+        ensures replies { OnOk result ((m : Machine A) → IsHosted self.old m
+            → replies.new ≡ (turned A.behaviour m instance).replies) }
+    {
+        if self.spent {
+            return Err(NoMemory);
+        }
+        self.spent = true;
+        match self.side.turn_into(instance, &mut self.store, replies)? {
+            TurnKind::Plain => {
+                self.spent = false;
+                Ok(())
+            }
+            TurnKind::Lost { .. } | TurnKind::Corrupted => Err(NoMemory),
+        }
+    }
+
     /// A turn of the instance.
     ///
     /// # Errors
     ///
     /// Want of memory, after which nothing more is served. A call of the store that fails would be told so too; none does.
     pub fn turn(&mut self, instance: u8) -> Result<Happened, NoMemory>
-        ensures hosted { OnOk result ((m : Machine A) → IsHosted self.old m → IsHosted self.new (turned A.behaviour m instance).machine) }
-        ensures told { IfOk result (λ told. (m : Machine A) → IsHosted self.old m → told ≡ happening A.behaviour m (Turned instance)) }
+        ensures hosted { OnOk result ((m : Machine A) → IsHosted self.old m
+            → IsHosted self.new (turned A.behaviour m instance).machine) }
+        ensures told { IfOk result (λ told. (m : Machine A) → IsHosted self.old m
+            → told ≡ happening A.behaviour m (Turned instance)) }
     {
-        if self.spent {
-            return Err(NoMemory);
-        }
-        self.spent = true;
-        let made = self.side.turn(instance, &mut self.store)?;
-        match made.kind {
-            TurnKind::Plain => {
-                self.spent = false;
-                Ok(Happened {
-                    kind: TurnKind::Plain,
-                    turn: self.side.turns(),
-                    op: 0,
-                    instance,
-                    replies: made.replies,
-                })
-            }
-            TurnKind::Lost { .. } | TurnKind::Corrupted => Err(NoMemory),
-        }
+        let mut replies = Replies::none();
+        self.advance(instance, &mut replies)?;
+        Ok(Happened {
+            kind: TurnKind::Plain,
+            turn: self.side.turns(),
+            op: 0,
+            instance,
+            replies,
+        })
     }
 
     /// Turns of the instance until the operation is answered; those that have a reply are told.
     fn turn_until(&mut self, instance: u8, op: u64, told: &mut RunReplies) -> Result<(), NoMemory>
-        ensures hosted { OnOk result ((m : Machine A) → IsHosted self.old m → IsHosted self.new (machine_after A.behaviour m (turns_until A.behaviour most_turns m instance op))) }
-        ensures told { OnOk result ((m : Machine A) → IsHosted self.old m → told.new ≡ told.old ++ replying A.behaviour m (turns_until A.behaviour most_turns m instance op)) }
+        ensures hosted { OnOk result ((m : Machine A) → IsHosted self.old m
+            → IsHosted self.new (machine_after A.behaviour m (turns_until A.behaviour most_turns m instance op))) }
+        ensures told { OnOk result ((m : Machine A) → IsHosted self.old m
+            → told.new ≡ told.old ++ replying A.behaviour m (turns_until A.behaviour most_turns m instance op)) }
     {
+        let mut replies = Replies::none();
         for _ in 0..limits::CALL_TURNS {
             if self.side.answered(op) {
                 return Ok(());
             }
-            let happened = self.turn(instance)?;
-            told.tell(happened)?;
+            self.advance(instance, &mut replies)?;
+            told.tell_turn(self.side.turns(), instance, &mut replies)?;
         }
         Ok(())
     }

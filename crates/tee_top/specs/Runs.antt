@@ -4,6 +4,7 @@ use Rattle.std.specs.Prelude.{ℕ, ◌≡◌, ◌≤◌, ◌<◌, List, Option, 
 use Rattle.std.specs.Global.{Global}
 use Rattle.std.specs.Io.KnownBytes.{Appends}
 use Rattle.tee_base.specs.Faults.{Rose}
+use Rattle.tee_base.specs.declared.limits.TheConstants.{SCRIPT_BYTES}
 use Rattle.tee_base.specs.Transfer.{AppendsFront}
 use Rattle.app_api.specs.declared.ask.Ask.{Ask}
 use Rattle.app_api.specs.declared.ask.Given.{Given}
@@ -79,18 +80,18 @@ IsBadAt hosts left n = IfSome left (λ text. IsBadText hosts text n)
 pub record IsReadable (words : List (String Global)) (left : Option (List ℕ)) (text : List ℕ) (before after : ℕ) : Type 0 where
   pub run : AreRunWords words
   pub told : left ≡ Some text
-  pub within : length text ≤ 1048576
+  pub within : length text ≤ SCRIPT_BYTES
   pub unfailed : ¬ Rose before after
 
 -- no more bytes were left than a script may have, where the source tells what was
 abbrev pub IsWithin : Option (List ℕ) → Type 0
-IsWithin left = IfSome left (λ text. length text ≤ 1048576)
+IsWithin left = IfSome left (λ text. length text ≤ SCRIPT_BYTES)
 
 -- the words are those of a run, the source tells a text beyond the limit, and no read of it failed
 pub record IsTooMuch (words : List (String Global)) (left : Option (List ℕ)) (text : List ℕ) (before after : ℕ) : Type 0 where
   pub run : AreRunWords words
   pub told : left ≡ Some text
-  pub beyond : 1048576 < length text
+  pub beyond : SCRIPT_BYTES < length text
   pub unfailed : ¬ Rose before after
 
 -- what was written is said of the transcript of the script that the source held, over empty stores

@@ -1,13 +1,14 @@
 //! The run of a script.
 
-ghost use Rattle.std.specs.Prelude.{◌≡◌, ◌⊎◌, ◌↔◌, ◌≤◌, ℕ, List, IsTrue, IsErrOf, IfErr, IfOk, IfSome, OnOk, length};
+ghost use Rattle.std.specs.Prelude.{◌≡◌, ◌⊎◌, ◌↔◌, ◌≤◌, ◌+◌, ℕ, List, IsTrue, IsErrOf, IfErr, IfOk, IfSome, OnOk, length};
 ghost use Rattle.std.specs.Io.KnownBytes.{Appends, IsAtEnd};
 ghost use Rattle.app_api.specs.Hosts.{HostsFit};
 ghost use Rattle.store_api.specs.Stores.{empty_store};
 ghost use Rattle.script.specs.declared.line.Line.{Line};
 ghost use Rattle.script.specs.Grammar.{names_of};
 ghost use Rattle.tee_base.specs.Faults.{Rose};
-ghost use Rattle.tee_base.specs.Transfer.{AppendsFront, HasMoreThan};
+ghost use Rattle.tee_base.specs.Transfer.{AppendsFront, ConsumesWithin, HasMoreThan};
+ghost use Rattle.tee_base.specs.declared.limits.TheConstants.{SCRIPT_BYTES};
 ghost use Rattle.tee_top.specs.Runs.{AreRunWords, AreOneInstance, IsServed, IsUnrun, IsReadStatus, ReadsTo, IsBadAt, IsOfTranscript, IsReadable, IsText, IsBadText, IsTooMuch, IsWithin};
 ghost use Rattle.tee_top.specs.Transcript.{transcript};
 
@@ -38,9 +39,11 @@ fn read_lines<S: Source, A: Application>(
     ensures at_end { OnOk result (IsAtEnd (S.left source.new)) }
     ensures within { OnOk result (IsWithin (S.left source.old)) }
     ensures bad_within { (n : ℕ) → IsErrOf result (Status.BadLine n) → IsWithin (S.left source.old) }
-    ensures too_long { IsErrOf result Status.TooLong → HasMoreThan 1048576 (S.left source.old) }
+    ensures too_long { IsErrOf result Status.TooLong → HasMoreThan SCRIPT_BYTES (S.left source.old) }
     ensures fault { IsErrOf result Status.ReadFault → Rose (S.failures source.old) (S.failures source.new) }
     ensures later { S.failures source.old ≤ S.failures source.new }
+    ensures consumed { ConsumesWithin (SCRIPT_BYTES + 1) (S.left source.old) (S.left source.new) }
+    ensures unfailed { IsErrOf result Status.TooLong → S.failures source.new ≡ S.failures source.old }
     ensures few { IfErr result IsReadStatus }
 {
     let text = match read_all(alloc, source, limits::SCRIPT_BYTES) {
@@ -115,12 +118,15 @@ pub fn run_tee<S: Source, W: Sink, A: Application>(
     ensures bad_line { (n : ℕ) → result ≡ Status.BadLine n → IsBadAt hosts.items (S.left source.old) n × IsAtEnd (S.left source.new) }
     ensures each_bad_line { (text : List ℕ) (n : ℕ) → IsReadable words.now (S.left source.old) text (S.failures source.old) (S.failures source.new) → IsBadText hosts.items text n → (result ≡ Status.BadLine n) ⊎ (result ≡ Status.NoMemory) }
     ensures complete { (text : List ℕ) (script : List Line) → IsReadable words.now (S.left source.old) text (S.failures source.old) (S.failures source.new) → ¬ Rose (W.failures sink.old) (W.failures sink.new) → IsText hosts.items text script → (result ≡ Status.Done) ⊎ (result ≡ Status.NoMemory) }
-    ensures too_long { result ≡ Status.TooLong → HasMoreThan 1048576 (S.left source.old) }
+    ensures too_long { result ≡ Status.TooLong → HasMoreThan SCRIPT_BYTES (S.left source.old) }
     ensures each_too_long { (text : List ℕ) → IsTooMuch words.now (S.left source.old) text (S.failures source.old) (S.failures source.new) → (result ≡ Status.TooLong) ⊎ (result ≡ Status.NoMemory) }
     ensures read_fault { result ≡ Status.ReadFault → Rose (S.failures source.old) (S.failures source.new) }
     ensures write_fault { result ≡ Status.WriteFault → Rose (W.failures sink.old) (W.failures sink.new) }
     ensures done { result ≡ Status.Done → IsAtEnd (S.left source.new) }
     ensures unwritten { IsUnrun result → sink.new ≡ sink.old }
+    ensures unread { result ≡ Status.BadWords → source.new ≡ source.old }
+    ensures consumed { ConsumesWithin (SCRIPT_BYTES + 1) (S.left source.old) (S.left source.new) }
+    ensures unfailed { result ≡ Status.TooLong → S.failures source.new ≡ S.failures source.old }
 {
     if !are_run_words(words) {
         return Status::BadWords;

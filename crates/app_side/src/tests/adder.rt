@@ -77,10 +77,9 @@ fn ask_at(fails: bool, sum: u32, entry: Entry) -> Ask
 
 impl Application for Adder {
     ghost behaviour = { record {
-        next = λ a given. record a { sum = min (a.sum + adder.added_by given) (2 ^ 32 - 1) };
-        asks = λ a given. adder.ask_of a.fails (min (a.sum + adder.added_by given) (2 ^ 32 - 1)) given
+      next = λ a given. record a { sum = min (a.sum + adder.added_by given) (2 ^ 32 - 1) };
+      asks = λ a given. adder.ask_of a.fails (min (a.sum + adder.added_by given) (2 ^ 32 - 1)) given;
     } };
-
 
     fn step(&mut self, _alloc: Global, given: Given) -> Result<Ask, NoMemory> {
         self.sum = self.sum.saturating_add(added_by(&given));

@@ -56,13 +56,13 @@ impl AppStore for Damaged {
 
     /// It has no store to answer from, and isn't honest.
     ghost keeper = { record {
-        has_model = λ _. ⊥;
-        contents = λ _. contents_after [] empty_store;
-        status = λ status. status;
-        honest = λ _. ⊥;
-        damage = λ _ _. Unit {0};
-        moment = λ _. 0;
-        left_since = λ _ _ _. ⊥
+      has_model = λ _. ⊥;
+      contents = λ _. contents_after [] empty_store;
+      status = λ status. status;
+      honest = λ _. ⊥;
+      damage = λ _ _. Unit {0};
+      moment = λ _. 0;
+      left_since = λ _ _ _. ⊥;
     } };
 
     ghost honest_model = { λ _ h. absurd h };

@@ -60,11 +60,7 @@ fn open(label: u32, params: Params) -> Call {
 }
 
 /// The replies of the event.
-fn replies_to(
-    side: &mut AppSide<Adder>,
-    store: &mut MapStore,
-    what: Do,
-) -> Result<Replies, Fail>
+fn replies_to(side: &mut AppSide<Adder>, store: &mut MapStore, what: Do) -> Result<Replies, Fail>
     requires { is_lost side.old ≡ store.old.lost }
     ensures { OnOk result (is_lost side.new ≡ store.new.lost) }
 {
@@ -110,7 +106,9 @@ fn run(
 }
 
 const API: Origin = Origin::Api;
+
 const TEE: Origin = Origin::Tee;
+
 const APP: Origin = Origin::App;
 
 #[test]
