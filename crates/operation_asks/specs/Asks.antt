@@ -72,7 +72,8 @@ on_operation os i op ask = on_found os i op ask (operation_at os i op)
 -- ---- two operations
 
 -- OpCopy: key and state of the one become those of the other
-abbrev pub copy_between : List NumberedOperation → ℕ → ℕ → Option CryptoOperation → Option CryptoOperation → Effect (List NumberedOperation)
+abbrev pub copy_between : List NumberedOperation → ℕ → ℕ → Option CryptoOperation → Option CryptoOperation
+    → Effect (List NumberedOperation)
 copy_between os i to None source = panicked os
 copy_between os i to (Some target) None = panicked os
 copy_between os i to (Some target) (Some source) =
@@ -97,7 +98,8 @@ set_key_course os i op object = set_key_on os i op object (operation_at os i op)
 
 -- OpSetKey over the key that the object gives: of the operation's kind, of a size that fits and isn't above the greatest, with the
 -- usage that the mode needs
-abbrev pub key_set : List NumberedOperation → ℕ → ℕ → ObjectKey → Option CryptoOperation → Effect (List NumberedOperation)
+abbrev pub key_set : List NumberedOperation → ℕ → ℕ → ObjectKey → Option CryptoOperation
+    → Effect (List NumberedOperation)
 key_set os i op key None = panicked os
 key_set os i op key (Some o) =
     effect_in (λ o. changed i op o os) (done_by (set_key_answer o key.kind key.usage key.secret) o (keyed o key.secret))

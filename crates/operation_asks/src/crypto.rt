@@ -40,7 +40,8 @@ impl Crypto {
     #[tactic(auto, unfolding(crate::specs::Asks::operation_course))]
     pub fn serve(&mut self, alloc: Global, instance: u8, ask: Ask) -> Result<Asked, NoMemory>
         ensures served { (s : CryptoState) → Represents self.old s
-            → IfOk result (λ told. IsCourse Represents told (operation_course s instance ask) s self.new) }
+            → IfOk result (λ told.
+            IsCourse Represents told (operation_course s instance ask) s self.new) }
         ensures want { (s : CryptoState) → Represents self.old s
             → OnErr result (Represents self.new s) }
     {
@@ -72,7 +73,9 @@ impl Crypto {
     /// Serves the rest of an ask for a key, over what the object gives. It takes no memory.
     pub fn set_key(&mut self, instance: u8, op: u32, given: KeyGiven) -> Outcome
         ensures { (s : CryptoState) → Represents self.old s
-            → IsEffect Represents result (effect_in (with_operations s) (set_key_effect s.operations instance op given)) self.new }
+            → IsEffect Represents result
+            (effect_in (with_operations s)
+            (set_key_effect s.operations instance op given)) self.new }
     {
         table::set_key(&mut self.operations, instance, op, given)
     }
@@ -104,7 +107,8 @@ impl Crypto {
 
     fn random(&mut self, alloc: Global, count: u32) -> Result<Asked, NoMemory>
         ensures served { (s : CryptoState) → Represents self.old s
-            → IfOk result (λ told. IsCourse Represents told (of_random s (random_effect s.random count)) s self.new) }
+            → IfOk result (λ told.
+            IsCourse Represents told (of_random s (random_effect s.random count)) s self.new) }
         ensures want { (s : CryptoState) → Represents self.old s
             → OnErr result (Represents self.new s) }
     {
@@ -123,7 +127,9 @@ impl Crypto {
         max_bits: u32,
     ) -> Result<Asked, NoMemory>
         ensures served { (s : CryptoState) → Represents self.old s
-            → IfOk result (λ told. IsCourse Represents told (of_operations s (new_effect s.operations instance alg mode max_bits)) s self.new) }
+            → IfOk result (λ told.
+            IsCourse Represents told (of_operations s
+            (new_effect s.operations instance alg mode max_bits)) s self.new) }
         ensures want { (s : CryptoState) → Represents self.old s
             → OnErr result (Represents self.new s) }
     {
@@ -133,7 +139,8 @@ impl Crypto {
 
     fn free(&mut self, instance: u8, op: u32) -> Asked
         ensures { (s : CryptoState) → Represents self.old s
-            → IsCourse Represents result (of_operations s (free_effect s.operations instance op)) s self.new }
+            → IsCourse Represents result
+            (of_operations s (free_effect s.operations instance op)) s self.new }
     {
         Asked::Settled(table::free(&mut self.operations, instance, op))
     }
@@ -146,7 +153,9 @@ impl Crypto {
         ask: &Ask,
     ) -> Result<Asked, NoMemory>
         ensures served { (s : CryptoState) → Represents self.old s
-            → IfOk result (λ told. IsCourse Represents told (of_operations s (on_operation s.operations instance op ask.now)) s self.new) }
+            → IfOk result (λ told.
+            IsCourse Represents told (of_operations s
+            (on_operation s.operations instance op ask.now)) s self.new) }
         ensures want { (s : CryptoState) → Represents self.old s
             → OnErr result (Represents self.new s) }
     {
@@ -156,14 +165,17 @@ impl Crypto {
 
     fn copy(&mut self, instance: u8, to: u32, from: u32) -> Asked
         ensures { (s : CryptoState) → Represents self.old s
-            → IsCourse Represents result (of_operations s (copy_effect s.operations instance to from)) s self.new }
+            → IsCourse Represents result
+            (of_operations s (copy_effect s.operations instance to from)) s self.new }
     {
         Asked::Settled(table::copy(&mut self.operations, instance, to, from))
     }
 
     fn begin_set_key(&mut self, instance: u8, op: u32, object: u32) -> Asked
         ensures { (s : CryptoState) → Represents self.old s
-            → IsCourse Represents result (course_in (with_operations s) (set_key_course s.operations instance op object)) s self.new }
+            → IsCourse Represents result
+            (course_in (with_operations s)
+            (set_key_course s.operations instance op object)) s self.new }
     {
         table::begin_set_key(&mut self.operations, instance, op, object)
     }

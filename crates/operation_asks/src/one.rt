@@ -47,7 +47,8 @@ fn cipher_update(
     room: u32,
 ) -> Result<Outcome, NoMemory>
     ensures served { (o : CryptoOperation) → Represents operation.old o
-        → IfOk result (λ told. IsEffect Represents told (cipher_update_effect o bytes.now room) operation.new) }
+        → IfOk result (λ told.
+        IsEffect Represents told (cipher_update_effect o bytes.now room) operation.new) }
     ensures want { (o : CryptoOperation) → Represents operation.old o
         → OnErr result (Represents operation.new o) }
 {
@@ -61,7 +62,8 @@ fn cipher_final(
     room: u32,
 ) -> Result<Outcome, NoMemory>
     ensures served { (o : CryptoOperation) → Represents operation.old o
-        → IfOk result (λ told. IsEffect Represents told (cipher_final_effect o bytes.now room) operation.new) }
+        → IfOk result (λ told.
+        IsEffect Represents told (cipher_final_effect o bytes.now room) operation.new) }
     ensures want { (o : CryptoOperation) → Represents operation.old o
         → OnErr result (Represents operation.new o) }
 {
@@ -89,7 +91,8 @@ fn mac_final(
     room: u32,
 ) -> Result<Outcome, NoMemory>
     ensures served { (o : CryptoOperation) → Represents operation.old o
-        → IfOk result (λ told. IsEffect Represents told (mac_final_effect o bytes.now room) operation.new) }
+        → IfOk result (λ told.
+        IsEffect Represents told (mac_final_effect o bytes.now room) operation.new) }
     ensures want { (o : CryptoOperation) → Represents operation.old o
         → OnErr result (Represents operation.new o) }
 {
@@ -117,7 +120,8 @@ fn digest_final(
     room: u32,
 ) -> Result<Outcome, NoMemory>
     ensures served { (o : CryptoOperation) → Represents operation.old o
-        → IfOk result (λ told. IsEffect Represents told (digest_final_effect o bytes.now room) operation.new) }
+        → IfOk result (λ told.
+        IsEffect Represents told (digest_final_effect o bytes.now room) operation.new) }
     ensures want { (o : CryptoOperation) → Represents operation.old o
         → OnErr result (Represents operation.new o) }
 {

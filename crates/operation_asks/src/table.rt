@@ -1,6 +1,7 @@
 //! The operations of all instances, by their numbers: the asks that make, end, copy and use them.
 
 ghost use Rattle.std.specs.Prelude.{ℕ, ◌≡◌, ◌≤◌, ◌<◌, ◌≢◌, ◌++◌, ◌∷◌, [], List, IfOk, OnErr, count_by, filter, map, not, position, length};
+ghost use Rattle.tee_base.specs.declared.limits.TheConstants.{CRYPTO_OPERATIONS};
 ghost use Rattle.tee_base.specs.Numbers.{lowest_free};
 ghost use Rattle.operation_asks.specs.Table.{NumberedOperation, operation_at, all_freed};
 ghost use Rattle.operation_asks.specs.Asks.{set_key_course, key_set, new_effect, free_effect, on_operation, copy_effect, set_key_effect};
@@ -51,8 +52,9 @@ pub fn place_of(entries: &[Entry], instance: u8, number: u32) -> Option<usize>
 
 /// The lowest number of the instance that is free.
 fn free_number(entries: &[Entry], instance: u8) -> u8
-    requires { count_by (has_instance instance) entries.now ≤ 8 }
-    ensures { result ≡ lowest_free (map (λ e. e.number) (filter (has_instance instance) entries.now)) }
+    requires { count_by (has_instance instance) entries.now ≤ CRYPTO_OPERATIONS }
+    ensures { result ≡ lowest_free
+        (map (λ e. e.number) (filter (has_instance instance) entries.now)) }
 {
     let mut taken = ArrayVec::<u8, 8>::new();
     for entry in entries {
@@ -72,7 +74,8 @@ pub fn create(
     max_bits: u32,
 ) -> Result<Outcome, NoMemory>
     ensures served { (os : List NumberedOperation) → AreOperations entries.old.items os
-        → IfOk result (λ told. IsEffect AreOperations told (new_effect os instance alg mode max_bits) entries.new.items) }
+        → IfOk result (λ told.
+        IsEffect AreOperations told (new_effect os instance alg mode max_bits) entries.new.items) }
     ensures want { OnErr result (entries.new.items ≡ entries.old.items) }
 {
     let operation = match Operation::new(alg, mode, max_bits) {
@@ -93,7 +96,8 @@ pub fn create(
 
 /// Takes out the instance's operation of this number.
 fn take_out(entries: &mut Vec<Entry>, instance: u8, number: u32)
-    ensures { entries.new.items ≡ filter (λ e. not (has_number instance number e)) entries.old.items }
+    ensures { entries.new.items
+        ≡ filter (λ e. not (has_number instance number e)) entries.old.items }
 {
     entries.retain(|e| !e.is_at(instance, number));
 }
@@ -130,7 +134,8 @@ pub fn serve_one(
     ask: &Ask,
 ) -> Result<Outcome, NoMemory>
     ensures served { (os : List NumberedOperation) → AreOperations entries.old.items os
-        → IfOk result (λ told. IsEffect AreOperations told (on_operation os instance number ask.now) entries.new.items) }
+        → IfOk result (λ told.
+        IsEffect AreOperations told (on_operation os instance number ask.now) entries.new.items) }
     ensures want { (os : List NumberedOperation) → AreOperations entries.old.items os
         → OnErr result (AreOperations entries.new.items os) }
 {
@@ -162,7 +167,8 @@ fn copy_between(entries: &mut [Entry], target: usize, source: usize) -> Outcome
     requires target { target < length entries.old }
     requires source { source < length entries.old }
     requires apart { target ≢ source }
-    ensures { (os : List NumberedOperation) (instance to from : ℕ) → AreOperations entries.old os
+    ensures { (os : List NumberedOperation) (instance to from : ℕ)
+        → AreOperations entries.old os
         → position (has_number instance to) entries.old ≡ Some target
         → position (has_number instance from) entries.old ≡ Some source
         → IsEffect AreOperations result (copy_effect os instance to from) entries.new }
@@ -179,7 +185,8 @@ fn copy_between(entries: &mut [Entry], target: usize, source: usize) -> Outcome
 /// Takes the key of the instance's operation away, or says that the key of the object decides.
 pub fn begin_set_key(entries: &mut Vec<Entry>, instance: u8, op: u32, object: u32) -> Asked
     ensures { (os : List NumberedOperation) → AreOperations entries.old.items os
-        → IsCourse AreOperations result (set_key_course os instance op object) os entries.new.items }
+        → IsCourse AreOperations result
+        (set_key_course os instance op object) os entries.new.items }
 {
     let Some(place) = place_of(entries.as_slice(), instance, op) else {
         return Asked::Settled(Outcome::Panicked);
@@ -196,7 +203,8 @@ pub fn begin_set_key(entries: &mut Vec<Entry>, instance: u8, op: u32, object: u3
 /// Gives the instance's operation this key.
 fn take_key(entries: &mut Vec<Entry>, instance: u8, op: u32, key: &ObjectKey) -> Outcome
     ensures { (os : List NumberedOperation) → AreOperations entries.old.items os
-        → IsEffect AreOperations result (key_set os instance op key.now (operation_at os instance op)) entries.new.items }
+        → IsEffect AreOperations result
+        (key_set os instance op key.now (operation_at os instance op)) entries.new.items }
 {
     let Some(place) = place_of(entries.as_slice(), instance, op) else {
         return Outcome::Panicked;
@@ -212,7 +220,8 @@ fn take_key(entries: &mut Vec<Entry>, instance: u8, op: u32, key: &ObjectKey) ->
 /// Gives the instance's operation the key that an object gives.
 pub fn set_key(entries: &mut Vec<Entry>, instance: u8, op: u32, given: KeyGiven) -> Outcome
     ensures { (os : List NumberedOperation) → AreOperations entries.old.items os
-        → IsEffect AreOperations result (set_key_effect os instance op given) entries.new.items }
+        → IsEffect AreOperations result
+        (set_key_effect os instance op given) entries.new.items }
 {
     match given {
         KeyGiven::Key(key) => take_key(entries, instance, op, &key),

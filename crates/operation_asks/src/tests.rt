@@ -423,9 +423,8 @@ fn ciphers(rt: HostRuntime) -> Result<(), Fail> {
 #[test]
 fn codes(rt: HostRuntime) -> Result<(), Fail> {
     const INVALID: Told<'static> = Told::Refused(Code::MAC_INVALID);
-    let twenty = [0xcd; 20];
-    let thirty = [0xcd; 30];
-    let (some, rest) = (twenty.as_slice(), thirty.as_slice());
+    const SOME: &[u8] = &[0xcd; 20];
+    const REST: &[u8] = &[0xcd; 30];
     check(
         &rt,
         rt.alloc(),
@@ -440,28 +439,28 @@ fn codes(rt: HostRuntime) -> Result<(), Fail> {
                 Do::Key(1, keys::KIND_HMAC_SHA256, keys::USAGE_MAC, MAC_KEY),
                 Told::Done,
             ),
-            (1, Do::MacUpdate(1, some), Told::Panicked),
-            (1, Do::MacFinal(1, some, 32), Told::Panicked),
-            (1, Do::Compare(1, some, MAC), Told::Panicked),
-            (1, Do::MacUpdate(2, some), Told::Panicked),
-            (1, Do::MacFinal(2, some, 32), Told::Panicked),
-            (1, Do::Compare(2, some, MAC), Told::Panicked),
+            (1, Do::MacUpdate(1, SOME), Told::Panicked),
+            (1, Do::MacFinal(1, SOME, 32), Told::Panicked),
+            (1, Do::Compare(1, SOME, MAC), Told::Panicked),
+            (1, Do::MacUpdate(2, SOME), Told::Panicked),
+            (1, Do::MacFinal(2, SOME, 32), Told::Panicked),
+            (1, Do::Compare(2, SOME, MAC), Told::Panicked),
             (1, Do::MacInit(1), Told::Done),
-            (1, Do::MacUpdate(1, some), Told::Done),
-            (1, Do::MacFinal(1, rest, 31), Told::Short(32)),
-            (1, Do::MacFinal(1, rest, 524_289), Told::Panicked),
-            (1, Do::MacFinal(1, rest, 32), Told::Bytes(MAC)),
-            (1, Do::MacUpdate(1, some), Told::Panicked),
+            (1, Do::MacUpdate(1, SOME), Told::Done),
+            (1, Do::MacFinal(1, REST, 31), Told::Short(32)),
+            (1, Do::MacFinal(1, REST, 524_289), Told::Panicked),
+            (1, Do::MacFinal(1, REST, 32), Told::Bytes(MAC)),
+            (1, Do::MacUpdate(1, SOME), Told::Panicked),
             (1, Do::MacInit(1), Told::Done),
-            (1, Do::MacUpdate(1, some), Told::Done),
-            (1, Do::Compare(1, rest, MAC), Told::Done),
-            (1, Do::Compare(1, rest, MAC), Told::Panicked),
+            (1, Do::MacUpdate(1, SOME), Told::Done),
+            (1, Do::Compare(1, REST, MAC), Told::Done),
+            (1, Do::Compare(1, REST, MAC), Told::Panicked),
             (1, Do::MacInit(1), Told::Done),
-            (1, Do::Compare(1, rest, MAC), INVALID),
+            (1, Do::Compare(1, REST, MAC), INVALID),
             (1, Do::Info(1), Told::About(HMAC, 4, 256, 200, false)),
             (1, Do::MacInit(1), Told::Done),
-            (1, Do::MacUpdate(1, some), Told::Done),
-            (1, Do::Compare(1, rest, MAC_FRONT), INVALID),
+            (1, Do::MacUpdate(1, SOME), Told::Done),
+            (1, Do::Compare(1, REST, MAC_FRONT), INVALID),
         ],
     )
 }

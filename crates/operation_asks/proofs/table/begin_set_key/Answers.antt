@@ -33,4 +33,6 @@ returns c os are =
     let same : s.operation ≡ r.operation = same_some s.operation r.operation (sym s.found ∙ r.found) in
     let allowed : may_change_key s.operation ≡ true = ap may_change_key same ∙ sym (c.may_change_key.ensures r.operation r.means) ∙ c.if-not-may_change_key.false in
     with_settled AreOperations _ _ _ _ _ c.told_done.ensures
-    (begin_cleared c.args.instance c.args.op c.args.object c.args.entries.now.items os c.in-Some.place c.index_mut.result.now c.clear_key.result c.clear_key.new.self s allowed c.if-object-ne0.false (c.clear_key.ensures.answer s.operation s.means) (c.clear_key.ensures.after s.operation s.means))
+    (begin_cleared c.args.instance c.args.op c.args.object c.args.entries.now.items os c.in-Some.place c.index_mut.result.now c.clear_key.result
+    c.clear_key.new.self s allowed c.if-object-ne0.false (c.clear_key.ensures.answer s.operation s.means)
+    (c.clear_key.ensures.after s.operation s.means))

@@ -24,4 +24,5 @@ returns-clause-served c os are =
     let lowest : c.free_number-number.result ≡ lowest_free (map (λ e. e.number) (filter (has_instance c.args.instance) c.args.entries.now.items)) =
     c.free_number-number.ensures ∙ ap (λ (es : List Entry). lowest_free (map (λ e. e.number) (filter (has_instance c.args.instance) es))) c.as_slice-2.ensures.value in
     subst (λ (n : ℕ). IsEffect AreOperations (Answered (answers.Number n)) (new_effect os c.args.instance c.args.alg c.args.mode c.args.max_bits) c.push.new.self.items) (sym c.from.ensures)
-    (new_made (allocated c.args.alg c.args.mode c.args.max_bits) c.in-Ok.operation c.args.instance c.free_number-number.result c.args.entries.now.items c.push.new.self.items os c.in-Ok.ensures are room lowest c.in_ok-push.ensures.items)
+    (new_made (allocated c.args.alg c.args.mode c.args.max_bits) c.in-Ok.operation c.args.instance c.free_number-number.result
+    c.args.entries.now.items c.push.new.self.items os c.in-Ok.ensures are room lowest c.in_ok-push.ensures.items)

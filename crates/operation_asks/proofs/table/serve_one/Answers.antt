@@ -13,11 +13,14 @@ returns-in_default-clause-served c os are =
 pub returns-clause-served : goal.returns-clause-served
 returns-clause-served c os are =
     let s : Slot c.args.instance c.args.number c.args.entries.now.items os c.in-Some.place c.index_mut.result.now =
-    slot c.args.instance c.args.number c.args.entries.now.items c.as_slice.result.now os c.in-Some.place c.index_mut.result.now are c.in-Some.ensures c.as_slice.ensures.value c.index_mut.ensures.value in
-    on_slot c.args.instance c.args.number c.args.entries.now.items os c.in-Some.place c.index_mut.result.now c.args.ask.now c.serve.result c.serve.new.operation s (c.serve.ensures.served s.operation s.means)
+    slot c.args.instance c.args.number c.args.entries.now.items c.as_slice.result.now os c.in-Some.place c.index_mut.result.now are c.in-Some.ensures
+    c.as_slice.ensures.value c.index_mut.ensures.value in
+    on_slot c.args.instance c.args.number c.args.entries.now.items os c.in-Some.place c.index_mut.result.now c.args.ask.now c.serve.result
+    c.serve.new.operation s (c.serve.ensures.served s.operation s.means)
 
 pub returns-clause-want : goal.returns-clause-want
 returns-clause-want c os are =
     let s : Slot c.args.instance c.args.number c.args.entries.now.items os c.in-Some.place c.index_mut.result.now =
-    slot c.args.instance c.args.number c.args.entries.now.items c.as_slice.result.now os c.in-Some.place c.index_mut.result.now are c.in-Some.ensures c.as_slice.ensures.value c.index_mut.ensures.value in
+    slot c.args.instance c.args.number c.args.entries.now.items c.as_slice.result.now os c.in-Some.place c.index_mut.result.now are c.in-Some.ensures
+    c.as_slice.ensures.value c.index_mut.ensures.value in
     want_slot c.args.instance c.args.number c.args.entries.now.items os c.in-Some.place c.index_mut.result.now c.serve.result c.serve.new.operation s (c.serve.ensures.want s.operation s.means)
