@@ -116,6 +116,10 @@ clear_key_answer op = if is_digest op.algorithm || is_active op.progress then Er
 abbrev pub unkeyed : CryptoOperation → CryptoOperation
 unkeyed op = record op { key = None }
 
+-- whether its key may be set or taken away at all, whatever key comes: not of a digest or an active operation
+abbrev pub may_change_key : CryptoOperation → Bool
+may_change_key op = not (is_digest op.algorithm || is_active op.progress)
+
 -- the two do the same, by their numbers
 abbrev pub is_same_algorithm : Algorithm → Algorithm → Bool
 is_same_algorithm a b = (algorithm_number a == algorithm_number b) && (mode_number a == mode_number b)

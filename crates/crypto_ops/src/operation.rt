@@ -2,7 +2,7 @@
 
 ghost use Rattle.std.specs.Prelude.{◌≡◌, ◌≤◌, length};
 ghost use Rattle.std.specs.Bool.{OnTrue};
-ghost use Rattle.crypto_ops.specs.Operations.{CryptoOperation, allocated, about_of, key_bits, lacks_key, reset_answer, restarted, set_key_answer, keyed, clear_key_answer, unkeyed, is_same_algorithm, copy_answer, copied, after_ok, is_too_much, is_active, bits_of};
+ghost use Rattle.crypto_ops.specs.Operations.{CryptoOperation, allocated, about_of, key_bits, lacks_key, reset_answer, restarted, set_key_answer, keyed, clear_key_answer, unkeyed, may_change_key, is_same_algorithm, copy_answer, copied, after_ok, is_too_much, is_active, bits_of};
 ghost use Rattle.crypto_ops.specs.Represents.{Represents, IsAllocated};
 ghost use Rattle.crypto_ops.specs.Algorithms as table;
 
@@ -144,6 +144,14 @@ impl Operation {
         }
         self.key = None;
         Ok(())
+    }
+
+    /// Whether its key may be set or taken away at all, whatever key comes: it is no digest and not active. Where it
+    /// may not, `set_key` and `clear_key` are misuse.
+    pub fn may_change_key(&self) -> bool
+        ensures { (op : CryptoOperation) → Represents self.now op → result ≡ may_change_key op }
+    {
+        !self.algorithm.is_digest() && !self.is_active()
     }
 
     /// Takes key and state of another operation, so that both go on from the same message. It takes no memory.

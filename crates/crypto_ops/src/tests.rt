@@ -263,7 +263,9 @@ fn keys_come_and_go(rt: HostRuntime) -> Result<(), Fail> {
     assert_eq!(rt; operation.info().key_bits, 128);
     operation.reset()?;
     assert!(rt; operation.cipher_init(&[]).err() == Some(OpAnswer::Misuse));
+    assert!(rt; operation.may_change_key());
     operation.cipher_init(&CBC_VECTOR)?;
+    assert!(rt; !operation.may_change_key());
     assert!(rt;
         operation.set_key(keys::KIND_AES, decrypt, &AES_KEY).err() == Some(OpAnswer::Misuse)
     );

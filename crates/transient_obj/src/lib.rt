@@ -2,6 +2,7 @@
 #![tactic(auto)]
 
 mod answer;
+mod object_key;
 mod secret;
 mod sizes;
 #[cfg(test)]
@@ -9,6 +10,7 @@ mod tests;
 mod transient;
 
 pub use answer::KeyAnswer;
+pub use object_key::ObjectKey;
 pub use secret::Secret;
 pub use sizes::size_fits;
 pub use transient::Transient;

@@ -21,7 +21,7 @@ impl Secret {
     ghost use Rattle.std.specs.Prelude.{◌≡◌, ◌≤◌, length};
 
     /// A copy of the bytes.
-    pub(crate) fn from_slice(from: &[u8]) -> Secret
+    pub fn from_slice(from: &[u8]) -> Secret
         requires { length from.now ≤ 128 }
         ensures { result ≡ from.now }
     {

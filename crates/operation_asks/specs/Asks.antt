@@ -1,0 +1,165 @@
+-- The asks about operations and random bytes: one definition for the family, in it one for each ask, with its misuse first,
+-- then its refusals in their order, then its answer (TEE Internal Core API 1.3, chapter 6 and section 6.9).
+use Rattle.std.specs.Prelude.{ℕ, ◌==◌, not, List, [], Option, None, Some, Result, Ok, Err, if◌then◌else◌}
+use Rattle.tee_base.specs.declared.codes.Code.{Code}
+use Rattle.tee_base.specs.declared.codes.TheConstants.Code.{BUSY}
+use Rattle.app_api.specs.declared.ask.Ask.{Ask}
+use Rattle.app_api.specs.declared.ask.Ask.TheVariants as asked
+use Rattle.app_api.specs.declared.ask.Answer.TheVariants as answers
+use Rattle.rand_chacha.specs.ChaCha.{ChaCha}
+use Rattle.transient_obj.specs.declared.object_key.ObjectKey.{ObjectKey}
+use Rattle.crypto_ops.specs.declared.answer.OpAnswer.{OpAnswer}
+use Rattle.crypto_ops.specs.Operations.{CryptoOperation, allocated, may_change_key, unkeyed, keyed, set_key_answer, copy_answer, copied, is_too_much}
+use Rattle.crypto_ops.specs.Random.{stream_at, random_from, moved}
+use Rattle.operation_asks.specs.declared.outcome.KeyGiven.{KeyGiven}
+use Rattle.operation_asks.specs.declared.outcome.KeyGiven.TheVariants.{Key, NoKey, Refused}
+use Rattle.operation_asks.specs.Effects.{Effect, answered, done, refused, panicked, effect_in, told_refusal, done_by}
+use Rattle.operation_asks.specs.OneOperation.{one_effect}
+use Rattle.operation_asks.specs.Table.{NumberedOperation, operation_at, is_full, free_number, added, changed, freed, all_freed}
+
+-- all that an ask about operations touches: the operations of all instances, and the random stream of the application
+pub record CryptoState : Type 0 where
+  pub operations : List NumberedOperation
+  pub random : ChaCha
+
+-- in a new boot: no operations, and the stream at its first word
+abbrev pub no_operations : List ℕ → ℕ → ℕ → CryptoState
+no_operations seed application boot = record { operations = []; random = stream_at seed application boot 0 }
+
+-- how an ask goes: its effect is settled; or the key of this object decides, with which this operation is to be given a key
+pub data Course (S : Type 0) : Type 0 where
+  Settled : (effect : Effect S) → Course S
+  WantsKey : (op object : ℕ) → Course S
+
+-- the same of a larger whole, whose part this is
+abbrev pub course_in : {S W : Type 0} → (S → W) → Course S → Course W
+course_in put (Settled effect) = Settled (effect_in put effect)
+course_in put (WantsKey op object) = WantsKey op object
+
+-- other operations of the application
+abbrev pub with_operations : CryptoState → List NumberedOperation → CryptoState
+with_operations s operations = record s { operations = operations }
+
+-- ---- operations come and go
+
+-- OpNew: there is such an algorithm and mode, and the size fits; the instance has fewer operations than it may have
+abbrev pub new_by : List NumberedOperation → ℕ → Result CryptoOperation OpAnswer → Effect (List NumberedOperation)
+new_by os i (Err answer) = record { told = told_refusal answer; after = os }
+new_by os i (Ok operation) =
+    if is_full os i then refused os BUSY else answered (added os i operation) (answers.Number (free_number os i))
+
+abbrev pub new_effect : List NumberedOperation → ℕ → ℕ → ℕ → ℕ → Effect (List NumberedOperation)
+new_effect os i alg mode max_bits = new_by os i (allocated alg mode max_bits)
+
+-- OpFree: 0 is no operation, and Done
+abbrev pub free_by : List NumberedOperation → ℕ → ℕ → Option CryptoOperation → Effect (List NumberedOperation)
+free_by os i op None = panicked os
+free_by os i op (Some operation) = done (freed os i op)
+
+abbrev pub free_effect : List NumberedOperation → ℕ → ℕ → Effect (List NumberedOperation)
+free_effect os i op = if op == 0 then done os else free_by os i op (operation_at os i op)
+
+-- ---- one operation
+
+-- an ask on the instance's operation of this number
+abbrev pub on_found : List NumberedOperation → ℕ → ℕ → Ask → Option CryptoOperation → Effect (List NumberedOperation)
+on_found os i op ask None = panicked os
+on_found os i op ask (Some operation) = effect_in (λ o. changed i op o os) (one_effect operation ask)
+
+abbrev pub on_operation : List NumberedOperation → ℕ → ℕ → Ask → Effect (List NumberedOperation)
+on_operation os i op ask = on_found os i op ask (operation_at os i op)
+
+-- ---- two operations
+
+-- OpCopy: key and state of the one become those of the other
+abbrev pub copy_between : List NumberedOperation → ℕ → ℕ → Option CryptoOperation → Option CryptoOperation
+    → Effect (List NumberedOperation)
+copy_between os i to None source = panicked os
+copy_between os i to (Some target) None = panicked os
+copy_between os i to (Some target) (Some source) =
+    effect_in (λ o. changed i to o os) (done_by (copy_answer target source) target (copied target source))
+
+abbrev pub copy_effect : List NumberedOperation → ℕ → ℕ → ℕ → Effect (List NumberedOperation)
+copy_effect os i to from = copy_between os i to (operation_at os i to) (operation_at os i from)
+
+-- ---- an operation and the key of an object
+
+-- OpSetKey before an object is looked at: the operation is no digest and not active; object 0 takes the key away, and the key of
+-- any other decides
+abbrev pub set_key_on : List NumberedOperation → ℕ → ℕ → ℕ → Option CryptoOperation → Course (List NumberedOperation)
+set_key_on os i op object None = Settled (panicked os)
+set_key_on os i op object (Some o) =
+    if not (may_change_key o) then Settled (panicked os)
+    else if object == 0 then Settled (done (changed i op (unkeyed o) os))
+    else WantsKey op object
+
+abbrev pub set_key_course : List NumberedOperation → ℕ → ℕ → ℕ → Course (List NumberedOperation)
+set_key_course os i op object = set_key_on os i op object (operation_at os i op)
+
+-- OpSetKey over the key that the object gives: of the operation's kind, of a size that fits and isn't above the greatest, with the
+-- usage that the mode needs
+abbrev pub key_set : List NumberedOperation → ℕ → ℕ → ObjectKey → Option CryptoOperation
+    → Effect (List NumberedOperation)
+key_set os i op key None = panicked os
+key_set os i op key (Some o) =
+    effect_in (λ o. changed i op o os) (done_by (set_key_answer o key.kind key.usage key.secret) o (keyed o key.secret))
+
+abbrev pub set_key_effect : List NumberedOperation → ℕ → ℕ → KeyGiven → Effect (List NumberedOperation)
+set_key_effect os i op (Key key) = key_set os i op key (operation_at os i op)
+set_key_effect os i op NoKey = panicked os
+set_key_effect os i op (Refused code) = refused os code
+
+-- ---- random bytes
+
+-- Random: the next bytes of the application's stream
+abbrev pub random_effect : ChaCha → ℕ → Effect ChaCha
+random_effect stream count =
+    if is_too_much count then panicked stream
+    else answered (moved stream count) (answers.Content (random_from stream count))
+
+-- ---- the family
+
+abbrev pub of_operations : CryptoState → Effect (List NumberedOperation) → Course CryptoState
+of_operations s effect = Settled (effect_in (with_operations s) effect)
+
+abbrev pub of_random : CryptoState → Effect ChaCha → Course CryptoState
+of_random s effect = Settled (effect_in (λ random. record s { random = random }) effect)
+
+-- how an ask goes; an ask of another family doesn't come here
+unfoldable pub operation_course : CryptoState → ℕ → Ask → Course CryptoState
+operation_course s i (asked.Random count) = of_random s (random_effect s.random count)
+operation_course s i (asked.OpNew alg mode max_bits) = of_operations s (new_effect s.operations i alg mode max_bits)
+operation_course s i (asked.OpFree op) = of_operations s (free_effect s.operations i op)
+operation_course s i (asked.OpInfo op) = of_operations s (on_operation s.operations i op (asked.OpInfo op))
+operation_course s i (asked.OpReset op) = of_operations s (on_operation s.operations i op (asked.OpReset op))
+operation_course s i (asked.OpSetKey op object) = course_in (with_operations s) (set_key_course s.operations i op object)
+operation_course s i (asked.OpCopy to from) = of_operations s (copy_effect s.operations i to from)
+operation_course s i (asked.CipherInit op iv) = of_operations s (on_operation s.operations i op (asked.CipherInit op iv))
+operation_course s i (asked.CipherUpdate op bytes room) =
+    of_operations s (on_operation s.operations i op (asked.CipherUpdate op bytes room))
+operation_course s i (asked.CipherFinal op bytes room) =
+    of_operations s (on_operation s.operations i op (asked.CipherFinal op bytes room))
+operation_course s i (asked.MacInit op) = of_operations s (on_operation s.operations i op (asked.MacInit op))
+operation_course s i (asked.MacUpdate op bytes) = of_operations s (on_operation s.operations i op (asked.MacUpdate op bytes))
+operation_course s i (asked.MacFinal op bytes room) =
+    of_operations s (on_operation s.operations i op (asked.MacFinal op bytes room))
+operation_course s i (asked.MacCompare op bytes mac) =
+    of_operations s (on_operation s.operations i op (asked.MacCompare op bytes mac))
+operation_course s i (asked.DigestUpdate op bytes) =
+    of_operations s (on_operation s.operations i op (asked.DigestUpdate op bytes))
+operation_course s i (asked.DigestFinal op bytes room) =
+    of_operations s (on_operation s.operations i op (asked.DigestFinal op bytes room))
+operation_course s i ask = Settled (panicked s)
+
+-- what comes of a course, where key_of is what the object of a number gives
+abbrev pub came_of : CryptoState → ℕ → (ℕ → KeyGiven) → Course CryptoState → Effect CryptoState
+came_of s i key_of (Settled effect) = effect
+came_of s i key_of (WantsKey op object) = effect_in (with_operations s) (set_key_effect s.operations i op (key_of object))
+
+-- an ask as a whole
+abbrev pub operation_effect : CryptoState → ℕ → (ℕ → KeyGiven) → Ask → Effect CryptoState
+operation_effect s i key_of ask = came_of s i key_of (operation_course s i ask)
+
+-- an instance ends: its operations go
+abbrev pub instance_ended : CryptoState → ℕ → CryptoState
+instance_ended s i = with_operations s (all_freed s.operations i)

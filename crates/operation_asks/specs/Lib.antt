@@ -1,0 +1,5 @@
+pub mod Asks
+pub mod Effects
+pub mod OneOperation
+pub mod Represents
+pub mod Table

@@ -1,0 +1,571 @@
+//! Each ask with an Ok, with each refusal and with each misuse; published vectors in pieces.
+
+use crate::{Asked, Crypto, KeyGiven, Outcome};
+use app_api::{Answer, Ask};
+use std::alloc::Global;
+use std::process::Abort;
+use std::test::Fail;
+use tee_base::{Bytes, Code, keys};
+use transient_obj::{ObjectKey, Secret};
+
+/// An ask in words that a table can hold.
+#[derive(Clone, Copy, Debug)]
+enum Do<'a> {
+    Random(u32),
+    New(u32, u32, u32),
+    Free(u32),
+    Info(u32),
+    Reset(u32),
+    SetKey(u32, u32),
+    /// The rest of an ask for a key: the object gives one of this kind, usage and secret.
+    Key(u32, u32, u32, &'a [u8]),
+    /// The same, where it gives none.
+    NoKey(u32),
+    /// The same, where its storage is gone.
+    Gone(u32),
+    Copy(u32, u32),
+    Init(u32, &'a [u8]),
+    Update(u32, &'a [u8], u32),
+    Final(u32, &'a [u8], u32),
+    MacInit(u32),
+    MacUpdate(u32, &'a [u8]),
+    MacFinal(u32, &'a [u8], u32),
+    Compare(u32, &'a [u8], &'a [u8]),
+    DigestUpdate(u32, &'a [u8]),
+    DigestFinal(u32, &'a [u8], u32),
+    /// An ask of another family.
+    Close(u32),
+}
+
+/// What comes of it.
+#[derive(Clone, Copy, Debug, PartialEq)]
+enum Told<'a> {
+    Done,
+    Number(u32),
+    Bytes(&'a [u8]),
+    Short(u32),
+    Refused(Code),
+    /// The size of its key, and whether it is active.
+    About(u32, u32, u32, u32, bool),
+    /// It wants the key of an object.
+    Wants(u32, u32),
+    Panicked,
+    Other,
+}
+
+fn on_ciphers(alloc: Global, what: Do<'_>) -> Result<Option<Ask>, Fail> {
+    Ok(Some(match what {
+        Do::Init(op, iv) => Ask::CipherInit {
+            op,
+            iv: Bytes::from_slice(alloc, iv)?,
+        },
+        Do::Update(op, bytes, room) => Ask::CipherUpdate {
+            op,
+            bytes: Bytes::from_slice(alloc, bytes)?,
+            room,
+        },
+        Do::Final(op, bytes, room) => Ask::CipherFinal {
+            op,
+            bytes: Bytes::from_slice(alloc, bytes)?,
+            room,
+        },
+        Do::DigestUpdate(op, bytes) => Ask::DigestUpdate {
+            op,
+            bytes: Bytes::from_slice(alloc, bytes)?,
+        },
+        Do::DigestFinal(op, bytes, room) => Ask::DigestFinal {
+            op,
+            bytes: Bytes::from_slice(alloc, bytes)?,
+            room,
+        },
+        _ => return Ok(None),
+    }))
+}
+
+fn on_codes(alloc: Global, what: Do<'_>) -> Result<Option<Ask>, Fail> {
+    Ok(Some(match what {
+        Do::MacInit(op) => Ask::MacInit { op },
+        Do::MacUpdate(op, bytes) => Ask::MacUpdate {
+            op,
+            bytes: Bytes::from_slice(alloc, bytes)?,
+        },
+        Do::MacFinal(op, bytes, room) => Ask::MacFinal {
+            op,
+            bytes: Bytes::from_slice(alloc, bytes)?,
+            room,
+        },
+        Do::Compare(op, bytes, mac) => Ask::MacCompare {
+            op,
+            bytes: Bytes::from_slice(alloc, bytes)?,
+            mac: Bytes::from_slice(alloc, mac)?,
+        },
+        _ => return Ok(None),
+    }))
+}
+
+fn ask(alloc: Global, what: Do<'_>) -> Result<Ask, Fail> {
+    if let Some(ask) = on_ciphers(alloc, what)? {
+        return Ok(ask);
+    }
+    if let Some(ask) = on_codes(alloc, what)? {
+        return Ok(ask);
+    }
+    Ok(match what {
+        Do::Random(count) => Ask::Random { count },
+        Do::New(alg, mode, max_bits) => Ask::OpNew {
+            alg,
+            mode,
+            max_bits,
+        },
+        Do::Free(op) => Ask::OpFree { op },
+        Do::Info(op) => Ask::OpInfo { op },
+        Do::Reset(op) => Ask::OpReset { op },
+        Do::SetKey(op, object) => Ask::OpSetKey { op, object },
+        Do::Copy(to, from) => Ask::OpCopy { to, from },
+        _ => Ask::ObjClose { object: 0 },
+    })
+}
+
+fn served(
+    rt: &impl Abort,
+    alloc: Global,
+    crypto: &mut Crypto,
+    instance: u8,
+    what: Do<'_>,
+) -> Result<Asked, Fail> {
+    match what {
+        Do::Key(op, kind, usage, secret) => {
+            assert!(rt; secret.len() <= 128);
+            let key = ObjectKey {
+                kind,
+                usage,
+                secret: Secret::from_slice(secret),
+            };
+            Ok(Asked::Settled(crypto.set_key(instance, op, KeyGiven::Key(key))))
+        }
+        Do::NoKey(op) => Ok(Asked::Settled(crypto.set_key(instance, op, KeyGiven::NoKey))),
+        Do::Gone(op) => {
+            let given = KeyGiven::Refused(Code::STORAGE_NOT_AVAILABLE);
+            Ok(Asked::Settled(crypto.set_key(instance, op, given)))
+        }
+        _ => {
+            let ask = ask(alloc, what)?;
+            Ok(crypto.serve(alloc, instance, ask)?)
+        }
+    }
+}
+
+fn shown(asked: &Asked) -> Told<'_> {
+    match asked {
+        Asked::Settled(Outcome::Answered(Answer::Done)) => Told::Done,
+        Asked::Settled(Outcome::Answered(Answer::Number(number))) => Told::Number(*number),
+        Asked::Settled(Outcome::Answered(Answer::Content(bytes))) => Told::Bytes(bytes.as_slice()),
+        Asked::Settled(Outcome::Answered(Answer::Short(needed))) => Told::Short(*needed),
+        Asked::Settled(Outcome::Answered(Answer::Refused(code))) => Told::Refused(*code),
+        Asked::Settled(
+            Outcome::Answered(
+                Answer::About {
+                    alg,
+                    mode,
+                    max_bits,
+                    key_bits,
+                    active,
+                },
+            ),
+        ) => Told::About(*alg, *mode, *max_bits, *key_bits, *active),
+        Asked::Settled(Outcome::Panicked) => Told::Panicked,
+        Asked::WantsKey { op, object } => Told::Wants(*op, *object),
+        _ => Told::Other,
+    }
+}
+
+/// Each row has an instance, its ask, and what comes of it.
+fn check(rt: &impl Abort, alloc: Global, rows: &[(u8, Do<'_>, Told<'_>)]) -> Result<(), Fail> {
+    let mut crypto = Crypto::new(alloc, [0; 32], 0, 0);
+    for (instance, what, wanted) in rows {
+        let asked = served(rt, alloc, &mut crypto, *instance, *what)?;
+        assert_eq!(rt; shown(&asked), *wanted);
+    }
+    Ok(())
+}
+
+const UNSUPPORTED: Told<'static> = Told::Refused(Code::NOT_SUPPORTED);
+
+/// SP 800-38A, appendix F: the key, the vector, the first two blocks, and what CBC makes of them.
+const KEY: &[u8] = &[
+    0x2b, 0x7e, 0x15, 0x16, 0x28, 0xae, 0xd2, 0xa6, 0xab, 0xf7, 0x15, 0x88, 0x09, 0xcf, 0x4f, 0x3c,
+];
+
+const VECTOR: &[u8] = &[
+    0x00, 0x01, 0x02, 0x03, 0x04, 0x05, 0x06, 0x07, 0x08, 0x09, 0x0a, 0x0b, 0x0c, 0x0d, 0x0e, 0x0f,
+];
+
+const PLAIN_1: &[u8] = &[0x6b, 0xc1, 0xbe, 0xe2, 0x2e];
+
+const PLAIN_2: &[u8] = &[
+    0x40, 0x9f, 0x96, 0xe9, 0x3d, 0x7e, 0x11, 0x73, 0x93, 0x17, 0x2a, 0xae, 0x2d, 0x8a,
+];
+
+const PLAIN_3: &[u8] = &[
+    0x57, 0x1e, 0x03, 0xac, 0x9c, 0x9e, 0xb7, 0x6f, 0xac, 0x45, 0xaf, 0x8e, 0x51,
+];
+
+const CBC_1: &[u8] = &[
+    0x76, 0x49, 0xab, 0xac, 0x81, 0x19, 0xb2, 0x46, 0xce, 0xe9, 0x8e, 0x9b, 0x12, 0xe9, 0x19, 0x7d,
+];
+
+const CBC_2: &[u8] = &[
+    0x50, 0x86, 0xcb, 0x9b, 0x50, 0x72, 0x19, 0xee, 0x95, 0xdb, 0x11, 0x3a, 0x91, 0x76, 0x78, 0xb2,
+];
+
+/// The same section's first block in ECB and in counter mode, whose vector is `f0` to `ff`.
+const COUNTER: &[u8] = &[
+    0xf0, 0xf1, 0xf2, 0xf3, 0xf4, 0xf5, 0xf6, 0xf7, 0xf8, 0xf9, 0xfa, 0xfb, 0xfc, 0xfd, 0xfe, 0xff,
+];
+
+const ECB_1: &[u8] = &[
+    0x3a, 0xd7, 0x7b, 0xb4, 0x0d, 0x7a, 0x36, 0x60, 0xa8, 0x9e, 0xca, 0xf3, 0x24, 0x66, 0xef, 0x97,
+];
+
+const CTR_1: &[u8] = &[0x87, 0x4d, 0x61, 0x91, 0xb6];
+
+const CTR_2: &[u8] = &[
+    0x20, 0xe3, 0x26, 0x1b, 0xef, 0x68, 0x64, 0x99, 0x0d, 0xb6, 0xce, 0x98, 0x06, 0xf6,
+];
+
+/// RFC 4231, section 4.5, whose message is fifty times `cd`.
+const MAC_KEY: &[u8] = &[
+    0x01, 0x02, 0x03, 0x04, 0x05, 0x06, 0x07, 0x08, 0x09, 0x0a, 0x0b, 0x0c, 0x0d, 0x0e, 0x0f, 0x10,
+    0x11, 0x12, 0x13, 0x14, 0x15, 0x16, 0x17, 0x18, 0x19,
+];
+
+const MAC: &[u8] = &[
+    0x82, 0x55, 0x8a, 0x38, 0x9a, 0x44, 0x3c, 0x0e, 0xa4, 0xcc, 0x81, 0x98, 0x99, 0xf2, 0x08, 0x3a,
+    0x85, 0xf0, 0xfa, 0xa3, 0xe5, 0x78, 0xf8, 0x07, 0x7a, 0x2e, 0x3f, 0xf4, 0x67, 0x29, 0x66, 0x5b,
+];
+
+const MAC_FRONT: &[u8] = &[0x82, 0x55, 0x8a, 0x38];
+
+/// FIPS 180-4's example: the digest of `abc`.
+const ABC: &[u8] = &[
+    0xba, 0x78, 0x16, 0xbf, 0x8f, 0x01, 0xcf, 0xea, 0x41, 0x41, 0x40, 0xde, 0x5d, 0xae, 0x22, 0x23,
+    0xb0, 0x03, 0x61, 0xa3, 0x96, 0x17, 0x7a, 0x9c, 0xb4, 0x10, 0xff, 0x61, 0xf2, 0x00, 0x15, 0xad,
+];
+
+const CBC: u32 = keys::AES_CBC;
+
+const AES: u32 = keys::KIND_AES;
+
+const HMAC: u32 = keys::HMAC_SHA256;
+
+const ALL: u32 = keys::USAGE_NEW;
+
+#[test]
+fn operations_come_and_go(rt: HostRuntime) -> Result<(), Fail> {
+    check(
+        &rt,
+        rt.alloc(),
+        &[
+            (1, Do::New(CBC, 0, 128), Told::Number(1)),
+            (1, Do::New(0, 0, 128), UNSUPPORTED),
+            (1, Do::New(CBC, 4, 128), UNSUPPORTED),
+            (1, Do::New(CBC, 0, 160), UNSUPPORTED),
+            (1, Do::New(HMAC, 4, 1_024), Told::Number(2)),
+            (1, Do::New(keys::SHA256, 5, 7), Told::Number(3)),
+            (2, Do::New(keys::SHA512, 5, 0), Told::Number(1)),
+            (1, Do::Info(2), Told::About(HMAC, 4, 1_024, 0, false)),
+            (2, Do::Info(2), Told::Panicked),
+            (1, Do::Info(0), Told::Panicked),
+            (1, Do::Free(0), Told::Done),
+            (1, Do::Free(4), Told::Panicked),
+            (2, Do::Free(3), Told::Panicked),
+            (1, Do::Free(2), Told::Done),
+            (1, Do::Info(2), Told::Panicked),
+            (1, Do::New(CBC, 1, 256), Told::Number(2)),
+            (1, Do::New(CBC, 1, 256), Told::Number(4)),
+            (1, Do::New(CBC, 1, 256), Told::Number(5)),
+            (1, Do::New(CBC, 1, 256), Told::Number(6)),
+            (1, Do::New(CBC, 1, 256), Told::Number(7)),
+            (1, Do::New(CBC, 1, 256), Told::Number(8)),
+            (1, Do::New(CBC, 1, 256), Told::Refused(Code::BUSY)),
+            (1, Do::New(CBC, 1, 64), UNSUPPORTED),
+            (2, Do::New(CBC, 1, 256), Told::Number(2)),
+            (1, Do::Free(5), Told::Done),
+            (1, Do::New(CBC, 1, 256), Told::Number(5)),
+            (1, Do::Close(0), Told::Panicked),
+        ],
+    )
+}
+
+#[test]
+fn keys_are_set_and_taken_away(rt: HostRuntime) -> Result<(), Fail> {
+    const GONE: Told<'static> = Told::Refused(Code::STORAGE_NOT_AVAILABLE);
+    check(
+        &rt,
+        rt.alloc(),
+        &[
+            (1, Do::New(CBC, 1, 128), Told::Number(1)),
+            (1, Do::New(keys::SHA256, 5, 0), Told::Number(2)),
+            (1, Do::SetKey(3, 1), Told::Panicked),
+            (2, Do::SetKey(1, 0), Told::Panicked),
+            (1, Do::SetKey(2, 1), Told::Panicked),
+            (1, Do::SetKey(2, 0), Told::Panicked),
+            (1, Do::Reset(1), Told::Panicked),
+            (1, Do::Reset(2), Told::Done),
+            (1, Do::SetKey(1, 7), Told::Wants(1, 7)),
+            (1, Do::NoKey(1), Told::Panicked),
+            (1, Do::Gone(1), GONE),
+            (
+                1,
+                Do::Key(1, keys::KIND_HMAC_SHA256, ALL, MAC_KEY),
+                Told::Panicked,
+            ),
+            (1, Do::Key(1, AES, ALL, MAC_KEY), Told::Panicked),
+            (1, Do::Key(1, AES, ALL, MAC), Told::Panicked),
+            (1, Do::Key(1, AES, keys::USAGE_ENCRYPT, KEY), Told::Panicked),
+            (1, Do::Key(1, keys::KIND_DATA, ALL, &[]), Told::Panicked),
+            (1, Do::Key(2, AES, ALL, KEY), Told::Panicked),
+            (1, Do::Key(3, AES, ALL, KEY), Told::Panicked),
+            (1, Do::Info(1), Told::About(CBC, 1, 128, 0, false)),
+            (1, Do::Key(1, AES, keys::USAGE_DECRYPT, KEY), Told::Done),
+            (1, Do::Info(1), Told::About(CBC, 1, 128, 128, false)),
+            (1, Do::Init(1, VECTOR), Told::Done),
+            (1, Do::Info(1), Told::About(CBC, 1, 128, 128, true)),
+            (1, Do::SetKey(1, 7), Told::Panicked),
+            (1, Do::SetKey(1, 0), Told::Panicked),
+            (1, Do::Reset(1), Told::Done),
+            (1, Do::Info(1), Told::About(CBC, 1, 128, 128, false)),
+            (1, Do::SetKey(1, 0), Told::Done),
+            (1, Do::Info(1), Told::About(CBC, 1, 128, 0, false)),
+        ],
+    )
+}
+
+#[test]
+fn operations_are_copied(rt: HostRuntime) -> Result<(), Fail> {
+    check(
+        &rt,
+        rt.alloc(),
+        &[
+            (1, Do::New(CBC, 0, 128), Told::Number(1)),
+            (1, Do::New(CBC, 0, 256), Told::Number(2)),
+            (1, Do::New(CBC, 1, 256), Told::Number(3)),
+            (1, Do::New(keys::AES_ECB, 0, 256), Told::Number(4)),
+            (1, Do::Copy(5, 1), Told::Panicked),
+            (1, Do::Copy(1, 5), Told::Panicked),
+            (2, Do::Copy(1, 2), Told::Panicked),
+            (1, Do::Copy(3, 2), Told::Panicked),
+            (1, Do::Copy(4, 2), Told::Panicked),
+            (1, Do::Key(2, AES, ALL, MAC), Told::Done),
+            (1, Do::Copy(1, 2), Told::Panicked),
+            (1, Do::Key(2, AES, ALL, KEY), Told::Done),
+            (1, Do::Init(2, VECTOR), Told::Done),
+            (1, Do::Update(2, PLAIN_1, 0), Told::Bytes(&[])),
+            (1, Do::Copy(1, 2), Told::Done),
+            (1, Do::Copy(1, 1), Told::Done),
+            (1, Do::Info(1), Told::About(CBC, 0, 128, 128, true)),
+            (1, Do::Update(2, PLAIN_2, 16), Told::Bytes(CBC_1)),
+            (1, Do::Update(1, PLAIN_2, 16), Told::Bytes(CBC_1)),
+            (1, Do::Reset(2), Told::Done),
+            (1, Do::Copy(2, 1), Told::Done),
+            (1, Do::Final(2, PLAIN_3, 16), Told::Bytes(CBC_2)),
+            (1, Do::Final(1, PLAIN_3, 16), Told::Bytes(CBC_2)),
+        ],
+    )
+}
+
+#[test]
+fn ciphers(rt: HostRuntime) -> Result<(), Fail> {
+    check(
+        &rt,
+        rt.alloc(),
+        &[
+            (1, Do::New(CBC, 0, 128), Told::Number(1)),
+            (1, Do::New(keys::AES_ECB, 0, 128), Told::Number(2)),
+            (1, Do::New(keys::AES_CTR, 0, 128), Told::Number(3)),
+            (1, Do::New(keys::SHA256, 5, 0), Told::Number(4)),
+            (1, Do::Init(1, VECTOR), Told::Panicked),
+            (1, Do::Init(4, VECTOR), Told::Panicked),
+            (1, Do::Init(5, VECTOR), Told::Panicked),
+            (1, Do::Key(1, AES, ALL, KEY), Told::Done),
+            (1, Do::Key(2, AES, ALL, KEY), Told::Done),
+            (1, Do::Key(3, AES, ALL, KEY), Told::Done),
+            (1, Do::Init(1, PLAIN_1), Told::Panicked),
+            (1, Do::Init(2, VECTOR), Told::Panicked),
+            (1, Do::Init(3, &[]), Told::Panicked),
+            (1, Do::Update(1, PLAIN_1, 16), Told::Panicked),
+            (1, Do::Final(1, PLAIN_1, 16), Told::Panicked),
+            (1, Do::Update(4, PLAIN_1, 16), Told::Panicked),
+            (1, Do::Final(4, PLAIN_1, 16), Told::Panicked),
+            (1, Do::Update(5, PLAIN_1, 16), Told::Panicked),
+            (1, Do::Final(5, PLAIN_1, 16), Told::Panicked),
+            (1, Do::Init(1, VECTOR), Told::Done),
+            (1, Do::Update(1, PLAIN_1, 0), Told::Bytes(&[])),
+            (1, Do::Update(1, PLAIN_2, 15), Told::Short(16)),
+            (1, Do::Update(1, PLAIN_2, 524_289), Told::Panicked),
+            (1, Do::Update(1, PLAIN_2, 524_288), Told::Bytes(CBC_1)),
+            (1, Do::Final(1, PLAIN_1, 16), Told::Panicked),
+            (1, Do::Final(1, PLAIN_3, 15), Told::Short(16)),
+            (1, Do::Final(1, PLAIN_3, 524_289), Told::Panicked),
+            (1, Do::Final(1, PLAIN_3, 16), Told::Bytes(CBC_2)),
+            (1, Do::Info(1), Told::About(CBC, 0, 128, 128, false)),
+            (1, Do::Init(2, &[]), Told::Done),
+            (1, Do::Update(2, PLAIN_1, 0), Told::Bytes(&[])),
+            (1, Do::Update(2, PLAIN_2, 16), Told::Bytes(ECB_1)),
+            (1, Do::Init(3, COUNTER), Told::Done),
+            (1, Do::Update(3, PLAIN_1, 4), Told::Short(5)),
+            (1, Do::Update(3, PLAIN_1, 5), Told::Bytes(CTR_1)),
+            (1, Do::Final(3, PLAIN_2, 14), Told::Bytes(CTR_2)),
+        ],
+    )
+}
+
+#[test]
+fn codes(rt: HostRuntime) -> Result<(), Fail> {
+    const INVALID: Told<'static> = Told::Refused(Code::MAC_INVALID);
+    const SOME: &[u8] = &[0xcd; 20];
+    const REST: &[u8] = &[0xcd; 30];
+    check(
+        &rt,
+        rt.alloc(),
+        &[
+            (1, Do::New(HMAC, 4, 256), Told::Number(1)),
+            (1, Do::New(keys::SHA256, 5, 0), Told::Number(2)),
+            (1, Do::MacInit(1), Told::Panicked),
+            (1, Do::MacInit(2), Told::Panicked),
+            (1, Do::MacInit(3), Told::Panicked),
+            (
+                1,
+                Do::Key(1, keys::KIND_HMAC_SHA256, keys::USAGE_MAC, MAC_KEY),
+                Told::Done,
+            ),
+            (1, Do::MacUpdate(1, SOME), Told::Panicked),
+            (1, Do::MacFinal(1, SOME, 32), Told::Panicked),
+            (1, Do::Compare(1, SOME, MAC), Told::Panicked),
+            (1, Do::MacUpdate(2, SOME), Told::Panicked),
+            (1, Do::MacFinal(2, SOME, 32), Told::Panicked),
+            (1, Do::Compare(2, SOME, MAC), Told::Panicked),
+            (1, Do::MacInit(1), Told::Done),
+            (1, Do::MacUpdate(1, SOME), Told::Done),
+            (1, Do::MacFinal(1, REST, 31), Told::Short(32)),
+            (1, Do::MacFinal(1, REST, 524_289), Told::Panicked),
+            (1, Do::MacFinal(1, REST, 32), Told::Bytes(MAC)),
+            (1, Do::MacUpdate(1, SOME), Told::Panicked),
+            (1, Do::MacInit(1), Told::Done),
+            (1, Do::MacUpdate(1, SOME), Told::Done),
+            (1, Do::Compare(1, REST, MAC), Told::Done),
+            (1, Do::Compare(1, REST, MAC), Told::Panicked),
+            (1, Do::MacInit(1), Told::Done),
+            (1, Do::Compare(1, REST, MAC), INVALID),
+            (1, Do::Info(1), Told::About(HMAC, 4, 256, 200, false)),
+            (1, Do::MacInit(1), Told::Done),
+            (1, Do::MacUpdate(1, SOME), Told::Done),
+            (1, Do::Compare(1, REST, MAC_FRONT), INVALID),
+        ],
+    )
+}
+
+#[test]
+fn digests(rt: HostRuntime) -> Result<(), Fail> {
+    let sha = keys::SHA256;
+    check(
+        &rt,
+        rt.alloc(),
+        &[
+            (1, Do::New(sha, 5, 0), Told::Number(1)),
+            (1, Do::New(CBC, 0, 128), Told::Number(2)),
+            (1, Do::DigestUpdate(2, b"a"), Told::Panicked),
+            (1, Do::DigestFinal(2, b"a", 32), Told::Panicked),
+            (1, Do::DigestUpdate(3, b"a"), Told::Panicked),
+            (1, Do::DigestUpdate(1, b"a"), Told::Done),
+            (1, Do::Info(1), Told::About(sha, 5, 0, 0, true)),
+            (1, Do::DigestFinal(1, b"bc", 31), Told::Short(32)),
+            (1, Do::DigestFinal(1, b"bc", 524_289), Told::Panicked),
+            (1, Do::DigestFinal(1, b"bc", 32), Told::Bytes(ABC)),
+            (1, Do::Info(1), Told::About(sha, 5, 0, 0, false)),
+            (1, Do::DigestFinal(1, b"abc", 32), Told::Bytes(ABC)),
+            (1, Do::DigestUpdate(1, b"x"), Told::Done),
+            (1, Do::Reset(1), Told::Done),
+            (1, Do::DigestFinal(1, b"abc", 32), Told::Bytes(ABC)),
+        ],
+    )
+}
+
+// The first words of ChaCha20 under an all-zero key: 76b8e0ad a0f13d90 405d6ae5 5386bd28.
+#[test]
+fn random_bytes(rt: HostRuntime) -> Result<(), Fail> {
+    check(
+        &rt,
+        rt.alloc(),
+        &[
+            (1, Do::Random(524_289), Told::Panicked),
+            (1, Do::Random(0), Told::Bytes(&[])),
+            (
+                1,
+                Do::Random(5),
+                Told::Bytes(&[0x76, 0xb8, 0xe0, 0xad, 0xa0]),
+            ),
+            (2, Do::Random(4), Told::Bytes(&[0x40, 0x5d, 0x6a, 0xe5])),
+            (1, Do::Random(4), Told::Bytes(&[0x53, 0x86, 0xbd, 0x28])),
+        ],
+    )
+}
+
+#[test]
+fn bytes_are_drawn_and_instances_end(rt: HostRuntime) -> Result<(), Fail> {
+    let alloc = rt.alloc();
+    let mut crypto = Crypto::new(alloc, [0; 32], 0, 0);
+    let bytes = crypto.draw(alloc, 6)?;
+    assert_eq!(rt;
+        bytes.as_slice(),
+        [0x76, 0xb8, 0xe0, 0xad, 0xa0, 0xf1].as_slice()
+    );
+    let rows = [
+        (1, Do::Random(4), Told::Bytes(&[0x40, 0x5d, 0x6a, 0xe5])),
+        (1, Do::New(CBC, 0, 128), Told::Number(1)),
+        (2, Do::New(CBC, 0, 128), Told::Number(1)),
+    ];
+    for (instance, what, wanted) in rows {
+        let asked = served(&rt, alloc, &mut crypto, instance, what)?;
+        assert_eq!(rt; shown(&asked), wanted);
+    }
+    crypto.end_instance(1);
+    let asked = served(&rt, alloc, &mut crypto, 1, Do::Info(1))?;
+    assert_eq!(rt; shown(&asked), Told::Panicked);
+    let asked = served(&rt, alloc, &mut crypto, 2, Do::Info(1))?;
+    assert_eq!(rt; shown(&asked), Told::About(CBC, 0, 128, 0, false));
+    Ok(())
+}
+
+#[test]
+fn too_many_bytes_are_misuse(rt: HostRuntime) -> Result<(), Fail> {
+    let long = vec![in rt.alloc(); 0u8; 524_289]?;
+    let long = long.as_slice();
+    check(
+        &rt,
+        rt.alloc(),
+        &[
+            (1, Do::New(keys::AES_CTR, 0, 128), Told::Number(1)),
+            (1, Do::New(HMAC, 4, 256), Told::Number(2)),
+            (1, Do::New(keys::SHA256, 5, 0), Told::Number(3)),
+            (1, Do::Key(1, AES, ALL, KEY), Told::Done),
+            (
+                1,
+                Do::Key(2, keys::KIND_HMAC_SHA256, ALL, MAC_KEY),
+                Told::Done,
+            ),
+            (1, Do::Init(1, long), Told::Panicked),
+            (1, Do::Init(1, COUNTER), Told::Done),
+            (1, Do::MacInit(2), Told::Done),
+            (1, Do::Update(1, long, 524_288), Told::Panicked),
+            (1, Do::Final(1, long, 524_288), Told::Panicked),
+            (1, Do::MacUpdate(2, long), Told::Panicked),
+            (1, Do::MacFinal(2, long, 32), Told::Panicked),
+            (1, Do::Compare(2, long, MAC), Told::Panicked),
+            (1, Do::Compare(2, &[], long), Told::Panicked),
+            (1, Do::DigestUpdate(3, long), Told::Panicked),
+            (1, Do::DigestFinal(3, long, 32), Told::Panicked),
+            (1, Do::Update(1, PLAIN_1, 5), Told::Bytes(CTR_1)),
+        ],
+    )
+}
