@@ -5,6 +5,10 @@ use Rattle.std.specs.Int.{w32, to_be_bytes}
 use Rattle.hex.specs.Hex.{encode_lower}
 use Rattle.tee_base.specs.Codes.{number_of}
 use Rattle.tee_base.specs.declared.codes.Code.{Code}
+use Rattle.object_asks.specs.declared.turn.TurnKind.{TurnKind}
+use Rattle.object_asks.specs.declared.turn.TurnKind.TheVariants.{Plain, Lost, Corrupted}
+use Rattle.alone.specs.declared.power.Power.{Power}
+use Rattle.alone.specs.declared.power.Power.TheVariants.{Clean, Kept, Absent}
 use Rattle.alone.specs.declared.reply.Reply.{Reply}
 use Rattle.alone.specs.declared.reply.Outputs.{Outputs}
 use Rattle.alone.specs.declared.reply.Shown.{Shown}
@@ -32,3 +36,23 @@ abbrev pub reply_text : List ℕ → Reply → List ℕ
 reply_text name reply =
     name ++ codes " " ++ decimal reply.op ++ codes " " ++ code_text reply.code ++ codes " " ++ decimal (number_of reply.origin)
     ++ outputs_text reply.outputs ++ codes "\n"
+
+-- what the board did to a turn of the application of this name
+abbrev pub mark_text : List ℕ → List ℕ → ℕ → List ℕ
+mark_text word name turn = codes "board " ++ word ++ codes " " ++ name ++ codes " " ++ decimal turn ++ codes "\n"
+
+-- a plain turn has no line
+abbrev pub happened_text : List ℕ → TurnKind → ℕ → List ℕ
+happened_text name Plain turn = []
+happened_text name (Lost change) turn = mark_text (codes "lost") name turn
+happened_text name Corrupted turn = mark_text (codes "corrupt") name turn
+
+-- a turn for which there was no memory
+abbrev pub starved_text : List ℕ → ℕ → List ℕ
+starved_text name turn = mark_text (codes "starve") name turn
+
+-- what a power left of the change in doubt, which is that of the application of this name
+abbrev pub power_text : List ℕ → Power → List ℕ
+power_text name Clean = codes "board power clean\n"
+power_text name (Kept app) = codes "board power kept " ++ name ++ codes "\n"
+power_text name (Absent app) = codes "board power absent " ++ name ++ codes "\n"

@@ -1,12 +1,12 @@
-//! Printed lines: replies as clients read them.
+//! Printed lines: replies as clients read them, and what befell the board.
 #![tactic(auto)]
 
 ghost use Rattle.std.specs.Prelude.{◌≡◌, IfOk};
-ghost use Rattle.report.specs.Texts.{reply_text};
+ghost use Rattle.report.specs.Texts.{happened_text, mark_text, power_text, reply_text, starved_text};
 
 mod line;
 
-use alone::{Outputs, Reply, Shown};
+use alone::{Outputs, Power, Reply, Shown, TurnKind};
 pub use line::Line;
 use std::alloc::Global;
 use tee_base::{Bytes, NoMemory};
@@ -66,5 +66,66 @@ pub fn reply_line(alloc: Global, name: &[u8], reply: &Reply) -> Result<Bytes, No
     line.number(u64::from(reply.origin.number()))?;
     line.outputs(&reply.outputs)?;
     line.text(b"\n")?;
+    Ok(line.into_bytes())
+}
+
+/// The line of what the board did to a turn: `board WORD NAME T`.
+fn mark_line(alloc: Global, word: &[u8], name: &[u8], turn: u64) -> Result<Bytes, NoMemory>
+    ensures { IfOk result (λ line. line ≡ mark_text word.now name.now turn) }
+{
+    let mut line = Line::new(alloc);
+    line.text(b"board ")?;
+    line.text(word)?;
+    line.text(b" ")?;
+    line.text(name)?;
+    line.text(b" ")?;
+    line.number(turn)?;
+    line.text(b"\n")?;
+    Ok(line.into_bytes())
+}
+
+/// The line of a turn of the application of this name, counted from 1: `board lost NAME T` where a call of the store failed in
+/// it, `board corrupt NAME T` where it read damage, and no bytes where it is plain.
+pub fn happened_line(
+    alloc: Global,
+    name: &[u8],
+    kind: TurnKind,
+    turn: u64,
+) -> Result<Bytes, NoMemory>
+    ensures { IfOk result (λ line. line ≡ happened_text name.now kind turn) }
+{
+    match kind {
+        TurnKind::Plain => Ok(Bytes::empty(alloc)),
+        TurnKind::Lost { .. } => mark_line(alloc, b"lost", name, turn),
+        TurnKind::Corrupted => mark_line(alloc, b"corrupt", name, turn),
+    }
+}
+
+/// The line of a turn of the application of this name, counted from 1, for which there was no memory: `board starve NAME T`.
+pub fn starved_line(alloc: Global, name: &[u8], turn: u64) -> Result<Bytes, NoMemory>
+    ensures { IfOk result (λ line. line ≡ starved_text name.now turn) }
+{
+    mark_line(alloc, b"starve", name, turn)
+}
+
+/// The line of a power: `board power clean`, `board power kept NAME` or `board power absent NAME`. The name is that of the
+/// application whose change was in doubt; it isn't read where none was.
+pub fn power_line(alloc: Global, name: &[u8], power: Power) -> Result<Bytes, NoMemory>
+    ensures { IfOk result (λ line. line ≡ power_text name.now power) }
+{
+    let mut line = Line::new(alloc);
+    match power {
+        Power::Clean => line.text(b"board power clean\n")?,
+        Power::Kept(_) => {
+            line.text(b"board power kept ")?;
+            line.text(name)?;
+            line.text(b"\n")?;
+        }
+        Power::Absent(_) => {
+            line.text(b"board power absent ")?;
+            line.text(name)?;
+            line.text(b"\n")?;
+        }
+    }
     Ok(line.into_bytes())
 }

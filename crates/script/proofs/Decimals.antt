@@ -1,12 +1,15 @@
--- A number that is read is in the digits that Rust writes of it, and these are read again.
-use Rattle.std.proofs.Common.{◌≡◌, ℕ, ◌+◌, ◌-◌, ◌*◌, ◌^◌, ◌<◌, ◌≤◌, Bool, true, false, cond, ◌&&◌, eqb, ltb, List, [], ◌∷◌, length, get_or, Option, Some, None, refl, sym, ap, subst, ◌∙◌, arith, rules, inl, inr}
+-- Numbers that are computed from digits are those that the digits write.
+use Rattle.std.proofs.Common.{◌≡◌, ℕ, ◌+◌, ◌-◌, ◌*◌, ◌^◌, ◌<◌, ◌≤◌, Bool, true, false, cond, ◌&&◌, eqb, leb, ltb, List, [], ◌∷◌, length, Option, Some, None, refl, sym, ap, ◌∙◌, arith, rules}
 use Rattle.std.specs.Fmt.{decimal}
+use Rattle.std.specs.Int.{IsInRange}
 use Rattle.std.specs.List.{AllByRecursion}
-use Rattle.std.proofs.lemmas.Bool.{and_parts, cases_order, leb-true, lt-ltb, ltb-true, ne_eqb}
-use Rattle.std.proofs.lemmas.Fmt.{decimal_digit, decimal_nonempty, decimal-digits_value, digits_decimal, digits_value-decimal, first_decimal}
-use Rattle.std.proofs.lemmas.Option.{cond_some}
-use Rattle.std.proofs.lemmas.Str.Parse.{IsNumeralModel, numerals_by_fold}
-use Rattle.script.specs.Numbers.{is_digit, digits_on, word_of, number_of}
+use Rattle.std.specs.Str.Parse.{AllDigits, IsNumeral, digits_value}
+use Rattle.std.proofs.lemmas.Bool.{and_from, and_parts, le-leb, leb-true, lt-ltb, ltb-true, ne_eqb}
+use Rattle.std.proofs.lemmas.Fmt.{decimal_is_IsNumeral}
+use Rattle.std.proofs.lemmas.Option.{cond_some, none-some}
+use Rattle.std.proofs.lemmas.Str.Parse.{IsNumeralModel, digit_from_value, numerals_by_fold}
+use Rattle.script.specs.Numbers.{is_digit, digits_on, fitting, number_of, number32_of, within}
+use Rattle.script.specs.Words.{IsNumber, IsNumber32}
 
 abbrev are_digits : List ℕ → Bool
 are_digits [] = true
@@ -27,77 +30,75 @@ digits_on_is (c ∷ cs) n =
       | false ↦ refl
     ]
 
-by_test : (ds : List ℕ) (n : ℕ) (b : Bool) → are_digits ds ≡ b → 0 < length ds → (get_or ds 0 0 ≡ 48 → length ds ≡ 1) → word_of (cond b (Some (read_on 0 ds)) None) ≡ Some n → (n < 2 ^ 32) × (ds ≡ decimal n)
-by_test ds n true e some first h =
-    let p = cond_some (ltb (read_on 0 ds) (2 ^ 32)) (read_on 0 ds) n h in
-    let small : read_on 0 ds < 2 ^ 32 = ltb-true (read_on 0 ds) (2 ^ 32) p.0 in
-    let large : read_on 0 ds < 2 ^ 64 = omega arith in
+by_test : (ds : List ℕ) (n : ℕ) (b : Bool) → are_digits ds ≡ b → 0 < length ds → fitting (cond b (Some (read_on 0 ds)) None) ≡ Some n → IsNumber ds n × (n < 2 ^ 64)
+by_test ds n true e some h =
+    let p = cond_some (ltb (read_on 0 ds) (2 ^ 64)) (read_on 0 ds) n h in
+    let small : read_on 0 ds < 2 ^ 64 = ltb-true (read_on 0 ds) (2 ^ 64) p.0 in
     let same : read_on 0 ds ≡ n = p.1 in
-    (omega (arith, small, same), sym (decimal-digits_value own ds e some first large) ∙ ap decimal same)
-by_test ds n false e some first h = absurd cc
+    let all : AllDigits 10 ds = own.to ds e in
+    (((some, all), sym (own.same ds all) ∙ same), omega (arith, small, same))
+by_test ds n false e some h = absurd (none-some n h)
 
-value_reads : (ds : List ℕ) (n : ℕ) → 0 < length ds → (get_or ds 0 0 ≡ 48 → length ds ≡ 1) → word_of (digits_on 0 ds) ≡ Some n → (n < 2 ^ 32) × (ds ≡ decimal n)
-value_reads ds n some first h = by_test ds n (are_digits ds) refl some first (sym (ap word_of (digits_on_is ds 0)) ∙ h)
-
-by_first : (c d n : ℕ) (cs : List ℕ) (b : Bool) → eqb c 48 ≡ b → cond b None (word_of (digits_on 0 (c ∷ d ∷ cs))) ≡ Some n → (n < 2 ^ 32) × (c ∷ d ∷ cs ≡ decimal n)
-by_first c d n cs true e h = absurd cc
-by_first c d n cs false e h = value_reads (c ∷ d ∷ cs) n (omega arith) (λ zero. absurd (no_zero c e zero)) h
-  where
-    no_zero : (c : ℕ) → eqb c 48 ≡ false → c ≡ 48 → ⊥
-    no_zero c e zero = let same : eqb c 48 ≡ true = rw zero refl in cc
-
--- what is read as a number is its digits
-pub number_reads : (ds : List ℕ) (n : ℕ) → number_of ds ≡ Some n → (n < 2 ^ 32) × (ds ≡ decimal n)
+-- what is read as a number is in its digits
+pub number_reads : (ds : List ℕ) (n : ℕ) → number_of ds ≡ Some n → IsNumber ds n × (n < 2 ^ 64)
 unfolding number_of
-number_reads [] n h = absurd cc
-number_reads (c ∷ []) n h = value_reads (c ∷ []) n (omega arith) (λ _. refl) h
-number_reads (c ∷ d ∷ cs) n h = by_first c d n cs (eqb c 48) refl h
-
-value_again : (ds : List ℕ) (n : ℕ) → are_digits ds ≡ true → read_on 0 ds ≡ n → n < 2 ^ 32 → word_of (digits_on 0 ds) ≡ Some n
-value_again ds n e same small =
-    let test : ltb n (2 ^ 32) ≡ true = lt-ltb n (2 ^ 32) small in
-    ap word_of (digits_on_is ds 0) ∙ rw (e, same, test) refl
-
-digits_again : (ds : List ℕ) (n : ℕ) → are_digits ds ≡ true → read_on 0 ds ≡ n → n < 2 ^ 32 → 0 < length ds → (get_or ds 0 0 ≡ 48 → length ds ≡ 1) → number_of ds ≡ Some n
-unfolding number_of
-digits_again [] n e same small some first = absurd (omega arith)
-digits_again (c ∷ []) n e same small some first = value_again (c ∷ []) n e same small
-digits_again (c ∷ d ∷ cs) n e same small some first =
-    let other : eqb c 48 ≡ false = ne_eqb c 48 (λ zero. omega (arith, first zero)) in
-    rw other (value_again (c ∷ d ∷ cs) n e same small)
-
-one_zero : (n : ℕ) → n < 2 ^ 32 → get_or (decimal n) 0 0 ≡ 48 → length (decimal n) ≡ 1
-one_zero n small zero =
-    elim (cases_order n 0) [
-      | inl e ↦ ap (λ (m : ℕ). length (decimal m)) e ∙ ap length (decimal_digit 0 (omega arith))
-      | inr o ↦ elim o [
-        | inl below ↦ absurd (omega arith)
-        | inr above ↦ absurd (omega (arith, first_decimal n above (omega arith)))
-      ]
-    ]
+number_reads [] n h = absurd (none-some n h)
+number_reads (c ∷ cs) n h = by_test (c ∷ cs) n (are_digits (c ∷ cs)) refl (omega arith) (sym (ap fitting (digits_on_is (c ∷ cs) 0)) ∙ h)
 
 -- the digits of a number are read as it
-pub number_again : (n : ℕ) → n < 2 ^ 32 → number_of (decimal n) ≡ Some n
-number_again n small =
-    let large : n < 2 ^ 64 = omega arith in
-    digits_again (decimal n) n (digits_decimal own n large) (digits_value-decimal own n large) small (decimal_nonempty n large) (one_zero n small)
+pub number_again : (ds : List ℕ) (n : ℕ) → IsNumber ds n → n < 2 ^ 64 → number_of ds ≡ Some n
+unfolding number_of
+number_again [] n h small = absurd (omega (arith, h.0.0))
+number_again (c ∷ cs) n h small =
+    let all : are_digits (c ∷ cs) ≡ true = own.from (c ∷ cs) h.0.1 in
+    let same : read_on 0 (c ∷ cs) ≡ n = own.same (c ∷ cs) h.0.1 ∙ h.1 in
+    let test : ltb n (2 ^ 64) ≡ true = lt-ltb n (2 ^ 64) small in
+    ap fitting (digits_on_is (c ∷ cs) 0) ∙ by_value (are_digits (c ∷ cs)) (read_on 0 (c ∷ cs)) n all same test
+  where
+    by_value : (b : Bool) (m n : ℕ) → b ≡ true → m ≡ n → ltb n (2 ^ 64) ≡ true → fitting (cond b (Some m) None) ≡ Some n
+    by_value b m n all same test = rw (all, same, test) refl
 
--- a byte that stands in a part of a parameter: above a space, and no colon
+within_some : (low high n : ℕ) (o : Option ℕ) → within low high o ≡ Some n → (o ≡ Some n) × (low ≤ n) × (n ≤ high)
+within_some low high n None h = absurd (none-some n h)
+within_some low high n (Some m) h =
+    let p = cond_some (leb low m && leb m high) m n h in
+    let q = and_parts (leb low m) (leb m high) p.0 in
+    let least : low ≤ m = leb-true low m q.0 in
+    let most : m ≤ high = leb-true m high q.1 in
+    let same : m ≡ n = p.1 in
+    (ap Some same, omega (arith, least, same), omega (arith, most, same))
+
+-- what is read as a number within bounds is in its digits, and within them
+pub within_reads : (low high : ℕ) (ds : List ℕ) (n : ℕ) → within low high (number_of ds) ≡ Some n → IsNumber ds n × (low ≤ n) × (n ≤ high)
+within_reads low high ds n h = let w = within_some low high n (number_of ds) h in ((number_reads ds n w.0).0, w.1, w.2)
+
+pub within_again : (low high : ℕ) (ds : List ℕ) (n : ℕ) → high < 2 ^ 64 → IsNumber ds n → low ≤ n → n ≤ high → within low high (number_of ds) ≡ Some n
+within_again low high ds n fits h least most =
+    let small : n < 2 ^ 64 = omega (arith, fits, most) in
+    let test : leb low n && leb n high ≡ true = and_from (leb low n) (leb n high) (le-leb low n least) (le-leb n high most) in
+    ap (within low high) (number_again ds n h small) ∙ ap (λ b. cond b (Some n) None) test
+
+pub number32_reads : (ds : List ℕ) (n : ℕ) → number32_of ds ≡ Some n → IsNumber32 ds n
+number32_reads ds n h = let w = within_reads 0 (2 ^ 32 - 1) ds n h in (w.0, omega (arith, w.2))
+
+pub number32_again : (ds : List ℕ) (n : ℕ) → IsNumber32 ds n → number32_of ds ≡ Some n
+number32_again ds n h = within_again 0 (2 ^ 32 - 1) ds n (omega arith) h.0 (omega arith) (omega (arith, h.1))
+
+-- a byte that is printed, and no space
+abbrev pub IsGraphic : ℕ → Type 0
+IsGraphic c = (32 < c) × (c < 128)
+
+-- a byte of a part of a parameter is no colon
 abbrev pub IsPart : ℕ → Type 0
-IsPart c = (32 < c) × (eqb c 58 ≡ false)
+IsPart c = IsGraphic c × (eqb c 58 ≡ false)
 
-digit_part : (c : ℕ) → is_digit c ≡ true → IsPart c
-digit_part c e =
-    let p = and_parts (Rattle.std.proofs.Common.leb 48 c) (Rattle.std.proofs.Common.leb c 57) e in
-    let low : 48 ≤ c = leb-true 48 c p.0 in
-    let high : c ≤ 57 = leb-true c 57 p.1 in
-    (omega arith, ne_eqb c 58 (λ h. omega arith))
+in_range_part : (c : ℕ) → IsInRange 48 57 c → IsPart c
+in_range_part c h = ((omega (arith, h.0), omega (arith, h.1)), ne_eqb c 58 (λ e. omega (arith, h.1)))
 
-digits_part : (ds : List ℕ) → are_digits ds ≡ true → AllByRecursion IsPart ds
-digits_part [] e = tt
-digits_part (c ∷ cs) e =
-    let p = and_parts (is_digit c) (are_digits cs) e in
-    (digit_part c p.0, digits_part cs p.1)
+pub digits_part : (ds : List ℕ) → AllDigits 10 ds → AllByRecursion IsPart ds
+digits_part [] h = tt
+digits_part (c ∷ cs) h = (in_range_part c (digit_from_value c h.0), digits_part cs h.1)
 
-pub decimal_part : (n : ℕ) → n < 2 ^ 32 → AllByRecursion IsPart (decimal n)
-decimal_part n small = let large : n < 2 ^ 64 = omega arith in digits_part (decimal n) (digits_decimal own n large)
+-- a number's own digits write it
+pub decimal_number : (n : ℕ) → n < 2 ^ 64 → IsNumber (decimal n) n
+decimal_number n small = decimal_is_IsNumeral n small

@@ -35,11 +35,11 @@ between low high c e = let p = and_parts (leb low c) (leb c high) e in (leb-true
 value_part : (c v : ℕ) → hex_digit_value c ≡ Some v → IsPart c
 value_part c v e =
     elim (chosen (leb 65 c && leb c 70) _ _ _ e) [
-      | inl upper ↦ let p = between 65 70 c upper.0 in (omega (arith, p.0), ne_eqb c 58 (λ h. omega (arith, p.0)))
+      | inl upper ↦ let p = between 65 70 c upper.0 in ((omega (arith, p.0), omega (arith, p.1)), ne_eqb c 58 (λ h. omega (arith, p.0)))
       | inr f ↦ elim (chosen (leb 97 c && leb c 102) _ _ _ f.1) [
-        | inl lower ↦ let p = between 97 102 c lower.0 in (omega (arith, p.0), ne_eqb c 58 (λ h. omega (arith, p.0)))
+        | inl lower ↦ let p = between 97 102 c lower.0 in ((omega (arith, p.0), omega (arith, p.1)), ne_eqb c 58 (λ h. omega (arith, p.0)))
         | inr g ↦ elim (chosen (leb 48 c && leb c 57) _ _ _ g.1) [
-          | inl digit ↦ let p = between 48 57 c digit.0 in (omega (arith, p.0), ne_eqb c 58 (λ h. omega (arith, p.1)))
+          | inl digit ↦ let p = between 48 57 c digit.0 in ((omega (arith, p.0), omega (arith, p.1)), ne_eqb c 58 (λ h. omega (arith, p.1)))
           | inr none ↦ absurd (none-some v none.1)
         ]
       ]

@@ -1,7 +1,12 @@
 pub mod Cuts
 pub mod Decimals
 pub mod HexDigits
-pub mod ParamTexts
-pub mod LineTexts
+pub mod ParamWords
+pub mod WordTexts
+pub mod HostWords
+pub mod LineMeanings
+pub mod Places
 pub mod ScriptTexts
 pub mod ParseLaws
+pub mod Fronts
+pub mod CanonicalTexts

@@ -1,278 +1,229 @@
--- What a text reads to, by the grammar and by its pieces.
+-- What is computed of a text is what the grammar says of it.
 use Rattle.std.proofs.Common.{◌≡◌, ◌≢◌, ℕ, suc, ◌+◌, ◌-◌, ◌<◌, ◌≤◌, Bool, true, false, cond, eqb, ltb, List, [], ◌∷◌, ◌++◌, length, get_or, take, Option, Some, None, Result, Ok, Err, refl, sym, ap, subst, ◌∙◌, append_assoc, arith, inl, inr}
-use Rattle.std.specs.Prelude.{◌↔◌, codes}
-use Rattle.std.specs.List.{AllByRecursion, slice_split, join_with_byte}
-use Rattle.std.proofs.lemmas.Bool.{eqb-false, le-ltb, lt-ltb, ltb-false, ltb-true, ne_eqb}
+use Rattle.std.specs.Prelude.{codes, slice_index}
+use Rattle.std.specs.List.{AllByRecursion, flat_map, slice_split, join_with_byte}
+use Rattle.std.specs.Str.Lines.{strip_carriage_return}
+use Rattle.std.proofs.lemmas.Bool.{both_ways, eqb-false, eqb-true, false_from_ne_true, lt-ltb, ltb-false, ltb-true}
 use Rattle.std.proofs.lemmas.List.{append-nil, get_or_at, length_push, take_at}
-use Rattle.std.proofs.lemmas.List.Elements.{All-from_recursion, recursion_from_All}
 use Rattle.std.proofs.lemmas.List.Splits.{join_with_byte-slice_split, length-slice_split}
 use Rattle.std.proofs.lemmas.Option.{none-some, same_Some}
+use Rattle.tee_base.specs.declared.limits.TheConstants.{FILL_BYTES}
+use Rattle.app_api.specs.declared.host.Host.{Host}
+use Rattle.app_api.specs.Hosts.{HostsFit}
+use Rattle.script.specs.declared.dialect.Dialect.{Dialect}
 use Rattle.script.specs.declared.line.Line.{Line}
-use Rattle.script.specs.declared.line.ReadLine.{ReadLine}
-use Rattle.script.specs.Grammar.{AreLines, CanName, FirstBad, HasNoLineFeed, IsLine, IsOutside, Reads}
-use Rattle.script.specs.Lines.{line_of}
-use Rattle.script.specs.Scripts.{behind, with_line, lines_from, ended_by, script_from, script_of}
-use Rattle.script.proofs.Cuts.{Lacks, cut_at, cut_none, parts_lack}
-use Rattle.script.proofs.LineTexts.{line_again, line_lacks, line_reads}
+use Rattle.script.specs.declared.line.Meaning.{Meaning}
+use Rattle.script.specs.declared.line.Meaning.TheVariants.{Nothing, Client, Script}
+use Rattle.script.specs.declared.line.ReadMeaning.{ReadMeaning}
+use Rattle.script.specs.Dialects.{Takes, takes}
+use Rattle.script.specs.Grammar.{AreNext, FirstBad, HasNoLineFeed, IsFirstLine, IsNext, Place, Reads, client_after, lines_of, start_of}
+use Rattle.script.specs.Lines.{meaning_of}
+use Rattle.script.specs.Scripts.{Reading, after_lines, ended_by, no_reading, onward, read_from, reading_after, script_from, script_of, with_line, with_meaning}
+use Rattle.script.proofs.Cuts.{Lacks, all_weaker, parts_lack}
+use Rattle.script.proofs.LineMeanings.{meaning_again, meaning_reads}
+use Rattle.script.proofs.Places.{Stops, at_feed, first_same}
+use Rattle.script.proofs.WordTexts.{all_split}
 
--- ---- reading over pieces, with the last line's end in its place
+-- where a text goes on after what was read
+abbrev place_of : Reading → List ℕ → Place
+place_of r text = record { client = r.client; filled = r.filled; rest = text }
 
-abbrev script_at : List (List ℕ) → ℕ → ℕ → List (List ℕ) → Result (List Line) ℕ
-script_at names n filled [] = Ok []
-script_at names n filled (last ∷ []) = ended_by n last (Ok [])
-script_at names n filled (piece ∷ next ∷ more) = with_line n filled (line_of names piece) (λ sum. script_at names (n + 1) sum (next ∷ more))
+-- ---- one line
 
-piece_first : (names : List (List ℕ)) (n filled : ℕ) (piece : List ℕ) (pieces : List (List ℕ)) → 0 < length pieces → script_at names n filled (piece ∷ pieces) ≡ with_line n filled (line_of names piece) (λ sum. script_at names (n + 1) sum pieces)
-piece_first names n filled piece [] some = absurd (omega arith)
-piece_first names n filled piece (next ∷ more) some = refl
+-- one more line was read, or no line that the dialect takes stands here
+Stepped : {A : Type 0} → Dialect → List (Host A) → Reading → List ℕ → List ℕ → Option Reading → Type 0
+Stepped dialect hosts r text rest None = Stops dialect hosts (place_of r text)
+Stepped dialect hosts r text rest (Some next) =
+    (meaning : Meaning) × IsNext hosts (place_of r text) meaning (place_of next rest) × Takes dialect meaning × (next.lines ≡ r.lines ++ lines_of meaning) × (next.filled ≤ FILL_BYTES)
 
-ended_bad : (m n : ℕ) (last : List ℕ) → ended_by m last (Err n) ≡ Err n
-ended_bad m n [] = refl
-ended_bad m n (c ∷ cs) = refl
+-- what the next line means is what is computed of it
+next_is : {A : Type 0} (hosts : List (Host A)) (r : Reading) (text line rest : List ℕ) (read : Option ReadMeaning) (meaning : Meaning) (after : Place) → HostsFit hosts → IsFirstLine text line rest → meaning_of hosts r.client line ≡ read
+    → (next : IsNext hosts (place_of r text) meaning after) → read ≡ Some (record { meaning = meaning; fills = next.fill })
+next_is hosts r text line rest read meaning after fit first is next =
+    let same = first_same text line rest next.line after.rest first next.first in
+    sym is ∙ ap (meaning_of hosts r.client) same.0 ∙ meaning_again hosts r.client next.line meaning next.fill fit next.ascii next.means
 
-ended_behind : (m : ℕ) (last : List ℕ) (lines : List Line) (read : Result (List Line) ℕ) → ended_by m last (behind lines read) ≡ behind lines (ended_by m last read)
-ended_behind m [] lines read = refl
-ended_behind m (c ∷ cs) lines (Ok more) = refl
-ended_behind m (c ∷ cs) lines (Err bad) = refl
+-- a line that is read, with not too many bytes filled in, is the next
+is_next : {A : Type 0} (hosts : List (Host A)) (r : Reading) (text line rest : List ℕ) (read : ReadMeaning) (client : ℕ) → IsFirstLine text line rest → meaning_of hosts r.client line ≡ Some read → client ≡ client_after r.client read.meaning → r.filled + read.fills ≤ FILL_BYTES
+    → IsNext hosts (place_of r text) read.meaning (record { client = client; filled = r.filled + read.fills; rest = rest })
+is_next hosts r text line rest read client first is same fits =
+    let m = meaning_reads hosts r.client line read is in
+    record { line = line; fill = read.fills; first = first; ascii = m.0; means = m.1; client = same; filled = refl; within = fits }
 
-ended_later : (m n filled : ℕ) (last : List ℕ) (r : Option ReadLine) (read more : ℕ → Result (List Line) ℕ) → ((sum : ℕ) → ended_by m last (read sum) ≡ more sum) → ended_by m last (with_line n filled r read) ≡ with_line n filled r more
-ended_later m n filled last None read more h = ended_bad m n last
-ended_later m n filled last (Some line) read more h =
-    elim (ltb 268435456 (filled + line.fills)) as (λ b. ended_by m last (cond b (Err n) (behind (line.line ∷ []) (read (filled + line.fills)))) ≡ cond b (Err n) (behind (line.line ∷ []) (more (filled + line.fills)))) [
-      | true ↦ ended_bad m n last
-      | false ↦ ended_behind m last (line.line ∷ []) (read (filled + line.fills)) ∙ ap (behind (line.line ∷ [])) (h (filled + line.fills))
-    ]
+step_script : {A : Type 0} (dialect : Dialect) (hosts : List (Host A)) (r : Reading) (text line rest : List ℕ) (told : Line) (fills : ℕ) (b : Bool) → HostsFit hosts → IsFirstLine text line rest → meaning_of hosts r.client line ≡ Some (record { meaning = Script told; fills = fills }) → r.filled + fills ≤ FILL_BYTES → takes dialect told ≡ b
+    → Stepped dialect hosts r text rest (cond b (Some (record { client = r.client; filled = r.filled + fills; lines = r.lines ++ told ∷ [] })) None)
+unfolding Stepped
+step_script dialect hosts r text line rest told fills true fit first is fits taken = (Script told, is_next hosts r text line rest (record { meaning = Script told; fills = fills }) r.client first is refl fits, taken, refl, fits)
+step_script dialect hosts r text line rest told fills false fit first is fits taken = λ meaning after next takes_it.
+    let same = same_Some (record { meaning = Script told; fills = fills }) (record { meaning = meaning; fills = next.fill }) (next_is hosts r text line rest (Some (record { meaning = Script told; fills = fills })) meaning after fit first is next) in
+    let it : Takes dialect (Script told) = subst (Takes dialect) (sym (ap (λ (m : ReadMeaning). m.meaning) same)) takes_it in
+    both_ways (takes dialect told) taken it
 
-by_front : (names : List (List ℕ)) (m n filled : ℕ) (front : List (List ℕ)) (last : List ℕ) → m ≡ n + length front → ended_by m last (lines_from names n filled front) ≡ script_at names n filled (front ++ last ∷ [])
-by_front names m n filled [] last e = let same : m ≡ n = omega (arith, e) in ap (λ (k : ℕ). ended_by k last (Ok [])) same
-by_front names m n filled (piece ∷ front) last e =
-    let some : 0 < length (front ++ last ∷ []) = omega (arith, length_push front last) in
-    ended_later m n filled last (line_of names piece) (λ sum. lines_from names (n + 1) sum front) (λ sum. script_at names (n + 1) sum (front ++ last ∷ [])) (λ sum. by_front names m (n + 1) sum front last (omega (arith, e)))
-    ∙ sym (piece_first names n filled piece (front ++ last ∷ []) some)
+step_meaning : {A : Type 0} (dialect : Dialect) (hosts : List (Host A)) (r : Reading) (text line rest : List ℕ) (meaning : Meaning) (fills : ℕ) → HostsFit hosts → IsFirstLine text line rest → meaning_of hosts r.client line ≡ Some (record { meaning = meaning; fills = fills }) → r.filled + fills ≤ FILL_BYTES
+    → Stepped dialect hosts r text rest (with_meaning dialect r (r.filled + fills) meaning)
+unfolding Stepped
+step_meaning dialect hosts r text line rest Nothing fills fit first is fits = (Nothing, is_next hosts r text line rest (record { meaning = Nothing; fills = fills }) r.client first is refl fits, tt, sym (append-nil r.lines), fits)
+step_meaning dialect hosts r text line rest (Client n) fills fit first is fits = (Client n, is_next hosts r text line rest (record { meaning = Client n; fills = fills }) n first is refl fits, tt, sym (append-nil r.lines), fits)
+step_meaning dialect hosts r text line rest (Script told) fills fit first is fits = step_script dialect hosts r text line rest told fills (takes dialect told) fit first is fits refl
+
+step_fits : {A : Type 0} (dialect : Dialect) (hosts : List (Host A)) (r : Reading) (text line rest : List ℕ) (read : ReadMeaning) (b : Bool) → HostsFit hosts → IsFirstLine text line rest → meaning_of hosts r.client line ≡ Some read → ltb FILL_BYTES (r.filled + read.fills) ≡ b
+    → Stepped dialect hosts r text rest (cond b None (with_meaning dialect r (r.filled + read.fills) read.meaning))
+unfolding Stepped
+step_fits dialect hosts r text line rest read true fit first is over = λ meaning after next takes_it.
+    let same = same_Some read (record { meaning = meaning; fills = next.fill }) (next_is hosts r text line rest (Some read) meaning after fit first is next) in
+    let fill : read.fills ≡ next.fill = ap (λ (m : ReadMeaning). m.fills) same in
+    let above : FILL_BYTES < r.filled + read.fills = ltb-true FILL_BYTES (r.filled + read.fills) over in
+    let sum : after.filled ≡ r.filled + next.fill = next.filled in
+    let most : after.filled ≤ FILL_BYTES = next.within in
+    omega (arith, fill, above, sum, most)
+step_fits dialect hosts r text line rest read false fit first is within = step_meaning dialect hosts r text line rest read.meaning read.fills fit first is (ltb-false FILL_BYTES (r.filled + read.fills) within)
+
+step_read : {A : Type 0} (dialect : Dialect) (hosts : List (Host A)) (r : Reading) (text line rest : List ℕ) (read : Option ReadMeaning) → HostsFit hosts → IsFirstLine text line rest → meaning_of hosts r.client line ≡ read → Stepped dialect hosts r text rest (with_line dialect r read)
+unfolding Stepped
+step_read dialect hosts r text line rest None fit first is = λ meaning after next takes_it. none-some (record { meaning = meaning; fills = next.fill }) (next_is hosts r text line rest None meaning after fit first is next)
+step_read dialect hosts r text line rest (Some read) fit first is = step_fits dialect hosts r text line rest read (ltb FILL_BYTES (r.filled + read.fills)) fit first is refl
+
+step : {A : Type 0} (dialect : Dialect) (hosts : List (Host A)) (r : Reading) (text line rest : List ℕ) → HostsFit hosts → IsFirstLine text line rest → Stepped dialect hosts r text rest (reading_after dialect hosts r line)
+unfolding reading_after
+step dialect hosts r text line rest fit first = step_read dialect hosts r text line rest (meaning_of hosts r.client line) fit first refl
+
+-- ---- the lines of a text
+
+-- a text of these pieces, a line feed behind each but the last
+abbrev text_of : List (List ℕ) → List ℕ → List ℕ
+text_of [] last = last
+text_of (piece ∷ pieces) last = piece ++ 10 ∷ text_of pieces last
+
+-- what is computed from line n on is what stands there
+Told : {A : Type 0} → Dialect → List (Host A) → ℕ → Reading → List ℕ → Result (List Line) ℕ → Type 0
+Told dialect hosts n r text (Ok script) =
+    (meanings : List Meaning) × (after : Place) × AreNext hosts (place_of r text) meanings after × (after.rest ≡ []) × AllByRecursion (Takes dialect) meanings × (script ≡ r.lines ++ flat_map lines_of meanings)
+Told dialect hosts n r text (Err bad) =
+    (meanings : List Meaning) × (at : Place) × AreNext hosts (place_of r text) meanings at × AllByRecursion (Takes dialect) meanings × (bad ≡ n + length meanings) × (at.rest ≢ []) × Stops dialect hosts at
+
+stopped : {A : Type 0} (dialect : Dialect) (hosts : List (Host A)) (n : ℕ) (r : Reading) (text : List ℕ) → text ≢ [] → Stops dialect hosts (place_of r text) → Told dialect hosts n r text (Err n)
+unfolding Told AreNext
+stopped dialect hosts n r text some stops = ([], place_of r text, refl, tt, omega arith, some, stops)
+
+regroup : (a b c d : List Line) → a ≡ b ++ c → a ++ d ≡ b ++ (c ++ d)
+regroup a b c d e = ap (λ (xs : List Line). xs ++ d) e ∙ append_assoc b c d
+
+told_behind : {A : Type 0} (dialect : Dialect) (hosts : List (Host A)) (n : ℕ) (r next : Reading) (text rest : List ℕ) (meaning : Meaning) (result : Result (List Line) ℕ)
+    → IsNext hosts (place_of r text) meaning (place_of next rest) → Takes dialect meaning → next.lines ≡ r.lines ++ lines_of meaning → Told dialect hosts (n + 1) next rest result → Told dialect hosts n r text result
+unfolding Told AreNext
+told_behind dialect hosts n r next text rest meaning (Ok script) is taken lines told =
+    (meaning ∷ told.0, told.1, (place_of next rest, is, told.2), told.3, (taken, told.4), told.5 ∙ regroup next.lines r.lines (lines_of meaning) (flat_map lines_of told.0) lines)
+told_behind dialect hosts n r next text rest meaning (Err bad) is taken lines told =
+    (meaning ∷ told.0, told.1, (place_of next rest, is, told.2), (taken, told.3), omega (arith, told.4), told.5, told.6)
+
+told_onward : {A : Type 0} (dialect : Dialect) (hosts : List (Host A)) (n : ℕ) (r : Reading) (text rest : List ℕ) (read : Option Reading) (more : Reading → Result (List Line) ℕ) → text ≢ [] → Stepped dialect hosts r text rest read
+    → ((next : Reading) → next.filled ≤ FILL_BYTES → Told dialect hosts (n + 1) next rest (more next)) → Told dialect hosts n r text (onward n read more)
+unfolding Stepped
+told_onward dialect hosts n r text rest None more some stepped later = stopped dialect hosts n r text some stepped
+told_onward dialect hosts n r text rest (Some next) more some stepped later = told_behind dialect hosts n r next text rest stepped.0 (more next) stepped.1 stepped.2 stepped.3 (later next stepped.4)
+
+told_nothing : {A : Type 0} (dialect : Dialect) (hosts : List (Host A)) (n : ℕ) (r : Reading) → Told dialect hosts n r [] (Ok r.lines)
+unfolding Told AreNext
+told_nothing dialect hosts n r = ([], place_of r [], refl, refl, tt, sym (append-nil r.lines))
+
+some_text : (c : ℕ) (cs : List ℕ) → c ∷ cs ≢ []
+some_text c cs e = cc
+
+has_none : (text : List ℕ) → Lacks 10 text → HasNoLineFeed text
+has_none text h = all_weaker (λ c. eqb c 10 ≡ false) (λ c. c ≢ 10) (λ c e. eqb-false c 10 e) text h
+
+-- a last line without an end that a carriage return ends is no line
+return_stops : {A : Type 0} (dialect : Dialect) (hosts : List (Host A)) (r : Reading) (text : List ℕ) → HasNoLineFeed text → slice_index text (length text - 1) ≡ 13 → Stops dialect hosts (place_of r text)
+return_stops dialect hosts r text none ends meaning after next taken = no_line next.first
+  where
+    no_line : IsFirstLine text next.line after.rest → ⊥
+    no_line (inl h) = absurd_feed h.0 after.rest (subst HasNoLineFeed (h.2 ∙ at_feed h.0 after.rest) none)
+      where
+        absurd_feed : (piece rest : List ℕ) → HasNoLineFeed (piece ++ 10 ∷ rest) → ⊥
+        absurd_feed [] rest k = k.0 refl
+        absurd_feed (c ∷ cs) rest k = absurd_feed cs rest k.1
+    no_line (inr h) = h.2 ends
+
+told_last : {A : Type 0} (dialect : Dialect) (hosts : List (Host A)) (n : ℕ) (r : Reading) (c : ℕ) (cs : List ℕ) (b : Bool) → HostsFit hosts → Lacks 10 (c ∷ cs) → eqb (slice_index (c ∷ cs) (length (c ∷ cs) - 1)) 13 ≡ b
+    → Told dialect hosts n r (c ∷ cs) (cond b (Err n) (onward n (reading_after dialect hosts r (c ∷ cs)) (λ next. Ok next.lines)))
+told_last dialect hosts n r c cs true fit lacks ends = stopped dialect hosts n r (c ∷ cs) (some_text c cs) (return_stops dialect hosts r (c ∷ cs) (has_none (c ∷ cs) lacks) (eqb-true (slice_index (c ∷ cs) (length (c ∷ cs) - 1)) 13 ends))
+told_last dialect hosts n r c cs false fit lacks ends =
+    let first : IsFirstLine (c ∷ cs) (c ∷ cs) [] = inr (has_none (c ∷ cs) lacks, some_text c cs, eqb-false (slice_index (c ∷ cs) (length (c ∷ cs) - 1)) 13 ends, refl, refl) in
+    told_onward dialect hosts n r (c ∷ cs) [] (reading_after dialect hosts r (c ∷ cs)) (λ next. Ok next.lines) (some_text c cs) (step dialect hosts r (c ∷ cs) (c ∷ cs) [] fit first) (λ next fits. told_nothing dialect hosts (n + 1) next)
+
+told_end : {A : Type 0} (dialect : Dialect) (hosts : List (Host A)) (n : ℕ) (r : Reading) (last : List ℕ) → HostsFit hosts → Lacks 10 last → Told dialect hosts n r last (ended_by dialect hosts n r last)
+told_end dialect hosts n r [] fit lacks = told_nothing dialect hosts n r
+told_end dialect hosts n r (c ∷ cs) fit lacks = told_last dialect hosts n r c cs (eqb (slice_index (c ∷ cs) (length (c ∷ cs) - 1)) 13) fit lacks refl
+
+after_onward : (n : ℕ) (read : Option Reading) (more : Reading → Result Reading ℕ) (last : Reading → Result (List Line) ℕ) → after_lines (onward n read more) last ≡ onward n read (λ next. after_lines (more next) last)
+after_onward n None more last = refl
+after_onward n (Some next) more last = refl
+
+some_piece : (piece rest : List ℕ) → piece ++ 10 ∷ rest ≢ []
+some_piece [] rest e = cc
+some_piece (c ∷ cs) rest e = cc
+
+told_lines : {A : Type 0} (dialect : Dialect) (hosts : List (Host A)) (n number : ℕ) (r : Reading) (front : List (List ℕ)) (last : List ℕ) → HostsFit hosts → AllByRecursion (Lacks 10) front → Lacks 10 last → number ≡ n + length front
+    → Told dialect hosts n r (text_of front last) (after_lines (read_from dialect hosts n r front) (λ read. ended_by dialect hosts number read last))
+told_lines dialect hosts n number r [] last fit lacks ends e =
+    let same : n ≡ number = omega (arith, e) in
+    subst (λ (k : ℕ). Told dialect hosts n r last (ended_by dialect hosts k r last)) same (told_end dialect hosts n r last fit ends)
+told_lines dialect hosts n number r (piece ∷ front) last fit lacks ends e =
+    let rest = text_of front last in
+    let first : IsFirstLine (piece ++ 10 ∷ rest) (strip_carriage_return piece) rest = inl (piece, has_none piece lacks.0, sym (at_feed piece rest), refl) in
+    subst (Told dialect hosts n r (piece ++ 10 ∷ rest)) (sym (after_onward n (reading_after dialect hosts r (strip_carriage_return piece)) (λ next. read_from dialect hosts (n + 1) next front) (λ read. ended_by dialect hosts number read last)))
+    (told_onward dialect hosts n r (piece ++ 10 ∷ rest) rest (reading_after dialect hosts r (strip_carriage_return piece)) (λ next. after_lines (read_from dialect hosts (n + 1) next front) (λ read. ended_by dialect hosts number read last)) (some_piece piece rest)
+    (step dialect hosts r (piece ++ 10 ∷ rest) (strip_carriage_return piece) rest fit first)
+    (λ next fits. told_lines dialect hosts (n + 1) number next front last fit lacks.1 ends (omega (arith, e))))
+
+-- ---- the pieces of a text
 
 last_of : (piece : List ℕ) (pieces : List (List ℕ)) → (front : List (List ℕ)) × (last : List ℕ) × (piece ∷ pieces ≡ front ++ last ∷ [])
 last_of piece [] = ([], piece, refl)
 last_of piece (next ∷ more) = let r = last_of next more in (piece ∷ r.0, r.1, ap (λ (ps : List (List ℕ)). piece ∷ ps) r.2)
 
-pushed : (names front : List (List ℕ)) (last : List ℕ) → script_from names (front ++ last ∷ []) ≡ script_at names 1 0 (front ++ last ∷ [])
-pushed names front last =
+join_front : (front : List (List ℕ)) (last : List ℕ) → join_with_byte 10 (front ++ last ∷ []) ≡ text_of front last
+join_front [] last = refl
+join_front (piece ∷ []) last = refl
+join_front (piece ∷ next ∷ front) last = ap (λ (t : List ℕ). piece ++ 10 ∷ t) (join_front (next ∷ front) last)
+
+pushed : {A : Type 0} (dialect : Dialect) (hosts : List (Host A)) (front : List (List ℕ)) (last : List ℕ) → script_from dialect hosts (front ++ last ∷ []) ≡ after_lines (read_from dialect hosts 1 no_reading front) (λ r. ended_by dialect hosts (1 + length front) r last)
+pushed dialect hosts front last =
     let long : length (front ++ last ∷ []) ≡ 1 + length front = omega (arith, length_push front last) in
     let before : length (front ++ last ∷ []) - 1 ≡ length front = omega (arith, long) in
     let here : get_or (front ++ last ∷ []) (length (front ++ last ∷ []) - 1) [] ≡ last = rw before (get_or_at front last [] [] (length front) refl) in
     let fronts : take (length (front ++ last ∷ []) - 1) (front ++ last ∷ []) ≡ front = rw before (take_at front (last ∷ []) (length front) refl) in
-    ap (λ (x : List ℕ). ended_by (length (front ++ last ∷ [])) x (lines_from names 1 0 (take (length (front ++ last ∷ []) - 1) (front ++ last ∷ [])))) here
-    ∙ ap (λ (ps : List (List ℕ)). ended_by (length (front ++ last ∷ [])) last (lines_from names 1 0 ps)) fronts
-    ∙ by_front names (length (front ++ last ∷ [])) 1 0 front last long
+    ap (λ (x : List ℕ). after_lines (read_from dialect hosts 1 no_reading (take (length (front ++ last ∷ []) - 1) (front ++ last ∷ []))) (λ r. ended_by dialect hosts (length (front ++ last ∷ [])) r x)) here
+    ∙ ap (λ (ps : List (List ℕ)). after_lines (read_from dialect hosts 1 no_reading ps) (λ r. ended_by dialect hosts (length (front ++ last ∷ [])) r last)) fronts
+    ∙ ap (λ (k : ℕ). after_lines (read_from dialect hosts 1 no_reading front) (λ r. ended_by dialect hosts k r last)) long
 
-of_pieces : (names pieces : List (List ℕ)) → 0 < length pieces → script_from names pieces ≡ script_at names 1 0 pieces
-of_pieces names [] some = absurd (omega arith)
-of_pieces names (piece ∷ pieces) some =
+tell_pushed : {A : Type 0} (dialect : Dialect) (hosts : List (Host A)) (front : List (List ℕ)) (last : List ℕ) → HostsFit hosts → AllByRecursion (Lacks 10) (front ++ last ∷ []) → Told dialect hosts 1 no_reading (join_with_byte 10 (front ++ last ∷ [])) (script_from dialect hosts (front ++ last ∷ []))
+tell_pushed dialect hosts front last fit lacks =
+    let each = all_split (Lacks 10) front (last ∷ []) lacks in
+    subst (λ (t : List ℕ). Told dialect hosts 1 no_reading t (script_from dialect hosts (front ++ last ∷ []))) (sym (join_front front last))
+    (subst (Told dialect hosts 1 no_reading (text_of front last)) (sym (pushed dialect hosts front last)) (told_lines dialect hosts 1 (1 + length front) no_reading front last fit each.0 each.1.0 refl))
+
+tell_pieces : {A : Type 0} (dialect : Dialect) (hosts : List (Host A)) (pieces : List (List ℕ)) → HostsFit hosts → 0 < length pieces → AllByRecursion (Lacks 10) pieces → Told dialect hosts 1 no_reading (join_with_byte 10 pieces) (script_from dialect hosts pieces)
+tell_pieces dialect hosts [] fit some lacks = absurd (omega arith)
+tell_pieces dialect hosts (piece ∷ pieces) fit some lacks =
     let r = last_of piece pieces in
-    subst (λ (ps : List (List ℕ)). script_from names ps ≡ script_at names 1 0 ps) (sym r.2) (pushed names r.0 r.1)
+    subst (λ (ps : List (List ℕ)). Told dialect hosts 1 no_reading (join_with_byte 10 ps) (script_from dialect hosts ps)) (sym r.2) (tell_pushed dialect hosts r.0 r.1 fit (subst (AllByRecursion (Lacks 10)) r.2 lacks))
 
--- ---- reading over a text
-
-abbrev read_at : List (List ℕ) → ℕ → ℕ → List ℕ → Result (List Line) ℕ
-read_at names n filled text = script_at names n filled (slice_split (λ c. eqb c 10) text)
-
-some_pieces : (text : List ℕ) → 0 < length (slice_split (λ c. eqb c 10) text)
-some_pieces text = omega (arith, length-slice_split (λ c. eqb c 10) text)
-
-whole : (names : List (List ℕ)) (text : List ℕ) → script_of names text ≡ read_at names 1 0 text
-whole names text = of_pieces names (slice_split (λ c. eqb c 10) text) (some_pieces text)
-
-at_line : (names : List (List ℕ)) (n filled : ℕ) (first rest : List ℕ) → Lacks 10 first → read_at names n filled (first ++ 10 ∷ rest) ≡ with_line n filled (line_of names first) (λ sum. read_at names (n + 1) sum rest)
-at_line names n filled first rest lacks = ap (script_at names n filled) (cut_at 10 first rest lacks) ∙ piece_first names n filled first (slice_split (λ c. eqb c 10) rest) (some_pieces rest)
-
-at_end : (names : List (List ℕ)) (n filled : ℕ) (text : List ℕ) → Lacks 10 text → read_at names n filled text ≡ ended_by n text (Ok [])
-at_end names n filled text lacks = ap (script_at names n filled) (cut_none 10 text lacks)
-
-lacks_feed : (text : List ℕ) → HasNoLineFeed text → Lacks 10 text
-lacks_feed text h = recursion_from_All (λ c. eqb c 10 ≡ false) text (λ k d below. ne_eqb (get_or text k d) 10 (h k d below))
-
-has_none : (text : List ℕ) → Lacks 10 text → HasNoLineFeed text
-has_none text h k d below = eqb-false (get_or text k d) 10 (All-from_recursion (λ c. eqb c 10 ≡ false) text h k d below)
-
-line_fits : (n filled fill : ℕ) (line : Line) (r : Option ReadLine) (more : ℕ → Result (List Line) ℕ) → r ≡ Some (record { line = line; fills = fill }) → filled + fill ≤ 268435456 → with_line n filled r more ≡ behind (line ∷ []) (more (filled + fill))
-line_fits n filled fill line r more e fits =
-    let test : ltb 268435456 (filled + fill) ≡ false = le-ltb 268435456 (filled + fill) fits in
-    rw (e, test) refl
-
-line_over : (n filled : ℕ) (read : ReadLine) (more : ℕ → Result (List Line) ℕ) → 268435456 < filled + read.fills → with_line n filled (Some read) more ≡ Err n
-line_over n filled read more over =
-    let test : ltb 268435456 (filled + read.fills) ≡ true = lt-ltb 268435456 (filled + read.fills) over in
-    rw test refl
-
-behind_none : (r : Result (List Line) ℕ) → behind [] r ≡ r
-behind_none (Ok lines) = refl
-behind_none (Err n) = refl
-
-behind_both : (line : Line) (more : List Line) (r : Result (List Line) ℕ) → behind (line ∷ []) (behind more r) ≡ behind (line ∷ more) r
-behind_both line more (Ok lines) = refl
-behind_both line more (Err n) = refl
-
-feed_between : (first rest more : List ℕ) → (first ++ codes "\n" ++ rest) ++ more ≡ first ++ 10 ∷ (rest ++ more)
-feed_between first rest more = simp append_assoc
-
-feed_behind : (first rest : List ℕ) → first ++ codes "\n" ++ rest ≡ first ++ 10 ∷ rest
-feed_behind first rest = simp append_assoc
-
--- lines of the grammar are read, and then what follows them
-lines_before : (names : List (List ℕ)) (n filled : ℕ) (front rest : List ℕ) (lines : List Line) (fills : ℕ) → CanName names → AreLines names front lines fills → filled + fills ≤ 268435456
-    → read_at names n filled (front ++ rest) ≡ behind lines (read_at names (n + length lines) (filled + fills) rest)
-unfolding AreLines
-lines_before names n filled front rest [] fills can h fits =
-    let number : n ≡ n + 0 = omega arith in
-    let sum : filled ≡ filled + fills = omega (arith, h.1) in
-    ap (λ (t : List ℕ). read_at names n filled (t ++ rest)) h.0
-    ∙ ap (λ (k : ℕ). read_at names k filled rest) number
-    ∙ ap (λ (k : ℕ). read_at names (n + 0) k rest) sum
-    ∙ sym (behind_none (read_at names (n + 0) (filled + fills) rest))
-lines_before names n filled front rest (line ∷ more) fills can h fits =
-    let fill = h.2 in
-    let others = h.3 in
-    let within : filled + fill + others ≤ 268435456 = omega (arith, h.7) in
-    let one : filled + fill ≤ 268435456 = omega (arith, within) in
-    let number : n + 1 + length more ≡ n + suc (length more) = omega arith in
-    let sum : filled + fill + others ≡ filled + fills = omega (arith, h.7) in
-    ap (λ (t : List ℕ). read_at names n filled (t ++ rest)) h.6
-    ∙ ap (read_at names n filled) (feed_between h.0 h.1 rest)
-    ∙ at_line names n filled h.0 (h.1 ++ rest) (line_lacks names h.0 line fill can h.4)
-    ∙ line_fits n filled fill line (line_of names h.0) (λ s. read_at names (n + 1) s (h.1 ++ rest)) (line_again names h.0 line fill can h.4) one
-    ∙ ap (behind (line ∷ [])) (lines_before names (n + 1) (filled + fill) h.1 rest more others can h.5 within)
-    ∙ behind_both line more (read_at names (n + 1 + length more) (filled + fill + others) rest)
-    ∙ ap (λ (k : ℕ). behind (line ∷ more) (read_at names k (filled + fill + others) rest)) number
-    ∙ ap (λ (k : ℕ). behind (line ∷ more) (read_at names (n + suc (length more)) k rest)) sum
-
--- what the grammar reads is what is computed
-pub script_again : (names : List (List ℕ)) (text : List ℕ) (script : List Line) → CanName names → Reads names text script → script_of names text ≡ Ok script
-script_again names text script can h =
-    let fits : 0 + h.0 ≤ 268435456 = omega (arith, h.2) in
-    whole names text
-    ∙ ap (read_at names 1 0) (sym (append-nil text))
-    ∙ lines_before names 1 0 text [] script h.0 can h.1 fits
-    ∙ ap Ok (append-nil script)
-
-ended_some : (n : ℕ) (text : List ℕ) → text ≢ [] → ended_by n text (Ok []) ≡ Err n
-ended_some n [] some = absurd (some refl)
-ended_some n (c ∷ cs) some = refl
-
-bad_line : (names : List (List ℕ)) (n filled : ℕ) (first : List ℕ) (r : Option ReadLine) (more : ℕ → Result (List Line) ℕ) → line_of names first ≡ r
-    → ((line : Line) (fill : ℕ) → IsLine names first line fill → 268435456 < filled + fill) → with_line n filled r more ≡ Err n
-bad_line names n filled first None more e none = refl
-bad_line names n filled first (Some read) more e none = line_over n filled read more (none read.line read.fills (line_reads names first read e))
-
-outside_bad : (names : List (List ℕ)) (n filled : ℕ) (text : List ℕ) → IsOutside names text filled → read_at names n filled text ≡ Err n
-outside_bad names n filled text (inl h) = at_end names n filled text (lacks_feed text h.0) ∙ ended_some n text h.1
-outside_bad names n filled text (inr h) =
-    ap (read_at names n filled) (h.3 ∙ feed_behind h.0 h.1)
-    ∙ at_line names n filled h.0 h.1 (lacks_feed h.0 h.2)
-    ∙ bad_line names n filled h.0 (line_of names h.0) (λ sum. read_at names (n + 1) sum h.1) refl h.4
-
--- the first line outside the grammar is the one that is computed
-pub bad_again : (names : List (List ℕ)) (text : List ℕ) (n : ℕ) → CanName names → FirstBad names text n → script_of names text ≡ Err n
-bad_again names text n can h =
-    let fits : 0 + h.filled ≤ 268435456 = omega (arith, h.within) in
-    let sum : 0 + h.filled ≡ h.filled = omega arith in
-    let number : 1 + length h.before ≡ n = omega (arith, h.number) in
-    whole names text
-    ∙ ap (read_at names 1 0) h.whole
-    ∙ lines_before names 1 0 h.front h.rest h.before h.filled can h.read fits
-    ∙ ap (behind h.before) (ap (λ (k : ℕ). read_at names (1 + length h.before) k h.rest) sum ∙ outside_bad names (1 + length h.before) h.filled h.rest h.outside)
-    ∙ ap Err number
-
--- ---- what is computed is what the grammar says
-
-Told : List (List ℕ) → ℕ → ℕ → List ℕ → Result (List Line) ℕ → Type 0
-Told names n filled text (Ok lines) = (fills : ℕ) × AreLines names text lines fills × (filled + fills ≤ 268435456)
-Told names n filled text (Err bad) =
-    (front rest : List ℕ) × (before : List Line) × (fills : ℕ) × AreLines names front before fills × (filled + fills ≤ 268435456) × (text ≡ front ++ rest) × (bad ≡ n + length before) × IsOutside names rest (filled + fills)
-
-none_yet : (names : List (List ℕ)) (n filled : ℕ) (text : List ℕ) → filled ≤ 268435456 → IsOutside names text filled → Told names n filled text (Err n)
-unfolding Told AreLines
-none_yet names n filled text fits outside =
-    let sum : filled ≡ filled + 0 = omega arith in
-    ([], text, [], 0, (refl, refl), omega arith, refl, omega arith, subst (IsOutside names text) sum outside)
-
-told_behind : (names : List (List ℕ)) (n filled fill : ℕ) (first rest : List ℕ) (line : Line) (r : Result (List Line) ℕ) → IsLine names first line fill → Told names (n + 1) (filled + fill) rest r → Told names n filled (first ++ 10 ∷ rest) (behind (line ∷ []) r)
-unfolding Told AreLines
-told_behind names n filled fill first rest line (Ok lines) is told = (fill + told.0, (first, rest, fill, told.0, is, told.1, sym (feed_behind first rest), refl), omega (arith, told.2))
-told_behind names n filled fill first rest line (Err bad) is told =
-    let sum : filled + fill + told.3 ≡ filled + (fill + told.3) = omega arith in (
-      first ++ codes "\n" ++ told.0,
-      told.1,
-      line ∷ told.2,
-      fill + told.3,
-      (first, told.0, fill, told.3, is, told.4, refl, refl),
-      omega (arith, told.5),
-      ap (λ (t : List ℕ). first ++ 10 ∷ t) told.6 ∙ sym (feed_between first told.0 told.1),
-      omega (arith, told.7),
-      subst (IsOutside names told.1) sum told.8,
-    )
-
-outside_line : (names : List (List ℕ)) (filled : ℕ) (first rest : List ℕ) → Lacks 10 first → ((line : Line) (fill : ℕ) → IsLine names first line fill → 268435456 < filled + fill) → IsOutside names (first ++ 10 ∷ rest) filled
-outside_line names filled first rest lacks none = inr (first, rest, has_none first lacks, sym (feed_behind first rest), none)
-
-tell_line : (names : List (List ℕ)) (n filled : ℕ) (first rest : List ℕ) (more : ℕ → Result (List Line) ℕ) (r : Option ReadLine) → CanName names → filled ≤ 268435456 → Lacks 10 first → line_of names first ≡ r
-    → ((sum : ℕ) → sum ≤ 268435456 → Told names (n + 1) sum rest (more sum)) → Told names n filled (first ++ 10 ∷ rest) (with_line n filled r more)
-tell_line names n filled first rest more None can fits lacks e later =
-    none_yet names n filled (first ++ 10 ∷ rest) fits (outside_line names filled first rest lacks (λ line fill is. absurd (none-some (record { line = line; fills = fill }) (sym e ∙ line_again names first line fill can is))))
-tell_line names n filled first rest more (Some read) can fits lacks e later =
-    tell_read (ltb 268435456 (filled + read.fills)) refl
-  where
-    tell_read : (b : Bool) → ltb 268435456 (filled + read.fills) ≡ b → Told names n filled (first ++ 10 ∷ rest) (cond b (Err n) (behind (read.line ∷ []) (more (filled + read.fills))))
-    tell_read true over = none_yet names n filled (first ++ 10 ∷ rest) fits (outside_line names filled first rest lacks (λ line fill is.
-        let same : fill ≡ read.fills = ap (λ (q : ReadLine). q.fills) (same_Some (record { line = line; fills = fill }) read (sym (line_again names first line fill can is) ∙ e)) in
-        omega (arith, same, ltb-true 268435456 (filled + read.fills) over)))
-    tell_read false within = told_behind names n filled read.fills first rest read.line (more (filled + read.fills)) (line_reads names first read e) (later (filled + read.fills) (ltb-false 268435456 (filled + read.fills) within))
-
-tell_end : (names : List (List ℕ)) (n filled : ℕ) (text : List ℕ) → filled ≤ 268435456 → Lacks 10 text → Told names n filled text (ended_by n text (Ok []))
-unfolding Told AreLines
-tell_end names n filled [] fits lacks = (0, (refl, refl), omega arith)
-tell_end names n filled (c ∷ cs) fits lacks = none_yet names n filled (c ∷ cs) fits (inl (has_none (c ∷ cs) lacks, λ e. cc))
-
-tell : (names : List (List ℕ)) (n filled : ℕ) (piece : List ℕ) (pieces : List (List ℕ)) → CanName names → filled ≤ 268435456 → AllByRecursion (Lacks 10) (piece ∷ pieces) → Told names n filled (join_with_byte 10 (piece ∷ pieces)) (script_at names n filled (piece ∷ pieces))
-tell names n filled piece [] can fits lacks = tell_end names n filled piece fits lacks.0
-tell names n filled piece (next ∷ more) can fits lacks =
-    tell_line names n filled piece (join_with_byte 10 (next ∷ more)) (λ sum. script_at names (n + 1) sum (next ∷ more)) (line_of names piece) can fits lacks.0 refl (λ sum within. tell names (n + 1) sum next more can within lacks.1)
-
-tell_pieces : (names : List (List ℕ)) (pieces : List (List ℕ)) → CanName names → 0 < length pieces → AllByRecursion (Lacks 10) pieces → Told names 1 0 (join_with_byte 10 pieces) (script_at names 1 0 pieces)
-tell_pieces names [] can some lacks = absurd (omega arith)
-tell_pieces names (piece ∷ pieces) can some lacks = tell names 1 0 piece pieces can (omega arith) lacks
-
-tell_text : (names : List (List ℕ)) (text : List ℕ) → CanName names → Told names 1 0 text (script_of names text)
-tell_text names text can =
-    subst (Told names 1 0 text) (sym (whole names text))
-    (subst (λ (t : List ℕ). Told names 1 0 t (read_at names 1 0 text)) (join_with_byte-slice_split 10 text) (tell_pieces names (slice_split (λ c. eqb c 10) text) can (some_pieces text) (parts_lack 10 text)))
+tell_text : {A : Type 0} (dialect : Dialect) (hosts : List (Host A)) (text : List ℕ) → HostsFit hosts → Told dialect hosts 1 no_reading text (script_of dialect hosts text)
+tell_text dialect hosts text fit =
+    let some : 0 < length (slice_split (λ c. eqb c 10) text) = omega (arith, length-slice_split (λ c. eqb c 10) text) in
+    subst (λ (t : List ℕ). Told dialect hosts 1 no_reading t (script_of dialect hosts text)) (join_with_byte-slice_split 10 text) (tell_pieces dialect hosts (slice_split (λ c. eqb c 10) text) fit some (parts_lack 10 text))
 
 -- what is computed is what the grammar reads
-pub script_reads : (names : List (List ℕ)) (text : List ℕ) (script : List Line) → CanName names → script_of names text ≡ Ok script → Reads names text script
+pub script_reads : {A : Type 0} (dialect : Dialect) (hosts : List (Host A)) (text : List ℕ) (script : List Line) → HostsFit hosts → script_of dialect hosts text ≡ Ok script → Reads dialect hosts text script
 unfolding Told
-script_reads names text script can e =
-    let told : Told names 1 0 text (Ok script) = subst (Told names 1 0 text) e (tell_text names text can) in
-    (told.0, told.1, omega (arith, told.2))
+script_reads dialect hosts text script fit e =
+    let told : Told dialect hosts 1 no_reading text (Ok script) = subst (Told dialect hosts 1 no_reading text) e (tell_text dialect hosts text fit) in
+    record { meanings = told.0; after = told.1; read = told.2; whole = told.3; taken = told.4; told = told.5 }
 
--- the line that is computed is the first one outside the grammar
-pub bad_reads : (names : List (List ℕ)) (text : List ℕ) (n : ℕ) → CanName names → script_of names text ≡ Err n → FirstBad names text n
+-- the line that is computed is the first bad one
+pub bad_reads : {A : Type 0} (dialect : Dialect) (hosts : List (Host A)) (text : List ℕ) (n : ℕ) → HostsFit hosts → script_of dialect hosts text ≡ Err n → FirstBad dialect hosts text n
 unfolding Told
-bad_reads names text n can e =
-    let told : Told names 1 0 text (Err n) = subst (Told names 1 0 text) e (tell_text names text can) in
-    let sum : 0 + told.3 ≡ told.3 = omega arith in
-    record {
-      front = told.0;
-      rest = told.1;
-      before = told.2;
-      filled = told.3;
-      whole = told.6;
-      read = told.4;
-      within = omega (arith, told.5);
-      number = omega (arith, told.7);
-      outside = subst (IsOutside names told.1) sum told.8;
-    }
-
--- what the grammar says is exactly what is computed
-pub reads_exactly : (names : List (List ℕ)) (text : List ℕ) (script : List Line) → CanName names → (script_of names text ≡ Ok script) ↔ Reads names text script
-reads_exactly names text script can = (script_reads names text script can, script_again names text script can)
-
-pub bad_exactly : (names : List (List ℕ)) (text : List ℕ) (n : ℕ) → CanName names → (script_of names text ≡ Err n) ↔ FirstBad names text n
-bad_exactly names text n can = (bad_reads names text n can, bad_again names text n can)
+bad_reads dialect hosts text n fit e =
+    let told : Told dialect hosts 1 no_reading text (Err n) = subst (Told dialect hosts 1 no_reading text) e (tell_text dialect hosts text fit) in
+    record { meanings = told.0; at = told.1; read = told.2; taken = told.3; number = omega (arith, told.4); some = told.5; bad = told.6 }

@@ -1,91 +1,138 @@
--- The grammar of a script, by cases on its lines and their parameters.
-use Rattle.std.specs.Prelude.{ℕ, ◌≡◌, ◌≢◌, ◌+◌, ◌^◌, ◌<◌, ◌≤◌, ◌⊎◌, false, List, [], ◌∷◌, ◌++◌, Ok, Some, All, AllPairs, codes, length, map, replicate, slice_get}
-use Rattle.std.specs.Fmt.{decimal}
-use Rattle.hex.specs.Hex.{decode_of}
+-- The grammar of a script, by cases on its lines and their words.
+use Rattle.std.specs.Prelude.{ℕ, ◌≡◌, ◌≢◌, ◌+◌, ◌^◌, ◌-◌, ◌<◌, ◌≤◌, ◌⊎◌, Bool, true, false, List, [], ◌∷◌, ◌++◌, Some, All, codes, length, map, slice_get, slice_index}
+use Rattle.std.specs.List.{AllByRecursion, flat_map}
+use Rattle.std.specs.Str.{IsAscii}
+use Rattle.std.specs.Str.Lines.{strip_carriage_return}
+use Rattle.uuid.specs.Text.{parsed}
+use Rattle.tee_base.specs.declared.limits.TheConstants.{CLIENTS, FILL_BYTES, INSTANCES, LINE_TURNS}
+use Rattle.app_api.specs.declared.call.Call.{Call}
 use Rattle.app_api.specs.declared.call.Call.TheVariants as calls
 use Rattle.app_api.specs.declared.host.Host.{Host}
-use Rattle.app_api.specs.declared.param.Param.{Param}
-use Rattle.app_api.specs.declared.param.Param.TheVariants.{Nothing, ValueIn, ValueOut, ValueInOut, MemIn, MemOut, MemInOut}
 use Rattle.app_api.specs.Params.{params_of}
+use Rattle.script.specs.declared.dialect.Dialect.{Dialect}
 use Rattle.script.specs.declared.line.Line.{Line}
 use Rattle.script.specs.declared.line.Line.TheVariants as lines
+use Rattle.script.specs.declared.line.Meaning.{Meaning}
+use Rattle.script.specs.declared.line.Meaning.TheVariants.{Nothing, Client, Script}
+use Rattle.script.specs.declared.line.TheConstants.{FUSE_CALLS}
+use Rattle.script.specs.Dialects.{Takes}
+use Rattle.script.specs.Words.{AreParams, AreWords, IsNumber, IsNumber32}
 
 -- the names of hosts, in order
 abbrev pub names_of : {A : Type 0} → List (Host A) → List (List ℕ)
 names_of hosts = map (λ host. host.name) hosts
 
--- names by which hosts can be told apart in a line: no space and no line feed is in them, and no two are alike
-pub record CanName (names : List (List ℕ)) : Type 0 where
-  pub plain : All (λ name. All (λ c. (c ≢ 32) × (c ≢ 10)) name) names
-  pub apart : AllPairs ◌≢◌ names
+-- the name of the host of this index, or a text that `uuid` parses to its identifier
+abbrev pub IsHost : {A : Type 0} → List (Host A) → List ℕ → ℕ → Type 0
+IsHost {A} hosts word app = (host : Host A) × (slice_get hosts app ≡ Some host) × ((word ≡ host.name) ⊎ (parsed word ≡ Some host.id))
 
--- a kind's word, and then two hexadecimal digits of either case for each byte; no byte is filled in
-abbrev pub IsMemory : List ℕ → List ℕ → List ℕ → ℕ → Type 0
-IsMemory word text bytes fill = (digits : List ℕ) × (decode_of digits ≡ Ok bytes) × (text ≡ word ++ digits) × (fill ≡ 0)
+-- the words of a call, for whose parameters so many bytes are filled in
+unfoldable pub IsCall : List (List ℕ) → Call → ℕ → Type 0
+IsCall words (calls.Open label params) fill =
+    (session : List ℕ) × (others : List (List ℕ)) × IsNumber32 session label × AreParams others (params_of params) fill
+    × (words ≡ codes "open" ∷ session ∷ others)
+IsCall words (calls.Invoke label command params) fill =
+    (session number : List ℕ) × (others : List (List ℕ)) × IsNumber32 session label × IsNumber32 number command × AreParams others (params_of params) fill
+    × (words ≡ codes "invoke" ∷ session ∷ number ∷ others)
+IsCall words (calls.Close label) fill =
+    (session : List ℕ) × IsNumber32 session label × (words ≡ codes "close" ∷ session ∷ []) × (fill ≡ 0)
 
--- how many bytes are filled in, at most 524,288, and in two hexadecimal digits the byte that each of them is
-abbrev pub IsFilled : List ℕ → List ℕ → ℕ → Type 0
-IsFilled text bytes fill = (byte : ℕ) × (digits : List ℕ) × (decode_of digits ≡ Ok (byte ∷ [])) × (text ≡ codes "mf:" ++ decimal fill ++ codes ":" ++ digits) × (bytes ≡ replicate fill byte) × (fill ≤ 524288)
+-- the word before a call that gets no turns
+abbrev pub post_words : Bool → List (List ℕ)
+post_words true = codes "post" ∷ []
+post_words false = []
 
--- the text of a parameter, for which so many bytes are filled in; a number has 32 bits, and is in the digits that Rust writes
-unfoldable pub IsParam : List ℕ → Param → ℕ → Type 0
-IsParam text Nothing fill = (text ≡ codes "-") × (fill ≡ 0)
-IsParam text (ValueIn a b) fill = (a < 2 ^ 32) × (b < 2 ^ 32) × (text ≡ codes "vi:" ++ decimal a ++ codes ":" ++ decimal b) × (fill ≡ 0)
-IsParam text ValueOut fill = (text ≡ codes "vo") × (fill ≡ 0)
-IsParam text (ValueInOut a b) fill = (a < 2 ^ 32) × (b < 2 ^ 32) × (text ≡ codes "vio:" ++ decimal a ++ codes ":" ++ decimal b) × (fill ≡ 0)
-IsParam text (MemIn bytes) fill = IsMemory (codes "mi:") text bytes fill ⊎ IsFilled text bytes fill
-IsParam text (MemOut size) fill = (size < 2 ^ 32) × (text ≡ codes "mo:" ++ decimal size) × (fill ≡ 0)
-IsParam text (MemInOut bytes) fill = IsMemory (codes "mio:") text bytes fill
+-- the words of a script's line that this client makes, for which so many bytes are filled in
+unfoldable pub IsLine : {A : Type 0} → List (Host A) → ℕ → List (List ℕ) → Line → ℕ → Type 0
+IsLine hosts client words (lines.Call app owner post call) fill =
+    (owner ≡ client) × (name : List ℕ) × (others : List (List ℕ)) × IsHost hosts name app × IsCall others call fill
+    × (words ≡ name ∷ post_words post ++ others)
+IsLine hosts client words (lines.Turns app owner instance count) fill =
+    (owner ≡ client) × (name number turns : List ℕ) × IsHost hosts name app × IsNumber number instance × IsNumber turns count
+    × (1 ≤ instance) × (instance ≤ INSTANCES) × (1 ≤ count) × (count ≤ LINE_TURNS)
+    × (words ≡ name ∷ codes "turn" ∷ number ∷ turns ∷ []) × (fill ≡ 0)
+IsLine hosts client words (lines.Cancel app owner op) fill =
+    (owner ≡ client) × (name number : List ℕ) × IsHost hosts name app × IsNumber number op × (op < 2 ^ 64)
+    × (words ≡ name ∷ codes "cancel" ∷ number ∷ []) × (fill ≡ 0)
+IsLine hosts client words (lines.Fuse count) fill =
+    (number : List ℕ) × IsNumber number count × (count ≤ FUSE_CALLS) × (words ≡ codes "board" ∷ codes "fuse" ∷ number ∷ []) × (fill ≡ 0)
+IsLine hosts client words (lines.Power pick) fill =
+    (number : List ℕ) × IsNumber number pick × (pick < 2 ^ 64) × (words ≡ codes "board" ∷ codes "power" ∷ number ∷ []) × (fill ≡ 0)
 
--- the text of parameters in order, each behind a space; where it ends, the others are left out, and are none
-unfoldable pub AreParams : List ℕ → List Param → ℕ → Type 0
-AreParams [] [] fills = fills ≡ 0
-AreParams (c ∷ text) [] fills = ⊥
-AreParams [] (param ∷ params) fills = (param ≡ Nothing) × AreParams [] params fills
-AreParams (c ∷ text) (param ∷ params) fills =
-    (c ≡ 32) × (word rest : List ℕ) × (fill others : ℕ) × IsParam word param fill × AreParams rest params others × (text ≡ word ++ rest) × (fills ≡ fill + others)
+-- a line that means nothing: an empty one, and one that begins with #
+abbrev pub IsSilent : List ℕ → Type 0
+IsSilent line = (line ≡ []) ⊎ ((more : List ℕ) × (line ≡ codes "#" ++ more))
 
--- the text of a line without its line feed: the name of a host, a verb, the session's label, for an invoke the command, and at
--- most four parameters; the call is made by client 0, and is run until it is answered
-unfoldable pub IsLine : List (List ℕ) → List ℕ → Line → ℕ → Type 0
-IsLine names text (lines.Call app client post (calls.Open label params)) fills =
-    (client ≡ 0) × (post ≡ false) × (name rest : List ℕ) × (slice_get names app ≡ Some name) × (label < 2 ^ 32) × AreParams rest (params_of params) fills
-    × (text ≡ name ++ codes " open " ++ decimal label ++ rest)
-IsLine names text (lines.Call app client post (calls.Invoke label command params)) fills =
-    (client ≡ 0) × (post ≡ false) × (name rest : List ℕ) × (slice_get names app ≡ Some name) × (label < 2 ^ 32) × (command < 2 ^ 32) × AreParams rest (params_of params) fills
-    × (text ≡ name ++ codes " invoke " ++ decimal label ++ codes " " ++ decimal command ++ rest)
-IsLine names text (lines.Call app client post (calls.Close label)) fills =
-    (client ≡ 0) × (post ≡ false) × (name : List ℕ) × (slice_get names app ≡ Some name) × (label < 2 ^ 32) × (fills ≡ 0)
-    × (text ≡ name ++ codes " close " ++ decimal label)
-
--- the text of lines in order, a line feed behind each
-unfoldable pub AreLines : List (List ℕ) → List ℕ → List Line → ℕ → Type 0
-AreLines names text [] fills = (text ≡ []) × (fills ≡ 0)
-AreLines names text (line ∷ more) fills =
-    (first rest : List ℕ) × (fill others : ℕ) × IsLine names first line fill × AreLines names rest more others × (text ≡ first ++ codes "\n" ++ rest) × (fills ≡ fill + others)
-
--- what a text reads to: it is the text of these lines, for which at most 268,435,456 bytes are filled in
-abbrev pub Reads : List (List ℕ) → List ℕ → List Line → Type 0
-Reads names text script = (fills : ℕ) × AreLines names text script fills × (fills ≤ 268435456)
+-- what a line means where the lines before it are this client's, and how many bytes are filled in for it
+unfoldable pub Means : {A : Type 0} → List (Host A) → ℕ → List ℕ → Meaning → ℕ → Type 0
+Means hosts client line Nothing fill = IsSilent line × (fill ≡ 0)
+Means hosts client line (Client n) fill =
+    (¬ IsSilent line) × (number : List ℕ) × AreWords line (codes "client" ∷ number ∷ []) × IsNumber number n × (n < CLIENTS) × (fill ≡ 0)
+Means hosts client line (Script told) fill = (¬ IsSilent line) × (words : List (List ℕ)) × AreWords line words × IsLine hosts client words told fill
 
 abbrev pub HasNoLineFeed : List ℕ → Type 0
-HasNoLineFeed text = All (λ c. c ≢ 10) text
+HasNoLineFeed text = AllByRecursion (λ c. c ≢ 10) text
 
--- no line stands here, where so many bytes were filled in before: the text isn't empty and has no line feed, or what stands before
--- its first line feed is no line, or one for which too many bytes are filled in
-abbrev pub IsOutside : List (List ℕ) → List ℕ → ℕ → Type 0
-IsOutside names text filled =
-    (HasNoLineFeed text × (text ≢ []))
-    ⊎ ((first rest : List ℕ) × HasNoLineFeed first × (text ≡ first ++ codes "\n" ++ rest) × ((line : Line) (fill : ℕ) → IsLine names first line fill → 268435456 < filled + fill))
+-- the first line of a text, without its end, and what stands behind it; its end is a line feed, or a carriage return and a line
+-- feed. The last line may have no end, but a carriage return alone is none
+abbrev pub IsFirstLine : List ℕ → List ℕ → List ℕ → Type 0
+IsFirstLine text line rest =
+    ((piece : List ℕ) × HasNoLineFeed piece × (text ≡ piece ++ codes "\n" ++ rest) × (line ≡ strip_carriage_return piece))
+    ⊎ (HasNoLineFeed text × (text ≢ []) × (slice_index text (length text - 1) ≢ 13) × (line ≡ text) × (rest ≡ []))
 
--- line n, counted from 1, is the first that isn't in the grammar: the lines before it are
-pub record FirstBad (names : List (List ℕ)) (text : List ℕ) (n : ℕ) : Type 0 where
-  pub front : List ℕ
-  pub rest : List ℕ
-  pub before : List Line
+-- a place between the lines of a text: the client whose lines come, how many bytes were filled in before, and the text behind it
+pub record Place : Type 0 where
+  pub client : ℕ
   pub filled : ℕ
-  pub whole : text ≡ front ++ rest
-  pub read : AreLines names front before filled
-  pub within : filled ≤ 268435456
-  pub number : n ≡ length before + 1
-  pub outside : IsOutside names rest filled
+  pub rest : List ℕ
+
+-- before the first line
+abbrev pub start_of : List ℕ → Place
+start_of text = record { client = 0; filled = 0; rest = text }
+
+-- the client whose lines come after a line of this meaning
+abbrev pub client_after : ℕ → Meaning → ℕ
+client_after client Nothing = client
+client_after client (Client n) = n
+client_after client (Script line) = client
+
+-- the next line is in the grammar: its bytes are ASCII, it has this meaning, and not too many bytes are filled in up to its end
+pub record IsNext {A : Type 0} (hosts : List (Host A)) (at : Place) (meaning : Meaning) (after : Place) : Type 0 where
+  pub line : List ℕ
+  pub fill : ℕ
+  pub first : IsFirstLine at.rest line after.rest
+  pub ascii : IsAscii line
+  pub means : Means hosts at.client line meaning fill
+  pub client : after.client ≡ client_after at.client meaning
+  pub filled : after.filled ≡ at.filled + fill
+  pub within : after.filled ≤ FILL_BYTES
+
+-- the next lines are in the grammar and have these meanings
+unfoldable pub AreNext : {A : Type 0} → List (Host A) → Place → List Meaning → Place → Type 0
+AreNext hosts at [] after = at ≡ after
+AreNext hosts at (meaning ∷ more) after = (between : Place) × IsNext hosts at meaning between × AreNext hosts between more after
+
+-- the lines of the script that a meaning is
+abbrev pub lines_of : Meaning → List Line
+lines_of Nothing = []
+lines_of (Client n) = []
+lines_of (Script line) = line ∷ []
+
+-- what a text reads to: its lines are in the grammar up to its end, the script is what they mean, and the dialect takes them
+pub record Reads {A : Type 0} (dialect : Dialect) (hosts : List (Host A)) (text : List ℕ) (script : List Line) : Type 0 where
+  pub meanings : List Meaning
+  pub after : Place
+  pub read : AreNext hosts (start_of text) meanings after
+  pub whole : after.rest ≡ []
+  pub taken : AllByRecursion (Takes dialect) meanings
+  pub told : script ≡ flat_map lines_of meanings
+
+-- line n, counted from 1, is the first that isn't in the grammar or that the dialect doesn't take: the lines before it are read
+pub record FirstBad {A : Type 0} (dialect : Dialect) (hosts : List (Host A)) (text : List ℕ) (n : ℕ) : Type 0 where
+  pub meanings : List Meaning
+  pub at : Place
+  pub read : AreNext hosts (start_of text) meanings at
+  pub taken : AllByRecursion (Takes dialect) meanings
+  pub number : n ≡ length meanings + 1
+  pub some : at.rest ≢ []
+  pub bad : (meaning : Meaning) (after : Place) → IsNext hosts at meaning after → ¬ Takes dialect meaning

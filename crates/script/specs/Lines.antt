@@ -1,57 +1,139 @@
--- Lines of a script, by their words.
-use Rattle.std.specs.Prelude.{ℕ, ◌==◌, ◌+◌, false, List, [], ◌∷◌, Option, None, Some, codes, if◌then◌else◌}
-use Rattle.std.specs.List.{slice_split}
+-- What a line means, as it is computed from its words.
+use Rattle.std.specs.Prelude.{ℕ, ◌==◌, ◌+◌, ◌-◌, ◌^◌, Bool, true, false, not, nat_lt, List, [], ◌∷◌, Option, None, Some, codes, if◌then◌else◌, length, map}
+use Rattle.std.specs.List.{filter, list_all, slice_split}
 use Rattle.std.specs.Str.{bytes_eq}
+use Rattle.uuid.specs.Text.{parsed}
+use Rattle.tee_base.specs.declared.limits.TheConstants.{CLIENTS, INSTANCES, LINE_TURNS}
 use Rattle.app_api.specs.declared.call.Call.TheVariants as calls
+use Rattle.app_api.specs.declared.host.Host.{Host}
+use Rattle.script.specs.declared.line.Line.{Line}
 use Rattle.script.specs.declared.line.Line.TheVariants as lines
+use Rattle.script.specs.declared.line.Meaning.TheVariants.{Nothing, Client, Script}
+use Rattle.script.specs.declared.line.TheConstants.{FUSE_CALLS}
 use Rattle.script.specs.declared.line.ReadCall.{ReadCall}
-use Rattle.script.specs.declared.line.ReadLine.{ReadLine}
-use Rattle.script.specs.Numbers.{number_of}
+use Rattle.script.specs.declared.line.ReadMeaning.{ReadMeaning}
+use Rattle.script.specs.Numbers.{number_of, number32_of, within}
 use Rattle.script.specs.Parameters.{◌>>=◌, parameters_of}
 
--- the index of the first of these names that is the name, counted on
-abbrev pub index_from : ℕ → List (List ℕ) → List ℕ → Option ℕ
-index_from index [] name = None
-index_from index (other ∷ others) name = if bytes_eq other name then Some index else index_from (index + 1) others name
+abbrev pub is_some_word : List ℕ → Bool
+is_some_word word = not (length word == 0)
 
--- the index of the host of this name
-abbrev pub host_at : List (List ℕ) → List ℕ → Option ℕ
-host_at names name = index_from 0 names name
+-- the parts between spaces that aren't empty
+abbrev pub words_of : List ℕ → List (List ℕ)
+words_of text = filter is_some_word (slice_split (λ c. c == 32) text)
+
+abbrev pub all_ascii : List ℕ → Bool
+all_ascii text = list_all (λ c. nat_lt c 128) text
+
+-- the index of the first of these that is the word, counted on
+abbrev pub index_from : ℕ → List (List ℕ) → List ℕ → Option ℕ
+index_from index [] word = None
+index_from index (other ∷ others) word = if bytes_eq other word then Some index else index_from (index + 1) others word
+
+-- the identifier that a word says
+abbrev pub id_of : List ℕ → Option (List ℕ)
+id_of word = if all_ascii word then parsed word else None
+
+-- the one, or else the other
+abbrev pub or_else : {X : Type 0} → Option X → Option X → Option X
+or_else (Some x) other = Some x
+or_else None other = other
+
+abbrev pub id_at : {A : Type 0} → List (Host A) → Option (List ℕ) → Option ℕ
+id_at hosts None = None
+id_at hosts (Some id) = index_from 0 (map (λ host. host.id) hosts) id
+
+-- the index of the host that goes by this word
+abbrev pub host_at : {A : Type 0} → List (Host A) → List ℕ → Option ℕ
+host_at hosts word = or_else (index_from 0 (map (λ host. host.name) hosts) word) (id_at hosts (id_of word))
 
 unfoldable pub opened_by : List ℕ → List (List ℕ) → Option ReadCall
 opened_by label words = do
-  l ← number_of label
+  l ← number32_of label
   all ← parameters_of words
   Some (record { call = calls.Open l all.params; fills = all.fills })
 
 unfoldable pub invoked_by : List ℕ → List (List ℕ) → Option ReadCall
-invoked_by label [] = number_of label >>= λ l. None
+invoked_by label [] = number32_of label >>= λ l. None
 invoked_by label (command ∷ words) = do
-  l ← number_of label
-  c ← number_of command
+  l ← number32_of label
+  c ← number32_of command
   all ← parameters_of words
   Some (record { call = calls.Invoke l c all.params; fills = all.fills })
 
 unfoldable pub closed_by : List ℕ → List (List ℕ) → Option ReadCall
-closed_by label [] = number_of label >>= λ l. Some (record { call = calls.Close l; fills = 0 })
+closed_by label [] = number32_of label >>= λ l. Some (record { call = calls.Close l; fills = 0 })
 closed_by label (word ∷ words) = None
 
 -- a call: its verb, the client's label for the session, and what follows
-unfoldable pub call_of : List ℕ → List ℕ → List (List ℕ) → Option ReadCall
-call_of verb label words =
+unfoldable pub call_of : List (List ℕ) → Option ReadCall
+call_of [] = None
+call_of (verb ∷ []) = None
+call_of (verb ∷ label ∷ words) =
     if bytes_eq verb (codes "open") then opened_by label words
     else if bytes_eq verb (codes "invoke") then invoked_by label words
     else if bytes_eq verb (codes "close") then closed_by label words
     else None
 
--- a line: the name of a host, and a call of client 0 that is run until it is answered
-unfoldable pub line_of_words : List (List ℕ) → List (List ℕ) → Option ReadLine
-line_of_words names (name ∷ verb ∷ label ∷ words) = do
-  app ← host_at names name
-  read ← call_of verb label words
-  Some (record { line = lines.Call app 0 false read.call; fills = read.fills })
-line_of_words names words = None
+-- a line of the script for which no byte is filled in
+abbrev pub plain_line : Line → ReadMeaning
+plain_line line = record { meaning = Script line; fills = 0 }
 
--- a line's words stand apart by one space
-abbrev pub line_of : List (List ℕ) → List ℕ → Option ReadLine
-line_of names text = line_of_words names (slice_split (λ c. c == 32) text)
+unfoldable pub call_line : ℕ → ℕ → Bool → List (List ℕ) → Option ReadMeaning
+call_line client app post words = do
+  read ← call_of words
+  Some (record { meaning = Script (lines.Call app client post read.call); fills = read.fills })
+
+unfoldable pub turns_line : ℕ → ℕ → List (List ℕ) → Option ReadMeaning
+turns_line client app (number ∷ turns ∷ []) = do
+  instance ← within 1 INSTANCES (number_of number)
+  count ← within 1 LINE_TURNS (number_of turns)
+  Some (plain_line (lines.Turns app client instance count))
+turns_line client app words = None
+
+unfoldable pub cancel_line : ℕ → ℕ → List (List ℕ) → Option ReadMeaning
+cancel_line client app (number ∷ []) = do
+  op ← number_of number
+  Some (plain_line (lines.Cancel app client op))
+cancel_line client app words = None
+
+-- what a client does to the application of this index
+unfoldable pub app_line : ℕ → ℕ → List (List ℕ) → Option ReadMeaning
+app_line client app [] = None
+app_line client app (verb ∷ words) =
+    if bytes_eq verb (codes "turn") then turns_line client app words
+    else if bytes_eq verb (codes "cancel") then cancel_line client app words
+    else if bytes_eq verb (codes "post") then call_line client app true words
+    else call_line client app false (verb ∷ words)
+
+unfoldable pub board_line : List (List ℕ) → Option ReadMeaning
+board_line (verb ∷ number ∷ []) =
+    if bytes_eq verb (codes "fuse") then (within 0 FUSE_CALLS (number_of number) >>= λ count. Some (plain_line (lines.Fuse count)))
+    else if bytes_eq verb (codes "power") then (number_of number >>= λ pick. Some (plain_line (lines.Power pick)))
+    else None
+board_line words = None
+
+unfoldable pub client_line : List (List ℕ) → Option ReadMeaning
+client_line (number ∷ []) = do
+  client ← within 0 (CLIENTS - 1) (number_of number)
+  Some (record { meaning = Client client; fills = 0 })
+client_line words = None
+
+-- what words mean where the lines before are this client's
+unfoldable pub meaning_of_words : {A : Type 0} → List (Host A) → ℕ → List (List ℕ) → Option ReadMeaning
+meaning_of_words hosts client [] = None
+meaning_of_words hosts client (word ∷ words) =
+    if bytes_eq word (codes "client") then client_line words
+    else if bytes_eq word (codes "board") then board_line words
+    else (host_at hosts word >>= λ app. app_line client app words)
+
+-- an empty line, or a comment
+abbrev pub is_silent : List ℕ → Bool
+is_silent [] = true
+is_silent (c ∷ cs) = c == 35
+
+-- what a line means where the lines before are this client's
+unfoldable pub meaning_of : {A : Type 0} → List (Host A) → ℕ → List ℕ → Option ReadMeaning
+meaning_of hosts client text =
+    if all_ascii text then (if is_silent text then Some (record { meaning = Nothing; fills = 0 }) else meaning_of_words hosts client (words_of text))
+    else None

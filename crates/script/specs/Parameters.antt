@@ -1,4 +1,4 @@
--- Parameters of a script line.
+-- Parameters of a script line, as they are computed from their words.
 use Rattle.std.specs.Prelude.{ℕ, ◌+◌, nat_lt, slice_get, ◌≡◌, ◌≤◌, ◌==◌, nat_le, List, [], ◌∷◌, Option, None, Some, Result, Ok, Err, codes, if◌then◌else◌, length, option_map, replicate}
 use Rattle.std.specs.Result.{result_ok}
 use Rattle.std.specs.List.{slice_split}
@@ -10,7 +10,8 @@ use Rattle.app_api.specs.declared.param.Param.{Param}
 use Rattle.app_api.specs.declared.param.Param.TheVariants.{Nothing, ValueIn, ValueOut, ValueInOut, MemIn, MemOut, MemInOut}
 use Rattle.script.specs.declared.words.LineError.{LineError}
 use Rattle.script.specs.declared.words.LineError.TheVariants.{Bad, NoMemory}
-use Rattle.script.specs.Numbers.{number_of}
+use Rattle.tee_base.specs.declared.limits.TheConstants.{ASK_BYTES}
+use Rattle.script.specs.Numbers.{number32_of}
 
 -- what was read is what the words say, unless memory ran out
 abbrev pub Gives : {X : Type 0} → Result X LineError → Option X → Type 0
@@ -28,7 +29,7 @@ plain_parameter param = record { param = param; fill = 0 }
 
 -- no more bytes are filled in than a memory reference may have
 abbrev pub IsSmall : Parameter → Type 0
-IsSmall p = p.fill ≤ 524288
+IsSmall p = p.fill ≤ ASK_BYTES
 
 unfoldable pub parameter_of_one : List ℕ → Option Parameter
 parameter_of_one kind =
@@ -40,7 +41,7 @@ unfoldable pub parameter_of_two : List ℕ → List ℕ → Option Parameter
 parameter_of_two kind a =
     if bytes_eq kind (codes "mi") then option_map (λ x. plain_parameter (MemIn x)) (hex_of a)
     else if bytes_eq kind (codes "mio") then option_map (λ x. plain_parameter (MemInOut x)) (hex_of a)
-    else if bytes_eq kind (codes "mo") then option_map (λ x. plain_parameter (MemOut x)) (number_of a)
+    else if bytes_eq kind (codes "mo") then option_map (λ x. plain_parameter (MemOut x)) (number32_of a)
     else None
 
 -- two numbers
@@ -48,16 +49,16 @@ abbrev pub with_numbers : (ℕ → ℕ → Param) → Option ℕ → Option ℕ 
 with_numbers make None b = None
 with_numbers make (Some a) b = option_map (λ x. plain_parameter (make a x)) b
 
--- so many bytes, all of them the one byte, and at most 524,288
+-- so many bytes, all of them the one byte, and no more than a memory reference may have
 abbrev pub filled : Option ℕ → Option (List ℕ) → Option Parameter
-filled (Some size) (Some (byte ∷ [])) = if nat_le size 524288 then Some (record { param = MemIn (replicate size byte); fill = size }) else None
+filled (Some size) (Some (byte ∷ [])) = if nat_le size ASK_BYTES then Some (record { param = MemIn (replicate size byte); fill = size }) else None
 filled size bytes = None
 
 unfoldable pub parameter_of_three : List ℕ → List ℕ → List ℕ → Option Parameter
 parameter_of_three kind a b =
-    if bytes_eq kind (codes "vi") then with_numbers ValueIn (number_of a) (number_of b)
-    else if bytes_eq kind (codes "vio") then with_numbers ValueInOut (number_of a) (number_of b)
-    else if bytes_eq kind (codes "mf") then filled (number_of a) (hex_of b)
+    if bytes_eq kind (codes "vi") then with_numbers ValueIn (number32_of a) (number32_of b)
+    else if bytes_eq kind (codes "vio") then with_numbers ValueInOut (number32_of a) (number32_of b)
+    else if bytes_eq kind (codes "mf") then filled (number32_of a) (hex_of b)
     else None
 
 -- a parameter by its parts

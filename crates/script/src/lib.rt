@@ -1,11 +1,23 @@
-//! The script language: bytes into lines.
+//! The script language: bytes into lines, and lines into bytes.
 #![tactic(auto)]
 
+mod canonical;
+mod dialect;
+mod laws;
 mod line;
+mod meaning;
 mod number;
 mod param;
+mod reading;
 mod script;
+mod text;
 mod words;
 
-pub use line::Line;
-pub use script::{Script, ScriptAnswer, one_reading, parse};
+pub use canonical::print;
+pub use dialect::Dialect;
+pub use laws::{fronts_are_read, one_reading, print_reads_back};
+pub use line::{FUSE_CALLS, Line};
+pub use script::{Script, ScriptAnswer, parse, parse_in};
+
+#[cfg(test)]
+mod tests;

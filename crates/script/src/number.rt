@@ -1,33 +1,56 @@
 //! Numbers in decimal digits.
 
-ghost use Rattle.std.specs.Prelude.{◌≡◌};
-ghost use Rattle.script.specs.Numbers.{number_of, word_of, digits_on};
+ghost use Rattle.std.specs.Prelude.{◌≡◌, ◌≤◌, IfOk};
+ghost use Rattle.script.specs.Numbers.{digits_on, fitting, number_of, number32_of, within};
+ghost use Rattle.script.specs.Parameters.{Gives};
 
-/// The value of decimal digits without a sign or a leading zero, below 2^32.
+use crate::words::LineError;
+
+/// The value of decimal digits without a sign, below 2^64. There may be zeros before it.
 #[tactic(auto, unfolding(crate::specs::Numbers::number_of))]
-pub fn number(digits: &[u8]) -> Option<u32>
+pub fn number(digits: &[u8]) -> Option<u64>
     ensures { result ≡ number_of digits.now }
 {
     match digits {
         [] => None,
-        [b'0', _, ..] => None,
         _ => value(digits),
     }
 }
 
-/// The value of decimal digits, below 2^32.
-fn value(digits: &[u8]) -> Option<u32>
-    ensures { result ≡ word_of (digits_on 0 digits.now) }
+/// The value of decimal digits, below 2^64.
+fn value(digits: &[u8]) -> Option<u64>
+    ensures { result ≡ fitting (digits_on 0 digits.now) }
 {
     let mut value = 0u64;
     for digit in digits {
         if !digit.is_ascii_digit() {
             return None;
         }
-        value = value * 10 + u64::from(*digit - b'0');
-        if value > u64::from(u32::MAX) {
+        let unit = u64::from(*digit - b'0');
+        if value > (u64::MAX - unit) / 10 {
             return None;
         }
+        value = value * 10 + unit;
     }
-    Some(value as u32)
+    Some(value)
+}
+
+/// A number within these bounds, which a line must have.
+pub fn number_within(digits: &[u8], low: u64, high: u64) -> Result<u64, LineError>
+    ensures value { Gives result (within low high (number_of digits.now)) }
+    ensures low { IfOk result (λ n. low ≤ n) }
+    ensures high { IfOk result (λ n. n ≤ high) }
+{
+    match number(digits) {
+        Some(n) if low <= n && n <= high => Ok(n),
+        _ => Err(LineError::Bad),
+    }
+}
+
+/// A number of 32 bits, which a line must have.
+pub fn number32(digits: &[u8]) -> Result<u32, LineError>
+    ensures { Gives result (number32_of digits.now) }
+{
+    let n = number_within(digits, 0, 4_294_967_295)?;
+    Ok(n as u32)
 }

@@ -3,9 +3,10 @@
 ghost use Rattle.std.specs.Prelude.{◌≡◌, ◌^◌, ◌<◌, ◌≤◌, ◌*◌, Some, List, ℕ, map, replicate, IfOk};
 ghost use Rattle.std.specs.List.{slice_split};
 ghost use Rattle.script.specs.Parameters.{parameter_of, parameter_of_parts, parameter_of_one, parameter_of_two, parameter_of_three, hex_of, filled, parameter_at, parameters_of, plain_parameter, IsSmall, Gives};
-ghost use Rattle.script.specs.Numbers.{number_of};
+ghost use Rattle.script.specs.Numbers.{number32_of};
+ghost use Rattle.tee_base.specs.declared.limits.TheConstants.{ASK_BYTES};
 
-use crate::number::number;
+use crate::number::number32;
 use crate::words::{LineError, parts_of};
 use app_api::{Param, Params};
 use std::alloc::Global;
@@ -65,7 +66,7 @@ fn param_of_two(alloc: Global, kind: &[u8], size: &[u8]) -> Result<Parameter, Li
     match kind {
         b"mi" => Ok(plain(Param::MemIn(hex_bytes(alloc, size)?))),
         b"mio" => Ok(plain(Param::MemInOut(hex_bytes(alloc, size)?))),
-        b"mo" => Ok(plain(Param::MemOut(word(size)?))),
+        b"mo" => Ok(plain(Param::MemOut(number32(size)?))),
         _ => Err(LineError::Bad),
     }
 }
@@ -77,18 +78,11 @@ fn param_of_three(alloc: Global, kind: &[u8], a: &[u8], b: &[u8]) -> Result<Para
     ensures small { IfOk result IsSmall }
 {
     match kind {
-        b"vi" => Ok(plain(Param::ValueIn(word(a)?, word(b)?))),
-        b"vio" => Ok(plain(Param::ValueInOut(word(a)?, word(b)?))),
-        b"mf" => fill(alloc, word(a)?, hex_bytes(alloc, b)?),
+        b"vi" => Ok(plain(Param::ValueIn(number32(a)?, number32(b)?))),
+        b"vio" => Ok(plain(Param::ValueInOut(number32(a)?, number32(b)?))),
+        b"mf" => fill(alloc, number32(a)?, hex_bytes(alloc, b)?),
         _ => Err(LineError::Bad),
     }
-}
-
-/// A number that a line must have.
-pub fn word(digits: &[u8]) -> Result<u32, LineError>
-    ensures { Gives result (number_of digits.now) }
-{
-    number(digits).ok_or(LineError::Bad)
 }
 
 /// Memory of `size` bytes, each of them the one byte that is given.
@@ -145,7 +139,7 @@ fn param_at(alloc: Global, words: &[&[u8]], index: usize) -> Result<Parameter, L
 #[tactic(auto, unfolding(crate::specs::Parameters::parameters_of))]
 pub fn params_of(alloc: Global, words: &[&[u8]]) -> Result<Parameters, LineError>
     ensures value { Gives result (parameters_of (map (λ word. word.now) words.now)) }
-    ensures small { IfOk result (λ all. all.fills ≤ 4 * 524288) }
+    ensures small { IfOk result (λ all. all.fills ≤ 4 * ASK_BYTES) }
 {
     if words.len() > 4 {
         return Err(LineError::Bad);

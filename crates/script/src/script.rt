@@ -1,23 +1,26 @@
 //! A whole script.
 
-ghost use Rattle.std.specs.Prelude.{◌≡◌, ◌≤◌, ◌-◌, ◌+◌, ◌⊎◌, List, ℕ, Ok, Err, IfOk, IsErrOf, length, map, take};
+ghost use Rattle.std.specs.Prelude.{◌≡◌, ◌≤◌, ◌-◌, ◌+◌, List, ℕ, Ok, Err, IfOk, IsErrOf, length, map, take};
 ghost use Rattle.app_api.specs.Hosts.{HostsFit};
-ghost use Rattle.script.specs.Grammar.{CanName, FirstBad, Reads, names_of};
-ghost use Rattle.script.specs.Scripts.{Answers, AnswersWith, lines_from, script_from, script_of};
+ghost use Rattle.tee_base.specs.declared.limits.TheConstants.{FILL_BYTES};
+ghost use Rattle.script.specs.Grammar.{FirstBad, Reads};
+ghost use Rattle.script.specs.Scripts.{Answers, AnswersWith, ended_by, no_reading, read_from, script_from, script_of};
+ghost use Rattle.script.specs.declared.dialect.Dialect.TheVariants.{Whole};
 ghost use Rattle.script.specs.declared.script.ScriptAnswer.TheVariants.{NoMemory as OutOfMemory};
 
-use crate::line::{Line, read_line};
-use crate::words::{LineError, parts_of};
+use crate::dialect::Dialect;
+use crate::line::Line;
+use crate::reading::{Reader, read_line};
+use crate::words::{LineError, parts_of, without_return};
 use app_api::{Application, Host};
 use std::alloc::{AllocError, AllocFailed, Global};
 use std::marker::Model;
-use tee_base::limits;
 use thiserror::Error;
 
 /// Why a text is no script.
 #[derive(Clone, Copy, Debug, PartialEq, Eq, Error)]
 pub enum ScriptAnswer {
-    /// The line of this number, counted from 1, is the first outside the grammar.
+    /// The line of this number, counted from 1, is the first outside the grammar, or the first that the caller doesn't take.
     #[error("line {0} is not a script line")]
     BadLine(u64),
     #[error("out of memory")]
@@ -72,62 +75,121 @@ impl Script {
     }
 }
 
-/// The lines of these texts, none of which has a line end.
-fn lines_of<A>(alloc: Global, hosts: &[Host<A>], texts: &[&[u8]]) -> Result<Vec<Line>, ScriptAnswer>
+/// What is read after these pieces of a text, each of which ended at a line feed.
+fn read_pieces<A>(
+    alloc: Global,
+    dialect: Dialect,
+    hosts: &[Host<A>],
+    pieces: &[&[u8]],
+) -> Result<Reader, ScriptAnswer>
     requires { length hosts.now ≤ 16 }
-    ensures { AnswersWith (λ lines. lines.items) result (lines_from (map (λ host. host.name) hosts.now) 1 0 (map (λ text. text.now) texts.now)) }
+    ensures value { Answers result (read_from dialect hosts.now 1 no_reading (map (λ piece. piece.now) pieces.now)) }
+    ensures within { IfOk result (λ reader. reader.filled ≤ FILL_BYTES) }
 {
-    let mut lines = Vec::new(alloc);
-    let mut filled = 0;
-    for (index, text) in texts.iter().enumerate() {
-        let bad = ScriptAnswer::BadLine(index as u64 + 1);
-        match read_line(alloc, hosts, text) {
-            Ok(read) => {
-                filled += read.fills;
-                if filled > limits::FILL_BYTES {
-                    return Err(bad);
-                }
-                lines.push(read.line)?;
-            }
-            Err(LineError::Bad) => return Err(bad),
+    let mut reader = Reader::new(alloc);
+    for (index, piece) in pieces.iter().enumerate() {
+        match read_line(alloc, dialect, hosts, reader, without_return(piece)) {
+            Ok(next) => reader = next,
+            Err(LineError::Bad) => return Err(ScriptAnswer::BadLine(index as u64 + 1)),
             Err(LineError::NoMemory) => return Err(ScriptAnswer::NoMemory),
         }
     }
-    Ok(lines)
+    Ok(reader)
 }
 
-/// The lines of a text that is cut at its line ends.
+/// The lines, where this stands behind the last line feed: nothing, or a last line without an end.
+fn read_last<A>(
+    alloc: Global,
+    dialect: Dialect,
+    hosts: &[Host<A>],
+    number: u64,
+    reader: Reader,
+    last: &[u8],
+) -> Result<Vec<Line>, ScriptAnswer>
+    requires few { length hosts.now ≤ 16 }
+    requires within { reader.filled ≤ FILL_BYTES }
+    ensures { AnswersWith (λ lines. lines.items) result (ended_by dialect hosts.now number reader last.now) }
+{
+    if last.is_empty() {
+        return Ok(reader.into_lines());
+    }
+    if last[last.len() - 1] == b'\r' {
+        return Err(ScriptAnswer::BadLine(number));
+    }
+    match read_line(alloc, dialect, hosts, reader, last) {
+        Ok(next) => Ok(next.into_lines()),
+        Err(LineError::Bad) => Err(ScriptAnswer::BadLine(number)),
+        Err(LineError::NoMemory) => Err(ScriptAnswer::NoMemory),
+    }
+}
+
+/// The lines of a text that is cut at its line feeds.
 fn lines_between<A>(
     alloc: Global,
+    dialect: Dialect,
     hosts: &[Host<A>],
     pieces: &[&[u8]],
 ) -> Result<Vec<Line>, ScriptAnswer>
     requires { length hosts.now ≤ 16 }
-    ensures { AnswersWith (λ lines. lines.items) result (script_from (map (λ host. host.name) hosts.now) (map (λ piece. piece.now) pieces.now)) }
+    ensures { AnswersWith (λ lines. lines.items) result (script_from dialect hosts.now (map (λ piece. piece.now) pieces.now)) }
 {
     if pieces.is_empty() {
         return Ok(Vec::new(alloc));
     }
     let last = pieces.len() - 1;
-    let lines = lines_of(alloc, hosts, &pieces[..last])?;
-    if !pieces[last].is_empty() {
-        return Err(ScriptAnswer::BadLine(pieces.len() as u64));
-    }
-    Ok(lines)
+    let reader = read_pieces(alloc, dialect, hosts, &pieces[..last])?;
+    read_last(
+        alloc,
+        dialect,
+        hosts,
+        pieces.len() as u64,
+        reader,
+        pieces[last],
+    )
 }
 
 /// What a text reads to, line by line.
-fn read_script<A>(alloc: Global, text: &[u8], hosts: &[Host<A>]) -> Result<Script, ScriptAnswer>
+fn read_script<A>(
+    alloc: Global,
+    text: &[u8],
+    hosts: &[Host<A>],
+    dialect: Dialect,
+) -> Result<Script, ScriptAnswer>
     requires { length hosts.now ≤ 16 }
-    ensures { Answers result (script_of (names_of hosts.now) text.now) }
+    ensures { Answers result (script_of dialect hosts.now text.now) }
 {
     let pieces = parts_of(alloc, text, b'\n')?;
-    let lines = lines_between(alloc, hosts, pieces.as_slice())?;
+    let lines = lines_between(alloc, dialect, hosts, pieces.as_slice())?;
     Ok(Script { lines })
 }
 
-/// Reads a script, each line of which ends with a line feed. `BadLine` comes exactly where a line is outside the grammar,
-/// with the number of the first such line.
+/// Reads a script of which the caller takes what the dialect says. `BadLine` comes exactly where a line is outside the grammar
+/// or the dialect, with the number of the first such line.
+pub fn parse_in<A: Application>(
+    alloc: Global,
+    text: &[u8],
+    hosts: &[Host<A>],
+    dialect: Dialect,
+) -> Result<Script, ScriptAnswer>
+    requires { HostsFit hosts.now }
+    // What is read is what the grammar reads, and the dialect takes it.
+    ensures found { IfOk result (λ script. Reads dialect hosts.now text.now script) }
+    // What the grammar reads and the dialect takes is read, unless memory runs out.
+    ensures complete { (script : List Line) → Reads dialect hosts.now text.now script
+        → Answers result (Ok script) }
+    // The line that is named is the first one outside the grammar or the dialect.
+    ensures bad_line { (n : ℕ) → IsErrOf result (ScriptAnswer.BadLine n)
+        → FirstBad dialect hosts.now text.now n }
+    // The first line outside the grammar or the dialect is named, unless memory runs out.
+    ensures first_bad { (n : ℕ) → FirstBad dialect hosts.now text.now n
+        → Answers result (Err n) }
+    // The same by a function that cuts the text.
+    ensures computed { Answers result (script_of dialect hosts.now text.now) }
+{
+    read_script(alloc, text, hosts, dialect)
+}
+
+/// Reads a script. `BadLine` comes exactly where a line is outside the grammar, with the number of the first such line.
 pub fn parse<A: Application>(
     alloc: Global,
     text: &[u8],
@@ -135,30 +197,16 @@ pub fn parse<A: Application>(
 ) -> Result<Script, ScriptAnswer>
     requires { HostsFit hosts.now }
     // What is read is what the grammar reads.
-    ensures found { IfOk result (λ script. Reads (names_of hosts.now) text.now script) }
+    ensures found { IfOk result (λ script. Reads Whole hosts.now text.now script) }
     // What the grammar reads is read, unless memory runs out.
-    ensures complete { (script : List Line) → Reads (names_of hosts.now) text.now script
+    ensures complete { (script : List Line) → Reads Whole hosts.now text.now script
         → Answers result (Ok script) }
     // The line that is named is the first one outside the grammar.
     ensures bad_line { (n : ℕ) → IsErrOf result (ScriptAnswer.BadLine n)
-        → FirstBad (names_of hosts.now) text.now n }
+        → FirstBad Whole hosts.now text.now n }
     // The first line outside the grammar is named, unless memory runs out.
-    ensures first_bad { (n : ℕ) → FirstBad (names_of hosts.now) text.now n
+    ensures first_bad { (n : ℕ) → FirstBad Whole hosts.now text.now n
         → Answers result (Err n) }
-    // The same by a function that cuts the text.
-    ensures computed { Answers result (script_of (names_of hosts.now) text.now) }
 {
-    read_script(alloc, text, hosts)
+    parse_in(alloc, text, hosts, Dialect::Whole)
 }
-
-/// Each text reads to one script, or has one first line outside the grammar, and never both.
-pub fn one_reading()
-    ensures script { (names : List (List ℕ)) (text : List ℕ) (a b : List Line) → CanName names
-        → Reads names text a → Reads names text b → a ≡ b }
-    ensures line { (names : List (List ℕ)) (text : List ℕ) (m n : ℕ) → CanName names
-        → FirstBad names text m → FirstBad names text n → m ≡ n }
-    ensures not_both { (names : List (List ℕ)) (text : List ℕ) (script : List Line) (n : ℕ) → CanName names
-        → Reads names text script → FirstBad names text n → ⊥ }
-    ensures either { (names : List (List ℕ)) (text : List ℕ) → CanName names
-        → ((script : List Line) × Reads names text script) ⊎ ((n : ℕ) × FirstBad names text n) }
-{}

@@ -17,12 +17,12 @@ use Rattle.alone.specs.Runs.{events_of_call, machine_after, replies_to}
 use Rattle.alone.specs.Step.{Event, Called, step}
 use Rattle.script.specs.declared.line.Line.{Line}
 use Rattle.script.specs.declared.line.Line.TheVariants as lines
-use Rattle.script.specs.Grammar.{CanName, names_of}
+use Rattle.script.specs.Grammar.{names_of}
 use Rattle.script.proofs.Cuts.{Lacks}
-use Rattle.script.proofs.ParseLaws.{hosts_can_name}
+use Rattle.tee_top.proofs.Names.{CanName, hosts_can_name}
 use Rattle.tee_core.specs.World.{World, AppEvent, called_at, events_at, moved_at, replied_at, starts_from, world_after, world_of, world_step}
 use Rattle.tee_core.proofs.Worlds.{get_set, starts_length}
-use Rattle.tee_top.specs.Isolation.{app_of, events_for, lines_for, own_events, own_line_events, own_lines}
+use Rattle.tee_top.specs.Isolation.{events_for, lines_for, own_events, is_of, own_line_events, own_lines}
 use Rattle.tee_top.specs.Transcript.{events_of, line_events, replies_text, text_of, transcript}
 use Rattle.tee_top.proofs.Events.{replies_both}
 use Rattle.tee_top.proofs.LinesFor.{other_replies, own_replies, which}
@@ -60,7 +60,7 @@ events_both app (e ∷ xs) ys =
       | inr h ↦ events_one app e (xs ++ ys) false h ∙ events_both app xs ys ∙ ap (λ zs. zs ++ events_for app ys) (sym (events_one app e xs false h))
     ]
 
-own_lines_one : (app : ℕ) (line : Line) (more : List Line) (t : Bool) → eqb (app_of line) app ≡ t → own_lines app (line ∷ more) ≡ cond t (line ∷ own_lines app more) (own_lines app more)
+own_lines_one : (app : ℕ) (line : Line) (more : List Line) (t : Bool) → is_of app line ≡ t → own_lines app (line ∷ more) ≡ cond t (line ∷ own_lines app more) (own_lines app more)
 own_lines_one app line more t h = ap (λ (b : Bool). cond b (line ∷ own_lines app more) (own_lines app more)) h
 
 module _ {A : Type 0} (behaviour : Behaviour A) where
@@ -81,15 +81,23 @@ module _ {A : Type 0} (behaviour : Behaviour A) where
   called_none app a client call None e = refl
   called_none app a client call (Some m) e = events_none app a (events_of_call behaviour m client call) e
 
-  line_same : (app : ℕ) (w : World A) (m : Machine A) (line : Line) → slice_get w app ≡ Some m → eqb (app_of line) app ≡ true → events_for app (line_events behaviour w line) ≡ own_line_events behaviour m line
+  line_same : (app : ℕ) (w : World A) (m : Machine A) (line : Line) → slice_get w app ≡ Some m → is_of app line ≡ true → events_for app (line_events behaviour w line) ≡ own_line_events behaviour m line
   line_same app w m (lines.Call a client true call) here e = events_one app (record { app = a; event = Called client call }) [] true e
   line_same app w m (lines.Call a client false call) here e =
       ap (λ o. events_for app (called_at behaviour a client call o)) (ap (slice_get w) (eqb-true a app e) ∙ here)
       ∙ events_same app a (events_of_call behaviour m client call) e
+  line_same app w m (lines.Turns a client instance count) here e = refl
+  line_same app w m (lines.Cancel a client op) here e = refl
+  line_same app w m (lines.Fuse calls) here e = refl
+  line_same app w m (lines.Power pick) here e = refl
 
-  line_none : (app : ℕ) (w : World A) (line : Line) → eqb (app_of line) app ≡ false → events_for app (line_events behaviour w line) ≡ []
+  line_none : (app : ℕ) (w : World A) (line : Line) → is_of app line ≡ false → events_for app (line_events behaviour w line) ≡ []
   line_none app w (lines.Call a client true call) e = events_one app (record { app = a; event = Called client call }) [] false e
   line_none app w (lines.Call a client false call) e = called_none app a client call (slice_get w a) e
+  line_none app w (lines.Turns a client instance count) e = refl
+  line_none app w (lines.Cancel a client op) e = refl
+  line_none app w (lines.Fuse calls) e = refl
+  line_none app w (lines.Power pick) e = refl
 
   -- ---- the machine of one application
 
@@ -129,9 +137,9 @@ module _ {A : Type 0} (behaviour : Behaviour A) where
       let events = line_events behaviour w line in
       events_both app events (events_of behaviour (world_after behaviour w events) more)
       ∙ ap (λ zs. events_for app events ++ zs) (lines_met app (world_after behaviour w events) (machine_after behaviour m (events_for app events)) more (machine_met app w m events here))
-      ∙ by (eqb (app_of line) app) refl
+      ∙ by (is_of app line) refl
     where
-      by : (t : Bool) → eqb (app_of line) app ≡ t
+      by : (t : Bool) → is_of app line ≡ t
           → events_for app (line_events behaviour w line) ++ own_events behaviour (machine_after behaviour m (events_for app (line_events behaviour w line))) (own_lines app more) ≡ own_events behaviour m (own_lines app (line ∷ more))
       by true h =
           ap (λ zs. zs ++ own_events behaviour (machine_after behaviour m zs) (own_lines app more)) (line_same app w m line here h)

@@ -1,3 +1,4 @@
+pub mod Names
 pub mod Apart
 pub mod Ended
 pub mod Events

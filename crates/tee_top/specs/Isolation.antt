@@ -23,19 +23,28 @@ lines_for name text = flat_map (λ line. line ++ codes "\n") (filter (is_under n
 abbrev pub events_for : ℕ → List AppEvent → List Event
 events_for app events = map (λ e. e.event) (filter (λ e. e.app == app) events)
 
-abbrev pub app_of : Line → ℕ
-app_of (lines.Call app client post call) = app
+-- whether a line names the application of this index
+abbrev pub is_of : ℕ → Line → Bool
+is_of index (lines.Call app client post call) = app == index
+is_of index (lines.Turns app client instance count) = app == index
+is_of index (lines.Cancel app client op) = app == index
+is_of index (lines.Fuse calls) = false
+is_of index (lines.Power pick) = false
 
 -- the lines of a script that name the application of this index
 abbrev pub own_lines : ℕ → List Line → List Line
-own_lines app script = filter (λ line. app_of line == app) script
+own_lines app script = filter (is_of app) script
 
 -- behaviour has the application's two stated functions
 module _ {A : Type 0} (behaviour : Behaviour A) where
-  -- what a line makes happen in one machine: a call, and then turns until it is answered; a posted one is the call alone
+  -- what a line makes happen in one machine: a call, and then turns until it is answered; a posted one is the call alone; no script that is run has other lines as yet
   abbrev pub own_line_events : Machine A → Line → List Event
   own_line_events m (lines.Call app client true call) = Called client call ∷ []
   own_line_events m (lines.Call app client false call) = events_of_call behaviour m client call
+  own_line_events m (lines.Turns app client instance count) = []
+  own_line_events m (lines.Cancel app client op) = []
+  own_line_events m (lines.Fuse calls) = []
+  own_line_events m (lines.Power pick) = []
 
   -- what lines make happen in one machine, one line after the other
   abbrev pub own_events : Machine A → List Line → List Event

@@ -20,10 +20,15 @@ replies_text name replies = flat_map (reply_text name) replies
 
 -- behaviour has the applications' two stated functions
 module _ {A : Type 0} (behaviour : Behaviour A) where
-  -- a call line is a call of its application, and then turns until it is answered; a posted one is the call alone
+  -- a call line is a call of its application, and then turns until it is answered; a posted one is the call alone. No script that is
+  -- run has other lines as yet
   abbrev pub line_events : World A → Line → List AppEvent
   line_events world (lines.Call app client true call) = record { app = app; event = Called client call } ∷ []
   line_events world (lines.Call app client false call) = run_events behaviour world app client call
+  line_events world (lines.Turns app client instance count) = []
+  line_events world (lines.Cancel app client op) = []
+  line_events world (lines.Fuse calls) = []
+  line_events world (lines.Power pick) = []
 
   -- the events of lines, one line after the other
   abbrev pub events_of : World A → List Line → List AppEvent

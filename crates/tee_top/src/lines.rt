@@ -99,54 +99,24 @@ fn run_call<A: Application, W: Sink>(
     write_told(alloc, name, told.as_slice(), sink)
 }
 
-/// The parts of a call line.
-#[derive(Drop)]
-struct CallLine {
+/// A call of an application that there is; of another it does nothing.
+fn run_call_of<A: Application, W: Sink>(
+    alloc: Global,
+    names: &[Bytes],
+    tee: &mut Tee<A>,
     app: u8,
     client: u8,
     post: bool,
     call: Call,
-}
-
-fn parts(line: Line) -> CallLine
-    ensures { line ≡ Line.Call result.app result.client result.post result.call }
-{
-    match line {
-        Line::Call {
-            app,
-            client,
-            post,
-            call,
-        } => CallLine {
-            app,
-            client,
-            post,
-            call,
-        },
-    }
-}
-
-/// Runs a line of an application that there is.
-fn run_line<A: Application, W: Sink>(
-    alloc: Global,
-    names: &[Bytes],
-    tee: &mut Tee<A>,
-    line: Line,
     sink: &mut W,
 ) -> Result<(), Stop>
     requires { length names.now ≡ app_count tee.old }
-    ensures world { OnOk result ((world : World A) → Represents tee.old world → Represents tee.new (world_after A.behaviour world (line_events A.behaviour world line))) }
-    ensures written { (world : World A) → Represents tee.old world → Writes result (text_of A.behaviour names.now world (line_events A.behaviour world line)) (W.written sink.old) (W.written sink.new) }
+    ensures world { OnOk result ((world : World A) → Represents tee.old world → Represents tee.new (world_after A.behaviour world (line_events A.behaviour world (Line.Call app client post call)))) }
+    ensures written { (world : World A) → Represents tee.old world → Writes result (text_of A.behaviour names.now world (line_events A.behaviour world (Line.Call app client post call))) (W.written sink.old) (W.written sink.new) }
     ensures apps { app_count tee.new ≡ app_count tee.old }
     ensures fault { IsErrOf result Stop.WriteFault → Rose (W.failures sink.old) (W.failures sink.new) }
     ensures later { W.failures sink.old ≤ W.failures sink.new }
 {
-    let CallLine {
-        app,
-        client,
-        post,
-        call,
-    } = parts(line);
     let index = app as usize;
     if index >= names.len() {
         drop(call);
@@ -162,6 +132,32 @@ fn run_line<A: Application, W: Sink>(
         call,
         sink,
     )
+}
+
+/// Runs a line. Lines that aren't calls do nothing yet: the dialect in which scripts are read has none.
+fn run_line<A: Application, W: Sink>(
+    alloc: Global,
+    names: &[Bytes],
+    tee: &mut Tee<A>,
+    line: Line,
+    sink: &mut W,
+) -> Result<(), Stop>
+    requires { length names.now ≡ app_count tee.old }
+    ensures world { OnOk result ((world : World A) → Represents tee.old world → Represents tee.new (world_after A.behaviour world (line_events A.behaviour world line))) }
+    ensures written { (world : World A) → Represents tee.old world → Writes result (text_of A.behaviour names.now world (line_events A.behaviour world line)) (W.written sink.old) (W.written sink.new) }
+    ensures apps { app_count tee.new ≡ app_count tee.old }
+    ensures fault { IsErrOf result Stop.WriteFault → Rose (W.failures sink.old) (W.failures sink.new) }
+    ensures later { W.failures sink.old ≤ W.failures sink.new }
+{
+    match line {
+        Line::Call {
+            app,
+            client,
+            post,
+            call,
+        } => run_call_of(alloc, names, tee, app, client, post, call, sink),
+        Line::Turns { .. } | Line::Cancel { .. } | Line::Fuse(_) | Line::Power(_) => Ok(()),
+    }
 }
 
 /// Runs all lines of a script.

@@ -15,7 +15,7 @@ ghost use Rattle.tee_top.specs.Transcript.{transcript};
 use crate::lines::{Stop, run_lines};
 use crate::status::Status;
 use app_api::{Application, Host};
-use script::{Line, ScriptAnswer, parse};
+use script::{Dialect, Line, ScriptAnswer, parse_in};
 use std::alloc::Global;
 use tee_base::{Bytes, NoMemory, ReadAnswer, Sink, Source, limits, read_all};
 use tee_core::Tee;
@@ -52,7 +52,7 @@ fn read_lines<S: Source, A: Application>(
         Err(ReadAnswer::ReadFault) => return Err(Status::ReadFault),
         Err(ReadAnswer::NoMemory) => return Err(Status::NoMemory),
     };
-    match parse(alloc, text.as_slice(), hosts) {
+    match parse_in(alloc, text.as_slice(), hosts, Dialect::Calls) {
         Ok(script) => Ok(script.into_lines()),
         Err(ScriptAnswer::BadLine(number)) => Err(Status::BadLine(number)),
         Err(ScriptAnswer::NoMemory) => Err(Status::NoMemory),
@@ -100,7 +100,8 @@ fn serve<W: Sink, A: Application>(
 }
 
 /// Reads a script from the source, runs it for the hosts, and writes the replies to the sink. The words of a run are
-/// `run`. Nothing is run, and nothing is written, unless the whole source was read and each line is in the grammar.
+/// `run`. Nothing is run, and nothing is written, unless the whole source was read and each line is in the
+/// grammar, and of the script's lines a call that is run until it is answered: other lines are bad ones as yet.
 pub fn run_tee<S: Source, W: Sink, A: Application>(
     alloc: Global,
     words: &[String],

@@ -5,5 +5,5 @@ use Rattle.script.proofs.number.value.Given as goal
 abbrev pub invariant-loop-digit : goal.invariant-loop-digit
 invariant-loop-digit l = record {
   value : digits_on l.value (drop l.digit-index l.digits) ≡ digits_on 0 l.digits;
-  small : l.value < 2 ^ 32;
+  small : l.value < 2 ^ 64;
 }

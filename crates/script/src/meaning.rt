@@ -1,0 +1,337 @@
+//! Words into what their line means.
+
+ghost use Rattle.std.specs.Prelude.{◌≡◌, ◌≤◌, ◌*◌, ◌<◌, List, ℕ, Option, IfOk, IfSome, length, map};
+ghost use Rattle.app_api.specs.declared.host.Host.{Host};
+ghost use Rattle.tee_base.specs.declared.limits.TheConstants.{ASK_BYTES};
+ghost use Rattle.script.specs.Parameters.{Gives};
+ghost use Rattle.script.specs.Lines.{app_line, board_line, call_line, call_of, cancel_line, client_line, closed_by, host_at, id_of, index_from, invoked_by, is_silent, meaning_of, meaning_of_words, opened_by, plain_line, turns_line};
+
+use crate::line::{FUSE_CALLS, Line, Meaning, ReadCall, ReadMeaning};
+use crate::number::{number, number_within, number32};
+use crate::param::params_of;
+use crate::words::{LineError, is_ascii, words_of};
+use app_api::{Call, Host};
+use std::alloc::Global;
+use std::str;
+use tee_base::limits;
+use uuid::Uuid;
+
+/// The index of the host of this name.
+fn index_of_name<A>(hosts: &[Host<A>], name: &[u8]) -> Option<u8>
+    requires { length hosts.now ≤ 16 }
+    ensures { result ≡ index_from 0 (map (λ host. host.name) hosts.now) name.now }
+{
+    for (index, host) in hosts.iter().enumerate() {
+        if host.name.as_slice() == name {
+            return Some(index as u8);
+        }
+    }
+    None
+}
+
+/// The index of the host of this identifier.
+fn index_of_id<A>(hosts: &[Host<A>], id: &Uuid) -> Option<u8>
+    requires { length hosts.now ≤ 16 }
+    ensures { result ≡ index_from 0 (map (λ host. host.id) hosts.now) id.now }
+{
+    for (index, host) in hosts.iter().enumerate() {
+        if host.id.as_bytes().as_slice() == id.as_bytes().as_slice() {
+            return Some(index as u8);
+        }
+    }
+    None
+}
+
+/// The identifier that a word says.
+fn id_of(word: &[u8]) -> Option<Uuid>
+    ensures { result ≡ id_of word.now }
+{
+    if !is_ascii(word) {
+        return None;
+    }
+    let Ok(text) = str::from_utf8(word) else {
+        return None;
+    };
+    Uuid::parse_str(text).ok()
+}
+
+/// The index of the host that goes by this word: its name, or its identifier in any form that `uuid` parses.
+fn host_index<A>(hosts: &[Host<A>], word: &[u8]) -> Option<u8>
+    requires { length hosts.now ≤ 16 }
+    ensures { result ≡ host_at hosts.now word.now }
+{
+    if let Some(app) = index_of_name(hosts, word) {
+        return Some(app);
+    }
+    match id_of(word) {
+        Some(id) => index_of_id(hosts, &id),
+        None => None,
+    }
+}
+
+#[tactic(auto, unfolding(crate::specs::Lines::opened_by))]
+fn open_call(alloc: Global, label: &[u8], words: &[&[u8]]) -> Result<ReadCall, LineError>
+    ensures value { Gives result (opened_by label.now (map (λ word. word.now) words.now)) }
+    ensures small { IfOk result (λ read. read.fills ≤ 4 * ASK_BYTES) }
+{
+    let label = number32(label)?;
+    let all = params_of(alloc, words)?;
+    Ok(ReadCall {
+        call: Call::Open {
+            label,
+            params: all.params,
+        },
+        fills: all.fills,
+    })
+}
+
+#[tactic(auto, unfolding(crate::specs::Lines::invoked_by))]
+fn invoke_call(alloc: Global, label: &[u8], words: &[&[u8]]) -> Result<ReadCall, LineError>
+    ensures value { Gives result (invoked_by label.now (map (λ word. word.now) words.now)) }
+    ensures small { IfOk result (λ read. read.fills ≤ 4 * ASK_BYTES) }
+{
+    let label = number32(label)?;
+    let Some((command, words)) = words.split_first() else {
+        return Err(LineError::Bad);
+    };
+    let command = number32(command)?;
+    let all = params_of(alloc, words)?;
+    Ok(ReadCall {
+        call: Call::Invoke {
+            label,
+            command,
+            params: all.params,
+        },
+        fills: all.fills,
+    })
+}
+
+#[tactic(auto, unfolding(crate::specs::Lines::closed_by))]
+fn close_call(label: &[u8], words: &[&[u8]]) -> Result<ReadCall, LineError>
+    ensures value { Gives result (closed_by label.now (map (λ word. word.now) words.now)) }
+    ensures small { IfOk result (λ read. read.fills ≤ 4 * ASK_BYTES) }
+{
+    let label = number32(label)?;
+    if !words.is_empty() {
+        return Err(LineError::Bad);
+    }
+    Ok(ReadCall {
+        call: Call::Close { label },
+        fills: 0,
+    })
+}
+
+/// A call by its words: its verb, the session's label, and what follows.
+#[tactic(auto, unfolding(crate::specs::Lines::call_of))]
+fn call(alloc: Global, words: &[&[u8]]) -> Result<ReadCall, LineError>
+    ensures value { Gives result (call_of (map (λ word. word.now) words.now)) }
+    ensures small { IfOk result (λ read. read.fills ≤ 4 * ASK_BYTES) }
+{
+    let [verb, label, others @ ..] = words else {
+        return Err(LineError::Bad);
+    };
+    if *verb == b"open".as_slice() {
+        return open_call(alloc, label, others);
+    }
+    if *verb == b"invoke".as_slice() {
+        return invoke_call(alloc, label, others);
+    }
+    if *verb == b"close".as_slice() {
+        return close_call(label, others);
+    }
+    Err(LineError::Bad)
+}
+
+/// A line for which no byte was filled in.
+fn plain(line: Line) -> ReadMeaning
+    ensures { result ≡ plain_line line }
+{
+    ReadMeaning {
+        meaning: Meaning::Script(line),
+        fills: 0,
+    }
+}
+
+/// The line of a call.
+#[tactic(auto, unfolding(crate::specs::Lines::call_line))]
+fn line_of_call(
+    alloc: Global,
+    client: u8,
+    app: u8,
+    post: bool,
+    words: &[&[u8]],
+) -> Result<ReadMeaning, LineError>
+    ensures value { Gives result (call_line client app post (map (λ word. word.now) words.now)) }
+    ensures small { IfOk result (λ read. read.fills ≤ 4 * ASK_BYTES) }
+{
+    let read = call(alloc, words)?;
+    Ok(ReadMeaning {
+        meaning: Meaning::Script(Line::Call {
+            app,
+            client,
+            post,
+            call: read.call,
+        }),
+        fills: read.fills,
+    })
+}
+
+/// The line of turns: the number of the instance, and how many.
+#[tactic(auto, unfolding(crate::specs::Lines::turns_line))]
+fn line_of_turns(client: u8, app: u8, words: &[&[u8]]) -> Result<ReadMeaning, LineError>
+    ensures value { Gives result (turns_line client app (map (λ word. word.now) words.now)) }
+    ensures small { IfOk result (λ read. read.fills ≤ 4 * ASK_BYTES) }
+{
+    let [number, turns] = words else {
+        return Err(LineError::Bad);
+    };
+    let instance = number_within(number, 1, limits::INSTANCES as u64)?;
+    let count = number_within(turns, 1, u64::from(limits::LINE_TURNS))?;
+    Ok(plain(Line::Turns {
+        app,
+        client,
+        instance: instance as u8,
+        count: count as u32,
+    }))
+}
+
+/// The line of a request to cancel: the number of the operation.
+#[tactic(auto, unfolding(crate::specs::Lines::cancel_line))]
+fn line_of_cancel(client: u8, app: u8, words: &[&[u8]]) -> Result<ReadMeaning, LineError>
+    ensures value { Gives result (cancel_line client app (map (λ word. word.now) words.now)) }
+    ensures small { IfOk result (λ read. read.fills ≤ 4 * ASK_BYTES) }
+{
+    let [digits] = words else {
+        return Err(LineError::Bad);
+    };
+    let Some(op) = number(digits) else {
+        return Err(LineError::Bad);
+    };
+    Ok(plain(Line::Cancel { app, client, op }))
+}
+
+/// What a client does to the application of this index.
+#[tactic(auto, unfolding(crate::specs::Lines::app_line))]
+fn line_of_app(
+    alloc: Global,
+    client: u8,
+    app: u8,
+    words: &[&[u8]],
+) -> Result<ReadMeaning, LineError>
+    ensures value { Gives result (app_line client app (map (λ word. word.now) words.now)) }
+    ensures small { IfOk result (λ read. read.fills ≤ 4 * ASK_BYTES) }
+{
+    let Some((verb, others)) = words.split_first() else {
+        return Err(LineError::Bad);
+    };
+    if *verb == b"turn".as_slice() {
+        return line_of_turns(client, app, others);
+    }
+    if *verb == b"cancel".as_slice() {
+        return line_of_cancel(client, app, others);
+    }
+    if *verb == b"post".as_slice() {
+        return line_of_call(alloc, client, app, true, others);
+    }
+    line_of_call(alloc, client, app, false, words)
+}
+
+/// What befalls the board.
+#[tactic(auto, unfolding(crate::specs::Lines::board_line))]
+fn line_of_board(words: &[&[u8]]) -> Result<ReadMeaning, LineError>
+    ensures value { Gives result (board_line (map (λ word. word.now) words.now)) }
+    ensures small { IfOk result (λ read. read.fills ≤ 4 * ASK_BYTES) }
+{
+    let [verb, digits] = words else {
+        return Err(LineError::Bad);
+    };
+    if *verb == b"fuse".as_slice() {
+        let count = number_within(digits, 0, u64::from(FUSE_CALLS))?;
+        return Ok(plain(Line::Fuse(count as u32)));
+    }
+    if *verb == b"power".as_slice() {
+        let Some(pick) = number(digits) else {
+            return Err(LineError::Bad);
+        };
+        return Ok(plain(Line::Power(pick)));
+    }
+    Err(LineError::Bad)
+}
+
+/// Whose lines come.
+#[tactic(auto, unfolding(crate::specs::Lines::client_line))]
+fn line_of_client(words: &[&[u8]]) -> Result<ReadMeaning, LineError>
+    ensures value { Gives result (client_line (map (λ word. word.now) words.now)) }
+    ensures small { IfOk result (λ read. read.fills ≤ 4 * ASK_BYTES) }
+{
+    let [digits] = words else {
+        return Err(LineError::Bad);
+    };
+    let client = number_within(digits, 0, u64::from(limits::CLIENTS) - 1)?;
+    Ok(ReadMeaning {
+        meaning: Meaning::Client(client as u8),
+        fills: 0,
+    })
+}
+
+/// What the words of a line mean.
+#[tactic(auto, unfolding(crate::specs::Lines::meaning_of_words))]
+fn meaning_of_words<A>(
+    alloc: Global,
+    hosts: &[Host<A>],
+    client: u8,
+    words: &[&[u8]],
+) -> Result<ReadMeaning, LineError>
+    requires { length hosts.now ≤ 16 }
+    ensures value { Gives result (meaning_of_words hosts.now client (map (λ word. word.now) words.now)) }
+    ensures small { IfOk result (λ read. read.fills ≤ 4 * ASK_BYTES) }
+{
+    let Some((word, others)) = words.split_first() else {
+        return Err(LineError::Bad);
+    };
+    if *word == b"client".as_slice() {
+        return line_of_client(others);
+    }
+    if *word == b"board".as_slice() {
+        return line_of_board(others);
+    }
+    let Some(app) = host_index(hosts, word) else {
+        return Err(LineError::Bad);
+    };
+    line_of_app(alloc, client, app, others)
+}
+
+/// Whether a line is empty or a comment.
+fn is_silent(line: &[u8]) -> bool
+    ensures { result ≡ is_silent line.now }
+{
+    match line {
+        [] => true,
+        [first, ..] => *first == b'#',
+    }
+}
+
+/// What a line without its end means, where the lines before are this client's.
+#[tactic(auto, unfolding(crate::specs::Lines::meaning_of))]
+pub fn meaning_of<A>(
+    alloc: Global,
+    hosts: &[Host<A>],
+    client: u8,
+    line: &[u8],
+) -> Result<ReadMeaning, LineError>
+    requires { length hosts.now ≤ 16 }
+    ensures value { Gives result (meaning_of hosts.now client line.now) }
+    ensures small { IfOk result (λ read. read.fills ≤ 4 * ASK_BYTES) }
+{
+    if !is_ascii(line) {
+        return Err(LineError::Bad);
+    }
+    if is_silent(line) {
+        return Ok(ReadMeaning {
+            meaning: Meaning::Nothing,
+            fills: 0,
+        });
+    }
+    let words = words_of(alloc, line)?;
+    meaning_of_words(alloc, hosts, client, words.as_slice())
+}
