@@ -136,3 +136,6 @@ module _ {D : Type 0} (K : Keeper D) where
     keeps = idle_keeps K old;
     lost = λ e. same ∙ e;
   }
+
+  pub plain_turn_as : (kind : TurnKind) (comes changes lost left : Bool) (old : D) → kind ≡ Plain → left ≡ lost → IsTurnOf K kind comes changes lost left old old
+  plain_turn_as kind comes changes lost left old plain same = subst (λ (k : TurnKind). IsTurnOf K k comes changes lost left old old) (sym plain) (plain_turn comes changes lost left old same)

@@ -24,6 +24,10 @@ place_kept {A} i xs place new old same =
       named = λ d. ap (λ (y : Instance A). y.number) (at_new d) ∙ same;
     }
 
+-- and is found there
+pub found_there : {A : Type 0} (i : ℕ) (xs : List (Instance A)) (place : ℕ) (new : Instance A) → IsPlace i xs place → new.number ≡ i → find (is_number i) (set xs place new) ≡ Some new
+found_there {A} i xs place new old same = ap (find (is_number i)) (sym (old.put new same)) ∙ find_put i new old.some.0 xs same old.some.1
+
 -- what holds of a turn whose running entry was taken out of its instance first
 pub go_on_turned : {A : Type 0} (behaviour : Behaviour A) (serving : Serving) (m : Machine A) (i place : ℕ) (x : Instance A) (left : Option Running) (r : Running) (P : Stepped A → Type 0)
     → IsPlace i m.instances place → x ≡ get_or m.instances place x → left ≡ None → x.running ≡ Some r

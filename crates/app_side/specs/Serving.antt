@@ -1,5 +1,5 @@
 -- How a turn goes over a keeper of a store.
-use Rattle.std.specs.Prelude.{ℕ, nat_le, not, ◌&&◌, ◌≡◌, true, Bool, IfOk, OnErr, Option, None, Result}
+use Rattle.std.specs.Prelude.{ℕ, nat_le, not, ◌&&◌, ◌≡◌, true, Bool, IfOk, List, OnErr, Option, None, Result}
 use Rattle.tee_base.specs.declared.bytes.NoMemory.{NoMemory}
 use Rattle.app_api.specs.Behaviours.{Behaviour}
 use Rattle.app_api.specs.declared.ask.Ask.{Ask}
@@ -12,7 +12,7 @@ use Rattle.object_asks.specs.Serving.{CrashTurns, EndsUnchanged, HasStatus, IsKe
 use Rattle.alone.specs.declared.reply.Reply.{Reply}
 use Rattle.alone.specs.declared.running.Stage.{Stage}
 use Rattle.alone.specs.Machine.{Machine}
-use Rattle.alone.specs.Step.{Stepped, is_changing, may_stand, step}
+use Rattle.alone.specs.Step.{Stepped, is_changing, may_stand, step as step_of}
 use Rattle.app_side.specs.declared.side.AppSide.{AppSide}
 use Rattle.app_side.specs.Represents.{IsLeft, IsStep, Represents, event_of, is_lost, machine_over}
 
@@ -70,11 +70,11 @@ module _ {D : Type 0} (K : Keeper D) where
   pub record IsTurn {A : Type 0} (behaviour : Behaviour A) (instance : ℕ) (kind : TurnKind) (replies : List Reply) (before after : AppSide A) (old new : D) : Type 0 where
     -- it is one step of every machine over the keeper's store, by the event of its kind, which may stand there
     pub step : K.has_model old → (m : Machine A) → Represents before m → m.store ≡ (K.contents old).store
-        → Represents after (step behaviour m (event_of kind instance)).machine
+        → Represents after (step_of behaviour m (event_of kind instance)).machine
     pub store : K.has_model old → (m : Machine A) → Represents before m → m.store ≡ (K.contents old).store
-        → (step behaviour m (event_of kind instance)).machine.store ≡ (K.contents new).store
-    pub replies : K.has_model old → (m : Machine A) → Represents before m → m.store ≡ (K.contents old).store
-        → replies ≡ (step behaviour m (event_of kind instance)).replies
+        → (step_of behaviour m (event_of kind instance)).machine.store ≡ (K.contents new).store
+    pub told : K.has_model old → (m : Machine A) → Represents before m → m.store ≡ (K.contents old).store
+        → replies ≡ (step_of behaviour m (event_of kind instance)).replies
     pub stands : K.has_model old → (m : Machine A) → Represents before m → m.store ≡ (K.contents old).store
         → may_stand m (event_of kind instance) ≡ true
     -- a lost turn says whether a change is in doubt
@@ -88,4 +88,4 @@ module _ {D : Type 0} (K : Keeper D) where
     pub keeps : IsKept K old new
     -- a crash within it leaves what was kept before it or the store after it; of a lost turn with a change, the one in doubt
     pub crash : K.honest old → LeavesJust K old (K.contents old) → (m : Machine A) → Represents before m → m.store ≡ (K.contents old).store
-        → CrashTurns K kind (step behaviour m (event_of kind instance)).machine.in_doubt old new
+        → CrashTurns K kind (step_of behaviour m (event_of kind instance)).machine.in_doubt old new

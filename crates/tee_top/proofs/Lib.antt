@@ -1,3 +1,4 @@
+pub mod Known
 pub mod Names
 pub mod Apart
 pub mod Ended

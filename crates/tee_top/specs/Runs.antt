@@ -12,6 +12,7 @@ use Rattle.app_api.specs.declared.host.Host.{Host}
 use Rattle.app_side.specs.Represents.{IsOneInstance}
 use Rattle.store_api.specs.Stores.{empty_store}
 use Rattle.script.specs.declared.line.Line.{Line}
+use Rattle.script.specs.declared.line.Line.TheVariants as lines
 use Rattle.script.specs.declared.dialect.Dialect.TheVariants.{Calls}
 use Rattle.script.specs.Grammar.{FirstBad, Reads}
 use Rattle.tee_top.specs.Transcript.{transcript}
@@ -98,3 +99,11 @@ pub record IsTooMuch (words : List (String Global)) (left : Option (List ℕ)) (
 -- what was written is said of the transcript of the script that the source held, over empty stores
 abbrev pub IsOfTranscript : {A : Type 0} → Behaviour A → List (Host A) → List ℕ → Option (List ℕ) → (List ℕ → Type 0) → Type 0
 IsOfTranscript {A} behaviour hosts seed left IsWritten = (script : List Line) × ReadsTo hosts left script × IsWritten (transcript behaviour hosts seed (λ app. empty_store) script)
+
+-- the line names one of so many applications, if it names one
+abbrev pub IsKnown : ℕ → Line → Type 0
+IsKnown count (lines.Call app client post call) = app < count
+IsKnown count (lines.Turns app client instance turns) = app < count
+IsKnown count (lines.Cancel app client op) = app < count
+IsKnown count (lines.Fuse calls) = Unit {0}
+IsKnown count (lines.Power pick) = Unit {0}

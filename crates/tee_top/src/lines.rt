@@ -1,10 +1,11 @@
 //! Lines, one after the other: each is run until it is answered, and its replies are written before the next is run.
 
 ghost use Rattle.std.specs.Prelude.{◌≡◌, ◌≤◌, ◌<◌, ℕ, List, [], IsErrOf, OnOk, length, slice_index_or};
+ghost use Rattle.std.specs.List.{AllByRecursion};
 ghost use Rattle.tee_base.specs.Faults.{Rose};
 ghost use Rattle.tee_core.specs.Represents.{app_count, Represents};
 ghost use Rattle.tee_core.specs.World.{World, world_after};
-ghost use Rattle.tee_top.specs.Runs.{Writes};
+ghost use Rattle.tee_top.specs.Runs.{IsKnown, Writes};
 ghost use Rattle.tee_top.specs.Told.{told_text};
 ghost use Rattle.tee_top.specs.Transcript.{events_of, line_events, replies_text, text_of};
 
@@ -99,41 +100,6 @@ fn run_call<A: Application, W: Sink>(
     write_told(alloc, name, told.as_slice(), sink)
 }
 
-/// A call of an application that there is; of another it does nothing.
-fn run_call_of<A: Application, W: Sink>(
-    alloc: Global,
-    names: &[Bytes],
-    tee: &mut Tee<A>,
-    app: u8,
-    client: u8,
-    post: bool,
-    call: Call,
-    sink: &mut W,
-) -> Result<(), Stop>
-    requires { length names.now ≡ app_count tee.old }
-    ensures world { OnOk result ((world : World A) → Represents tee.old world → Represents tee.new (world_after A.behaviour world (line_events A.behaviour world (Line.Call app client post call)))) }
-    ensures written { (world : World A) → Represents tee.old world → Writes result (text_of A.behaviour names.now world (line_events A.behaviour world (Line.Call app client post call))) (W.written sink.old) (W.written sink.new) }
-    ensures apps { app_count tee.new ≡ app_count tee.old }
-    ensures fault { IsErrOf result Stop.WriteFault → Rose (W.failures sink.old) (W.failures sink.new) }
-    ensures later { W.failures sink.old ≤ W.failures sink.new }
-{
-    let index = app as usize;
-    if index >= names.len() {
-        drop(call);
-        return Ok(());
-    }
-    run_call(
-        alloc,
-        names[index].as_slice(),
-        tee,
-        app,
-        client,
-        post,
-        call,
-        sink,
-    )
-}
-
 /// Runs a line. Lines that aren't calls do nothing yet: the dialect in which scripts are read has none.
 fn run_line<A: Application, W: Sink>(
     alloc: Global,
@@ -142,9 +108,17 @@ fn run_line<A: Application, W: Sink>(
     line: Line,
     sink: &mut W,
 ) -> Result<(), Stop>
-    requires { length names.now ≡ app_count tee.old }
-    ensures world { OnOk result ((world : World A) → Represents tee.old world → Represents tee.new (world_after A.behaviour world (line_events A.behaviour world line))) }
-    ensures written { (world : World A) → Represents tee.old world → Writes result (text_of A.behaviour names.now world (line_events A.behaviour world line)) (W.written sink.old) (W.written sink.new) }
+    requires names { length names.now ≡ app_count tee.old }
+    requires known { IsKnown (app_count tee.old) line }
+    ensures world {
+        OnOk result ((world : World A) → Represents tee.old world
+        → Represents tee.new (world_after A.behaviour world (line_events A.behaviour world line)))
+    }
+    ensures written {
+        (world : World A) → Represents tee.old world
+        → Writes result (text_of A.behaviour names.now world (line_events A.behaviour world line))
+        (W.written sink.old) (W.written sink.new)
+    }
     ensures apps { app_count tee.new ≡ app_count tee.old }
     ensures fault { IsErrOf result Stop.WriteFault → Rose (W.failures sink.old) (W.failures sink.new) }
     ensures later { W.failures sink.old ≤ W.failures sink.new }
@@ -155,7 +129,16 @@ fn run_line<A: Application, W: Sink>(
             client,
             post,
             call,
-        } => run_call_of(alloc, names, tee, app, client, post, call, sink),
+        } => run_call(
+            alloc,
+            names[app as usize].as_slice(),
+            tee,
+            app,
+            client,
+            post,
+            call,
+            sink,
+        ),
         Line::Turns { .. } | Line::Cancel { .. } | Line::Fuse(_) | Line::Power(_) => Ok(()),
     }
 }
@@ -168,8 +151,13 @@ pub fn run_lines<A: Application, W: Sink>(
     lines: Vec<Line>,
     sink: &mut W,
 ) -> Result<(), Stop>
-    requires { length names.now ≡ app_count tee.old }
-    ensures written { (world : World A) → Represents tee.old world → Writes result (text_of A.behaviour names.now world (events_of A.behaviour world lines.items)) (W.written sink.old) (W.written sink.new) }
+    requires names { length names.now ≡ app_count tee.old }
+    requires known { AllByRecursion (IsKnown (app_count tee.old)) lines.items }
+    ensures written {
+        (world : World A) → Represents tee.old world
+        → Writes result (text_of A.behaviour names.now world (events_of A.behaviour world lines.items))
+        (W.written sink.old) (W.written sink.new)
+    }
     ensures fault { IsErrOf result Stop.WriteFault → Rose (W.failures sink.old) (W.failures sink.new) }
     ensures later { W.failures sink.old ≤ W.failures sink.new }
 {

@@ -2,6 +2,7 @@
 
 ghost use Rattle.std.specs.Prelude.{◌≡◌, ◌⊎◌, ◌↔◌, ◌≤◌, ◌+◌, ℕ, List, IsTrue, IsErrOf, IfErr, IfOk, IfSome, OnOk, length};
 ghost use Rattle.std.specs.Io.KnownBytes.{Appends, IsAtEnd};
+ghost use Rattle.std.specs.List.{AllByRecursion};
 ghost use Rattle.app_api.specs.Hosts.{HostsFit};
 ghost use Rattle.store_api.specs.Stores.{empty_store};
 ghost use Rattle.script.specs.declared.line.Line.{Line};
@@ -9,7 +10,7 @@ ghost use Rattle.script.specs.Grammar.{names_of};
 ghost use Rattle.tee_base.specs.Faults.{Rose};
 ghost use Rattle.tee_base.specs.Transfer.{AppendsFront, ConsumesWithin, HasMoreThan};
 ghost use Rattle.tee_base.specs.declared.limits.TheConstants.{SCRIPT_BYTES};
-ghost use Rattle.tee_top.specs.Runs.{AreRunWords, AreOneInstance, IsServed, IsUnrun, IsReadStatus, ReadsTo, IsBadAt, IsOfTranscript, IsReadable, IsText, IsBadText, IsTooMuch, IsWithin};
+ghost use Rattle.tee_top.specs.Runs.{AreRunWords, AreOneInstance, IsKnown, IsServed, IsUnrun, IsReadStatus, ReadsTo, IsBadAt, IsOfTranscript, IsReadable, IsText, IsBadText, IsTooMuch, IsWithin};
 ghost use Rattle.tee_top.specs.Transcript.{transcript};
 
 use crate::lines::{Stop, run_lines};
@@ -44,6 +45,7 @@ fn read_lines<S: Source, A: Application>(
     ensures later { S.failures source.old ≤ S.failures source.new }
     ensures consumed { ConsumesWithin (SCRIPT_BYTES + 1) (S.left source.old) (S.left source.new) }
     ensures unfailed { IsErrOf result Status.TooLong → S.failures source.new ≡ S.failures source.old }
+    ensures known { IfOk result (λ lines. AllByRecursion (IsKnown (length hosts.now)) lines.items) }
     ensures few { IfErr result IsReadStatus }
 {
     let text = match read_all(alloc, source, limits::SCRIPT_BYTES) {
@@ -80,6 +82,7 @@ fn serve<W: Sink, A: Application>(
 ) -> Status
     requires fit { HostsFit hosts.items }
     requires one { AreOneInstance hosts.items }
+    requires known { AllByRecursion (IsKnown (length hosts.items)) lines.items }
     ensures done { result ≡ Status.Done → Appends (W.written sink.old) (W.written sink.new) (transcript A.behaviour hosts.items seed (λ app. empty_store) lines.items) }
     ensures stopped { AppendsFront (transcript A.behaviour hosts.items seed (λ app. empty_store) lines.items) (W.written sink.old) (W.written sink.new) }
     ensures fault { result ≡ Status.WriteFault → Rose (W.failures sink.old) (W.failures sink.new) }

@@ -1,6 +1,8 @@
 use Rattle.std.proofs.Common.{◌≡◌, ◌≤◌, length}
 use Rattle.tee_core.specs.Represents.{app_count, Represents}
 use Rattle.tee_core.specs.World.{World}
+use Rattle.std.specs.List.{AllByRecursion}
+use Rattle.tee_top.specs.Runs.{IsKnown}
 use Rattle.tee_top.specs.Transcript.{events_of}
 use Rattle.tee_top.proofs.Events.{Along}
 use Rattle.tee_top.proofs.lines.run_lines.Given as goal
@@ -12,6 +14,7 @@ invariant-loop-line g l =
     record {
       run : (world : World g.row.A.Denot) → Represents l.fn.tee world → Along behaviour l.names (Represents l.tee) world (events_of behaviour world l.fn.lines.items) (λ now. events_of behaviour now l.rest.items) (g.W.Sink.written l.fn.sink) (g.W.Sink.written l.sink);
       apps : app_count l.tee ≡ app_count l.fn.tee;
+      known : AllByRecursion (IsKnown (app_count l.fn.tee)) l.rest.items;
       later : g.W.Sink.failures l.fn.sink ≤ g.W.Sink.failures l.sink;
     }
 

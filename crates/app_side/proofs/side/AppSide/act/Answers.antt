@@ -21,8 +21,8 @@ use Rattle.app_side.specs.Serving.{in_doubt_by}
 use Rattle.app_side.proofs.Crashed.{acted_crash}
 use Rattle.app_side.proofs.side.AppSide.act.Goals as goal
 
-pub returns-in_ok-end_entry-then-asks-ge-ASKS : goal.returns-in_ok-end_entry-then-asks-ge-ASKS
-returns-in_ok-end_entry-then-asks-ge-ASKS g c inst found =
+pub returns-then-asks-ge-ASKS : goal.returns-then-asks-ge-ASKS
+returns-then-asks-ge-ASKS g c inst found =
     let t = g.T.AppStore.keeper in
     let before = t.contents c.args.store.now in
     let new = c.end_entry.new.self in

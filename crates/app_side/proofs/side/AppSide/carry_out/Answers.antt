@@ -1,8 +1,6 @@
 use Rattle.std.proofs.Common.{◌≡◌, ◌∙◌, Bool, refl, sym, subst, ap}
 use Rattle.app_api.specs.declared.ask.Ask.{Ask}
-use Rattle.object_asks.specs.declared.turn.TurnKind.{TurnKind}
 use Rattle.object_asks.specs.declared.turn.TurnKind.TheVariants.{Plain}
-use Rattle.app_side.specs.Serving.{IsTurnOf}
 use Rattle.object_asks.specs.Asks.{came_of, object_course}
 use Rattle.alone.specs.Asks.{course}
 use Rattle.alone.specs.Step.{served}
@@ -11,7 +9,7 @@ use Rattle.object_asks.specs.declared.outcome.Served.{Served}
 use Rattle.app_side.specs.Represents.{IsLeft, machine_over}
 use Rattle.object_asks.specs.Serving.{IsOutcome, objects_in, serving_of}
 use Rattle.alone.specs.Asks.{return_of}
-use Rattle.app_side.proofs.Carried.{carried, none_tried, noted_instances, noted_lost, plain_turn, return_left, return_plain}
+use Rattle.app_side.proofs.Carried.{carried, none_tried, noted_instances, noted_lost, plain_turn_as, return_left, return_plain}
 use Rattle.object_asks.proofs.Crashes.{idle_crash}
 use Rattle.object_asks.proofs.ServingLemmas.{by_nothing, ends_with}
 use Rattle.app_side.proofs.Crashed.{carried_crash}
@@ -26,7 +24,7 @@ returns-in-Return g c =
       left = λ tells same doubt.
           let Left : Ask → Served → Type 0 = λ (ask : Ask) (r : Served). IsLeft r.outcome (served (serving_of r.kind) (machine_over c.args.self.now kept.store doubt) ask (course (machine_over c.args.self.now kept.store doubt) c.args.instance c.args.stage.now ask)) c.args.self.now kept.store doubt (machine_over c.args.self.now kept.store doubt) in
           subst (λ (r : Served). Left c.args.ask r) (sym c.returned.ensures) (subst (λ (ask : Ask). Left ask (return_of c.args.stage.now c.in-Return.code c.in-Return.outs)) (sym c.in-Return.is) (return_left c.args.self.now kept.store doubt c.args.instance c.args.stage.now c.in-Return.code c.in-Return.outs));
-      kind = subst (λ (k : TurnKind). IsTurnOf t k _ _ _ _ c.args.store.now c.args.store.now) (sym plain) (plain_turn t _ _ _ _ c.args.store.now refl);
+      kind = plain_turn_as t c.returned.result.kind _ _ _ _ c.args.store.now plain refl;
       ends = ends_with c.returned.result.outcome _ (by_nothing t c.args.store.now);
       tried = none_tried _ (t.status c.args.store.now);
       want = tt;

@@ -10,7 +10,7 @@ use Rattle.object_asks.specs.Asks.{Serves}
 use Rattle.object_asks.specs.Serving.{objects_in, serving_of, CrashTurns, TriesOnce}
 use Rattle.app_side.specs.Serving.{changing, reaching}
 use Rattle.app_side.proofs.Carried.{none_tried, plain_turn}
-use Rattle.app_side.proofs.Taken.{go_on_turned, place_kept}
+use Rattle.app_side.proofs.Taken.{found_there, go_on_turned, place_kept}
 use Rattle.app_side.proofs.TurnLemmas.{begins, begun_lost, moves, none_of}
 use Rattle.std.proofs.lemmas.Result.{IfOk-weaker}
 use Rattle.object_asks.proofs.Crashes.{idle_crash}
@@ -46,8 +46,8 @@ returns g c inst found =
     let waiting : (test : ℕ → Stage → Ask → Bool) → of_waits test c.in-Some.running c.in-Some.running.waits ≡ of_instance test (find (is_number c.args.number) c.args.self.now.instances.items)
     = λ test. sym (ap (of_instance test) there ∙ ap (of_running test) (sym c.in-Some.ensures.value)) in
     let idle : Instance g.row.A.Denot = record x { running = c.take.new.self } in
-    let kept = place_kept c.args.number c.args.self.now.instances.items c.args.place idle c.requires.place (ap (λ (y : Instance g.row.A.Denot). y.number) c.index_mut.ensures.value ∙ c.requires.place.named x) in
-    let is = c.resume.ensures idle kept.some.1 in
+    let kept = found_there c.args.number c.args.self.now.instances.items c.args.place idle c.requires.place (ap (λ (y : Instance g.row.A.Denot). y.number) c.index_mut.ensures.value ∙ c.requires.place.named x) in
+    let is = c.resume.ensures idle kept in
     record {
       step = IfOk-weaker c.resume.result _ _ (λ kind step model same doubt. go_on_turned g.A.Application.behaviour (serving_of kind) (machine_over c.args.self.now before.store doubt) c.args.number c.args.place x c.take.new.self c.in-Some.running (IsStep c.resume.new.self (t.contents c.resume.new.store).store c.resume.new.replies) c.requires.place c.index_mut.ensures.value c.take.ensures.after (sym c.in-Some.ensures.value) (step model same doubt) inst found) is.step;
       kind = IfOk-weaker c.resume.result _ _ (λ kind of. moves t kind _ _ _ _ _ _ _ c.args.store.now c.resume.new.store

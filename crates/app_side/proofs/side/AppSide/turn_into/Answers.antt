@@ -18,7 +18,7 @@ returns-clause-turn g c =
     record {
       step = λ there m stands kept. step_represents c.advance.new.self (t.contents c.advance.new.store).store c.advance.new.replies (step a m (event_of kind c.args.instance)) (each there m stands kept);
       store = λ there m stands kept. step_store c.advance.new.self (t.contents c.advance.new.store).store c.advance.new.replies (step a m (event_of kind c.args.instance)) (each there m stands kept);
-      replies = λ there m stands kept. (each there m stands kept).replies;
+      told = λ there m stands kept. (each there m stands kept).replies;
       stands = λ there m stands kept. turn_may_stand c.args.self.now (t.contents c.args.store.now).store kind c.args.instance _ _ c.requires.loss is.status (is.stands there) m stands kept;
       change = λ m stands. turn_change c.args.self.now kind c.args.instance is.change m stands;
       status = is.status;

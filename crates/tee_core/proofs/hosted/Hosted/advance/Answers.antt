@@ -17,4 +17,4 @@ returns-in-Plain-clause-hosted g c = λ m is.
 pub returns-in-Plain-clause-replies : goal.returns-in-Plain-clause-replies
 returns-in-Plain-clause-replies g c = λ m is.
     let behaviour = g.A.Application.behaviour in
-    subst (λ (k : TurnKind). c.turn_into.new.replies ≡ (step behaviour m (event_of k c.args.instance)).replies) c.in-Plain.is (c.in_ok-turn_into.ensures.turn.replies tt m is.side is.store)
+    subst (λ (k : TurnKind). c.turn_into.new.replies ≡ (step behaviour m (event_of k c.args.instance)).replies) c.in-Plain.is (c.in_ok-turn_into.ensures.turn.told tt m is.side is.store)
