@@ -32,10 +32,10 @@ fourth_share : ℕ → ℕ → ℕ → ℕ → ℕ → ℕ
 fourth_share i j k l x = sum_of (multiply i x) (multiply j x) (multiply k (multiply 3 x)) (multiply l (multiply 2 x))
 
 -- the values of a function at all bytes
-all_bytes : (ℕ → ℕ) → List ℕ
+unfoldable pub all_bytes : (ℕ → ℕ) → List ℕ
 all_bytes f = map f (range_with_len 0 256)
 
-at_byte : (f g : ℕ → ℕ) → all_bytes f ≡ all_bytes g → (x : ℕ) → x < 256 → f x ≡ g x
+pub at_byte : (f g : ℕ → ℕ) → all_bytes f ≡ all_bytes g → (x : ℕ) → x < 256 → f x ≡ g x
 unfolding all_bytes
 at_byte f g e x h =
     sym (get_or-map-range_with_len f 0 256 x x 0 h (zero-add x)) ∙ ap (λ (l : List ℕ). get_or l x 0) e
@@ -67,14 +67,14 @@ shares_fourth : (all_bytes (first_share 11 13 9 14) ≡ all_bytes none) × (all_
 unfolding xtimes multiply_powers multiply first_share second_share third_share fourth_share all_bytes same none
 shares_fourth = (refl, refl, refl, refl)
 
-multiply-sum_of : (i a b c d : ℕ) → multiply i (sum_of a b c d) ≡ sum_of (multiply i a) (multiply i b) (multiply i c) (multiply i d)
+pub multiply-sum_of : (i a b c d : ℕ) → multiply i (sum_of a b c d) ≡ sum_of (multiply i a) (multiply i b) (multiply i c) (multiply i d)
 multiply-sum_of i a b c d =
     multiply-xor i (bit_xor (bit_xor a b) c) d
     ∙ ap (λ (z : ℕ). bit_xor z (multiply i d))
     (multiply-xor i (bit_xor a b) c ∙ ap (λ (z : ℕ). bit_xor z (multiply i c)) (multiply-xor i a b))
 
 -- rows and columns change places
-transposed : (a b c d e f g h i j k l m n o p : ℕ)
+pub transposed : (a b c d e f g h i j k l m n o p : ℕ)
     → sum_of (sum_of a b c d) (sum_of e f g h) (sum_of i j k l) (sum_of m n o p) ≡ sum_of (sum_of a e i m) (sum_of b f j n) (sum_of c g k o) (sum_of d h l p)
 transposed a b c d e f g h i j k l m n o p =
     ap (λ (z : ℕ). bit_xor (bit_xor z (sum_of i j k l)) (sum_of m n o p)) (sym (sum_of-xor a b c d e f g h))
@@ -95,7 +95,7 @@ row_of_mixed i j k l a b c d =
     (multiply k a) (multiply k b) (multiply k (multiply 2 c)) (multiply k (multiply 3 d))
     (multiply l (multiply 3 a)) (multiply l b) (multiply l c) (multiply l (multiply 2 d))
 
-zeros_behind : (a : ℕ) → sum_of a 0 0 0 ≡ a
+pub zeros_behind : (a : ℕ) → sum_of a 0 0 0 ≡ a
 zeros_behind a = xor_zero_r (bit_xor (bit_xor a 0) 0) ∙ xor_zero_r (bit_xor a 0) ∙ xor_zero_r a
 
 -- four bytes through MixColumns and back
@@ -123,8 +123,8 @@ unmixed a b c d fa fb fc fd =
     (at_byte (third_share 11 13 9 14) none shares_fourth.2 c fc) (at_byte (fourth_share 11 13 9 14) same shares_fourth.3 d fd))
 
 -- ---- states of 16 bytes
-record AreBytes (s : List ℕ) : Type 0 where
-  each : (i : ℕ) → get_or s i 0 < 256
+pub record AreBytes (s : List ℕ) : Type 0 where
+  pub each : (i : ℕ) → get_or s i 0 < 256
 
 pub record IsState (s : List ℕ) : Type 0 where
   pub long : length s ≡ 16
@@ -143,10 +143,10 @@ unmixed_state s h =
     ∙ sym (block_written s h.long)
 
 -- a state whose bytes are given by their places
-state_of_same : (f : ℕ → ℕ) (s : List ℕ) → length s ≡ 16 → ((i : ℕ) → i < 16 → f i ≡ slice_index s i) → state_of f ≡ s
+pub state_of_same : (f : ℕ → ℕ) (s : List ℕ) → length s ≡ 16 → ((i : ℕ) → i < 16 → f i ≡ slice_index s i) → state_of f ≡ s
 state_of_same f s long e = sym (fill_by_all f s 16 0 long (λ i h. sym (e i h)))
 
-added_twice : (s k : List ℕ) → length s ≡ 16 → add_round_key (add_round_key s k) k ≡ s
+pub added_twice : (s k : List ℕ) → length s ≡ 16 → add_round_key (add_round_key s k) k ≡ s
 unfolding add_round_key
 added_twice s k long =
     state_of_same (λ i. bit_xor (slice_index (state_of (λ j. bit_xor (slice_index s j) (slice_index k j))) i) (slice_index k i)) s long
@@ -170,7 +170,7 @@ bytes_of_map f h i = elim (cases_lt i 16) [
   | inr ge ↦ rw (get_or_past (state_of f) i 0 ge) (omega arith)
 ]
 
-bytes-map : (f : ℕ → ℕ) → ((k : ℕ) → f k < 256) → (ks : List ℕ) (i : ℕ) → get_or (map f ks) i 0 < 256
+pub bytes-map : (f : ℕ → ℕ) → ((k : ℕ) → f k < 256) → (ks : List ℕ) (i : ℕ) → get_or (map f ks) i 0 < 256
 bytes-map f h [] i = omega arith
 bytes-map f h (k ∷ ks) zero = h k
 bytes-map f h (k ∷ ks) (suc i) = bytes-map f h ks i
@@ -180,7 +180,7 @@ joined_bytes [] ys hx hy i = hy i
 joined_bytes (x ∷ xs) ys hx hy zero = hx zero
 joined_bytes (x ∷ xs) ys hx hy (suc i) = joined_bytes xs ys (λ k. hx (suc k)) hy i
 
-bytes-append : (xs ys : List ℕ) → AreBytes xs → AreBytes ys → AreBytes (xs ++ ys)
+pub bytes-append : (xs ys : List ℕ) → AreBytes xs → AreBytes ys → AreBytes (xs ++ ys)
 bytes-append xs ys hx hy = record { each = joined_bytes xs ys hx.each hy.each }
 
 xtimes_below : (x : ℕ) → xtimes x < 256
@@ -197,11 +197,11 @@ multiply_powers_below zero a x h = omega arith
 multiply_powers_below (suc n) a x h =
     xor_lt 8 _ (multiply_powers n (a / 2) (xtimes x)) (chosen_below (eqb (a % 2) 1) x h) (multiply_powers_below n (a / 2) (xtimes x) (xtimes_below x))
 
-multiply_below : (a x : ℕ) → x < 256 → multiply a x < 256
+pub multiply_below : (a x : ℕ) → x < 256 → multiply a x < 256
 unfolding multiply
 multiply_below a x h = multiply_powers_below 8 a x h
 
-sum_below : (a b c d : ℕ) → a < 256 → b < 256 → c < 256 → d < 256 → sum_of a b c d < 256
+pub sum_below : (a b c d : ℕ) → a < 256 → b < 256 → c < 256 → d < 256 → sum_of a b c d < 256
 sum_below a b c d fa fb fc fd = xor_lt 8 (bit_xor (bit_xor a b) c) d (xor_lt 8 (bit_xor a b) c (xor_lt 8 a b fa fb) fc) fd
 
 mix_column_bytes : (a b c d : ℕ) → a < 256 → b < 256 → c < 256 → d < 256 → AreBytes (mix_column a b c d)
@@ -231,7 +231,7 @@ IsState-mix_columns s h =
     λ i j k l. mix_column_bytes (slice_index s i) (slice_index s j) (slice_index s k) (slice_index s l) (h.bytes i) (h.bytes j) (h.bytes k) (h.bytes l) in
     record { long = refl; bytes = (bytes-append _ _ (column 0 1 2 3) (bytes-append _ _ (column 4 5 6 7) (bytes-append _ _ (column 8 9 10 11) (column 12 13 14 15)))).each }
 
-IsState-add_round_key : (s k : List ℕ) → AreBytes s → AreBytes k → IsState (add_round_key s k)
+pub IsState-add_round_key : (s k : List ℕ) → AreBytes s → AreBytes k → IsState (add_round_key s k)
 unfolding add_round_key
 IsState-add_round_key s k hs hk =
     record { long = refl; bytes = bytes-map (λ i. bit_xor (slice_index s i) (slice_index k i)) (λ i. xor_lt 8 (slice_index s i) (slice_index k i) (hs.each i) (hk.each i)) (range_with_len 0 16) }
@@ -240,14 +240,14 @@ word_bytes_fit : (x : ℕ) → AreBytes (word_bytes x)
 unfolding word_bytes
 word_bytes_fit x = record { each = four_fit (x / 2 ^ 24 % 256) (x / 2 ^ 16 % 256) (x / 2 ^ 8 % 256) (x % 256) (omega arith) (omega arith) (omega arith) (omega arith) }
 
-round_key_bytes : (w : List ℕ) (i : ℕ) → AreBytes (round_key w i)
+pub round_key_bytes : (w : List ℕ) (i : ℕ) → AreBytes (round_key w i)
 unfolding round_key
 round_key_bytes w i =
     bytes-append _ _ (word_bytes_fit (slice_index w (4 * i)))
     (bytes-append _ _ (word_bytes_fit (slice_index w (4 * i + 1)))
     (bytes-append _ _ (word_bytes_fit (slice_index w (4 * i + 2))) (word_bytes_fit (slice_index w (4 * i + 3)))))
 
-bytes_of_state : (s : List ℕ) → IsState s → AreBytes s
+pub bytes_of_state : (s : List ℕ) → IsState s → AreBytes s
 bytes_of_state s h = record { each = h.bytes }
 
 IsState-cipher_rounds : (w b : List ℕ) (n : ℕ) → IsState b → IsState (cipher_rounds w b n)

@@ -1,5 +1,6 @@
 pub mod CipherLemmas
 pub mod ColumnLemmas
+pub mod EncryptionLemmas
 pub mod FieldLemmas
 pub mod KeyLemmas
 pub mod RoundLemmas

@@ -169,6 +169,16 @@ inverse_substitute-substitute x h =
     ap inverse_substitute (sym (entry_substitute SUBSTITUTE x refl h)) ∙ sym (get_or-map inverse_substitute SUBSTITUTE x 0 0 h)
     ∙ ap (λ (l : List ℕ). get_or l x 0) test_undone ∙ get_or-range_with_len 0 256 x 0 h ∙ zero-add x
 
+-- and so is its inverse
+test_redone : map substitute INVERSE_SUBSTITUTE ≡ range_with_len 0 256
+unfolding xtimes multiply_powers multiply power inverse byte_of_bits affine substitute
+test_redone = refl
+
+pub substitute-inverse_substitute : (x : ℕ) → x < 2 ^ 8 → substitute (inverse_substitute x) ≡ x
+substitute-inverse_substitute x h =
+    ap substitute (sym (entry_inverse_substitute INVERSE_SUBSTITUTE x refl h)) ∙ sym (get_or-map substitute INVERSE_SUBSTITUTE x 0 0 h)
+    ∙ ap (λ (l : List ℕ). get_or l x 0) test_redone ∙ get_or-range_with_len 0 256 x 0 h ∙ zero-add x
+
 test_round_constants : ROUND_CONSTANTS ≡ map round_constant (range_with_len 1 10)
 unfolding xtimes multiply_powers multiply power round_constant
 test_round_constants = refl
@@ -187,4 +197,14 @@ substitute_below x h =
     let e : get_or SUBSTITUTE x 0 ≡ substitute x = entry_substitute SUBSTITUTE x refl h in
     let m : get_or SUBSTITUTE x 0 ≡ get_or SUBSTITUTE x 0 % 256 =
     ap (λ (l : List ℕ). get_or l x 0) (sym test_bytes) ∙ get_or-map (λ (s : ℕ). s % 256) SUBSTITUTE x 0 0 h in
+    omega arith
+
+test_inverse_bytes : map (λ (s : ℕ). s % 256) INVERSE_SUBSTITUTE ≡ INVERSE_SUBSTITUTE
+test_inverse_bytes = refl
+
+pub inverse_substitute_below : (x : ℕ) → x < 2 ^ 8 → inverse_substitute x < 256
+inverse_substitute_below x h =
+    let e : get_or INVERSE_SUBSTITUTE x 0 ≡ inverse_substitute x = entry_inverse_substitute INVERSE_SUBSTITUTE x refl h in
+    let m : get_or INVERSE_SUBSTITUTE x 0 ≡ get_or INVERSE_SUBSTITUTE x 0 % 256 =
+    ap (λ (l : List ℕ). get_or l x 0) (sym test_inverse_bytes) ∙ get_or-map (λ (s : ℕ). s % 256) INVERSE_SUBSTITUTE x 0 0 h in
     omega arith

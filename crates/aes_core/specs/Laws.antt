@@ -6,3 +6,8 @@ use Rattle.aes_core.specs.Cipher.{cipher, inv_cipher}
 abbrev pub DecryptionUndoesEncryption : Type 0
 DecryptionUndoesEncryption =
     (key b : List ℕ) → length b ≡ 16 → All (λ x. x < 256) b → inv_cipher key (cipher key b) ≡ b
+
+-- and one that was decrypted encrypts to itself
+abbrev pub EncryptionUndoesDecryption : Type 0
+EncryptionUndoesDecryption =
+    (key b : List ℕ) → length b ≡ 16 → All (λ x. x < 256) b → cipher key (inv_cipher key b) ≡ b

@@ -16,6 +16,6 @@ mod tests;
 
 pub use block::{decrypt_block, encrypt_block};
 pub use key::{Key, WrongKeyLength};
-pub use laws::decryption_undoes_encryption;
+pub use laws::{decryption_undoes_encryption, encryption_undoes_decryption};
 pub use schedule::expand;
 pub use shared::{SharedStart, encrypt_shared, shared_start};

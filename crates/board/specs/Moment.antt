@@ -61,10 +61,11 @@ moment v = length v.past
 abbrev pub left_since : View → ℕ → Outcome → Type 0
 left_since v t c = IsLeft v.state c ⊎ WasLeft v.past t c
 
--- an honest board as it reads is one of its images
+-- an honest board as it reads is one of its images, and what is pending is within its size
 pub record IsConsistent (v : View) : Type 0 where
   pub as_read : (k : ℕ) → v.state.pending k ≡ false → v.state.reads k ≡ v.state.durable k
   pub whole : (k : ℕ) → k < v.size → length (v.state.reads k) ≡ 1024
+  pub within : (k : ℕ) → v.state.pending k ≡ true → k < v.size
   pub counter : v.state.counter < 2 ^ 64
 
 -- nothing is pending: a crash leaves what a read gives, and this counter

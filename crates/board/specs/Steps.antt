@@ -20,6 +20,15 @@ pub record Called (ok : Bool) (old new : View) : Type 0 where
   pub fuse : new.fuse ≡ burnt old.fuse
   pub stopped : passes (fate_by old.fuse) ≡ false → ok ≡ false
 
+-- a run of calls, one after another: it fails only where the count of faults rose
+pub record CallRun (ok : Bool) (old new : View) : Type 0 where
+  pub size : new.size ≡ old.size
+  pub key : new.key ≡ old.key
+  pub orders : new.state.orders ≡ old.state.orders
+  pub ordered : new.ordered ≡ old.ordered
+  pub faults : old.state.faults ≤ new.state.faults
+  pub cause : ok ≡ false → Rose old.state.faults new.state.faults
+
 -- an order with this number: both counts of orders wrap
 pub record Ordered (number : ℕ) (old new : View) : Type 0 where
   pub size : new.size ≡ old.size

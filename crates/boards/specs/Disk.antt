@@ -1,5 +1,8 @@
 -- What the disk in memory holds, as a moment of the disk model.
-use Rattle.std.specs.Prelude.{◌≡◌, ◌≢◌, ◌<◌, ◌^◌, ℕ, if◌then◌else◌, Bool, true, false, List, [], length, slice_index_or, vec_len}
+use Rattle.std.specs.Prelude.{◌≡◌, ◌≢◌, ◌<◌, ◌≤◌, ◌^◌, ℕ, if◌then◌else◌, Bool, true, false, List, [], length, slice_index_or, vec_len}
+use Rattle.std.proofs.Common.{◌⊎◌, ⊎_elim, sym, ◌∙◌, arith}
+use Rattle.std.proofs.lemmas.Bool.{cases_lt}
+use Rattle.std.proofs.lemmas.List.{get_or_past}
 use Rattle.board.specs.Moment.{Moment}
 use Rattle.boards.specs.declared.disk.Disk.{Disk}
 
@@ -37,6 +40,14 @@ pub record IsWhole (d : Disk) : Type 0 where
   pub counter : d.counter < 2 ^ 64
   pub faults : d.faults < 2 ^ 64
   pub orders : d.orders < 2 ^ 64
+
+-- only blocks of the disk are pending
+pub pending_within : (d : Disk) → IsWhole d → (k : ℕ) → pending_of d k ≡ true → k < vec_len d.durable
+pending_within d whole k pends =
+    ⊎_elim
+    (λ (below : k < vec_len d.durable). below)
+    (λ (past : vec_len d.durable ≤ k). absurd (let none : pending_of d k ≡ false = get_or_past d.pending.items k false (omega (arith, past, whole.pending)) in cc))
+    (cases_lt k (vec_len d.durable))
 
 -- a write that isn't refused offers its bytes, and a crash may leave some of them
 pub record Offers (block : ℕ) (bytes : List ℕ) (refused : Bool) (pending : ℕ → Bool) (old new : ℕ → List ℕ) : Type 0 where

@@ -8,7 +8,7 @@ use Rattle.boards.specs.declared.file.FileBoard.{FileBoard}
 abbrev pub view_of : {F : Type 0} → FileBoard F → View
 view_of b = record {
   size = b.blocks;
-  key = b.key;
+  key = b.keys.key;
   writes = b.counts.writes;
   ordered = b.counts.ordered;
   fuse = b.counts.fuse;
@@ -34,4 +34,4 @@ pub record IsOpened (v : View) : Type 0 where
 
 -- the random seed
 abbrev pub seed_of : {F : Type 0} → FileBoard F → List ℕ
-seed_of b = b.seed
+seed_of b = b.keys.seed

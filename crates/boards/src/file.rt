@@ -5,14 +5,14 @@ ghost use Rattle.boards.specs.FileBoardFailed.{failed_by};
 ghost use Rattle.boards.specs.declared.file.FileBoardFailed.TheVariants.{NoMemory};
 
 use crate::counts::Counts;
+use crate::files::{Keys, Lock, take_keys, take_pair};
 use board::fuse::Fuse;
 use board::{BLOCK, Board, BoardFailed};
 use std::alloc::{AllocError, Global};
-use std::fs::{OpenFile, OpenOptions};
+use std::fs::OpenFile;
+use std::io;
 use std::io::{Read, Seek, SeekFrom, Write};
-use std::path::Path;
 use std::rt::Files;
-use std::{fs, io};
 use thiserror::Error;
 
 /// How many blocks a new image has.
@@ -46,24 +46,29 @@ impl From<io::Error> for FileBoardFailed {
     }
 }
 
-/// A board over files. Its `power` ends the fuse and does nothing else.
+/// A board over files, which this process holds alone. Its `power` ends the fuse and does nothing else.
 #[derive(Drop)]
 pub struct FileBoard<F> {
     image: F,
+    /// A sync of the image failed. The system tells of that once and takes the bytes for written from then on, so no
+    /// later sync is believed.
+    sync_failed: bool,
     counter: F,
-    key: [u8; 32],
-    seed: [u8; 32],
+    /// The number that is on the disk; none after a write or a sync of it failed.
+    number: Option<u64>,
+    keys: Keys<F>,
     blocks: u64,
     counts: Counts,
     ghost in_file: { blocks < 2 ^ 54 },
 }
 
-impl<F: Read + Write + Seek + OpenFile + Drop> FileBoard<F> {
+impl<F: Read + Write + Seek + OpenFile + Lock + Drop> FileBoard<F> {
     ghost use Rattle.boards.specs.FileBoard.{view_of, seed_of, IsOpened};
 
-    /// Opens the board of the files `IMAGE`, `IMAGE.ctr` and `IMAGE.key`. The first two are made, blank, where they
-    /// are missing. `Failed` where the key file is missing or hasn't 64 bytes, where the image isn't whole blocks or
-    /// the counter file hasn't 8 bytes, and where a file can't be used.
+    /// Opens the board of the files `IMAGE`, `IMAGE.ctr` and `IMAGE.key`, and holds them until it is dropped. The first
+    /// two are made, blank, where they are missing. Both are on the disk as they are read from then on. `Failed` where
+    /// the key file is missing or hasn't 64 bytes, where the image isn't whole blocks or the counter file hasn't 8
+    /// bytes, where one of them is no plain file, can't be used, or is held by another process. Then nothing is made.
     pub fn open<R: Files<File = F>>(
         rt: &R,
         alloc: Global,
@@ -71,22 +76,17 @@ impl<F: Read + Write + Seek + OpenFile + Drop> FileBoard<F> {
     ) -> Result<FileBoard<F>, FileBoardFailed>
         ensures { IfOk result (λ b. IsOpened (view_of b)) }
     {
-        let (key, seed) = read_keys(rt, format!(in alloc; "{image}.key")?.as_str())?;
-        let blocks = open_or_make(rt, image, NEW_BLOCKS * BLOCK as u64)?;
-        let counter = open_or_make(
-            rt,
-            format!(in alloc; "{image}.ctr")?.as_str(),
-            COUNTER_BYTES,
-        )?;
-        let bytes = blocks.metadata()?.len();
-        if bytes % BLOCK as u64 != 0 || counter.metadata()?.len() != COUNTER_BYTES {
-            return Err(FileBoardFailed::Failed);
-        }
+        let keys = take_keys(rt, format!(in alloc; "{image}.key")?.as_str())?;
+        let mut pair = take_pair(rt, alloc, image)?;
+        let number = read_number(&mut pair.counter)?;
+        write_number(&mut pair.counter, number)?;
+        let bytes = pair.image.metadata()?.len();
         Ok(FileBoard {
-            image: blocks,
-            counter,
-            key,
-            seed,
+            image: pair.image,
+            sync_failed: false,
+            counter: pair.counter,
+            number: Some(number),
+            keys,
             blocks: bytes / BLOCK as u64,
             counts: Counts::new(),
         })
@@ -96,52 +96,8 @@ impl<F: Read + Write + Seek + OpenFile + Drop> FileBoard<F> {
     pub fn random_seed(&self) -> [u8; 32]
         ensures { result ≡ seed_of self.now }
     {
-        self.seed
+        self.keys.seed
     }
-}
-
-/// How many bytes the counter file has.
-const COUNTER_BYTES: u64 = 8;
-
-/// How many bytes the key file has: the board's key, and the random seed.
-const KEY_BYTES: u64 = 64;
-
-/// The key and the random seed.
-fn read_keys<R: Files>(rt: &R, path: &str) -> Result<([u8; 32], [u8; 32]), FileBoardFailed> {
-    let mut file = fs::open(rt, path)?;
-    if file.metadata()?.len() != KEY_BYTES {
-        return Err(FileBoardFailed::Failed);
-    }
-    let (mut key, mut seed) = ([0; 32], [0; 32]);
-    file.read_exact(&mut key)?;
-    file.read_exact(&mut seed)?;
-    Ok((key, seed))
-}
-
-/// The file, which is made with so many zero bytes where it is missing.
-fn open_or_make<R: Files>(rt: &R, path: &str, bytes: u64) -> io::Result<R::File> {
-    let opened = OpenOptions::new().read(true).write(true).open(rt, path);
-    match opened {
-        Err(error) if error.kind() == io::ErrorKind::NotFound => make(rt, path, bytes),
-        answer => answer,
-    }
-}
-
-/// A new file with so many zero bytes, which is on the disk, and its name too.
-fn make<R: Files>(rt: &R, path: &str, bytes: u64) -> io::Result<R::File> {
-    let file = OpenOptions::new()
-        .read(true)
-        .write(true)
-        .create_new(true)
-        .open(rt, path)?;
-    file.set_len(bytes)?;
-    file.sync_all()?;
-    let folder = match Path::new(path).parent() {
-        Some(folder) if !folder.as_str().is_empty() => folder,
-        _ => Path::new("."),
-    };
-    fs::open(rt, folder)?.sync_all()?;
-    Ok(file)
 }
 
 fn read_at<F: Read + Seek>(file: &mut F, at: u64, into: &mut [u8]) -> io::Result<()> {
@@ -155,23 +111,54 @@ fn write_at<F: Write + Seek>(file: &mut F, at: u64, from: &[u8]) -> io::Result<(
     file.flush()
 }
 
-fn read_counter<F: Read + Seek>(file: &mut F) -> io::Result<u64> {
+/// The number in the counter file.
+fn read_number<F: Read + Seek>(file: &mut F) -> io::Result<u64> {
     let mut bytes = [0; 8];
     read_at(file, 0, &mut bytes)?;
     Ok(u64::from_le_bytes(bytes))
 }
 
-/// Raises the counter by one, on the disk.
-fn raise_counter<F: Read + Write + Seek + OpenFile>(file: &mut F) -> io::Result<u64> {
-    let Some(next) = read_counter(file)?.checked_add(1) else {
+/// Writes the number into the counter file, on the disk. The same number again serves a process that reads what another
+/// wrote: where that one's sync failed, the bytes may be in the system's cache alone, and count as written there.
+fn write_number<F: Write + Seek + OpenFile>(file: &mut F, number: u64) -> io::Result<()> {
+    write_at(file, 0, &number.to_le_bytes())?;
+    file.sync_all()
+}
+
+/// Raises the number by one, on the disk. After a failure the number isn't known any more.
+fn raise_number<F: Write + Seek + OpenFile>(
+    file: &mut F,
+    number: &mut Option<u64>,
+) -> io::Result<u64> {
+    let next = known(*number)?.checked_add(1);
+    let Some(next) = next else {
         return Err(io::ErrorKind::InvalidData.into());
     };
-    write_at(file, 0, &next.to_le_bytes())?;
-    file.sync_all()?;
+    *number = None;
+    write_number(file, next)?;
+    *number = Some(next);
     Ok(next)
 }
 
-impl<F: Read + Write + Seek + OpenFile> Board for FileBoard<F> {
+/// The number, where it is on the disk.
+fn known(number: Option<u64>) -> io::Result<u64> {
+    match number {
+        Some(number) => Ok(number),
+        None => Err(io::ErrorKind::Other.into()),
+    }
+}
+
+/// Syncs the file, unless a sync of it failed before.
+fn sync_once<F: OpenFile>(file: &F, failed: &mut bool) -> io::Result<()> {
+    if *failed {
+        return Err(io::ErrorKind::Other.into());
+    }
+    let answer = file.sync_all();
+    *failed = answer.is_err();
+    answer
+}
+
+impl<F: Read + Write + Seek + OpenFile + Drop> Board for FileBoard<F> {
     ghost use Rattle.boards.specs.FileBoard.{view_of};
 
     ghost tells_reads = { false };
@@ -189,7 +176,7 @@ impl<F: Read + Write + Seek + OpenFile> Board for FileBoard<F> {
     }
 
     fn key(&self) -> [u8; 32] {
-        self.key
+        self.keys.key
     }
 
     fn read(&mut self, block: u64, into: &mut [u8; 1024]) -> Result<(), BoardFailed> {
@@ -207,19 +194,19 @@ impl<F: Read + Write + Seek + OpenFile> Board for FileBoard<F> {
 
     fn sync(&mut self) -> Result<(), BoardFailed> {
         self.counts.begin()?;
-        let answer = self.image.sync_all();
+        let answer = sync_once(&self.image, &mut self.sync_failed);
         self.counts.end(answer)
     }
 
     fn counter(&mut self) -> Result<u64, BoardFailed> {
         self.counts.begin()?;
-        let answer = read_counter(&mut self.counter);
+        let answer = known(self.number);
         self.counts.end(answer)
     }
 
     fn advance(&mut self) -> Result<u64, BoardFailed> {
         self.counts.begin()?;
-        let answer = raise_counter(&mut self.counter);
+        let answer = raise_number(&mut self.counter, &mut self.number);
         self.counts.end(answer)
     }
 

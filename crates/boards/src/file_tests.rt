@@ -80,44 +80,68 @@ fn fresh_files_are_made_and_opened_again(rt: HostRuntime) -> Result<(), Fail> {
     remove(&rt, image.as_str())
 }
 
+/// Whether an opening is refused with `Failed`.
+fn is_refused(rt: &HostRuntime, image: &str) -> bool {
+    let answer = FileBoard::open(rt, rt.alloc(), image);
+    matches!(answer, Err(FileBoardFailed::Failed))
+}
+
+/// Whether there is a file of that name.
+fn is_there(rt: &HostRuntime, image: &str, end: &str) -> Result<bool, Fail> {
+    let path = format!(in rt.alloc(); "{image}{end}")?;
+    Ok(fs::metadata(rt, path.as_str()).is_ok())
+}
+
 #[test]
 fn files_that_are_no_board_are_refused(rt: HostRuntime) -> Result<(), Fail> {
     let image = path_of(&rt, "refused")?;
-    let missing = FileBoard::open(&rt, rt.alloc(), image.as_str());
-    assert!(rt;
-        matches!(missing, Err(FileBoardFailed::Failed)),
-        "no key file"
-    );
-    assert!(rt;
-        fs::metadata(&rt, image.as_str()).is_err(),
-        "nothing is made"
-    );
-    let short = opened(&rt, image.as_str(), &[1; 63])?;
+    let image = image.as_str();
+    let counter = format!(in rt.alloc(); "{image}.ctr")?;
+    assert!(rt; is_refused(&rt, image), "no key file");
+    let short = opened(&rt, image, &[1; 63])?;
     assert!(rt;
         matches!(short, Err(FileBoardFailed::Failed)),
         "a short key file"
     );
-    assert!(rt; opened(&rt, image.as_str(), &keys())?.is_ok());
-    fs::write(&rt, image.as_str(), [0; 1025].as_slice())?;
-    let torn = FileBoard::open(&rt, rt.alloc(), image.as_str());
+    assert!(rt; !is_there(&rt, image, "")?, "nothing is made");
+    fs::write(&rt, image, [0; 1025].as_slice())?;
+    let torn = opened(&rt, image, &keys())?;
     assert!(rt;
         matches!(torn, Err(FileBoardFailed::Failed)),
         "no whole blocks"
     );
-    fs::write(&rt, image.as_str(), [0; 2048].as_slice())?;
-    assert_eq!(rt;
-        FileBoard::open(&rt, rt.alloc(), image.as_str())?.blocks(),
-        2
-    );
-    fs::write(
-        &rt,
-        format!(in rt.alloc(); "{image}.ctr")?.as_str(),
-        [0; 7].as_slice(),
-    )?;
-    let counter = FileBoard::open(&rt, rt.alloc(), image.as_str());
+    assert!(rt; !is_there(&rt, image, ".ctr")?, "no counter file is made");
+    fs::write(&rt, image, [0; 2048].as_slice())?;
+    assert_eq!(rt; FileBoard::open(&rt, rt.alloc(), image)?.blocks(), 2);
+    fs::write(&rt, counter.as_str(), [0; 7].as_slice())?;
+    assert!(rt; is_refused(&rt, image), "a short counter file");
+    fs::remove_file(&rt, image)?;
+    assert!(rt; is_refused(&rt, image), "a short counter file and no image");
+    assert!(rt; !is_there(&rt, image, "")?, "no image is made");
+    fs::create_dir(&rt, image)?;
+    assert!(rt; is_refused(&rt, image), "the image is a folder");
+    fs::remove_dir(&rt, image)?;
+    fs::remove_file(&rt, counter.as_str())?;
+    fs::remove_file(&rt, format!(in rt.alloc(); "{image}.key")?.as_str())?;
+    Ok(())
+}
+
+#[test]
+fn one_board_at_a_time_holds_the_files(rt: HostRuntime) -> Result<(), Fail> {
+    let image = path_of(&rt, "held")?;
+    let image = image.as_str();
+    let left = format!(in rt.alloc(); "{image}.new")?;
+    fs::write(&rt, left.as_str(), [7; 100].as_slice())?;
+    let board = opened(&rt, image, &keys())??;
     assert!(rt;
-        matches!(counter, Err(FileBoardFailed::Failed)),
-        "a short counter file"
+        !is_there(&rt, image, ".new")?,
+        "what was left is taken away"
     );
-    remove(&rt, image.as_str())
+    assert_eq!(rt; fs::metadata(&rt, image)?.len(), 8_951_808);
+    assert!(rt; is_refused(&rt, image), "another opening");
+    drop(board);
+    let mut board = FileBoard::open(&rt, rt.alloc(), image)?;
+    assert_eq!(rt; board.counter()?, 0);
+    drop(board);
+    remove(&rt, image)
 }

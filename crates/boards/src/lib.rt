@@ -4,6 +4,7 @@
 mod counts;
 mod disk;
 mod file;
+mod files;
 mod image;
 mod memory;
 mod past;

@@ -101,6 +101,7 @@ impl MemBoard {
 
 impl Board for MemBoard {
     ghost use Rattle.boards.specs.MemoryBoard.{view_of, memory_of, IsHonest};
+    ghost use Rattle.boards.specs.Disk.{pending_within};
 
     ghost tells_reads = { true };
 
@@ -108,7 +109,7 @@ impl Board for MemBoard {
 
     ghost honest = { IsHonest };
 
-    ghost consistent = { λ b h. record { as_read = b.whole.as_read; whole = b.whole.blocks; counter = b.whole.counter } };
+    ghost consistent = { λ b h. record { as_read = b.whole.as_read; whole = b.whole.blocks; within = pending_within b.disk b.whole; counter = b.whole.counter } };
 
     ghost honest_reads = { λ b h. refl };
 

@@ -1,21 +1,19 @@
 -- Shares that are noted, counted by any test.
-use Rattle.std.proofs.Common.{◌≡◌, ◌<◌, ◌≤◌, ◌+◌, ℕ, Bool, true, false, not, cond, List, Option, None, Some, [], ◌∷◌, ◌++◌, length, get_or, take, filter, position, remove, nat_lt, count_by, sum_by, IsTrue, refl, sym, ap, ◌∙◌, ⊎_elim, arith, rules}
-use Rattle.std.specs.List.{list_any, position_or_len, cons_option}
+use Rattle.std.proofs.Common.{◌≡◌, ◌<◌, ◌≤◌, ◌+◌, ℕ, Bool, true, false, not, cond, List, Option, None, Some, [], ◌∷◌, ◌++◌, length, get_or, take, filter, position, count_by, sum_by, IsTrue, refl, sym, ap, ◌∙◌, ⊎_elim, arith}
+use Rattle.std.specs.List.{cons_option}
 use Rattle.std.specs.Option.{option_to_list}
-use Rattle.std.proofs.lemmas.Bool.{cases_Bool, and_parts, and_from, eq-eqb, both_ways, cond-true, ltb-false, eqb-true}
-use Rattle.std.proofs.lemmas.List.Folds.{list_any_none}
-use Rattle.std.proofs.lemmas.List.Quantifiers.{position-Some}
-use Rattle.std.proofs.lemmas.List.Sums.{sum_by-cons, sum_by-append, sum_by-remove, fails_before_first, sum_by_more, sum_by_more_le_part}
+use Rattle.std.proofs.lemmas.Bool.{cases_Bool, and_from, eq-eqb}
+use Rattle.std.proofs.lemmas.List.Sums.{sum_by-cons, sum_by-append, sum_by_more, sum_by_more_le_part}
 use Rattle.std.proofs.lemmas.List.{take_all}
 use Rattle.std.specs.Str.{bytes_eq}
 use Rattle.std.proofs.lemmas.Slice.Eq.{bytes_eq-Decides}
 use Rattle.tee_base.specs.declared.codes.Flags.{Flags}
 use Rattle.share_rules.specs.declared.index.Share.{Share}
-use Rattle.share_rules.specs.Sharing.{is_on, is_share, is_noted, released, without}
+use Rattle.share_rules.specs.Sharing.{is_share, is_noted}
 use Rattle.handle_table.specs.declared.handle.Handle.{Handle}
 use Rattle.handle_table.specs.declared.handle.Handle.TheVariants.{Persistent, Transient}
 use Rattle.handle_table.specs.declared.handle.Entry.{Entry}
-use Rattle.handle_table.specs.Handles.{share_of, entry_share, shares_of, HoldsFor, is_held, forgotten}
+use Rattle.handle_table.specs.Handles.{share_of, entry_share, shares_of, HoldsFor, Forgets, is_held}
 
 -- 1 where there is a share and it passes
 abbrev pub weight : (Share → Bool) → Option Share → ℕ
@@ -37,31 +35,7 @@ pub count_option : (p : Share → Bool) (xs : List Share) (o : Option Share) →
 count_option p xs None = sum_by-append (λ (s : Share). cond (p s) 1 0) xs []
 count_option p xs (Some s) = omega (arith, sum_by-append (λ (s : Share). cond (p s) 1 0) xs (s ∷ []), sum_by-cons (λ (s : Share). cond (p s) 1 0) s [])
 
--- ---- the first such handle is forgotten
-
-pub share_is : (id : List ℕ) (flags : Flags) (s : Share) → is_share id flags s ≡ true → s ≡ record { id = id; flags = flags }
-share_is id flags s e =
-    let parts = and_parts (is_on id s) _ e in
-    let same_id : s.id ≡ id = (bytes_eq-Decides s.id id).0 parts.0 in
-    let same_flags : s.flags.0 ≡ flags.0 = eqb-true _ _ parts.1 in
-    ap (λ i. (let t : Share = record { id = i; flags = s.flags } in t)) same_id ∙ ap (λ n. (let t : Share = record { id = id; flags = record { 0 = n } } in t)) same_flags
-
-pub count-released : (p : Share → Bool) (xs : List Share) (id : List ℕ) (flags : Flags) → IsTrue (is_noted xs id flags) → count_by p (released xs id flags) + weight p (Some (record { id = id; flags = flags })) ≡ count_by p xs
-count-released p xs id flags there =
-    let q : Share → Bool = is_share id flags in
-    let s : Share = record { id = id; flags = flags } in
-    let f : Share → ℕ = λ s. cond (p s) 1 0 in
-    let at : ℕ = position_or_len q xs in
-    ⊎_elim
-    (λ (yes : nat_lt at (length xs) ≡ true).
-    let place : position q xs ≡ Some at = cond-true (nat_lt at (length xs)) (Some at) None yes in
-    let found = position-Some q xs at s place in
-    let same : get_or xs at s ≡ s = share_is id flags (get_or xs at s) found.1 in
-    ap (λ o. count_by p (without xs o) + f s) place ∙ ap (λ t. count_by p (remove xs at) + f t) (sym same) ∙ sum_by-remove f xs at s found.0)
-    (λ (no : nat_lt at (length xs) ≡ false).
-    let none : list_any q xs ≡ false = list_any_none q xs (λ k d lt. fails_before_first q xs k d (omega (arith, ltb-false at (length xs) no))) in
-    absurd (both_ways (list_any q xs) none (search (rules, there))))
-    (cases_Bool (nat_lt at (length xs)))
+-- ---- a share that is noted
 
 pub noted_from_count : (xs : List Share) (id : List ℕ) (flags : Flags) → 1 ≤ count_by (is_share id flags) xs → IsTrue (is_noted xs id flags)
 noted_from_count [] id flags h = absurd (omega (arith, h))
@@ -85,9 +59,9 @@ pub held_from_weight : (xs : List Share) (h : Handle) → ((p : Share → Bool) 
 held_from_weight xs (Persistent id flags position) le = noted_from_weight xs id flags le
 held_from_weight xs Transient le = refl
 
-pub count-forgotten : (p : Share → Bool) (xs : List Share) (h : Handle) → IsTrue (is_held xs h) → count_by p (forgotten xs h) + weight p (share_of h) ≡ count_by p xs
-count-forgotten p xs (Persistent id flags position) held = count-released p xs id flags held
-count-forgotten p xs Transient held = omega arith
+pub count-forgotten : (p : Share → Bool) (xs ys : List Share) (h : Handle) → Forgets xs ys h → count_by p ys + weight p (share_of h) ≡ count_by p xs
+count-forgotten p xs ys (Persistent id flags position) gains = sym (gains p)
+count-forgotten p xs ys Transient same = omega (arith, ap (count_by p) same)
 
 -- ---- the handles that go, one after the other
 
@@ -106,10 +80,9 @@ pub remains_held : (gone : Entry → Bool) (shares : List Share) (handles : List
 remains_held gone shares handles i x inv inside read =
     held_from_weight shares x.handle (λ p. omega (arith, inv p, sum_by_more_le_part (weight_gone gone p) (weight_of p) handles i x inside (λ e. gone_le (gone e) (weight_of p e)), ap (weight_of p) read))
 
-pub remains_gone : (gone : Entry → Bool) (shares after : List Share) (handles : List Entry) (i : ℕ) (x : Entry) → Remains gone shares handles i → i < length handles → x ≡ get_or handles i x → gone x ≡ true → after ≡ forgotten shares x.handle → Remains gone after handles (i + 1)
+pub remains_gone : (gone : Entry → Bool) (shares after : List Share) (handles : List Entry) (i : ℕ) (x : Entry) → Remains gone shares handles i → i < length handles → x ≡ get_or handles i x → gone x ≡ true → Forgets shares after x.handle → Remains gone after handles (i + 1)
 remains_gone gone shares after handles i x inv inside read test change p =
-    let held : IsTrue (is_held shares x.handle) = remains_held gone shares handles i x inv inside read in
-    omega (arith, inv p, sum_by_more (weight_gone gone p) handles i x inside, ap (weight_gone gone p) read, ap {B = ℕ} (λ b. cond b (weight_of p x) 0) test, count-forgotten p shares x.handle held, ap (count_by p) change)
+    omega (arith, inv p, sum_by_more (weight_gone gone p) handles i x inside, ap (weight_gone gone p) read, ap {B = ℕ} (λ b. cond b (weight_of p x) 0) test, count-forgotten p shares after x.handle change)
 
 pub remains_kept : (gone : Entry → Bool) (shares : List Share) (handles : List Entry) (i : ℕ) (x : Entry) → Remains gone shares handles i → i < length handles → x ≡ get_or handles i x → gone x ≡ false → Remains gone shares handles (i + 1)
 remains_kept gone shares handles i x inv inside read test p =

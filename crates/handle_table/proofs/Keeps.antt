@@ -6,12 +6,12 @@ use Rattle.std.proofs.lemmas.List.Sums.{sum_by-cons, sum_by_push}
 use Rattle.std.proofs.lemmas.List.Filters.{sum_by-filter_both}
 use Rattle.tee_base.specs.declared.codes.Flags.{Flags}
 use Rattle.share_rules.specs.declared.index.Share.{Share}
-use Rattle.share_rules.specs.Sharing.{is_noted, released, conflict}
+use Rattle.share_rules.specs.Sharing.{Gains, is_noted, conflict}
 use Rattle.handle_table.specs.declared.handle.Handle.{Handle}
 use Rattle.handle_table.specs.declared.handle.Entry.{Entry}
 use Rattle.handle_table.specs.declared.handle.Rename.{Rename}
 use Rattle.handle_table.specs.Handles.{Table, IsTable, HoldsFor, noted, shares_of, share_of, entry_share, share_at, pending_share, is_of, is_at, is_full, may_open, change_first, entry_sought, entry_moved}
-use Rattle.handle_table.proofs.Counts.{weight, weight_of, count-shares_of, count_option, count-released, noted_from_weight}
+use Rattle.handle_table.proofs.Counts.{weight, weight_of, count-shares_of, count_option, noted_from_weight}
 use Rattle.handle_table.proofs.Conflicts.{conflict_same}
 use Rattle.handle_table.proofs.Changes.{sum_change, sought_weight, sum_moved, on_other}
 
@@ -62,16 +62,12 @@ added_IsTable before shares t now handles instance number handle same none free 
   noted = unbare shares handles t.pending (none_pending t now same none) (λ p. omega (arith, more p, bare before t.handles t.pending (none_pending t now same none) old.noted p, count-shares_of p t.handles, count-shares_of p handles, ap (sum_by (weight_of p)) change, sum_by_push (weight_of p) t.handles (entry_of instance number handle)));
 }
 
-pub pushed_count : (p : Share → Bool) (xs ys : List Share) (s : Share) → ys ≡ xs ++ s ∷ [] → count_by p ys ≡ count_by p xs + weight p (Some s)
-pushed_count p xs ys s e = ap (count_by p) e ∙ sum_by_push (λ (s : Share). cond (p s) 1 0) xs s
-
-pub pushed_noted : (xs ys : List Share) (id : List ℕ) (flags : Flags) → ys ≡ xs ++ record { id = id; flags = flags } ∷ [] → IsTrue (is_noted ys id flags)
-pushed_noted xs ys id flags e = noted_from_weight ys id flags (λ p. omega (arith, pushed_count p xs ys (record { id = id; flags = flags }) e))
+pub gained_noted : (xs ys : List Share) (id : List ℕ) (flags : Flags) → Gains xs (record { id = id; flags = flags }) ys → IsTrue (is_noted ys id flags)
+gained_noted xs ys id flags gains = noted_from_weight ys id flags (λ p. omega (arith, gains p))
 
 -- the share that was noted is forgotten again
-pub taken_back : (xs ys zs : List Share) (id : List ℕ) (flags : Flags) → ys ≡ xs ++ record { id = id; flags = flags } ∷ [] → zs ≡ released ys id flags → (p : Share → Bool) → count_by p zs ≡ count_by p xs
-taken_back xs ys zs id flags more less p =
-    omega (arith, ap (count_by p) less, count-released p ys id flags (pushed_noted xs ys id flags more), pushed_count p xs ys (record { id = id; flags = flags }) more)
+pub taken_back : (xs ys zs : List Share) (id : List ℕ) (flags : Flags) → Gains xs (record { id = id; flags = flags }) ys → Gains zs (record { id = id; flags = flags }) ys → (p : Share → Bool) → count_by p zs ≡ count_by p xs
+taken_back xs ys zs id flags more less p = omega (arith, more p, less p)
 
 pub same_IsTable : (before shares : List Share) (t : Table) (handles : List Entry) → ((p : Share → Bool) → count_by p shares ≡ count_by p before) → handles ≡ t.handles → IsTable before t → IsTable shares (record { handles = handles; pending = t.pending })
 same_IsTable before shares t handles same stays old =
@@ -117,9 +113,9 @@ pub took_noted : (shares : List Share) (handles : List Entry) (r : Rename) (befo
 took_noted shares handles r before holds at =
     noted_from_weight shares before.id before.flags (λ p. omega (arith, pending_count shares handles r holds p, ap (weight p) at, share_counts p (is_at r.instance r.number) handles))
 
-pub took_holds : (shares : List Share) (handles : List Entry) (r : Rename) (before : Share) (after : List Entry) → Pending shares handles r → Some before ≡ share_at handles r.instance r.number → after ≡ change_first (is_at r.instance r.number) (entry_moved r.to) handles → HoldsFor (released shares before.id before.flags) (shares_of after)
-took_holds shares handles r before after holds at change p =
-    omega (arith, pending_count shares handles r holds p, ap (weight p) at, count-released p shares before.id before.flags (took_noted shares handles r before holds at), count-shares_of p after, ap (sum_by (weight_of p)) change, sum_moved p (is_at r.instance r.number) r.to handles)
+pub took_holds : (shares ys : List Share) (handles : List Entry) (r : Rename) (before : Share) (after : List Entry) → Pending shares handles r → Some before ≡ share_at handles r.instance r.number → after ≡ change_first (is_at r.instance r.number) (entry_moved r.to) handles → Gains ys before shares → HoldsFor ys (shares_of after)
+took_holds shares ys handles r before after holds at change gains p =
+    omega (arith, pending_count shares handles r holds p, ap (weight p) at, gains p, count-shares_of p after, ap (sum_by (weight_of p)) change, sum_moved p (is_at r.instance r.number) r.to handles)
 
 pub took_nothing : (shares : List Share) (handles : List Entry) (r : Rename) (after : List Entry) → Pending shares handles r → None ≡ share_at handles r.instance r.number → after ≡ change_first (is_at r.instance r.number) (entry_moved r.to) handles → HoldsFor shares (shares_of after)
 took_nothing shares handles r after holds at change p =
@@ -130,9 +126,9 @@ pub back_noted : (shares : List Share) (handles : List Entry) (r : Rename) (flag
 back_noted shares handles r flags holds at =
     noted_from_weight shares r.to flags (λ p. omega (arith, pending_count shares handles r holds p, ap (weight p) (moved_pending r.to flags (share_at handles r.instance r.number) at)))
 
-pub back_holds : (shares : List Share) (handles : List Entry) (r : Rename) (flags : Flags) → Pending shares handles r → Some flags ≡ option_map (λ s. s.flags) (share_at handles r.instance r.number) → HoldsFor (released shares r.to flags) (shares_of handles)
-back_holds shares handles r flags holds at p =
-    omega (arith, pending_count shares handles r holds p, ap (weight p) (moved_pending r.to flags (share_at handles r.instance r.number) at), count-released p shares r.to flags (back_noted shares handles r flags holds at), count-shares_of p handles)
+pub back_holds : (shares ys : List Share) (handles : List Entry) (r : Rename) (flags : Flags) → Pending shares handles r → Some flags ≡ option_map (λ s. s.flags) (share_at handles r.instance r.number) → Gains ys (record { id = r.to; flags = flags }) shares → HoldsFor ys (shares_of handles)
+back_holds shares ys handles r flags holds at gains p =
+    omega (arith, pending_count shares handles r holds p, ap (weight p) (moved_pending r.to flags (share_at handles r.instance r.number) at), gains p, count-shares_of p handles)
 
 ended_few : (took : Bool) (handles : List Entry) (r : Rename) → ((i : ℕ) → count_by (is_of i) handles ≤ 16) → (i : ℕ) → count_by (is_of i) (cond took (change_first (is_at r.instance r.number) (entry_moved r.to) handles) handles) ≤ 16
 ended_few true handles r few i = omega (arith, few i, sum_change (is_at r.instance r.number) (entry_moved r.to) (λ (e : Entry). cond (is_of i e) 1 0) (λ e. refl) handles)

@@ -5,8 +5,9 @@ use Rattle.std.specs.Option.{option_and_then}
 use Rattle.std.specs.Str.{bytes_eq}
 use Rattle.tee_base.specs.Numbers.{lowest_free}
 use Rattle.tee_base.specs.declared.codes.Flags.{Flags}
+use Rattle.tee_base.specs.declared.limits.TheConstants.{HANDLES}
 use Rattle.share_rules.specs.declared.index.Share.{Share}
-use Rattle.share_rules.specs.Sharing.{conflict, is_noted, released}
+use Rattle.share_rules.specs.Sharing.{Gains, conflict, is_noted}
 use Rattle.handle_table.specs.declared.handle.Handle.{Handle}
 use Rattle.handle_table.specs.declared.handle.Handle.TheVariants.{Persistent, Transient}
 use Rattle.handle_table.specs.declared.handle.Entry.{Entry}
@@ -61,7 +62,7 @@ abbrev pub is_at : ℕ → ℕ → Entry → Bool
 is_at instance number e = (e.instance == instance) && (e.number == number)
 
 abbrev pub is_full : Table → ℕ → Bool
-is_full t instance = nat_le 16 (count_by (is_of instance) t.handles)
+is_full t instance = nat_le HANDLES (count_by (is_of instance) t.handles)
 
 abbrev pub is_there : Table → ℕ → ℕ → Bool
 is_there t instance number = list_any (is_at instance number) t.handles
@@ -158,11 +159,12 @@ abbrev pub is_held : List Share → Handle → Bool
 is_held shares (Persistent id flags position) = is_noted shares id flags
 is_held shares Transient = true
 
-abbrev pub forgotten : List Share → Handle → List Share
-forgotten shares (Persistent id flags position) = released shares id flags
-forgotten shares Transient = shares
+-- what the handle shares is noted once less
+abbrev pub Forgets : List Share → List Share → Handle → Type 0
+Forgets old new (Persistent id flags position) = Gains new (record { id = id; flags = flags }) old
+Forgets old new Transient = new ≡ old
 
 -- what each table keeps: at most sixteen handles of an instance, and exactly their shares are noted
 pub record IsTable (shares : List Share) (t : Table) : Type 0 where
-  pub few : (instance : ℕ) → count_by (is_of instance) t.handles ≤ 16
+  pub few : (instance : ℕ) → count_by (is_of instance) t.handles ≤ HANDLES
   pub noted : HoldsFor shares (noted t)

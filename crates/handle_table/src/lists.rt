@@ -1,7 +1,7 @@
 //! The lists behind the table, each read or changed by one scan.
 
 ghost use Rattle.std.specs.Prelude.{◌≡◌, ◌≤◌, ◌<◌, ◌++◌, ◌∷◌, [], IsTrue, not, filter, count_by, position, option_map, option_to_list, Some, OnOk, OnErr, IfOk};
-ghost use Rattle.handle_table.specs.Handles.{is_of, is_at, goes, free_number, share_at, change_first, entry_sought, entry_moved, is_held, forgotten, HoldsFor, shares_of, pending_share, ended_by};
+ghost use Rattle.handle_table.specs.Handles.{is_of, is_at, goes, free_number, share_at, change_first, entry_sought, entry_moved, is_held, Forgets, HoldsFor, shares_of, pending_share, ended_by};
 
 use crate::handle::{Closing, Entry, Handle, Rename};
 use arrayvec::ArrayVec;
@@ -80,7 +80,7 @@ pub fn move_to(handles: &mut Vec<Entry>, instance: u8, number: u32, to: Bytes) -
 /// Forgets what the handle shares.
 fn forget(shares: &mut ShareIndex, handle: &Handle)
     requires { IsTrue (is_held shares.old handle.now) }
-    ensures { shares.new ≡ forgotten shares.old handle.now }
+    ensures { Forgets shares.old shares.new handle.now }
 {
     if let Handle::Persistent { id, flags, .. } = handle {
         shares.release(id.as_slice(), *flags);
@@ -112,7 +112,7 @@ pub fn note_rename(
     handles: &[Entry],
     rename: &Rename,
 ) -> Result<(), NoMemory>
-    ensures noted { OnOk result (shares.new ≡ shares.old ++ option_to_list (pending_share (Some rename.now) handles.now)) }
+    ensures noted { OnOk result (HoldsFor shares.new (shares.old ++ option_to_list (pending_share (Some rename.now) handles.now))) }
     ensures unchanged { OnErr result (shares.new ≡ shares.old) }
 {
     let Some(flags) = flags_at(handles, rename.instance, rename.number) else {

@@ -1,6 +1,6 @@
 //! The queue.
 
-ghost use Rattle.std.specs.Prelude.{◌≡◌, ◌<◌, ◌^◌, ◌&&◌, ◌↔◌, IsTrue, IfOk, OnErr, Ok, Err, true, false, not, option_map, is_some, filter, ◌==◌};
+ghost use Rattle.std.specs.Prelude.{◌≡◌, ◌≤◌, ◌^◌, ◌&&◌, ◌↔◌, IsTrue, IfOk, OnErr, Ok, Err, true, false, not, option_map, is_some, filter, ◌==◌};
 
 use crate::operation::{
     Begun, Cancelled, OpFacts, Operation, Progress, QueueAnswer, is_close_call,
@@ -61,7 +61,7 @@ impl OpQueue {
         session: u8,
         call: Call,
     ) -> Result<u64, QueueAnswer>
-        requires { self.old.next < 2 ^ 63 }
+        requires { self.old.next ≤ 2 ^ 63 }
         ensures ok { IfOk result (λ n. (n ≡ self.old.next) × (self.new ≡ submitted self.old client instance session call)) }
         ensures full { (result ≡ Err QueueAnswer.Full) ↔ IsTrue (is_full self.old && not (is_close_call call)) }
         ensures unchanged { OnErr result (self.new ≡ self.old) }
@@ -88,7 +88,7 @@ impl OpQueue {
 
     /// Takes the next number, for a call that is refused at once.
     pub fn skip(&mut self) -> u64
-        requires { self.old.next < 2 ^ 63 }
+        requires { self.old.next ≤ 2 ^ 63 }
         ensures number { result ≡ self.old.next }
         ensures after { self.new ≡ skipped self.old }
     {

@@ -1,7 +1,7 @@
 //! The handles that are noted, by the identifiers of their objects.
 
 ghost use Rattle.std.specs.Prelude.{◌≡◌, position};
-ghost use Rattle.share_rules.specs.Sharing.{is_share};
+ghost use Rattle.share_rules.specs.Sharing.{is_share, released};
 
 use crate::uses::Uses;
 use std::alloc::Global;
@@ -51,8 +51,8 @@ impl Model for ShareIndex {
 }
 
 impl ShareIndex {
-    ghost use Rattle.std.specs.Prelude.{◌≡◌, IsTrue, not, ◌∷◌, [], ◌++◌, OnOk, OnErr};
-    ghost use Rattle.share_rules.specs.Sharing.{conflict, is_noted, released};
+    ghost use Rattle.std.specs.Prelude.{◌≡◌, IsTrue, not, [], OnOk, OnErr};
+    ghost use Rattle.share_rules.specs.Sharing.{Gains, conflict, is_noted};
 
     /// No handle is noted. It takes no memory.
     pub fn new(alloc: Global) -> ShareIndex
@@ -83,7 +83,8 @@ impl ShareIndex {
     ///
     /// NoMemory changes nothing.
     pub fn note(&mut self, id: &[u8], flags: Flags) -> Result<(), NoMemory>
-        ensures noted { OnOk result (self.new ≡ self.old ++ record { id = id.now; flags = flags } ∷ []) }
+        ensures noted { OnOk result (Gains self.old (record { id = id.now; flags = flags }) self.new) }
+        ensures there { OnOk result (IsTrue (is_noted self.new id.now flags)) }
         ensures unchanged { OnErr result (self.new ≡ self.old) }
     {
         let id = Bytes::from_slice(self.alloc, id)?;
@@ -94,11 +95,18 @@ impl ShareIndex {
     /// Forgets one handle on this object with these flags. It takes no memory.
     pub fn release(&mut self, id: &[u8], flags: Flags)
         requires { IsTrue (is_noted self.old id.now flags) }
-        ensures { self.new ≡ released self.old id.now flags }
+        ensures { Gains self.new (record { id = id.now; flags = flags }) self.old }
     {
-        if let Some(place) = place_of(self.shares.as_slice(), id, flags) {
-            drop(self.shares.remove(place));
-        }
+        take_out(&mut self.shares, id, flags);
+    }
+}
+
+/// Takes out the first handle on this object with these flags.
+fn take_out(shares: &mut Vec<Share>, id: &[u8], flags: Flags)
+    ensures { shares.new.items ≡ released shares.old.items id.now flags }
+{
+    if let Some(place) = place_of(shares.as_slice(), id, flags) {
+        drop(shares.remove(place));
     }
 }
 

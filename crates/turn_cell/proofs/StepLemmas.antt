@@ -12,7 +12,7 @@ use Rattle.atomic_table.proofs.Lists.{at_set, set_here, set_else, exchanged}
 use Rattle.turn_cell.specs.declared.view.SeatView.{SeatView}
 use Rattle.turn_cell.specs.declared.view.Turn.{Turn}
 use Rattle.turn_cell.specs.declared.view.Turn.TheVariants.{Free, Taken, Announced}
-use Rattle.turn_cell.specs.View.{segment, ChangesOnlyWithin, opening_view, with_turn, with_word, with_miss, with_look, with_offer, given, settled, taken_parts, taken_trail, announced_parts, announced_trail}
+use Rattle.turn_cell.specs.View.{segment, ChangesOnlyWithin, opening_view, with_turn, with_word, with_miss, with_wait, with_waits, with_look, with_offer, given, settled, taken_parts, taken_trail, announced_parts, announced_trail}
 use Rattle.turn_cell.specs.Rule.{TurnFits, HasTurn, IsHolder, Owns, ViewFits, SeatIs, AtHome, IsConsistent}
 use Rattle.turn_cell.specs.Steps.{TakesTurn, tries, waits, announces, releases, looks, settles}
 use Rattle.turn_cell.proofs.Segments.{prefix_refl, prefix_nil, prefix_trans, prefix_longer, length-segment, segment_whole, all_segment, spared}
@@ -191,32 +191,32 @@ module _ {T P E : Type 0} (parts_of : T → List P) (trail_of : T → List E) (m
       (λ h. still s.views id v w (IsHolder (slice_index s.words 0)) at (λ (o : IsHolder (slice_index s.words 0) v). (turn o.0, let p = o.1 in omega arith, let p = o.2 in omega arith)) r.holder (r.held h))
       fits (λ j u ne e. r.each j u e)
 
-  abbrev counted_view : SeatView P E → ℕ → ℕ → ℕ → ℕ → SeatView P E
-  counted_view v misses missed_word looks found_word = record v { misses = misses; missed_word = missed_word; looks = looks; found_word = found_word }
+  abbrev counted_view : SeatView P E → ℕ → ℕ → ℕ → ℕ → ℕ → SeatView P E
+  counted_view v misses missed_word waiting_tries looks found_word = record v { misses = misses; missed_word = missed_word; waiting_tries = waiting_tries; looks = looks; found_word = found_word }
 
   -- its counters alone
-  pub counts : (s : Cell) (r : Rule s) (id : ℕ) (c : List (ℕ × Option T)) (v : SeatView P E) (misses missed_word looks found_word : ℕ) → get_elem? s.views id ≡ logic.some v
-      → Rule (stepped s 0 (slice_index s.words 0) id c (counted_view v misses missed_word looks found_word) keeps)
-  counts s r id c v misses missed_word looks found_word at =
+  pub counts : (s : Cell) (r : Rule s) (id : ℕ) (c : List (ℕ × Option T)) (v : SeatView P E) (misses missed_word waiting_tries looks found_word : ℕ) → get_elem? s.views id ≡ logic.some v
+      → Rule (stepped s 0 (slice_index s.words 0) id c (counted_view v misses missed_word waiting_tries looks found_word) keeps)
+  counts s r id c v misses missed_word waiting_tries looks found_word at =
       let f = r.each id v at in
-      stays s r id c v (counted_view v misses missed_word looks found_word) at refl refl (λ h. h)
+      stays s r id c v (counted_view v misses missed_word waiting_tries looks found_word) at refl refl (λ h. h)
       record { inside = f.inside; owns = f.owns; knows = f.knows; knew = f.knew; behind = f.behind; incoming_behind = f.incoming_behind; turn_fits = f.turn_fits }
 
   -- the load of a look
   pub looks_allowed : (slots id : ℕ) (me : Me (Option T) (SeatView P E)) → Allows Rule slots id me 0 (λ n. n) (looks me)
   looks_allowed slots id me s r h at b =
       let word = slice_index s.words 0 in
-      (with_look me.0 word, keeps, tt, counts s r id me.1 me.0 me.0.misses me.0.missed_word (me.0.looks + 1) word at, refl)
+      (with_look me.0 word, keeps, tt, counts s r id me.1 me.0 me.0.misses me.0.missed_word me.0.waiting_tries (me.0.looks + 1) word at, refl)
 
   -- the word is 0, and the seat takes the turn: the value's parts and trail are taken down
-  takes_turn : (s : Cell) (r : Rule s) (id n : ℕ) (c : List (ℕ × Option T)) (v : SeatView P E) → get_elem? s.views id ≡ logic.some v
+  takes_turn : (s : Cell) (r : Rule s) (id n : ℕ) (c : List (ℕ × Option T)) (v : SeatView P E) (tries_made : ℕ) → get_elem? s.views id ≡ logic.some v
       → n ≡ v.first + 1 → 0 < length v.own → slice_index s.words 0 ≡ 0
-      → (w : SeatView P E) × (a : Act (Option T)) × Valid s.homes c a × Rule (stepped s 0 n id c w a) × TakesTurn parts_of trail_of (v, c) (w, carried_after c a)
-  takes_turn s r id n c v at number some_part free =
+      → (w : SeatView P E) × (a : Act (Option T)) × Valid s.homes c a × Rule (stepped s 0 n id c w a) × TakesTurn parts_of trail_of (with_waits v tries_made, c) (w, carried_after c a)
+  takes_turn s r id n c v tries_made at number some_part free =
       let home = r.home free in
       let x : T = home.0 in
       let f = r.each id v at in
-      let w : SeatView P E = with_turn v (Taken (parts_of x) (trail_of x)) 0 in
+      let w : SeatView P E = with_turn (with_waits v tries_made) (Taken (parts_of x) (trail_of x)) 0 in
       let f' : ViewFits n id r.owner made r.parts r.trail id w = record {
         inside = f.inside;
         owns = f.owns;
@@ -256,8 +256,8 @@ module _ {T P E : Type 0} (parts_of : T → List P) (trail_of : T → List E) (m
       let v : SeatView P E = me.0 in
       exchanged word 0 n
       (λ (k : ℕ). (w : SeatView P E) × (a : Act (Option T)) × Valid s.homes me.1 a × Rule (stepped s 0 k id me.1 w a) × tries parts_of trail_of me word (w, carried_after me.1 a))
-      (λ free. let t = takes_turn s r id n me.1 v at number some_part free in (t.0, t.1, t.2, t.3, (λ e. t.4, λ ne. absurd (ne free))))
-      (λ out. (with_miss v word, keeps, tt, counts s r id me.1 v (v.misses + 1) word v.looks word at, (λ e. absurd (out e), λ ne. refl)))
+      (λ free. let t = takes_turn s r id n me.1 v v.waiting_tries at number some_part free in (t.0, t.1, t.2, t.3, (λ e. t.4, λ ne. absurd (ne free))))
+      (λ out. (with_miss v word, keeps, tt, counts s r id me.1 v (v.misses + 1) word v.waiting_tries v.looks word at, (λ e. absurd (out e), λ ne. refl)))
 
   -- the step of a seat that waits
   pub waits_allowed : (slots id n : ℕ) (me : Me (Option T) (SeatView P E)) → n ≡ me.0.first + 1 → 0 < length me.0.own
@@ -267,8 +267,8 @@ module _ {T P E : Type 0} (parts_of : T → List P) (trail_of : T → List E) (m
       let v : SeatView P E = me.0 in
       exchanged word 0 n
       (λ (k : ℕ). (w : SeatView P E) × (a : Act (Option T)) × Valid s.homes me.1 a × Rule (stepped s 0 k id me.1 w a) × waits parts_of trail_of me word (w, carried_after me.1 a))
-      (λ free. let t = takes_turn s r id n me.1 v at number some_part free in (t.0, t.1, t.2, t.3, (λ e. t.4, λ ne. absurd (ne free))))
-      (λ out. (with_word v word, keeps, tt, counts s r id me.1 v v.misses v.missed_word v.looks word at, (λ e. absurd (out e), λ ne. refl)))
+      (λ free. let t = takes_turn s r id n me.1 v (v.waiting_tries + 1) at number some_part free in (t.0, t.1, t.2, t.3, (λ e. t.4, λ ne. absurd (ne free))))
+      (λ out. (with_word (with_wait v) word, keeps, tt, counts s r id me.1 v v.misses v.missed_word (v.waiting_tries + 1) v.looks word at, (λ e. absurd (out e), λ ne. refl)))
 
   -- the step in which a seat with the turn announces the value that it gives
   pub announces_allowed : (slots id n : ℕ) (me : Me (Option T) (SeatView P E)) (value : T) → n ≡ me.0.first + 1

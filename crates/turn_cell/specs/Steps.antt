@@ -5,7 +5,7 @@ use mathlib.Core.List.{IsPrefix}
 use Rattle.atomic_table.specs.Table.{Me}
 use Rattle.turn_cell.specs.declared.view.SeatView.{SeatView}
 use Rattle.turn_cell.specs.declared.view.Turn.TheVariants.{Taken}
-use Rattle.turn_cell.specs.View.{Continues, with_turn, with_word, with_miss, with_look, with_offer, released, settled}
+use Rattle.turn_cell.specs.View.{Continues, with_turn, with_word, with_miss, with_wait, with_look, with_offer, released, settled}
 
 module _ {T P E : Type 0} (parts_of : T → List P) (trail_of : T → List E) where
   -- the turn is taken: the value's parts and trail are taken down, and the slot is in the seat's hands
@@ -17,9 +17,9 @@ module _ {T P E : Type 0} (parts_of : T → List P) (trail_of : T → List E) wh
   abbrev pub tries : Me (Option T) (SeatView P E) → ℕ → Me (Option T) (SeatView P E) → Type 0
   tries me word me' = (word ≡ 0 → TakesTurn me me') × (word ≢ 0 → me' ≡ (with_miss me.0 word, me.1))
 
-  -- a try of a seat that waits takes the turn, or finds the word
+  -- a try of a seat that waits takes the turn, or finds the word; it is counted as such a try
   abbrev pub waits : Me (Option T) (SeatView P E) → ℕ → Me (Option T) (SeatView P E) → Type 0
-  waits me word me' = (word ≡ 0 → TakesTurn me me') × (word ≢ 0 → me' ≡ (with_word me.0 word, me.1))
+  waits me word me' = (word ≡ 0 → TakesTurn (with_wait me.0, me.1) me') × (word ≢ 0 → me' ≡ (with_word (with_wait me.0) word, me.1))
 
   -- the value that will be given is announced
   abbrev pub announces : logic.Option (Option T) → Me (Option T) (SeatView P E) → Me (Option T) (SeatView P E) → Type 0

@@ -34,6 +34,7 @@ module _ {P E : Type 0} where
     turn = Free;
     misses = 0;
     missed_word = 0;
+    waiting_tries = 0;
     looks = 0;
     found_word = 0;
   }
@@ -49,6 +50,14 @@ module _ {P E : Type 0} where
   -- a try found the word, which wasn't 0
   abbrev pub with_miss : SeatView P E → ℕ → SeatView P E
   with_miss v word = record v { misses = v.misses + 1; missed_word = word; found_word = word }
+
+  -- so many tries were made while the seat waited
+  abbrev pub with_waits : SeatView P E → ℕ → SeatView P E
+  with_waits v count = record v { waiting_tries = count }
+
+  -- one more such try
+  abbrev pub with_wait : SeatView P E → SeatView P E
+  with_wait v = with_waits v (v.waiting_tries + 1)
 
   -- a look found the word
   abbrev pub with_look : SeatView P E → ℕ → SeatView P E
@@ -77,6 +86,7 @@ module _ {P E : Type 0} where
     turn = Free;
     misses = 0;
     missed_word = 0;
+    waiting_tries = 0;
     looks = 0;
     found_word = 0;
   }

@@ -30,7 +30,7 @@ impl<T: Parted> Play<Option<T>, SeatView<T::Part, T::Entry>> for Try<T> {
     ghost then = { λ step. tries T.parts_of T.trail_of };
 }
 
-/// A try that counts none.
+/// A try of a seat that waits, which counts that it was made.
 pub struct Await<T> {
     marker: PhantomData<T>,
 }

@@ -28,6 +28,8 @@ pub struct SeatView<P, E> {
     pub misses: u64,
     /// The word that the last of these tries found.
     pub missed_word: u64,
+    /// How many tries it made while it waited; `take` alone makes them.
+    pub waiting_tries: u64,
     /// How often it looked at the word.
     pub looks: u64,
     /// The word that it found last.

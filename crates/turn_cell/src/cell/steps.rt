@@ -1,7 +1,7 @@
 // The turn: how a seat takes the value, gives it back, and looks at the word.
 ghost use Rattle.std.specs.Prelude.{◌≡◌, ◌≢◌, ◌+◌, ◌<◌, [], ◌∷◌, IfErr, IfOk, None, OnErr, OnOk, Some, length};
 ghost use Rattle.turn_cell.specs.Steps.{tries, waits};
-ghost use Rattle.turn_cell.specs.View.{Continues, with_turn, with_word, with_miss, with_look, with_offer, given};
+ghost use Rattle.turn_cell.specs.View.{Continues, with_turn, with_word, with_miss, with_wait, with_waits, with_look, with_offer, given};
 ghost use Rattle.turn_cell.specs.View.{HoldsTurn, Offers, KeepsOtherParts, ExtendsTrail, released};
 ghost use Rattle.turn_cell.specs.Words.{view, IsFree, IsSeatOf, HasTaken, HoldsValue, name_of};
 
@@ -11,13 +11,15 @@ use crate::plays::{Announce, Await, Look, Release, Try};
 use std::sync::Wait;
 
 impl<T: Parted> TurnCell<T> {
-    /// Takes the value. It waits while the value is out, and counts no miss.
+    /// Takes the value. It waits while the value is out, and counts no miss: its tries are counted apart.
     pub fn take<R: Wait>(&self, rt: &R, seat: &mut CellSeat<T>) -> T
         requires own { IsSeatOf self.now seat.old }
         requires free { IsFree seat.old }
         ensures own { IsSeatOf self.now seat.new }
         ensures taken { HasTaken T.parts_of T.trail_of seat.new result }
-        ensures others { view seat.new ≡ with_turn (view seat.old) (view seat.new).turn 0 }
+        ensures others { view seat.new
+            ≡ with_turn (with_waits (view seat.old) (view seat.new).waiting_tries) (view seat.new).turn 0 }
+        ensures waited { (view seat.old).waiting_tries < (view seat.new).waiting_tries }
         ensures continues { Continues T.parts_of T.trail_of (view seat.old) result }
     {
         for _ in rt.forever() {
@@ -36,10 +38,10 @@ impl<T: Parted> TurnCell<T> {
         requires free { IsFree seat.old }
         ensures own { IsSeatOf self.now seat.new }
         ensures taken { IfOk result (HasTaken T.parts_of T.trail_of seat.new) }
-        ensures others { OnOk result (view seat.new ≡ with_turn (view seat.old) (view seat.new).turn 0) }
+        ensures others { OnOk result (view seat.new ≡ with_turn (with_wait (view seat.old)) (view seat.new).turn 0) }
         ensures continues { IfOk result (Continues T.parts_of T.trail_of (view seat.old)) }
         ensures free { OnErr result (IsFree seat.new) }
-        ensures found { IfErr result (λ word. view seat.new ≡ with_word (view seat.old) word) }
+        ensures found { IfErr result (λ word. view seat.new ≡ with_word (with_wait (view seat.old)) word) }
     {
         let own_word = seat.own_word();
         let word = self.waiting_step(&mut seat.seat, own_word);
@@ -62,7 +64,7 @@ impl<T: Parted> TurnCell<T> {
             .compare_exchange::<Await<T>>(seat, 0, 0, own_word)
     }
 
-    /// Takes the value, or finds that it is out and counts a miss. It tries once.
+    /// Takes the value, or finds that it is out and counts a miss. It tries once, and makes no try of a seat that waits.
     pub fn try_take(&self, seat: &mut CellSeat<T>) -> Result<T, Busy>
         requires own { IsSeatOf self.now seat.old }
         requires free { IsFree seat.old }

@@ -1,6 +1,6 @@
 use Rattle.std.proofs.Common.{IsTrue, ap, sym, subst, ◌∙◌, List, ℕ, option_map}
-use Rattle.share_rules.specs.Sharing.{is_noted, released}
-use Rattle.handle_table.specs.Handles.{HoldsFor, shares_of, share_at}
+use Rattle.share_rules.specs.Sharing.{Gains, is_noted}
+use Rattle.handle_table.specs.Handles.{share_at}
 use Rattle.handle_table.proofs.Keeps.{took_noted, took_holds, took_nothing, back_noted, back_holds}
 use Rattle.handle_table.proofs.lists.end_rename.Goals as goal
 
@@ -9,8 +9,8 @@ release-requires c = subst (λ (id : List ℕ). IsTrue (is_noted c.args.shares.n
 
 pub returns-in-Some-clause-shares : goal.returns-in-Some-clause-shares
 returns-in-Some-clause-shares c =
-    let holds : HoldsFor (released c.args.shares.now c.in-Some.before.id c.in-Some.before.flags) (shares_of c.move_to.new.handles.items) = took_holds c.args.shares.now c.args.handles.now.items c.args.rename c.in-Some.before c.move_to.new.handles.items c.requires c.in-Some.ensures.before c.move_to.ensures.after in
-    subst (λ s. HoldsFor s (shares_of c.move_to.new.handles.items)) (sym (c.release.ensures ∙ ap (λ (id : List ℕ). released c.args.shares.now id c.in-Some.before.flags) c.as_slice.ensures)) holds
+    took_holds c.args.shares.now c.release.new.self c.args.handles.now.items c.args.rename c.in-Some.before c.move_to.new.handles.items c.requires c.in-Some.ensures.before c.move_to.ensures.after
+    (subst (λ (id : List ℕ). Gains c.release.new.self (record { id = id; flags = c.in-Some.before.flags }) c.args.shares.now) c.as_slice.ensures c.release.ensures)
 
 pub returns-then-took-clause-shares : goal.returns-then-took-clause-shares
 returns-then-took-clause-shares c = took_nothing c.args.shares.now c.args.handles.now.items c.args.rename c.move_to.new.handles.items c.requires c.in_default.ensures.before c.move_to.ensures.after
@@ -20,5 +20,5 @@ release-requires-in-Some-flags_at c = subst (λ (id : List ℕ). IsTrue (is_note
 
 pub returns-in-Some-flags_at-clause-shares : goal.returns-in-Some-flags_at-clause-shares
 returns-in-Some-flags_at-clause-shares c =
-    let holds : HoldsFor (released c.args.shares.now c.args.rename.to c.in-Some-flags_at.flags) (shares_of c.args.handles.now.items) = back_holds c.args.shares.now c.args.handles.now.items c.args.rename c.in-Some-flags_at.flags c.requires (c.in-Some-flags_at.ensures ∙ ap (λ hs. option_map (λ s. s.flags) (share_at hs c.args.rename.instance c.args.rename.number)) c.as_slice-else-took.ensures.value) in
-    subst (λ s. HoldsFor s (shares_of c.args.handles.now.items)) (sym (c.release-in-Some-flags_at.ensures ∙ ap (λ (id : List ℕ). released c.args.shares.now id c.in-Some-flags_at.flags) c.as_slice-in-Some-flags_at.ensures)) holds
+    back_holds c.args.shares.now c.release-in-Some-flags_at.new.self c.args.handles.now.items c.args.rename c.in-Some-flags_at.flags c.requires (c.in-Some-flags_at.ensures ∙ ap (λ hs. option_map (λ s. s.flags) (share_at hs c.args.rename.instance c.args.rename.number)) c.as_slice-else-took.ensures.value)
+    (subst (λ (id : List ℕ). Gains c.release-in-Some-flags_at.new.self (record { id = id; flags = c.in-Some-flags_at.flags }) c.args.shares.now) c.as_slice-in-Some-flags_at.ensures c.release-in-Some-flags_at.ensures)

@@ -1,6 +1,8 @@
-use Rattle.share_rules.specs.Sharing.{is_share}
-use Rattle.share_rules.proofs.Together.{removed_at}
+use Rattle.std.proofs.Common.{List, ap, ◌∙◌}
+use Rattle.share_rules.specs.declared.index.Share.{Share}
+use Rattle.share_rules.specs.Sharing.{released}
+use Rattle.share_rules.proofs.Counts.{released_gains}
 use Rattle.share_rules.proofs.index.ShareIndex.release.Goals as goal
 
-pub returns-in-Some : goal.returns-in-Some
-returns-in-Some c = removed_at (is_share c.args.id.now c.args.flags) c.as_slice.result.now c.self.inside.shares.items c.args.self.now c.remove.new.self.items c.in-Some.place c.remove.ensures.items c.self.view_is c.in-Some.ensures c.as_slice.ensures.value
+pub returns : goal.returns
+returns c = released_gains c.args.self.now c.take_out.new.shares.items c.args.id.now c.args.flags c.requires (c.take_out.ensures ∙ ap (λ (xs : List Share). released xs c.args.id.now c.args.flags) c.self.view_is)

@@ -1,0 +1,117 @@
+-- The advance that ends a search for the header that counts, and what a crash within the search leaves.
+use Rattle.std.proofs.Common.{◌≡◌, ◌≢◌, ◌≤◌, ◌<◌, ◌+◌, ◌-◌, ◌⊎◌, ◌∙◌, ℕ, Bool, false, List, Option, Some, None, Result, Ok, Err, nat_lt, refl, sym, ap, subst, inl, inr, ⊎_elim, arith}
+use Rattle.tee_base.specs.Crash.{LeavesOnly}
+use Rattle.tee_base.proofs.Crash.{weaker}
+use Rattle.board.specs.declared.BoardFailed.{BoardFailed}
+use Rattle.board.specs.Moment.{Outcome, Moment, View, IsCounter, moment, left_since}
+use Rattle.board.specs.Steps.{Answered, Advanced}
+use Rattle.board.specs.Runs.{IsBase, LeavesBase, RunsOver, Rests}
+use Rattle.board.proofs.Runs.{base-wider, rests_base, run_starts, run_goes_on}
+use Rattle.epoch.specs.Finding.{IsSettledAt, OpensBelow}
+use Rattle.epoch.specs.Opening.{IsRuled, header_answer, opening_by, opening_of, opens_as}
+use Rattle.epoch.specs.Slots.{slot_of}
+use Rattle.epoch.specs.Steps.{outcome_opening}
+use Rattle.epoch.specs.declared.answer.OpenAnswer.{OpenAnswer}
+use Rattle.epoch.specs.declared.answer.OpenAnswer.TheVariants.{Failed}
+use Rattle.epoch.specs.declared.header.Header.{Header}
+use Rattle.epoch.specs.declared.rule.Found.{Found}
+use Rattle.epoch.specs.declared.slots.Slot.{Slot}
+use Rattle.epoch.proofs.RuleLemmas.{opens_at_two}
+
+module _ (open_at : ℕ → Bool) (base : ℕ → List ℕ) (low high n : ℕ) where
+  raised : (old new : Moment) (result : Result ℕ BoardFailed) → IsBase open_at base low high old → IsSettledAt n old → n + 1 ≤ high → Advanced result old new → IsBase open_at base low high new
+  raised old new (Ok m) is settled room advanced =
+      let up = advanced.counter in
+      record {
+        reads = λ k shut. ap (λ (f : ℕ → List ℕ). f k) advanced.blocks.reads ∙ is.reads k shut;
+        durable = λ k shut. ap (λ (f : ℕ → List ℕ). f k) advanced.blocks.durable ∙ is.durable k shut;
+        pending = λ k shut. ap (λ (f : ℕ → Bool). f k) advanced.blocks.pending ∙ is.pending k shut;
+        least = omega (arith, is.least, up.positive, up.among.least, up.counter);
+        greatest = omega (arith, room, up.positive, up.among.greatest, up.counter, up.slack, settled.counter, settled.slack);
+      }
+  raised old new (Err e) is settled room advanced =
+      let failed = advanced.counter in
+      record {
+        reads = λ k shut. ap (λ (f : ℕ → List ℕ). f k) advanced.blocks.reads ∙ is.reads k shut;
+        durable = λ k shut. ap (λ (f : ℕ → List ℕ). f k) advanced.blocks.durable ∙ is.durable k shut;
+        pending = λ k shut. ap (λ (f : ℕ → Bool). f k) advanced.blocks.pending ∙ is.pending k shut;
+        least = omega (arith, is.least, failed.0);
+        greatest = omega (arith, room, failed.0, failed.1, settled.counter, settled.slack);
+      }
+
+  pub over_raise : (first old new : View) (result : Result ℕ BoardFailed) → RunsOver open_at base low high first old → Answered old new → IsSettledAt n old.state → n + 1 ≤ high → Advanced result old.state new.state → RunsOver open_at base low high first new
+  over_raise first old new result run answered settled room advanced =
+      run_goes_on open_at base low high first old new run answered.time (raised old.state new.state result run.now settled room advanced)
+
+pub settled_raise : (n m : ℕ) (old new : Moment) → IsSettledAt n old → Advanced (Ok m) old new → IsSettledAt (n + 1) new
+settled_raise n m old new settled advanced =
+    let up = advanced.counter in
+    record {
+      counter = omega (arith, up.positive, up.among.least, up.among.greatest, up.counter, settled.counter, settled.slack);
+      slack = up.slack;
+    }
+
+-- how far the counter may rise where a board opens so
+abbrev pub top : Result (Option Found) OpenAnswer → ℕ → ℕ
+top (Ok (Some found)) n = found.header.sequence
+top (Ok None) n = n
+top (Err _) n = n
+
+module _ (version : ℕ) (key : List ℕ) (image : ℕ → List ℕ) (n : ℕ) where
+  opens_between : (r : Result (Option Found) OpenAnswer) → opening_of version key image n ≡ r → (m : ℕ) → n ≤ m → m ≤ top r n → opening_of version key image m ≡ opening_of version key image n
+  opens_between (Ok (Some found)) e m low high =
+      let two = opens_at_two version key image n found e in
+      two.2 m high (omega (arith, two.1, low)) ∙ sym e
+  opens_between (Ok None) e m low high = ap (opening_of version key image) (let same : m ≡ n = omega arith in same)
+  opens_between (Err answer) e m low high = ap (opening_of version key image) (let same : m ≡ n = omega arith in same)
+
+  pub opens_below : OpensBelow version key image n (top (opening_of version key image n) n)
+  opens_below m found low high e =
+      let same : opening_of version key image n ≡ Ok (Some found) = sym (opens_between (opening_of version key image n) refl m low high) ∙ e in
+      let at_top : top (opening_of version key image n) n ≡ found.header.sequence = ap (λ (r : Result (Option Found) OpenAnswer). top r n) same in
+      omega (arith, at_top)
+
+pub find_crash : (version n : ℕ) (old new : View) → RunsOver (λ k. false) old.state.reads n (top (opening_of version old.key old.state.reads n) n) old new → LeavesOnly moment left_since old new (λ c. outcome_opening version old.key c ≡ opening_of version old.key old.state.reads n)
+find_crash version n old new run =
+    weaker moment left_since old new (LeavesBase (λ k. false) old.state.reads n (top (opening_of version old.key old.state.reads n) n)) (λ c. outcome_opening version old.key c ≡ opening_of version old.key old.state.reads n)
+    (λ c leaves.
+    let same : c.image ≡ old.state.reads = λ i k. leaves.image k refl i in
+    ap (λ (f : ℕ → List ℕ). opening_of version old.key f c.counter) same
+    ∙ opens_between version old.key old.state.reads n (opening_of version old.key old.state.reads n) refl c.counter leaves.least leaves.greatest)
+    run.leaves
+
+-- before the first call
+at_most_top : (version : ℕ) (key : List ℕ) (image : ℕ → List ℕ) (n : ℕ) (r : Result (Option Found) OpenAnswer) → opening_of version key image n ≡ r → n ≤ top r n
+at_most_top version key image n (Ok (Some found)) e = (opens_at_two version key image n found e).0
+at_most_top version key image n (Ok None) e = omega arith
+at_most_top version key image n (Err answer) e = omega arith
+
+pub find_starts : (version n : ℕ) (v : View) → Rests n v.state → RunsOver (λ k. false) v.state.reads n (top (opening_of version v.key v.state.reads n) n) v v
+find_starts version n v rests =
+    run_starts (λ k. false) v.state.reads n (top (opening_of version v.key v.state.reads n) n) v
+    (base-wider (λ k. false) (λ k. false) v.state.reads n n (top (opening_of version v.key v.state.reads n) n) v.state (λ k shut. shut) (at_most_top version v.key v.state.reads n (opening_of version v.key v.state.reads n) refl) (rests_base n v.state rests (λ k. false)))
+
+-- what was judged is what the image opens to
+pub judged_opening : (version : ℕ) (key : List ℕ) (image : ℕ → List ℕ) (first second : Slot) (n : ℕ) (r : Result (Option Found) OpenAnswer) → first ≡ slot_of key image 0 → second ≡ slot_of key image 1 → r ≡ opening_by version first second n → r ≡ opening_of version key image n
+unfolding opening_of
+judged_opening version key image first second n r one two is = is ∙ rw (one, two) refl
+
+-- an answer that is what was judged, on a board that is large enough
+pub ruled_answer : (version blocks size : ℕ) (key : List ℕ) (image : ℕ → List ℕ) (n : ℕ) (r : Result (Option Found) OpenAnswer) (result : Result (Option Header) OpenAnswer) → blocks ≤ size → r ≡ opening_of version key image n → (result ≢ Err Failed → result ≡ header_answer r) → IsRuled result (opens_as version blocks size key image n)
+ruled_answer version blocks size key image n r result large is answers made =
+    let enough : nat_lt size blocks ≡ false = grind arith in
+    rw enough (answers made ∙ ap header_answer is)
+
+-- a header that counts lies between the counter and the highest that may count
+pub record IsBetween (low high n sequence : ℕ) : Type 0 where
+  pub counter : n ≤ high
+  pub highest : sequence ≤ high
+  pub least : n ≤ sequence
+  pub most : sequence ≤ n + 1
+
+pub between : (version : ℕ) (key : List ℕ) (open_at : ℕ → Bool) (base : ℕ → List ℕ) (low high n : ℕ) (m : Moment) (found : Found) → IsBase open_at base low high m → IsCounter m n → OpensBelow version key m.reads low high → opening_of version key m.reads n ≡ Ok (Some found) → IsBetween low high n found.header.sequence
+between version key open_at base low high n m found is among opens e =
+    let two = opens_at_two version key m.reads n found e in
+    let counter : n ≤ high = omega (arith, among.greatest, is.greatest) in
+    let above : low ≤ n = omega (arith, among.least, is.least) in
+    record { counter = counter; highest = opens n found above counter e; least = two.0; most = two.1 }

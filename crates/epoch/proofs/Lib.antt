@@ -1,0 +1,5 @@
+pub mod FindLemmas
+pub mod HeaderLemmas
+pub mod RuleLemmas
+pub mod RunLemmas
+pub mod StageLemmas

@@ -1,0 +1,76 @@
+use Rattle.std.proofs.Common.{◌≡◌, ◌≢◌, ◌≤◌, ◌∙◌, ℕ, List, false, Some, None, Result, Ok, Err, refl, sym, ap, subst, arith}
+use Rattle.seal.specs.Keys.{AreKeysOf}
+use Rattle.epoch.specs.Finding.{IsSettledAt}
+use Rattle.epoch.specs.Opening.{IsRuled, header_answer, opening_of, opens_as}
+use Rattle.epoch.specs.declared.answer.OpenAnswer.TheVariants.{Failed}
+use Rattle.epoch.specs.declared.find.TheConstants.{VOLUME_BLOCKS}
+use Rattle.epoch.proofs.FindLemmas.{find_starts, find_crash, opens_below, judged_opening, ruled_answer, between}
+use Rattle.epoch.proofs.find.find_version.Goals as goal
+use Rattle.epoch.proofs.find.find_version.Goals.{in-Err, in-Ok-None, in-Ok-Some}
+
+pub returns-then-blocks-lt-VOLUME_BLOCKS-clause-crash : goal.returns-then-blocks-lt-VOLUME_BLOCKS-clause-crash
+returns-then-blocks-lt-VOLUME_BLOCKS-clause-crash g c h n rests = find_crash c.args.version n _ _ (find_starts c.args.version n _ rests)
+
+pub returns-in_err-seen-clause-run : goal.returns-in_err-seen-clause-run
+returns-in_err-seen-clause-run g c h open_at base low high first opens run = c.in_err-seen.ensures.run h open_at base low high first run
+
+pub returns-in_err-seen-clause-crash : goal.returns-in_err-seen-clause-crash
+returns-in_err-seen-clause-crash g c h n rests =
+    find_crash c.args.version n _ _ (c.in_err-seen.ensures.run h (λ k. false) (g.B.Board.view c.args.board.now).state.reads n _ _ (find_starts c.args.version n _ rests))
+
+pub returns-clause-rule : goal.returns-clause-rule
+returns-clause-rule g c tells =
+    let v = g.B.Board.view c.args.board.now in
+    let keys : AreKeysOf c.of-keys.result v.key = subst (λ (k : List ℕ). AreKeysOf c.of-keys.result k) c.key.ensures c.of-keys.ensures in
+    let slots = c.in_ok-seen.ensures.slots tells v.key keys in
+    let told = judged_opening c.args.version v.key v.state.reads c.in_ok-seen.seen.first c.in_ok-seen.seen.second c.in_ok-seen.seen.counter c.judge.result slots.0 slots.1 c.judge.ensures in
+    let large : VOLUME_BLOCKS ≤ v.size = omega (arith, c.if-blocks-lt-VOLUME_BLOCKS.false, c.blocks-blocks.ensures) in
+    let answers : c.match-judge.result ≢ Err Failed → c.match-judge.result ≡ header_answer c.judge.result
+    = λ made. elim c.match-judge.branch [
+      | in-Err w ↦ rw (w.in-Err.is, w.result-is) refl
+      | in-Ok-None w ↦ (let e : c.judge.result ≡ Ok None = cc in rw (e, w.result-is) refl)
+      | in-Ok-Some w ↦ (let e : c.judge.result ≡ Ok (Some w.in-Ok-Some.found) = cc in rw e (w.result-is ∙ w.raise.ensures.answer (λ failed. made (w.result-is ∙ failed))))
+    ] in
+    (c.in_ok-seen.seen.counter, ruled_answer c.args.version VOLUME_BLOCKS v.size v.key v.state.reads c.in_ok-seen.seen.counter c.judge.result c.match-judge.result large told answers)
+
+pub returns-clause-exact : goal.returns-clause-exact
+returns-clause-exact g c h =
+    let v = g.B.Board.view c.args.board.now in
+    let keys : AreKeysOf c.of-keys.result v.key = subst (λ (k : List ℕ). AreKeysOf c.of-keys.result k) c.key.ensures c.of-keys.ensures in
+    let slots = c.in_ok-seen.ensures.slots (g.met.B.Board.honest_reads c.args.board.now h) v.key keys in
+    let told = judged_opening c.args.version v.key v.state.reads c.in_ok-seen.seen.first c.in_ok-seen.seen.second c.in_ok-seen.seen.counter c.judge.result slots.0 slots.1 c.judge.ensures in
+    let large : VOLUME_BLOCKS ≤ v.size = omega (arith, c.if-blocks-lt-VOLUME_BLOCKS.false, c.blocks-blocks.ensures) in
+    let answers : c.match-judge.result ≢ Err Failed → c.match-judge.result ≡ header_answer c.judge.result
+    = λ made. elim c.match-judge.branch [
+      | in-Err w ↦ rw (w.in-Err.is, w.result-is) refl
+      | in-Ok-None w ↦ (let e : c.judge.result ≡ Ok None = cc in rw (e, w.result-is) refl)
+      | in-Ok-Some w ↦ (let e : c.judge.result ≡ Ok (Some w.in-Ok-Some.found) = cc in rw e (w.result-is ∙ w.raise.ensures.answer (λ failed. made (w.result-is ∙ failed))))
+    ] in
+    record {
+      counter = c.in_ok-seen.seen.counter;
+      among = (c.in_ok-seen.ensures.counter h).among;
+      ruled = ruled_answer c.args.version VOLUME_BLOCKS v.size v.key v.state.reads c.in_ok-seen.seen.counter c.judge.result c.match-judge.result large told answers;
+    }
+
+pub returns-clause-run : goal.returns-clause-run
+returns-clause-run g c h open_at base low high first opens run =
+    let v = g.B.Board.view c.args.board.now in
+    let keys : AreKeysOf c.of-keys.result v.key = subst (λ (k : List ℕ). AreKeysOf c.of-keys.result k) c.key.ensures c.of-keys.ensures in
+    let slots = c.in_ok-seen.ensures.slots (g.met.B.Board.honest_reads c.args.board.now h) v.key keys in
+    let n = c.in_ok-seen.seen.counter in
+    let told = judged_opening c.args.version v.key v.state.reads c.in_ok-seen.seen.first c.in_ok-seen.seen.second n c.judge.result slots.0 slots.1 c.judge.ensures in
+    let counted = c.in_ok-seen.ensures.counter h in
+    let mid = c.in_ok-seen.ensures.run h open_at base low high first run in
+    elim c.match-judge.branch [
+      | in-Err w ↦ rw w.board-is mid
+      | in-Ok-None w ↦ rw w.board-is mid
+      | in-Ok-Some w ↦
+          let e : c.judge.result ≡ Ok (Some w.in-Ok-Some.found) = cc in
+          let b = between c.args.version v.key open_at base low high n v.state w.in-Ok-Some.found run.now counted.among opens (sym told ∙ e) in
+          rw w.board-is (w.raise.ensures.run (c.in_ok-seen.ensures.honest h) (record { counter = counted.counter; slack = counted.slack }) open_at base low high first b.counter b.highest b.least b.most mid)
+    ]
+
+pub returns-clause-crash : goal.returns-clause-crash
+returns-clause-crash g c h n rests =
+    let v = g.B.Board.view c.args.board.now in
+    find_crash c.args.version n _ _ (returns-clause-run g c h (λ k. false) v.state.reads n _ _ (opens_below c.args.version v.key v.state.reads n) (find_starts c.args.version n _ rests))

@@ -1,0 +1,43 @@
+use Rattle.std.proofs.Common.{◌+◌, ◌*◌}
+use Rattle.epoch.proofs.RunLemmas.{flip_wrote, flip_before, flip_advanced, flip_answers, opened_answers, flip_crash, over_sync}
+use Rattle.epoch.proofs.steps.flip.Goals as goal
+
+pub returns-in_err-write-clause-run : goal.returns-in_err-write-clause-run
+returns-in_err-write-clause-run g c h n rests =
+    let w = c.in_err-write.ensures.honest h in
+    flip_before c.args.slot n _ _ (flip_wrote c.args.slot n _ _ _ _ rests c.gate_block.ensures w.1 w.2)
+
+pub returns-in_err-write-clause-crash : goal.returns-in_err-write-clause-crash
+returns-in_err-write-clause-crash g c h version n header laid =
+    flip_crash version n c.args.slot _ _ c.requires.slot header laid (returns-in_err-write-clause-run g c h n laid.rests)
+
+pub returns-in_err-sync-clause-run : goal.returns-in_err-sync-clause-run
+returns-in_err-sync-clause-run g c h n rests =
+    let w = c.in_ok-write.ensures.honest h in
+    let s = c.in_err-sync.ensures.honest w.0 in
+    flip_before c.args.slot n _ _ (over_sync _ _ n n _ _ _ (flip_wrote c.args.slot n _ _ _ _ rests c.gate_block.ensures w.1 w.2) s.1 _ s.2)
+
+pub returns-in_err-sync-clause-crash : goal.returns-in_err-sync-clause-crash
+returns-in_err-sync-clause-crash g c h version n header laid =
+    flip_crash version n c.args.slot _ _ c.requires.slot header laid (returns-in_err-sync-clause-run g c h n laid.rests)
+
+pub returns-clause-flipped : goal.returns-clause-flipped
+returns-clause-flipped g c h =
+    let w = c.in_ok-write.ensures.honest h in
+    let s = c.in_ok-sync.ensures.honest w.0 in
+    let a = c.advance.ensures.honest s.0 in
+    flip_answers c.args.slot _ _ _ _ _ c.advance.result c.gate_block.ensures w.2 s.2 a.2
+
+pub returns-clause-run : goal.returns-clause-run
+returns-clause-run g c h n rests =
+    let w = c.in_ok-write.ensures.honest h in
+    let s = c.in_ok-sync.ensures.honest w.0 in
+    let a = c.advance.ensures.honest s.0 in
+    flip_advanced c.args.slot n _ _ _ _ _ c.advance.result rests c.gate_block.ensures w.1 w.2 s.1 s.2 a.1 a.2
+
+pub returns-clause-crash : goal.returns-clause-crash
+returns-clause-crash g c h version n header laid =
+    flip_crash version n c.args.slot _ _ c.requires.slot header laid (returns-clause-run g c h n laid.rests)
+
+pub returns-clause-opened : goal.returns-clause-opened
+returns-clause-opened g c h = opened_answers _ c.args.slot _ _ c.advance.result c.requires.slot (returns-clause-flipped g c h)

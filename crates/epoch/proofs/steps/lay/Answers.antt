@@ -1,0 +1,32 @@
+use Rattle.std.proofs.Common.{◌≡◌, ◌∙◌, ◌==◌, ◌<◌, ◌%◌, ℕ, List, ap, subst, sym}
+use Rattle.epoch.specs.Gates.{header_at}
+use Rattle.epoch.specs.Header.{IsHeaderBlock}
+use Rattle.epoch.proofs.RunLemmas.{rest_starts, over_write, over_sync, lay_crash, lay_answers, is_itself}
+use Rattle.epoch.proofs.steps.lay.Goals as goal
+
+pub returns-in_err-write-clause-run : goal.returns-in_err-write-clause-run
+returns-in_err-write-clause-run g c h open_at base low high first opened run =
+    let w = c.in_err-write.ensures.honest h in
+    over_write open_at base low high first _ _ run w.1 _ _ _ (rw (c.header_block.ensures, c.slot_for-slot.ensures.slot) opened) w.2
+
+pub returns-in_err-write-clause-crash : goal.returns-in_err-write-clause-crash
+returns-in_err-write-clause-crash g c h version n rests shut =
+    lay_crash version n (c.args.header.now.sequence % 2) _ _ (subst (λ s. s < 2) c.slot_for-slot.ensures.slot c.slot_for-slot.ensures.below) shut (returns-in_err-write-clause-run g c h (λ k. k == header_at (c.args.header.now.sequence % 2)) _ n n _ (is_itself (header_at (c.args.header.now.sequence % 2))) (rest_starts n _ rests (λ k. k == header_at (c.args.header.now.sequence % 2))))
+
+pub returns-clause-laid : goal.returns-clause-laid
+returns-clause-laid g c h =
+    let w = c.in_ok-write.ensures.honest h in
+    let s = c.sync.ensures.honest w.0 in
+    lay_answers (c.args.header.now.sequence % 2) c.header_block.result _ _ _ _ c.sync.result (IsHeaderBlock (g.B.Board.view c.args.board.now).key (c.args.header.now.sequence % 2) c.args.header.now) (c.header_block.ensures ∙ ap header_at c.slot_for-slot.ensures.slot) w.2 s.2
+    (subst (λ (k : List ℕ). IsHeaderBlock k (c.args.header.now.sequence % 2) c.args.header.now c.block_of_header.result) c.key.ensures
+    (subst (λ (s : ℕ). IsHeaderBlock c.key.result s c.args.header.now c.block_of_header.result) c.slot_for-slot.ensures.slot (c.block_of_header.ensures.block c.key.result c.of-keys.ensures)))
+
+pub returns-clause-run : goal.returns-clause-run
+returns-clause-run g c h open_at base low high first opened run =
+    let w = c.in_ok-write.ensures.honest h in
+    let s = c.sync.ensures.honest w.0 in
+    over_sync open_at base low high first _ _ (over_write open_at base low high first _ _ run w.1 _ _ _ (rw (c.header_block.ensures, c.slot_for-slot.ensures.slot) opened) w.2) s.1 _ s.2
+
+pub returns-clause-crash : goal.returns-clause-crash
+returns-clause-crash g c h version n rests shut =
+    lay_crash version n (c.args.header.now.sequence % 2) _ _ (subst (λ s. s < 2) c.slot_for-slot.ensures.slot c.slot_for-slot.ensures.below) shut (returns-clause-run g c h (λ k. k == header_at (c.args.header.now.sequence % 2)) _ n n _ (is_itself (header_at (c.args.header.now.sequence % 2))) (rest_starts n _ rests (λ k. k == header_at (c.args.header.now.sequence % 2))))

@@ -1,0 +1,61 @@
+-- The rule by which a board is opened, over an image and a counter. The version and the number of blocks that a volume
+-- has are parameters.
+use Rattle.std.specs.Prelude.{◌≡◌, ◌≢◌, ℕ, ◌+◌, ◌==◌, not, nat_lt, if◌then◌else◌, Bool, List, Option, Some, None, Result, Ok, Err}
+use Rattle.store_api.specs.declared.answer.Mismatch.{Mismatch}
+use Rattle.epoch.specs.Slots.{slot_of}
+use Rattle.epoch.specs.declared.answer.OpenAnswer.{OpenAnswer}
+use Rattle.epoch.specs.declared.answer.OpenAnswer.TheVariants.{TooSmall, NoVolume, BadHeader, UnknownVersion, Rollback, Ahead, Failed}
+use Rattle.epoch.specs.declared.header.Header.{Header}
+use Rattle.epoch.specs.declared.rule.Found.{Found}
+use Rattle.epoch.specs.declared.slots.Slot.{Slot}
+use Rattle.epoch.specs.declared.slots.Slot.TheVariants.{Shut, Bad, Good}
+
+-- an open slot whose tag doesn't match
+abbrev pub bad_header : ℕ → Mismatch → Result (Option Found) OpenAnswer
+bad_header slot tags = Err (BadHeader slot tags.found tags.kept)
+
+-- no slot is open
+abbrev pub without_slot : ℕ → Result (Option Found) OpenAnswer
+without_slot counter = if counter == 0 then Ok None else Err (NoVolume counter)
+
+-- the header that counts: its version first, then its sequence beside the counter
+abbrev pub answer_at : ℕ → ℕ → Header → ℕ → Result (Option Found) OpenAnswer
+answer_at version slot header counter =
+    if not (header.version == version) then Err (UnknownVersion header.version) else
+    if nat_lt header.sequence counter then Err (Rollback header.sequence counter) else
+    if nat_lt (counter + 1) header.sequence then Err (Ahead header.sequence counter) else
+    Ok (Some (record { header = header; slot = slot }))
+
+-- the rule over both slots: a damaged one first, of two headers the one with the greater sequence, slot 0 on a tie
+abbrev pub opening_by : ℕ → Slot → Slot → ℕ → Result (Option Found) OpenAnswer
+opening_by version (Bad tags) second counter = bad_header 0 tags
+opening_by version Shut (Bad tags) counter = bad_header 1 tags
+opening_by version Shut Shut counter = without_slot counter
+opening_by version Shut (Good header) counter = answer_at version 1 header counter
+opening_by version (Good header) (Bad tags) counter = bad_header 1 tags
+opening_by version (Good header) Shut counter = answer_at version 0 header counter
+opening_by version (Good header) (Good other) counter =
+    if nat_lt header.sequence other.sequence then answer_at version 1 other counter else answer_at version 0 header counter
+
+-- what an image and a counter open to under a key
+unfoldable pub opening_of : ℕ → List ℕ → (ℕ → List ℕ) → ℕ → Result (Option Found) OpenAnswer
+opening_of version key image counter = opening_by version (slot_of key image 0) (slot_of key image 1) counter
+
+-- the same of a board with so many blocks
+abbrev pub opens_as : ℕ → ℕ → ℕ → List ℕ → (ℕ → List ℕ) → ℕ → Result (Option Found) OpenAnswer
+opens_as version blocks size key image counter =
+    if nat_lt size blocks then Err (TooSmall size) else opening_of version key image counter
+
+-- the header of what was found
+abbrev pub found_header : Option Found → Option Header
+found_header None = None
+found_header (Some found) = Some found.header
+
+-- what the rule answers, told without the slot
+abbrev pub header_answer : Result (Option Found) OpenAnswer → Result (Option Header) OpenAnswer
+header_answer (Ok found) = Ok (found_header found)
+header_answer (Err answer) = Err answer
+
+-- an answer is the rule's, where no call of the board failed
+abbrev pub IsRuled : Result (Option Header) OpenAnswer → Result (Option Found) OpenAnswer → Type 0
+IsRuled result rule = result ≢ Err Failed → result ≡ header_answer rule

@@ -1,0 +1,22 @@
+//! The header of a volume, its two slots with their gates, and the rule by which a board is opened.
+//!
+//! No call takes memory.
+#![tactic(auto)]
+
+mod answer;
+mod bytes;
+mod find;
+mod gates;
+mod header;
+mod laws;
+mod rule;
+mod slots;
+mod steps;
+#[cfg(test)]
+mod tests;
+
+pub use answer::{OpenAnswer, Unopened};
+pub use find::{FLAT_VERSION, VOLUME_BLOCKS, find_header, find_version};
+pub use header::{Header, TreeEntry, entry_at, entry_bytes};
+pub use laws::opening_laws;
+pub use steps::{flip, lay, shut};

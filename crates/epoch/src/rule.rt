@@ -1,0 +1,93 @@
+//! The rule by which a board is opened, over what its slots hold.
+ghost use Rattle.std.specs.Prelude.{◌≡◌};
+ghost use Rattle.epoch.specs.Opening.{answer_at, bad_header as bad_header_of, opening_by, without_slot};
+
+use crate::answer::OpenAnswer;
+use crate::header::Header;
+use crate::slots::Slot;
+use store_api::Mismatch;
+
+/// The header that counts, and its slot.
+#[derive(Clone, Copy, Debug, PartialEq, Eq)]
+pub struct Found {
+    pub header: Header,
+    pub slot: u8,
+}
+
+/// What both slots and the counter open to.
+pub fn judge(
+    version: u32,
+    first: Slot,
+    second: Slot,
+    counter: u64,
+) -> Result<Option<Found>, OpenAnswer>
+    ensures { result ≡ opening_by version first second counter }
+{
+    match first {
+        Slot::Bad(tags) => Err(bad_header(0, tags)),
+        Slot::Shut => match second {
+            Slot::Bad(tags) => Err(bad_header(1, tags)),
+            Slot::Shut => no_slot(counter),
+            Slot::Good(header) => judge_header(version, 1, header, counter),
+        },
+        Slot::Good(header) => match second {
+            Slot::Bad(tags) => Err(bad_header(1, tags)),
+            Slot::Shut => judge_header(version, 0, header, counter),
+            Slot::Good(other) => judge_newer(version, header, other, counter),
+        },
+    }
+}
+
+fn bad_header(slot: u8, tags: Mismatch) -> OpenAnswer
+    ensures { Err result ≡ bad_header_of slot tags }
+{
+    let Mismatch { found, kept } = tags;
+    OpenAnswer::BadHeader { slot, found, kept }
+}
+
+fn no_slot(counter: u64) -> Result<Option<Found>, OpenAnswer>
+    ensures { result ≡ without_slot counter }
+{
+    if counter == 0 {
+        Ok(None)
+    } else {
+        Err(OpenAnswer::NoVolume(counter))
+    }
+}
+
+/// Of two headers the one with the greater sequence counts, slot 0 on a tie.
+fn judge_newer(
+    version: u32,
+    first: Header,
+    second: Header,
+    counter: u64,
+) -> Result<Option<Found>, OpenAnswer>
+    ensures { result ≡ opening_by version (Slot.Good first) (Slot.Good second) counter }
+{
+    if first.sequence < second.sequence {
+        judge_header(version, 1, second, counter)
+    } else {
+        judge_header(version, 0, first, counter)
+    }
+}
+
+/// The header that counts, beside the version and the counter.
+fn judge_header(
+    version: u32,
+    slot: u8,
+    header: Header,
+    counter: u64,
+) -> Result<Option<Found>, OpenAnswer>
+    ensures { result ≡ answer_at version slot header counter }
+{
+    let sequence = header.sequence;
+    if header.version != version {
+        Err(OpenAnswer::UnknownVersion(header.version))
+    } else if sequence < counter {
+        Err(OpenAnswer::Rollback { sequence, counter })
+    } else if sequence - counter > 1 {
+        Err(OpenAnswer::Ahead { sequence, counter })
+    } else {
+        Ok(Some(Found { header, slot }))
+    }
+}

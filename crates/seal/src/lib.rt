@@ -1,0 +1,13 @@
+//! Blocks sealed under the keys of a board: encrypted, with a tag of their place, the commit that wrote them and their
+//! bytes.
+//!
+//! No call takes memory.
+#![tactic(auto)]
+
+mod keys;
+mod leaf;
+#[cfg(test)]
+mod tests;
+
+pub use keys::{Keys, tag_of};
+pub use leaf::{Tags, open_leaf, seal_leaf};
