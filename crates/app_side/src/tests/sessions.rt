@@ -111,6 +111,81 @@ const TEE: Origin = Origin::Tee;
 
 const APP: Origin = Origin::App;
 
+/// From open to close, and another open.
+const SESSION: &[(Do, &[Told])] = &[
+    (Do::Turn(1), &[]),
+    (Do::Add(7, 5), &[(1, Code::BAD_STATE, API, None)]),
+    (Do::Close(7), &[(2, Code::BAD_STATE, API, None)]),
+    (Do::OpenLarge(7), &[(3, Code::BAD_PARAMETERS, API, None)]),
+    (Do::Open(7), &[]),
+    (Do::OpenLarge(7), &[(5, Code::BAD_PARAMETERS, API, None)]),
+    (Do::Open(7), &[(6, Code::BAD_STATE, API, None)]),
+    (Do::Add(7, 5), &[(7, Code::BAD_STATE, API, None)]),
+    (Do::Close(7), &[(8, Code::BAD_STATE, API, None)]),
+    // create, then start
+    (Do::Turn(1), &[]),
+    (Do::Turn(1), &[]),
+    (Do::Turn(1), &[]),
+    (Do::Turn(1), &[]),
+    (Do::Turn(1), &[(4, Code::SUCCESS, APP, None)]),
+    (Do::Add(7, 5), &[]),
+    (Do::Unknown(7), &[]),
+    (Do::InvokeLarge(7), &[(11, Code::BAD_PARAMETERS, API, None)]),
+    (Do::Turn(1), &[]),
+    (Do::Turn(1), &[]),
+    (Do::Turn(1), &[(9, Code::SUCCESS, APP, Some(5))]),
+    (Do::Turn(1), &[]),
+    (Do::Turn(1), &[]),
+    (Do::Turn(1), &[(10, Code::BAD_PARAMETERS, APP, None)]),
+    // nothing waits, and there is no instance 2
+    (Do::Turn(1), &[]),
+    (Do::Turn(2), &[]),
+    (Do::Close(7), &[]),
+    (Do::Add(7, 5), &[(13, Code::BAD_STATE, API, None)]),
+    (Do::Close(7), &[(14, Code::BAD_STATE, API, None)]),
+    // the code of stop is ignored
+    (Do::Turn(1), &[]),
+    (Do::Turn(1), &[]),
+    (Do::Turn(1), &[(12, Code::SUCCESS, APP, None)]),
+    (Do::Close(7), &[(15, Code::BAD_STATE, API, None)]),
+    // the instance is kept, with its sum, and doesn't run create again
+    (Do::Open(8), &[]),
+    (Do::Turn(1), &[]),
+    (Do::Turn(1), &[]),
+    (Do::Turn(1), &[(16, Code::SUCCESS, APP, None)]),
+];
+
+/// The instance keeps its sum.
+const KEPT: &[(Do, &[Told])] = &[
+    (Do::Add(8, 2), &[]),
+    (Do::Turn(1), &[]),
+    (Do::Turn(1), &[]),
+    (Do::Turn(1), &[(17, Code::SUCCESS, APP, Some(7))]),
+];
+
+/// A dead session.
+const DEAD: &[(Do, &[Told])] = &[
+    (Do::Add(8, 1), &[(18, Code::TARGET_DEAD, TEE, None)]),
+    (Do::Close(8), &[(19, Code::SUCCESS, TEE, None)]),
+    (Do::Close(8), &[(20, Code::BAD_STATE, API, None)]),
+];
+
+/// Two sessions of an instance whose create entry fails.
+const FAILING: &[(Do, &[Told])] = &[
+    (Do::Open(1), &[]),
+    (Do::OpenFor(1, 1), &[]),
+    (Do::OpenFor(1, 1), &[(3, Code::BAD_STATE, API, None)]),
+    (Do::Turn(1), &[]),
+    (Do::Turn(1), &[]),
+    (
+        Do::Turn(1),
+        &[(1, Code::GENERIC, APP, None), (2, Code::GENERIC, APP, None)],
+    ),
+    (Do::Turn(1), &[]),
+    (Do::Add(1, 1), &[(4, Code::BAD_STATE, API, None)]),
+    (Do::Open(1), &[]),
+];
+
 #[test]
 fn a_session_from_open_to_close(rt: HostRuntime) -> Result<(), Fail> {
     let alloc = rt.alloc();
@@ -120,65 +195,12 @@ fn a_session_from_open_to_close(rt: HostRuntime) -> Result<(), Fail> {
     };
     let mut side = AppSide::new(alloc, host(alloc, adder)?, 0, [0; 32])?;
     let mut store = MapStore::new(alloc, &[])?;
-    let rows: [(Do, &[Told]); 36] = [
-        (Do::Turn(1), &[]),
-        (Do::Add(7, 5), &[(1, Code::BAD_STATE, API, None)]),
-        (Do::Close(7), &[(2, Code::BAD_STATE, API, None)]),
-        (Do::OpenLarge(7), &[(3, Code::BAD_PARAMETERS, API, None)]),
-        (Do::Open(7), &[]),
-        (Do::OpenLarge(7), &[(5, Code::BAD_PARAMETERS, API, None)]),
-        (Do::Open(7), &[(6, Code::BAD_STATE, API, None)]),
-        (Do::Add(7, 5), &[(7, Code::BAD_STATE, API, None)]),
-        (Do::Close(7), &[(8, Code::BAD_STATE, API, None)]),
-        // create, then start
-        (Do::Turn(1), &[]),
-        (Do::Turn(1), &[]),
-        (Do::Turn(1), &[]),
-        (Do::Turn(1), &[]),
-        (Do::Turn(1), &[(4, Code::SUCCESS, APP, None)]),
-        (Do::Add(7, 5), &[]),
-        (Do::Unknown(7), &[]),
-        (Do::InvokeLarge(7), &[(11, Code::BAD_PARAMETERS, API, None)]),
-        (Do::Turn(1), &[]),
-        (Do::Turn(1), &[]),
-        (Do::Turn(1), &[(9, Code::SUCCESS, APP, Some(5))]),
-        (Do::Turn(1), &[]),
-        (Do::Turn(1), &[]),
-        (Do::Turn(1), &[(10, Code::BAD_PARAMETERS, APP, None)]),
-        // nothing waits, and there is no instance 2
-        (Do::Turn(1), &[]),
-        (Do::Turn(2), &[]),
-        (Do::Close(7), &[]),
-        (Do::Add(7, 5), &[(13, Code::BAD_STATE, API, None)]),
-        (Do::Close(7), &[(14, Code::BAD_STATE, API, None)]),
-        // the code of stop is ignored
-        (Do::Turn(1), &[]),
-        (Do::Turn(1), &[]),
-        (Do::Turn(1), &[(12, Code::SUCCESS, APP, None)]),
-        (Do::Close(7), &[(15, Code::BAD_STATE, API, None)]),
-        // the instance is kept, with its sum, and doesn't run create again
-        (Do::Open(8), &[]),
-        (Do::Turn(1), &[]),
-        (Do::Turn(1), &[]),
-        (Do::Turn(1), &[(16, Code::SUCCESS, APP, None)]),
-    ];
-    run(&rt, &mut side, &mut store, &rows)?;
+    run(&rt, &mut side, &mut store, SESSION)?;
     assert_eq!(rt; side.turns(), 20);
-    let again: [(Do, &[Told]); 4] = [
-        (Do::Add(8, 2), &[]),
-        (Do::Turn(1), &[]),
-        (Do::Turn(1), &[]),
-        (Do::Turn(1), &[(17, Code::SUCCESS, APP, Some(7))]),
-    ];
-    run(&rt, &mut side, &mut store, &again)?;
+    run(&rt, &mut side, &mut store, KEPT)?;
     // as if the instance had ended while the session was open
     side.table.set(1, SessionState::Dead);
-    let dead: [(Do, &[Told]); 3] = [
-        (Do::Add(8, 1), &[(18, Code::TARGET_DEAD, TEE, None)]),
-        (Do::Close(8), &[(19, Code::SUCCESS, TEE, None)]),
-        (Do::Close(8), &[(20, Code::BAD_STATE, API, None)]),
-    ];
-    run(&rt, &mut side, &mut store, &dead)
+    run(&rt, &mut side, &mut store, DEAD)
 }
 
 #[test]
@@ -190,19 +212,7 @@ fn create_that_fails(rt: HostRuntime) -> Result<(), Fail> {
     };
     let mut side = AppSide::new(alloc, host(alloc, adder)?, 0, [0; 32])?;
     let mut store = MapStore::new(alloc, &[])?;
-    let both: &[Told] = &[(1, Code::GENERIC, APP, None), (2, Code::GENERIC, APP, None)];
-    let rows: [(Do, &[Told]); 9] = [
-        (Do::Open(1), &[]),
-        (Do::OpenFor(1, 1), &[]),
-        (Do::OpenFor(1, 1), &[(3, Code::BAD_STATE, API, None)]),
-        (Do::Turn(1), &[]),
-        (Do::Turn(1), &[]),
-        (Do::Turn(1), both),
-        (Do::Turn(1), &[]),
-        (Do::Add(1, 1), &[(4, Code::BAD_STATE, API, None)]),
-        (Do::Open(1), &[]),
-    ];
-    run(&rt, &mut side, &mut store, &rows)?;
+    run(&rt, &mut side, &mut store, FAILING)?;
     assert_eq!(rt; side.turns(), 4);
     Ok(())
 }
