@@ -126,7 +126,7 @@ fn write_number<F: Write + Seek + OpenFile>(file: &mut F, number: u64) -> io::Re
 }
 
 /// Raises the number by one, on the disk. After a failure the number isn't known any more.
-fn raise_number<F: Write + Seek + OpenFile>(
+pub(crate) fn raise_number<F: Write + Seek + OpenFile>(
     file: &mut F,
     number: &mut Option<u64>,
 ) -> io::Result<u64> {
@@ -149,7 +149,7 @@ fn known(number: Option<u64>) -> io::Result<u64> {
 }
 
 /// Syncs the file, unless a sync of it failed before.
-fn sync_once<F: OpenFile>(file: &F, failed: &mut bool) -> io::Result<()> {
+pub(crate) fn sync_once<F: OpenFile>(file: &F, failed: &mut bool) -> io::Result<()> {
     if *failed {
         return Err(io::ErrorKind::Other.into());
     }

@@ -1,4 +1,5 @@
 //! The board over files: fresh files, files that are no board, and files that are opened again.
+use crate::file::{raise_number, sync_once};
 use crate::{FileBoard, FileBoardFailed, NEW_BLOCKS};
 use board::Board;
 use std::fs::File;
@@ -144,4 +145,31 @@ fn one_board_at_a_time_holds_the_files(rt: HostRuntime) -> Result<(), Fail> {
     assert_eq!(rt; board.counter()?, 0);
     drop(board);
     remove(&rt, image)
+}
+
+// The file is a good one: what failed before is what makes these fail.
+#[test]
+fn after_a_failure_nothing_is_believed(rt: HostRuntime) -> Result<(), Fail> {
+    let path = path_of(&rt, "failed")?;
+    fs::write(&rt, path.as_str(), [0; 8].as_slice())?;
+    let mut file = fs::OpenOptions::new()
+        .read(true)
+        .write(true)
+        .open(&rt, path.as_str())?;
+    let mut failed = false;
+    sync_once(&file, &mut failed)?;
+    assert!(rt; !failed);
+    failed = true;
+    assert!(rt; sync_once(&file, &mut failed).is_err());
+    assert!(rt; failed);
+    let mut number = Some(6);
+    assert_eq!(rt; raise_number(&mut file, &mut number)?, 7);
+    assert_eq!(rt; number, Some(7));
+    number = None;
+    assert!(rt; raise_number(&mut file, &mut number).is_err());
+    assert_eq!(rt; number, None);
+    let bytes = fs::read(&rt, path.as_str())?;
+    assert_eq!(rt; bytes.as_slice(), [7, 0, 0, 0, 0, 0, 0, 0].as_slice());
+    fs::remove_file(&rt, path.as_str())?;
+    Ok(())
 }

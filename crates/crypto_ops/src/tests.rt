@@ -356,6 +356,25 @@ fn what_new_refuses(rt: HostRuntime) {
     }
 }
 
+// The SHA-256 digest of 524,288 zero bytes that OpenSSL encrypted by the key and the counter above.
+const LARGEST: [u8; 32] = [
+    0xab, 0x2f, 0x3a, 0x4d, 0x6f, 0x09, 0x11, 0x03, 0x06, 0x61, 0x81, 0x69, 0x69, 0x96, 0xf7, 0xfe,
+    0xd8, 0xc5, 0xd6, 0x10, 0xe2, 0xe8, 0x56, 0xe4, 0x0d, 0xa7, 0xde, 0x02, 0x0b, 0x5b, 0x1c, 0xee,
+];
+
+// As much as one ask may have.
+#[test]
+fn one_ask_of_the_largest_size(rt: HostRuntime) -> Result<(), Fail> {
+    let zeros = vec![in rt.alloc(); 0u8; 524_288]?;
+    let mut operation = cipher(keys::AES_CTR, keys::MODE_ENCRYPT, &COUNTER)?;
+    let text = operation.cipher_update(rt.alloc(), zeros.as_slice(), 524_288)?;
+    assert_eq!(rt; text.len(), 524_288);
+    let mut digest = Operation::new(keys::SHA256, keys::MODE_DIGEST, 0)?;
+    let digest = digest.digest_final(rt.alloc(), text.as_slice(), 32)?;
+    assert_eq!(rt; digest.as_slice(), LARGEST.as_slice());
+    Ok(())
+}
+
 #[test]
 fn too_much_is_misuse(rt: HostRuntime) -> Result<(), Fail> {
     let mut operation = cipher(keys::AES_CTR, keys::MODE_ENCRYPT, &COUNTER)?;
@@ -393,9 +412,15 @@ fn random_words(rt: HostRuntime) -> Result<(), Fail> {
     assert_eq!(rt; four.as_slice(), &all.as_slice()[8..12]);
     assert_eq!(rt; next.as_slice(), &all.as_slice()[12..16]);
 
-    for (application, boot) in [(1, 0), (0, 1), (15, 7)] {
+    // The same block under other nonces.
+    let table = [
+        (1, 0, [0x06, 0x5d, 0x06, 0x7d, 0xf4, 0xeb, 0xbe, 0xdc]),
+        (0, 1, [0xef, 0x3f, 0xdf, 0xd6, 0xc6, 0x15, 0x78, 0xfb]),
+        (15, 7, [0x43, 0xff, 0x4d, 0x9a, 0x16, 0x85, 0xda, 0xdc]),
+    ];
+    for (application, boot, words) in table {
         let mut other = Stream::new([0; 32], application, boot);
-        assert!(rt; other.take(rt.alloc(), 8)?.as_slice() != first.as_slice());
+        assert_eq!(rt; other.take(rt.alloc(), 8)?.as_slice(), words.as_slice());
     }
     Ok(())
 }

@@ -179,7 +179,10 @@ fn shown(asked: &Asked) -> Told<'_> {
     }
 }
 
-/// Each row has an instance, its ask, and what comes of it.
+/// An instance, its ask, and what comes of it.
+type Row = (u8, Do<'static>, Told<'static>);
+
+/// Checks that each ask of the rows, in order, comes to what its row says.
 fn check(rt: &impl Abort, alloc: Global, rows: &[(u8, Do<'_>, Told<'_>)]) -> Result<(), Fail> {
     let mut crypto = Crypto::new(alloc, [0; 32], 0, 0);
     for (instance, what, wanted) in rows {
@@ -262,162 +265,150 @@ const ALL: u32 = keys::USAGE_NEW;
 
 #[test]
 fn operations_come_and_go(rt: HostRuntime) -> Result<(), Fail> {
-    check(
-        &rt,
-        rt.alloc(),
-        &[
-            (1, Do::New(CBC, 0, 128), Told::Number(1)),
-            (1, Do::New(0, 0, 128), UNSUPPORTED),
-            (1, Do::New(CBC, 4, 128), UNSUPPORTED),
-            (1, Do::New(CBC, 0, 160), UNSUPPORTED),
-            (1, Do::New(HMAC, 4, 1_024), Told::Number(2)),
-            (1, Do::New(keys::SHA256, 5, 7), Told::Number(3)),
-            (2, Do::New(keys::SHA512, 5, 0), Told::Number(1)),
-            (1, Do::Info(2), Told::About(HMAC, 4, 1_024, 0, false)),
-            (2, Do::Info(2), Told::Panicked),
-            (1, Do::Info(0), Told::Panicked),
-            (1, Do::Free(0), Told::Done),
-            (1, Do::Free(4), Told::Panicked),
-            (2, Do::Free(3), Told::Panicked),
-            (1, Do::Free(2), Told::Done),
-            (1, Do::Info(2), Told::Panicked),
-            (1, Do::New(CBC, 1, 256), Told::Number(2)),
-            (1, Do::New(CBC, 1, 256), Told::Number(4)),
-            (1, Do::New(CBC, 1, 256), Told::Number(5)),
-            (1, Do::New(CBC, 1, 256), Told::Number(6)),
-            (1, Do::New(CBC, 1, 256), Told::Number(7)),
-            (1, Do::New(CBC, 1, 256), Told::Number(8)),
-            (1, Do::New(CBC, 1, 256), Told::Refused(Code::BUSY)),
-            (1, Do::New(CBC, 1, 64), UNSUPPORTED),
-            (2, Do::New(CBC, 1, 256), Told::Number(2)),
-            (1, Do::Free(5), Told::Done),
-            (1, Do::New(CBC, 1, 256), Told::Number(5)),
-            (1, Do::Close(0), Told::Panicked),
-        ],
-    )
+    const ROWS: &[Row] = &[
+        (1, Do::New(CBC, 0, 128), Told::Number(1)),
+        (1, Do::New(0, 0, 128), UNSUPPORTED),
+        (1, Do::New(CBC, 4, 128), UNSUPPORTED),
+        (1, Do::New(CBC, 0, 160), UNSUPPORTED),
+        (1, Do::New(HMAC, 4, 1_024), Told::Number(2)),
+        (1, Do::New(keys::SHA256, 5, 7), Told::Number(3)),
+        (2, Do::New(keys::SHA512, 5, 0), Told::Number(1)),
+        (1, Do::Info(2), Told::About(HMAC, 4, 1_024, 0, false)),
+        (2, Do::Info(2), Told::Panicked),
+        (1, Do::Info(0), Told::Panicked),
+        (1, Do::Free(0), Told::Done),
+        (1, Do::Free(4), Told::Panicked),
+        (2, Do::Free(3), Told::Panicked),
+        (1, Do::Free(2), Told::Done),
+        (1, Do::Info(2), Told::Panicked),
+        (1, Do::New(CBC, 1, 256), Told::Number(2)),
+        (1, Do::New(CBC, 1, 256), Told::Number(4)),
+        (1, Do::New(CBC, 1, 256), Told::Number(5)),
+        (1, Do::New(CBC, 1, 256), Told::Number(6)),
+        (1, Do::New(CBC, 1, 256), Told::Number(7)),
+        (1, Do::New(CBC, 1, 256), Told::Number(8)),
+        (1, Do::New(CBC, 1, 256), Told::Refused(Code::BUSY)),
+        (1, Do::New(CBC, 1, 64), UNSUPPORTED),
+        (2, Do::New(CBC, 1, 256), Told::Number(2)),
+        (1, Do::Free(5), Told::Done),
+        (1, Do::New(CBC, 1, 256), Told::Number(5)),
+        (1, Do::Close(0), Told::Panicked),
+    ];
+    check(&rt, rt.alloc(), ROWS)
 }
 
 #[test]
 fn keys_are_set_and_taken_away(rt: HostRuntime) -> Result<(), Fail> {
     const GONE: Told<'static> = Told::Refused(Code::STORAGE_NOT_AVAILABLE);
-    check(
-        &rt,
-        rt.alloc(),
-        &[
-            (1, Do::New(CBC, 1, 128), Told::Number(1)),
-            (1, Do::New(keys::SHA256, 5, 0), Told::Number(2)),
-            (1, Do::SetKey(3, 1), Told::Panicked),
-            (2, Do::SetKey(1, 0), Told::Panicked),
-            (1, Do::SetKey(2, 1), Told::Panicked),
-            (1, Do::SetKey(2, 0), Told::Panicked),
-            (1, Do::Reset(1), Told::Panicked),
-            (1, Do::Reset(2), Told::Done),
-            (1, Do::SetKey(1, 7), Told::Wants(1, 7)),
-            (1, Do::NoKey(1), Told::Panicked),
-            (1, Do::Gone(1), GONE),
-            (
-                1,
-                Do::Key(1, keys::KIND_HMAC_SHA256, ALL, MAC_KEY),
-                Told::Panicked,
-            ),
-            (1, Do::Key(1, AES, ALL, MAC_KEY), Told::Panicked),
-            (1, Do::Key(1, AES, ALL, MAC), Told::Panicked),
-            (1, Do::Key(1, AES, keys::USAGE_ENCRYPT, KEY), Told::Panicked),
-            (1, Do::Key(1, keys::KIND_DATA, ALL, &[]), Told::Panicked),
-            (1, Do::Key(2, AES, ALL, KEY), Told::Panicked),
-            (1, Do::Key(3, AES, ALL, KEY), Told::Panicked),
-            (1, Do::Info(1), Told::About(CBC, 1, 128, 0, false)),
-            (1, Do::Key(1, AES, keys::USAGE_DECRYPT, KEY), Told::Done),
-            (1, Do::Info(1), Told::About(CBC, 1, 128, 128, false)),
-            (1, Do::Init(1, VECTOR), Told::Done),
-            (1, Do::Info(1), Told::About(CBC, 1, 128, 128, true)),
-            (1, Do::SetKey(1, 7), Told::Panicked),
-            (1, Do::SetKey(1, 0), Told::Panicked),
-            (1, Do::Reset(1), Told::Done),
-            (1, Do::Info(1), Told::About(CBC, 1, 128, 128, false)),
-            (1, Do::SetKey(1, 0), Told::Done),
-            (1, Do::Info(1), Told::About(CBC, 1, 128, 0, false)),
-        ],
-    )
+    const ROWS: &[Row] = &[
+        (1, Do::New(CBC, 1, 128), Told::Number(1)),
+        (1, Do::New(keys::SHA256, 5, 0), Told::Number(2)),
+        (1, Do::SetKey(3, 1), Told::Panicked),
+        (2, Do::SetKey(1, 0), Told::Panicked),
+        (1, Do::SetKey(2, 1), Told::Panicked),
+        (1, Do::SetKey(2, 0), Told::Panicked),
+        (1, Do::Reset(1), Told::Panicked),
+        (1, Do::Reset(2), Told::Done),
+        (1, Do::SetKey(1, 7), Told::Wants(1, 7)),
+        (1, Do::NoKey(1), Told::Panicked),
+        (1, Do::Gone(1), GONE),
+        (
+            1,
+            Do::Key(1, keys::KIND_HMAC_SHA256, ALL, MAC_KEY),
+            Told::Panicked,
+        ),
+        (1, Do::Key(1, AES, ALL, MAC_KEY), Told::Panicked),
+        (1, Do::Key(1, AES, ALL, MAC), Told::Panicked),
+        (1, Do::Key(1, AES, keys::USAGE_ENCRYPT, KEY), Told::Panicked),
+        (1, Do::Key(1, keys::KIND_DATA, ALL, &[]), Told::Panicked),
+        (1, Do::Key(2, AES, ALL, KEY), Told::Panicked),
+        (1, Do::Key(3, AES, ALL, KEY), Told::Panicked),
+        (1, Do::Info(1), Told::About(CBC, 1, 128, 0, false)),
+        (1, Do::Key(1, AES, keys::USAGE_DECRYPT, KEY), Told::Done),
+        (1, Do::Info(1), Told::About(CBC, 1, 128, 128, false)),
+        (1, Do::Init(1, VECTOR), Told::Done),
+        (1, Do::Info(1), Told::About(CBC, 1, 128, 128, true)),
+        (1, Do::SetKey(1, 7), Told::Panicked),
+        (1, Do::SetKey(1, 0), Told::Panicked),
+        (1, Do::Reset(1), Told::Done),
+        (1, Do::Info(1), Told::About(CBC, 1, 128, 128, false)),
+        (1, Do::SetKey(1, 0), Told::Done),
+        (1, Do::Info(1), Told::About(CBC, 1, 128, 0, false)),
+    ];
+    check(&rt, rt.alloc(), ROWS)
 }
 
 #[test]
 fn operations_are_copied(rt: HostRuntime) -> Result<(), Fail> {
-    check(
-        &rt,
-        rt.alloc(),
-        &[
-            (1, Do::New(CBC, 0, 128), Told::Number(1)),
-            (1, Do::New(CBC, 0, 256), Told::Number(2)),
-            (1, Do::New(CBC, 1, 256), Told::Number(3)),
-            (1, Do::New(keys::AES_ECB, 0, 256), Told::Number(4)),
-            (1, Do::Copy(5, 1), Told::Panicked),
-            (1, Do::Copy(1, 5), Told::Panicked),
-            (2, Do::Copy(1, 2), Told::Panicked),
-            (1, Do::Copy(3, 2), Told::Panicked),
-            (1, Do::Copy(4, 2), Told::Panicked),
-            (1, Do::Key(2, AES, ALL, MAC), Told::Done),
-            (1, Do::Copy(1, 2), Told::Panicked),
-            (1, Do::Key(2, AES, ALL, KEY), Told::Done),
-            (1, Do::Init(2, VECTOR), Told::Done),
-            (1, Do::Update(2, PLAIN_1, 0), Told::Bytes(&[])),
-            (1, Do::Copy(1, 2), Told::Done),
-            (1, Do::Copy(1, 1), Told::Done),
-            (1, Do::Info(1), Told::About(CBC, 0, 128, 128, true)),
-            (1, Do::Update(2, PLAIN_2, 16), Told::Bytes(CBC_1)),
-            (1, Do::Update(1, PLAIN_2, 16), Told::Bytes(CBC_1)),
-            (1, Do::Reset(2), Told::Done),
-            (1, Do::Copy(2, 1), Told::Done),
-            (1, Do::Final(2, PLAIN_3, 16), Told::Bytes(CBC_2)),
-            (1, Do::Final(1, PLAIN_3, 16), Told::Bytes(CBC_2)),
-        ],
-    )
+    const ROWS: &[Row] = &[
+        (1, Do::New(CBC, 0, 128), Told::Number(1)),
+        (1, Do::New(CBC, 0, 256), Told::Number(2)),
+        (1, Do::New(CBC, 1, 256), Told::Number(3)),
+        (1, Do::New(keys::AES_ECB, 0, 256), Told::Number(4)),
+        (1, Do::Copy(5, 1), Told::Panicked),
+        (1, Do::Copy(1, 5), Told::Panicked),
+        (2, Do::Copy(1, 2), Told::Panicked),
+        (1, Do::Copy(3, 2), Told::Panicked),
+        (1, Do::Copy(4, 2), Told::Panicked),
+        (1, Do::Key(2, AES, ALL, MAC), Told::Done),
+        (1, Do::Copy(1, 2), Told::Panicked),
+        (1, Do::Key(2, AES, ALL, KEY), Told::Done),
+        (1, Do::Init(2, VECTOR), Told::Done),
+        (1, Do::Update(2, PLAIN_1, 0), Told::Bytes(&[])),
+        (1, Do::Copy(1, 2), Told::Done),
+        (1, Do::Copy(1, 1), Told::Done),
+        (1, Do::Info(1), Told::About(CBC, 0, 128, 128, true)),
+        (1, Do::Update(2, PLAIN_2, 16), Told::Bytes(CBC_1)),
+        (1, Do::Update(1, PLAIN_2, 16), Told::Bytes(CBC_1)),
+        (1, Do::Reset(2), Told::Done),
+        (1, Do::Copy(2, 1), Told::Done),
+        (1, Do::Final(2, PLAIN_3, 16), Told::Bytes(CBC_2)),
+        (1, Do::Final(1, PLAIN_3, 16), Told::Bytes(CBC_2)),
+    ];
+    check(&rt, rt.alloc(), ROWS)
 }
 
 #[test]
 fn ciphers(rt: HostRuntime) -> Result<(), Fail> {
-    check(
-        &rt,
-        rt.alloc(),
-        &[
-            (1, Do::New(CBC, 0, 128), Told::Number(1)),
-            (1, Do::New(keys::AES_ECB, 0, 128), Told::Number(2)),
-            (1, Do::New(keys::AES_CTR, 0, 128), Told::Number(3)),
-            (1, Do::New(keys::SHA256, 5, 0), Told::Number(4)),
-            (1, Do::Init(1, VECTOR), Told::Panicked),
-            (1, Do::Init(4, VECTOR), Told::Panicked),
-            (1, Do::Init(5, VECTOR), Told::Panicked),
-            (1, Do::Key(1, AES, ALL, KEY), Told::Done),
-            (1, Do::Key(2, AES, ALL, KEY), Told::Done),
-            (1, Do::Key(3, AES, ALL, KEY), Told::Done),
-            (1, Do::Init(1, PLAIN_1), Told::Panicked),
-            (1, Do::Init(2, VECTOR), Told::Panicked),
-            (1, Do::Init(3, &[]), Told::Panicked),
-            (1, Do::Update(1, PLAIN_1, 16), Told::Panicked),
-            (1, Do::Final(1, PLAIN_1, 16), Told::Panicked),
-            (1, Do::Update(4, PLAIN_1, 16), Told::Panicked),
-            (1, Do::Final(4, PLAIN_1, 16), Told::Panicked),
-            (1, Do::Update(5, PLAIN_1, 16), Told::Panicked),
-            (1, Do::Final(5, PLAIN_1, 16), Told::Panicked),
-            (1, Do::Init(1, VECTOR), Told::Done),
-            (1, Do::Update(1, PLAIN_1, 0), Told::Bytes(&[])),
-            (1, Do::Update(1, PLAIN_2, 15), Told::Short(16)),
-            (1, Do::Update(1, PLAIN_2, 524_289), Told::Panicked),
-            (1, Do::Update(1, PLAIN_2, 524_288), Told::Bytes(CBC_1)),
-            (1, Do::Final(1, PLAIN_1, 16), Told::Panicked),
-            (1, Do::Final(1, PLAIN_3, 15), Told::Short(16)),
-            (1, Do::Final(1, PLAIN_3, 524_289), Told::Panicked),
-            (1, Do::Final(1, PLAIN_3, 16), Told::Bytes(CBC_2)),
-            (1, Do::Info(1), Told::About(CBC, 0, 128, 128, false)),
-            (1, Do::Init(2, &[]), Told::Done),
-            (1, Do::Update(2, PLAIN_1, 0), Told::Bytes(&[])),
-            (1, Do::Update(2, PLAIN_2, 16), Told::Bytes(ECB_1)),
-            (1, Do::Init(3, COUNTER), Told::Done),
-            (1, Do::Update(3, PLAIN_1, 4), Told::Short(5)),
-            (1, Do::Update(3, PLAIN_1, 5), Told::Bytes(CTR_1)),
-            (1, Do::Final(3, PLAIN_2, 14), Told::Bytes(CTR_2)),
-        ],
-    )
+    const ROWS: &[Row] = &[
+        (1, Do::New(CBC, 0, 128), Told::Number(1)),
+        (1, Do::New(keys::AES_ECB, 0, 128), Told::Number(2)),
+        (1, Do::New(keys::AES_CTR, 0, 128), Told::Number(3)),
+        (1, Do::New(keys::SHA256, 5, 0), Told::Number(4)),
+        (1, Do::Init(1, VECTOR), Told::Panicked),
+        (1, Do::Init(4, VECTOR), Told::Panicked),
+        (1, Do::Init(5, VECTOR), Told::Panicked),
+        (1, Do::Key(1, AES, ALL, KEY), Told::Done),
+        (1, Do::Key(2, AES, ALL, KEY), Told::Done),
+        (1, Do::Key(3, AES, ALL, KEY), Told::Done),
+        (1, Do::Init(1, PLAIN_1), Told::Panicked),
+        (1, Do::Init(2, VECTOR), Told::Panicked),
+        (1, Do::Init(3, &[]), Told::Panicked),
+        (1, Do::Update(1, PLAIN_1, 16), Told::Panicked),
+        (1, Do::Final(1, PLAIN_1, 16), Told::Panicked),
+        (1, Do::Update(4, PLAIN_1, 16), Told::Panicked),
+        (1, Do::Final(4, PLAIN_1, 16), Told::Panicked),
+        (1, Do::Update(5, PLAIN_1, 16), Told::Panicked),
+        (1, Do::Final(5, PLAIN_1, 16), Told::Panicked),
+        (1, Do::Init(1, VECTOR), Told::Done),
+        (1, Do::Update(1, PLAIN_1, 0), Told::Bytes(&[])),
+        (1, Do::Update(1, PLAIN_2, 15), Told::Short(16)),
+        (1, Do::Update(1, PLAIN_2, 524_289), Told::Panicked),
+        (1, Do::Update(1, PLAIN_2, 524_288), Told::Bytes(CBC_1)),
+        (1, Do::Final(1, PLAIN_1, 16), Told::Panicked),
+        (1, Do::Final(1, PLAIN_3, 15), Told::Short(16)),
+        (1, Do::Final(1, PLAIN_3, 524_289), Told::Panicked),
+        (1, Do::Final(1, PLAIN_3, 16), Told::Bytes(CBC_2)),
+        (1, Do::Info(1), Told::About(CBC, 0, 128, 128, false)),
+        (1, Do::Init(2, &[]), Told::Done),
+        (1, Do::Update(2, PLAIN_1, 0), Told::Bytes(&[])),
+        (1, Do::Update(2, PLAIN_2, 16), Told::Bytes(ECB_1)),
+        (1, Do::Init(3, COUNTER), Told::Done),
+        (1, Do::Update(3, PLAIN_1, 4), Told::Short(5)),
+        (1, Do::Update(3, PLAIN_1, 5), Told::Bytes(CTR_1)),
+        (1, Do::Final(3, PLAIN_2, 14), Told::Bytes(CTR_2)),
+    ];
+    check(&rt, rt.alloc(), ROWS)
 }
 
 #[test]
@@ -425,90 +416,81 @@ fn codes(rt: HostRuntime) -> Result<(), Fail> {
     const INVALID: Told<'static> = Told::Refused(Code::MAC_INVALID);
     const SOME: &[u8] = &[0xcd; 20];
     const REST: &[u8] = &[0xcd; 30];
-    check(
-        &rt,
-        rt.alloc(),
-        &[
-            (1, Do::New(HMAC, 4, 256), Told::Number(1)),
-            (1, Do::New(keys::SHA256, 5, 0), Told::Number(2)),
-            (1, Do::MacInit(1), Told::Panicked),
-            (1, Do::MacInit(2), Told::Panicked),
-            (1, Do::MacInit(3), Told::Panicked),
-            (
-                1,
-                Do::Key(1, keys::KIND_HMAC_SHA256, keys::USAGE_MAC, MAC_KEY),
-                Told::Done,
-            ),
-            (1, Do::MacUpdate(1, SOME), Told::Panicked),
-            (1, Do::MacFinal(1, SOME, 32), Told::Panicked),
-            (1, Do::Compare(1, SOME, MAC), Told::Panicked),
-            (1, Do::MacUpdate(2, SOME), Told::Panicked),
-            (1, Do::MacFinal(2, SOME, 32), Told::Panicked),
-            (1, Do::Compare(2, SOME, MAC), Told::Panicked),
-            (1, Do::MacInit(1), Told::Done),
-            (1, Do::MacUpdate(1, SOME), Told::Done),
-            (1, Do::MacFinal(1, REST, 31), Told::Short(32)),
-            (1, Do::MacFinal(1, REST, 524_289), Told::Panicked),
-            (1, Do::MacFinal(1, REST, 32), Told::Bytes(MAC)),
-            (1, Do::MacUpdate(1, SOME), Told::Panicked),
-            (1, Do::MacInit(1), Told::Done),
-            (1, Do::MacUpdate(1, SOME), Told::Done),
-            (1, Do::Compare(1, REST, MAC), Told::Done),
-            (1, Do::Compare(1, REST, MAC), Told::Panicked),
-            (1, Do::MacInit(1), Told::Done),
-            (1, Do::Compare(1, REST, MAC), INVALID),
-            (1, Do::Info(1), Told::About(HMAC, 4, 256, 200, false)),
-            (1, Do::MacInit(1), Told::Done),
-            (1, Do::MacUpdate(1, SOME), Told::Done),
-            (1, Do::Compare(1, REST, MAC_FRONT), INVALID),
-        ],
-    )
+    const ROWS: &[Row] = &[
+        (1, Do::New(HMAC, 4, 256), Told::Number(1)),
+        (1, Do::New(keys::SHA256, 5, 0), Told::Number(2)),
+        (1, Do::MacInit(1), Told::Panicked),
+        (1, Do::MacInit(2), Told::Panicked),
+        (1, Do::MacInit(3), Told::Panicked),
+        (
+            1,
+            Do::Key(1, keys::KIND_HMAC_SHA256, keys::USAGE_MAC, MAC_KEY),
+            Told::Done,
+        ),
+        (1, Do::MacUpdate(1, SOME), Told::Panicked),
+        (1, Do::MacFinal(1, SOME, 32), Told::Panicked),
+        (1, Do::Compare(1, SOME, MAC), Told::Panicked),
+        (1, Do::MacUpdate(2, SOME), Told::Panicked),
+        (1, Do::MacFinal(2, SOME, 32), Told::Panicked),
+        (1, Do::Compare(2, SOME, MAC), Told::Panicked),
+        (1, Do::MacInit(1), Told::Done),
+        (1, Do::MacUpdate(1, SOME), Told::Done),
+        (1, Do::MacFinal(1, REST, 31), Told::Short(32)),
+        (1, Do::MacFinal(1, REST, 524_289), Told::Panicked),
+        (1, Do::MacFinal(1, REST, 32), Told::Bytes(MAC)),
+        (1, Do::MacUpdate(1, SOME), Told::Panicked),
+        (1, Do::MacInit(1), Told::Done),
+        (1, Do::MacUpdate(1, SOME), Told::Done),
+        (1, Do::Compare(1, REST, MAC), Told::Done),
+        (1, Do::Compare(1, REST, MAC), Told::Panicked),
+        (1, Do::MacInit(1), Told::Done),
+        (1, Do::Compare(1, REST, MAC), INVALID),
+        (1, Do::Info(1), Told::About(HMAC, 4, 256, 200, false)),
+        (1, Do::MacInit(1), Told::Done),
+        (1, Do::MacUpdate(1, SOME), Told::Done),
+        (1, Do::Compare(1, REST, MAC_FRONT), INVALID),
+    ];
+    check(&rt, rt.alloc(), ROWS)
 }
 
 #[test]
 fn digests(rt: HostRuntime) -> Result<(), Fail> {
-    let sha = keys::SHA256;
-    check(
-        &rt,
-        rt.alloc(),
-        &[
-            (1, Do::New(sha, 5, 0), Told::Number(1)),
-            (1, Do::New(CBC, 0, 128), Told::Number(2)),
-            (1, Do::DigestUpdate(2, b"a"), Told::Panicked),
-            (1, Do::DigestFinal(2, b"a", 32), Told::Panicked),
-            (1, Do::DigestUpdate(3, b"a"), Told::Panicked),
-            (1, Do::DigestUpdate(1, b"a"), Told::Done),
-            (1, Do::Info(1), Told::About(sha, 5, 0, 0, true)),
-            (1, Do::DigestFinal(1, b"bc", 31), Told::Short(32)),
-            (1, Do::DigestFinal(1, b"bc", 524_289), Told::Panicked),
-            (1, Do::DigestFinal(1, b"bc", 32), Told::Bytes(ABC)),
-            (1, Do::Info(1), Told::About(sha, 5, 0, 0, false)),
-            (1, Do::DigestFinal(1, b"abc", 32), Told::Bytes(ABC)),
-            (1, Do::DigestUpdate(1, b"x"), Told::Done),
-            (1, Do::Reset(1), Told::Done),
-            (1, Do::DigestFinal(1, b"abc", 32), Told::Bytes(ABC)),
-        ],
-    )
+    const SHA: u32 = keys::SHA256;
+    const ROWS: &[Row] = &[
+        (1, Do::New(SHA, 5, 0), Told::Number(1)),
+        (1, Do::New(CBC, 0, 128), Told::Number(2)),
+        (1, Do::DigestUpdate(2, b"a"), Told::Panicked),
+        (1, Do::DigestFinal(2, b"a", 32), Told::Panicked),
+        (1, Do::DigestUpdate(3, b"a"), Told::Panicked),
+        (1, Do::DigestUpdate(1, b"a"), Told::Done),
+        (1, Do::Info(1), Told::About(SHA, 5, 0, 0, true)),
+        (1, Do::DigestFinal(1, b"bc", 31), Told::Short(32)),
+        (1, Do::DigestFinal(1, b"bc", 524_289), Told::Panicked),
+        (1, Do::DigestFinal(1, b"bc", 32), Told::Bytes(ABC)),
+        (1, Do::Info(1), Told::About(SHA, 5, 0, 0, false)),
+        (1, Do::DigestFinal(1, b"abc", 32), Told::Bytes(ABC)),
+        (1, Do::DigestUpdate(1, b"x"), Told::Done),
+        (1, Do::Reset(1), Told::Done),
+        (1, Do::DigestFinal(1, b"abc", 32), Told::Bytes(ABC)),
+    ];
+    check(&rt, rt.alloc(), ROWS)
 }
 
 // The first words of ChaCha20 under an all-zero key: 76b8e0ad a0f13d90 405d6ae5 5386bd28.
 #[test]
 fn random_bytes(rt: HostRuntime) -> Result<(), Fail> {
-    check(
-        &rt,
-        rt.alloc(),
-        &[
-            (1, Do::Random(524_289), Told::Panicked),
-            (1, Do::Random(0), Told::Bytes(&[])),
-            (
-                1,
-                Do::Random(5),
-                Told::Bytes(&[0x76, 0xb8, 0xe0, 0xad, 0xa0]),
-            ),
-            (2, Do::Random(4), Told::Bytes(&[0x40, 0x5d, 0x6a, 0xe5])),
-            (1, Do::Random(4), Told::Bytes(&[0x53, 0x86, 0xbd, 0x28])),
-        ],
-    )
+    const ROWS: &[Row] = &[
+        (1, Do::Random(524_289), Told::Panicked),
+        (1, Do::Random(0), Told::Bytes(&[])),
+        (
+            1,
+            Do::Random(5),
+            Told::Bytes(&[0x76, 0xb8, 0xe0, 0xad, 0xa0]),
+        ),
+        (2, Do::Random(4), Told::Bytes(&[0x40, 0x5d, 0x6a, 0xe5])),
+        (1, Do::Random(4), Told::Bytes(&[0x53, 0x86, 0xbd, 0x28])),
+    ];
+    check(&rt, rt.alloc(), ROWS)
 }
 
 #[test]

@@ -230,7 +230,8 @@ post_ink : (post : Bool) (words : List (List ℕ)) → AllByRecursion IsInk word
 post_ink true words h = (literal 112 (codes "ost") refl, h)
 post_ink false words h = h
 
-line_printed : {A : Type 0} (hosts : List (Host A)) (client : ℕ) (words : List (List ℕ)) (line : Line) (fill : ℕ) → HostsFit hosts → IsLine hosts client words line fill → IsPrinted hosts (client_of client line) line × (client_of client line ≡ client)
+line_printed : {A : Type 0} (hosts : List (Host A)) (client : ℕ) (words : List (List ℕ)) (line : Line) (fill : ℕ) → HostsFit hosts → IsLine hosts client words line fill
+    → IsPrinted hosts (client_of client line) line × (client_of client line ≡ client)
 unfolding IsLine
 line_printed hosts client words (lines.Call app owner post call) fill fit h =
     let n = named hosts h.1 app fit h.3 in
@@ -276,15 +277,18 @@ line_printed hosts client words (lines.Power pick) fill fit h =
 abbrev CanStand : {A : Type 0} → List (Host A) → Line → Type 0
 CanStand hosts line = (before : ℕ) → before < CLIENTS → IsPrinted hosts (client_of before line) line × (client_of before line < CLIENTS)
 
-fuse_of : {A : Type 0} (hosts : List (Host A)) (client before : ℕ) (words : List (List ℕ)) (count fill : ℕ) → IsLine hosts client words (lines.Fuse count) fill → IsLine hosts before words (lines.Fuse count) fill
+fuse_of : {A : Type 0} (hosts : List (Host A)) (client before : ℕ) (words : List (List ℕ)) (count fill : ℕ) → IsLine hosts client words (lines.Fuse count) fill
+    → IsLine hosts before words (lines.Fuse count) fill
 unfolding IsLine
 fuse_of hosts client before words count fill h = h
 
-power_of : {A : Type 0} (hosts : List (Host A)) (client before : ℕ) (words : List (List ℕ)) (pick fill : ℕ) → IsLine hosts client words (lines.Power pick) fill → IsLine hosts before words (lines.Power pick) fill
+power_of : {A : Type 0} (hosts : List (Host A)) (client before : ℕ) (words : List (List ℕ)) (pick fill : ℕ) → IsLine hosts client words (lines.Power pick) fill
+    → IsLine hosts before words (lines.Power pick) fill
 unfolding IsLine
 power_of hosts client before words pick fill h = h
 
-can_stand : {A : Type 0} (hosts : List (Host A)) (client : ℕ) (words : List (List ℕ)) (line : Line) (fill : ℕ) → HostsFit hosts → client < CLIENTS → IsLine hosts client words line fill → CanStand hosts line
+can_stand : {A : Type 0} (hosts : List (Host A)) (client : ℕ) (words : List (List ℕ)) (line : Line) (fill : ℕ) → HostsFit hosts → client < CLIENTS
+    → IsLine hosts client words line fill → CanStand hosts line
 can_stand hosts client words (lines.Call app owner post call) fill fit below h before known =
     let p = line_printed hosts client words (lines.Call app owner post call) fill fit h in (p.0, subst (λ (c : ℕ). c < CLIENTS) (sym p.1) below)
 can_stand hosts client words (lines.Turns app owner instance count) fill fit below h before known =
@@ -294,7 +298,8 @@ can_stand hosts client words (lines.Cancel app owner op) fill fit below h before
 can_stand hosts client words (lines.Fuse count) fill fit below h before known = ((line_printed hosts before words (lines.Fuse count) fill fit (fuse_of hosts client before words count fill h)).0, known)
 can_stand hosts client words (lines.Power pick) fill fit below h before known = ((line_printed hosts before words (lines.Power pick) fill fit (power_of hosts client before words pick fill h)).0, known)
 
-lines_stand : {A : Type 0} (hosts : List (Host A)) (at after : Place) (meanings : List Meaning) → HostsFit hosts → at.client < CLIENTS → AreNext hosts at meanings after → AllByRecursion (CanStand hosts) (flat_map lines_of meanings)
+lines_stand : {A : Type 0} (hosts : List (Host A)) (at after : Place) (meanings : List Meaning) → HostsFit hosts → at.client < CLIENTS → AreNext hosts at meanings after
+    → AllByRecursion (CanStand hosts) (flat_map lines_of meanings)
 unfolding AreNext Means
 lines_stand hosts at after [] fit below h = tt
 lines_stand hosts at after (Nothing ∷ more) fit below h = lines_stand hosts h.0 after more fit (subst (λ (c : ℕ). c < CLIENTS) (sym h.1.client) below) h.2
@@ -305,7 +310,8 @@ lines_stand hosts at after (Script told ∷ more) fit below h =
 abbrev at_text : ℕ → List ℕ → Place
 at_text client text = record { client = client; filled = 0; rest = text }
 
-next_printed : {A : Type 0} (hosts : List (Host A)) (client : ℕ) (line : Line) (rest : List ℕ) → IsPrinted hosts client line → IsNext hosts (at_text client (line_text hosts line ++ codes "\n" ++ rest)) (Script line) (at_text client rest)
+next_printed : {A : Type 0} (hosts : List (Host A)) (client : ℕ) (line : Line) (rest : List ℕ) → IsPrinted hosts client line
+    → IsNext hosts (at_text client (line_text hosts line ++ codes "\n" ++ rest)) (Script line) (at_text client rest)
 unfolding Means
 next_printed hosts client line rest p =
     let shown = text_shown p.word p.words p.ink p.each in
@@ -324,7 +330,8 @@ loud_client : (rest : List ℕ) → ¬ IsSilent (codes "client" ++ rest)
 loud_client rest (inl e) = cc
 loud_client rest (inr s) = let hash : ◌≡◌ {A = ℕ} 99 35 = let e = s.1 in cc in omega (arith, hash)
 
-next_client : {A : Type 0} (hosts : List (Host A)) (before client : ℕ) (rest : List ℕ) → client < CLIENTS → IsNext hosts (at_text before ((codes "client" ++ behind_spaces (decimal client ∷ [])) ++ codes "\n" ++ rest)) (Client client) (at_text client rest)
+next_client : {A : Type 0} (hosts : List (Host A)) (before client : ℕ) (rest : List ℕ) → client < CLIENTS
+    → IsNext hosts (at_text before ((codes "client" ++ behind_spaces (decimal client ∷ [])) ++ codes "\n" ++ rest)) (Client client) (at_text client rest)
 unfolding Means
 next_client hosts before client rest below =
     let small : client < 2 ^ 64 = omega (arith, below) in
@@ -346,7 +353,8 @@ next_client hosts before client rest below =
 ReadsOn : {A : Type 0} → List (Host A) → ℕ → List ℕ → List Line → Type 0
 ReadsOn hosts before text script = (meanings : List Meaning) × (after : Place) × AreNext hosts (at_text before text) meanings after × (after.rest ≡ []) × AllByRecursion (Takes Whole) meanings × (script ≡ flat_map lines_of meanings)
 
-reads_line : {A : Type 0} (hosts : List (Host A)) (client : ℕ) (line : Line) (rest : List ℕ) (more : List Line) → IsPrinted hosts client line → ReadsOn hosts client rest more → ReadsOn hosts client (line_text hosts line ++ codes "\n" ++ rest) (line ∷ more)
+reads_line : {A : Type 0} (hosts : List (Host A)) (client : ℕ) (line : Line) (rest : List ℕ) (more : List Line) → IsPrinted hosts client line → ReadsOn hosts client rest more
+    → ReadsOn hosts client (line_text hosts line ++ codes "\n" ++ rest) (line ∷ more)
 unfolding ReadsOn AreNext
 reads_line hosts client line rest more p h =
     (Script line ∷ h.0, h.1, (at_text client rest, next_printed hosts client line rest p, h.2), h.3, (refl, h.4), ap (λ (ls : List Line). line ∷ ls) h.5)
@@ -365,7 +373,8 @@ reads_nothing hosts before = ([], at_text before [], refl, refl, tt, refl)
 grouped : (a b c d : List ℕ) → a ++ b ++ c ++ d ≡ a ++ (b ++ c ++ d)
 grouped a b c d = simp append_assoc
 
-reads_printed : {A : Type 0} (hosts : List (Host A)) (before : ℕ) (script : List Line) → before < CLIENTS → AllByRecursion (CanStand hosts) script → ReadsOn hosts before (canonical_from hosts before script) script
+reads_printed : {A : Type 0} (hosts : List (Host A)) (before : ℕ) (script : List Line) → before < CLIENTS → AllByRecursion (CanStand hosts) script
+    → ReadsOn hosts before (canonical_from hosts before script) script
 reads_printed hosts before [] known h = reads_nothing hosts before
 reads_printed hosts before (line ∷ more) known h =
     let p = h.0 before known in

@@ -35,7 +35,8 @@ ended_tail c [] h = tt
 ended_tail c (d ∷ cs) h = h
 
 -- a front that isn't empty and ends at a line end has the whole first line
-cut_front : (piece behind front rest : List ℕ) → HasNoLineFeed piece → front ≢ [] → Ended front → piece ++ 10 ∷ behind ≡ front ++ rest → (more : List ℕ) × (front ≡ piece ++ 10 ∷ more) × (behind ≡ more ++ rest) × Ended more
+cut_front : (piece behind front rest : List ℕ) → HasNoLineFeed piece → front ≢ [] → Ended front → piece ++ 10 ∷ behind ≡ front ++ rest
+    → (more : List ℕ) × (front ≡ piece ++ 10 ∷ more) × (behind ≡ more ++ rest) × Ended more
 cut_front piece behind [] rest none some end e = absurd (some refl)
 cut_front [] behind (f ∷ fs) rest none some end e =
     let head : 10 ≡ f = cc in
@@ -55,7 +56,8 @@ abbrev place_at : Place → List ℕ → Place
 place_at at rest = record { client = at.client; filled = at.filled; rest = rest }
 
 -- what is left of a front behind its first line
-first_of_front : (front rest line behind : List ℕ) → front ≢ [] → Ended front → IsFirstLine (front ++ rest) line behind → (more : List ℕ) × IsFirstLine front line more × (behind ≡ more ++ rest) × Ended more
+first_of_front : (front rest line behind : List ℕ) → front ≢ [] → Ended front → IsFirstLine (front ++ rest) line behind
+    → (more : List ℕ) × IsFirstLine front line more × (behind ≡ more ++ rest) × Ended more
 first_of_front front rest line behind some end (inl h) =
     let c = cut_front h.0 behind front rest h.1 some end (sym (at_feed h.0 behind) ∙ sym h.2) in
     (c.0, inl (h.0, h.1, c.1 ∙ sym (at_feed h.0 c.0), h.3), c.2, c.3)
@@ -75,13 +77,15 @@ no_front : {A : Type 0} (dialect : Dialect) (hosts : List (Host A)) (at : Place)
 unfolding Front AreNext
 no_front dialect hosts at meanings = ([], meanings, place_at at [], refl, refl, tt, refl)
 
-front_behind : {A : Type 0} (dialect : Dialect) (hosts : List (Host A)) (at next : Place) (front more : List ℕ) (meaning : Meaning) (meanings : List Meaning) → IsNext hosts (place_at at front) meaning (place_at next more) → Takes dialect meaning → Front dialect hosts next more meanings
+front_behind : {A : Type 0} (dialect : Dialect) (hosts : List (Host A)) (at next : Place) (front more : List ℕ) (meaning : Meaning) (meanings : List Meaning)
+    → IsNext hosts (place_at at front) meaning (place_at next more) → Takes dialect meaning → Front dialect hosts next more meanings
     → Front dialect hosts at front (meaning ∷ meanings)
 unfolding Front AreNext
 front_behind dialect hosts at next front more meaning meanings is taken h =
     (meaning ∷ h.0, h.1, h.2, (place_at next more, is, h.3), h.4, (taken, h.5), ap (λ (ms : List Meaning). meaning ∷ ms) h.6)
 
-read_front : {A : Type 0} (dialect : Dialect) (hosts : List (Host A)) (at after : Place) (front rest : List ℕ) (meanings : List Meaning) → Ended front → at.rest ≡ front ++ rest → AreNext hosts at meanings after → after.rest ≡ [] → AllByRecursion (Takes dialect) meanings
+read_front : {A : Type 0} (dialect : Dialect) (hosts : List (Host A)) (at after : Place) (front rest : List ℕ) (meanings : List Meaning) → Ended front → at.rest ≡ front ++ rest
+    → AreNext hosts at meanings after → after.rest ≡ [] → AllByRecursion (Takes dialect) meanings
     → Front dialect hosts at front meanings
 unfolding AreNext
 read_front dialect hosts at after [] rest meanings end e h whole taken = no_front dialect hosts at meanings
@@ -98,7 +102,8 @@ flat_append : (some more : List Meaning) → flat_map lines_of (some ++ more) �
 flat_append [] more = refl
 flat_append (m ∷ some) more = ap (λ (ls : List Line). lines_of m ++ ls) (flat_append some more) ∙ sym (append_assoc (lines_of m) (flat_map lines_of some) (flat_map lines_of more))
 
-pub front_reads : {A : Type 0} (dialect : Dialect) (hosts : List (Host A)) (front rest : List ℕ) (script : List Line) → EndsAtLine front → Reads dialect hosts (front ++ rest) script → (some more : List Line) × Reads dialect hosts front some × (script ≡ some ++ more)
+pub front_reads : {A : Type 0} (dialect : Dialect) (hosts : List (Host A)) (front rest : List ℕ) (script : List Line) → EndsAtLine front
+    → Reads dialect hosts (front ++ rest) script → (some more : List Line) × Reads dialect hosts front some × (script ≡ some ++ more)
 unfolding Front
 front_reads dialect hosts front rest script ends h =
     let f = read_front dialect hosts (start_of (front ++ rest)) h.after front rest h.meanings (ended front ends) refl h.read h.whole h.taken in

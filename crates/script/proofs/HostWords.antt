@@ -30,7 +30,8 @@ first_reads others app word e =
     let same : r.0 ≡ app = omega (arith, r.1) in
     subst (λ (k : ℕ). slice_get others k ≡ Some word) same r.2
 
-index_again : (others : List (List ℕ)) (from k : ℕ) (word : List ℕ) → slice_get others k ≡ Some word → ((j : ℕ) → j < k → slice_get others j ≢ Some word) → index_from from others word ≡ Some (from + k)
+index_again : (others : List (List ℕ)) (from k : ℕ) (word : List ℕ) → slice_get others k ≡ Some word → ((j : ℕ) → j < k → slice_get others j ≢ Some word)
+    → index_from from others word ≡ Some (from + k)
 index_again [] from k word e before = absurd (none-some word e)
 index_again (other ∷ others) from zero word e before =
     let same : bytes_eq other word ≡ true = (bytes_eq-Decides other word).1 (same_Some other word e) in
@@ -49,7 +50,8 @@ index_none (other ∷ others) from word none =
 
 -- ---- what is known of a host
 
-get_mapped : {A : Type 0} (f : Host A → List ℕ) (hosts : List (Host A)) (k : ℕ) (word : List ℕ) → slice_get (map f hosts) k ≡ Some word → (host : Host A) × (slice_get hosts k ≡ Some host) × (f host ≡ word)
+get_mapped : {A : Type 0} (f : Host A → List ℕ) (hosts : List (Host A)) (k : ℕ) (word : List ℕ) → slice_get (map f hosts) k ≡ Some word
+    → (host : Host A) × (slice_get hosts k ≡ Some host) × (f host ≡ word)
 get_mapped f hosts k word e = option_map_some f (slice_get hosts k) word (sym (slice_get-map f hosts k) ∙ e)
 
 pub mapped_get : {A : Type 0} (f : Host A → List ℕ) (hosts : List (Host A)) (k : ℕ) (host : Host A) → slice_get hosts k ≡ Some host → slice_get (map f hosts) k ≡ Some (f host)
@@ -127,7 +129,8 @@ host_reads {A} hosts word app e =
       | inr identified ↦ id_reads hosts word (id_of word) app refl identified
     ]
 
-host_by : {A : Type 0} (hosts : List (Host A)) (word : List ℕ) (app : ℕ) (host : Host A) → HostsFit hosts → slice_get hosts app ≡ Some host → (word ≡ host.name) ⊎ (parsed word ≡ Some host.id) → all_ascii word ≡ true → host_at hosts word ≡ Some app
+host_by : {A : Type 0} (hosts : List (Host A)) (word : List ℕ) (app : ℕ) (host : Host A) → HostsFit hosts → slice_get hosts app ≡ Some host
+    → (word ≡ host.name) ⊎ (parsed word ≡ Some host.id) → all_ascii word ≡ true → host_at hosts word ≡ Some app
 host_by {A} hosts word app host fit slot (inl named) ascii =
     let by_name : index_from 0 (map (λ h. h.name) hosts) word ≡ Some app = ap (index_from 0 (map (λ (h : Host A). h.name) hosts)) named ∙ first_named hosts app host fit slot in
     ap (λ (o : Option ℕ). or_else o (id_at hosts (id_of word))) by_name

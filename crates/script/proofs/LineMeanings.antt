@@ -94,7 +94,8 @@ WordsMean hosts client words Nothing fill = ⊥
 WordsMean hosts client words (Client n) fill = (number : List ℕ) × (words ≡ codes "client" ∷ number ∷ []) × IsNumber number n × (n < CLIENTS) × (fill ≡ 0)
 WordsMean hosts client words (Script line) fill = IsLine hosts client words line fill
 
-call_line_reads : {A : Type 0} (hosts : List (Host A)) (client app : ℕ) (post : Bool) (name : List ℕ) (words : List (List ℕ)) (read : ReadMeaning) → IsHost hosts name app → call_line client app post words ≡ Some read
+call_line_reads : {A : Type 0} (hosts : List (Host A)) (client app : ℕ) (post : Bool) (name : List ℕ) (words : List (List ℕ)) (read : ReadMeaning) → IsHost hosts name app
+    → call_line client app post words ≡ Some read
     → WordsMean hosts client (name ∷ post_words post ++ words) read.meaning read.fills
 unfolding call_line IsLine
 call_line_reads hosts client app post name words read host e =
@@ -102,7 +103,8 @@ call_line_reads hosts client app post name words read host e =
     subst (λ (r : ReadMeaning). WordsMean hosts client (name ∷ post_words post ++ words) r.meaning r.fills) (same_Some (record { meaning = Script (lines.Call app client post c.0.call); fills = c.0.fills }) read c.2)
     (refl, name, words, host, call_reads words c.0 c.1, refl)
 
-turns_line_reads : {A : Type 0} (hosts : List (Host A)) (client app : ℕ) (name verb : List ℕ) (words : List (List ℕ)) (read : ReadMeaning) → IsHost hosts name app → verb ≡ codes "turn" → turns_line client app words ≡ Some read
+turns_line_reads : {A : Type 0} (hosts : List (Host A)) (client app : ℕ) (name verb : List ℕ) (words : List (List ℕ)) (read : ReadMeaning) → IsHost hosts name app
+    → verb ≡ codes "turn" → turns_line client app words ≡ Some read
     → WordsMean hosts client (name ∷ verb ∷ words) read.meaning read.fills
 unfolding turns_line IsLine
 turns_line_reads hosts client app name verb [] read host v e = absurd (none-some read e)
@@ -116,7 +118,8 @@ turns_line_reads hosts client app name verb (a ∷ b ∷ []) read host v e =
     (refl, name, a, b, host, x.0, y.0, x.1, x.2, y.1, y.2, ap (λ (w : List ℕ). name ∷ w ∷ a ∷ b ∷ []) v, refl)
 turns_line_reads hosts client app name verb (a ∷ b ∷ c ∷ words) read host v e = absurd (none-some read e)
 
-cancel_line_reads : {A : Type 0} (hosts : List (Host A)) (client app : ℕ) (name verb : List ℕ) (words : List (List ℕ)) (read : ReadMeaning) → IsHost hosts name app → verb ≡ codes "cancel" → cancel_line client app words ≡ Some read
+cancel_line_reads : {A : Type 0} (hosts : List (Host A)) (client app : ℕ) (name verb : List ℕ) (words : List (List ℕ)) (read : ReadMeaning) → IsHost hosts name app
+    → verb ≡ codes "cancel" → cancel_line client app words ≡ Some read
     → WordsMean hosts client (name ∷ verb ∷ words) read.meaning read.fills
 unfolding cancel_line IsLine
 cancel_line_reads hosts client app name verb [] read host v e = absurd (none-some read e)
@@ -143,7 +146,8 @@ app_line_reads hosts client app name (verb ∷ words) read host e =
       ]
     ]
 
-client_line_reads : {A : Type 0} (hosts : List (Host A)) (client : ℕ) (verb : List ℕ) (words : List (List ℕ)) (read : ReadMeaning) → verb ≡ codes "client" → client_line words ≡ Some read → WordsMean hosts client (verb ∷ words) read.meaning read.fills
+client_line_reads : {A : Type 0} (hosts : List (Host A)) (client : ℕ) (verb : List ℕ) (words : List (List ℕ)) (read : ReadMeaning) → verb ≡ codes "client"
+    → client_line words ≡ Some read → WordsMean hosts client (verb ∷ words) read.meaning read.fills
 unfolding client_line
 client_line_reads hosts client verb [] read v e = absurd (none-some read e)
 client_line_reads hosts client verb (a ∷ []) read v e =
@@ -153,7 +157,8 @@ client_line_reads hosts client verb (a ∷ []) read v e =
     (a, ap (λ (w : List ℕ). w ∷ a ∷ []) v, x.0, omega (arith, x.2), refl)
 client_line_reads hosts client verb (a ∷ b ∷ words) read v e = absurd (none-some read e)
 
-board_line_reads : {A : Type 0} (hosts : List (Host A)) (client : ℕ) (word : List ℕ) (words : List (List ℕ)) (read : ReadMeaning) → word ≡ codes "board" → board_line words ≡ Some read → WordsMean hosts client (word ∷ words) read.meaning read.fills
+board_line_reads : {A : Type 0} (hosts : List (Host A)) (client : ℕ) (word : List ℕ) (words : List (List ℕ)) (read : ReadMeaning) → word ≡ codes "board"
+    → board_line words ≡ Some read → WordsMean hosts client (word ∷ words) read.meaning read.fills
 unfolding board_line IsLine
 board_line_reads hosts client word [] read w e = absurd (none-some read e)
 board_line_reads hosts client word (verb ∷ []) read w e = absurd (none-some read e)
@@ -173,7 +178,8 @@ board_line_reads hosts client word (verb ∷ a ∷ []) read w e =
     ]
 board_line_reads hosts client word (verb ∷ a ∷ b ∷ words) read w e = absurd (none-some read e)
 
-words_mean : {A : Type 0} (hosts : List (Host A)) (client : ℕ) (words : List (List ℕ)) (read : ReadMeaning) → meaning_of_words hosts client words ≡ Some read → WordsMean hosts client words read.meaning read.fills
+words_mean : {A : Type 0} (hosts : List (Host A)) (client : ℕ) (words : List (List ℕ)) (read : ReadMeaning) → meaning_of_words hosts client words ≡ Some read
+    → WordsMean hosts client words read.meaning read.fills
 unfolding meaning_of_words
 words_mean hosts client [] read e = absurd (none-some read e)
 words_mean hosts client (word ∷ words) read e =
@@ -196,7 +202,8 @@ silent_again line (inr h) = ap is_silent h.1
 loud : (line : List ℕ) → ¬ IsSilent line → is_silent line ≡ false
 loud line not = false_from_ne_true (is_silent line) (λ t. not (silent_reads line t))
 
-with_words : {A : Type 0} (hosts : List (Host A)) (client : ℕ) (line : List ℕ) (words : List (List ℕ)) (meaning : Meaning) (fill : ℕ) → ¬ IsSilent line → AreWords line words → WordsMean hosts client words meaning fill → Means hosts client line meaning fill
+with_words : {A : Type 0} (hosts : List (Host A)) (client : ℕ) (line : List ℕ) (words : List (List ℕ)) (meaning : Meaning) (fill : ℕ) → ¬ IsSilent line → AreWords line words
+    → WordsMean hosts client words meaning fill → Means hosts client line meaning fill
 unfolding Means
 with_words hosts client line words Nothing fill not are h = absurd h
 with_words hosts client line words (Client n) fill not are h = (not, h.0, subst (AreWords line) h.1 are, h.2, h.3, h.4)
@@ -207,7 +214,8 @@ unfolding Means
 no_meaning hosts client line silent = (silent, refl)
 
 -- what is computed of a line is what it means
-pub meaning_reads : {A : Type 0} (hosts : List (Host A)) (client : ℕ) (line : List ℕ) (read : ReadMeaning) → meaning_of hosts client line ≡ Some read → IsAscii line × Means hosts client line read.meaning read.fills
+pub meaning_reads : {A : Type 0} (hosts : List (Host A)) (client : ℕ) (line : List ℕ) (read : ReadMeaning) → meaning_of hosts client line ≡ Some read
+    → IsAscii line × Means hosts client line read.meaning read.fills
 unfolding meaning_of
 meaning_reads hosts client line read e =
     elim (chosen (all_ascii line) _ _ _ e) [
@@ -220,11 +228,13 @@ meaning_reads hosts client line read e =
 
 -- ---- the words of a line are read as it
 
-app_again : {A : Type 0} (hosts : List (Host A)) (client app : ℕ) (name : List ℕ) (words : List (List ℕ)) → HostsFit hosts → IsHost hosts name app → all_ascii name ≡ true → meaning_of_words hosts client (name ∷ words) ≡ app_line client app words
+app_again : {A : Type 0} (hosts : List (Host A)) (client app : ℕ) (name : List ℕ) (words : List (List ℕ)) → HostsFit hosts → IsHost hosts name app → all_ascii name ≡ true
+    → meaning_of_words hosts client (name ∷ words) ≡ app_line client app words
 unfolding meaning_of_words
 app_again hosts client app name words fit host ascii = rw (not_client hosts name app fit host, not_board hosts name app fit host, host_again hosts name app fit host ascii) refl
 
-call_line_again : (client app : ℕ) (post : Bool) (words : List (List ℕ)) (call : Call) (fill : ℕ) → IsCall words call fill → app_line client app (post_words post ++ words) ≡ Some (record { meaning = Script (lines.Call app client post call); fills = fill })
+call_line_again : (client app : ℕ) (post : Bool) (words : List (List ℕ)) (call : Call) (fill : ℕ) → IsCall words call fill
+    → app_line client app (post_words post ++ words) ≡ Some (record { meaning = Script (lines.Call app client post call); fills = fill })
 unfolding app_line call_line
 call_line_again client app true words call fill h = rw (call_again words call fill h) refl
 call_line_again client app false words call fill h = call_verb client app words call fill h ∙ rw (call_again words call fill h) refl
@@ -238,22 +248,26 @@ cancel_again : (client app op : ℕ) (a : List ℕ) → IsNumber a op → op < 2
 unfolding app_line cancel_line
 cancel_again client app op a x small = rw (number_again a op x small) refl
 
-fuse_again : {A : Type 0} (hosts : List (Host A)) (client count : ℕ) (a : List ℕ) → IsNumber a count → count ≤ FUSE_CALLS → meaning_of_words hosts client (codes "board" ∷ codes "fuse" ∷ a ∷ []) ≡ Some (plain_line (lines.Fuse count))
+fuse_again : {A : Type 0} (hosts : List (Host A)) (client count : ℕ) (a : List ℕ) → IsNumber a count → count ≤ FUSE_CALLS
+    → meaning_of_words hosts client (codes "board" ∷ codes "fuse" ∷ a ∷ []) ≡ Some (plain_line (lines.Fuse count))
 unfolding meaning_of_words board_line
 fuse_again hosts client count a x most = rw (within_again 0 FUSE_CALLS a count (omega arith) x (omega arith) most) refl
 
-power_again : {A : Type 0} (hosts : List (Host A)) (client pick : ℕ) (a : List ℕ) → IsNumber a pick → pick < 2 ^ 64 → meaning_of_words hosts client (codes "board" ∷ codes "power" ∷ a ∷ []) ≡ Some (plain_line (lines.Power pick))
+power_again : {A : Type 0} (hosts : List (Host A)) (client pick : ℕ) (a : List ℕ) → IsNumber a pick → pick < 2 ^ 64
+    → meaning_of_words hosts client (codes "board" ∷ codes "power" ∷ a ∷ []) ≡ Some (plain_line (lines.Power pick))
 unfolding meaning_of_words board_line
 power_again hosts client pick a x small = rw (number_again a pick x small) refl
 
-client_again : {A : Type 0} (hosts : List (Host A)) (client n : ℕ) (a : List ℕ) → IsNumber a n → n < CLIENTS → meaning_of_words hosts client (codes "client" ∷ a ∷ []) ≡ Some (record { meaning = Client n; fills = 0 })
+client_again : {A : Type 0} (hosts : List (Host A)) (client n : ℕ) (a : List ℕ) → IsNumber a n → n < CLIENTS
+    → meaning_of_words hosts client (codes "client" ∷ a ∷ []) ≡ Some (record { meaning = Client n; fills = 0 })
 unfolding meaning_of_words client_line
 client_again hosts client n a x below = rw (within_again 0 (CLIENTS - 1) a n (omega arith) x (omega arith) (omega arith)) refl
 
 with_fill : (meaning : Meaning) (fill : ℕ) → fill ≡ 0 → ◌≡◌ {A = Option ReadMeaning} (Some (record { meaning = meaning; fills = 0 })) (Some (record { meaning = meaning; fills = fill }))
 with_fill meaning fill zero = ap (λ (n : ℕ). Some (record { meaning = meaning; fills = n })) (sym zero)
 
-line_again : {A : Type 0} (hosts : List (Host A)) (client : ℕ) (line : List ℕ) (words : List (List ℕ)) (told : Line) (fill : ℕ) → HostsFit hosts → all_ascii line ≡ true → AreWords line words → IsLine hosts client words told fill
+line_again : {A : Type 0} (hosts : List (Host A)) (client : ℕ) (line : List ℕ) (words : List (List ℕ)) (told : Line) (fill : ℕ) → HostsFit hosts → all_ascii line ≡ true
+    → AreWords line words → IsLine hosts client words told fill
     → meaning_of_words hosts client words ≡ Some (record { meaning = Script told; fills = fill })
 unfolding IsLine
 line_again hosts client line words (lines.Call app owner post call) fill fit ascii are h =
@@ -273,15 +287,19 @@ line_again hosts client line words (lines.Cancel app owner op) fill fit ascii ar
     ∙ cancel_again client app op h.2 h.4 h.5
     ∙ ap (λ (c : ℕ). Some (plain_line (lines.Cancel app c op))) (sym h.0)
     ∙ with_fill (Script (lines.Cancel app owner op)) fill h.7
-line_again hosts client line words (lines.Fuse count) fill fit ascii are h = ap (meaning_of_words hosts client) h.3 ∙ fuse_again hosts client count h.0 h.1 h.2 ∙ with_fill (Script (lines.Fuse count)) fill h.4
-line_again hosts client line words (lines.Power pick) fill fit ascii are h = ap (meaning_of_words hosts client) h.3 ∙ power_again hosts client pick h.0 h.1 h.2 ∙ with_fill (Script (lines.Power pick)) fill h.4
+line_again hosts client line words (lines.Fuse count) fill fit ascii are h = ap (meaning_of_words hosts client) h.3 ∙ fuse_again hosts client count h.0 h.1 h.2
+    ∙ with_fill (Script (lines.Fuse count)) fill h.4
+line_again hosts client line words (lines.Power pick) fill fit ascii are h = ap (meaning_of_words hosts client) h.3 ∙ power_again hosts client pick h.0 h.1 h.2
+    ∙ with_fill (Script (lines.Power pick)) fill h.4
 
-of_words : {A : Type 0} (hosts : List (Host A)) (client : ℕ) (line : List ℕ) (words : List (List ℕ)) (o : Option ReadMeaning) → all_ascii line ≡ true → ¬ IsSilent line → AreWords line words → meaning_of_words hosts client words ≡ o → meaning_of hosts client line ≡ o
+of_words : {A : Type 0} (hosts : List (Host A)) (client : ℕ) (line : List ℕ) (words : List (List ℕ)) (o : Option ReadMeaning) → all_ascii line ≡ true → ¬ IsSilent line
+    → AreWords line words → meaning_of_words hosts client words ≡ o → meaning_of hosts client line ≡ o
 unfolding meaning_of
 of_words hosts client line words o ascii not are e = rw (ascii, loud line not, words_again line words are) e
 
 -- what a line means is what is computed of it
-pub meaning_again : {A : Type 0} (hosts : List (Host A)) (client : ℕ) (line : List ℕ) (meaning : Meaning) (fill : ℕ) → HostsFit hosts → IsAscii line → Means hosts client line meaning fill → meaning_of hosts client line ≡ Some (record { meaning = meaning; fills = fill })
+pub meaning_again : {A : Type 0} (hosts : List (Host A)) (client : ℕ) (line : List ℕ) (meaning : Meaning) (fill : ℕ) → HostsFit hosts → IsAscii line
+    → Means hosts client line meaning fill → meaning_of hosts client line ≡ Some (record { meaning = meaning; fills = fill })
 unfolding Means meaning_of
 meaning_again hosts client line Nothing fill fit ascii h = rw (ascii_again line ascii, silent_again line h.0) (with_fill Nothing fill h.1)
 meaning_again hosts client line (Client n) fill fit ascii h = of_words hosts client line (codes "client" ∷ h.1 ∷ []) (Some (record { meaning = Client n; fills = fill })) (ascii_again line ascii) h.0 h.2 (client_again hosts client n h.1 h.3 h.4 ∙ with_fill (Client n) fill h.5)

@@ -37,7 +37,8 @@ with_numbers_some : (make : ℕ → ℕ → Param) (o q : Option ℕ) (p : Param
 with_numbers_some make None q p e = absurd (none-some p e)
 with_numbers_some make (Some a) q p e = let m = option_map_some (λ b. plain_parameter (make a b)) q p e in (a, m.0, refl, m.1, m.2)
 
-filled_some : (o : Option ℕ) (q : Option (List ℕ)) (p : Parameter) → filled o q ≡ Some p → (size byte : ℕ) × (o ≡ Some size) × (q ≡ Some (byte ∷ [])) × (size ≤ ASK_BYTES) × (record { param = MemIn (replicate size byte); fill = size } ≡ p)
+filled_some : (o : Option ℕ) (q : Option (List ℕ)) (p : Parameter) → filled o q ≡ Some p
+    → (size byte : ℕ) × (o ≡ Some size) × (q ≡ Some (byte ∷ [])) × (size ≤ ASK_BYTES) × (record { param = MemIn (replicate size byte); fill = size } ≡ p)
 filled_some None q p e = absurd (none-some p e)
 filled_some (Some size) None p e = absurd (none-some p e)
 filled_some (Some size) (Some []) p e = absurd (none-some p e)
@@ -217,7 +218,9 @@ part_lacks xs h = all_weaker IsPart (λ c. eqb c 58 ≡ false) (λ c p. p.1) xs 
 parameter_again : (word : List ℕ) (param : Param) (fill : ℕ) → IsParam word param fill → parameter_of word ≡ Some (record { param = param; fill = fill })
 parameter_again word param fill h =
     let p = parted word param fill h in
-    ap parameter_of p.whole ∙ ap parameter_of_parts (cut_joined 58 p.kind p.parts (part_lacks p.kind p.kind_part) (all_weaker (AllByRecursion IsPart) (Lacks 58) part_lacks p.parts p.each_part)) ∙ p.reads
+    ap parameter_of p.whole
+    ∙ ap parameter_of_parts (cut_joined 58 p.kind p.parts (part_lacks p.kind p.kind_part) (all_weaker (AllByRecursion IsPart) (Lacks 58) part_lacks p.parts p.each_part))
+    ∙ p.reads
 
 part_graphic : (xs : List ℕ) → AllByRecursion IsPart xs → AllByRecursion IsGraphic xs
 part_graphic xs h = all_weaker IsPart IsGraphic (λ c p. p.0) xs h
@@ -297,7 +300,8 @@ given_again (v ∷ w ∷ x ∷ y ∷ z ∷ more) a b c d h = absurd h.1.1.1.1
 left_out : (p : Parameter) → Some (plain_parameter Nothing) ≡ Some p → p ≡ plain_parameter Nothing
 left_out p e = sym (same_Some (plain_parameter Nothing) p e)
 
-at_each : (words : List (List ℕ)) (a b c d : Parameter) → length words ≤ 4 → parameter_at words 0 ≡ Some a → parameter_at words 1 ≡ Some b → parameter_at words 2 ≡ Some c → parameter_at words 3 ≡ Some d → Given words (a ∷ b ∷ c ∷ d ∷ [])
+at_each : (words : List (List ℕ)) (a b c d : Parameter) → length words ≤ 4 → parameter_at words 0 ≡ Some a → parameter_at words 1 ≡ Some b → parameter_at words 2 ≡ Some c
+    → parameter_at words 3 ≡ Some d → Given words (a ∷ b ∷ c ∷ d ∷ [])
 at_each [] a b c d few e f g h = (left_out a e, (left_out b f, (left_out c g, (left_out d h, tt))))
 at_each (v ∷ []) a b c d few e f g h = (e, (left_out b f, (left_out c g, (left_out d h, tt))))
 at_each (v ∷ w ∷ []) a b c d few e f g h = (e, (f, (left_out c g, (left_out d h, tt))))
@@ -326,7 +330,8 @@ parameters_read words all e =
     subst (λ (q : Parameters). AreParams words (params_of q.params) q.fills) g.5
     (subst (λ (n : ℕ). AreParams words (kinds_of (g.0 ∷ g.1 ∷ g.2 ∷ g.3 ∷ [])) n) total (given_reads words (g.0 ∷ g.1 ∷ g.2 ∷ g.3 ∷ []) g.4))
 
-four_of : (words : List (List ℕ)) (ps : List Parameter) (params : Params) (fills : ℕ) → Given words ps → kinds_of ps ≡ params_of params → fills_of ps ≡ fills → parameters_of words ≡ Some (record { params = params; fills = fills })
+four_of : (words : List (List ℕ)) (ps : List Parameter) (params : Params) (fills : ℕ) → Given words ps → kinds_of ps ≡ params_of params → fills_of ps ≡ fills
+    → parameters_of words ≡ Some (record { params = params; fills = fills })
 four_of words [] params fills g k t = absurd cc
 four_of words (a ∷ []) params fills g k t = absurd cc
 four_of words (a ∷ b ∷ []) params fills g k t = absurd cc

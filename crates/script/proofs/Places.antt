@@ -101,7 +101,8 @@ one_line dialect hosts text m n fit h k =
     let same = stop_same dialect hosts (start_of text) h.meanings k.meanings h.at k.at fit h.read h.taken h.bad k.read k.taken k.bad in
     h.number ∙ ap (λ (ms : List Meaning). length ms + 1) same.0 ∙ sym k.number
 
-pub not_both : {A : Type 0} (dialect : Dialect) (hosts : List (Host A)) (text : List ℕ) (script : List Line) (n : ℕ) → HostsFit hosts → Reads dialect hosts text script → FirstBad dialect hosts text n → ⊥
+pub not_both : {A : Type 0} (dialect : Dialect) (hosts : List (Host A)) (text : List ℕ) (script : List Line) (n : ℕ) → HostsFit hosts → Reads dialect hosts text script
+    → FirstBad dialect hosts text n → ⊥
 not_both dialect hosts text script n fit h k =
     let same = stop_same dialect hosts (start_of text) h.meanings k.meanings h.after k.at fit h.read h.taken (end_stops dialect hosts h.after h.whole) k.read k.taken k.bad in
     k.some (sym (ap (λ (p : Place). p.rest) same.1) ∙ h.whole)

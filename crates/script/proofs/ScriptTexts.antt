@@ -37,20 +37,23 @@ Stepped dialect hosts r text rest (Some next) =
     (meaning : Meaning) × IsNext hosts (place_of r text) meaning (place_of next rest) × Takes dialect meaning × (next.lines ≡ r.lines ++ lines_of meaning) × (next.filled ≤ FILL_BYTES)
 
 -- what the next line means is what is computed of it
-next_is : {A : Type 0} (hosts : List (Host A)) (r : Reading) (text line rest : List ℕ) (read : Option ReadMeaning) (meaning : Meaning) (after : Place) → HostsFit hosts → IsFirstLine text line rest → meaning_of hosts r.client line ≡ read
+next_is : {A : Type 0} (hosts : List (Host A)) (r : Reading) (text line rest : List ℕ) (read : Option ReadMeaning) (meaning : Meaning) (after : Place) → HostsFit hosts
+    → IsFirstLine text line rest → meaning_of hosts r.client line ≡ read
     → (next : IsNext hosts (place_of r text) meaning after) → read ≡ Some (record { meaning = meaning; fills = next.fill })
 next_is hosts r text line rest read meaning after fit first is next =
     let same = first_same text line rest next.line after.rest first next.first in
     sym is ∙ ap (meaning_of hosts r.client) same.0 ∙ meaning_again hosts r.client next.line meaning next.fill fit next.ascii next.means
 
 -- a line that is read, with not too many bytes filled in, is the next
-is_next : {A : Type 0} (hosts : List (Host A)) (r : Reading) (text line rest : List ℕ) (read : ReadMeaning) (client : ℕ) → IsFirstLine text line rest → meaning_of hosts r.client line ≡ Some read → client ≡ client_after r.client read.meaning → r.filled + read.fills ≤ FILL_BYTES
+is_next : {A : Type 0} (hosts : List (Host A)) (r : Reading) (text line rest : List ℕ) (read : ReadMeaning) (client : ℕ) → IsFirstLine text line rest
+    → meaning_of hosts r.client line ≡ Some read → client ≡ client_after r.client read.meaning → r.filled + read.fills ≤ FILL_BYTES
     → IsNext hosts (place_of r text) read.meaning (record { client = client; filled = r.filled + read.fills; rest = rest })
 is_next hosts r text line rest read client first is same fits =
     let m = meaning_reads hosts r.client line read is in
     record { line = line; fill = read.fills; first = first; ascii = m.0; means = m.1; client = same; filled = refl; within = fits }
 
-step_script : {A : Type 0} (dialect : Dialect) (hosts : List (Host A)) (r : Reading) (text line rest : List ℕ) (told : Line) (fills : ℕ) (b : Bool) → HostsFit hosts → IsFirstLine text line rest → meaning_of hosts r.client line ≡ Some (record { meaning = Script told; fills = fills }) → r.filled + fills ≤ FILL_BYTES → takes dialect told ≡ b
+step_script : {A : Type 0} (dialect : Dialect) (hosts : List (Host A)) (r : Reading) (text line rest : List ℕ) (told : Line) (fills : ℕ) (b : Bool) → HostsFit hosts
+    → IsFirstLine text line rest → meaning_of hosts r.client line ≡ Some (record { meaning = Script told; fills = fills }) → r.filled + fills ≤ FILL_BYTES → takes dialect told ≡ b
     → Stepped dialect hosts r text rest (cond b (Some (record { client = r.client; filled = r.filled + fills; lines = r.lines ++ told ∷ [] })) None)
 unfolding Stepped
 step_script dialect hosts r text line rest told fills true fit first is fits taken = (Script told, is_next hosts r text line rest (record { meaning = Script told; fills = fills }) r.client first is refl fits, taken, refl, fits)
@@ -59,14 +62,16 @@ step_script dialect hosts r text line rest told fills false fit first is fits ta
     let it : Takes dialect (Script told) = subst (Takes dialect) (sym (ap (λ (m : ReadMeaning). m.meaning) same)) takes_it in
     both_ways (takes dialect told) taken it
 
-step_meaning : {A : Type 0} (dialect : Dialect) (hosts : List (Host A)) (r : Reading) (text line rest : List ℕ) (meaning : Meaning) (fills : ℕ) → HostsFit hosts → IsFirstLine text line rest → meaning_of hosts r.client line ≡ Some (record { meaning = meaning; fills = fills }) → r.filled + fills ≤ FILL_BYTES
+step_meaning : {A : Type 0} (dialect : Dialect) (hosts : List (Host A)) (r : Reading) (text line rest : List ℕ) (meaning : Meaning) (fills : ℕ) → HostsFit hosts
+    → IsFirstLine text line rest → meaning_of hosts r.client line ≡ Some (record { meaning = meaning; fills = fills }) → r.filled + fills ≤ FILL_BYTES
     → Stepped dialect hosts r text rest (with_meaning dialect r (r.filled + fills) meaning)
 unfolding Stepped
 step_meaning dialect hosts r text line rest Nothing fills fit first is fits = (Nothing, is_next hosts r text line rest (record { meaning = Nothing; fills = fills }) r.client first is refl fits, tt, sym (append-nil r.lines), fits)
 step_meaning dialect hosts r text line rest (Client n) fills fit first is fits = (Client n, is_next hosts r text line rest (record { meaning = Client n; fills = fills }) n first is refl fits, tt, sym (append-nil r.lines), fits)
 step_meaning dialect hosts r text line rest (Script told) fills fit first is fits = step_script dialect hosts r text line rest told fills (takes dialect told) fit first is fits refl
 
-step_fits : {A : Type 0} (dialect : Dialect) (hosts : List (Host A)) (r : Reading) (text line rest : List ℕ) (read : ReadMeaning) (b : Bool) → HostsFit hosts → IsFirstLine text line rest → meaning_of hosts r.client line ≡ Some read → ltb FILL_BYTES (r.filled + read.fills) ≡ b
+step_fits : {A : Type 0} (dialect : Dialect) (hosts : List (Host A)) (r : Reading) (text line rest : List ℕ) (read : ReadMeaning) (b : Bool) → HostsFit hosts
+    → IsFirstLine text line rest → meaning_of hosts r.client line ≡ Some read → ltb FILL_BYTES (r.filled + read.fills) ≡ b
     → Stepped dialect hosts r text rest (cond b None (with_meaning dialect r (r.filled + read.fills) read.meaning))
 unfolding Stepped
 step_fits dialect hosts r text line rest read true fit first is over = λ meaning after next takes_it.
@@ -78,12 +83,14 @@ step_fits dialect hosts r text line rest read true fit first is over = λ meanin
     omega (arith, fill, above, sum, most)
 step_fits dialect hosts r text line rest read false fit first is within = step_meaning dialect hosts r text line rest read.meaning read.fills fit first is (ltb-false FILL_BYTES (r.filled + read.fills) within)
 
-step_read : {A : Type 0} (dialect : Dialect) (hosts : List (Host A)) (r : Reading) (text line rest : List ℕ) (read : Option ReadMeaning) → HostsFit hosts → IsFirstLine text line rest → meaning_of hosts r.client line ≡ read → Stepped dialect hosts r text rest (with_line dialect r read)
+step_read : {A : Type 0} (dialect : Dialect) (hosts : List (Host A)) (r : Reading) (text line rest : List ℕ) (read : Option ReadMeaning) → HostsFit hosts
+    → IsFirstLine text line rest → meaning_of hosts r.client line ≡ read → Stepped dialect hosts r text rest (with_line dialect r read)
 unfolding Stepped
 step_read dialect hosts r text line rest None fit first is = λ meaning after next takes_it. none-some (record { meaning = meaning; fills = next.fill }) (next_is hosts r text line rest None meaning after fit first is next)
 step_read dialect hosts r text line rest (Some read) fit first is = step_fits dialect hosts r text line rest read (ltb FILL_BYTES (r.filled + read.fills)) fit first is refl
 
-step : {A : Type 0} (dialect : Dialect) (hosts : List (Host A)) (r : Reading) (text line rest : List ℕ) → HostsFit hosts → IsFirstLine text line rest → Stepped dialect hosts r text rest (reading_after dialect hosts r line)
+step : {A : Type 0} (dialect : Dialect) (hosts : List (Host A)) (r : Reading) (text line rest : List ℕ) → HostsFit hosts → IsFirstLine text line rest
+    → Stepped dialect hosts r text rest (reading_after dialect hosts r line)
 unfolding reading_after
 step dialect hosts r text line rest fit first = step_read dialect hosts r text line rest (meaning_of hosts r.client line) fit first refl
 
@@ -116,7 +123,8 @@ told_behind dialect hosts n r next text rest meaning (Ok script) is taken lines 
 told_behind dialect hosts n r next text rest meaning (Err bad) is taken lines told =
     (meaning ∷ told.0, told.1, (place_of next rest, is, told.2), (taken, told.3), omega (arith, told.4), told.5, told.6)
 
-told_onward : {A : Type 0} (dialect : Dialect) (hosts : List (Host A)) (n : ℕ) (r : Reading) (text rest : List ℕ) (read : Option Reading) (more : Reading → Result (List Line) ℕ) → text ≢ [] → Stepped dialect hosts r text rest read
+told_onward : {A : Type 0} (dialect : Dialect) (hosts : List (Host A)) (n : ℕ) (r : Reading) (text rest : List ℕ) (read : Option Reading) (more : Reading → Result (List Line) ℕ)
+    → text ≢ [] → Stepped dialect hosts r text rest read
     → ((next : Reading) → next.filled ≤ FILL_BYTES → Told dialect hosts (n + 1) next rest (more next)) → Told dialect hosts n r text (onward n read more)
 unfolding Stepped
 told_onward dialect hosts n r text rest None more some stepped later = stopped dialect hosts n r text some stepped
@@ -133,7 +141,8 @@ has_none : (text : List ℕ) → Lacks 10 text → HasNoLineFeed text
 has_none text h = all_weaker (λ c. eqb c 10 ≡ false) (λ c. c ≢ 10) (λ c e. eqb-false c 10 e) text h
 
 -- a last line without an end that a carriage return ends is no line
-return_stops : {A : Type 0} (dialect : Dialect) (hosts : List (Host A)) (r : Reading) (text : List ℕ) → HasNoLineFeed text → slice_index text (length text - 1) ≡ 13 → Stops dialect hosts (place_of r text)
+return_stops : {A : Type 0} (dialect : Dialect) (hosts : List (Host A)) (r : Reading) (text : List ℕ) → HasNoLineFeed text → slice_index text (length text - 1) ≡ 13
+    → Stops dialect hosts (place_of r text)
 return_stops dialect hosts r text none ends meaning after next taken = no_line next.first
   where
     no_line : IsFirstLine text next.line after.rest → ⊥
@@ -144,18 +153,21 @@ return_stops dialect hosts r text none ends meaning after next taken = no_line n
         absurd_feed (c ∷ cs) rest k = absurd_feed cs rest k.1
     no_line (inr h) = h.2 ends
 
-told_last : {A : Type 0} (dialect : Dialect) (hosts : List (Host A)) (n : ℕ) (r : Reading) (c : ℕ) (cs : List ℕ) (b : Bool) → HostsFit hosts → Lacks 10 (c ∷ cs) → eqb (slice_index (c ∷ cs) (length (c ∷ cs) - 1)) 13 ≡ b
+told_last : {A : Type 0} (dialect : Dialect) (hosts : List (Host A)) (n : ℕ) (r : Reading) (c : ℕ) (cs : List ℕ) (b : Bool) → HostsFit hosts → Lacks 10 (c ∷ cs)
+    → eqb (slice_index (c ∷ cs) (length (c ∷ cs) - 1)) 13 ≡ b
     → Told dialect hosts n r (c ∷ cs) (cond b (Err n) (onward n (reading_after dialect hosts r (c ∷ cs)) (λ next. Ok next.lines)))
 told_last dialect hosts n r c cs true fit lacks ends = stopped dialect hosts n r (c ∷ cs) (some_text c cs) (return_stops dialect hosts r (c ∷ cs) (has_none (c ∷ cs) lacks) (eqb-true (slice_index (c ∷ cs) (length (c ∷ cs) - 1)) 13 ends))
 told_last dialect hosts n r c cs false fit lacks ends =
     let first : IsFirstLine (c ∷ cs) (c ∷ cs) [] = inr (has_none (c ∷ cs) lacks, some_text c cs, eqb-false (slice_index (c ∷ cs) (length (c ∷ cs) - 1)) 13 ends, refl, refl) in
     told_onward dialect hosts n r (c ∷ cs) [] (reading_after dialect hosts r (c ∷ cs)) (λ next. Ok next.lines) (some_text c cs) (step dialect hosts r (c ∷ cs) (c ∷ cs) [] fit first) (λ next fits. told_nothing dialect hosts (n + 1) next)
 
-told_end : {A : Type 0} (dialect : Dialect) (hosts : List (Host A)) (n : ℕ) (r : Reading) (last : List ℕ) → HostsFit hosts → Lacks 10 last → Told dialect hosts n r last (ended_by dialect hosts n r last)
+told_end : {A : Type 0} (dialect : Dialect) (hosts : List (Host A)) (n : ℕ) (r : Reading) (last : List ℕ) → HostsFit hosts → Lacks 10 last
+    → Told dialect hosts n r last (ended_by dialect hosts n r last)
 told_end dialect hosts n r [] fit lacks = told_nothing dialect hosts n r
 told_end dialect hosts n r (c ∷ cs) fit lacks = told_last dialect hosts n r c cs (eqb (slice_index (c ∷ cs) (length (c ∷ cs) - 1)) 13) fit lacks refl
 
-after_onward : (n : ℕ) (read : Option Reading) (more : Reading → Result Reading ℕ) (last : Reading → Result (List Line) ℕ) → after_lines (onward n read more) last ≡ onward n read (λ next. after_lines (more next) last)
+after_onward : (n : ℕ) (read : Option Reading) (more : Reading → Result Reading ℕ) (last : Reading → Result (List Line) ℕ)
+    → after_lines (onward n read more) last ≡ onward n read (λ next. after_lines (more next) last)
 after_onward n None more last = refl
 after_onward n (Some next) more last = refl
 
@@ -163,7 +175,8 @@ some_piece : (piece rest : List ℕ) → piece ++ 10 ∷ rest ≢ []
 some_piece [] rest e = cc
 some_piece (c ∷ cs) rest e = cc
 
-told_lines : {A : Type 0} (dialect : Dialect) (hosts : List (Host A)) (n number : ℕ) (r : Reading) (front : List (List ℕ)) (last : List ℕ) → HostsFit hosts → AllByRecursion (Lacks 10) front → Lacks 10 last → number ≡ n + length front
+told_lines : {A : Type 0} (dialect : Dialect) (hosts : List (Host A)) (n number : ℕ) (r : Reading) (front : List (List ℕ)) (last : List ℕ) → HostsFit hosts
+    → AllByRecursion (Lacks 10) front → Lacks 10 last → number ≡ n + length front
     → Told dialect hosts n r (text_of front last) (after_lines (read_from dialect hosts n r front) (λ read. ended_by dialect hosts number read last))
 told_lines dialect hosts n number r [] last fit lacks ends e =
     let same : n ≡ number = omega (arith, e) in
@@ -187,7 +200,8 @@ join_front [] last = refl
 join_front (piece ∷ []) last = refl
 join_front (piece ∷ next ∷ front) last = ap (λ (t : List ℕ). piece ++ 10 ∷ t) (join_front (next ∷ front) last)
 
-pushed : {A : Type 0} (dialect : Dialect) (hosts : List (Host A)) (front : List (List ℕ)) (last : List ℕ) → script_from dialect hosts (front ++ last ∷ []) ≡ after_lines (read_from dialect hosts 1 no_reading front) (λ r. ended_by dialect hosts (1 + length front) r last)
+pushed : {A : Type 0} (dialect : Dialect) (hosts : List (Host A)) (front : List (List ℕ)) (last : List ℕ)
+    → script_from dialect hosts (front ++ last ∷ []) ≡ after_lines (read_from dialect hosts 1 no_reading front) (λ r. ended_by dialect hosts (1 + length front) r last)
 pushed dialect hosts front last =
     let long : length (front ++ last ∷ []) ≡ 1 + length front = omega (arith, length_push front last) in
     let before : length (front ++ last ∷ []) - 1 ≡ length front = omega (arith, long) in
@@ -197,13 +211,15 @@ pushed dialect hosts front last =
     ∙ ap (λ (ps : List (List ℕ)). after_lines (read_from dialect hosts 1 no_reading ps) (λ r. ended_by dialect hosts (length (front ++ last ∷ [])) r last)) fronts
     ∙ ap (λ (k : ℕ). after_lines (read_from dialect hosts 1 no_reading front) (λ r. ended_by dialect hosts k r last)) long
 
-tell_pushed : {A : Type 0} (dialect : Dialect) (hosts : List (Host A)) (front : List (List ℕ)) (last : List ℕ) → HostsFit hosts → AllByRecursion (Lacks 10) (front ++ last ∷ []) → Told dialect hosts 1 no_reading (join_with_byte 10 (front ++ last ∷ [])) (script_from dialect hosts (front ++ last ∷ []))
+tell_pushed : {A : Type 0} (dialect : Dialect) (hosts : List (Host A)) (front : List (List ℕ)) (last : List ℕ) → HostsFit hosts → AllByRecursion (Lacks 10) (front ++ last ∷ [])
+    → Told dialect hosts 1 no_reading (join_with_byte 10 (front ++ last ∷ [])) (script_from dialect hosts (front ++ last ∷ []))
 tell_pushed dialect hosts front last fit lacks =
     let each = all_split (Lacks 10) front (last ∷ []) lacks in
     subst (λ (t : List ℕ). Told dialect hosts 1 no_reading t (script_from dialect hosts (front ++ last ∷ []))) (sym (join_front front last))
     (subst (Told dialect hosts 1 no_reading (text_of front last)) (sym (pushed dialect hosts front last)) (told_lines dialect hosts 1 (1 + length front) no_reading front last fit each.0 each.1.0 refl))
 
-tell_pieces : {A : Type 0} (dialect : Dialect) (hosts : List (Host A)) (pieces : List (List ℕ)) → HostsFit hosts → 0 < length pieces → AllByRecursion (Lacks 10) pieces → Told dialect hosts 1 no_reading (join_with_byte 10 pieces) (script_from dialect hosts pieces)
+tell_pieces : {A : Type 0} (dialect : Dialect) (hosts : List (Host A)) (pieces : List (List ℕ)) → HostsFit hosts → 0 < length pieces → AllByRecursion (Lacks 10) pieces
+    → Told dialect hosts 1 no_reading (join_with_byte 10 pieces) (script_from dialect hosts pieces)
 tell_pieces dialect hosts [] fit some lacks = absurd (omega arith)
 tell_pieces dialect hosts (piece ∷ pieces) fit some lacks =
     let r = last_of piece pieces in
@@ -215,7 +231,8 @@ tell_text dialect hosts text fit =
     subst (λ (t : List ℕ). Told dialect hosts 1 no_reading t (script_of dialect hosts text)) (join_with_byte-slice_split 10 text) (tell_pieces dialect hosts (slice_split (λ c. eqb c 10) text) fit some (parts_lack 10 text))
 
 -- what is computed is what the grammar reads
-pub script_reads : {A : Type 0} (dialect : Dialect) (hosts : List (Host A)) (text : List ℕ) (script : List Line) → HostsFit hosts → script_of dialect hosts text ≡ Ok script → Reads dialect hosts text script
+pub script_reads : {A : Type 0} (dialect : Dialect) (hosts : List (Host A)) (text : List ℕ) (script : List Line) → HostsFit hosts → script_of dialect hosts text ≡ Ok script
+    → Reads dialect hosts text script
 unfolding Told
 script_reads dialect hosts text script fit e =
     let told : Told dialect hosts 1 no_reading text (Ok script) = subst (Told dialect hosts 1 no_reading text) e (tell_text dialect hosts text fit) in

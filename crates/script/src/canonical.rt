@@ -28,7 +28,8 @@ impl Text {
 
     /// Two numbers behind a kind's word.
     fn pair(&mut self, kind: &[u8], a: u32, b: u32) -> Result<(), NoMemory>
-        ensures { OnOk result (self.new ≡ self.old ++ (kind.now ++ decimal a ++ codes ":" ++ decimal b)) }
+        ensures { OnOk result (self.new
+            ≡ self.old ++ (kind.now ++ decimal a ++ codes ":" ++ decimal b)) }
     {
         self.push(kind)?;
         self.number(u64::from(a))?;
@@ -74,7 +75,8 @@ impl Text {
 
     /// The words of parameters, each behind a space.
     fn params(&mut self, params: &Params) -> Result<(), NoMemory>
-        ensures { OnOk result (self.new ≡ self.old ++ behind_spaces (params_words (params_of params.now))) }
+        ensures { OnOk result (self.new
+            ≡ self.old ++ behind_spaces (params_words (params_of params.now))) }
     {
         let last = is_none(&params.p3);
         let third = is_none(&params.p2) && last;

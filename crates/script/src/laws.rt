@@ -16,19 +16,24 @@ use std::alloc::Global;
 
 /// Each text reads to one script, or has one first line outside the grammar or the dialect, and never both. It does nothing.
 pub fn one_reading<A: Application>()
-    ensures script { (dialect : Dialect) (hosts : List (Host A)) (text : List ℕ) (a b : List Line) → HostsFit hosts
+    ensures script { (dialect : Dialect) (hosts : List (Host A)) (text : List ℕ)
+        (a b : List Line) → HostsFit hosts
         → Reads dialect hosts text a → Reads dialect hosts text b → a ≡ b }
-    ensures line { (dialect : Dialect) (hosts : List (Host A)) (text : List ℕ) (m n : ℕ) → HostsFit hosts
+    ensures line { (dialect : Dialect) (hosts : List (Host A)) (text : List ℕ)
+        (m n : ℕ) → HostsFit hosts
         → FirstBad dialect hosts text m → FirstBad dialect hosts text n → m ≡ n }
-    ensures not_both { (dialect : Dialect) (hosts : List (Host A)) (text : List ℕ) (script : List Line) (n : ℕ)
-        → HostsFit hosts → Reads dialect hosts text script → FirstBad dialect hosts text n → ⊥ }
+    ensures not_both { (dialect : Dialect) (hosts : List (Host A)) (text : List ℕ)
+        (script : List Line) (n : ℕ) → HostsFit hosts
+        → Reads dialect hosts text script → FirstBad dialect hosts text n → ⊥ }
     ensures either { (dialect : Dialect) (hosts : List (Host A)) (text : List ℕ) → HostsFit hosts
-        → ((script : List Line) × Reads dialect hosts text script) ⊎ ((n : ℕ) × FirstBad dialect hosts text n) }
+        → ((script : List Line) × Reads dialect hosts text script)
+        ⊎ ((n : ℕ) × FirstBad dialect hosts text n) }
 {}
 
 /// Where a text reads, each front of it that ends at a line end reads to a front of its lines. It does nothing.
 pub fn fronts_are_read<A: Application>()
-    ensures { (dialect : Dialect) (hosts : List (Host A)) (front rest : List ℕ) (script : List Line)
+    ensures { (dialect : Dialect) (hosts : List (Host A)) (front rest : List ℕ)
+        (script : List Line)
         → (front ≡ []) ⊎ ((lines : List ℕ) × (front ≡ lines ++ codes "\n"))
         → Reads dialect hosts (front ++ rest) script
         → (some more : List Line) × Reads dialect hosts front some × (script ≡ some ++ more) }

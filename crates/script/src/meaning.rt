@@ -283,7 +283,8 @@ fn meaning_of_words<A>(
     words: &[&[u8]],
 ) -> Result<ReadMeaning, LineError>
     requires { length hosts.now ≤ 16 }
-    ensures value { Gives result (meaning_of_words hosts.now client (map (λ word. word.now) words.now)) }
+    ensures value { Gives result
+        (meaning_of_words hosts.now client (map (λ word. word.now) words.now)) }
     ensures small { IfOk result (λ read. read.fills ≤ 4 * ASK_BYTES) }
 {
     let Some((word, others)) = words.split_first() else {

@@ -83,7 +83,8 @@ fn read_pieces<A>(
     pieces: &[&[u8]],
 ) -> Result<Reader, ScriptAnswer>
     requires { length hosts.now ≤ 16 }
-    ensures value { Answers result (read_from dialect hosts.now 1 no_reading (map (λ piece. piece.now) pieces.now)) }
+    ensures value { Answers result
+        (read_from dialect hosts.now 1 no_reading (map (λ piece. piece.now) pieces.now)) }
     ensures within { IfOk result (λ reader. reader.filled ≤ FILL_BYTES) }
 {
     let mut reader = Reader::new(alloc);
@@ -108,7 +109,8 @@ fn read_last<A>(
 ) -> Result<Vec<Line>, ScriptAnswer>
     requires few { length hosts.now ≤ 16 }
     requires within { reader.filled ≤ FILL_BYTES }
-    ensures { AnswersWith (λ lines. lines.items) result (ended_by dialect hosts.now number reader last.now) }
+    ensures { AnswersWith (λ lines. lines.items) result
+        (ended_by dialect hosts.now number reader last.now) }
 {
     if last.is_empty() {
         return Ok(reader.into_lines());
@@ -131,7 +133,8 @@ fn lines_between<A>(
     pieces: &[&[u8]],
 ) -> Result<Vec<Line>, ScriptAnswer>
     requires { length hosts.now ≤ 16 }
-    ensures { AnswersWith (λ lines. lines.items) result (script_from dialect hosts.now (map (λ piece. piece.now) pieces.now)) }
+    ensures { AnswersWith (λ lines. lines.items) result
+        (script_from dialect hosts.now (map (λ piece. piece.now) pieces.now)) }
 {
     if pieces.is_empty() {
         return Ok(Vec::new(alloc));

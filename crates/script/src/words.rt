@@ -42,14 +42,16 @@ impl<T: Drop> From<AllocFailed<T>> for LineError {
 
 /// The parts of a text between the separators, the empty ones too.
 pub fn parts_of(alloc: Global, text: &[u8], separator: u8) -> Result<Vec<&[u8]>, AllocError>
-    ensures { IfOk result (λ parts. map (λ part. part.now) parts.items ≡ slice_split (λ c. c == separator) text.now) }
+    ensures { IfOk result (λ parts. map (λ part. part.now) parts.items
+        ≡ slice_split (λ c. c == separator) text.now) }
 {
     text.split(|c| *c == separator).collect(alloc)
 }
 
 /// The parts that aren't empty.
 fn some_of<'a>(alloc: Global, parts: &[&'a [u8]]) -> Result<Vec<&'a [u8]>, AllocError>
-    ensures { IfOk result (λ words. map (λ word. word.now) words.items ≡ filter is_some_word (map (λ part. part.now) parts.now)) }
+    ensures { IfOk result (λ words. map (λ word. word.now) words.items
+        ≡ filter is_some_word (map (λ part. part.now) parts.now)) }
 {
     let mut words = Vec::new(alloc);
     for part in parts {
