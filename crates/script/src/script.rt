@@ -186,8 +186,6 @@ pub fn parse_in<A: Application>(
     // The first line outside the grammar or the dialect is named, unless memory runs out.
     ensures first_bad { (n : ℕ) → FirstBad dialect hosts.now text.now n
         → Answers result (Err n) }
-    // The same by a function that cuts the text.
-    ensures computed { Answers result (script_of dialect hosts.now text.now) }
 {
     read_script(alloc, text, hosts, dialect)
 }
