@@ -43,11 +43,15 @@ machine_event (events.Turn app instance) = Turned instance
 abbrev pub event_of : Event → AppEvent
 event_of e = record { app = app_of e; event = machine_event e }
 
+-- the applications of a value
+abbrev pub applications_of : {A : Type 0} → Tee A → List (Hosted A)
+applications_of tee = tee.hosted.items
+
 -- every other application is as it was
-abbrev pub OthersStay : {A : Type 0} → ℕ → Tee A → Tee A → Type 0
-OthersStay {A} app old new = (other : ℕ) (d : Hosted A) → other ≢ app → slice_index_or new.hosted.items other d ≡ slice_index_or old.hosted.items other d
+abbrev pub OthersStay : {A : Type 0} → ℕ → List (Hosted A) → List (Hosted A) → Type 0
+OthersStay {A} app old new = (other : ℕ) (d : Hosted A) → other ≢ app → slice_index_or new other d ≡ slice_index_or old other d
 
 -- what an event that found no memory leaves: a call leaves all, and a turn all other applications
-abbrev pub LeftByWant : {A : Type 0} → Event → Tee A → Tee A → Type 0
-LeftByWant {A} (events.Call app client call) old new = (world : World A) → Represents old world → Represents new world
+abbrev pub LeftByWant : {A : Type 0} → Event → List (Hosted A) → List (Hosted A) → Type 0
+LeftByWant {A} (events.Call app client call) old new = (world : World A) → AreHosted old world → AreHosted new world
 LeftByWant (events.Turn app instance) old new = OthersStay app old new

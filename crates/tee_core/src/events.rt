@@ -6,7 +6,7 @@ ghost use Rattle.app_api.specs.Hosts.{HostsFit};
 ghost use Rattle.app_side.specs.Represents.{IsOneInstance};
 ghost use Rattle.alone.specs.Machine.{Machine};
 ghost use Rattle.tee_core.specs.Happenings.{happening, told_of_call};
-ghost use Rattle.tee_core.specs.Represents.{app_count, app_of, event_of, machine_event, AreHosted, LeftByWant, OthersStay, Represents};
+ghost use Rattle.tee_core.specs.Represents.{app_count, app_of, applications_of, event_of, machine_event, AreHosted, LeftByWant, OthersStay, Represents};
 ghost use Rattle.tee_core.specs.World.{World, world_after, world_of, world_step, run_events};
 
 use crate::happened::{Event, Happened, RunReplies};
@@ -59,7 +59,7 @@ impl<A: Application> Tee<A> {
         requires { app_of event < app_count self.old }
         ensures world { OnOk result ((world : World A) → Represents self.old world → Represents self.new (world_step A.behaviour world (event_of event))) }
         ensures told { IfOk result (λ told. (world : World A) (m : Machine A) → Represents self.old world → slice_get world (app_of event) ≡ Some m → told ≡ happening A.behaviour m (machine_event event)) }
-        ensures err { OnErr result (LeftByWant event self.old self.new) }
+        ensures err { OnErr result (LeftByWant event (applications_of self.old) (applications_of self.new)) }
         ensures apps { app_count self.new ≡ app_count self.old }
     {
         match event {
@@ -83,7 +83,7 @@ impl<A: Application> Tee<A> {
         requires { app < app_count self.old }
         ensures world { OnOk result ((world : World A) → Represents self.old world → Represents self.new (world_after A.behaviour world (run_events A.behaviour world app client call))) }
         ensures told { IfOk result (λ told. (world : World A) (m : Machine A) → Represents self.old world → slice_get world app ≡ Some m → told ≡ told_of_call A.behaviour m client call) }
-        ensures err { OnErr result (OthersStay app self.old self.new) }
+        ensures err { OnErr result (OthersStay app (applications_of self.old) (applications_of self.new)) }
         ensures apps { app_count self.new ≡ app_count self.old }
     {
         self.hosted[app as usize].run(alloc, client, call)

@@ -9,7 +9,7 @@ use Rattle.tee_core.proofs.hosted.Hosted.turn_until.Goals as goal
 pub loop-init : goal.loop-init
 loop-init g c = record {
   run = λ m is. turns_start g.A.Application.behaviour (IsHosted c.args.self.now) m c.args.instance c.args.op c.args.told.now is;
-  none = c.none.ensures;
+  none = c.none-replies.ensures;
 }
 
 pub returns-then-answered-clause-hosted : goal.returns-then-answered-clause-hosted

@@ -55,7 +55,7 @@ returns-in-Call-clause-err g c =
     let hs = c.args.self.now.hosted.items in
     let known : c.in-Call.app < length hs = subst (λ (e : Event). app_of e < length hs) c.in-Call.is c.requires in
     on_err_weaker c.call.result
-    (λ keeps. subst (λ (e : Event). LeftByWant e c.args.self.now (record c.args.self.now { hosted = record c.args.self.now.hosted { items = set hs c.in-Call.app c.call.new.self } })) (sym c.in-Call.is)
+    (λ keeps. subst (λ (e : Event). LeftByWant e hs (set hs c.in-Call.app c.call.new.self)) (sym c.in-Call.is)
     (λ world are. hosted_kept hs world c.in-Call.app c.index_mut.result.now c.call.new.self _ are known c.index_mut.ensures.value keeps))
     c.call.ensures.err
 
@@ -63,5 +63,5 @@ pub returns-in-Turn-clause-err : goal.returns-in-Turn-clause-err
 returns-in-Turn-clause-err g c =
     let hs = c.args.self.now.hosted.items in
     on_err_known c.turn.result _
-    (subst (λ (e : Event). LeftByWant e c.args.self.now (record c.args.self.now { hosted = record c.args.self.now.hosted { items = set hs c.in-Turn.app c.turn.new.self } })) (sym c.in-Turn.is)
+    (subst (λ (e : Event). LeftByWant e hs (set hs c.in-Turn.app c.turn.new.self)) (sym c.in-Turn.is)
     (λ other d apart. get_or-set_other hs c.in-Turn.app other c.turn.new.self d apart))
