@@ -33,4 +33,3 @@ hosts_can_name hosts h = record {
   plain = All-map (λ name. All (λ c. (c ≢ 32) × (c ≢ 10)) name) (λ host. host.name) hosts (All-weaker (λ host. IsName host.name) (λ host. All (λ c. (c ≢ 32) × (c ≢ 10)) host.name) (λ host. plain_name host.name) hosts h.named);
   apart = names_apart hosts h.apart;
 }
-

@@ -110,15 +110,11 @@ fn run_line<A: Application, W: Sink>(
 ) -> Result<(), Stop>
     requires names { length names.now ≡ app_count tee.old }
     requires known { IsKnown (app_count tee.old) line }
-    ensures world {
-        OnOk result ((world : World A) → Represents tee.old world
-        → Represents tee.new (world_after A.behaviour world (line_events A.behaviour world line)))
-    }
-    ensures written {
-        (world : World A) → Represents tee.old world
+    ensures world { OnOk result ((world : World A) → Represents tee.old world
+        → Represents tee.new (world_after A.behaviour world (line_events A.behaviour world line))) }
+    ensures written { (world : World A) → Represents tee.old world
         → Writes result (text_of A.behaviour names.now world (line_events A.behaviour world line))
-        (W.written sink.old) (W.written sink.new)
-    }
+        (W.written sink.old) (W.written sink.new) }
     ensures apps { app_count tee.new ≡ app_count tee.old }
     ensures fault { IsErrOf result Stop.WriteFault → Rose (W.failures sink.old) (W.failures sink.new) }
     ensures later { W.failures sink.old ≤ W.failures sink.new }
@@ -153,11 +149,9 @@ pub fn run_lines<A: Application, W: Sink>(
 ) -> Result<(), Stop>
     requires names { length names.now ≡ app_count tee.old }
     requires known { AllByRecursion (IsKnown (app_count tee.old)) lines.items }
-    ensures written {
-        (world : World A) → Represents tee.old world
+    ensures written { (world : World A) → Represents tee.old world
         → Writes result (text_of A.behaviour names.now world (events_of A.behaviour world lines.items))
-        (W.written sink.old) (W.written sink.new)
-    }
+        (W.written sink.old) (W.written sink.new) }
     ensures fault { IsErrOf result Stop.WriteFault → Rose (W.failures sink.old) (W.failures sink.new) }
     ensures later { W.failures sink.old ≤ W.failures sink.new }
 {

@@ -4,10 +4,5 @@ use Rattle.tee_core.specs.Represents.{app_count}
 use Rattle.tee_top.specs.Runs.{IsKnown}
 use Rattle.tee_top.proofs.lines.run_line.Goals as goal
 
-pub index-requires : goal.index-requires
-index-requires g c =
-    let known : c.in-Call.app < app_count c.args.tee.now = subst (λ (line : Line). IsKnown (app_count c.args.tee.now) line) c.in-Call.is c.requires.known in
-    omega (arith, known, c.requires.names)
-
 pub run_call-requires : goal.run_call-requires
 run_call-requires g c = subst (λ (line : Line). IsKnown (app_count c.args.tee.now) line) c.in-Call.is c.requires.known
