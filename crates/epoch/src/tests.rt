@@ -56,18 +56,6 @@ fn write_header(rt: &impl Abort, board: &mut MemBoard, header: &Header) -> Resul
     Ok(())
 }
 
-// What the search for a header answers where one of this version and sequence was written, at a counter.
-fn answer_with(
-    rt: &impl Abort,
-    alloc: Global,
-    header: Header,
-    counter: u64,
-) -> Result<Result<Option<Header>, OpenAnswer>, Fail> {
-    let mut board = blank_board(alloc, counter.saturating_sub(1))?;
-    write_header(rt, &mut board, &header)?;
-    Ok(find_header(&mut board))
-}
-
 #[test]
 fn a_header_has_the_bytes_computed_outside(rt: HostRuntime) -> Result<(), Fail> {
     let mut board = blank_board(rt.alloc(), 4)?;
@@ -95,37 +83,45 @@ fn boards_without_a_volume(rt: HostRuntime) -> Result<(), Fail> {
 }
 
 #[test]
-fn headers_beside_the_counter(rt: HostRuntime) -> Result<(), Fail> {
-    let alloc = rt.alloc();
+fn a_header_at_and_below_the_counter(rt: HostRuntime) -> Result<(), Fail> {
     let header = header_of(FLAT_VERSION, 5);
-    assert!(rt; answer_with(&rt, alloc, header, 5)? == Ok(Some(header)));
-    let next = header_of(FLAT_VERSION, 6);
-    assert!(rt; answer_with(&rt, alloc, next, 5)? == Ok(Some(next)));
-    let ahead = OpenAnswer::Ahead {
-        sequence: 7,
-        counter: 5,
-    };
-    assert!(rt; answer_with(&rt, alloc, header_of(FLAT_VERSION, 7), 5)? == Err(ahead));
+    let mut board = blank_board(rt.alloc(), 4)?;
+    write_header(&rt, &mut board, &header)?;
+    let written = board.writes();
+    assert!(rt; find_header(&mut board) == Ok(Some(header)));
+    board.advance()?;
     let rollback = OpenAnswer::Rollback {
         sequence: 5,
         counter: 6,
     };
-    assert!(rt; answer_with(&rt, alloc, header, 6)? == Err(rollback));
-    let unknown = OpenAnswer::UnknownVersion(9);
-    assert!(rt; answer_with(&rt, alloc, header_of(9, 9), 9)? == Err(unknown));
+    assert!(rt; find_header(&mut board) == Err(rollback));
+    assert!(rt; board.writes() == written);
     Ok(())
 }
 
 #[test]
-fn the_counter_is_advanced_and_nothing_written(rt: HostRuntime) -> Result<(), Fail> {
+fn a_header_one_ahead_of_the_counter(rt: HostRuntime) -> Result<(), Fail> {
+    let header = header_of(FLAT_VERSION, 6);
     let mut board = blank_board(rt.alloc(), 4)?;
-    write_header(&rt, &mut board, &header_of(FLAT_VERSION, 6))?;
-    let written = board.writes();
-    assert!(rt; find_header(&mut board).is_ok());
+    write_header(&rt, &mut board, &header)?;
+    assert!(rt; board.counter()? == 5);
+    assert!(rt; find_header(&mut board) == Ok(Some(header)));
     assert!(rt; board.counter()? == 6);
-    board.advance()?;
-    assert!(rt; find_header(&mut board).is_err());
-    assert!(rt; board.writes() == written);
+    Ok(())
+}
+
+// The second header, of another version, counts since its sequence is greater.
+#[test]
+fn headers_that_are_refused(rt: HostRuntime) -> Result<(), Fail> {
+    let mut board = blank_board(rt.alloc(), 4)?;
+    write_header(&rt, &mut board, &header_of(FLAT_VERSION, 7))?;
+    let ahead = OpenAnswer::Ahead {
+        sequence: 7,
+        counter: 5,
+    };
+    assert!(rt; find_header(&mut board) == Err(ahead));
+    write_header(&rt, &mut board, &header_of(9, 9))?;
+    assert!(rt; find_header(&mut board) == Err(OpenAnswer::UnknownVersion(9)));
     Ok(())
 }
 
