@@ -39,7 +39,8 @@ module _ (open_at : ℕ → Bool) (base : ℕ → List ℕ) (low high n : ℕ) w
         greatest = omega (arith, room, failed.0, failed.1, settled.counter, settled.slack);
       }
 
-  pub over_raise : (first old new : View) (result : Result ℕ BoardFailed) → RunsOver open_at base low high first old → Answered old new → IsSettledAt n old.state → n + 1 ≤ high → Advanced result old.state new.state → RunsOver open_at base low high first new
+  pub over_raise : (first old new : View) (result : Result ℕ BoardFailed) → RunsOver open_at base low high first old → Answered old new
+      → IsSettledAt n old.state → n + 1 ≤ high → Advanced result old.state new.state → RunsOver open_at base low high first new
   over_raise first old new result run answered settled room advanced =
       run_goes_on open_at base low high first old new run answered.time (raised old.state new.state result run.now settled room advanced)
 
@@ -71,9 +72,12 @@ module _ (version : ℕ) (key : List ℕ) (image : ℕ → List ℕ) (n : ℕ) w
       let at_top : top (opening_of version key image n) n ≡ found.header.sequence = ap (λ (r : Result (Option Found) OpenAnswer). top r n) same in
       omega (arith, at_top)
 
-pub find_crash : (version n : ℕ) (old new : View) → RunsOver (λ k. false) old.state.reads n (top (opening_of version old.key old.state.reads n) n) old new → LeavesOnly moment left_since old new (λ c. outcome_opening version old.key c ≡ opening_of version old.key old.state.reads n)
+pub find_crash : (version n : ℕ) (old new : View)
+    → RunsOver (λ k. false) old.state.reads n (top (opening_of version old.key old.state.reads n) n) old new
+    → LeavesOnly moment left_since old new (λ c. outcome_opening version old.key c ≡ opening_of version old.key old.state.reads n)
 find_crash version n old new run =
-    weaker moment left_since old new (LeavesBase (λ k. false) old.state.reads n (top (opening_of version old.key old.state.reads n) n)) (λ c. outcome_opening version old.key c ≡ opening_of version old.key old.state.reads n)
+    weaker moment left_since old new (LeavesBase (λ k. false) old.state.reads n (top (opening_of version old.key old.state.reads n) n))
+    (λ c. outcome_opening version old.key c ≡ opening_of version old.key old.state.reads n)
     (λ c leaves.
     let same : c.image ≡ old.state.reads = λ i k. leaves.image k refl i in
     ap (λ (f : ℕ → List ℕ). opening_of version old.key f c.counter) same
@@ -89,15 +93,19 @@ at_most_top version key image n (Err answer) e = omega arith
 pub find_starts : (version n : ℕ) (v : View) → Rests n v.state → RunsOver (λ k. false) v.state.reads n (top (opening_of version v.key v.state.reads n) n) v v
 find_starts version n v rests =
     run_starts (λ k. false) v.state.reads n (top (opening_of version v.key v.state.reads n) n) v
-    (base-wider (λ k. false) (λ k. false) v.state.reads n n (top (opening_of version v.key v.state.reads n) n) v.state (λ k shut. shut) (at_most_top version v.key v.state.reads n (opening_of version v.key v.state.reads n) refl) (rests_base n v.state rests (λ k. false)))
+    (base-wider (λ k. false) (λ k. false) v.state.reads n n (top (opening_of version v.key v.state.reads n) n) v.state (λ k shut. shut)
+    (at_most_top version v.key v.state.reads n (opening_of version v.key v.state.reads n) refl) (rests_base n v.state rests (λ k. false)))
 
 -- what was judged is what the image opens to
-pub judged_opening : (version : ℕ) (key : List ℕ) (image : ℕ → List ℕ) (first second : Slot) (n : ℕ) (r : Result (Option Found) OpenAnswer) → first ≡ slot_of key image 0 → second ≡ slot_of key image 1 → r ≡ opening_by version first second n → r ≡ opening_of version key image n
+pub judged_opening : (version : ℕ) (key : List ℕ) (image : ℕ → List ℕ) (first second : Slot) (n : ℕ) (r : Result (Option Found) OpenAnswer)
+    → first ≡ slot_of key image 0 → second ≡ slot_of key image 1 → r ≡ opening_by version first second n → r ≡ opening_of version key image n
 unfolding opening_of
 judged_opening version key image first second n r one two is = is ∙ rw (one, two) refl
 
 -- an answer that is what was judged, on a board that is large enough
-pub ruled_answer : (version blocks size : ℕ) (key : List ℕ) (image : ℕ → List ℕ) (n : ℕ) (r : Result (Option Found) OpenAnswer) (result : Result (Option Header) OpenAnswer) → blocks ≤ size → r ≡ opening_of version key image n → (result ≢ Err Failed → result ≡ header_answer r) → IsRuled result (opens_as version blocks size key image n)
+pub ruled_answer : (version blocks size : ℕ) (key : List ℕ) (image : ℕ → List ℕ) (n : ℕ) (r : Result (Option Found) OpenAnswer) (result : Result (Option Header) OpenAnswer)
+    → blocks ≤ size → r ≡ opening_of version key image n → (result ≢ Err Failed → result ≡ header_answer r)
+    → IsRuled result (opens_as version blocks size key image n)
 ruled_answer version blocks size key image n r result large is answers made =
     let enough : nat_lt size blocks ≡ false = grind arith in
     rw enough (answers made ∙ ap header_answer is)
@@ -109,7 +117,9 @@ pub record IsBetween (low high n sequence : ℕ) : Type 0 where
   pub least : n ≤ sequence
   pub most : sequence ≤ n + 1
 
-pub between : (version : ℕ) (key : List ℕ) (open_at : ℕ → Bool) (base : ℕ → List ℕ) (low high n : ℕ) (m : Moment) (found : Found) → IsBase open_at base low high m → IsCounter m n → OpensBelow version key m.reads low high → opening_of version key m.reads n ≡ Ok (Some found) → IsBetween low high n found.header.sequence
+pub between : (version : ℕ) (key : List ℕ) (open_at : ℕ → Bool) (base : ℕ → List ℕ) (low high n : ℕ) (m : Moment) (found : Found)
+    → IsBase open_at base low high m → IsCounter m n → OpensBelow version key m.reads low high → opening_of version key m.reads n ≡ Ok (Some found)
+    → IsBetween low high n found.header.sequence
 between version key open_at base low high n m found is among opens e =
     let two = opens_at_two version key m.reads n found e in
     let counter : n ≤ high = omega (arith, among.greatest, is.greatest) in

@@ -38,7 +38,9 @@ zeros_120 = refl
 here : (at n : ℕ) (bytes block : List ℕ) → length bytes ≡ n → at + n ≤ length block → part at n (patched at bytes block) ≡ bytes
 here at n bytes block long fits = subst (λ (k : ℕ). part at k (patched at bytes block) ≡ bytes) long (part_here at bytes block (omega (arith, long, fits)))
 
-module _ (entry : TreeEntry) (zero copy sequence p1 p2 p3 p4 : List ℕ) (long : length zero ≡ 64) (iv : length entry.iv ≡ 16) (tag : length entry.tag ≡ 32) (is_copy : copy ≡ le64 entry.copy) (is_sequence : sequence ≡ le64 entry.sequence) (e1 : p1 ≡ patched 0 copy zero) (e2 : p2 ≡ patched 8 sequence p1) (e3 : p3 ≡ patched 16 entry.iv p2) (e4 : p4 ≡ patched 32 entry.tag p3) where
+module _ (entry : TreeEntry) (zero copy sequence p1 p2 p3 p4 : List ℕ) (long : length zero ≡ 64) (iv : length entry.iv ≡ 16) (tag : length entry.tag ≡ 32)
+    (is_copy : copy ≡ le64 entry.copy) (is_sequence : sequence ≡ le64 entry.sequence) (e1 : p1 ≡ patched 0 copy zero) (e2 : p2 ≡ patched 8 sequence p1)
+    (e3 : p3 ≡ patched 16 entry.iv p2) (e4 : p4 ≡ patched 32 entry.tag p3) where
   copy_long : length copy ≡ 8
   copy_long = ap length is_copy
 
@@ -76,7 +78,10 @@ module _ (entry : TreeEntry) (zero copy sequence p1 p2 p3 p4 : List ℕ) (long :
     tag = ap (part 32 32) e4 ∙ here 32 32 entry.tag p3 tag (omega (arith, l3));
   }
 
-module _ (key : List ℕ) (slot : ℕ) (header : Header) (zero text version sequence entry tag p1 p2 p3 p4 p5 : List ℕ) (is_zero : zero ≡ replicate 1024 0) (is_text : text ≡ codes "TEEVOLUM") (is_version : version ≡ to_le_bytes w32 header.version) (is_sequence : sequence ≡ le64 header.sequence) (is_entry : IsEntry header.root entry) (is_tag : tag ≡ header_tag key slot (take 88 p4)) (tag_long : length tag ≡ 32) (e1 : p1 ≡ patched 0 text zero) (e2 : p2 ≡ patched 8 version p1) (e3 : p3 ≡ patched 16 sequence p2) (e4 : p4 ≡ patched 24 entry p3) (e5 : p5 ≡ patched 88 tag p4) where
+module _ (key : List ℕ) (slot : ℕ) (header : Header) (zero text version sequence entry tag p1 p2 p3 p4 p5 : List ℕ) (is_zero : zero ≡ replicate 1024 0)
+    (is_text : text ≡ codes "TEEVOLUM") (is_version : version ≡ to_le_bytes w32 header.version) (is_sequence : sequence ≡ le64 header.sequence)
+    (is_entry : IsEntry header.root entry) (is_tag : tag ≡ header_tag key slot (take 88 p4)) (tag_long : length tag ≡ 32) (e1 : p1 ≡ patched 0 text zero)
+    (e2 : p2 ≡ patched 8 version p1) (e3 : p3 ≡ patched 16 sequence p2) (e4 : p4 ≡ patched 24 entry p3) (e5 : p5 ≡ patched 88 tag p4) where
   h0 : length zero ≡ 1024
   h0 = ap length is_zero ∙ length-replicate {A = ℕ} 1024 0
 
@@ -134,7 +139,8 @@ module _ (key : List ℕ) (slot : ℕ) (header : Header) (zero text version sequ
   pub header_written : IsHeaderBlock key slot header p5
   header_written = record {
     long = h5;
-    text = before_5 0 8 (omega arith) ∙ before_4 0 8 (omega arith) ∙ before_3 0 8 (omega arith) ∙ before_2 0 8 (omega arith) ∙ ap (part 0 8) e1 ∙ here 0 8 text zero text_long (omega (arith, h0)) ∙ is_text;
+    text = before_5 0 8 (omega arith) ∙ before_4 0 8 (omega arith) ∙ before_3 0 8 (omega arith) ∙ before_2 0 8 (omega arith) ∙ ap (part 0 8) e1 ∙ here 0 8 text zero text_long
+        (omega (arith, h0)) ∙ is_text;
     version = before_5 8 4 (omega arith) ∙ before_4 8 4 (omega arith) ∙ before_3 8 4 (omega arith) ∙ ap (part 8 4) e2 ∙ here 8 4 version p1 version_long (omega (arith, h1)) ∙ is_version;
     blank = before_5 12 4 (omega arith) ∙ before_4 12 4 (omega arith) ∙ before_3 12 4 (omega arith) ∙ behind_2 12 4 (omega arith) ∙ ap (part 12 4) is_zero ∙ zeros_12;
     sequence = before_5 16 8 (omega arith) ∙ before_4 16 8 (omega arith) ∙ ap (part 16 8) e3 ∙ here 16 8 sequence p2 seq_long (omega (arith, h2)) ∙ is_sequence;
@@ -157,8 +163,10 @@ header_read key slot header block fits is =
     let same : bytes_eq (header_tag key slot (take 88 block)) (part 88 32 block) ≡ true = (bytes_eq-Decides (header_tag key slot (take 88 block)) (part 88 32 block)).1 (sym is.tag) in
     let version : from_le_bytes w32 (part 8 4 block) ≡ header.version = ap (from_le_bytes w32) is.version ∙ from_le_bytes-to_le_bytes_4 header.version fits.version in
     let sequence : from_le_bytes w64 (part 16 8 block) ≡ header.sequence = ap (from_le_bytes w64) is.sequence ∙ from_le_bytes-to_le_bytes_8 header.sequence fits.sequence in
-    let copy : from_le_bytes w64 (part 24 8 block) ≡ header.root.copy = ap (from_le_bytes w64) (sym (part_part 24 64 0 8 block (omega arith)) ∙ is.root.copy) ∙ from_le_bytes-to_le_bytes_8 header.root.copy fits.copy in
-    let root : from_le_bytes w64 (part 32 8 block) ≡ header.root.sequence = ap (from_le_bytes w64) (sym (part_part 24 64 8 8 block (omega arith)) ∙ is.root.sequence) ∙ from_le_bytes-to_le_bytes_8 header.root.sequence fits.root in
+    let copy : from_le_bytes w64 (part 24 8 block) ≡ header.root.copy = ap (from_le_bytes w64) (sym (part_part 24 64 0 8 block (omega arith)) ∙ is.root.copy)
+    ∙ from_le_bytes-to_le_bytes_8 header.root.copy fits.copy in
+    let root : from_le_bytes w64 (part 32 8 block) ≡ header.root.sequence = ap (from_le_bytes w64) (sym (part_part 24 64 8 8 block (omega arith)) ∙ is.root.sequence)
+    ∙ from_le_bytes-to_le_bytes_8 header.root.sequence fits.root in
     let iv : part 40 16 block ≡ header.root.iv = sym (part_part 24 64 16 16 block (omega arith)) ∙ is.root.iv in
     let tag : part 56 32 block ≡ header.root.tag = sym (part_part 24 64 32 32 block (omega arith)) ∙ is.root.tag in
     rw (same, version, sequence, copy, root, iv, tag) refl

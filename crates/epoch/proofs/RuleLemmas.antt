@@ -32,7 +32,8 @@ counts version slot h n found e =
     record { is = (let last = three.1 in cc); known = one.0; least = two.0; most = three.0 }
 
 -- and so it counts at such a counter
-pub answer_ok : (version slot : ℕ) (h : Header) (m : ℕ) → not (h.version == version) ≡ false → m ≤ h.sequence → h.sequence ≤ m + 1 → answer_at version slot h m ≡ Ok (Some (record { header = h; slot = slot }))
+pub answer_ok : (version slot : ℕ) (h : Header) (m : ℕ) → not (h.version == version) ≡ false → m ≤ h.sequence → h.sequence ≤ m + 1
+    → answer_at version slot h m ≡ Ok (Some (record { header = h; slot = slot }))
 answer_ok version slot h m known least most =
     let one : nat_lt h.sequence m ≡ false = grind (arith) in
     let two : nat_lt (m + 1) h.sequence ≡ false = grind (arith) in
@@ -49,7 +50,8 @@ pub record IsAsked (version : ℕ) (first second : Slot) (n : ℕ) (found : Foun
   pub same : (m : ℕ) → opening_by version first second m ≡ answer_at version found.slot found.header m
   pub counts : Counts version found.slot found.header n found
 
-asked_at : (version : ℕ) (first second : Slot) (n : ℕ) (found : Found) (slot : ℕ) (h : Header) → opening_by version first second n ≡ Ok (Some found) → ((m : ℕ) → opening_by version first second m ≡ answer_at version slot h m) → IsAsked version first second n found
+asked_at : (version : ℕ) (first second : Slot) (n : ℕ) (found : Found) (slot : ℕ) (h : Header) → opening_by version first second n ≡ Ok (Some found)
+    → ((m : ℕ) → opening_by version first second m ≡ answer_at version slot h m) → IsAsked version first second n found
 asked_at version first second n found slot h e same =
     let c : Counts version slot h n found = counts version slot h n found (sym (same n) ∙ e) in
     record {
@@ -87,7 +89,8 @@ opens_at_two version key image n found e =
     let a = asked version (slot_of key image 0) (slot_of key image 1) n found e in (
       (let least = a.counts.least in grind (arith)),
       (let most = a.counts.most in grind (arith)),
-      λ m low high. a.same m ∙ answer_ok version found.slot found.header m a.counts.known low high ∙ ap (λ (f : Found). let some : Result (Option Found) OpenAnswer = Ok (Some f) in some) (sym a.counts.is),
+      λ m low high. a.same m ∙ answer_ok version found.slot found.header m a.counts.known low high ∙ ap
+          (λ (f : Found). let some : Result (Option Found) OpenAnswer = Ok (Some f) in some) (sym a.counts.is),
     )
 
 -- two slots of which one is shut
@@ -104,7 +107,8 @@ alone_first version (Good h) (Good h') n found e other =
       | false ↦ λ w. w
     ] e
 
-pub alone_second : (version : ℕ) (first second : Slot) (n : ℕ) (found : Found) → opening_by version first second n ≡ Ok (Some found) → found.slot ≢ 0 → opening_by version Shut second n ≡ Ok (Some found)
+pub alone_second : (version : ℕ) (first second : Slot) (n : ℕ) (found : Found) → opening_by version first second n ≡ Ok (Some found) → found.slot ≢ 0
+    → opening_by version Shut second n ≡ Ok (Some found)
 alone_second version (Bad t) second n found e other = absurd cc
 alone_second version Shut second n found e other = e
 alone_second version (Good h) (Bad t) n found e other = absurd cc

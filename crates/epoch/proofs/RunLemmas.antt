@@ -41,23 +41,30 @@ pub is_itself : (k : ℕ) → (k == k) ≡ true
 is_itself k = grind arith
 
 module _ (version n slot : ℕ) (old new : View) (below : slot < 2) where
-  pub shut_crash : CountsElsewhere slot (opening_of version old.key old.state.reads n) → RunsOver (shut_writes slot old.state.reads) old.state.reads n n old new → LeavesOnly moment left_since old new (λ c. outcome_opening version old.key c ≡ opening_of version old.key old.state.reads n)
+  pub shut_crash : CountsElsewhere slot (opening_of version old.key old.state.reads n)
+      → RunsOver (shut_writes slot old.state.reads) old.state.reads n n old new
+      → LeavesOnly moment left_since old new (λ c. outcome_opening version old.key c ≡ opening_of version old.key old.state.reads n)
   shut_crash other run =
       weaker moment left_since old new (LeavesBase (shut_writes slot old.state.reads) old.state.reads n n) (λ c. outcome_opening version old.key c ≡ opening_of version old.key old.state.reads n)
       (λ c leaves. let same : c.counter ≡ n = omega (arith, leaves.least, leaves.greatest) in
       ap (λ (k : ℕ). opening_of version old.key c.image k) same ∙ shut_opens version old.key old.state.reads c.image n slot below leaves.image other)
       run.leaves
 
-  pub lay_crash : gate_open (old.state.reads (gate_at slot)) ≡ false → RunsOver (λ k. k == header_at slot) old.state.reads n n old new → LeavesOnly moment left_since old new (λ c. outcome_opening version old.key c ≡ opening_of version old.key old.state.reads n)
+  pub lay_crash : gate_open (old.state.reads (gate_at slot)) ≡ false → RunsOver (λ k. k == header_at slot) old.state.reads n n old new
+      → LeavesOnly moment left_since old new (λ c. outcome_opening version old.key c ≡ opening_of version old.key old.state.reads n)
   lay_crash shut run =
       weaker moment left_since old new (LeavesBase (λ k. k == header_at slot) old.state.reads n n) (λ c. outcome_opening version old.key c ≡ opening_of version old.key old.state.reads n)
       (λ c leaves. let same : c.counter ≡ n = omega (arith, leaves.least, leaves.greatest) in
       ap (λ (k : ℕ). opening_of version old.key c.image k) same ∙ lay_opens version old.key old.state.reads c.image n slot below (λ k ne. leaves.image k (differs k (header_at slot) ne)) shut)
       run.leaves
 
-  pub flip_crash : (header : Header) → IsLaid version old.key slot n header old.state → LeavesOnly moment left_since old new (LeavesFlip slot old.state.reads n) → LeavesOnly moment left_since old new (λ c. (outcome_opening version old.key c ≡ opening_of version old.key old.state.reads n) ⊎ (outcome_opening version old.key c ≡ Ok (Some (record { header = header; slot = slot }))))
+  pub flip_crash : (header : Header) → IsLaid version old.key slot n header old.state
+      → LeavesOnly moment left_since old new (LeavesFlip slot old.state.reads n)
+      → LeavesOnly moment left_since old new (λ c. (outcome_opening version old.key c ≡ opening_of version old.key old.state.reads n) ⊎
+      (outcome_opening version old.key c ≡ Ok (Some (record { header = header; slot = slot }))))
   flip_crash header laid run =
-      weaker moment left_since old new (LeavesFlip slot old.state.reads n) (λ c. (outcome_opening version old.key c ≡ opening_of version old.key old.state.reads n) ⊎ (outcome_opening version old.key c ≡ Ok (Some (record { header = header; slot = slot }))))
+      weaker moment left_since old new (LeavesFlip slot old.state.reads n)
+      (λ c. (outcome_opening version old.key c ≡ opening_of version old.key old.state.reads n) ⊎ (outcome_opening version old.key c ≡ Ok (Some (record { header = header; slot = slot }))))
       (λ c leaves. flip_opens version old.key slot n header old.state c below laid leaves)
       run
 
@@ -89,7 +96,8 @@ ready slot n gate old mid new rests wrote synced opened = record {
 }
 
 -- what a crash leaves after the advance
-leaves_after : (slot n : ℕ) (base : ℕ → List ℕ) (old new : Moment) (result : Result ℕ BoardFailed) (c : Outcome) → IsReady slot n base old → Advanced result old new → IsLeft new c → (n ≤ c.counter) → (c.counter ≤ n + 1) → LeavesFlip slot base n c
+leaves_after : (slot n : ℕ) (base : ℕ → List ℕ) (old new : Moment) (result : Result ℕ BoardFailed) (c : Outcome) → IsReady slot n base old
+    → Advanced result old new → IsLeft new c → (n ≤ c.counter) → (c.counter ≤ n + 1) → LeavesFlip slot base n c
 leaves_after slot n base old new result c is advanced left low high =
     let image : (k : ℕ) → c.image k ≡ old.reads k
     = λ k. left.kept k (ap (λ (f : ℕ → Bool). f k) advanced.blocks.pending ∙ is.pending k) ∙ ap (λ (f : ℕ → List ℕ). f k) advanced.blocks.durable ∙ sym (is.as_read k) in
@@ -102,7 +110,9 @@ leaves_after slot n base old new result c is advanced left low high =
     }
 
 -- the advance that ends a flip
-pub flip_after : (slot n : ℕ) (base : ℕ → List ℕ) (first old new : View) (result : Result ℕ BoardFailed) → IsReady slot n base old.state → LeavesOnly moment left_since first old (LeavesFlip slot base n) → Answered old new → Advanced result old.state new.state → LeavesOnly moment left_since first new (LeavesFlip slot base n)
+pub flip_after : (slot n : ℕ) (base : ℕ → List ℕ) (first old new : View) (result : Result ℕ BoardFailed) → IsReady slot n base old.state
+    → LeavesOnly moment left_since first old (LeavesFlip slot base n) → Answered old new → Advanced result old.state new.state
+    → LeavesOnly moment left_since first new (LeavesFlip slot base n)
 flip_after slot n base first old new (Ok m) is run answered advanced =
     goes_on first old new (LeavesFlip slot base n) run answered.time
     (λ c left. let raised = advanced.counter in
@@ -132,7 +142,8 @@ flip_done slot n m start old new is advanced =
     }
 
 -- a flip that is done opens to the header that was laid
-pub flip_opened : (version : ℕ) (key : List ℕ) (slot n m : ℕ) (header : Header) (old new : Moment) → slot < 2 → IsLaid version key slot n header old → IsFlipped slot n m old new → opening_of version key new.reads m ≡ Ok (Some (record { header = header; slot = slot }))
+pub flip_opened : (version : ℕ) (key : List ℕ) (slot n m : ℕ) (header : Header) (old new : Moment) → slot < 2 → IsLaid version key slot n header old
+    → IsFlipped slot n m old new → opening_of version key new.reads m ≡ Ok (Some (record { header = header; slot = slot }))
 flip_opened version key slot n m header old new below laid flipped =
     flip_open version key n header old new.reads m (omega (arith, flipped.next)) (omega (arith, flipped.next)) slot below laid flipped.elsewhere flipped.gate
 
@@ -162,26 +173,34 @@ unfolding gate_open
 open_gate = refl
 
 -- what a flip answers
-pub flip_answers : (slot block : ℕ) (start mid old new : Moment) (result : Result ℕ BoardFailed) → block ≡ gate_at slot → Wrote block OPEN_GATE true start mid → Synced true mid old → Advanced result old new → IfOk result (λ m. (n : ℕ) → Rests n start → IsFlipped slot n m start new)
+pub flip_answers : (slot block : ℕ) (start mid old new : Moment) (result : Result ℕ BoardFailed) → block ≡ gate_at slot
+    → Wrote block OPEN_GATE true start mid → Synced true mid old → Advanced result old new
+    → IfOk result (λ m. (n : ℕ) → Rests n start → IsFlipped slot n m start new)
 flip_answers slot block start mid old new (Ok m) at wrote synced advanced = λ n rests.
     flip_done slot n m start old new (ready slot n OPEN_GATE start mid old rests (subst (λ (b : ℕ). Wrote b OPEN_GATE true start mid) at wrote) synced open_gate) advanced
 flip_answers slot block start mid old new (Err e) at wrote synced advanced = tt
 
-pub opened_answers : (key : List ℕ) (slot : ℕ) (start new : Moment) (result : Result ℕ BoardFailed) → slot < 2 → IfOk result (λ m. (n : ℕ) → Rests n start → IsFlipped slot n m start new) → IfOk result (λ m. (version n : ℕ) (header : Header) → IsLaid version key slot n header start → opening_of version key new.reads m ≡ Ok (Some (record { header = header; slot = slot })))
+pub opened_answers : (key : List ℕ) (slot : ℕ) (start new : Moment) (result : Result ℕ BoardFailed) → slot < 2
+    → IfOk result (λ m. (n : ℕ) → Rests n start → IsFlipped slot n m start new)
+    → IfOk result (λ m. (version n : ℕ) (header : Header) → IsLaid version key slot n header start → opening_of version key new.reads m ≡ Ok (Some (record { header = header; slot = slot })))
 opened_answers key slot start new (Ok m) below flipped = λ version n header laid. flip_opened version key slot n m header start new below laid (flipped n laid.rests)
 opened_answers key slot start new (Err e) below flipped = tt
 
 -- the write of a flip
-pub flip_wrote : (slot n block : ℕ) (ok : Bool) (old new : View) → Rests n old.state → block ≡ gate_at slot → Answered old new → Wrote block OPEN_GATE ok old.state new.state → RunsOver (λ k. k == gate_at slot) old.state.reads n n old new
+pub flip_wrote : (slot n block : ℕ) (ok : Bool) (old new : View) → Rests n old.state → block ≡ gate_at slot → Answered old new
+    → Wrote block OPEN_GATE ok old.state new.state → RunsOver (λ k. k == gate_at slot) old.state.reads n n old new
 flip_wrote slot n block ok old new rests at answered wrote =
     over_write (λ k. k == gate_at slot) old.state.reads n n old old new (rest_starts n old rests (λ k. k == gate_at slot)) answered block OPEN_GATE ok (rw at (is_itself (gate_at slot))) wrote
 
 -- and its advance, which tells the whole run
-pub flip_advanced : (slot n block : ℕ) (start mid old new : View) (result : Result ℕ BoardFailed) → Rests n start.state → block ≡ gate_at slot → Answered start mid → Wrote block OPEN_GATE true start.state mid.state → Answered mid old → Synced true mid.state old.state → Answered old new → Advanced result old.state new.state → LeavesOnly moment left_since start new (LeavesFlip slot start.state.reads n)
+pub flip_advanced : (slot n block : ℕ) (start mid old new : View) (result : Result ℕ BoardFailed) → Rests n start.state → block ≡ gate_at slot
+    → Answered start mid → Wrote block OPEN_GATE true start.state mid.state → Answered mid old → Synced true mid.state old.state → Answered old new
+    → Advanced result old.state new.state → LeavesOnly moment left_since start new (LeavesFlip slot start.state.reads n)
 flip_advanced slot n block start mid old new result rests at one wrote two synced three advanced =
     let written = flip_wrote slot n block true start mid rests at one wrote in
     let at_rest = over_sync (λ k. k == gate_at slot) start.state.reads n n start mid old written two true synced in
-    flip_after slot n start.state.reads start old new result (ready slot n OPEN_GATE start.state mid.state old.state rests (subst (λ (b : ℕ). Wrote b OPEN_GATE true start.state mid.state) at wrote) synced open_gate) (flip_before slot n start old at_rest) three advanced
+    flip_after slot n start.state.reads start old new result (ready slot n OPEN_GATE start.state mid.state old.state rests
+    (subst (λ (b : ℕ). Wrote b OPEN_GATE true start.state mid.state) at wrote) synced open_gate) (flip_before slot n start old at_rest) three advanced
 
 -- a gate that was shut isn't open
 shut_gate : gate_open SHUT_GATE ≡ false
@@ -196,7 +215,9 @@ pub shut_itself : (slot : ℕ) (base : ℕ → List ℕ) → gate_open (base (ga
 shut_itself slot base opened = rw (is_itself (gate_at slot), opened) refl
 
 -- what shutting an open gate answers
-pub shut_answers : {A : Type 0} (slot block : ℕ) (start mid old new : Moment) (result : Result A BoardFailed) → block ≡ gate_at slot → Unchanged start mid → Wrote block SHUT_GATE true mid old → Synced (is_ok result) old new → OnOk result (SyncedBut (gate_at slot) start new × gate_open (new.reads (gate_at slot)) ≡ false)
+pub shut_answers : {A : Type 0} (slot block : ℕ) (start mid old new : Moment) (result : Result A BoardFailed) → block ≡ gate_at slot
+    → Unchanged start mid → Wrote block SHUT_GATE true mid old → Synced (is_ok result) old new
+    → OnOk result (SyncedBut (gate_at slot) start new × gate_open (new.reads (gate_at slot)) ≡ false)
 shut_answers slot block start mid old new (Ok done) at same wrote synced =
     let here : Wrote (gate_at slot) SHUT_GATE true mid old = subst (λ (b : ℕ). Wrote b SHUT_GATE true mid old) at wrote in
     let but : SyncedBut (gate_at slot) mid new = synced_write (gate_at slot) SHUT_GATE mid old new here synced in (
@@ -212,7 +233,9 @@ shut_answers slot block start mid old new (Ok done) at same wrote synced =
 shut_answers slot block start mid old new (Err e) at same wrote synced = tt
 
 -- what laying a header answers: what is said of its block, P, holds of what reads give
-pub lay_answers : {A : Type 0} (slot block : ℕ) (bytes : List ℕ) (start mid new : Moment) (result : Result A BoardFailed) (P : List ℕ → Type 0) → block ≡ header_at slot → Wrote block bytes true start mid → Synced (is_ok result) mid new → P bytes → OnOk result (SyncedBut (header_at slot) start new × P (new.reads (header_at slot)))
+pub lay_answers : {A : Type 0} (slot block : ℕ) (bytes : List ℕ) (start mid new : Moment) (result : Result A BoardFailed) (P : List ℕ → Type 0)
+    → block ≡ header_at slot → Wrote block bytes true start mid → Synced (is_ok result) mid new → P bytes
+    → OnOk result (SyncedBut (header_at slot) start new × P (new.reads (header_at slot)))
 lay_answers slot block bytes start mid new (Ok done) P at wrote synced is =
     let here : Wrote (header_at slot) bytes true start mid = subst (λ (b : ℕ). Wrote b bytes true start mid) at wrote in
     (synced_write (header_at slot) bytes start mid new here synced, subst P (sym (ap (λ (f : ℕ → List ℕ). f (header_at slot)) synced.reads ∙ here.here refl)) is)

@@ -30,12 +30,14 @@ slot_shut : (key : List ℕ) (image : ℕ → List ℕ) (slot : ℕ) → gate_op
 unfolding slot_of
 slot_shut key image slot shut = rw shut refl
 
-slot_same : (key : List ℕ) (image base : ℕ → List ℕ) (slot : ℕ) → image (gate_at slot) ≡ base (gate_at slot) → image (header_at slot) ≡ base (header_at slot) → slot_of key image slot ≡ slot_of key base slot
+slot_same : (key : List ℕ) (image base : ℕ → List ℕ) (slot : ℕ) → image (gate_at slot) ≡ base (gate_at slot)
+    → image (header_at slot) ≡ base (header_at slot) → slot_of key image slot ≡ slot_of key base slot
 unfolding slot_of
 slot_same key image base slot gate header = rw (gate, header) refl
 
 -- images whose slots are the same open to the same
-opening_same : (version : ℕ) (key : List ℕ) (image base : ℕ → List ℕ) (n : ℕ) → slot_of key image 0 ≡ slot_of key base 0 → slot_of key image 1 ≡ slot_of key base 1 → opening_of version key image n ≡ opening_of version key base n
+opening_same : (version : ℕ) (key : List ℕ) (image base : ℕ → List ℕ) (n : ℕ) → slot_of key image 0 ≡ slot_of key base 0
+    → slot_of key image 1 ≡ slot_of key base 1 → opening_of version key image n ≡ opening_of version key base n
 unfolding opening_of
 opening_same version key image base n zeroth first = rw (zeroth, first) refl
 
@@ -110,13 +112,18 @@ module _ (version : ℕ) (key : List ℕ) (base image : ℕ → List ℕ) (n : �
       let still : gate_open (image 2) ≡ false = ap gate_open gate ∙ shut in
       opening_same version key image base n (slot_same key image base 0 (same 0 (λ e. cc)) (same 1 (λ e. cc))) (slot_shut key image 1 still ∙ sym (slot_shut key base 1 shut))
 
-pub shut_opens : (version : ℕ) (key : List ℕ) (base image : ℕ → List ℕ) (n slot : ℕ) → slot < 2 → ((k : ℕ) → shut_writes slot base k ≡ false → image k ≡ base k) → CountsElsewhere slot (opening_of version key base n) → opening_of version key image n ≡ opening_of version key base n
+pub shut_opens : (version : ℕ) (key : List ℕ) (base image : ℕ → List ℕ) (n slot : ℕ) → slot < 2
+    → ((k : ℕ) → shut_writes slot base k ≡ false → image k ≡ base k) → CountsElsewhere slot (opening_of version key base n)
+    → opening_of version key image n ≡ opening_of version key base n
 shut_opens version key base image n slot below =
-    by_slot (λ s. ((k : ℕ) → shut_writes s base k ≡ false → image k ≡ base k) → CountsElsewhere s (opening_of version key base n) → opening_of version key image n ≡ opening_of version key base n) slot below (shut_0 version key base image n) (shut_1 version key base image n)
+    by_slot (λ s. ((k : ℕ) → shut_writes s base k ≡ false → image k ≡ base k) → CountsElsewhere s (opening_of version key base n)
+    → opening_of version key image n ≡ opening_of version key base n) slot below (shut_0 version key base image n) (shut_1 version key base image n)
 
-pub lay_opens : (version : ℕ) (key : List ℕ) (base image : ℕ → List ℕ) (n slot : ℕ) → slot < 2 → ((k : ℕ) → k ≢ header_at slot → image k ≡ base k) → gate_open (base (gate_at slot)) ≡ false → opening_of version key image n ≡ opening_of version key base n
+pub lay_opens : (version : ℕ) (key : List ℕ) (base image : ℕ → List ℕ) (n slot : ℕ) → slot < 2 → ((k : ℕ) → k ≢ header_at slot → image k ≡ base k)
+    → gate_open (base (gate_at slot)) ≡ false → opening_of version key image n ≡ opening_of version key base n
 lay_opens version key base image n slot below =
-    by_slot (λ s. ((k : ℕ) → k ≢ header_at s → image k ≡ base k) → gate_open (base (gate_at s)) ≡ false → opening_of version key image n ≡ opening_of version key base n) slot below (laid_0 version key base image n) (laid_1 version key base image n)
+    by_slot (λ s. ((k : ℕ) → k ≢ header_at s → image k ≡ base k) → gate_open (base (gate_at s)) ≡ false
+    → opening_of version key image n ≡ opening_of version key base n) slot below (laid_0 version key base image n) (laid_1 version key base image n)
 
 -- the header that counts has the counter's sequence
 current_if : (n : ℕ) (b : Bool) (answer : OpenAnswer) (y : Result (Option Found) OpenAnswer) (P : Type 0) → (IsCurrent n y → P) → IsCurrent n (if b then Err answer else y) → P
@@ -155,7 +162,8 @@ module _ (version : ℕ) (key : List ℕ) (n : ℕ) (h : Header) (m : Moment) (i
   open_0 laid same opened =
       let zeroth : slot_of key image 0 ≡ Good h = slot_open key image 0 opened ∙ ap (header_slot key 0) (same 1 (λ e. cc)) ∙ laid.good in
       let first = slot_same key image m.reads 1 (same 2 (λ e. cc)) (same 3 (λ e. cc)) in
-      let current : IsCurrent n (opening_by version Shut (slot_of key m.reads 1) n) = subst (λ (s : Slot). IsCurrent n (opening_by version s (slot_of key m.reads 1) n)) (slot_shut key m.reads 0 laid.gate) laid.current in
+      let current : IsCurrent n (opening_by version Shut (slot_of key m.reads 1) n) = subst (λ (s : Slot). IsCurrent n (opening_by version s (slot_of key m.reads 1) n))
+      (slot_shut key m.reads 0 laid.gate) laid.current in
       rw (zeroth, first) (newer_first version h n counter laid.known laid.next low high (slot_of key m.reads 1) current)
 
   open_1 : IsLaid version key 1 n h m → ((k : ℕ) → k ≢ 2 → image k ≡ m.reads k) → gate_open (image 2) ≡ true → opening_of version key image counter ≡ Ok (Some (record { header = h; slot = 1 }))
@@ -163,12 +171,17 @@ module _ (version : ℕ) (key : List ℕ) (n : ℕ) (h : Header) (m : Moment) (i
   open_1 laid same opened =
       let first : slot_of key image 1 ≡ Good h = slot_open key image 1 opened ∙ ap (header_slot key 1) (same 3 (λ e. cc)) ∙ laid.good in
       let zeroth = slot_same key image m.reads 0 (same 0 (λ e. cc)) (same 1 (λ e. cc)) in
-      let current : IsCurrent n (opening_by version (slot_of key m.reads 0) Shut n) = subst (λ (s : Slot). IsCurrent n (opening_by version (slot_of key m.reads 0) s n)) (slot_shut key m.reads 1 laid.gate) laid.current in
+      let current : IsCurrent n (opening_by version (slot_of key m.reads 0) Shut n) = subst (λ (s : Slot). IsCurrent n (opening_by version (slot_of key m.reads 0) s n))
+      (slot_shut key m.reads 1 laid.gate) laid.current in
       rw (zeroth, first) (newer_second version h n counter laid.known laid.next low high (slot_of key m.reads 0) current)
 
-pub flip_open : (version : ℕ) (key : List ℕ) (n : ℕ) (h : Header) (m : Moment) (image : ℕ → List ℕ) (counter : ℕ) → n ≤ counter → counter ≤ n + 1 → (slot : ℕ) → slot < 2 → IsLaid version key slot n h m → ((k : ℕ) → k ≢ gate_at slot → image k ≡ m.reads k) → gate_open (image (gate_at slot)) ≡ true → opening_of version key image counter ≡ Ok (Some (record { header = h; slot = slot }))
+pub flip_open : (version : ℕ) (key : List ℕ) (n : ℕ) (h : Header) (m : Moment) (image : ℕ → List ℕ) (counter : ℕ) → n ≤ counter → counter ≤ n + 1
+    → (slot : ℕ) → slot < 2 → IsLaid version key slot n h m → ((k : ℕ) → k ≢ gate_at slot → image k ≡ m.reads k)
+    → gate_open (image (gate_at slot)) ≡ true → opening_of version key image counter ≡ Ok (Some (record { header = h; slot = slot }))
 flip_open version key n h m image counter low high slot below =
-    by_slot (λ s. IsLaid version key s n h m → ((k : ℕ) → k ≢ gate_at s → image k ≡ m.reads k) → gate_open (image (gate_at s)) ≡ true → opening_of version key image counter ≡ Ok (Some (record { header = h; slot = s }))) slot below (open_0 version key n h m image counter low high) (open_1 version key n h m image counter low high)
+    by_slot (λ s. IsLaid version key s n h m → ((k : ℕ) → k ≢ gate_at s → image k ≡ m.reads k) → gate_open (image (gate_at s)) ≡ true
+    → opening_of version key image counter ≡ Ok (Some (record { header = h; slot = s }))) slot below (open_0 version key n h m image counter low high)
+    (open_1 version key n h m image counter low high)
 
 -- an image whose gate isn't open
 module _ (version : ℕ) (key : List ℕ) (base image : ℕ → List ℕ) (n : ℕ) where
@@ -178,19 +191,26 @@ module _ (version : ℕ) (key : List ℕ) (base image : ℕ → List ℕ) (n : �
   still_1 : ((k : ℕ) → k ≢ 2 → image k ≡ base k) → gate_open (base 2) ≡ false → gate_open (image 2) ≡ false → opening_of version key image n ≡ opening_of version key base n
   still_1 same shut still = opening_same version key image base n (slot_same key image base 0 (same 0 (λ e. cc)) (same 1 (λ e. cc))) (slot_shut key image 1 still ∙ sym (slot_shut key base 1 shut))
 
-pub flip_shut : (version : ℕ) (key : List ℕ) (base image : ℕ → List ℕ) (n slot : ℕ) → slot < 2 → ((k : ℕ) → k ≢ gate_at slot → image k ≡ base k) → gate_open (base (gate_at slot)) ≡ false → gate_open (image (gate_at slot)) ≡ false → opening_of version key image n ≡ opening_of version key base n
+pub flip_shut : (version : ℕ) (key : List ℕ) (base image : ℕ → List ℕ) (n slot : ℕ) → slot < 2 → ((k : ℕ) → k ≢ gate_at slot → image k ≡ base k)
+    → gate_open (base (gate_at slot)) ≡ false → gate_open (image (gate_at slot)) ≡ false → opening_of version key image n ≡ opening_of version key base n
 flip_shut version key base image n slot below =
-    by_slot (λ s. ((k : ℕ) → k ≢ gate_at s → image k ≡ base k) → gate_open (base (gate_at s)) ≡ false → gate_open (image (gate_at s)) ≡ false → opening_of version key image n ≡ opening_of version key base n) slot below (still_0 version key base image n) (still_1 version key base image n)
+    by_slot (λ s. ((k : ℕ) → k ≢ gate_at s → image k ≡ base k) → gate_open (base (gate_at s)) ≡ false → gate_open (image (gate_at s)) ≡ false
+    → opening_of version key image n ≡ opening_of version key base n) slot below (still_0 version key base image n) (still_1 version key base image n)
 
 -- what a crash within a flip leaves opens as before, or to the header that was laid
-pub flip_opens : (version : ℕ) (key : List ℕ) (slot n : ℕ) (h : Header) (m : Moment) (c : Outcome) → slot < 2 → IsLaid version key slot n h m → LeavesFlip slot m.reads n c → (outcome_opening version key c ≡ opening_of version key m.reads n) ⊎ (outcome_opening version key c ≡ Ok (Some (record { header = h; slot = slot })))
+pub flip_opens : (version : ℕ) (key : List ℕ) (slot n : ℕ) (h : Header) (m : Moment) (c : Outcome) → slot < 2 → IsLaid version key slot n h m
+    → LeavesFlip slot m.reads n c
+    → (outcome_opening version key c ≡ opening_of version key m.reads n) ⊎ (outcome_opening version key c ≡ Ok (Some (record { header = h; slot = slot })))
 flip_opens version key slot n h m c below laid leaves =
-    elim (gate_open (c.image (gate_at slot))) as (λ o. gate_open (c.image (gate_at slot)) ≡ o → (outcome_opening version key c ≡ opening_of version key m.reads n) ⊎ (outcome_opening version key c ≡ Ok (Some (record { header = h; slot = slot })))) [
+    elim (gate_open (c.image (gate_at slot))) as (λ o. gate_open (c.image (gate_at slot)) ≡ o → (outcome_opening version key c ≡ opening_of version key m.reads n) ⊎
+    (outcome_opening version key c ≡ Ok (Some (record { header = h; slot = slot })))) [
       | true ↦ λ opened.
           let low : n ≤ c.counter = ⊎_elim (λ (e : c.counter ≡ n). omega (arith, e)) (λ (e : (c.counter ≡ n + 1) × (gate_open (c.image (gate_at slot)) ≡ true)). omega (arith, e.0)) leaves.counter in
-          let high : c.counter ≤ n + 1 = ⊎_elim (λ (e : c.counter ≡ n). omega (arith, e)) (λ (e : (c.counter ≡ n + 1) × (gate_open (c.image (gate_at slot)) ≡ true)). omega (arith, e.0)) leaves.counter in
+          let high : c.counter ≤ n + 1 = ⊎_elim (λ (e : c.counter ≡ n). omega (arith, e))
+          (λ (e : (c.counter ≡ n + 1) × (gate_open (c.image (gate_at slot)) ≡ true)). omega (arith, e.0)) leaves.counter in
           inr (flip_open version key n h m c.image c.counter low high slot below laid leaves.elsewhere opened)
       | false ↦ λ shut.
-          let same : c.counter ≡ n = ⊎_elim (λ (e : c.counter ≡ n). e) (λ (e : (c.counter ≡ n + 1) × (gate_open (c.image (gate_at slot)) ≡ true)). absurd (false≢true (sym shut ∙ e.1))) leaves.counter in
+          let same : c.counter ≡ n = ⊎_elim (λ (e : c.counter ≡ n). e)
+          (λ (e : (c.counter ≡ n + 1) × (gate_open (c.image (gate_at slot)) ≡ true)). absurd (false≢true (sym shut ∙ e.1))) leaves.counter in
           inl (ap (λ (k : ℕ). opening_of version key c.image k) same ∙ flip_shut version key m.reads c.image n slot below leaves.elsewhere laid.gate shut)
     ] refl

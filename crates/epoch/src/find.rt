@@ -38,7 +38,8 @@ pub fn find_header<B: Board>(board: &mut B) -> Result<Option<Header>, OpenAnswer
     ensures memory { result ≢ Err answers.NoMemory }
     ensures writes { (B.view board.new).writes ≡ (B.view board.old).writes }
     ensures honest { B.honest board.old → B.honest board.new }
-    ensures blocks { B.honest board.old → SameBlocks (B.view board.old).state (B.view board.new).state }
+    ensures blocks { B.honest board.old
+        → SameBlocks (B.view board.old).state (B.view board.new).state }
     // whatever the board: by the rule over what it tells, at some counter
     ensures rule { IsTrue B.tells_reads → (counter : ℕ) × IsRuled result
         (opens_as FLAT_VERSION VOLUME_BLOCKS (B.view board.old).size (B.view board.old).key
@@ -70,7 +71,8 @@ pub fn find_version<B: Board>(board: &mut B, version: u32) -> Result<Option<Head
     ensures memory { result ≢ Err answers.NoMemory }
     ensures writes { (B.view board.new).writes ≡ (B.view board.old).writes }
     ensures honest { B.honest board.old → B.honest board.new }
-    ensures blocks { B.honest board.old → SameBlocks (B.view board.old).state (B.view board.new).state }
+    ensures blocks { B.honest board.old
+        → SameBlocks (B.view board.old).state (B.view board.new).state }
     // whatever the board: by the rule over what it tells, at some counter
     ensures rule { IsTrue B.tells_reads → (counter : ℕ) × IsRuled result
         (opens_as version VOLUME_BLOCKS (B.view board.old).size (B.view board.old).key
@@ -117,13 +119,15 @@ fn raise<B: Board>(
     ensures memory { result ≢ Err answers.NoMemory }
     ensures writes { (B.view board.new).writes ≡ (B.view board.old).writes }
     ensures honest { B.honest board.old → B.honest board.new }
-    ensures blocks { B.honest board.old → SameBlocks (B.view board.old).state (B.view board.new).state }
+    ensures blocks { B.honest board.old
+        → SameBlocks (B.view board.old).state (B.view board.new).state }
     ensures counter { B.honest board.old → IsSettledAt counter (B.view board.old).state
         → counter ≤ header.sequence → header.sequence ≤ counter + 1
         → IfOk result (λ h. IsSettledAt header.sequence (B.view board.new).state) }
     ensures run { B.honest board.old → IsSettledAt counter (B.view board.old).state
         → (open_at : ℕ → Bool) (base : ℕ → List ℕ) (low high : ℕ) (first : View)
-        → counter ≤ high → header.sequence ≤ high → counter ≤ header.sequence → header.sequence ≤ counter + 1
+        → counter ≤ high → header.sequence ≤ high
+        → counter ≤ header.sequence → header.sequence ≤ counter + 1
         → RunsOver open_at base low high first (B.view board.old)
         → RunsOver open_at base low high first (B.view board.new) }
 {

@@ -35,7 +35,8 @@ pub struct Seen {
 #[tactic(auto, unfolding(crate::specs::Slots::header_slot))]
 fn read_header(keys: &Keys, slot: u8, block: &[u8; 1024]) -> Slot
     requires { slot < 2 }
-    ensures { (key : List ℕ) → AreKeysOf keys.now key → result ≡ header_slot key slot block.now }
+    ensures { (key : List ℕ) → AreKeysOf keys.now key
+        → result ≡ header_slot key slot block.now }
 {
     let found = tag_of_header(keys, slot, block);
     let kept = kept_tag(block);
@@ -55,9 +56,11 @@ fn look<B: Board>(board: &mut B, keys: &Keys, slot: u8) -> Result<Slot, BoardFai
     ensures writes { (B.view board.new).writes ≡ (B.view board.old).writes }
     ensures slot { IsTrue B.tells_reads → (key : List ℕ) → AreKeysOf keys.now key
         → IfOk result (λ s. s ≡ slot_of key (B.view board.old).state.reads slot) }
-    ensures same { IsTrue B.tells_reads → (B.view board.new).state.reads ≡ (B.view board.old).state.reads }
+    ensures same { IsTrue B.tells_reads
+        → (B.view board.new).state.reads ≡ (B.view board.old).state.reads }
     ensures honest { B.honest board.old → B.honest board.new }
-    ensures state { B.honest board.old → Unchanged (B.view board.old).state (B.view board.new).state }
+    ensures state { B.honest board.old
+        → Unchanged (B.view board.old).state (B.view board.new).state }
     ensures run { B.honest board.old
         → (open_at : ℕ → Bool) (base : ℕ → List ℕ) (low high : ℕ) (first : View)
         → RunsOver open_at base low high first (B.view board.old)
@@ -81,9 +84,11 @@ pub fn gather<B: Board>(board: &mut B, keys: &Keys) -> Result<Seen, BoardFailed>
         → IfOk result (λ seen. (seen.first ≡ slot_of key (B.view board.old).state.reads 0)
         × (seen.second ≡ slot_of key (B.view board.old).state.reads 1)) }
     ensures honest { B.honest board.old → B.honest board.new }
-    ensures blocks { B.honest board.old → SameBlocks (B.view board.old).state (B.view board.new).state }
+    ensures blocks { B.honest board.old
+        → SameBlocks (B.view board.old).state (B.view board.new).state }
     ensures counter { B.honest board.old
-        → IfOk result (λ seen. Settles seen.counter (B.view board.old).state (B.view board.new).state) }
+        → IfOk result (λ seen.
+        Settles seen.counter (B.view board.old).state (B.view board.new).state) }
     ensures run { B.honest board.old
         → (open_at : ℕ → Bool) (base : ℕ → List ℕ) (low high : ℕ) (first : View)
         → RunsOver open_at base low high first (B.view board.old)

@@ -48,7 +48,8 @@ pub fn shut<B: Board>(board: &mut B, slot: u8) -> Result<(), BoardFailed>
         → RunsOver open_at base low high first (B.view board.new) }
     // all that a crash leaves opens as before
     ensures crash { B.honest board.old → (version n : ℕ) → Rests n (B.view board.old).state
-        → CountsElsewhere slot (opening_of version (B.view board.old).key (B.view board.old).state.reads n)
+        → CountsElsewhere slot
+        (opening_of version (B.view board.old).key (B.view board.old).state.reads n)
         → LeavesOnly moment left_since (B.view board.old) (B.view board.new)
         (λ c. outcome_opening version (B.view board.old).key c
         ≡ opening_of version (B.view board.old).key (B.view board.old).state.reads n) }
@@ -76,9 +77,11 @@ pub fn lay<B: Board>(board: &mut B, header: &Header) -> Result<(), BoardFailed>
         → (B.view board.new).state.reads k ≡ (B.view board.old).state.reads k }
     ensures laid { B.honest board.old → let slot = header.now.sequence % 2 in
         OnOk result (SyncedBut (header_at slot) (B.view board.old).state (B.view board.new).state
-        × IsHeaderBlock (B.view board.old).key slot header.now ((B.view board.new).state.reads (header_at slot))) }
+        × IsHeaderBlock (B.view board.old).key slot header.now
+        ((B.view board.new).state.reads (header_at slot))) }
     ensures good { B.honest board.old → let slot = header.now.sequence % 2 in
-        OnOk result (header_slot (B.view board.old).key slot ((B.view board.new).state.reads (header_at slot))
+        OnOk result (header_slot (B.view board.old).key slot
+        ((B.view board.new).state.reads (header_at slot))
         ≡ slot_holds.Good header.now) }
     ensures run { B.honest board.old
         → (open_at : ℕ → Bool) (base : ℕ → List ℕ) (low high : ℕ) (first : View)
@@ -112,7 +115,8 @@ pub fn flip<B: Board>(board: &mut B, slot: u8) -> Result<u64, BoardFailed>
     ensures honest { B.honest board.old → B.honest board.new }
     ensures elsewhere { B.honest board.old → (k : ℕ) → k ≢ gate_at slot
         → (B.view board.new).state.reads k ≡ (B.view board.old).state.reads k }
-    ensures flipped { B.honest board.old → IfOk result (λ m. (n : ℕ) → Rests n (B.view board.old).state
+    ensures flipped { B.honest board.old
+        → IfOk result (λ m. (n : ℕ) → Rests n (B.view board.old).state
         → IsFlipped slot n m (B.view board.old).state (B.view board.new).state) }
     ensures run { B.honest board.old → (n : ℕ) → Rests n (B.view board.old).state
         → LeavesOnly moment left_since (B.view board.old) (B.view board.new)

@@ -16,7 +16,9 @@ pub whole_answer : (key : List ℕ) (way : Way) (iv : List ℕ) (count room : �
 whole_answer key way iv count room long wide = rw (long, wide) refl
 
 -- and all of it is written
-pub whole_text : (way : Way) (key iv from into : List ℕ) (answer : Result ℕ ModeAnswer) → length into ≡ 1024 → answer ≡ Ok 1024 → IfOk answer (λ n. text_of (extended (begun key Ctr way iv) from) ≡ text_of (begun key Ctr way iv) ++ take n into) → into ≡ mode_text Ctr way key iv from
+pub whole_text : (way : Way) (key iv from into : List ℕ) (answer : Result ℕ ModeAnswer) → length into ≡ 1024 → answer ≡ Ok 1024
+    → IfOk answer (λ n. text_of (extended (begun key Ctr way iv) from) ≡ text_of (begun key Ctr way iv) ++ take n into)
+    → into ≡ mode_text Ctr way key iv from
 unfolding mode_text ctr_from
 whole_text way key iv from into answer long ok text =
     let P : Result ℕ ModeAnswer → Type 0 = λ a. IfOk a (λ n. text_of (extended (begun key Ctr way iv) from) ≡ text_of (begun key Ctr way iv) ++ take n into) in

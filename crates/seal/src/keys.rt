@@ -48,14 +48,16 @@ impl Keys {
 
     /// A tag at the start of its message. What it is fed with is authenticated under the key of tags.
     pub fn tagger(&self) -> Mac
-        ensures { (key : List ℕ) → AreKeysOf self.now key → HoldsKeyedMessage result hash_by.Sha256 (tag_key key) [] }
+        ensures { (key : List ℕ) → AreKeysOf self.now key
+            → HoldsKeyedMessage result hash_by.Sha256 (tag_key key) [] }
     {
         copied(&self.tag)
     }
 
     /// The initial vector of a block.
     pub(crate) fn vector_of(&self, place: u64, sequence: u64, plain: &[u8; 1024]) -> [u8; 16]
-        ensures { (key : List ℕ) → AreKeysOf self.now key → result ≡ seal_vector key place sequence plain.now }
+        ensures { (key : List ℕ) → AreKeysOf self.now key
+            → result ≡ seal_vector key place sequence plain.now }
     {
         let mut mac = copied(&self.vector);
         mac.update(&place.to_le_bytes());
@@ -75,7 +77,8 @@ impl Keys {
         iv: &[u8; 16],
         cipher: &[u8; 1024],
     ) -> [u8; 32]
-        ensures { (key : List ℕ) → AreKeysOf self.now key → result ≡ seal_tag key place sequence iv.now cipher.now }
+        ensures { (key : List ℕ) → AreKeysOf self.now key
+            → result ≡ seal_tag key place sequence iv.now cipher.now }
     {
         let mut mac = self.tagger();
         mac.update(&place.to_le_bytes());
@@ -87,7 +90,8 @@ impl Keys {
 
     /// A block through the cipher in counter mode, one way or the other.
     pub(crate) fn convert(&self, way: Way, iv: [u8; 16], from: &[u8; 1024], into: &mut [u8; 1024])
-        ensures { (key : List ℕ) → AreKeysOf self.now key → into.new ≡ mode_text mode_of.Ctr way (cipher_key key) iv from.now }
+        ensures { (key : List ℕ) → AreKeysOf self.now key
+            → into.new ≡ mode_text mode_of.Ctr way (cipher_key key) iv from.now }
     {
         let mut stream = start(self.cipher, Mode::Ctr, way, iv);
         let _count = stream.update(from, into).unwrap();

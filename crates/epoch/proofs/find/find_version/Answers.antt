@@ -67,7 +67,8 @@ returns-clause-run g c h open_at base low high first opens run =
       | in-Ok-Some w ↦
           let e : c.judge.result ≡ Ok (Some w.in-Ok-Some.found) = cc in
           let b = between c.args.version v.key open_at base low high n v.state w.in-Ok-Some.found run.now counted.among opens (sym told ∙ e) in
-          rw w.board-is (w.raise.ensures.run (c.in_ok-seen.ensures.honest h) (record { counter = counted.counter; slack = counted.slack }) open_at base low high first b.counter b.highest b.least b.most mid)
+          rw w.board-is (w.raise.ensures.run (c.in_ok-seen.ensures.honest h)
+          (record { counter = counted.counter; slack = counted.slack }) open_at base low high first b.counter b.highest b.least b.most mid)
     ]
 
 pub returns-clause-crash : goal.returns-clause-crash

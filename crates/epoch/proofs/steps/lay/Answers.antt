@@ -11,13 +11,16 @@ returns-in_err-write-clause-run g c h open_at base low high first opened run =
 
 pub returns-in_err-write-clause-crash : goal.returns-in_err-write-clause-crash
 returns-in_err-write-clause-crash g c h version n rests shut =
-    lay_crash version n (c.args.header.now.sequence % 2) _ _ (subst (λ s. s < 2) c.slot_for-slot.ensures.slot c.slot_for-slot.ensures.below) shut (returns-in_err-write-clause-run g c h (λ k. k == header_at (c.args.header.now.sequence % 2)) _ n n _ (is_itself (header_at (c.args.header.now.sequence % 2))) (rest_starts n _ rests (λ k. k == header_at (c.args.header.now.sequence % 2))))
+    lay_crash version n (c.args.header.now.sequence % 2) _ _ (subst (λ s. s < 2) c.slot_for-slot.ensures.slot c.slot_for-slot.ensures.below) shut
+    (returns-in_err-write-clause-run g c h (λ k. k == header_at (c.args.header.now.sequence % 2)) _ n n _ (is_itself (header_at (c.args.header.now.sequence % 2)))
+    (rest_starts n _ rests (λ k. k == header_at (c.args.header.now.sequence % 2))))
 
 pub returns-clause-laid : goal.returns-clause-laid
 returns-clause-laid g c h =
     let w = c.in_ok-write.ensures.honest h in
     let s = c.sync.ensures.honest w.0 in
-    lay_answers (c.args.header.now.sequence % 2) c.header_block.result _ _ _ _ c.sync.result (IsHeaderBlock (g.B.Board.view c.args.board.now).key (c.args.header.now.sequence % 2) c.args.header.now) (c.header_block.ensures ∙ ap header_at c.slot_for-slot.ensures.slot) w.2 s.2
+    lay_answers (c.args.header.now.sequence % 2) c.header_block.result _ _ _ _ c.sync.result
+    (IsHeaderBlock (g.B.Board.view c.args.board.now).key (c.args.header.now.sequence % 2) c.args.header.now) (c.header_block.ensures ∙ ap header_at c.slot_for-slot.ensures.slot) w.2 s.2
     (subst (λ (k : List ℕ). IsHeaderBlock k (c.args.header.now.sequence % 2) c.args.header.now c.block_of_header.result) c.key.ensures
     (subst (λ (s : ℕ). IsHeaderBlock c.key.result s c.args.header.now c.block_of_header.result) c.slot_for-slot.ensures.slot (c.block_of_header.ensures.block c.key.result c.of-keys.ensures)))
 
@@ -29,4 +32,6 @@ returns-clause-run g c h open_at base low high first opened run =
 
 pub returns-clause-crash : goal.returns-clause-crash
 returns-clause-crash g c h version n rests shut =
-    lay_crash version n (c.args.header.now.sequence % 2) _ _ (subst (λ s. s < 2) c.slot_for-slot.ensures.slot c.slot_for-slot.ensures.below) shut (returns-clause-run g c h (λ k. k == header_at (c.args.header.now.sequence % 2)) _ n n _ (is_itself (header_at (c.args.header.now.sequence % 2))) (rest_starts n _ rests (λ k. k == header_at (c.args.header.now.sequence % 2))))
+    lay_crash version n (c.args.header.now.sequence % 2) _ _ (subst (λ s. s < 2) c.slot_for-slot.ensures.slot c.slot_for-slot.ensures.below) shut
+    (returns-clause-run g c h (λ k. k == header_at (c.args.header.now.sequence % 2)) _ n n _ (is_itself (header_at (c.args.header.now.sequence % 2)))
+    (rest_starts n _ rests (λ k. k == header_at (c.args.header.now.sequence % 2))))

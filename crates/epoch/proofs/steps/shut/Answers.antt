@@ -12,19 +12,22 @@ pub returns-then-not-is_open-clause-crash : goal.returns-then-not-is_open-clause
 returns-then-not-is_open-clause-crash g c h version n rests other =
     let r = c.in_ok-read.ensures.honest h in
     let s = c.sync.ensures.honest r.0 in
-    shut_crash version n c.args.slot _ _ c.requires.slot other (over_sync _ _ n n _ _ _ (over_read _ _ n n _ _ _ (rest_starts n _ rests (shut_writes c.args.slot (g.B.Board.view c.args.board.now).state.reads)) r.1 r.2) s.1 _ s.2)
+    shut_crash version n c.args.slot _ _ c.requires.slot other (over_sync _ _ n n _ _ _
+    (over_read _ _ n n _ _ _ (rest_starts n _ rests (shut_writes c.args.slot (g.B.Board.view c.args.board.now).state.reads)) r.1 r.2) s.1 _ s.2)
 
 pub returns-in_err-write-clause-run : goal.returns-in_err-write-clause-run
 returns-in_err-write-clause-run g c h open_at base low high first opens run =
     let r = c.in_ok-read.ensures.honest h in
     let w = c.in_err-write.ensures.honest r.0 in
     let told : c.is_open.result ≡ true = search rules in
-    let was = gate_was c.gate_block.result _ (g.B.Board.view c.args.board.now).state.reads _ c.is_open.result c.gate_block.ensures (c.in_ok-read.ensures.bytes (g.met.B.Board.honest_reads c.args.board.now h)) c.is_open.ensures told in
+    let was = gate_was c.gate_block.result _ (g.B.Board.view c.args.board.now).state.reads _ c.is_open.result c.gate_block.ensures
+    (c.in_ok-read.ensures.bytes (g.met.B.Board.honest_reads c.args.board.now h)) c.is_open.ensures told in
     over_write open_at base low high first _ _ (over_read open_at base low high first _ _ run r.1 r.2) w.1 _ _ _ (rw c.gate_block-2.ensures (opens was)) w.2
 
 pub returns-in_err-write-clause-crash : goal.returns-in_err-write-clause-crash
 returns-in_err-write-clause-crash g c h version n rests other =
-    shut_crash version n c.args.slot _ _ c.requires.slot other (returns-in_err-write-clause-run g c h _ _ n n _ (shut_itself c.args.slot (g.B.Board.view c.args.board.now).state.reads) (rest_starts n _ rests (shut_writes c.args.slot (g.B.Board.view c.args.board.now).state.reads)))
+    shut_crash version n c.args.slot _ _ c.requires.slot other (returns-in_err-write-clause-run g c h _ _ n n _
+    (shut_itself c.args.slot (g.B.Board.view c.args.board.now).state.reads) (rest_starts n _ rests (shut_writes c.args.slot (g.B.Board.view c.args.board.now).state.reads)))
 
 pub returns-clause-shut : goal.returns-clause-shut
 returns-clause-shut g c h =
@@ -39,9 +42,12 @@ returns-clause-run g c h open_at base low high first opens run =
     let w = c.in_ok-write.ensures.honest r.0 in
     let s = c.sync-2.ensures.honest w.0 in
     let told : c.is_open.result ≡ true = search rules in
-    let was = gate_was c.gate_block.result _ (g.B.Board.view c.args.board.now).state.reads _ c.is_open.result c.gate_block.ensures (c.in_ok-read.ensures.bytes (g.met.B.Board.honest_reads c.args.board.now h)) c.is_open.ensures told in
-    over_sync open_at base low high first _ _ (over_write open_at base low high first _ _ (over_read open_at base low high first _ _ run r.1 r.2) w.1 _ _ _ (rw c.gate_block-2.ensures (opens was)) w.2) s.1 _ s.2
+    let was = gate_was c.gate_block.result _ (g.B.Board.view c.args.board.now).state.reads _ c.is_open.result c.gate_block.ensures
+    (c.in_ok-read.ensures.bytes (g.met.B.Board.honest_reads c.args.board.now h)) c.is_open.ensures told in
+    over_sync open_at base low high first _ _ (over_write open_at base low high first _ _ (over_read open_at base low high first _ _ run r.1 r.2) w.1 _ _ _
+    (rw c.gate_block-2.ensures (opens was)) w.2) s.1 _ s.2
 
 pub returns-clause-crash : goal.returns-clause-crash
 returns-clause-crash g c h version n rests other =
-    shut_crash version n c.args.slot _ _ c.requires.slot other (returns-clause-run g c h _ _ n n _ (shut_itself c.args.slot (g.B.Board.view c.args.board.now).state.reads) (rest_starts n _ rests (shut_writes c.args.slot (g.B.Board.view c.args.board.now).state.reads)))
+    shut_crash version n c.args.slot _ _ c.requires.slot other (returns-clause-run g c h _ _ n n _ (shut_itself c.args.slot (g.B.Board.view c.args.board.now).state.reads)
+    (rest_starts n _ rests (shut_writes c.args.slot (g.B.Board.view c.args.board.now).state.reads)))
