@@ -72,9 +72,13 @@ reaction_while c waiting.Comparing beginning answer = messages.after_mac_compare
 reaction_while c (waiting.Judging code) beginning answer = messages.after_compared_beginning c code answer
 reaction_while c what beginning answer = set_up_while c what beginning answer
 
+-- an answer comes
+abbrev pub reaction_to_answer : Crypt → Answer → Reaction Crypt
+reaction_to_answer c answer = reaction_while (first.idle c) c.waiting (beginning_while c.op c.class c.waiting) answer
+
 unfoldable pub reaction : Crypt → Given → Reaction Crypt
 reaction c (givens.Entry entry) = reaction_to_entry c entry
-reaction c (givens.Answer answer) = reaction_while (first.idle c) c.waiting (beginning_while c.op c.class c.waiting) answer
+reaction c (givens.Answer answer) = reaction_to_answer c answer
 
 -- the state after what is given
 abbrev pub next_state : Crypt → Given → Crypt

@@ -64,7 +64,7 @@ pub struct Crypt {
 }
 
 impl Crypt {
-    ghost use Rattle.std.specs.Prelude.{◌≡◌, IfOk};
+    ghost use Rattle.std.specs.Prelude.{◌≡◌, IfOk, OnErr};
     ghost use Rattle.sample_apps.specs.Reactions.{ask_for, return_with, succeed_with, fail_with};
     ghost use Rattle.sample_apps.specs.CryptSetUp.{new_crypt, idle, wait_for, refusal_of};
     ghost use Rattle.sample_apps.specs.Crypt as rows;
@@ -172,45 +172,82 @@ impl Crypt {
         }
     }
 
-    /// An answer comes to command 1, which waits for this. The beginning is the ask that begins a message.
+    /// An answer comes to command 1, which waits for this. The beginning is the ask that begins a message. Nothing is said of
+    /// what is left of the two.
     #[tactic(auto, unfolding(crate::specs::Crypt::set_up_while))]
-    fn go_on_setting_up(&mut self, waiting: Waiting, beginning: Option<Ask>, answer: Answer) -> Ask
-        ensures { ask_for self.new result ≡ rows.set_up_while self.old waiting beginning answer }
+    fn go_on_setting_up(
+        &mut self,
+        alloc: Global,
+        waiting: &mut Waiting,
+        beginning: &mut Option<Ask>,
+        answer: Answer,
+    ) -> Ask
+        ensures { ask_for self.new result
+            ≡ rows.set_up_while self.old waiting.old beginning.old answer }
     {
         match waiting {
-            Waiting::Freeing { plan } => self.after_op_free(plan, answer),
-            Waiting::Allocating { plan } => self.after_op_new(plan, answer),
-            Waiting::MakingKey { key, class } => self.after_key_new(key, class, answer),
-            Waiting::FillingKey { object, class } => {
-                self.after_key_populate(object, class, answer)
+            Waiting::Freeing { plan } => self.after_op_free(plan.take(alloc), answer),
+            Waiting::Allocating { plan } => self.after_op_new(plan.take(alloc), answer),
+            Waiting::MakingKey { key, class } => {
+                let key = mem::replace(key, Bytes::empty(alloc));
+                self.after_key_new(key, class.take(), answer)
             }
-            Waiting::SettingKey { object, class } => self.after_op_set_key(object, class, answer),
-            Waiting::ClosingKey { class } => self.after_key_close(class, beginning, answer),
-            Waiting::Beginning { class } => self.after_first_beginning(class, answer),
+            Waiting::FillingKey { object, class } => {
+                self.after_key_populate(*object, class.take(), answer)
+            }
+            Waiting::SettingKey { object, class } => {
+                self.after_op_set_key(*object, class.take(), answer)
+            }
+            Waiting::ClosingKey { class } => {
+                self.after_key_close(class.take(), beginning.take(), answer)
+            }
+            Waiting::Beginning { class } => self.after_first_beginning(class.take(), answer),
             _ => self.fail(Code::GENERIC),
         }
     }
 
-    /// An answer comes to a command that waits for this.
+    /// An answer comes to a command that waits for this. Nothing is said of what is left of it and of the beginning.
     #[tactic(auto, unfolding(crate::specs::Crypt::reaction_while))]
     fn go_on(
         &mut self,
         alloc: Global,
-        waiting: Waiting,
-        beginning: Option<Ask>,
+        waiting: &mut Waiting,
+        beginning: &mut Option<Ask>,
         answer: Answer,
     ) -> Ask
-        ensures { ask_for self.new result ≡ rows.reaction_while self.old waiting beginning answer }
+        ensures { ask_for self.new result
+            ≡ rows.reaction_while self.old waiting.old beginning.old answer }
     {
         match waiting {
             Waiting::Enciphering => self.after_cipher_update(answer),
             Waiting::Absorbing => self.after_absorption(alloc, answer),
-            Waiting::Finishing => self.after_final(beginning, answer),
-            Waiting::Renewing { content } => self.after_next_beginning(content, answer),
+            Waiting::Finishing => self.after_final(beginning.take(), answer),
+            Waiting::Renewing { content } => {
+                let content = mem::replace(content, Bytes::empty(alloc));
+                self.after_next_beginning(content, answer)
+            }
             Waiting::Comparing => self.after_mac_compare(answer),
-            Waiting::Judging { code } => self.after_compared_beginning(code, answer),
-            other => self.go_on_setting_up(other, beginning, answer),
+            Waiting::Judging { code } => self.after_compared_beginning(*code, answer),
+            _ => self.go_on_setting_up(alloc, waiting, beginning, answer),
         }
+    }
+
+    /// An answer comes to the command that waits. Nothing is said of what is left of the beginning.
+    fn resume(&mut self, alloc: Global, beginning: &mut Option<Ask>, answer: Answer) -> Ask
+        ensures { ask_for self.new result
+            ≡ rows.reaction_while (idle self.old) self.old.waiting beginning.old answer }
+    {
+        let mut waiting = mem::replace(&mut self.waiting, Waiting::Nothing);
+        self.go_on(alloc, &mut waiting, beginning, answer)
+    }
+
+    /// An answer comes. On `Err` the state stays.
+    fn answered(&mut self, alloc: Global, answer: Answer) -> Result<Ask, NoMemory>
+        ensures ok { IfOk result (λ ask. ask_for self.new ask ≡ rows.reaction_to_answer self.old answer) }
+        ensures err { OnErr result (self.new ≡ self.old) }
+    {
+        let mut beginning = self.beginning(alloc)?;
+        Ok(self.resume(alloc, &mut beginning, answer))
     }
 }
 
@@ -225,11 +262,7 @@ impl Application for Crypt {
     fn step(&mut self, alloc: Global, given: Given) -> Result<Ask, NoMemory> {
         match given {
             Given::Entry(entry) => Ok(self.enter(entry)),
-            Given::Answer(answer) => {
-                let beginning = self.beginning(alloc)?;
-                let waiting = mem::replace(&mut self.waiting, Waiting::Nothing);
-                Ok(self.go_on(alloc, waiting, beginning, answer))
-            }
+            Given::Answer(answer) => self.answered(alloc, answer),
         }
     }
 

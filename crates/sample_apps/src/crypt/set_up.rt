@@ -47,7 +47,32 @@ fn bits_of(key: &Bytes) -> u32
     key.len() as u32 * 8
 }
 
+impl Plan {
+    /// The plan; an empty one is left in its place.
+    pub fn take(&mut self, alloc: Global) -> Plan
+        ensures { result ≡ self.old }
+    {
+        let (key, iv) = (Bytes::empty(alloc), Bytes::empty(alloc));
+        mem::replace(
+            self,
+            Plan {
+                alg: 0,
+                mode: 0,
+                key,
+                iv,
+            },
+        )
+    }
+}
+
 impl Class {
+    /// The class; another is left in its place.
+    pub fn take(&mut self) -> Class
+        ensures { result ≡ self.old }
+    {
+        mem::replace(self, Class::Digest)
+    }
+
     /// What an operation with a key of that kind computes.
     fn of(kind: Option<u32>, iv: Bytes) -> Class
         ensures { result ≡ rows.class_of kind iv }
