@@ -13,6 +13,9 @@ cancel = record { 0 = 0xFFFF0002 }
 abbrev pub bad_parameters : Code
 bad_parameters = record { 0 = 0xFFFF0006 }
 
+abbrev pub bad_state : Code
+bad_state = record { 0 = 0xFFFF0007 }
+
 abbrev pub item_not_found : Code
 item_not_found = record { 0 = 0xFFFF0008 }
 
@@ -21,3 +24,9 @@ short_buffer = record { 0 = 0xFFFF0010 }
 
 abbrev pub overflow : Code
 overflow = record { 0 = 0xFFFF300F }
+
+abbrev pub storage_no_space : Code
+storage_no_space = record { 0 = 0xFFFF3041 }
+
+abbrev pub mac_invalid : Code
+mac_invalid = record { 0 = 0xFFFF3071 }

@@ -4,4 +4,9 @@ pub mod StoreCommands
 pub mod StoreAnswers
 pub mod Store
 pub mod Count
+pub mod CryptCommands
+pub mod CryptSetUp
+pub mod CryptMessages
+pub mod Crypt
+pub mod Rogue
 pub mod Samples

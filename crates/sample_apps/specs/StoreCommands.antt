@@ -64,7 +64,7 @@ truncate_object (ValueIn object size) Nothing Nothing Nothing = ask_for Acting (
 truncate_object p0 p1 p2 p3 = misfit
 
 -- the signed 64-bit number of these halves
-abbrev pub offset_of : ℕ → ℕ → ℤ
+unfoldable pub offset_of : ℕ → ℕ → ℤ
 offset_of low high = cast_signed w64 (high * 2 ^ 32 + low)
 
 -- 10: moves an object's position

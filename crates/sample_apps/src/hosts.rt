@@ -5,6 +5,8 @@ ghost use Rattle.app_api.specs.Hosts.{HostsFit};
 ghost use Rattle.sample_apps.specs.Samples as samples;
 
 use crate::count::Count;
+use crate::crypt::Crypt;
+use crate::rogue::Rogue;
 use crate::sample::Sample;
 use crate::store::Store;
 use app_api::{Host, Properties};
@@ -18,36 +20,134 @@ const ALL_SET: Properties = Properties {
     multi: true,
     keep: true,
 };
+/// One instance, which takes one session.
+const ONE_SESSION: Properties = Properties {
+    single: true,
+    multi: false,
+    keep: false,
+};
+/// One instance, which takes all sessions and goes with the last.
+const ONE_INSTANCE: Properties = Properties {
+    single: true,
+    multi: true,
+    keep: false,
+};
+/// An instance for each session.
+const MANY_INSTANCES: Properties = Properties {
+    single: false,
+    multi: false,
+    keep: false,
+};
+
+/// A host whose identifier has this last digit.
+fn host(
+    alloc: Global,
+    name: &[u8],
+    last: u8,
+    properties: Properties,
+    template: Sample,
+) -> Result<Host<Sample>, NoMemory>
+    ensures { IfOk result (λ host. host ≡ samples.host_of name.now last properties template) }
+{
+    Ok(Host {
+        name: Bytes::from_slice(alloc, name)?,
+        id: Uuid::from_u128(0x0000_0000_0000_4000_8000_0000_0000_0000 + last as u128),
+        properties,
+        template,
+    })
+}
 
 fn vault(alloc: Global) -> Result<Host<Sample>, NoMemory>
     ensures { IfOk result (λ host. host ≡ samples.vault) }
 {
-    Ok(Host {
-        name: Bytes::from_slice(alloc, b"vault")?,
-        id: Uuid::from_u128(0x0000_0000_0000_4000_8000_0000_0000_0001),
-        properties: ALL_SET,
-        template: Sample::Store(Store::Idle),
-    })
+    host(alloc, b"vault", 1, ONE_SESSION, Sample::Store(Store::Idle))
+}
+
+fn twin(alloc: Global) -> Result<Host<Sample>, NoMemory>
+    ensures { IfOk result (λ host. host ≡ samples.twin) }
+{
+    host(
+        alloc,
+        b"twin",
+        2,
+        MANY_INSTANCES,
+        Sample::Store(Store::Idle),
+    )
 }
 
 fn keep(alloc: Global) -> Result<Host<Sample>, NoMemory>
     ensures { IfOk result (λ host. host ≡ samples.keep) }
 {
-    Ok(Host {
-        name: Bytes::from_slice(alloc, b"keep")?,
-        id: Uuid::from_u128(0x0000_0000_0000_4000_8000_0000_0000_0003),
-        properties: ALL_SET,
-        template: Sample::Count(Count::new()),
-    })
+    host(alloc, b"keep", 3, ALL_SET, Sample::Count(Count::new()))
 }
 
-/// The hosts, in the order of their indices.
+fn tally(alloc: Global) -> Result<Host<Sample>, NoMemory>
+    ensures { IfOk result (λ host. host ≡ samples.tally) }
+{
+    host(
+        alloc,
+        b"tally",
+        4,
+        ONE_INSTANCE,
+        Sample::Count(Count::new()),
+    )
+}
+
+fn cipher(alloc: Global) -> Result<Host<Sample>, NoMemory>
+    ensures { IfOk result (λ host. host ≡ samples.cipher) }
+{
+    host(
+        alloc,
+        b"cipher",
+        5,
+        MANY_INSTANCES,
+        Sample::Crypt(Crypt::new()),
+    )
+}
+
+fn rogue(alloc: Global) -> Result<Host<Sample>, NoMemory>
+    ensures { IfOk result (λ host. host ≡ samples.rogue) }
+{
+    host(alloc, b"rogue", 6, ONE_INSTANCE, Sample::Rogue(Rogue::Idle))
+}
+
+fn six(alloc: Global) -> Result<Vec<Host<Sample>>, NoMemory>
+    ensures { IfOk result (λ hosts. hosts.items ≡ samples.hosts) }
+{
+    let mut hosts = Vec::new(alloc);
+    hosts.push(vault(alloc)?)?;
+    hosts.push(twin(alloc)?)?;
+    hosts.push(keep(alloc)?)?;
+    hosts.push(tally(alloc)?)?;
+    hosts.push(cipher(alloc)?)?;
+    hosts.push(rogue(alloc)?)?;
+    Ok(hosts)
+}
+
+/// The six hosts, in the order of their indices.
 pub fn sample_hosts(alloc: Global) -> Result<Vec<Host<Sample>>, NoMemory>
     ensures hosts { IfOk result (λ hosts. hosts.items ≡ samples.hosts) }
     ensures fit { IfOk result (λ hosts. HostsFit hosts.items) }
 {
+    six(alloc)
+}
+
+fn two(alloc: Global) -> Result<Vec<Host<Sample>>, NoMemory>
+    ensures { IfOk result (λ hosts. hosts.items ≡ samples.one_instance_hosts) }
+{
     let mut hosts = Vec::new(alloc);
-    hosts.push(vault(alloc)?)?;
+    let mut store = vault(alloc)?;
+    store.properties = ALL_SET;
+    hosts.push(store)?;
     hosts.push(keep(alloc)?)?;
     Ok(hosts)
+}
+
+/// `vault` and `keep`, each with one instance, which takes all sessions and stays: what the runtime serves today. It goes once
+/// the runtime serves hosts with other properties.
+pub fn one_instance_hosts(alloc: Global) -> Result<Vec<Host<Sample>>, NoMemory>
+    ensures hosts { IfOk result (λ hosts. hosts.items ≡ samples.one_instance_hosts) }
+    ensures fit { IfOk result (λ hosts. HostsFit hosts.items) }
+{
+    two(alloc)
 }

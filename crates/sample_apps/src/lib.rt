@@ -2,14 +2,18 @@
 #![tactic(auto)]
 
 mod count;
+mod crypt;
 mod hosts;
 mod reaction;
+mod rogue;
 mod sample;
 mod store;
 #[cfg(test)]
 mod tests;
 
 pub use count::Count;
-pub use hosts::sample_hosts;
+pub use crypt::Crypt;
+pub use hosts::{one_instance_hosts, sample_hosts};
+pub use rogue::Rogue;
 pub use sample::Sample;
 pub use store::Store;

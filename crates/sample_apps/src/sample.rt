@@ -1,6 +1,8 @@
 //! The sample applications as one type.
 
 use crate::count::Count;
+use crate::crypt::Crypt;
+use crate::rogue::Rogue;
 use crate::store::Store;
 use app_api::{Application, Ask, Given};
 use std::alloc::Global;
@@ -11,6 +13,8 @@ use tee_base::NoMemory;
 pub enum Sample {
     Store(Store),
     Count(Count),
+    Crypt(Crypt),
+    Rogue(Rogue),
 }
 
 impl Application for Sample {
@@ -23,6 +27,8 @@ impl Application for Sample {
         match self {
             Sample::Store(store) => store.step(alloc, given),
             Sample::Count(count) => count.step(alloc, given),
+            Sample::Crypt(crypt) => crypt.step(alloc, given),
+            Sample::Rogue(rogue) => rogue.step(alloc, given),
         }
     }
 
@@ -30,6 +36,8 @@ impl Application for Sample {
         match self {
             Sample::Store(store) => Ok(Sample::Store(store.fresh(alloc)?)),
             Sample::Count(count) => Ok(Sample::Count(count.fresh(alloc)?)),
+            Sample::Crypt(crypt) => Ok(Sample::Crypt(crypt.fresh(alloc)?)),
+            Sample::Rogue(rogue) => Ok(Sample::Rogue(rogue.fresh(alloc)?)),
         }
     }
 }

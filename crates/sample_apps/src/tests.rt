@@ -2,10 +2,9 @@
 
 mod words;
 
-use crate::{Count, Sample, Store, sample_hosts};
-use app_api::hosts_fit;
+use crate::{Count, Crypt, Rogue, Sample, Store, one_instance_hosts, sample_hosts};
+use app_api::{Answer, Application, Given, Properties, hosts_fit};
 use std::test::Fail;
-use uuid::Uuid;
 use words::run;
 
 const STORE: &str = "\
@@ -125,38 +124,169 @@ done > ffff0000
 destroy > 00000000
 ";
 
+const CRYPT: &str = "\
+create > 00000000
+start > 00000000
+2 mi:a mo:4 > ffff0007
+3 mi:a mo:4 > ffff0007
+4 mi:a mi:b > ffff0007
+2 mi:a mo:4 vo > ffff0006
+3 mi:a mo:4 - vo > ffff0006
+4 mi:a mo:4 > ffff0006
+1 mi:k vi:268435728:0 mi:v vo > ffff0006
+1 mi:k vi:268435728:0 mi:v > OpFree { op: 0 }
+done > OpNew { alg: 268435728, mode: 0, max_bits: 256 }
+number 3 > KeyNew { kind: 2684354576, max_bits: 8 }
+number 5 > KeyPopulate { object: 5, secret: Bytes { items: [107] } }
+done > OpSetKey { op: 3, object: 5 }
+done > ObjClose { object: 5 }
+done > CipherInit { op: 3, iv: Bytes { items: [118] } }
+done > 00000000
+2 mi:ab mo:4 > CipherUpdate { op: 3, bytes: Bytes { items: [97, 98] }, room: 4 }
+content xyz > 00000000 p1=xyz
+2 mi:ab mo:4 > CipherUpdate { op: 3, bytes: Bytes { items: [97, 98] }, room: 4 }
+short 16 > ffff0010 p1=16!
+3 mi:ab mo:4 > CipherFinal { op: 3, bytes: Bytes { items: [97, 98] }, room: 4 }
+short 16 > ffff0010 p1=16!
+3 mi:ab mo:4 > CipherFinal { op: 3, bytes: Bytes { items: [97, 98] }, room: 4 }
+content xyz > CipherInit { op: 3, iv: Bytes { items: [118] } }
+done > 00000000 p1=xyz
+4 mi:a mi:b > ffff0007
+1 vo > ffff0006
+2 mi:ab mo:4 > CipherUpdate { op: 3, bytes: Bytes { items: [97, 98] }, room: 4 }
+done > ffff0000
+1 mi:kk vi:805306372:4 mi: > OpFree { op: 3 }
+done > OpNew { alg: 805306372, mode: 4, max_bits: 1024 }
+number 4 > KeyNew { kind: 2684354564, max_bits: 16 }
+number 6 > KeyPopulate { object: 6, secret: Bytes { items: [107, 107] } }
+done > OpSetKey { op: 4, object: 6 }
+done > ObjClose { object: 6 }
+done > MacInit { op: 4 }
+done > 00000000
+2 mi:ab mo:0 > MacUpdate { op: 4, bytes: Bytes { items: [97, 98] } }
+done > 00000000 p1=
+3 mi:ab mo:32 > MacFinal { op: 4, bytes: Bytes { items: [97, 98] }, room: 32 }
+content t > MacInit { op: 4 }
+done > 00000000 p1=t
+4 mi:ab mi:t > MacCompare { op: 4, bytes: Bytes { items: [97, 98] }, mac: Bytes { items: [116] } }
+done > MacInit { op: 4 }
+done > 00000000
+4 mi:ab mi:t > MacCompare { op: 4, bytes: Bytes { items: [97, 98] }, mac: Bytes { items: [116] } }
+refused ffff3071 > MacInit { op: 4 }
+done > ffff3071
+1 mi: vi:1342177284:5 mi: > OpFree { op: 4 }
+done > OpNew { alg: 1342177284, mode: 5, max_bits: 0 }
+number 2 > 00000000
+2 mi:ab mo:0 > DigestUpdate { op: 2, bytes: Bytes { items: [97, 98] } }
+done > 00000000 p1=
+3 mi:c mo:32 > DigestFinal { op: 2, bytes: Bytes { items: [99] }, room: 32 }
+content d > 00000000 p1=d
+4 mi:a mi:b > ffff0007
+1 mi:k vi:1:0 mi:v > OpFree { op: 2 }
+done > OpNew { alg: 1, mode: 0, max_bits: 0 }
+refused ffff000a > ffff000a
+2 mi:a mo:4 > ffff0007
+1 mi:k vi:268435472:1 mi: > OpFree { op: 0 }
+done > OpNew { alg: 268435472, mode: 1, max_bits: 256 }
+number 7 > KeyNew { kind: 2684354576, max_bits: 8 }
+refused ffff000a > ffff000a
+2 mi:a mo:4 > ffff0007
+1 mi:k vi:268435472:1 mi: > OpFree { op: 7 }
+true > ffff0000
+5 > ffff0006
+done > ffff0000
+stop > 00000000
+destroy > 00000000
+";
+
+const ROGUE: &str = "\
+create > 00000000
+start > 00000000
+1 vi:7:9 > Panic { code: Code(7) }
+1 vi:7:9 vo > ffff0006
+2 > ObjClose { object: 99 }
+done > 00000000
+2 vo > ffff0006
+3 > CancelFlag
+true > CancelFlag
+false > CancelFlag
+done > ffff0000
+4 vo > create 1 3 0 <0> 
+number 5 > ObjClose { object: 5 }
+done > create 1 3 0 <1> 
+refused ffff3041 > 00000000 p0=1,0
+4 vo > create 1 3 0 <0> 
+refused ffff0003 > ffff0003
+5 mo:4 > ffff0010 p0=1000!
+5 mo:4 vo > ffff0006
+6 > create 1 1031 0 h 
+number 5 > 00000000
+6 > create 1 1031 0 h 
+refused ffff0003 > ffff0003
+7 > ffff0006
+done > ffff0000
+stop > 00000000
+destroy > 00000000
+";
+
+/// Rogue's command 4 has closed the handle of the 256th object.
+const FILLED: &str = "\
+number 5 > ObjClose { object: 5 }
+done > 00000000 p0=256,0
+";
+
 #[test]
 fn samples_by_their_tables(rt: HostRuntime) -> Result<(), Fail> {
     let alloc = rt.alloc();
     run(&rt, alloc, &mut Sample::Store(Store::Idle), STORE)?;
-    run(&rt, alloc, &mut Sample::Count(Count::new()), COUNT)
+    run(&rt, alloc, &mut Sample::Count(Count::new()), COUNT)?;
+    run(&rt, alloc, &mut Sample::Crypt(Crypt::new()), CRYPT)?;
+    run(&rt, alloc, &mut Sample::Rogue(Rogue::Idle), ROGUE)
 }
 
 #[test]
-fn hosts_by_their_table(rt: HostRuntime) -> Result<(), Fail> {
-    let hosts = sample_hosts(rt.alloc())?;
-    assert!(rt; hosts_fit(hosts.as_slice()));
-    let rows = [
-        (
-            "vault",
-            "00000000-0000-4000-8000-000000000001",
-            "Store(Idle)",
-        ),
-        (
-            "keep",
-            "00000000-0000-4000-8000-000000000003",
-            "Count(Count { number: 0, sessions: 0 })",
-        ),
-    ];
-    assert_eq!(rt; hosts.len(), rows.len());
-    for (host, (name, id, template)) in hosts.iter().zip(rows.iter()) {
-        assert_eq!(rt; host.name.as_slice(), name.as_bytes());
-        assert_eq!(rt; host.id, Uuid::parse_str(id)?);
-        assert!(rt; host.properties.single && host.properties.multi && host.properties.keep);
-        assert_eq!(rt;
-            format!(in rt.alloc(); "{:?}", host.template)?.as_str(),
-            *template
-        );
+fn all_one_byte_identifiers(rt: HostRuntime) -> Result<(), Fail> {
+    let alloc = rt.alloc();
+    let mut rogue = Sample::Rogue(Rogue::Idle);
+    run(&rt, alloc, &mut rogue, "4 vo > create 1 3 0 <0> ")?;
+    for _ in 0..255 {
+        rogue.step(alloc, Given::Answer(Answer::Number(5)))?;
+        rogue.step(alloc, Given::Answer(Answer::Done))?;
     }
+    run(&rt, alloc, &mut rogue, FILLED)
+}
+
+/// Name, identifier, the three properties, the application as it begins.
+const HOSTS: [&str; 6] = [
+    "vault 00000000-0000-4000-8000-000000000001 true false false Store(Idle)",
+    "twin 00000000-0000-4000-8000-000000000002 false false false Store(Idle)",
+    "keep 00000000-0000-4000-8000-000000000003 true true true Count(Count { number: 0, sessions: 0 })",
+    "tally 00000000-0000-4000-8000-000000000004 true true false Count(Count { number: 0, sessions: 0 })",
+    "cipher 00000000-0000-4000-8000-000000000005 false false false Crypt(Crypt { op: 0, class: None, waiting: Nothing })",
+    "rogue 00000000-0000-4000-8000-000000000006 true true false Rogue(Idle)",
+];
+
+#[test]
+fn hosts_by_their_table(rt: HostRuntime) -> Result<(), Fail> {
+    let alloc = rt.alloc();
+    let hosts = sample_hosts(alloc)?;
+    assert!(rt; hosts_fit(hosts.as_slice()));
+    assert_eq!(rt; hosts.len(), HOSTS.len());
+    for (host, row) in hosts.iter().zip(HOSTS.iter()) {
+        let name = str::from_utf8(host.name.as_slice())?;
+        let Properties {
+            single,
+            multi,
+            keep,
+        } = host.properties;
+        let text = format!(in alloc;
+            "{name} {} {single} {multi} {keep} {:?}",
+            host.id, host.template
+        )?;
+        assert_eq!(rt; text.as_str(), *row);
+    }
+    let hosts = one_instance_hosts(alloc)?;
+    assert!(rt; hosts_fit(hosts.as_slice()));
+    assert_eq!(rt; hosts.len(), 2);
     Ok(())
 }

@@ -17,9 +17,7 @@ use uuid::Uuid;
 struct Idle;
 
 impl Application for Idle {
-    ghost next = { λ state given. state };
-
-    ghost asks = { λ state given. CancelFlag };
+    ghost behaviour = { record { next = λ state given. state; asks = λ state given. CancelFlag } };
 
     fn step(&mut self, _alloc: Global, _given: Given) -> Result<Ask, NoMemory> {
         Ok(Ask::CancelFlag)

@@ -10,7 +10,7 @@ ghost use Rattle.app_api.specs.Hosts.{HostsFit};
 ghost use Rattle.tee_top.specs.Runs.{AreOneInstance};
 
 use app_api::Host;
-use sample_apps::{Sample, sample_hosts};
+use sample_apps::{Sample, one_instance_hosts};
 use std::alloc::Global;
 use std::io;
 use std::process::ExitCode;
@@ -33,12 +33,13 @@ docs/SCRIPT.md describes the script language and the printed lines.
 
 const VERSION: &str = "teectl 0.1.0\n";
 
-/// The hosts of the sample applications. Each has one instance, which takes all sessions and stays.
+/// The hosts of the sample applications. Each has one instance, which takes all sessions and stays; `sample_hosts` takes their
+/// place once the runtime serves other hosts.
 fn samples(alloc: Global) -> Result<Vec<Host<Sample>>, NoMemory>
     ensures fit { IfOk result (λ hosts. HostsFit hosts.items) }
     ensures one { IfOk result (λ hosts. AreOneInstance hosts.items) }
 {
-    sample_hosts(alloc)
+    one_instance_hosts(alloc)
 }
 
 /// Runs the words, and says how it ended.

@@ -19,6 +19,7 @@ fn misfit() -> Reaction<Store>
 }
 
 /// The signed 64-bit number of these halves.
+#[tactic(auto, unfolding(crate::specs::StoreCommands::offset_of))]
 fn offset_of(low: u32, high: u32) -> i64
     ensures { result ≡ rows.offset_of low high }
 {

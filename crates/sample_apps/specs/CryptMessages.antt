@@ -1,0 +1,88 @@
+-- Commands 2 to 4 of the sample application Crypt: what each asks for first, by the class of the operation, and what follows
+-- the answers (TEE Internal Core API 1.3, sections 6.3 to 6.5). Where no operation is set up, or its class has no such ask, the
+-- command returns BAD_STATE.
+use Rattle.std.specs.Prelude.{ℕ, ◌==◌, List, [], Option, None, Some, if◌then◌else◌}
+use Rattle.tee_base.specs.declared.codes.Code.{Code}
+use Rattle.app_api.specs.declared.ask.Answer.{Answer}
+use Rattle.app_api.specs.declared.ask.Answer.TheVariants.{Done, Refused, Content, Short}
+use Rattle.app_api.specs.declared.ask.Ask.{Ask}
+use Rattle.app_api.specs.declared.ask.Ask.TheVariants as asked
+use Rattle.app_api.specs.declared.out.Out.TheVariants.{Mem, Size}
+use Rattle.app_api.specs.Outs.{no_outs}
+use Rattle.sample_apps.specs.declared.reaction.Reaction.{Reaction}
+use Rattle.sample_apps.specs.declared.crypt.Crypt.{Crypt}
+use Rattle.sample_apps.specs.declared.crypt.Class.{Class}
+use Rattle.sample_apps.specs.declared.crypt.Class.TheVariants.{Cipher, Mac, Digest}
+use Rattle.sample_apps.specs.declared.crypt.Waiting.TheVariants as waiting
+use Rattle.sample_apps.specs.Codes.{success, generic, bad_state, short_buffer, mac_invalid}
+use Rattle.sample_apps.specs.Reactions.{return_with, succeed_with, fail_with, at_p1}
+use Rattle.sample_apps.specs.CryptSetUp.{idle, wait_for, refusal_of}
+
+-- the command returns these bytes
+abbrev pub delivery_of : Crypt → List ℕ → Reaction Crypt
+delivery_of c bytes = succeed_with (idle c) (at_p1 (Mem bytes))
+
+-- the output needs more room
+abbrev pub shortage_of : Crypt → ℕ → Reaction Crypt
+shortage_of c size = return_with (idle c) short_buffer (at_p1 (Size size))
+
+-- 2: the next bytes of the message
+unfoldable pub update : Crypt → Option Class → List ℕ → ℕ → Reaction Crypt
+update c None bytes room = fail_with (idle c) bad_state
+update c (Some (Cipher iv)) bytes room = wait_for c waiting.Enciphering (asked.CipherUpdate c.op bytes room)
+update c (Some Mac) bytes room = wait_for c waiting.Absorbing (asked.MacUpdate c.op bytes)
+update c (Some Digest) bytes room = wait_for c waiting.Absorbing (asked.DigestUpdate c.op bytes)
+
+-- 2: what the cipher gives
+unfoldable pub after_cipher_update : Crypt → Answer → Reaction Crypt
+after_cipher_update c (Content bytes) = delivery_of c bytes
+after_cipher_update c (Short size) = shortage_of c size
+after_cipher_update c answer = refusal_of c answer
+
+-- 2: a code and a digest give nothing yet
+unfoldable pub after_absorption : Crypt → Answer → Reaction Crypt
+after_absorption c Done = delivery_of c []
+after_absorption c answer = refusal_of c answer
+
+-- 3: the last bytes of the message
+unfoldable pub finish : Crypt → Option Class → List ℕ → ℕ → Reaction Crypt
+finish c None bytes room = fail_with (idle c) bad_state
+finish c (Some (Cipher iv)) bytes room = wait_for c waiting.Finishing (asked.CipherFinal c.op bytes room)
+finish c (Some Mac) bytes room = wait_for c waiting.Finishing (asked.MacFinal c.op bytes room)
+finish c (Some Digest) bytes room = wait_for c waiting.Finishing (asked.DigestFinal c.op bytes room)
+
+-- 3: the next message begins, where there is an ask for that
+abbrev pub next_message : Crypt → Option Ask → List ℕ → Reaction Crypt
+next_message c None content = delivery_of c content
+next_message c (Some ask) content = wait_for c (waiting.Renewing content) ask
+
+-- 3: what the cipher gives, the code or the digest
+unfoldable pub after_final : Crypt → Option Ask → Answer → Reaction Crypt
+after_final c beginning (Content bytes) = next_message c beginning bytes
+after_final c beginning (Short size) = shortage_of c size
+after_final c beginning answer = refusal_of c answer
+
+-- 3: the next message has begun
+unfoldable pub after_next_beginning : Crypt → List ℕ → Answer → Reaction Crypt
+after_next_beginning c content Done = delivery_of c content
+after_next_beginning c content answer = refusal_of c answer
+
+-- 4: the last bytes of the message, whose code is compared
+unfoldable pub compare : Crypt → Option Class → List ℕ → List ℕ → Reaction Crypt
+compare c (Some Mac) bytes mac = wait_for c waiting.Comparing (asked.MacCompare c.op bytes mac)
+compare c class bytes mac = fail_with (idle c) bad_state
+
+-- 4: the next message begins, whether the codes are equal or not
+abbrev pub after_verdict : Crypt → Code → Reaction Crypt
+after_verdict c code = wait_for c (waiting.Judging code) (asked.MacInit c.op)
+
+-- 4: whether the codes are equal
+unfoldable pub after_mac_compare : Crypt → Answer → Reaction Crypt
+after_mac_compare c Done = after_verdict c success
+after_mac_compare c (Refused code) = if code.0 == mac_invalid.0 then after_verdict c code else fail_with (idle c) code
+after_mac_compare c answer = fail_with (idle c) generic
+
+-- 4: the next message has begun
+unfoldable pub after_compared_beginning : Crypt → Code → Answer → Reaction Crypt
+after_compared_beginning c code Done = return_with (idle c) code no_outs
+after_compared_beginning c code answer = refusal_of c answer

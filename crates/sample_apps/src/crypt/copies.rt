@@ -1,0 +1,77 @@
+//! Copies of what Crypt keeps.
+
+ghost use Rattle.std.specs.Prelude.{◌≡◌, IfOk};
+
+use crate::crypt::commands::Plan;
+use crate::crypt::{Class, Waiting};
+use std::alloc::Global;
+use tee_base::NoMemory;
+
+impl Plan {
+    fn copy(&self, alloc: Global) -> Result<Plan, NoMemory>
+        ensures { IfOk result (λ plan. plan ≡ self.now) }
+    {
+        Ok(Plan {
+            alg: self.alg,
+            mode: self.mode,
+            key: self.key.copy(alloc)?,
+            iv: self.iv.copy(alloc)?,
+        })
+    }
+}
+
+impl Class {
+    pub fn copy(&self, alloc: Global) -> Result<Class, NoMemory>
+        ensures { IfOk result (λ class. class ≡ self.now) }
+    {
+        match self {
+            Class::Cipher { iv } => Ok(Class::Cipher {
+                iv: iv.copy(alloc)?,
+            }),
+            Class::Mac => Ok(Class::Mac),
+            Class::Digest => Ok(Class::Digest),
+        }
+    }
+}
+
+impl Waiting {
+    pub fn copy(&self, alloc: Global) -> Result<Waiting, NoMemory>
+        ensures { IfOk result (λ waiting. waiting ≡ self.now) }
+    {
+        Ok(match self {
+            Waiting::Nothing => Waiting::Nothing,
+            Waiting::Freeing { plan } => Waiting::Freeing {
+                plan: plan.copy(alloc)?,
+            },
+            Waiting::Allocating { plan } => Waiting::Allocating {
+                plan: plan.copy(alloc)?,
+            },
+            Waiting::MakingKey { key, class } => Waiting::MakingKey {
+                key: key.copy(alloc)?,
+                class: class.copy(alloc)?,
+            },
+            Waiting::FillingKey { object, class } => Waiting::FillingKey {
+                object: *object,
+                class: class.copy(alloc)?,
+            },
+            Waiting::SettingKey { object, class } => Waiting::SettingKey {
+                object: *object,
+                class: class.copy(alloc)?,
+            },
+            Waiting::ClosingKey { class } => Waiting::ClosingKey {
+                class: class.copy(alloc)?,
+            },
+            Waiting::Beginning { class } => Waiting::Beginning {
+                class: class.copy(alloc)?,
+            },
+            Waiting::Enciphering => Waiting::Enciphering,
+            Waiting::Absorbing => Waiting::Absorbing,
+            Waiting::Finishing => Waiting::Finishing,
+            Waiting::Renewing { content } => Waiting::Renewing {
+                content: content.copy(alloc)?,
+            },
+            Waiting::Comparing => Waiting::Comparing,
+            Waiting::Judging { code } => Waiting::Judging { code: *code },
+        })
+    }
+}
