@@ -85,6 +85,13 @@ fn told(reply: &Reply) -> Told {
     (reply.op, reply.code, reply.origin, value)
 }
 
+fn compare(rt: &impl Abort, replies: &Replies, wanted: &[Told]) {
+    assert_eq!(rt; replies.len(), wanted.len());
+    for (reply, wanted) in replies.as_slice().iter().zip(wanted.iter()) {
+        assert_eq!(rt; told(reply), *wanted);
+    }
+}
+
 /// Makes the event of each row, and compares its replies.
 fn run(
     rt: &impl Abort,
@@ -97,10 +104,7 @@ fn run(
 {
     for (what, wanted) in rows {
         let replies = replies_to(side, store, *what)?;
-        assert_eq!(rt; replies.len(), wanted.len());
-        for (reply, wanted) in replies.as_slice().iter().zip(wanted.iter()) {
-            assert_eq!(rt; told(reply), *wanted);
-        }
+        compare(rt, &replies, wanted);
     }
     Ok(())
 }
