@@ -73,10 +73,10 @@ fn scripts_give_their_lines(rt: HostRuntime) -> Result<(), Fail> {
             Status::Done,
         ),
         ("keep open 1\nkeep opn 2\n", "", Status::BadLine(2)),
-        ("keep open 1", "", Status::BadLine(1)),
+        ("keep open 1", "keep 1 00000000 4\n", Status::Done),
         ("keep open 1\nother open 1\n", "", Status::BadLine(2)),
         ("keep open 4294967296\n", "", Status::BadLine(1)),
-        ("keep  open 1\n", "", Status::BadLine(1)),
+        ("keep  open 1\n", "keep 1 00000000 4\n", Status::Done),
         (
             "keep invoke 4 1\nkeep open 1\nkeep open 1\nkeep invoke 1 1 mo:524289\n",
             "keep 1 ffff0007 1\nkeep 2 00000000 4\nkeep 3 ffff0007 1\nkeep 4 ffff0006 1\n",
