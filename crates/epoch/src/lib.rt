@@ -12,6 +12,8 @@ mod laws;
 mod rule;
 mod slots;
 mod steps;
+#[cfg(test)]
+mod tests;
 
 pub use answer::{OpenAnswer, Unopened};
 pub use find::{FLAT_VERSION, VOLUME_BLOCKS, find_header, find_version};

@@ -1,0 +1,78 @@
+//! Seals or opens a block of 1,024 bytes again and again, so that `seal` can be timed beside the cipher and the codes that
+//! it is made of.
+//!
+//! `seal_bench WORK N`, where WORK is `seal` or `open` and N is how many thousands of blocks. The first bytes of the last
+//! block are printed. The time is taken from outside.
+#![tactic(auto)]
+
+use anyhow::{Context, Result, bail};
+use seal::{Keys, open_leaf, seal_leaf};
+use std::env;
+
+const KEY: [u8; 32] = [0x5e; 32];
+
+// How many blocks a unit of N has.
+const BLOCKS: u32 = 1000;
+
+#[derive(Clone, Copy)]
+enum Work {
+    Seal,
+    Open,
+}
+
+impl Work {
+    fn of(word: &str) -> Option<Work> {
+        match word {
+            "seal" => Some(Work::Seal),
+            "open" => Some(Work::Open),
+            _ => None,
+        }
+    }
+}
+
+// Each block sealed is the ciphertext of the one before.
+fn seal_blocks(keys: &Keys, count: u32) -> [u8; 1024] {
+    let mut block = [0; 1024];
+    for n in 0..count {
+        for _ in 0..BLOCKS {
+            let plain = block;
+            let _tags = seal_leaf(keys, 273, u64::from(n), &plain, &mut block);
+        }
+    }
+    block
+}
+
+// One sealed block is opened each time.
+fn open_blocks(keys: &Keys, count: u32) -> Result<[u8; 1024]> {
+    let plain = [1; 1024];
+    let mut cipher = [0; 1024];
+    let tags = seal_leaf(keys, 273, 1, &plain, &mut cipher);
+    let mut opened = [0; 1024];
+    for _ in 0..count {
+        for _ in 0..BLOCKS {
+            if open_leaf(keys, 273, 1, &tags, &cipher, &mut opened).is_err() {
+                bail!("a sealed block isn't opened");
+            }
+        }
+    }
+    Ok(opened)
+}
+
+fn main(rt: HostRuntime) -> Result<()> {
+    let mut words = env::args(&rt)?.skip(1);
+    let work = words
+        .next()
+        .and_then(|word| Work::of(word.as_str()))
+        .context("the first word is seal or open")?;
+    let count = words
+        .next()
+        .and_then(|word| word.as_str().parse::<u32>().ok())
+        .context("the second word is how many thousands of blocks")?;
+    let keys = Keys::of(&KEY);
+    let block = match work {
+        Work::Seal => seal_blocks(&keys, count),
+        Work::Open => open_blocks(&keys, count)?,
+    };
+    println!(rt; "{}", hex::encode(rt.alloc(), &block[..8])?)?;
+    Ok(())
+}
