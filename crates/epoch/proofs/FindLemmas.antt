@@ -7,16 +7,16 @@ use Rattle.board.specs.Moment.{Outcome, Moment, View, IsCounter, moment, left_si
 use Rattle.board.specs.Steps.{Answered, Advanced}
 use Rattle.board.specs.Runs.{IsBase, LeavesBase, RunsOver, Rests}
 use Rattle.board.proofs.Runs.{base-wider, rests_base, run_starts, run_goes_on}
-use Rattle.epoch.specs.Finding.{IsSettledAt, OpensBelow}
+use Rattle.epoch.specs.Finding.{Finds, IsSettledAt, OpensBelow, RefusesOlder}
 use Rattle.epoch.specs.Opening.{IsRuled, header_answer, opening_by, opening_of, opens_as}
 use Rattle.epoch.specs.Slots.{slot_of}
 use Rattle.epoch.specs.Steps.{outcome_opening}
 use Rattle.epoch.specs.declared.answer.OpenAnswer.{OpenAnswer}
-use Rattle.epoch.specs.declared.answer.OpenAnswer.TheVariants.{Failed}
+use Rattle.epoch.specs.declared.answer.OpenAnswer.TheVariants.{TooSmall, Rollback, Failed}
 use Rattle.epoch.specs.declared.header.Header.{Header}
 use Rattle.epoch.specs.declared.rule.Found.{Found}
 use Rattle.epoch.specs.declared.slots.Slot.{Slot}
-use Rattle.epoch.proofs.RuleLemmas.{opens_at_two}
+use Rattle.epoch.proofs.RuleLemmas.{if_other, opens_at_two, refuses_rollback}
 
 module _ (open_at : ℕ → Bool) (base : ℕ → List ℕ) (low high n : ℕ) where
   raised : (old new : Moment) (result : Result ℕ BoardFailed) → IsBase open_at base low high old → IsSettledAt n old → n + 1 ≤ high → Advanced result old new → IsBase open_at base low high new
@@ -125,3 +125,13 @@ between version key open_at base low high n m found is among opens e =
     let counter : n ≤ high = omega (arith, among.greatest, is.greatest) in
     let above : low ≤ n = omega (arith, among.least, is.least) in
     record { counter = counter; highest = opens n found above counter e; least = two.0; most = two.1 }
+
+-- what is found refuses an older image
+pub refuses_older : (version blocks size : ℕ) (key : List ℕ) (m : Moment) (result : Result (Option Header) OpenAnswer)
+    → Finds version blocks size key m result → RefusesOlder version blocks size key m result
+refuses_older version blocks size key m result finds n c found opens settled above made =
+    let one = if_other (nat_lt size blocks) (Err (TooSmall size)) (opening_of version key m.reads n) (Ok (Some found)) opens (λ w. cc) in
+    let same : finds.counter ≡ c = omega (arith, finds.among.least, finds.among.greatest, settled.counter, settled.slack) in
+    let rule : opens_as version blocks size key m.reads finds.counter ≡ Err (Rollback found.header.sequence c)
+    = rw (one.0, same) (refuses_rollback version key m.reads n c found one.1 above) in
+    finds.ruled made ∙ ap header_answer rule

@@ -1,14 +1,15 @@
 -- How a run is carried on over the calls of a step, and what a crash within it leaves.
-use Rattle.std.proofs.Common.{◌≡◌, ◌≢◌, ◌≤◌, ◌<◌, ◌+◌, ◌-◌, ◌⊎◌, ◌==◌, ◌∙◌, ℕ, Bool, true, false, List, Some, Result, Ok, Err, IfOk, OnOk, is_ok, refl, sym, ap, subst, inl, inr, ⊎_elim, arith}
+use Rattle.std.proofs.Common.{◌≡◌, ◌≢◌, ◌≤◌, ◌<◌, ◌+◌, ◌-◌, ◌⊎◌, ◌==◌, ◌∙◌, ℕ, Bool, true, false, List, Some, Result, Ok, Err, IfOk, OnOk, is_ok, replicate, refl, sym, ap, subst, inl, inr, ⊎_elim, arith}
 use Rattle.std.proofs.lemmas.Bool.{cases_lt}
 use Rattle.tee_base.specs.Crash.{LeavesOnly}
 use Rattle.tee_base.proofs.Crash.{weaker}
 use Rattle.board.specs.declared.BoardFailed.{BoardFailed}
+use Rattle.board.specs.declared.TheConstants.{BLOCK}
 use Rattle.board.specs.Moment.{Outcome, Moment, View, IsLeft, moment, left_since}
 use Rattle.board.specs.Steps.{Answered, Unchanged, Wrote, Synced, Counted, Advanced}
 use Rattle.board.specs.Runs.{IsBase, LeavesBase, RunsOver, Rests}
 use Rattle.board.proofs.Runs.{goes_on, run_starts, run_goes_on, base-unchanged, base-wrote, base-synced, base-counted, rests_base}
-use Rattle.epoch.specs.Gates.{gate_at, header_at, gate_open}
+use Rattle.epoch.specs.Gates.{gate_at, header_at, gate_open, shut_gate}
 use Rattle.epoch.specs.Opening.{opening_of}
 use Rattle.epoch.specs.Steps.{SyncedBut, IsFlipped, LeavesFlip, CountsElsewhere, IsLaid, shut_writes, outcome_opening}
 use Rattle.epoch.specs.declared.gates.TheConstants.{OPEN_GATE, SHUT_GATE}
@@ -126,26 +127,12 @@ flip_after slot n base first old new (Err e) is run answered advanced =
     (omega (arith, left.counter.least, failed.0, is.counter))
     (omega (arith, left.counter.greatest, failed.0, failed.1, is.counter, is.slack)))
 
-pub flip_done : (slot n m : ℕ) (start old new : Moment) → IsReady slot n start.reads old → Advanced (Ok m) old new → IsFlipped slot n m start new
-flip_done slot n m start old new is advanced =
-    let raised = advanced.counter in
-    record {
-      next = omega (arith, raised.positive, raised.among.least, raised.among.greatest, is.counter, is.slack);
-      rests = record {
-        as_read = λ k. ap (λ (f : ℕ → List ℕ). f k) advanced.blocks.reads ∙ is.as_read k ∙ sym (ap (λ (f : ℕ → List ℕ). f k) advanced.blocks.durable);
-        pending = λ k. ap (λ (f : ℕ → Bool). f k) advanced.blocks.pending ∙ is.pending k;
-        counter = raised.counter;
-        slack = raised.slack;
-      };
-      elsewhere = λ k ne. ap (λ (f : ℕ → List ℕ). f k) advanced.blocks.reads ∙ is.elsewhere k ne;
-      gate = ap gate_open (ap (λ (f : ℕ → List ℕ). f (gate_at slot)) advanced.blocks.reads) ∙ is.gate;
-    }
-
 -- a flip that is done opens to the header that was laid
 pub flip_opened : (version : ℕ) (key : List ℕ) (slot n m : ℕ) (header : Header) (old new : Moment) → slot < 2 → IsLaid version key slot n header old
-    → IsFlipped slot n m old new → opening_of version key new.reads m ≡ Ok (Some (record { header = header; slot = slot }))
+    → IsFlipped slot m old new → opening_of version key new.reads m ≡ Ok (Some (record { header = header; slot = slot }))
 flip_opened version key slot n m header old new below laid flipped =
-    flip_open version key n header old new.reads m (omega (arith, flipped.next)) (omega (arith, flipped.next)) slot below laid flipped.elsewhere flipped.gate
+    let next : m ≡ n + 1 = omega (arith, flipped.positive, flipped.among.least, flipped.among.greatest, laid.rests.counter, laid.rests.slack) in
+    flip_open version key n header old new.reads m (omega (arith, next)) (omega (arith, next)) slot below laid flipped.elsewhere flipped.gate
 
 -- after a write to a block and a sync
 pub synced_write : (block : ℕ) (bytes : List ℕ) (old mid new : Moment) → Wrote block bytes true old mid → Synced true mid new → SyncedBut block old new
@@ -172,18 +159,40 @@ open_gate : gate_open OPEN_GATE ≡ true
 unfolding gate_open
 open_gate = refl
 
+-- after the write of an open gate, a sync and an advance
+flip_done : (slot m : ℕ) (start mid old new : Moment) → Wrote (gate_at slot) OPEN_GATE true start mid → Synced true mid old → Advanced (Ok m) old new → IsFlipped slot m start new
+flip_done slot m start mid old new wrote synced advanced =
+    let raised = advanced.counter in
+    let but = synced_write (gate_at slot) OPEN_GATE start mid old wrote synced in
+    record {
+      positive = raised.positive;
+      among = record {
+        least = omega (arith, raised.among.least, but.counter);
+        greatest = omega (arith, raised.among.greatest, but.counter, but.slack);
+        fits = raised.among.fits;
+      };
+      rests = record {
+        as_read = λ k. ap (λ (f : ℕ → List ℕ). f k) advanced.blocks.reads ∙ but.as_read k ∙ sym (ap (λ (f : ℕ → List ℕ). f k) advanced.blocks.durable);
+        pending = λ k. ap (λ (f : ℕ → Bool). f k) advanced.blocks.pending ∙ but.pending k;
+        counter = raised.counter;
+        slack = raised.slack;
+      };
+      elsewhere = λ k ne. ap (λ (f : ℕ → List ℕ). f k) advanced.blocks.reads ∙ but.elsewhere k ne;
+      gate = ap gate_open (ap (λ (f : ℕ → List ℕ). f (gate_at slot)) advanced.blocks.reads ∙ ap (λ (f : ℕ → List ℕ). f (gate_at slot)) synced.reads ∙ wrote.here refl) ∙ open_gate;
+    }
+
 -- what a flip answers
 pub flip_answers : (slot block : ℕ) (start mid old new : Moment) (result : Result ℕ BoardFailed) → block ≡ gate_at slot
-    → Wrote block OPEN_GATE true start mid → Synced true mid old → Advanced result old new
-    → IfOk result (λ m. (n : ℕ) → Rests n start → IsFlipped slot n m start new)
-flip_answers slot block start mid old new (Ok m) at wrote synced advanced = λ n rests.
-    flip_done slot n m start old new (ready slot n OPEN_GATE start mid old rests (subst (λ (b : ℕ). Wrote b OPEN_GATE true start mid) at wrote) synced open_gate) advanced
+    → Wrote block OPEN_GATE true start mid → Synced true mid old → Advanced result old new → IfOk result (λ m. IsFlipped slot m start new)
+flip_answers slot block start mid old new (Ok m) at wrote synced advanced =
+    flip_done slot m start mid old new (subst (λ (b : ℕ). Wrote b OPEN_GATE true start mid) at wrote) synced advanced
 flip_answers slot block start mid old new (Err e) at wrote synced advanced = tt
 
+-- and what the board then opens to
 pub opened_answers : (key : List ℕ) (slot : ℕ) (start new : Moment) (result : Result ℕ BoardFailed) → slot < 2
-    → IfOk result (λ m. (n : ℕ) → Rests n start → IsFlipped slot n m start new)
+    → IfOk result (λ m. IsFlipped slot m start new)
     → IfOk result (λ m. (version n : ℕ) (header : Header) → IsLaid version key slot n header start → opening_of version key new.reads m ≡ Ok (Some (record { header = header; slot = slot })))
-opened_answers key slot start new (Ok m) below flipped = λ version n header laid. flip_opened version key slot n m header start new below laid (flipped n laid.rests)
+opened_answers key slot start new (Ok m) below flipped = λ version n header laid. flip_opened version key slot n m header start new below laid flipped
 opened_answers key slot start new (Err e) below flipped = tt
 
 -- the write of a flip
@@ -202,14 +211,17 @@ flip_advanced slot n block start mid old new result rests at one wrote two synce
     flip_after slot n start.state.reads start old new result (ready slot n OPEN_GATE start.state mid.state old.state rests
     (subst (λ (b : ℕ). Wrote b OPEN_GATE true start.state mid.state) at wrote) synced open_gate) (flip_before slot n start old at_rest) three advanced
 
--- a gate that was shut isn't open
-shut_gate : gate_open SHUT_GATE ≡ false
+-- a gate that was shut isn't open, and is zeros
+not_open : gate_open SHUT_GATE ≡ false
 unfolding gate_open
-shut_gate = refl
+not_open = refl
+
+all_zeros : SHUT_GATE ≡ replicate BLOCK 0
+all_zeros = refl
 
 -- what the code reads of a gate
-pub gate_was : (block at : ℕ) (reads : ℕ → List ℕ) (gate : List ℕ) (result : Bool) → block ≡ at → gate ≡ reads block → result ≡ gate_open gate → result ≡ true → gate_open (reads at) ≡ true
-gate_was block at reads gate result same read tested opened = ap gate_open (ap reads (sym same) ∙ sym read) ∙ sym tested ∙ opened
+pub gate_was : (block at : ℕ) (reads : ℕ → List ℕ) (gate : List ℕ) (result told : Bool) → block ≡ at → gate ≡ reads block → result ≡ gate_open gate → result ≡ told → gate_open (reads at) ≡ told
+gate_was block at reads gate result told same read tested is = ap gate_open (ap reads (sym same) ∙ sym read) ∙ sym tested ∙ is
 
 pub shut_itself : (slot : ℕ) (base : ℕ → List ℕ) → gate_open (base (gate_at slot)) ≡ true → shut_writes slot base (gate_at slot) ≡ true
 shut_itself slot base opened = rw (is_itself (gate_at slot), opened) refl
@@ -228,9 +240,28 @@ shut_answers slot block start mid old new (Ok done) at same wrote synced =
         counter = but.counter ∙ same.counter;
         slack = but.slack ∙ same.slack;
       },
-      ap gate_open (ap (λ (f : ℕ → List ℕ). f (gate_at slot)) synced.reads ∙ here.here refl) ∙ shut_gate,
+      ap gate_open (ap (λ (f : ℕ → List ℕ). f (gate_at slot)) synced.reads ∙ here.here refl) ∙ not_open,
     )
 shut_answers slot block start mid old new (Err e) at same wrote synced = tt
+
+-- and what then stands in its block
+pub zeros_answers : {A : Type 0} (slot block : ℕ) (start mid old new : Moment) (result : Result A BoardFailed) → block ≡ gate_at slot
+    → gate_open (start.reads (gate_at slot)) ≡ true → Wrote block SHUT_GATE true mid old → Synced (is_ok result) old new
+    → OnOk result (new.reads (gate_at slot) ≡ shut_gate (start.reads (gate_at slot)))
+zeros_answers slot block start mid old new (Ok done) at opened wrote synced =
+    let here : Wrote (gate_at slot) SHUT_GATE true mid old = subst (λ (b : ℕ). Wrote b SHUT_GATE true mid old) at wrote in
+    let zeros : new.reads (gate_at slot) ≡ replicate BLOCK 0 = ap (λ (f : ℕ → List ℕ). f (gate_at slot)) synced.reads ∙ here.here refl ∙ all_zeros in
+    rw opened zeros
+zeros_answers slot block start mid old new (Err e) at opened wrote synced = tt
+
+-- a gate that wasn't open stays as it was
+pub still_answers : {A : Type 0} (slot : ℕ) (start mid new : Moment) (result : Result A BoardFailed) → gate_open (start.reads (gate_at slot)) ≡ false
+    → Unchanged start mid → Synced (is_ok result) mid new → OnOk result (new.reads (gate_at slot) ≡ shut_gate (start.reads (gate_at slot)))
+still_answers slot start mid new (Ok done) shut same synced =
+    let still : new.reads (gate_at slot) ≡ start.reads (gate_at slot)
+    = ap (λ (f : ℕ → List ℕ). f (gate_at slot)) synced.reads ∙ ap (λ (f : ℕ → List ℕ). f (gate_at slot)) same.reads in
+    rw shut still
+still_answers slot start mid new (Err e) shut same synced = tt
 
 -- what laying a header answers: what is said of its block, P, holds of what reads give
 pub lay_answers : {A : Type 0} (slot block : ℕ) (bytes : List ℕ) (start mid new : Moment) (result : Result A BoardFailed) (P : List ℕ → Type 0)

@@ -1,13 +1,15 @@
 -- What a search for the header that counts finds on an honest board, and what a crash within it leaves.
-use Rattle.std.specs.Prelude.{◌≡◌, ◌≤◌, ℕ, List, Option, Some, None, Result, Ok, Err}
+use Rattle.std.specs.Prelude.{◌≡◌, ◌≢◌, ◌≤◌, ◌<◌, ℕ, List, Option, Some, None, Result, Ok, Err}
 use Rattle.board.specs.Moment.{Moment, IsCounter}
 use Rattle.epoch.specs.Opening.{IsRuled, opening_of, opens_as}
 use Rattle.epoch.specs.declared.answer.OpenAnswer.{OpenAnswer}
+use Rattle.epoch.specs.declared.answer.OpenAnswer.TheVariants.{Rollback, Failed}
 use Rattle.epoch.specs.declared.header.Header.{Header}
 use Rattle.epoch.specs.declared.rule.Found.{Found}
 
 -- the answer is the rule's, over what reads give and a counter that the board may have
-pub record Finds (version blocks size : ℕ) (key : List ℕ) (m : Moment) (result : Result (Option Header) OpenAnswer) : Type 0 where
+pub record Finds (version blocks size : ℕ) (key : List ℕ) (m : Moment)
+    (result : Result (Option Header) OpenAnswer) : Type 0 where
   pub counter : ℕ
   pub among : IsCounter m counter
   pub ruled : IsRuled result (opens_as version blocks size key m.reads counter)
@@ -18,7 +20,19 @@ OpensBelow version key image low high =
     (n : ℕ) (found : Found) → low ≤ n → n ≤ high
     → opening_of version key image n ≡ Ok (Some found) → found.header.sequence ≤ high
 
+-- the sequence of a board: 0 where it is blank
+abbrev pub sequence_of : Option Header → ℕ
+sequence_of None = 0
+sequence_of (Some header) = header.sequence
+
 -- the counter is this and nothing else
 pub record IsSettledAt (n : ℕ) (m : Moment) : Type 0 where
   pub counter : m.counter ≡ n
   pub slack : m.slack ≡ 0
+
+-- an image that opens at some counter is refused as a rollback where the counter is above its sequence
+abbrev pub RefusesOlder : ℕ → ℕ → ℕ → List ℕ → Moment → Result (Option Header) OpenAnswer → Type 0
+RefusesOlder version blocks size key m result =
+    (n c : ℕ) (found : Found) → opens_as version blocks size key m.reads n ≡ Ok (Some found)
+    → IsSettledAt c m → found.header.sequence < c
+    → result ≢ Err Failed → result ≡ Err (Rollback found.header.sequence c)

@@ -1,10 +1,12 @@
 -- The bytes of a header and of an entry, at the places of the format's tables.
-use Rattle.std.specs.Prelude.{◌≡◌, ℕ, ◌+◌, ◌^◌, List, ◌++◌, length, take, replicate, codes}
+use Rattle.std.specs.Prelude.{◌≡◌, ℕ, ◌+◌, List, ◌++◌, length, take, replicate, codes}
 use Rattle.std.specs.Int.{w32, w64, to_le_bytes, from_le_bytes}
 use Rattle.mac_digest.specs.Hmac.{hmac_of}
 use Rattle.mac_digest.specs.declared.digests.Hash.TheVariants.{Sha256}
 use Rattle.seal.specs.Sealing.{le64, tag_key}
 use Rattle.epoch.specs.Parts.{part}
+use Rattle.board.specs.declared.TheConstants.{BLOCK}
+use Rattle.epoch.specs.declared.header.TheConstants.{SLOT_0, TAGGED}
 use Rattle.epoch.specs.declared.header.Header.{Header}
 use Rattle.epoch.specs.declared.header.TreeEntry.{TreeEntry}
 
@@ -25,9 +27,9 @@ header_of block = record {
   root = entry_at 24 block;
 }
 
--- the tag of a header: of its slot's number and its first 88 bytes
+-- the tag of a header in a slot: of the slot's number, which no place has, and the header's first bytes
 unfoldable pub header_tag : List ℕ → ℕ → List ℕ → List ℕ
-header_tag key slot bytes = hmac_of Sha256 (tag_key key) (le64 (2 ^ 32 + slot) ++ bytes)
+header_tag key slot bytes = hmac_of Sha256 (tag_key key) (le64 (SLOT_0 + slot) ++ bytes)
 
 -- the bytes of an entry
 pub record IsEntry (entry : TreeEntry) (bytes : List ℕ) : Type 0 where
@@ -38,12 +40,13 @@ pub record IsEntry (entry : TreeEntry) (bytes : List ℕ) : Type 0 where
   pub tag : part 32 32 bytes ≡ entry.tag
 
 -- the block of a header in a slot
-pub record IsHeaderBlock (key : List ℕ) (slot : ℕ) (header : Header) (block : List ℕ) : Type 0 where
-  pub long : length block ≡ 1024
+pub record IsHeaderBlock (key : List ℕ) (slot : ℕ) (header : Header)
+    (block : List ℕ) : Type 0 where
+  pub long : length block ≡ BLOCK
   pub text : part 0 8 block ≡ codes "TEEVOLUM"
   pub version : part 8 4 block ≡ to_le_bytes w32 header.version
   pub blank : part 12 4 block ≡ replicate 4 0
   pub sequence : part 16 8 block ≡ le64 header.sequence
   pub root : IsEntry header.root (part 24 64 block)
-  pub tag : part 88 32 block ≡ header_tag key slot (take 88 block)
+  pub tag : part TAGGED 32 block ≡ header_tag key slot (take TAGGED block)
   pub rest : part 120 904 block ≡ replicate 904 0

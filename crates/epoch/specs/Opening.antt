@@ -26,7 +26,7 @@ answer_at version slot header counter =
     if nat_lt (counter + 1) header.sequence then Err (Ahead header.sequence counter) else
     Ok (Some (record { header = header; slot = slot }))
 
--- the rule over both slots: a damaged one first, of two headers the one with the greater sequence, slot 0 on a tie
+-- the rule over both slots: a damaged one first; of two headers the greater sequence, slot 0 on a tie
 abbrev pub opening_by : ℕ → Slot → Slot → ℕ → Result (Option Found) OpenAnswer
 opening_by version (Bad tags) second counter = bad_header 0 tags
 opening_by version Shut (Bad tags) counter = bad_header 1 tags
@@ -35,16 +35,20 @@ opening_by version Shut (Good header) counter = answer_at version 1 header count
 opening_by version (Good header) (Bad tags) counter = bad_header 1 tags
 opening_by version (Good header) Shut counter = answer_at version 0 header counter
 opening_by version (Good header) (Good other) counter =
-    if nat_lt header.sequence other.sequence then answer_at version 1 other counter else answer_at version 0 header counter
+    if nat_lt header.sequence other.sequence then answer_at version 1 other counter
+    else answer_at version 0 header counter
 
 -- what an image and a counter open to under a key
 unfoldable pub opening_of : ℕ → List ℕ → (ℕ → List ℕ) → ℕ → Result (Option Found) OpenAnswer
-opening_of version key image counter = opening_by version (slot_of key image 0) (slot_of key image 1) counter
+opening_of version key image counter =
+    opening_by version (slot_of key image 0) (slot_of key image 1) counter
 
 -- the same of a board with so many blocks
-abbrev pub opens_as : ℕ → ℕ → ℕ → List ℕ → (ℕ → List ℕ) → ℕ → Result (Option Found) OpenAnswer
+abbrev pub opens_as : ℕ → ℕ → ℕ → List ℕ → (ℕ → List ℕ) → ℕ
+    → Result (Option Found) OpenAnswer
 opens_as version blocks size key image counter =
-    if nat_lt size blocks then Err (TooSmall size) else opening_of version key image counter
+    if nat_lt size blocks then Err (TooSmall size) else
+    opening_of version key image counter
 
 -- the header of what was found
 abbrev pub found_header : Option Found → Option Header
@@ -52,10 +56,12 @@ found_header None = None
 found_header (Some found) = Some found.header
 
 -- what the rule answers, told without the slot
-abbrev pub header_answer : Result (Option Found) OpenAnswer → Result (Option Header) OpenAnswer
+abbrev pub header_answer : Result (Option Found) OpenAnswer
+    → Result (Option Header) OpenAnswer
 header_answer (Ok found) = Ok (found_header found)
 header_answer (Err answer) = Err answer
 
 -- an answer is the rule's, where no call of the board failed
-abbrev pub IsRuled : Result (Option Header) OpenAnswer → Result (Option Found) OpenAnswer → Type 0
+abbrev pub IsRuled : Result (Option Header) OpenAnswer → Result (Option Found) OpenAnswer
+    → Type 0
 IsRuled result rule = result ≢ Err Failed → result ≡ header_answer rule

@@ -1,6 +1,6 @@
 -- What the three steps of a commit do to a board, and what a crash within them leaves.
-use Rattle.std.specs.Prelude.{◌≡◌, ◌≢◌, ◌⊎◌, ℕ, ◌+◌, ◌==◌, ◌&&◌, Bool, true, false, List, Option, Some, None, Result, Ok, Err}
-use Rattle.board.specs.Moment.{Outcome, Moment}
+use Rattle.std.specs.Prelude.{◌≡◌, ◌≢◌, ◌<◌, ◌⊎◌, ℕ, ◌+◌, ◌-◌, ◌==◌, ◌&&◌, Bool, true, false, List, Option, Some, None, Result, Ok, Err}
+use Rattle.board.specs.Moment.{Outcome, Moment, IsCounter}
 use Rattle.board.specs.Runs.{Rests}
 use Rattle.epoch.specs.Gates.{gate_at, header_at, gate_open}
 use Rattle.epoch.specs.Opening.{opening_of}
@@ -18,9 +18,10 @@ pub record SyncedBut (block : ℕ) (old new : Moment) : Type 0 where
   pub counter : new.counter ≡ old.counter
   pub slack : new.slack ≡ old.slack
 
--- the gate of the slot is open, and the counter is one higher than n: m
-pub record IsFlipped (slot n m : ℕ) (old new : Moment) : Type 0 where
-  pub next : m ≡ n + 1
+-- all is durable, the gate of the slot is open, and the counter is m: one higher than one that a crash might have left
+pub record IsFlipped (slot m : ℕ) (old new : Moment) : Type 0 where
+  pub positive : 0 < m
+  pub among : IsCounter old (m - 1)
   pub rests : Rests m new
   pub elsewhere : (k : ℕ) → k ≢ gate_at slot → new.reads k ≡ old.reads k
   pub gate : gate_open (new.reads (gate_at slot)) ≡ true
@@ -28,7 +29,8 @@ pub record IsFlipped (slot n m : ℕ) (old new : Moment) : Type 0 where
 -- what a crash within a flip leaves: the counter is raised only where the gate is open
 pub record LeavesFlip (slot : ℕ) (base : ℕ → List ℕ) (n : ℕ) (c : Outcome) : Type 0 where
   pub elsewhere : (k : ℕ) → k ≢ gate_at slot → c.image k ≡ base k
-  pub counter : (c.counter ≡ n) ⊎ ((c.counter ≡ n + 1) × (gate_open (c.image (gate_at slot)) ≡ true))
+  pub counter : (c.counter ≡ n)
+      ⊎ ((c.counter ≡ n + 1) × (gate_open (c.image (gate_at slot)) ≡ true))
 
 -- the one block that shutting a slot writes: its gate, where that is open
 abbrev pub shut_writes : ℕ → (ℕ → List ℕ) → ℕ → Bool
@@ -51,7 +53,8 @@ IsCurrent n (Ok (Some found)) = found.header.sequence ≡ n
 IsCurrent n (Err _) = ⊥
 
 -- a slot whose gate isn't open holds the header that is to count next
-pub record IsLaid (version : ℕ) (key : List ℕ) (slot n : ℕ) (header : Header) (m : Moment) : Type 0 where
+pub record IsLaid (version : ℕ) (key : List ℕ) (slot n : ℕ) (header : Header)
+    (m : Moment) : Type 0 where
   pub rests : Rests n m
   pub current : IsCurrent n (opening_of version key m.reads n)
   pub gate : gate_open (m.reads (gate_at slot)) ≡ false

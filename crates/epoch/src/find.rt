@@ -1,11 +1,11 @@
 //! Which header of a board counts.
-ghost use Rattle.std.specs.Prelude.{◌≡◌, ◌≢◌, ◌≤◌, ◌<◌, ◌+◌, ℕ, Bool, true, List, IsTrue, Some, Err, IfOk, IfSome, is_ok};
+ghost use Rattle.std.specs.Prelude.{◌≡◌, ◌≢◌, ◌≤◌, ◌<◌, ◌+◌, ℕ, Bool, true, List, IsTrue, Some, Err, IfOk, is_ok};
 ghost use Rattle.tee_base.specs.Crash.{LeavesOnly};
 ghost use Rattle.tee_base.specs.Faults.{Rose};
 ghost use Rattle.board.specs.Moment.{View, IsCounter, moment, left_since};
 ghost use Rattle.board.specs.Runs.{Rests, RunsOver};
 ghost use Rattle.board.specs.Steps.{CallRun, SameBlocks};
-ghost use Rattle.epoch.specs.Finding.{Finds, OpensBelow, IsSettledAt};
+ghost use Rattle.epoch.specs.Finding.{Finds, OpensBelow, IsSettledAt, RefusesOlder, sequence_of};
 ghost use Rattle.epoch.specs.Opening.{IsRuled, opening_of, opens_as};
 ghost use Rattle.epoch.specs.Steps.{outcome_opening};
 ghost use Rattle.epoch.specs.declared.answer.OpenAnswer.TheVariants as answers;
@@ -46,8 +46,9 @@ pub fn find_header<B: Board>(board: &mut B) -> Result<Option<Header>, OpenAnswer
         (B.view board.old).state.reads counter) }
     ensures exact { B.honest board.old → Finds FLAT_VERSION VOLUME_BLOCKS (B.view board.old).size
         (B.view board.old).key (B.view board.old).state result }
-    ensures counter { B.honest board.old → IfOk result (λ header. IfSome header
-        (λ h. IsSettledAt h.sequence (B.view board.new).state)) }
+    // the counter is settled at the sequence, and at 0 where the board is blank
+    ensures counter { B.honest board.old
+        → IfOk result (λ header. IsSettledAt (sequence_of header) (B.view board.new).state) }
     // the counter rises no higher than the sequences of headers that may count
     ensures run { B.honest board.old
         → (open_at : ℕ → Bool) (base : ℕ → List ℕ) (low high : ℕ) (first : View)
@@ -59,6 +60,8 @@ pub fn find_header<B: Board>(board: &mut B) -> Result<Option<Header>, OpenAnswer
         → LeavesOnly moment left_since (B.view board.old) (B.view board.new)
         (λ c. outcome_opening FLAT_VERSION (B.view board.old).key c
         ≡ opening_of FLAT_VERSION (B.view board.old).key (B.view board.old).state.reads n) }
+    ensures rollback { B.honest board.old → RefusesOlder FLAT_VERSION VOLUME_BLOCKS
+        (B.view board.old).size (B.view board.old).key (B.view board.old).state result }
 {
     find_version(board, FLAT_VERSION)
 }
@@ -79,8 +82,9 @@ pub fn find_version<B: Board>(board: &mut B, version: u32) -> Result<Option<Head
         (B.view board.old).state.reads counter) }
     ensures exact { B.honest board.old → Finds version VOLUME_BLOCKS (B.view board.old).size
         (B.view board.old).key (B.view board.old).state result }
-    ensures counter { B.honest board.old → IfOk result (λ header. IfSome header
-        (λ h. IsSettledAt h.sequence (B.view board.new).state)) }
+    // the counter is settled at the sequence, and at 0 where the board is blank
+    ensures counter { B.honest board.old
+        → IfOk result (λ header. IsSettledAt (sequence_of header) (B.view board.new).state) }
     // the counter rises no higher than the sequences of headers that may count
     ensures run { B.honest board.old
         → (open_at : ℕ → Bool) (base : ℕ → List ℕ) (low high : ℕ) (first : View)

@@ -13,7 +13,7 @@ use seal::{Keys, tag_of};
 const TEXT: &[u8; 8] = b"TEEVOLUM";
 
 /// What slot 0 has in place of a place in the tag of its header; slot 1 has one more.
-const SLOT_0: u64 = 4_294_967_296;
+const SLOT_0: u64 = 1 << 32;
 
 /// How many bytes of a header its tag is of.
 const TAGGED: usize = 88;

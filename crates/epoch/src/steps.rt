@@ -4,7 +4,7 @@ ghost use Rattle.tee_base.specs.Crash.{LeavesOnly};
 ghost use Rattle.board.specs.Moment.{View, moment, left_since};
 ghost use Rattle.board.specs.Runs.{Rests, RunsOver};
 ghost use Rattle.board.specs.Steps.{capped, CallRun};
-ghost use Rattle.epoch.specs.Gates.{gate_at, header_at, gate_open};
+ghost use Rattle.epoch.specs.Gates.{gate_at, header_at, gate_open, shut_gate};
 ghost use Rattle.epoch.specs.Header.{IsHeaderBlock};
 ghost use Rattle.epoch.specs.Opening.{opening_of};
 ghost use Rattle.epoch.specs.Slots.{header_slot};
@@ -39,6 +39,8 @@ pub fn shut<B: Board>(board: &mut B, slot: u8) -> Result<(), BoardFailed>
     ensures shut { B.honest board.old
         → OnOk result (SyncedBut (gate_at slot) (B.view board.old).state (B.view board.new).state
         × (gate_open ((B.view board.new).state.reads (gate_at slot)) ≡ false)) }
+    ensures zeros { B.honest board.old → OnOk result ((B.view board.new).state.reads (gate_at slot)
+        ≡ shut_gate ((B.view board.old).state.reads (gate_at slot))) }
     // whatever blocks a run has open, among them the gate if it is open
     ensures run { B.honest board.old
         → (open_at : ℕ → Bool) (base : ℕ → List ℕ) (low high : ℕ) (first : View)
@@ -116,8 +118,7 @@ pub fn flip<B: Board>(board: &mut B, slot: u8) -> Result<u64, BoardFailed>
     ensures elsewhere { B.honest board.old → (k : ℕ) → k ≢ gate_at slot
         → (B.view board.new).state.reads k ≡ (B.view board.old).state.reads k }
     ensures flipped { B.honest board.old
-        → IfOk result (λ m. (n : ℕ) → Rests n (B.view board.old).state
-        → IsFlipped slot n m (B.view board.old).state (B.view board.new).state) }
+        → IfOk result (λ m. IsFlipped slot m (B.view board.old).state (B.view board.new).state) }
     ensures run { B.honest board.old → (n : ℕ) → Rests n (B.view board.old).state
         → LeavesOnly moment left_since (B.view board.old) (B.view board.new)
         (LeavesFlip slot (B.view board.old).state.reads n) }

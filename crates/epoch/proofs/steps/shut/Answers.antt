@@ -1,6 +1,6 @@
-use Rattle.std.proofs.Common.{◌≡◌, true, rules}
+use Rattle.std.proofs.Common.{◌≡◌, true, false, rules}
 use Rattle.epoch.specs.Steps.{shut_writes}
-use Rattle.epoch.proofs.RunLemmas.{rest_starts, over_read, over_sync, over_write, shut_crash, shut_answers, shut_itself, gate_was}
+use Rattle.epoch.proofs.RunLemmas.{rest_starts, over_read, over_sync, over_write, shut_crash, shut_answers, zeros_answers, still_answers, shut_itself, gate_was}
 use Rattle.epoch.proofs.steps.shut.Goals as goal
 
 pub returns-in_err-read-clause-crash : goal.returns-in_err-read-clause-crash
@@ -20,7 +20,7 @@ returns-in_err-write-clause-run g c h open_at base low high first opens run =
     let r = c.in_ok-read.ensures.honest h in
     let w = c.in_err-write.ensures.honest r.0 in
     let told : c.is_open.result ≡ true = search rules in
-    let was = gate_was c.gate_block.result _ (g.B.Board.view c.args.board.now).state.reads _ c.is_open.result c.gate_block.ensures
+    let was = gate_was c.gate_block.result _ (g.B.Board.view c.args.board.now).state.reads _ c.is_open.result true c.gate_block.ensures
     (c.in_ok-read.ensures.bytes (g.met.B.Board.honest_reads c.args.board.now h)) c.is_open.ensures told in
     over_write open_at base low high first _ _ (over_read open_at base low high first _ _ run r.1 r.2) w.1 _ _ _ (rw c.gate_block-2.ensures (opens was)) w.2
 
@@ -36,13 +36,32 @@ returns-clause-shut g c h =
     let s = c.sync-2.ensures.honest w.0 in
     shut_answers c.args.slot c.gate_block-2.result _ _ _ _ c.sync-2.result c.gate_block-2.ensures r.2 w.2 s.2
 
+pub returns-then-not-is_open-clause-zeros : goal.returns-then-not-is_open-clause-zeros
+returns-then-not-is_open-clause-zeros g c h =
+    let r = c.in_ok-read.ensures.honest h in
+    let s = c.sync.ensures.honest r.0 in
+    let told : c.is_open.result ≡ false = search rules in
+    let was = gate_was c.gate_block.result _ (g.B.Board.view c.args.board.now).state.reads _ c.is_open.result false c.gate_block.ensures
+    (c.in_ok-read.ensures.bytes (g.met.B.Board.honest_reads c.args.board.now h)) c.is_open.ensures told in
+    still_answers c.args.slot (g.B.Board.view c.args.board.now).state _ _ c.sync.result was r.2 s.2
+
+pub returns-clause-zeros : goal.returns-clause-zeros
+returns-clause-zeros g c h =
+    let r = c.in_ok-read.ensures.honest h in
+    let w = c.in_ok-write.ensures.honest r.0 in
+    let s = c.sync-2.ensures.honest w.0 in
+    let told : c.is_open.result ≡ true = search rules in
+    let was = gate_was c.gate_block.result _ (g.B.Board.view c.args.board.now).state.reads _ c.is_open.result true c.gate_block.ensures
+    (c.in_ok-read.ensures.bytes (g.met.B.Board.honest_reads c.args.board.now h)) c.is_open.ensures told in
+    zeros_answers c.args.slot c.gate_block-2.result (g.B.Board.view c.args.board.now).state _ _ _ c.sync-2.result c.gate_block-2.ensures was w.2 s.2
+
 pub returns-clause-run : goal.returns-clause-run
 returns-clause-run g c h open_at base low high first opens run =
     let r = c.in_ok-read.ensures.honest h in
     let w = c.in_ok-write.ensures.honest r.0 in
     let s = c.sync-2.ensures.honest w.0 in
     let told : c.is_open.result ≡ true = search rules in
-    let was = gate_was c.gate_block.result _ (g.B.Board.view c.args.board.now).state.reads _ c.is_open.result c.gate_block.ensures
+    let was = gate_was c.gate_block.result _ (g.B.Board.view c.args.board.now).state.reads _ c.is_open.result true c.gate_block.ensures
     (c.in_ok-read.ensures.bytes (g.met.B.Board.honest_reads c.args.board.now h)) c.is_open.ensures told in
     over_sync open_at base low high first _ _ (over_write open_at base low high first _ _ (over_read open_at base low high first _ _ run r.1 r.2) w.1 _ _ _
     (rw c.gate_block-2.ensures (opens was)) w.2) s.1 _ s.2
