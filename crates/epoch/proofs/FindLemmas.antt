@@ -1,9 +1,9 @@
 -- The advance that ends a search for the header that counts, and what a crash within the search leaves.
-use Rattle.std.proofs.Common.{◌≡◌, ◌≢◌, ◌≤◌, ◌<◌, ◌+◌, ◌-◌, ◌⊎◌, ◌∙◌, ℕ, Bool, false, List, Option, Some, None, Result, Ok, Err, nat_lt, refl, sym, ap, subst, inl, inr, ⊎_elim, arith}
+use Rattle.std.proofs.Common.{◌≡◌, ◌≢◌, ◌≤◌, ◌+◌, ◌∙◌, ℕ, Bool, false, List, Option, Some, None, Result, Ok, Err, nat_lt, refl, sym, ap, arith}
 use Rattle.tee_base.specs.Crash.{LeavesOnly}
 use Rattle.tee_base.proofs.Crash.{weaker}
 use Rattle.board.specs.declared.BoardFailed.{BoardFailed}
-use Rattle.board.specs.Moment.{Outcome, Moment, View, IsCounter, moment, left_since}
+use Rattle.board.specs.Moment.{Moment, View, IsCounter, moment, left_since}
 use Rattle.board.specs.Steps.{Answered, Advanced}
 use Rattle.board.specs.Runs.{IsBase, LeavesBase, RunsOver, Rests}
 use Rattle.board.proofs.Runs.{base-wider, rests_base, run_starts, run_goes_on}

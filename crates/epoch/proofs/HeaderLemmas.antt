@@ -1,5 +1,5 @@
 -- Pieces of a block that was written piece by piece, and the header that they make.
-use Rattle.std.proofs.Common.{◌≡◌, ◌≤◌, ◌<◌, ◌+◌, ◌^◌, ◌∙◌, ℕ, Bool, true, List, length, get_or, take, drop, replicate, refl, sym, ap, subst, bytes_eq, codes, arith, rules}
+use Rattle.std.proofs.Common.{◌≡◌, ◌≤◌, ◌<◌, ◌+◌, ◌^◌, ◌∙◌, ℕ, true, List, length, take, replicate, refl, sym, ap, subst, bytes_eq, codes, arith, rules}
 use Rattle.std.specs.Int.{w32, w64, to_le_bytes, from_le_bytes}
 use Rattle.std.proofs.lemmas.List.{same_lists, places, length-replicate}
 use Rattle.std.proofs.lemmas.Nat.{from_le_bytes-to_le_bytes_4, from_le_bytes-to_le_bytes_8}

@@ -1,12 +1,10 @@
 -- What the rule says of a header that counts, whatever the counter.
-use Rattle.std.proofs.Common.{◌≡◌, ◌≢◌, ◌≤◌, ◌<◌, ◌+◌, ◌⊎◌, ◌==◌, ◌∙◌, if◌then◌else◌, ℕ, Bool, true, false, not, ltb, List, Option, Some, None, Result, Ok, Err, refl, sym, ap, subst, inl, inr, ⊎_elim, nat_lt, arith}
-use Rattle.std.proofs.lemmas.Bool.{cases_lt}
-use Rattle.store_api.specs.declared.answer.Mismatch.{Mismatch}
-use Rattle.epoch.specs.Opening.{answer_at, bad_header, without_slot, opening_by, opening_of}
+use Rattle.std.proofs.Common.{◌≡◌, ◌≢◌, ◌≤◌, ◌<◌, ◌+◌, ◌==◌, ◌∙◌, if◌then◌else◌, ℕ, Bool, true, false, not, Option, Some, None, Result, Ok, Err, refl, sym, ap, subst, nat_lt, arith}
+use Rattle.epoch.specs.Opening.{answer_at, opening_by, opening_of}
 use Rattle.epoch.specs.Slots.{slot_of}
 use Rattle.epoch.specs.Laws.{RefusesRollback, OpensAtTwo}
 use Rattle.epoch.specs.declared.answer.OpenAnswer.{OpenAnswer}
-use Rattle.epoch.specs.declared.answer.OpenAnswer.TheVariants.{NoVolume, BadHeader, UnknownVersion, Rollback, Ahead}
+use Rattle.epoch.specs.declared.answer.OpenAnswer.TheVariants.{NoVolume, Rollback}
 use Rattle.epoch.specs.declared.header.Header.{Header}
 use Rattle.epoch.specs.declared.rule.Found.{Found}
 use Rattle.epoch.specs.declared.slots.Slot.{Slot}

@@ -1,5 +1,5 @@
 -- How a run is carried on over the calls of a step, and what a crash within it leaves.
-use Rattle.std.proofs.Common.{◌≡◌, ◌≢◌, ◌≤◌, ◌<◌, ◌+◌, ◌-◌, ◌⊎◌, ◌==◌, ◌∙◌, ℕ, Bool, true, false, List, Some, Result, Ok, Err, IfOk, OnOk, is_ok, replicate, refl, sym, ap, subst, inl, inr, ⊎_elim, arith}
+use Rattle.std.proofs.Common.{◌≡◌, ◌≢◌, ◌≤◌, ◌<◌, ◌+◌, ◌⊎◌, ◌==◌, ◌∙◌, ℕ, Bool, true, false, List, Some, Result, Ok, Err, IfOk, OnOk, is_ok, replicate, refl, sym, ap, subst, inl, inr, ⊎_elim, arith}
 use Rattle.std.proofs.lemmas.Bool.{cases_lt}
 use Rattle.tee_base.specs.Crash.{LeavesOnly}
 use Rattle.tee_base.proofs.Crash.{weaker}
@@ -7,14 +7,13 @@ use Rattle.board.specs.declared.BoardFailed.{BoardFailed}
 use Rattle.board.specs.declared.TheConstants.{BLOCK}
 use Rattle.board.specs.Moment.{Outcome, Moment, View, IsLeft, moment, left_since}
 use Rattle.board.specs.Steps.{Answered, Unchanged, Wrote, Synced, Counted, Advanced}
-use Rattle.board.specs.Runs.{IsBase, LeavesBase, RunsOver, Rests}
+use Rattle.board.specs.Runs.{LeavesBase, RunsOver, Rests}
 use Rattle.board.proofs.Runs.{goes_on, run_starts, run_goes_on, base-unchanged, base-wrote, base-synced, base-counted, rests_base}
 use Rattle.epoch.specs.Gates.{gate_at, header_at, gate_open, shut_gate}
 use Rattle.epoch.specs.Opening.{opening_of}
 use Rattle.epoch.specs.Steps.{SyncedBut, IsFlipped, LeavesFlip, CountsElsewhere, IsLaid, shut_writes, outcome_opening}
 use Rattle.epoch.specs.declared.gates.TheConstants.{OPEN_GATE, SHUT_GATE}
 use Rattle.epoch.specs.declared.header.Header.{Header}
-use Rattle.epoch.specs.declared.rule.Found.{Found}
 use Rattle.epoch.proofs.StageLemmas.{shut_opens, lay_opens, flip_opens, flip_open}
 
 module _ (open_at : ℕ → Bool) (base : ℕ → List ℕ) (low high : ℕ) (first old new : View) (run : RunsOver open_at base low high first old) (answered : Answered old new) where

@@ -11,7 +11,7 @@ use Rattle.epoch.specs.declared.header.Header.{Header}
 use Rattle.epoch.specs.declared.rule.Found.{Found}
 use Rattle.epoch.specs.declared.slots.Slot.{Slot}
 use Rattle.epoch.specs.declared.slots.Slot.TheVariants.{Shut, Bad, Good}
-use Rattle.epoch.proofs.RuleLemmas.{if_other, counts, answer_ok, alone_first, alone_second}
+use Rattle.epoch.proofs.RuleLemmas.{if_other, answer_ok, alone_first, alone_second}
 
 -- a slot's number is 0 or 1
 pub by_slot : (P : ℕ → Type 0) (slot : ℕ) → slot < 2 → P 0 → P 1 → P slot

@@ -1,6 +1,5 @@
 -- What a slot holds.
 use Rattle.std.specs.Prelude.{ℕ, List, take, bytes_eq, if◌then◌else◌}
-use Rattle.store_api.specs.declared.answer.Mismatch.{Mismatch}
 use Rattle.epoch.specs.Gates.{gate_at, header_at, gate_open}
 use Rattle.epoch.specs.Header.{header_of, header_tag}
 use Rattle.epoch.specs.Parts.{part}

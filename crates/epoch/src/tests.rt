@@ -22,14 +22,29 @@ const ROOT_TAG: [u8; 32] = [
     0x50, 0x51, 0x52, 0x53, 0x54, 0x55, 0x56, 0x57, 0x58, 0x59, 0x5a, 0x5b, 0x5c, 0x5d, 0x5e, 0x5f,
 ];
 
-/// The root's entry of sequence 5.
+/// A sealed block's entry.
+const SEALED: TreeEntry = TreeEntry {
+    copy: 1,
+    sequence: 5,
+    iv: [
+        0xdf, 0xd9, 0x3c, 0xd0, 0x81, 0xdc, 0x19, 0xe3, 0xaf, 0x13, 0x1b, 0xe5, 0x9e, 0xd0, 0x58,
+        0x14,
+    ],
+    tag: [
+        0x5e, 0x42, 0x63, 0x82, 0x61, 0x50, 0xbd, 0x4f, 0x48, 0xbd, 0x32, 0x6f, 0xb3, 0x99, 0x2a,
+        0x5a, 0x79, 0x93, 0x39, 0xbc, 0x6c, 0x89, 0x77, 0x57, 0x5b, 0xaa, 0xa0, 0x9c, 0x97, 0x7c,
+        0x19, 0xab,
+    ],
+};
+
+/// And its bytes.
 const ENTRY: &str = concat!(
     "01000000000000000500000000000000",
-    "00000000000000000000000000000000",
-    "404142434445464748494a4b4c4d4e4f505152535455565758595a5b5c5d5e5f",
+    "dfd93cd081dc19e3af131be59ed05814",
+    "5e4263826150bd4f48bd326fb3992a5a799339bc6c8977575baaa09c977c19ab",
 );
 
-/// The header of version 0 and sequence 5 that names it, up to its tag.
+/// The header of version 0 and sequence 5, up to its tag.
 const TOLD: &str = concat!(
     "544545564f4c554d00000000000000000500000000000000",
     "01000000000000000500000000000000",
@@ -220,6 +235,18 @@ fn the_rule_answers_each_row(rt: HostRuntime) -> Result<(), Fail> {
     Ok(())
 }
 
+/// The block has these bytes, and zeros behind them.
+fn is_header(
+    rt: &impl Abort,
+    alloc: Global,
+    block: &[u8; BLOCK],
+    wanted: &str,
+) -> Result<(), Fail> {
+    are(rt, alloc, &block[..120], wanted)?;
+    assert!(rt; block[120..].iter().all(|byte| *byte == 0));
+    Ok(())
+}
+
 // The last three steps of a commit to sequence 5, and the first of one to sequence 7.
 #[test]
 fn a_header_has_the_bytes_computed_outside(rt: HostRuntime) -> Result<(), Fail> {
@@ -234,8 +261,7 @@ fn a_header_has_the_bytes_computed_outside(rt: HostRuntime) -> Result<(), Fail> 
     assert_eq!(rt; flip(&mut board, 1)?, 5);
     assert!(rt; find_header(&mut board) == Ok(Some(header)));
     let block = block_of(&rt, &mut board, 3)?;
-    are(&rt, rt.alloc(), &block[..120], TOLD)?;
-    assert!(rt; &block[120..] == [0; 904].as_slice());
+    is_header(&rt, rt.alloc(), &block, TOLD)?;
     assert!(rt; block_of(&rt, &mut board, 2)? == [0xA5; BLOCK]);
     assert!(rt; board.blocks() >= 4);
     shut(&mut board, 1)?;
@@ -245,9 +271,8 @@ fn a_header_has_the_bytes_computed_outside(rt: HostRuntime) -> Result<(), Fail> 
 
 #[test]
 fn an_entry_has_the_bytes_of_the_table(rt: HostRuntime) -> Result<(), Fail> {
-    let root = header_of(FLAT_VERSION, 5).root;
-    let bytes = entry_bytes(&root);
+    let bytes = entry_bytes(&SEALED);
     are(&rt, rt.alloc(), &bytes, ENTRY)?;
-    assert!(rt; entry_at(&bytes, 0) == root);
+    assert!(rt; entry_at(&bytes, 0) == SEALED);
     Ok(())
 }

@@ -8,7 +8,7 @@ use Rattle.aes_modes.specs.Modes.{number_of, counter_block, ctr_from, mode_text}
 use Rattle.aes_modes.specs.declared.modes.Mode.TheVariants.{Ctr}
 use Rattle.aes_modes.specs.declared.modes.ModeAnswer.{ModeAnswer}
 use Rattle.aes_modes.specs.declared.modes.Way.{Way}
-use Rattle.aes_modes.specs.declared.modes.Way.TheVariants.{Encrypt, Decrypt}
+use Rattle.aes_modes.specs.declared.modes.Way.TheVariants.{Decrypt}
 use Rattle.seal.specs.Sealing.{cipher_key, ciphertext}
 
 -- a block has room for a block

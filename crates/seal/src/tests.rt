@@ -91,6 +91,18 @@ fn are(rt: &impl Abort, alloc: Global, bytes: &[u8], wanted: &str) -> Result<(),
     Ok(())
 }
 
+/// The block begins and ends with these.
+fn ends_are(
+    rt: &impl Abort,
+    alloc: Global,
+    block: &[u8; 1024],
+    first: &str,
+    last: &str,
+) -> Result<(), Fail> {
+    are(rt, alloc, &block[..32], first)?;
+    are(rt, alloc, &block[1008..], last)
+}
+
 #[test]
 fn a_block_is_sealed_as_computed_outside(rt: HostRuntime) -> Result<(), Fail> {
     let keys = Keys::of(&KEY);
@@ -98,8 +110,7 @@ fn a_block_is_sealed_as_computed_outside(rt: HostRuntime) -> Result<(), Fail> {
     let tags = seal_leaf(&keys, PLACE, SEQUENCE, &leaf(), &mut cipher);
     are(&rt, rt.alloc(), &tags.iv, IV)?;
     are(&rt, rt.alloc(), &tags.tag, TAG)?;
-    are(&rt, rt.alloc(), &cipher[..32], FIRST)?;
-    are(&rt, rt.alloc(), &cipher[1008..], LAST)
+    ends_are(&rt, rt.alloc(), &cipher, FIRST, LAST)
 }
 
 fn check(rt: &impl Abort, alloc: Global, row: &Opening) -> Result<(), Fail> {

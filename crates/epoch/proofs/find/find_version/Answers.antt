@@ -1,7 +1,6 @@
-use Rattle.std.proofs.Common.{◌≡◌, ◌≢◌, ◌≤◌, ◌∙◌, ℕ, List, false, Some, None, Result, Ok, Err, refl, sym, ap, subst, arith}
+use Rattle.std.proofs.Common.{◌≡◌, ◌≢◌, ◌≤◌, ◌∙◌, ℕ, List, false, Some, None, Ok, Err, refl, sym, subst, arith}
 use Rattle.seal.specs.Keys.{AreKeysOf}
-use Rattle.epoch.specs.Finding.{IsSettledAt}
-use Rattle.epoch.specs.Opening.{IsRuled, header_answer, opening_of, opens_as}
+use Rattle.epoch.specs.Opening.{header_answer}
 use Rattle.epoch.specs.declared.answer.OpenAnswer.TheVariants.{Failed}
 use Rattle.epoch.specs.declared.find.TheConstants.{VOLUME_BLOCKS}
 use Rattle.epoch.proofs.FindLemmas.{find_starts, find_crash, opens_below, judged_opening, ruled_answer, between}

@@ -1,4 +1,4 @@
-use Rattle.std.proofs.Common.{◌≡◌, ◌<◌, ◌^◌, length, replicate, codes, refl, rules, arith}
+use Rattle.std.proofs.Common.{◌≡◌, length, replicate, codes, refl, rules}
 use Rattle.epoch.proofs.HeaderLemmas.{header_written, header_read, IsInRange}
 use Rattle.epoch.proofs.header.block_of_header.Goals as goal
 

@@ -1,4 +1,4 @@
-use Rattle.std.proofs.Common.{◌≡◌, ℕ, length, replicate, refl, rules}
+use Rattle.std.proofs.Common.{◌≡◌, ℕ, length, replicate, rules}
 use Rattle.std.proofs.lemmas.List.{length-replicate}
 use Rattle.epoch.proofs.HeaderLemmas.{entry_written}
 use Rattle.epoch.proofs.header.entry_bytes.Goals as goal

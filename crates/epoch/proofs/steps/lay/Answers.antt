@@ -1,4 +1,4 @@
-use Rattle.std.proofs.Common.{◌≡◌, ◌∙◌, ◌==◌, ◌<◌, ◌%◌, ℕ, List, ap, subst, sym}
+use Rattle.std.proofs.Common.{◌∙◌, ◌==◌, ◌<◌, ◌%◌, ℕ, List, ap, subst}
 use Rattle.epoch.specs.Gates.{header_at}
 use Rattle.epoch.specs.Header.{IsHeaderBlock}
 use Rattle.epoch.proofs.RunLemmas.{rest_starts, over_write, over_sync, lay_crash, lay_answers, is_itself}

@@ -1,8 +1,7 @@
-use Rattle.std.proofs.Common.{◌≡◌, ◌∙◌, ℕ, List, Result, Ok, length, refl, ap, rules}
+use Rattle.std.proofs.Common.{◌≡◌, ◌∙◌, ℕ, List, Ok, length, refl, ap, rules}
 use Rattle.aes_core.specs.Key.{key_bytes}
 use Rattle.aes_modes.specs.Modes.{mode_text}
 use Rattle.aes_modes.specs.declared.modes.Mode.TheVariants.{Ctr}
-use Rattle.aes_modes.specs.declared.modes.ModeAnswer.{ModeAnswer}
 use Rattle.seal.proofs.SealLemmas.{whole_answer, whole_text}
 use Rattle.seal.proofs.keys.Keys.convert.Goals as goal
 

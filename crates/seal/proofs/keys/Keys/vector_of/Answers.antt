@@ -1,4 +1,4 @@
-use Rattle.std.proofs.Common.{◌∙◌, ◌≡◌, List, [], ap, take, refl}
+use Rattle.std.proofs.Common.{◌∙◌, [], ap, take, refl}
 use Rattle.mac_digest.specs.Mac.{HoldsKeyedMessage}
 use Rattle.mac_digest.specs.declared.digests.Hash.TheVariants.{Sha256}
 use Rattle.seal.specs.Sealing.{vector_key, seal_vector}
