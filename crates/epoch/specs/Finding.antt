@@ -1,4 +1,4 @@
--- What a search for the header that counts finds on an honest board, and what a crash within it leaves.
+-- What a search for the header that counts finds on an honest board, and what it leaves.
 use Rattle.std.specs.Prelude.{◌≡◌, ◌≢◌, ◌≤◌, ◌<◌, ℕ, List, Option, Some, None, Result, Ok, Err}
 use Rattle.board.specs.Moment.{Moment, IsCounter}
 use Rattle.epoch.specs.Opening.{IsRuled, opening_of, opens_as}
@@ -30,7 +30,7 @@ pub record IsSettledAt (n : ℕ) (m : Moment) : Type 0 where
   pub counter : m.counter ≡ n
   pub slack : m.slack ≡ 0
 
--- an image that opens at some counter is refused as a rollback where the counter is above its sequence
+-- an image that opens is refused as a rollback where the counter is above its sequence
 abbrev pub RefusesOlder : ℕ → ℕ → ℕ → List ℕ → Moment → Result (Option Header) OpenAnswer → Type 0
 RefusesOlder version blocks size key m result =
     (n c : ℕ) (found : Found) → opens_as version blocks size key m.reads n ≡ Ok (Some found)

@@ -27,7 +27,7 @@ header_of block = record {
   root = entry_at 24 block;
 }
 
--- the tag of a header in a slot: of the slot's number, which no place has, and the header's first bytes
+-- the tag of a header: of its slot's number, which no place has, and of the bytes before the tag
 unfoldable pub header_tag : List ℕ → ℕ → List ℕ → List ℕ
 header_tag key slot bytes = hmac_of Sha256 (tag_key key) (le64 (SLOT_0 + slot) ++ bytes)
 

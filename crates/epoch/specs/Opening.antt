@@ -1,5 +1,5 @@
--- The rule by which a board is opened, over an image and a counter. The version and the number of blocks that a volume
--- has are parameters.
+-- The rule by which a board is opened, over an image and a counter. The version and the number of
+-- blocks that a volume has are parameters.
 use Rattle.std.specs.Prelude.{◌≡◌, ◌≢◌, ℕ, ◌+◌, ◌==◌, not, nat_lt, if◌then◌else◌, List, Option, Some, None, Result, Ok, Err}
 use Rattle.store_api.specs.declared.answer.Mismatch.{Mismatch}
 use Rattle.epoch.specs.Slots.{slot_of}
@@ -26,7 +26,7 @@ answer_at version slot header counter =
     if nat_lt (counter + 1) header.sequence then Err (Ahead header.sequence counter) else
     Ok (Some (record { header = header; slot = slot }))
 
--- the rule over both slots: a damaged one first; of two headers the greater sequence, slot 0 on a tie
+-- the rule over both slots: a damaged one first; of two the greater sequence, slot 0 on a tie
 abbrev pub opening_by : ℕ → Slot → Slot → ℕ → Result (Option Found) OpenAnswer
 opening_by version (Bad tags) second counter = bad_header 0 tags
 opening_by version Shut (Bad tags) counter = bad_header 1 tags

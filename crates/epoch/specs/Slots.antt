@@ -13,7 +13,7 @@ abbrev pub header_by : List ℕ → List ℕ → Header → Slot
 header_by found kept header =
     if bytes_eq found kept then Good header else Bad (record { found = found; kept = kept })
 
--- the header of a slot, by its block: the tag is of the bytes before it
+-- the header of a slot, by its block: its tag is of the bytes before the tag
 unfoldable pub header_slot : List ℕ → ℕ → List ℕ → Slot
 header_slot key slot block =
     header_by (header_tag key slot (take TAGGED block)) (part TAGGED 32 block) (header_of block)

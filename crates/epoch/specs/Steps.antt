@@ -18,7 +18,7 @@ pub record SyncedBut (block : ℕ) (old new : Moment) : Type 0 where
   pub counter : new.counter ≡ old.counter
   pub slack : new.slack ≡ old.slack
 
--- all is durable, the gate of the slot is open, and the counter is m: one higher than one that a crash might have left
+-- all is durable, the gate open, and the counter m: one above one that a crash might have left
 pub record IsFlipped (slot m : ℕ) (old new : Moment) : Type 0 where
   pub positive : 0 < m
   pub among : IsCounter old (m - 1)
