@@ -9,7 +9,7 @@
 use aes_core::expand;
 use aes_modes::{Mode, Way, start};
 use anyhow::{Context, Result, bail};
-use mac_digest::{Hash, hmac};
+use mac_digest::{Hash, Mac, hmac};
 use seal::{Keys, open_leaf, seal_leaf, tag_of};
 use std::env;
 
@@ -82,15 +82,20 @@ fn encrypt_blocks(count: u32) -> Result<[u8; 1024]> {
     Ok(block)
 }
 
+// The block begins with its code from here on.
+fn code_block(mac: &mut Mac, block: &mut [u8; 1024]) {
+    mac.update(block);
+    let code = tag_of(mac);
+    block[..32].copy_from_slice(&code);
+}
+
 // Each block begins with the code of the one before.
 fn code_blocks(count: u32) -> [u8; 1024] {
     let mut mac = hmac(Hash::Sha256, &KEY);
     let mut block = [0; 1024];
     for _ in 0..count {
         for _ in 0..BLOCKS {
-            mac.update(&block);
-            let code = tag_of(&mut mac);
-            block[..32].copy_from_slice(&code);
+            code_block(&mut mac, &mut block);
         }
     }
     block
