@@ -4,67 +4,27 @@ use Rattle.std.proofs.Common.{ℕ, zero, suc, ◌≡◌, ◌≢◌, ◌+◌, ◌
 use Rattle.std.specs.List.{AllByRecursion}
 use Rattle.std.proofs.lemmas.Bool.{cases_Bool, cases_lt, lt-ltb, ne_eqb, both_ways}
 use Rattle.std.proofs.lemmas.List.Sums.{count_by-le-length}
-use Rattle.app_api.specs.declared.ask.Ask.{Ask}
-use Rattle.app_api.specs.declared.ask.Given.{Given}
 use Rattle.app_api.specs.declared.call.Call.{Call}
-use Rattle.app_api.specs.declared.call.Call.TheVariants as calls
 use Rattle.app_api.specs.declared.host.Host.{Host}
 use Rattle.store_api.specs.Stores.{Store}
 use Rattle.object_asks.specs.Asks.{Serves, Fails, Damaged}
-use Rattle.instances.specs.declared.session.SessionFacts.{SessionFacts}
-use Rattle.instances.specs.declared.session.SessionState.{SessionState}
-use Rattle.instances.specs.declared.session.SessionState.TheVariants.{Opening, Open, Closing, Dead}
-use Rattle.instances.specs.declared.session.Session.{Session}
-use Rattle.instances.specs.Instances.{facts_of}
 use Rattle.op_queue.specs.declared.operation.Operation.{Operation}
-use Rattle.op_queue.specs.declared.operation.Progress.{Progress}
-use Rattle.op_queue.specs.declared.operation.Progress.TheVariants.{Waiting, Running as Runs}
-use Rattle.op_queue.specs.Queue.{is_close, waits_for, facts_of as operation_facts}
-use Rattle.alone.specs.declared.running.Instance.{Instance}
-use Rattle.alone.specs.declared.running.Running.{Running}
-use Rattle.alone.specs.declared.running.Stage.{Stage}
-use Rattle.alone.specs.declared.running.Stage.TheVariants as stages
+use Rattle.op_queue.proofs.Keeps.{forgotten_IsQueue}
+use Rattle.op_queue.specs.Queue.{forgotten, is_close, waits_for, facts_of as operation_facts}
 use Rattle.alone.specs.Machine.{Machine, start}
-use Rattle.alone.specs.Step.{Event, Called, Turned, TurnLost, Corrupted, Lost, step, belongs_to, called, turned, is_answered}
+use Rattle.alone.specs.Step.{Event, Called, Cancelled, Turned, TurnLost, Corrupted, Lost, Starved, Restarted, step, belongs_to, called, turn_counted, turned, is_answered}
 use Rattle.alone.specs.Runs.{most_turns, machine_after, turns_until}
 use Rattle.alone.specs.Answering.{CallIsAnswered, OperationsAreFew}
 use Rattle.alone.proofs.Totals.{bit, total_both, total_count, total_le, total_ones}
 use Rattle.alone.proofs.Each.{each_both}
-use Rattle.alone.proofs.Sound.{IsSoundMachine, Run, claim_of, claim_of_progress, claim_of_stage, claim_of_entry, claim_in, is_stop, run_of, run_of_progress, run_of_entry, run_in, weigh, start_sound}
+use Rattle.alone.proofs.Sound.{IsSoundMachine, nothing_sound, start_sound}
+use Rattle.alone.proofs.Dropped.{cancels}
+use Rattle.alone.proofs.Ended.{fails}
 use Rattle.alone.proofs.Called.{IsOf, takes}
 use Rattle.alone.proofs.Measure.{measure, measure_most, measure_none}
 use Rattle.alone.proofs.Turned.{turns}
 
 -- ---- few operations
-
-abbrev is_closing : SessionState → Bool
-is_closing Opening = false
-is_closing Open = false
-is_closing Closing = true
-is_closing Dead = false
-
-abbrev closing : SessionFacts → Bool
-closing c = is_closing c.state
-
-abbrev stopping : Run → Bool
-stopping c = c.close
-
--- a close holds its session
-close_holds : (op session i : ℕ) (progress : Progress) → bit (is_close progress) ≤ weigh closing (claim_of_progress session i progress) + weigh stopping (run_of_progress op i progress)
-close_holds op session i (Waiting (calls.Open label ps)) = omega arith
-close_holds op session i (Waiting (calls.Invoke label command ps)) = omega arith
-close_holds op session i (Waiting (calls.Close label)) = omega arith
-close_holds op session i (Runs close cancelled masked) = omega arith
-
-stage_holds : (op i : ℕ) (stage : Stage) → bit (is_stop stage) ≤ weigh closing (claim_of_stage i stage)
-stage_holds op i (stages.Create session ps) = omega arith
-stage_holds op i (stages.Start session places) = omega arith
-stage_holds op i (stages.Invoke session places) = omega arith
-stage_holds op i (stages.Stop session) = omega arith
-
-stop_holds : (i : ℕ) (o : Option Running) → weigh stopping (run_of_entry i o) ≤ weigh closing (claim_of_entry i o)
-stop_holds i None = omega arith
-stop_holds i (Some r) = stage_holds r.op i r.stage
 
 some_bit : (b : Bool) → bit b ≤ 1
 some_bit true = omega arith
@@ -82,19 +42,24 @@ module _ {A : Type 0} where
   pub few : (m : Machine A) → IsSoundMachine m → OperationsAreFew m
   few m h =
       let os = m.queue.operations in
-      let both_parts = total_both (λ (o : Operation). weigh closing (claim_of o)) (λ (o : Operation). weigh stopping (run_of o)) os in
-      let by_sessions = total_le (λ (o : Operation). bit (is_close o.progress)) (λ (o : Operation). weigh closing (claim_of o) + weigh stopping (run_of o)) os (λ o. close_holds o.number o.session o.instance o.progress) in
-      let by_entries = total_le (λ (x : Instance A). weigh stopping (run_in x)) (λ (x : Instance A). weigh closing (claim_in x)) m.instances (λ x. stop_holds x.number x.running) in
-      let by_number = total_le (λ (s : Session). bit (closing (facts_of s))) (λ s. 1) m.table.sessions (λ s. some_bit (closing (facts_of s))) in
-      let closes : count_by (λ o. is_close o.progress) os ≤ 8 = omega (arith, both_parts, by_sessions, by_entries, by_number, h.held closing, h.runs stopping, h.table.few_sessions, total_ones m.table.sessions, total_count (λ (o : Operation). is_close o.progress) os) in
+      let closes : count_by (λ o. is_close o.progress) os ≤ 8 = h.queue.closes in
       let others : count_by (λ o. not (is_close o.progress)) os ≤ 16 = h.queue.few in
       let parts = total_both (λ (o : Operation). bit (not (is_close o.progress))) (λ (o : Operation). bit (is_close o.progress)) os in
       let all = total_le (λ (o : Operation). 1) (λ (o : Operation). bit (not (is_close o.progress)) + bit (is_close o.progress)) os (λ o. omega (arith, one_of (is_close o.progress))) in
-      let most : length os ≤ 24 = omega (arith, parts, all, total_ones os, others, closes, total_count (λ (o : Operation). is_close o.progress) os, total_count (λ (o : Operation). not (is_close o.progress)) os) in
+      let most : length os ≤ 24 = omega (
+        arith,
+        parts,
+        all,
+        total_ones os,
+        others,
+        closes,
+        total_count (λ (o : Operation). is_close o.progress) os,
+        total_count (λ (o : Operation). not (is_close o.progress)) os,
+      ) in
       record { others = others; closes = closes; all = most; of_instance = λ i. omega (arith, most, count_by-le-length (belongs_to i) os) }
 
   -- the turns of a call are enough
-  measure_few : (m : Machine A) (i : ℕ) → IsSoundMachine m → measure i m.queue m.instances ≤ 6553724
+  measure_few : (m : Machine A) (i : ℕ) → IsSoundMachine m → measure i m.queue m.instances ≤ 9830574
   measure_few m i h =
       let f = few m h in
       let le = total_le (λ (o : Operation). bit (waits_for i o)) (λ o. 1) m.queue.operations (λ o. some_bit (waits_for i o)) in
@@ -105,15 +70,17 @@ module _ {A : Type 0} where
   -- where no turns are left, an operation of the instance is answered
   answered_at_end : (m : Machine A) (op i : ℕ) → IsSoundMachine m → op < m.queue.next → AllByRecursion (IsOf op i) m.queue.operations → measure i m.queue m.instances ≡ 0 → is_answered m op ≡ true
   answered_at_end m op i h below owned none =
-      let gone : AllByRecursion (λ o. o.number ≢ op) m.queue.operations = each_both (IsOf op i) (λ o. o.instance ≢ i) (λ o. o.number ≢ op) m.queue.operations (λ o own elsewhere same. elsewhere (own same)) owned (measure_none m.queue m.table m.instances i h none) in
+      let gone : AllByRecursion (λ o. o.number ≢ op) m.queue.operations = each_both (IsOf op i) (λ o. o.instance ≢ i)
+      (λ o. o.number ≢ op) m.queue.operations (λ o own elsewhere same. elsewhere (own same)) owned (measure_none m.queue m.table m.instances i h none) in
       ap (λ (f : Option Operation). nat_lt op m.queue.next && not (is_some (option_map operation_facts f))) (none_found op m.queue.operations gone) ∙ ap (λ b. b && true) (lt-ltb op m.queue.next below)
 
-enough : 6553724 ≤ most_turns
+enough : 9830574 ≤ most_turns
 unfolding most_turns
 enough = omega arith
 
 module _ {A : Type 0} (behaviour : Behaviour A) where
-  within : (k : ℕ) (m : Machine A) (op i : ℕ) → IsSoundMachine m → op < m.queue.next → AllByRecursion (IsOf op i) m.queue.operations → measure i m.queue m.instances ≤ k → is_answered (machine_after behaviour m (turns_until behaviour k m i op)) op ≡ true
+  within : (k : ℕ) (m : Machine A) (op i : ℕ) → IsSoundMachine m → op < m.queue.next → AllByRecursion (IsOf op i) m.queue.operations
+      → measure i m.queue m.instances ≤ k → is_answered (machine_after behaviour m (turns_until behaviour k m i op)) op ≡ true
   within zero m op i h below owned le = answered_at_end m op i h below owned (omega (arith, le))
   within (suc k) m op i h below owned le =
       let z : Machine A = (turned behaviour m i).machine in
@@ -126,7 +93,8 @@ module _ {A : Type 0} (behaviour : Behaviour A) where
       (λ (lt : 0 < measure i m.queue m.instances). lt)
       (λ (ge : measure i m.queue m.instances ≤ 0). absurd (both_ways _ more (answered_at_end m op i h below owned (omega (arith, ge)))))
       (cases_lt 0 (measure i m.queue m.instances)) in
-      let rest : is_answered (machine_after behaviour z (turns_until behaviour k z i op)) op ≡ true = within k z op i now.sound (omega (arith, below, now.next)) (now.owner op i owned) (omega (arith, now.less some, le)) in
+      let rest : is_answered (machine_after behaviour z (turns_until behaviour k z i op)) op ≡ true = within k z op i now.sound
+      (omega (arith, below, now.next)) (now.owner op i owned) (omega (arith, now.less some, le)) in
       subst (λ (es : List Event). is_answered (machine_after behaviour m es) op ≡ true) (sym (ap (λ b. cond b [] on) more)) rest)
       (cases_Bool (is_answered m op))
 
@@ -144,12 +112,16 @@ module _ {A : Type 0} (behaviour : Behaviour A) where
   step_sound m (TurnLost i) h = (turns behaviour Fails m i h).sound
   step_sound m (Corrupted i) h = (turns behaviour Damaged m i h).sound
   step_sound m Lost h = h
+  step_sound m (Cancelled op) h = cancels m op h
+  step_sound m (Starved i) h = (fails (turn_counted m) i h).sound
+  step_sound m (Restarted took) h = nothing_sound (forgotten m.queue) m.table.properties (forgotten_IsQueue m.queue h.queue) refl
 
   events_sound : (m : Machine A) (events : List Event) → IsSoundMachine m → IsSoundMachine (machine_after behaviour m events)
   events_sound m [] h = h
   events_sound m (event ∷ events) h = events_sound (step behaviour m event).machine events (step_sound m event h)
 
-  pub always_answered : (host : Host A) (index : ℕ) (seed : List ℕ) (store : Store) (events : List Event) (client : ℕ) (call : Call) → CallIsAnswered behaviour (machine_after behaviour (start host index seed store) events) client call
+  pub always_answered : (host : Host A) (index : ℕ) (seed : List ℕ) (store : Store) (events : List Event) (client : ℕ) (call : Call)
+      → CallIsAnswered behaviour (machine_after behaviour (start host index seed store) events) client call
   always_answered host index seed store events client call =
       let m = start host index seed store in
       call_is_answered (machine_after behaviour m events) client call (events_sound m events (start_sound host index seed store))

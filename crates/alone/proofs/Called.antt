@@ -50,7 +50,8 @@ module _ {A : Type 0} where
   }
 
   -- a call waits
-  waits : (m : Machine A) (t : Table) (xs : List (Instance A)) (client i session : ℕ) (call : Call) → IsQueue m.queue → IsSound (submitted m.queue client i session call) t xs → IsCalled m.queue.next (queued (record m { table = t; instances = xs }) client i session call)
+  waits : (m : Machine A) (t : Table) (xs : List (Instance A)) (client i session : ℕ) (call : Call) → IsQueue m.queue
+      → IsSound (submitted m.queue client i session call) t xs → IsCalled m.queue.next (queued (record m { table = t; instances = xs }) client i session call)
   waits m t xs client i session call old h =
       let o : Operation = record { number = m.queue.next; client = client; session = session; instance = i; progress = Waiting call } in
       record {
@@ -59,7 +60,8 @@ module _ {A : Type 0} where
         owner = each_more (IsOf m.queue.next i) m.queue.operations o (none_next m.queue i old) (λ _. refl);
       }
 
-  opens : (m : Machine A) (client label : ℕ) (ps : Params) → IsSoundMachine m → is_full m.queue ≡ false → (r : Result Admission Refusal) → admission_of m.table client label ≡ r → IsCalled m.queue.next (opened_as m client label ps r)
+  opens : (m : Machine A) (client label : ℕ) (ps : Params) → IsSoundMachine m → is_full m.queue ≡ false → (r : Result Admission Refusal)
+      → admission_of m.table client label ≡ r → IsCalled m.queue.next (opened_as m client label ps r)
   opens m client label ps h free (Err refusal) e = at_once m m.table refusal.code refusal.origin h
   opens m client label ps h free (Ok a) e =
       let after = admitted m client label a in
@@ -79,7 +81,8 @@ module _ {A : Type 0} where
       (λ _. at_once m m.table busy Tee h)
       (λ free. opens m client label ps h free (admission_of m.table client label) refl)))
 
-  invokes : (m : Machine A) (client label command : ℕ) (ps : Params) (s : Session) → IsSoundMachine m → session_of m.table client label ≡ Some s → (state : SessionState) → s.state ≡ state → IsCalled m.queue.next (invoked_at m client (calls.Invoke label command ps) (facts_of s) state)
+  invokes : (m : Machine A) (client label command : ℕ) (ps : Params) (s : Session) → IsSoundMachine m → session_of m.table client label ≡ Some s
+      → (state : SessionState) → s.state ≡ state → IsCalled m.queue.next (invoked_at m client (calls.Invoke label command ps) (facts_of s) state)
   invokes m client label command ps s h e Opening same = at_once m m.table bad_state Api h
   invokes m client label command ps s h e Closing same = at_once m m.table bad_state Api h
   invokes m client label command ps s h e Dead same = at_once m m.table target_dead Tee h
@@ -87,20 +90,25 @@ module _ {A : Type 0} where
       let there : HasSlot m.table s.instance = found_has (λ x. is_dead x.state ≡ false → HasSlot m.table x.instance) (is_known_as client label) m.table.sessions s h.sessions e (ap is_dead same) in
       cond_both (is_full m.queue) (answered_at_once m busy Tee) (queued m client s.instance s.number (calls.Invoke label command ps)) (IsCalled m.queue.next)
       (λ _. at_once m m.table busy Tee h)
-      (λ free. waits m m.table m.instances client s.instance s.number (calls.Invoke label command ps) h.queue (sound_invoke m.queue m.table m.instances client s.instance s.number label command ps h free there))
+      (λ free. waits m m.table m.instances client s.instance s.number (calls.Invoke label command ps) h.queue
+      (sound_invoke m.queue m.table m.instances client s.instance s.number label command ps h free there))
 
-  invokes_in : (m : Machine A) (client label command : ℕ) (ps : Params) → IsSoundMachine m → (o : Option Session) → session_of m.table client label ≡ o → IsCalled m.queue.next (invoked_in m client (calls.Invoke label command ps) (option_map facts_of o))
+  invokes_in : (m : Machine A) (client label command : ℕ) (ps : Params) → IsSoundMachine m → (o : Option Session) → session_of m.table client label ≡ o
+      → IsCalled m.queue.next (invoked_in m client (calls.Invoke label command ps) (option_map facts_of o))
   invokes_in m client label command ps h None e = at_once m m.table bad_state Api h
   invokes_in m client label command ps h (Some s) e = invokes m client label command ps s h e s.state refl
 
-  closes : (m : Machine A) (client label : ℕ) (s : Session) → IsSoundMachine m → session_of m.table client label ≡ Some s → (state : SessionState) → s.state ≡ state → IsCalled m.queue.next (closed_at m client label (facts_of s) state)
+  closes : (m : Machine A) (client label : ℕ) (s : Session) → IsSoundMachine m → session_of m.table client label ≡ Some s → (state : SessionState)
+      → s.state ≡ state → IsCalled m.queue.next (closed_at m client label (facts_of s) state)
   closes m client label s h e Opening same = at_once m m.table bad_state Api h
   closes m client label s h e Closing same = at_once m m.table bad_state Api h
   closes m client label s h e Dead same = at_once m (session_removed m.table s.number) success Tee (sound_dead m.queue m.table m.instances (is_known_as client label) s h e same)
   closes m client label s h e Open same =
-      waits m (state_set m.table s.number Closing) m.instances client s.instance s.number (calls.Close label) h.queue (sound_close m.queue m.table m.instances (is_known_as client label) s client label h e same)
+      waits m (state_set m.table s.number Closing) m.instances client s.instance s.number (calls.Close label) h.queue
+      (sound_close m.queue m.table m.instances (is_known_as client label) s client label h e same)
 
-  closes_in : (m : Machine A) (client label : ℕ) → IsSoundMachine m → (o : Option Session) → session_of m.table client label ≡ o → IsCalled m.queue.next (closed_in m client label (option_map facts_of o))
+  closes_in : (m : Machine A) (client label : ℕ) → IsSoundMachine m → (o : Option Session) → session_of m.table client label ≡ o
+      → IsCalled m.queue.next (closed_in m client label (option_map facts_of o))
   closes_in m client label h None e = at_once m m.table bad_state Api h
   closes_in m client label h (Some s) e = closes m client label s h e s.state refl
 

@@ -2,6 +2,8 @@
 use Rattle.std.proofs.Common.{ℕ, ◌≡◌, ◌+◌, ◌≤◌, ◌==◌, ◌&&◌, ◌||◌, nat_eq, Bool, true, false, not, List, [], ◌∷◌, ◌++◌, filter, map, refl, sym, ap, ◌∙◌, ⊎_elim, arith}
 use Rattle.std.specs.List.{AllByRecursion, list_any}
 use Rattle.std.proofs.lemmas.Bool.{cases_Bool, cond-true, cond-false, cond_both, eqb-true, both_ways}
+use Rattle.instances.specs.declared.session.Slot.{Slot}
+use Rattle.instances.specs.Instances.{with_ending}
 use Rattle.alone.proofs.Totals.{bit, total}
 
 pub each_filter : {X : Type 0} (P : X → Type 0) (p : X → Bool) (xs : List X) → AllByRecursion P xs → AllByRecursion P (filter p xs)
@@ -59,6 +61,14 @@ pub numbers_push : {X : Type 0} (number : X → ℕ) (xs : List X) (y : X) → m
 numbers_push number [] y = refl
 numbers_push number (x ∷ xs) y = ap (λ ns. number x ∷ ns) (numbers_push number xs y)
 
+pub ending_numbers : (i : ℕ) (slots : List Slot) → map (λ s. s.number) (map (with_ending i) slots) ≡ map (λ s. s.number) slots
+ending_numbers i [] = refl
+ending_numbers i (slot ∷ slots) =
+    cond_both (slot.number == i) (record slot { ending = true }) slot
+    (λ (s : Slot). s.number ∷ map (λ (s : Slot). s.number) (map (with_ending i) slots) ≡ slot.number ∷ map (λ (s : Slot). s.number) slots)
+    (λ _. ap (λ ns. slot.number ∷ ns) (ending_numbers i slots))
+    (λ _. ap (λ ns. slot.number ∷ ns) (ending_numbers i slots))
+
 -- another number stays where one goes
 pub stays_there : (i k : ℕ) (ns : List ℕ) → (i == k) ≡ false → list_any (nat_eq i) ns ≡ true → list_any (nat_eq i) (filter (λ n. not (n == k)) ns) ≡ true
 stays_there i k [] apart h = h
@@ -107,3 +117,7 @@ bit_when false b h = absurd (both_ways _ refl h)
 pub bit_unless : (a b c : Bool) → (a ≡ false → bit b ≤ bit c) → bit (not a && b) ≤ bit c
 bit_unless true b c h = omega arith
 bit_unless false b c h = h refl
+
+pub or_later : (a b : Bool) → b ≡ true → (a || b) ≡ true
+or_later true b h = refl
+or_later false b h = h

@@ -6,14 +6,16 @@ use Rattle.alone.specs.declared.running.Instance.{Instance}
 use Rattle.alone.specs.Machine.{is_number, put_instance}
 use Rattle.alone.proofs.Totals.{total, found_here, found_later, nothing_found}
 
-pub found_at : {A : Type 0} (i : ℕ) (xs : List (Instance A)) (place : ℕ) (d : Instance A) → place < length xs → ((k : ℕ) → k < place → is_number i (get_or xs k d) ≡ false) → is_number i (get_or xs place d) ≡ true → find (is_number i) xs ≡ Some (get_or xs place d)
+pub found_at : {A : Type 0} (i : ℕ) (xs : List (Instance A)) (place : ℕ) (d : Instance A) → place < length xs
+    → ((k : ℕ) → k < place → is_number i (get_or xs k d) ≡ false) → is_number i (get_or xs place d) ≡ true → find (is_number i) xs ≡ Some (get_or xs place d)
 found_at i [] place d within before here = absurd (omega arith)
 found_at i (x ∷ xs) zero d within before here = ap (λ b. cond b (Some x) (find (is_number i) xs)) here
 found_at i (x ∷ xs) (suc place) d within before here =
     ap (λ b. cond b (Some x) (find (is_number i) xs)) (before 0 (omega arith))
     ∙ found_at i xs place d (omega arith) (λ k lt. before (suc k) (omega arith)) here
 
-pub put_at : {A : Type 0} (new : Instance A) (xs : List (Instance A)) (place : ℕ) (d : Instance A) → place < length xs → ((k : ℕ) → k < place → is_number new.number (get_or xs k d) ≡ false) → is_number new.number (get_or xs place d) ≡ true → put_instance new xs ≡ set xs place new
+pub put_at : {A : Type 0} (new : Instance A) (xs : List (Instance A)) (place : ℕ) (d : Instance A) → place < length xs
+    → ((k : ℕ) → k < place → is_number new.number (get_or xs k d) ≡ false) → is_number new.number (get_or xs place d) ≡ true → put_instance new xs ≡ set xs place new
 put_at new [] place d within before here = absurd (omega arith)
 put_at new (x ∷ xs) zero d within before here = ap (λ b. cond b (new ∷ xs) (x ∷ put_instance new xs)) here
 put_at new (x ∷ xs) (suc place) d within before here =
@@ -40,7 +42,8 @@ found_number i [] inst found = absurd (nothing inst found)
     nothing : {A : Type 0} (inst : Instance A) → None ≡ Some inst → ⊥
     nothing inst e = cc
 found_number i (x ∷ xs) inst found = ⊎_elim
-    (λ (yes : is_number i x ≡ true). let same : Some x ≡ Some inst = sym (cond-true (is_number i x) (Some x) (find (is_number i) xs) yes) ∙ found in let here : x ≡ inst = cc in ap (λ (y : Instance _). y.number) (sym here) ∙ eqb-true x.number i yes)
+    (λ (yes : is_number i x ≡ true). let same : Some x ≡ Some inst = sym (cond-true (is_number i x) (Some x) (find (is_number i) xs) yes)
+    ∙ found in let here : x ≡ inst = cc in ap (λ (y : Instance _). y.number) (sym here) ∙ eqb-true x.number i yes)
     (λ (no : is_number i x ≡ false). found_number i xs inst (sym (cond-false (is_number i x) (Some x) (find (is_number i) xs) no) ∙ found))
     (cases_Bool (is_number i x))
 
@@ -79,7 +82,8 @@ put_found i x (y ∷ ys) found = ⊎_elim
     (cases_Bool (is_number i y))
 
 -- an instance that is put changes nothing for the others
-pub filter_put : {A : Type 0} (i : ℕ) (new : Instance A) (xs : List (Instance A)) → new.number ≡ i → filter (λ other. not (is_number i other)) (put_instance new xs) ≡ filter (λ other. not (is_number i other)) xs
+pub filter_put : {A : Type 0} (i : ℕ) (new : Instance A) (xs : List (Instance A)) → new.number ≡ i
+    → filter (λ other. not (is_number i other)) (put_instance new xs) ≡ filter (λ other. not (is_number i other)) xs
 filter_put i new [] same = refl
 filter_put i new (x ∷ xs) same = ⊎_elim
     (λ (yes : (x.number == i) ≡ true).
@@ -111,7 +115,8 @@ find_put i new old (x ∷ xs) same found = ⊎_elim
     (cases_Bool (x.number == i))
 
 -- a sum changes by what the instance that is put has more than the one that was found
-pub total_put : {A : Type 0} (f : Instance A → ℕ) (new old : Instance A) (xs : List (Instance A)) → find (is_number new.number) xs ≡ Some old → total f (put_instance new xs) + f old ≡ total f xs + f new
+pub total_put : {A : Type 0} (f : Instance A → ℕ) (new old : Instance A) (xs : List (Instance A)) → find (is_number new.number) xs ≡ Some old
+    → total f (put_instance new xs) + f old ≡ total f xs + f new
 total_put f new old [] found = absurd (nothing_found old found)
 total_put f new old (x ∷ xs) found = ⊎_elim
     (λ (yes : (x.number == new.number) ≡ true).

@@ -18,7 +18,7 @@ use Rattle.alone.specs.Machine.{is_number}
 use Rattle.alone.proofs.Totals.{bit, total, having, having_once, found_here, found_later, nothing_found, total_both, total_map}
 use Rattle.alone.proofs.Each.{each_weaker}
 use Rattle.alone.proofs.Lists.{number_found, found_number}
-use Rattle.alone.proofs.Sound.{IsSound, HasSlot, Run, run_of, run_of_progress, run_of_entry, run_in, weigh, runs_by}
+use Rattle.alone.proofs.Sound.{IsSound, HasSlot, Run, entry_le, entry_none, run_of, run_of_progress, weigh, weigh_entry, weigh_in, runs_by}
 
 -- ---- one entry
 
@@ -27,12 +27,13 @@ abbrev pub turns_left : Waits → ℕ → ℕ
 turns_left (waits.Given given) more = more + 2
 turns_left (waits.Ask ask) more = more + 1
 
--- behind create comes start
+-- behind create come start and destroy, and behind start and stop comes destroy
 abbrev pub turns_behind : Stage → ℕ
-turns_behind (stages.Create session ps) = 131074
-turns_behind (stages.Start session places) = 0
+turns_behind (stages.Create session ps places) = 262148
+turns_behind (stages.Start session places) = 131074
 turns_behind (stages.Invoke session places) = 0
-turns_behind (stages.Stop session) = 0
+turns_behind (stages.Stop session) = 131074
+turns_behind (stages.Destroy reply) = 0
 
 -- an ask and its answer take two turns, and it makes 65,536 at most
 abbrev pub turns_for : Running → ℕ
@@ -46,13 +47,14 @@ left_most : (w : Waits) (k : ℕ) → turns_left w k ≤ k + 2
 left_most (waits.Given given) k = omega arith
 left_most (waits.Ask ask) k = omega arith
 
-behind_most : (stage : Stage) → turns_behind stage ≤ 131074
-behind_most (stages.Create session ps) = omega arith
+behind_most : (stage : Stage) → turns_behind stage ≤ 262148
+behind_most (stages.Create session ps places) = omega arith
 behind_most (stages.Start session places) = omega arith
 behind_most (stages.Invoke session places) = omega arith
 behind_most (stages.Stop session) = omega arith
+behind_most (stages.Destroy reply) = omega arith
 
-pub turns_most : (r : Running) → turns_for r ≤ 262148
+pub turns_most : (r : Running) → turns_for r ≤ 393222
 turns_most r = omega (arith, left_most r.waits (2 * (65536 - r.asks)), behind_most r.stage)
 
 -- ---- an instance
@@ -71,18 +73,18 @@ waiting i os = total (λ o. bit (waits_for i o)) os
 
 -- one that waits has more turns than one that has begun
 abbrev pub measure : {A : Type 0} → ℕ → Queue → List (Instance A) → ℕ
-measure i q xs = 262149 * waiting i q.operations + left_in (find (is_number i) xs)
+measure i q xs = 393223 * waiting i q.operations + left_in (find (is_number i) xs)
 
-left_of_most : (o : Option Running) → left_of o ≤ 262148
+left_of_most : (o : Option Running) → left_of o ≤ 393222
 left_of_most None = omega arith
 left_of_most (Some r) = turns_most r
 
-left_in_most : {A : Type 0} (o : Option (Instance A)) → left_in o ≤ 262148
+left_in_most : {A : Type 0} (o : Option (Instance A)) → left_in o ≤ 393222
 left_in_most None = omega arith
 left_in_most (Some inst) = left_of_most inst.running
 
 -- where 24 wait at most, the turns of a call are enough
-pub measure_most : {A : Type 0} (i : ℕ) (q : Queue) (xs : List (Instance A)) → waiting i q.operations ≤ 24 → measure i q xs ≤ 6553724
+pub measure_most : {A : Type 0} (i : ℕ) (q : Queue) (xs : List (Instance A)) → waiting i q.operations ≤ 24 → measure i q xs ≤ 9830574
 measure_most i q xs few = omega (arith, left_in_most (find (is_number i) xs), few)
 
 -- ---- where no turns are left
@@ -97,7 +99,8 @@ module _ {A : Type 0} where
       omega (arith, once, here, there, ap (total (λ n. bit (n == i))) h.numbers)
 
   -- the sum of a measure that only one instance has
-  found_alone : (f : Instance A → ℕ) (i : ℕ) (xs : List (Instance A)) (inst : Instance A) → having (λ x. x.number) i xs ≤ 1 → find (is_number i) xs ≡ Some inst → ((x : Instance A) → (x.number == i) ≡ false → f x ≡ 0) → total f xs ≡ f inst
+  found_alone : (f : Instance A → ℕ) (i : ℕ) (xs : List (Instance A)) (inst : Instance A) → having (λ x. x.number) i xs ≤ 1 → find (is_number i) xs ≡ Some inst
+      → ((x : Instance A) → (x.number == i) ≡ false → f x ≡ 0) → total f xs ≡ f inst
   found_alone f i [] inst once e others = absurd (nothing_found inst e)
   found_alone f i (x ∷ xs) inst once e others = ⊎_elim
       (λ (yes : (x.number == i) ≡ true).
@@ -115,17 +118,18 @@ module _ {A : Type 0} where
           (cases_Bool (y.number == i))
 
   -- an instance that runs nothing has no operation that runs
-  idle_runs_none : (q : Queue) (t : Table) (xs : List (Instance A)) (inst : Instance A) → IsSound q t xs → find (is_number inst.number) xs ≡ Some inst → inst.running ≡ None → runs_by (λ c. c.instance == inst.number) q.operations ≡ 0
+  idle_runs_none : (q : Queue) (t : Table) (xs : List (Instance A)) (inst : Instance A) → IsSound q t xs → find (is_number inst.number) xs ≡ Some inst
+      → inst.running ≡ None → runs_by (λ c. c.instance == inst.number) q.operations ≡ 0
   idle_runs_none q t xs inst h found idle =
       let i = inst.number in
       let p : Run → Bool = λ c. c.instance == i in
-      let here : weigh p (run_in inst) ≡ 0 = ap (λ r. weigh p (run_of_entry i r)) idle in
-      let alone = found_alone (λ (x : Instance A). weigh p (run_in x)) i xs inst (instances_once q t xs h i) found (λ x other. elsewhere x.running x.number other) in
+      let here : weigh_in p inst ≡ 0 = ap (weigh_entry p i) idle in
+      let alone = found_alone (λ (x : Instance A). weigh_in p x) i xs inst (instances_once q t xs h i) found (λ x other. elsewhere x.running x.number other) in
       omega (arith, here, alone, h.runs p)
     where
-      elsewhere : (o : Option Running) (k : ℕ) → (k == inst.number) ≡ false → weigh (λ c. c.instance == inst.number) (run_of_entry k o) ≡ 0
-      elsewhere None k other = refl
-      elsewhere (Some r) k other = ap bit other
+      elsewhere : (o : Option Running) (k : ℕ) → (k == inst.number) ≡ false → weigh_entry (λ c. c.instance == inst.number) k o ≡ 0
+      elsewhere o k other =
+          omega (arith, entry_le (λ c. c.instance == inst.number) (λ c. false) k o (λ c same. omega (arith, ap (λ n. bit (n == inst.number)) same, ap bit other)), entry_none k o)
 
 -- an operation is one that waits or one that runs
 either : (i op k : ℕ) (progress : Progress) → (k == i) ≡ true → bit ((k == i) && not (is_running progress)) + weigh (λ c. c.instance == i) (run_of_progress op k progress) ≡ 1
@@ -159,7 +163,8 @@ module _ {A : Type 0} where
       (λ o there same. number_found i xs (ap (list_any (nat_eq i)) h.numbers ∙ subst (HasSlot t) same there) none) h.operations
 
   -- an instance that runs nothing, and for which none waits, has no operations
-  none_left : (q : Queue) (t : Table) (xs : List (Instance A)) (inst : Instance A) → IsSound q t xs → find (is_number inst.number) xs ≡ Some inst → inst.running ≡ None → waiting inst.number q.operations ≡ 0 → AllByRecursion (IsElsewhere inst.number) q.operations
+  none_left : (q : Queue) (t : Table) (xs : List (Instance A)) (inst : Instance A) → IsSound q t xs → find (is_number inst.number) xs ≡ Some inst
+      → inst.running ≡ None → waiting inst.number q.operations ≡ 0 → AllByRecursion (IsElsewhere inst.number) q.operations
   none_left q t xs inst h found idle none =
       let i = inst.number in
       let f : Operation → ℕ = λ o. bit (waits_for i o) + weigh (λ c. c.instance == i) (run_of o) in

@@ -1,22 +1,29 @@
--- What comes of an ask leaves sessions, instances and operations as they were, and is an answer only where fewer asks were made than may be.
-use Rattle.std.proofs.Common.{ℕ, ◌≡◌, ◌<◌, nat_le, refl}
+-- What comes of an ask leaves sessions and instances as they were, and of the operations no more than their masks; and it is an answer
+-- only where fewer asks were made than may be.
+use Rattle.std.proofs.Common.{ℕ, ◌≡◌, ◌<◌, Bool, true, false, nat_le, refl}
 use Rattle.std.proofs.lemmas.Bool.{cond_both, leb-false}
+use Rattle.tee_base.specs.declared.codes.Code.{Code}
+use Rattle.tee_base.specs.declared.limits.TheConstants.{ASKS}
 use Rattle.app_api.specs.declared.ask.Ask.{Ask}
 use Rattle.app_api.specs.declared.ask.Ask.TheVariants as asked
 use Rattle.app_api.specs.declared.out.Outs.{Outs}
-use Rattle.tee_base.specs.declared.codes.Code.{Code}
 use Rattle.object_asks.specs.Asks.{Outcome, Answered, Returned, Panicked, Course, Settled, ComesToStore, Serving, Serves, Fails, Damaged, Objects, course_in, object_course, outcome_in, refused}
 use Rattle.object_asks.specs.Codes.{storage_not_available}
+use Rattle.alone.specs.declared.family.Family.{Family}
+use Rattle.alone.specs.declared.family.Family.TheVariants as families
+use Rattle.alone.specs.declared.running.Running.{Running}
 use Rattle.alone.specs.declared.running.Stage.{Stage}
+use Rattle.alone.specs.Asks.{course, course_after, course_in_family, entry_course, mask_course, objects_of, return_course, with_objects}
+use Rattle.alone.specs.Families.{family_of}
 use Rattle.alone.specs.Machine.{Machine}
 use Rattle.alone.specs.Places.{is_misuse, places_at}
-use Rattle.alone.specs.Asks.{objects_of, with_objects, course, course_after, return_course}
 use Rattle.alone.specs.Step.{served}
+use Rattle.alone.proofs.Within.{IsWithin, within_mask_for, within_same}
 
 -- a machine that an answer leaves
 pub record IsLike {A : Type 0} (m : Machine A) (made : ℕ) (after : Machine A) : Type 0 where
-  pub few : made < 65536
-  pub queue : after.queue ≡ m.queue
+  pub few : made < ASKS
+  pub queue : IsWithin m.queue after.queue
   pub table : after.table ≡ m.table
   pub instances : after.instances ≡ m.instances
 
@@ -30,28 +37,35 @@ CourseLike m made (Settled outcome) = OutcomeLike m made outcome
 CourseLike m made (ComesToStore kept plain) = IsLike m made kept × OutcomeLike m made plain
 
 module _ {A : Type 0} (m : Machine A) (made : ℕ) where
-  objects_like : (o : Objects) → made < 65536 → IsLike m made (with_objects m o)
-  objects_like o few = record { few = few; queue = refl; table = refl; instances = refl }
+  objects_like : (o : Objects) → made < ASKS → IsLike m made (with_objects m o)
+  objects_like o few = record { few = few; queue = within_same m.queue; table = refl; instances = refl }
 
-  outcome_like : (o : Outcome Objects) → made < 65536 → OutcomeLike m made (outcome_in (with_objects m) o)
+  outcome_like : (o : Outcome Objects) → made < ASKS → OutcomeLike m made (outcome_in (with_objects m) o)
   outcome_like (Answered after answer) few = objects_like after few
   outcome_like (Returned code outs) few = tt
   outcome_like Panicked few = tt
 
-  course_in_like : (c : Course Objects) → made < 65536 → CourseLike m made (course_in (with_objects m) c)
+  course_in_like : (c : Course Objects) → made < ASKS → CourseLike m made (course_in (with_objects m) c)
   course_in_like (Settled outcome) few = outcome_like outcome few
   course_in_like (ComesToStore kept plain) few = (objects_like kept few, outcome_like plain few)
 
   return_like : (stage : Stage) (code : Code) (outs : Outs) → CourseLike m made (return_course stage code outs)
   return_like stage code outs = cond_both (is_misuse (places_at stage) outs) (Settled Panicked) (Settled (Returned code outs)) (CourseLike m made) (λ _. tt) (λ _. tt)
 
-  course_like : (i : ℕ) (stage : Stage) (ask : Ask) → made < 65536 → CourseLike m made (course m i stage ask)
-  unfolding course
-  course_like i stage (asked.Return code outs) few = return_like stage code outs
-  course_like i stage ask few = course_in_like (object_course (objects_of m) i ask) few
+  mask_like : (r : Running) (value : Bool) → made < ASKS → CourseLike m made (mask_course m r value)
+  mask_like r value few = record { few = few; queue = within_mask_for m.queue r.op value; table = refl; instances = refl }
 
-  after_like : (i : ℕ) (stage : Stage) (ask : Ask) → CourseLike m made (course_after made m i stage ask)
-  after_like i stage ask = cond_both (nat_le 65536 made) (Settled Panicked) (course m i stage ask) (CourseLike m made) (λ _. tt) (λ few. course_like i stage ask (leb-false 65536 made few))
+  entry_like : (r : Running) (ask : Ask) → made < ASKS → CourseLike m made (entry_course m r ask)
+  entry_like r (asked.Return code outs) few = return_like r.stage code outs
+  entry_like r asked.CancelFlag few = record { few = few; queue = within_same m.queue; table = refl; instances = refl }
+  entry_like r asked.CancelMask few = mask_like r true few
+  entry_like r asked.CancelUnmask few = mask_like r false few
+  entry_like r ask few = tt
+
+  family_like : (i : ℕ) (r : Running) (ask : Ask) (family : Family) → made < ASKS → CourseLike m made (course_in_family family m i r ask)
+  family_like i r ask families.Entry few = entry_like r ask few
+  family_like i r ask families.Objects few = course_in_like (object_course (objects_of m) i ask) few
+  family_like i r ask families.Unbuilt few = tt
 
   served_like : (serving : Serving) (ask : Ask) (c : Course (Machine A)) → CourseLike m made c → OutcomeLike m made (served serving m ask c)
   served_like serving ask (Settled outcome) h = h
@@ -59,5 +73,10 @@ module _ {A : Type 0} (m : Machine A) (made : ℕ) where
   served_like Fails ask (ComesToStore kept plain) h = record { few = h.0.few; queue = h.0.queue; table = h.0.table; instances = h.0.instances }
   served_like Damaged ask (ComesToStore kept plain) h = h.0
 
-  pub ask_like : (serving : Serving) (i : ℕ) (stage : Stage) (ask : Ask) → OutcomeLike m made (served serving m ask (course_after made m i stage ask))
-  ask_like serving i stage ask = served_like serving ask (course_after made m i stage ask) (after_like i stage ask)
+module _ {A : Type 0} (m : Machine A) where
+  after_like : (i : ℕ) (r : Running) (ask : Ask) → CourseLike m r.asks (course_after m i r ask)
+  after_like i r ask = cond_both (nat_le ASKS r.asks) (Settled Panicked) (course m i r ask) (CourseLike m r.asks) (λ _. tt)
+      (λ few. family_like m r.asks i r ask (family_of ask) (leb-false ASKS r.asks few))
+
+  pub ask_like : (serving : Serving) (i : ℕ) (r : Running) (ask : Ask) → OutcomeLike m r.asks (served serving m ask (course_after m i r ask))
+  ask_like serving i r ask = served_like m r.asks serving ask (course_after m i r ask) (after_like i r ask)

@@ -2,8 +2,6 @@
 -- few operations are unanswered.
 use Rattle.app_api.specs.Behaviours.{Behaviour}
 use Rattle.std.specs.Prelude.{ℕ, ◌≡◌, ◌≤◌, true, not, ◌∷◌, length, count_by}
-use Rattle.app_api.specs.declared.ask.Ask.{Ask}
-use Rattle.app_api.specs.declared.ask.Given.{Given}
 use Rattle.app_api.specs.declared.call.Call.{Call}
 use Rattle.op_queue.specs.Queue.{is_close}
 use Rattle.alone.specs.Machine.{Machine}

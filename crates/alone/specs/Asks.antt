@@ -1,35 +1,104 @@
--- What comes of an ask of an instance: of a return, or of an ask about objects (TEE Internal Core API 1.3, sections 4.3, 5.7 and 5.9).
-use Rattle.std.specs.Prelude.{ℕ, nat_le, if◌then◌else◌}
+-- What comes of an ask of an instance: of a return, of an ask about cancellation, or of one about objects (TEE Internal Core API 1.3,
+-- sections 4.3, 4.8, 4.10, 5.7 and 5.9).
+use Rattle.std.specs.Prelude.{ℕ, Bool, true, false, nat_le, Option, None, Some, if◌then◌else◌}
 use Rattle.tee_base.specs.declared.codes.Code.{Code}
+use Rattle.tee_base.specs.declared.codes.TheConstants.Code.{CANCEL}
+use Rattle.tee_base.specs.declared.limits.TheConstants.{ASKS}
 use Rattle.app_api.specs.declared.ask.Ask.{Ask}
 use Rattle.app_api.specs.declared.ask.Ask.TheVariants as asked
+use Rattle.app_api.specs.declared.ask.Answer.TheVariants as answers
 use Rattle.app_api.specs.declared.out.Outs.{Outs}
-use Rattle.object_asks.specs.Asks.{Returned, Panicked, Course, Settled, Objects, course_in, object_course}
+use Rattle.app_api.specs.Outs.{no_outs}
+use Rattle.object_asks.specs.Asks.{Answered, Returned, Panicked, Course, Settled, Objects, course_in, object_course}
+use Rattle.object_asks.specs.Codes.{not_implemented}
 use Rattle.object_asks.specs.Serving.{plainly}
+use Rattle.object_asks.specs.declared.outcome.Ending.{Ending}
 use Rattle.object_asks.specs.declared.outcome.Outcome.TheVariants as outcomes
 use Rattle.object_asks.specs.declared.outcome.Served.{Served}
+use Rattle.op_queue.specs.Queue.{Queue, flag_of, mask_at, mask_set}
+use Rattle.alone.specs.declared.family.Family.{Family}
+use Rattle.alone.specs.declared.family.Family.TheVariants as families
+use Rattle.alone.specs.declared.family.Family.TheVariants.{Entry, Unbuilt}
+use Rattle.alone.specs.declared.running.Running.{Running}
 use Rattle.alone.specs.declared.running.Stage.{Stage}
+use Rattle.alone.specs.Families.{family_of}
 use Rattle.alone.specs.Machine.{Machine}
 use Rattle.alone.specs.Places.{is_misuse, places_at}
 
+-- an operation that was cancelled before it began is answered with this
+abbrev pub cancel : Code
+cancel = CANCEL
+
+-- ---- objects
+
 abbrev pub objects_of : {A : Type 0} → Machine A → Objects
-objects_of m = record { store = m.store; handles = m.handles }
+objects_of m = record { store = m.store; held = m.held }
 
 abbrev pub with_objects : {A : Type 0} → Machine A → Objects → Machine A
-with_objects m o = record m { store = o.store; handles = o.handles }
+with_objects m o = record m { store = o.store; held = o.held }
+
+-- ---- cancellation
+
+-- the entry reads that a cancellation was requested: never where it has no operation
+abbrev pub flag_for : Queue → Option ℕ → Bool
+flag_for q None = false
+flag_for q (Some op) = flag_of q op
+
+-- cancellation is masked for the entry; one without an operation has a mask of its own
+abbrev pub mask_for : Queue → Option ℕ → Bool → Bool
+mask_for q None own = own
+mask_for q (Some op) own = mask_at q op
+
+abbrev pub mask_set_for : Queue → Option ℕ → Bool → Queue
+mask_set_for q None masked = q
+mask_set_for q (Some op) masked = mask_set q op masked
+
+-- CancelMask and CancelUnmask answer the mask that was, and set it
+abbrev pub mask_course : {A : Type 0} → Machine A → Running → Bool → Course (Machine A)
+mask_course m r masked =
+    Settled (Answered (record m { queue = mask_set_for m.queue r.op masked }) (answers.Truth (mask_for m.queue r.op r.masked)))
+
+-- the entry's own mask after an ask
+abbrev pub mask_after : Bool → Ask → Bool
+mask_after masked asked.CancelMask = true
+mask_after masked asked.CancelUnmask = false
+mask_after masked ask = masked
+
+abbrev pub mask_noted : Running → Ask → Running
+mask_noted r ask = record { op = r.op; stage = r.stage; waits = r.waits; asks = r.asks; masked = mask_after r.masked ask }
+
+-- ---- the family
+
+-- how an entry ends at an ask that isn't built
+abbrev pub not_built : Ending
+not_built = record { code = not_implemented; outs = no_outs }
 
 -- what an entry returns, unless its outputs are misuse
 abbrev pub return_course : {S : Type 0} → Stage → Code → Outs → Course S
 return_course stage code outs = if is_misuse (places_at stage) outs then Settled Panicked else Settled (Returned code outs)
 
--- how the ask goes that an instance makes in an entry of this stage
-unfoldable pub course : {A : Type 0} → Machine A → ℕ → Stage → Ask → Course (Machine A)
-course m i stage (asked.Return code outs) = return_course stage code outs
-course m i stage ask = course_in (with_objects m) (object_course (objects_of m) i ask)
+-- an ask about the entry itself; one of another family doesn't come here
+abbrev pub entry_course : {A : Type 0} → Machine A → Running → Ask → Course (Machine A)
+entry_course m r (asked.Return code outs) = return_course r.stage code outs
+entry_course m r (asked.Panic code) = Settled Panicked
+entry_course m r asked.CancelFlag = Settled (Answered m (answers.Truth (flag_for m.queue r.op)))
+entry_course m r asked.CancelMask = mask_course m r true
+entry_course m r asked.CancelUnmask = mask_course m r false
+entry_course m r ask = Settled Panicked
 
--- the same where the entry has made so many asks before: no more than 65,536
-abbrev pub course_after : {A : Type 0} → ℕ → Machine A → ℕ → Stage → Ask → Course (Machine A)
-course_after made m i stage ask = if nat_le 65536 made then Settled Panicked else course m i stage ask
+-- how an ask of a family goes
+abbrev pub course_in_family : {A : Type 0} → Family → Machine A → ℕ → Running → Ask → Course (Machine A)
+course_in_family Entry m i r ask = entry_course m r ask
+course_in_family families.Objects m i r ask = course_in (with_objects m) (object_course (objects_of m) i ask)
+course_in_family Unbuilt m i r ask = Settled (Returned not_built.code not_built.outs)
+
+-- how the ask goes that an instance makes in this entry
+abbrev pub course : {A : Type 0} → Machine A → ℕ → Running → Ask → Course (Machine A)
+course m i r ask = course_in_family (family_of ask) m i r ask
+
+-- the same where an entry that has made all its asks panics, whatever it asks
+abbrev pub course_after : {A : Type 0} → Machine A → ℕ → Running → Ask → Course (Machine A)
+course_after m i r ask = if nat_le ASKS r.asks then Settled Panicked else course m i r ask
 
 -- what comes of the return of an entry of this stage
 abbrev pub return_of : Stage → Code → Outs → Served

@@ -1,6 +1,9 @@
 pub mod Answering
 pub mod Asks
+pub mod Families
 pub mod InList
+pub mod Kinds
+pub mod Laws
 pub mod Machine
 pub mod Places
 pub mod Replies

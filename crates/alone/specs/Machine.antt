@@ -4,24 +4,33 @@ use Rattle.app_api.specs.declared.host.Host.{Host}
 use Rattle.instances.specs.Instances.{Table, no_instances}
 use Rattle.op_queue.specs.Queue.{Queue, empty_queue}
 use Rattle.store_api.specs.Stores.{Store}
-use Rattle.handle_table.specs.declared.handle.Entry.{Entry}
+use Rattle.object_asks.specs.Held.{Held, nothing_held}
+use Rattle.operation_asks.specs.Asks.{CryptoState, no_operations}
 use Rattle.alone.specs.declared.running.Instance.{Instance}
 
--- one application's machine: what its instances begin as, its index among the hosts, the seed, the sessions, the instances,
--- the unanswered operations, how many turns were made; its objects, whether the storage is lost, the store that a change left
--- of which isn't known whether it is kept, if there is one, and the object handles of all instances
+-- one application's machine
 pub record Machine (A : Type 0) : Type 0 where
+  -- what its instances begin as, its index among the hosts, the seed of its random bytes
   pub template : A
   pub index : ℕ
   pub seed : List ℕ
+  -- how often the power was lost
+  pub boot : ℕ
+  -- its properties, its sessions, and which instances there are
   pub table : Table
   pub instances : List (Instance A)
+  -- the unanswered operations, and the number of the next
   pub queue : Queue
+  -- how many turns were made
   pub turns : ℕ
+  -- its objects, whether the storage is lost, and the store that a change left of which isn't known whether it is kept
   pub store : Store
   pub lost : Bool
   pub in_doubt : Option Store
-  pub handles : List Entry
+  -- handles, keys in memory and enumerators of all instances
+  pub held : Held
+  -- crypto operations of all instances, and the stream of random bytes
+  pub crypto : CryptoState
 
 -- how each machine begins, over a store
 abbrev pub start : {A : Type 0} → Host A → ℕ → List ℕ → Store → Machine A
@@ -29,6 +38,7 @@ start host index seed store = record {
   template = host.template;
   index = index;
   seed = seed;
+  boot = 0;
   table = no_instances host.properties;
   instances = [];
   queue = empty_queue;
@@ -36,7 +46,8 @@ start host index seed store = record {
   store = store;
   lost = false;
   in_doubt = None;
-  handles = [];
+  held = nothing_held;
+  crypto = no_operations seed index 0;
 }
 
 abbrev pub is_number : {A : Type 0} → ℕ → Instance A → Bool

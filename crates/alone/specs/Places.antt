@@ -1,5 +1,6 @@
 -- Where outputs are delivered, and what a client is shown (TEE Client API 1.0, sections 3.2.3 and 4.5.6; TEE Internal Core API 1.3, section 4.3.6.4).
 use Rattle.std.specs.Prelude.{ℕ, min, ◌-◌, ◌^◌, Bool, false, ◌||◌, nat_le, nat_lt, List, [], if◌then◌else◌, length}
+use Rattle.tee_base.specs.declared.limits.TheConstants.{ASK_BYTES}
 use Rattle.app_api.specs.declared.param.Param.{Param}
 use Rattle.app_api.specs.declared.param.Params.{Params}
 use Rattle.app_api.specs.declared.param.Param.TheVariants as params
@@ -74,11 +75,11 @@ is_misused_at (places.ValueInOut a b) out = false
 is_misused_at (places.Mem room) out = is_small_size room out
 is_misused_at (places.MemInOut bytes) out = is_small_size (length bytes) out
 
--- more than 524,288 bytes
+-- more than a memory reference may have
 abbrev pub is_too_long : Out → Bool
 is_too_long outs.Nothing = false
 is_too_long (outs.Value a b) = false
-is_too_long (outs.Mem bytes) = nat_lt 524288 (length bytes)
+is_too_long (outs.Mem bytes) = nat_lt ASK_BYTES (length bytes)
 is_too_long (outs.Size n) = false
 
 -- the outputs of a return are misuse
@@ -89,7 +90,8 @@ is_misuse ps os =
 
 -- the output positions of the entry that runs
 abbrev pub places_at : Stage → Places
-places_at (stages.Create session ps) = no_places
+places_at (stages.Create session ps places) = no_places
 places_at (stages.Start session ps) = ps
 places_at (stages.Invoke session ps) = ps
 places_at (stages.Stop session) = no_places
+places_at (stages.Destroy reply) = no_places

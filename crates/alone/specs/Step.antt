@@ -1,7 +1,8 @@
--- One step of the machine: a client's call, a turn of an instance, or the loss of the storage. Numbers of sections are those of TEE Internal Core API 1.3
--- (instances and sessions: 2.1.3; entry points: 4.3) and TEE Client API 1.0 (calls: 4.5.5 to 4.5.7; origins: 4.4.3).
+-- One step of the machine: a client's call or its cancellation, a turn of an instance, the loss of the storage and of the power.
+-- Numbers of sections are those of TEE Internal Core API 1.3 (instances and sessions: 2.1.3; panics: 2.3.3; entry points: 4.3;
+-- cancellation: 4.10) and TEE Client API 1.0 (calls: 4.5.5 to 4.5.8; origins: 4.4.3).
 use Rattle.app_api.specs.Behaviours.{Behaviour}
-use Rattle.std.specs.Prelude.{ℕ, ◌+◌, ◌==◌, Bool, true, false, not, ◌&&◌, List, [], ◌∷◌, ◌++◌, Option, None, Some, Result, Ok, Err, is_some, nat_lt, option_map, if◌then◌else◌, filter, map}
+use Rattle.std.specs.Prelude.{ℕ, ◌+◌, ◌==◌, Bool, true, false, not, ◌&&◌, List, [], ◌∷◌, ◌++◌, Option, None, Some, Result, Ok, Err, is_some, nat_lt, option_map, option_to_list, if◌then◌else◌, filter, map}
 use Rattle.tee_base.specs.declared.codes.Code.{Code}
 use Rattle.tee_base.specs.declared.codes.Origin.{Origin}
 use Rattle.tee_base.specs.declared.codes.Origin.TheVariants.{Api, Tee, App}
@@ -15,31 +16,34 @@ use Rattle.app_api.specs.declared.ask.Entry.TheVariants as entries
 use Rattle.app_api.specs.declared.ask.Ask.{Ask}
 use Rattle.app_api.specs.declared.out.Outs.{Outs}
 use Rattle.app_api.specs.Params.{first_oversized}
-use Rattle.app_api.specs.Outs.{no_outs}
 use Rattle.instances.specs.declared.instances.Admission.{Admission}
 use Rattle.instances.specs.declared.instances.Refusal.{Refusal}
 use Rattle.instances.specs.declared.session.SessionFacts.{SessionFacts}
 use Rattle.instances.specs.declared.session.SessionState.{SessionState}
 use Rattle.instances.specs.declared.session.SessionState.TheVariants.{Opening, Open, Closing, Dead}
-use Rattle.instances.specs.Instances.{session_of, facts_of, admission_of, entered, state_set, session_removed, ended}
+use Rattle.instances.specs.Instances.{session_of, facts_of, admission_of, entered, state_set, session_removed, ended, has_session, is_left, destroy_begun, no_instances}
 use Rattle.op_queue.specs.declared.operation.Operation.{Operation}
 use Rattle.op_queue.specs.declared.operation.Begun.{Begun}
-use Rattle.op_queue.specs.Queue.{is_full, submitted, skipped, first_waiting, begun_at, after_begin, without, operation_of, facts_of as operation_facts}
+use Rattle.op_queue.specs.declared.operation.Cancelled.{Cancelled as Cancellation}
+use Rattle.op_queue.specs.declared.operation.Cancelled.TheVariants.{Dropped, Flagged, Nothing}
+use Rattle.op_queue.specs.declared.operation.Progress.{Progress}
+use Rattle.op_queue.specs.declared.operation.Progress.TheVariants as progress
+use Rattle.op_queue.specs.Queue.{Queue, is_full, submitted, skipped, first_waiting, begun_at, after_begin, without, operation_of, facts_of as operation_facts, cancel_of, after_cancel, mask_set, cleared, forgotten}
+use Rattle.operation_asks.specs.Asks.{instance_ended, no_operations}
 use Rattle.alone.specs.declared.reply.Outputs.{Outputs}
 use Rattle.alone.specs.declared.reply.Reply.{Reply}
-use Rattle.object_asks.specs.declared.outcome.Ending.{Ending}
+use Rattle.alone.specs.declared.places.Places.{Places}
 use Rattle.alone.specs.declared.running.Instance.{Instance}
 use Rattle.alone.specs.declared.running.Running.{Running}
 use Rattle.alone.specs.declared.running.Stage.{Stage}
 use Rattle.alone.specs.declared.running.Stage.TheVariants as stages
 use Rattle.alone.specs.declared.running.Waits.{Waits}
 use Rattle.alone.specs.declared.running.Waits.TheVariants as waits
-use Rattle.handle_table.specs.Handles.{all_closed}
 use Rattle.store_api.specs.Stores.{Store}
 use Rattle.object_asks.specs.Asks.{Outcome, Answered, Returned, Panicked, Course, Settled, ComesToStore, Serving, Serves, Fails, Damaged, came_of, changes_store, comes_to_store, may_need_store, refused}
-use Rattle.alone.specs.Asks.{course_after}
-use Rattle.object_asks.specs.Codes.{success, bad_parameters, bad_state, busy, not_implemented, storage_not_available, target_dead}
-use Rattle.object_asks.specs.Handles.{settled}
+use Rattle.object_asks.specs.Codes.{success, bad_parameters, bad_state, busy, out_of_memory, storage_not_available, target_dead}
+use Rattle.object_asks.specs.Held.{nothing_held, instance_closed}
+use Rattle.alone.specs.Asks.{cancel, course_after, mask_noted}
 use Rattle.alone.specs.Machine.{Machine, is_number, instance_at, with_instance}
 use Rattle.alone.specs.Places.{places_of, delivered}
 use Rattle.alone.specs.Replies.{no_outputs}
@@ -56,6 +60,29 @@ quiet m = record { machine = m; replies = []; instance = 0 }
 
 abbrev pub reply_of : ℕ → Code → Origin → Outputs → Reply
 reply_of op code origin outputs = record { op = op; code = code; origin = origin; outputs = outputs }
+
+-- ---- an instance ends
+
+abbrev pub belongs_to : ℕ → Operation → Bool
+belongs_to i o = o.instance == i
+
+-- the instance is gone: its open sessions are dead, its opening and closing ones go, and so do its operations and all that it holds
+abbrev pub instance_gone : {A : Type 0} → Machine A → ℕ → Machine A
+instance_gone m i = record m {
+  table = ended m.table i;
+  instances = filter (λ other. not (is_number i other)) m.instances;
+  queue = cleared m.queue i;
+  held = instance_closed m.held i;
+  crypto = instance_ended m.crypto i;
+}
+
+-- teardown: each unanswered operation of the instance is answered with the code, without outputs, and the instance is gone
+abbrev pub torn_down : {A : Type 0} → Machine A → ℕ → Code → Origin → Stepped A
+torn_down m i code origin = record {
+  machine = instance_gone m i;
+  replies = map (λ o. reply_of o.number code origin no_outputs) (filter (belongs_to i) m.queue.operations);
+  instance = 0;
+}
 
 -- ---- calls
 
@@ -133,24 +160,85 @@ called m client (calls.Open label ps) = called_open m client label ps
 called m client (calls.Invoke label command ps) = called_invoke m client label command ps
 called m client (calls.Close label) = closed_in m client label (known m client label)
 
+-- ---- cancellation
+
+-- it never ran its create entry, and has no session left
+abbrev pub is_unused : {A : Type 0} → Machine A → ℕ → Option (Instance A) → Bool
+is_unused m i None = false
+is_unused m i (Some inst) = not inst.created && not (has_session m.table i)
+
+-- such an instance is gone at once
+abbrev pub unless_unused : {A : Type 0} → Machine A → ℕ → Machine A
+unless_unused m i = if is_unused m i (instance_at m i) then instance_gone m i else m
+
+-- session and instance of an open that waits
+abbrev pub open_of_call : ℕ → ℕ → Call → Option (ℕ × ℕ)
+open_of_call session i (calls.Open label ps) = Some (session, i)
+open_of_call session i (calls.Invoke label command ps) = None
+open_of_call session i (calls.Close label) = None
+
+abbrev pub open_of_progress : ℕ → ℕ → Progress → Option (ℕ × ℕ)
+open_of_progress session i (progress.Waiting call) = open_of_call session i call
+open_of_progress session i (progress.Running close cancelled masked) = None
+
+abbrev pub waiting_open : Option Operation → Option (ℕ × ℕ)
+waiting_open None = None
+waiting_open (Some o) = open_of_progress o.session o.instance o.progress
+
+-- an open that never begins loses its session
+abbrev pub dropped : {A : Type 0} → Machine A → Option (ℕ × ℕ) → Machine A
+dropped m None = m
+dropped m (Some o) = unless_unused (record m { table = session_removed m.table o.0 }) o.1
+
+-- an operation that has not begun is answered, and never begins; one that runs is flagged; all else is ignored
+abbrev pub cancelled_by : {A : Type 0} → Machine A → ℕ → Option (ℕ × ℕ) → Cancellation → Stepped A
+cancelled_by m op o Dropped = record { machine = dropped m o; replies = reply_of op cancel Tee no_outputs ∷ []; instance = 0 }
+cancelled_by m op o Flagged = quiet m
+cancelled_by m op o Nothing = quiet m
+
+-- a client's request to cancel the operation
+unfoldable pub cancelled : {A : Type 0} → Machine A → ℕ → Stepped A
+cancelled m op =
+    let o = operation_of m.queue op in let c = cancel_of o
+    in cancelled_by (record m { queue = after_cancel m.queue op c }) op (waiting_open o) c
+
 -- ---- turns: begin
 
--- an entry that begins
-abbrev pub entry_begun : ℕ → Stage → Entry → Running
-entry_begun op stage entry = record { op = op; stage = stage; waits = waits.Given (givens.Entry entry); asks = 0 }
+-- an entry that begins: it has made no ask, and cancellation is masked
+abbrev pub entry_begun : Option ℕ → Stage → Entry → Running
+entry_begun op stage entry = record { op = op; stage = stage; waits = waits.Given (givens.Entry entry); asks = 0; masked = true }
 
-abbrev pub start_begun : ℕ → ℕ → Params → Running
-start_begun op session ps = entry_begun op (stages.Start session (places_of ps)) (entries.Start session ps)
+abbrev pub start_begun : Option ℕ → ℕ → Params → Places → Running
+start_begun op session ps places = entry_begun op (stages.Start session places) (entries.Start session ps)
+
+-- the destroy entry, and the reply that is given when it has returned
+abbrev pub destroy_begins : Option ℕ → Option Reply → Running
+destroy_begins op reply = entry_begun op (stages.Destroy reply) entries.Destroy
 
 -- the first entry of an operation: an open's is create where the instance never ran it
 abbrev pub first_entry : Bool → ℕ → ℕ → Call → Running
-first_entry false op session (calls.Open label ps) = entry_begun op (stages.Create session ps) entries.Create
-first_entry true op session (calls.Open label ps) = start_begun op session ps
-first_entry created op session (calls.Invoke label command ps) = entry_begun op (stages.Invoke session (places_of ps)) (entries.Invoke session command ps)
-first_entry created op session (calls.Close label) = entry_begun op (stages.Stop session) (entries.Stop session)
+first_entry false op session (calls.Open label ps) = entry_begun (Some op) (stages.Create session ps (places_of ps)) entries.Create
+first_entry true op session (calls.Open label ps) = start_begun (Some op) session ps (places_of ps)
+first_entry created op session (calls.Invoke label command ps) = entry_begun (Some op) (stages.Invoke session (places_of ps)) (entries.Invoke session command ps)
+first_entry created op session (calls.Close label) = entry_begun (Some op) (stages.Stop session) (entries.Stop session)
+
+-- cancellation is masked again for a further entry of the same operation
+abbrev pub masked_again : Queue → Option ℕ → Queue
+masked_again q None = q
+masked_again q (Some op) = mask_set q op true
+
+-- the destroy entry of the instance begins; from now on its application, where it is single, admits no open
+abbrev pub destroying : {A : Type 0} → Machine A → Instance A → Option ℕ → Option Reply → Machine A
+destroying m inst op reply =
+    with_instance (record m { table = destroy_begun m.table inst.number; queue = masked_again m.queue op })
+    (record inst { running = Some (destroy_begins op reply) })
+
+-- where no operation waits: an instance that is left without a session and isn't kept alive begins its destroy entry
+abbrev pub idle : {A : Type 0} → Machine A → Instance A → Machine A
+idle m inst = if inst.created && is_left m.table inst.number then destroying m inst None None else m
 
 abbrev pub begun_with : {A : Type 0} → Machine A → Instance A → Option Begun → Machine A
-begun_with m inst None = m
+begun_with m inst None = idle m inst
 begun_with m inst (Some b) = with_instance m (record inst { running = Some (first_entry inst.created b.op b.session b.call) })
 
 -- the instance's waiting operation with the least number begins, if there is one
@@ -161,56 +249,48 @@ begun m inst = let first = first_waiting m.queue inst.number in begun_with (reco
 
 -- the application's step, and its ask waits
 abbrev pub thought : {A : Type 0} → Behaviour A → Machine A → Instance A → Running → Given → Machine A
-thought behaviour m inst r given = with_instance m (record inst { state = behaviour.next inst.state given; running = Some (record { op = r.op; stage = r.stage; waits = waits.Ask (behaviour.asks inst.state given); asks = r.asks }) })
+thought behaviour m inst r given = with_instance m (record inst { state = behaviour.next inst.state given; running = Some (record { op = r.op; stage = r.stage; waits = waits.Ask (behaviour.asks inst.state given); asks = r.asks; masked = r.masked }) })
 
 -- ---- turns: act
 
--- the operation is answered, and its instance runs nothing
-abbrev pub answered : {A : Type 0} → Machine A → Instance A → ℕ → Code → Outputs → Stepped A
-answered m inst op code outputs = record {
+-- the entry ends, its operation is answered where it has one, and its instance runs nothing
+abbrev pub answered : {A : Type 0} → Machine A → Instance A → Option ℕ → Code → Outputs → Stepped A
+answered m inst None code outputs = quiet (with_instance m (record inst { running = None }))
+answered m inst (Some op) code outputs = record {
   machine = with_instance (record m { queue = without m.queue op }) (record inst { running = None });
   replies = reply_of op code App outputs ∷ [];
-  instance = 0;
-}
-
-abbrev pub belongs_to : ℕ → Operation → Bool
-belongs_to i o = o.instance == i
-
--- create failed: the instance ends, and with it its sessions, its handles and its operations, which are answered with the code
-abbrev pub create_failed : {A : Type 0} → Machine A → Instance A → Code → Stepped A
-create_failed m inst code = record {
-  machine = record m {
-    table = ended m.table inst.number;
-    instances = filter (λ other. not (is_number inst.number other)) m.instances;
-    queue = record m.queue { operations = filter (λ o. not (belongs_to inst.number o)) m.queue.operations };
-    handles = (all_closed (settled m.handles) inst.number).handles;
-  };
-  replies = map (λ o. reply_of o.number code App no_outputs) (filter (belongs_to inst.number) m.queue.operations);
   instance = 0;
 }
 
 abbrev pub is_success : Code → Bool
 is_success code = code.0 == 0
 
--- what a return does, by the entry of the operation that returns
-abbrev pub returned : {A : Type 0} → Machine A → Instance A → ℕ → Stage → Code → Outs → Stepped A
-returned m inst op (stages.Create session ps) code outs =
-    if is_success code then quiet (with_instance m (record inst { created = true; running = Some (start_begun op session ps) }))
-    else create_failed m inst code
+-- a session of the instance has gone: where it is left without one and isn't kept alive, Destroy runs before the reply
+abbrev pub after_session : {A : Type 0} → Machine A → Instance A → Option ℕ → Code → Outputs → Stepped A
+after_session m inst op code outputs =
+    if is_left m.table inst.number
+    then quiet (destroying m inst op (option_map (λ n. reply_of n code App outputs) op))
+    else answered m inst op code outputs
+
+-- what a return does, by the entry that returns
+abbrev pub returned : {A : Type 0} → Machine A → Instance A → Option ℕ → Stage → Code → Outs → Stepped A
+returned m inst op (stages.Create session ps places) code outs =
+    if is_success code
+    then quiet (with_instance (record m { queue = masked_again m.queue op }) (record inst { created = true; running = Some (start_begun op session ps places) }))
+    else torn_down m inst.number code App
 returned m inst op (stages.Start session places) code outs =
-    answered (record m { table = if is_success code then state_set m.table session Open else session_removed m.table session }) inst op code (delivered places outs)
+    if is_success code
+    then answered (record m { table = state_set m.table session Open }) inst op code (delivered places outs)
+    else after_session (record m { table = session_removed m.table session }) inst op code (delivered places outs)
 returned m inst op (stages.Invoke session places) code outs = answered m inst op code (delivered places outs)
-returned m inst op (stages.Stop session) code outs = answered (record m { table = session_removed m.table session }) inst op success no_outputs
+returned m inst op (stages.Stop session) code outs = after_session (record m { table = session_removed m.table session }) inst op success no_outputs
+returned m inst op (stages.Destroy reply) code outs = record { machine = instance_gone m inst.number; replies = option_to_list reply; instance = 0 }
 
--- how an entry ends at a panic, until panics are built
-abbrev pub not_built : Ending
-not_built = record { code = not_implemented; outs = no_outs }
-
--- the machine after the ask of the entry that runs: an answer is given next, and the ask is counted
+-- the machine after the ask of the entry that runs: an answer is given next, and the ask is counted; a panic tears the instance down
 abbrev pub acted : {A : Type 0} → Machine A → Instance A → Running → Outcome (Machine A) → Stepped A
-acted m inst r (Answered after answer) = quiet (with_instance after (record inst { running = Some (record { op = r.op; stage = r.stage; waits = waits.Given (givens.Answer answer); asks = r.asks + 1 }) }))
+acted m inst r (Answered after answer) = quiet (with_instance after (record inst { running = Some (record { op = r.op; stage = r.stage; waits = waits.Given (givens.Answer answer); asks = r.asks + 1; masked = r.masked }) }))
 acted m inst r (Returned code outs) = returned m inst r.op r.stage code outs
-acted m inst r Panicked = returned m inst r.op r.stage not_built.code not_built.outs
+acted m inst r Panicked = torn_down m inst.number target_dead Tee
 
 -- the store that the ask would have left
 abbrev pub store_left : {A : Type 0} → Machine A → Outcome (Machine A) → Store
@@ -233,7 +313,7 @@ served Damaged m ask (ComesToStore kept plain) = came_of Damaged m.lost (ComesTo
 
 abbrev pub went_on : {A : Type 0} → Behaviour A → Serving → Machine A → Instance A → Running → Waits → Stepped A
 went_on behaviour serving m inst r (waits.Given given) = quiet (thought behaviour m inst r given)
-went_on behaviour serving m inst r (waits.Ask ask) = acted m inst r (served serving m ask (course_after r.asks m inst.number r.stage ask))
+went_on behaviour serving m inst r (waits.Ask ask) = acted m inst (mask_noted r ask) (served serving m ask (course_after m inst.number r ask))
 
 abbrev pub turned_by : {A : Type 0} → Behaviour A → Serving → Machine A → Instance A → Option Running → Stepped A
 turned_by behaviour serving m inst None = quiet (begun m inst)
@@ -243,14 +323,22 @@ abbrev pub turned_at : {A : Type 0} → Behaviour A → Serving → Machine A �
 turned_at behaviour serving m None = quiet m
 turned_at behaviour serving m (Some inst) = turned_by behaviour serving m inst inst.running
 
+-- one turn more was made
+abbrev pub turn_counted : {A : Type 0} → Machine A → Machine A
+turn_counted m = record m { turns = m.turns + 1 }
+
 -- a turn of an instance in which the store does so: the entry that runs goes on, or the next operation begins, or nothing
 -- happens. Each turn counts
 unfoldable pub turned_as : {A : Type 0} → Behaviour A → Serving → Machine A → ℕ → Stepped A
-turned_as behaviour serving m i = let now = record m { turns = m.turns + 1 } in turned_at behaviour serving now (instance_at now i)
+turned_as behaviour serving m i = let now = turn_counted m in turned_at behaviour serving now (instance_at now i)
 
 -- a turn in which the store serves
 abbrev pub turned : {A : Type 0} → Behaviour A → Machine A → ℕ → Stepped A
 turned behaviour m i = turned_as behaviour Serves m i
+
+-- a turn that finds no memory
+abbrev pub starved : {A : Type 0} → Machine A → ℕ → Stepped A
+starved m i = torn_down (turn_counted m) i out_of_memory Tee
 
 -- the operation was called, and is no longer unanswered
 abbrev pub is_answered : {A : Type 0} → Machine A → ℕ → Bool
@@ -259,54 +347,85 @@ is_answered m op = nat_lt op m.queue.next && not (is_some (option_map operation_
 -- ---- what waits in an instance
 
 -- a fact about the ask that waits, false where none does
-abbrev pub of_waits : (ℕ → Stage → Ask → Bool) → Running → Waits → Bool
+abbrev pub of_waits : (Running → Ask → Bool) → Running → Waits → Bool
 of_waits test r (waits.Given given) = false
-of_waits test r (waits.Ask ask) = test r.asks r.stage ask
+of_waits test r (waits.Ask ask) = test r ask
 
-abbrev pub of_running : (ℕ → Stage → Ask → Bool) → Option Running → Bool
+abbrev pub of_running : (Running → Ask → Bool) → Option Running → Bool
 of_running test None = false
 of_running test (Some r) = of_waits test r r.waits
 
-abbrev pub of_instance : {A : Type 0} → (ℕ → Stage → Ask → Bool) → Option (Instance A) → Bool
+abbrev pub of_instance : {A : Type 0} → (Running → Ask → Bool) → Option (Instance A) → Bool
 of_instance test None = false
 of_instance test (Some inst) = of_running test inst.running
 
 -- an ask waits in the instance that may need the store
 abbrev pub needs_store : {A : Type 0} → Machine A → ℕ → Bool
-needs_store m i = of_instance (λ made stage ask. may_need_store ask) (instance_at m i)
+needs_store m i = of_instance (λ r ask. may_need_store ask) (instance_at m i)
 
 -- an ask waits in the instance that is to change the store
 abbrev pub is_changing : {A : Type 0} → Machine A → ℕ → Bool
-is_changing m i = of_instance (λ made stage ask. changes_store ask) (instance_at m i)
+is_changing m i = of_instance (λ r ask. changes_store ask) (instance_at m i)
 
--- an ask waits in the instance, the entry has made fewer than 65,536, neither misuse nor a refusal stands before the store, and
--- it comes to the store
+-- an ask waits in the instance, the entry has not made all its asks, neither misuse nor a refusal stands before the store, and it
+-- comes to the store
 abbrev pub reaches : {A : Type 0} → Machine A → ℕ → Bool
-reaches m i = of_instance (λ made stage ask. comes_to_store (course_after made m i stage ask)) (instance_at m i)
+reaches m i = of_instance (λ r ask. comes_to_store (course_after m i r ask)) (instance_at m i)
+
+-- ---- the loss of the power
+
+-- the store in doubt, where it was kept and there is one
+abbrev pub store_found : Bool → Store → Option Store → Store
+store_found took store None = store
+store_found took store (Some doubt) = if took then doubt else store
+
+-- the machine after the power came back: its objects, and the numbers of operations and turns go on
+abbrev pub restarted : {A : Type 0} → Machine A → Bool → Machine A
+restarted m took = record m {
+  boot = m.boot + 1;
+  table = no_instances m.table.properties;
+  instances = [];
+  queue = forgotten m.queue;
+  store = store_found took m.store m.in_doubt;
+  lost = false;
+  in_doubt = None;
+  held = nothing_held;
+  crypto = no_operations m.seed m.index (m.boot + 1);
+}
 
 -- ---- events
 
--- a client's call; a turn; a turn in which a call of the store fails; one in which what the store reads is damaged; and that the
--- storage is lost for another reason
+-- a client's call, and its request to cancel an operation; a turn; a turn in which a call of the store fails; one in which what the
+-- store reads is damaged; that the storage is lost for another reason; a turn that finds no memory; and that the power came back,
+-- with the change in doubt or without it
 pub data Event : Type 0 where
   Called : (client : ℕ) (call : Call) → Event
+  Cancelled : (op : ℕ) → Event
   Turned : (instance : ℕ) → Event
   TurnLost : (instance : ℕ) → Event
   Corrupted : (instance : ℕ) → Event
   Lost : Event
+  Starved : (instance : ℕ) → Event
+  Restarted : (took : Bool) → Event
 
 -- where each event may stand
 abbrev pub may_stand : {A : Type 0} → Machine A → Event → Bool
 may_stand m (Called client call) = true
+may_stand m (Cancelled op) = true
 may_stand m (Turned instance) = true
 may_stand m (TurnLost instance) = reaches m instance && not m.lost
 may_stand m (Corrupted instance) = reaches m instance && not m.lost
 may_stand m Lost = not m.lost
+may_stand m (Starved instance) = is_some (instance_at m instance)
+may_stand m (Restarted took) = true
 
 -- one step; next and asks are the application's two functions
 abbrev pub step : {A : Type 0} → Behaviour A → Machine A → Event → Stepped A
 step behaviour m (Called client call) = called m client call
+step behaviour m (Cancelled op) = cancelled m op
 step behaviour m (Turned instance) = turned behaviour m instance
 step behaviour m (TurnLost instance) = turned_as behaviour Fails m instance
 step behaviour m (Corrupted instance) = turned_as behaviour Damaged m instance
 step behaviour m Lost = quiet (record m { lost = true })
+step behaviour m (Starved instance) = starved m instance
+step behaviour m (Restarted took) = quiet (restarted m took)

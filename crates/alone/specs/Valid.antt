@@ -1,12 +1,19 @@
 -- What holds of a machine before and after each event (TEE Internal Core API 1.3, section 5.7.3).
-use Rattle.std.specs.Prelude.{◌≡◌, IsTrue, All, count_by}
-use Rattle.share_rules.specs.Sharing.{has as has_bit, access_write_meta}
-use Rattle.store_api.specs.Stores.{has}
-use Rattle.handle_table.specs.Handles.{entry_is_on, shares_of}
+use Rattle.std.specs.Prelude.{ℕ, ◌≡◌, ◌<◌, ◌^◌, map}
+use Rattle.crypto_ops.specs.Random.{stream_at}
+use Rattle.instances.specs.Instances.{instance_numbers}
+use Rattle.object_asks.specs.Valid.{IsValidObjects}
+use Rattle.alone.specs.Asks.{objects_of}
 use Rattle.alone.specs.Machine.{Machine}
 
--- the store has each identifier that a handle is on, and a handle whose flags have ACCESS_WRITE_META is the only one on its
--- identifier, of all instances
+-- the random bytes are those of the application's stream in this boot, from some word on
+pub record IsOwnStream {A : Type 0} (m : Machine A) : Type 0 where
+  pub place : ℕ
+  pub within : place < 2 ^ 68
+  pub stream : m.crypto.random ≡ stream_at m.seed m.index m.boot place
+
+-- what is held in memory fits the store; the instances are those of the table; and the random bytes are the application's own
 pub record IsValid {A : Type 0} (m : Machine A) : Type 0 where
-  pub stored : All (λ s. IsTrue (has m.store s.id)) (shares_of m.handles)
-  pub sole : All (λ s. IsTrue (has_bit access_write_meta s.flags) → count_by (entry_is_on s.id) m.handles ≡ 1) (shares_of m.handles)
+  pub objects : IsValidObjects (objects_of m)
+  pub instances : map (λ inst. inst.number) m.instances ≡ instance_numbers m.table
+  pub random : IsOwnStream m

@@ -2,11 +2,12 @@
 
 ghost use Rattle.std.specs.Prelude.{◌≡◌, IfOk};
 ghost use Rattle.alone.specs.Places.{is_misuse, places_at};
-ghost use Rattle.alone.specs.Step.{first_entry, start_begun, not_built};
-ghost use Rattle.alone.specs.Asks.{return_of};
+ghost use Rattle.alone.specs.Step.{destroy_begins, entry_begun, first_entry, start_begun};
+ghost use Rattle.alone.specs.Asks.{not_built, return_of};
 
 use crate::delivery::{is_misuse, places_of};
 use crate::places::Places;
+use crate::reply::Reply;
 use crate::running::{Running, Stage, Waits};
 use app_api::{Call, Entry, Given, Outs, Params};
 use object_asks::{Ending, Outcome, Served, panicked};
@@ -14,36 +15,55 @@ use op_queue::Begun;
 use std::alloc::Global;
 use tee_base::{Code, NoMemory};
 
-/// A start entry that begins.
-pub fn start_entry(alloc: Global, op: u64, session: u8, params: Params) -> Result<Running, NoMemory>
-    ensures { IfOk result (λ running. running ≡ start_begun op session params) }
+/// An entry that begins: it has made no ask, and cancellation is masked.
+fn entry_begun(op: Option<u64>, stage: Stage, entry: Entry) -> Running
+    ensures { result ≡ entry_begun op stage entry }
 {
-    let places = places_of(alloc, &params)?;
-    Ok(Running {
+    Running {
         op,
-        stage: Stage::Start { session, places },
-        waits: Waits::Given(Given::Entry(Entry::Start { session, params })),
+        stage,
+        waits: Waits::Given(Given::Entry(entry)),
         asks: 0,
-    })
+        masked: true,
+    }
+}
+
+/// A start entry that begins.
+pub fn start_entry(op: Option<u64>, session: u8, params: Params, places: Places) -> Running
+    ensures { result ≡ start_begun op session params places }
+{
+    entry_begun(
+        op,
+        Stage::Start { session, places },
+        Entry::Start { session, params },
+    )
+}
+
+/// A destroy entry that begins, with the reply that is given when it has returned.
+pub fn destroy_entry(op: Option<u64>, reply: Option<Reply>) -> Running
+    ensures { result ≡ destroy_begins op reply }
+{
+    entry_begun(op, Stage::Destroy { reply }, Entry::Destroy)
 }
 
 /// The first entry of an operation.
 pub fn first_entry(alloc: Global, created: bool, begun: Begun) -> Result<Running, NoMemory>
     ensures { IfOk result (λ running. running ≡ first_entry created begun.op begun.session begun.call) }
 {
-    let op = begun.op;
+    let op = Some(begun.op);
     let session = begun.session;
     match begun.call {
         Call::Open { params, .. } => {
+            let places = places_of(alloc, &params)?;
             if created {
-                return start_entry(alloc, op, session, params);
+                return Ok(start_entry(op, session, params, places));
             }
-            Ok(Running {
-                op,
-                stage: Stage::Create { session, params },
-                waits: Waits::Given(Given::Entry(Entry::Create)),
-                asks: 0,
-            })
+            let stage = Stage::Create {
+                session,
+                params,
+                places,
+            };
+            Ok(entry_begun(op, stage, Entry::Create))
         }
         Call::Invoke {
             command,
@@ -51,23 +71,17 @@ pub fn first_entry(alloc: Global, created: bool, begun: Begun) -> Result<Running
             ..
         } => {
             let places = places_of(alloc, &params)?;
-            Ok(Running {
+            Ok(entry_begun(
                 op,
-                stage: Stage::Invoke { session, places },
-                waits: Waits::Given(Given::Entry(Entry::Invoke {
+                Stage::Invoke { session, places },
+                Entry::Invoke {
                     session,
                     command,
                     params,
-                })),
-                asks: 0,
-            })
+                },
+            ))
         }
-        Call::Close { .. } => Ok(Running {
-            op,
-            stage: Stage::Stop { session },
-            waits: Waits::Given(Given::Entry(Entry::Stop { session })),
-            asks: 0,
-        }),
+        Call::Close { .. } => Ok(entry_begun(op, Stage::Stop { session }, Entry::Stop { session })),
     }
 }
 
@@ -77,11 +91,13 @@ fn is_misused(stage: &Stage, outs: &Outs) -> bool
 {
     match stage {
         Stage::Start { places, .. } | Stage::Invoke { places, .. } => is_misuse(places, outs),
-        Stage::Create { .. } | Stage::Stop { .. } => is_misuse(&Places::none(), outs),
+        Stage::Create { .. } | Stage::Stop { .. } | Stage::Destroy { .. } => {
+            is_misuse(&Places::none(), outs)
+        }
     }
 }
 
-/// How an entry ends at a panic, until panics are built.
+/// How an entry ends at an ask that isn't built.
 pub fn not_built() -> Ending
     ensures { result ≡ not_built }
 {

@@ -5,21 +5,29 @@
 mod answering;
 mod delivery;
 mod entries;
+mod family;
+mod laws;
 mod place;
 mod places;
 mod power;
 mod reply;
 mod running;
+mod turn;
 mod validity;
 
 pub use answering::{call_lines_are_answered, operations_are_few};
 pub use app_api::Call;
 pub use delivery::{deliver, is_misuse, places_of};
-pub use entries::{first_entry, not_built, returned, start_entry};
-pub use object_asks::{Ending, TurnKind};
+pub use entries::{destroy_entry, first_entry, not_built, returned, start_entry};
+pub use family::{Family, family_of};
+pub use laws::{
+    calls_leave_the_storage, few_are_born, turns_leave_the_doubt, turns_without_the_store,
+};
+pub use object_asks::Ending;
 pub use place::place_of;
 pub use places::{Place, Places};
 pub use power::Power;
 pub use reply::{Outputs, REPLIES, Replies, Reply, Shown};
 pub use running::{Instance, Running, Stage, Waits};
+pub use turn::TurnKind;
 pub use validity::machines_stay_valid;

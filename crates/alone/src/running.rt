@@ -1,16 +1,33 @@
 //! An instance of the application, and the entry that it runs.
 
 use crate::places::Places;
+use crate::reply::Reply;
 use app_api::{Ask, Given, Params};
 
 /// The entry that runs, with what its return needs.
 #[derive(Debug, Drop)]
 pub enum Stage {
-    /// Create, for the open of this session; its start entry, with these parameters, comes next.
-    Create { session: u8, params: Params },
-    Start { session: u8, places: Places },
-    Invoke { session: u8, places: Places },
-    Stop { session: u8 },
+    /// Create, for the open of this session; its start entry, with these parameters and output positions, comes next.
+    Create {
+        session: u8,
+        params: Params,
+        places: Places,
+    },
+    Start {
+        session: u8,
+        places: Places,
+    },
+    Invoke {
+        session: u8,
+        places: Places,
+    },
+    Stop {
+        session: u8,
+    },
+    /// Destroy, and the reply that is given when it has returned, where it runs for an operation.
+    Destroy {
+        reply: Option<Reply>,
+    },
 }
 
 /// What the entry waits for.
@@ -25,12 +42,14 @@ pub enum Waits {
 /// An entry that runs.
 #[derive(Debug, Drop)]
 pub struct Running {
-    /// The client operation that it serves.
-    pub op: u64,
+    /// The client operation that it serves, if it serves one.
+    pub op: Option<u64>,
     pub stage: Stage,
     pub waits: Waits,
     /// How many asks it has made.
     pub asks: u32,
+    /// Cancellation is masked: this counts where it serves no operation, else the operation's own mask.
+    pub masked: bool,
 }
 
 /// An instance of the application.

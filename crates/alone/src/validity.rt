@@ -1,4 +1,4 @@
-//! What follows from the definition of a step for the handles and the store.
+//! What follows from the definition of a step for what a machine holds.
 
 ghost use Rattle.std.specs.Prelude.{List, ℕ};
 ghost use Rattle.app_api.specs.declared.host.Host.{Host};

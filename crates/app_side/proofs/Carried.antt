@@ -1,43 +1,60 @@
--- From what comes of an ask about objects to what it leaves of the machine.
-use Rattle.std.proofs.Common.{ℕ, ◌≡◌, Bool, true, false, not, nat_le, cond, List, Option, Some, refl, sym, ap, subst, ◌∙◌, arith}
-use Rattle.std.specs.Prelude.{◌||◌, ◌&&◌, ◌<◌}
-use Rattle.std.proofs.lemmas.Bool.{lt-leb}
-use Rattle.tee_base.specs.declared.codes.Code.{Code}
-use Rattle.app_api.specs.declared.out.Outs.{Outs}
+-- From what comes of an ask to what it leaves of the machine.
+use Rattle.std.proofs.Common.{ℕ, ◌≡◌, Bool, true, false, not, nat_le, cond, Option, Some, refl, sym, ap, subst, ◌∙◌, arith}
+use Rattle.std.specs.Prelude.{◌||◌, ◌&&◌, ◌<◌, ◌≤◌}
+use Rattle.std.proofs.lemmas.Bool.{lt-leb, le-leb}
+use Rattle.tee_base.specs.declared.limits.TheConstants.{ASKS}
 use Rattle.app_api.specs.declared.ask.Ask.{Ask}
 use Rattle.app_api.specs.declared.ask.Ask.TheVariants as asked
 use Rattle.app_api.specs.declared.ask.Answer.{Answer}
 use Rattle.app_api.specs.declared.ask.Answer.TheVariants.{Refused}
 use Rattle.store_api.specs.Stores.{Store}
-use Rattle.handle_table.specs.declared.handle.Entry.{Entry}
-use Rattle.alone.specs.declared.running.Stage.{Stage}
-use Rattle.object_asks.specs.declared.turn.TurnKind.{TurnKind}
-use Rattle.object_asks.specs.declared.turn.TurnKind.TheVariants.{Plain, Lost, Corrupted}
-use Rattle.object_asks.specs.Asks.{Outcome, Answered, Returned, Panicked, Course, Settled, ComesToStore, Objects, came_of, changes_store, comes_to_store, course_in, object_course, outcome_in, refused}
-use Rattle.alone.specs.Asks.{course, course_after, objects_of, with_objects}
+use Rattle.store_api.specs.Keeping.{Keeper, Status}
+use Rattle.object_asks.specs.Asks.{changes_store, object_course}
 use Rattle.object_asks.specs.Codes.{storage_not_available}
-use Rattle.alone.specs.Machine.{Machine}
-use Rattle.alone.specs.Step.{lost_at, served, store_left}
+use Rattle.object_asks.specs.Courses.{Outcome, Answered, Returned, Panicked, Course, Settled, ComesToStore, Objects, Serving, Serves, Damaged, came_of, comes_to_store, course_in, outcome_in, refused}
+use Rattle.object_asks.specs.Held.{Held}
+use Rattle.object_asks.specs.Serving.{HasStatus, IsOutcome, Meets, SaysChange, TriesOnce, serving_of}
 use Rattle.object_asks.specs.declared.outcome.Outcome.{Outcome as Result_of}
 use Rattle.object_asks.specs.declared.outcome.Outcome.TheVariants as outcomes
-use Rattle.object_asks.proofs.Crashes.{idle_keeps}
-use Rattle.alone.proofs.Courses.{course_comes, damaged_in, no_return, serves_in}
-use Rattle.app_side.specs.declared.side.AppSide.{AppSide}
-use Rattle.app_side.specs.Represents.{IsLeft, doubtful, machine_over, noted}
 use Rattle.object_asks.specs.declared.outcome.Served.{Served}
-use Rattle.store_api.specs.declared.answer.StoreAnswer.{StoreAnswer}
-use Rattle.store_api.specs.Keeping.{Keeper, Status}
-use Rattle.object_asks.specs.Serving.{HasStatus, IsOutcome, Meets, SaysChange, ShowsDamage, TriesOnce, plainly, serving_of}
-use Rattle.alone.specs.Asks.{return_of}
-use Rattle.app_side.specs.Serving.{IsTurnOf, reaching}
+use Rattle.object_asks.specs.declared.turn.TurnKind.{TurnKind}
+use Rattle.object_asks.specs.declared.turn.TurnKind.TheVariants.{Plain, Lost, Corrupted}
+use Rattle.object_asks.proofs.Crashes.{idle_keeps}
+use Rattle.alone.specs.declared.family.Family.{Family}
+use Rattle.alone.specs.declared.family.Family.TheVariants as families
+use Rattle.alone.specs.declared.running.Running.{Running}
+use Rattle.alone.specs.Asks.{course, course_after, course_in_family, entry_course, objects_of, with_objects}
+use Rattle.alone.specs.Families.{family_of}
+use Rattle.alone.specs.Machine.{Machine}
 use Rattle.alone.specs.Places.{is_misuse, places_at}
+use Rattle.alone.specs.Step.{lost_at, served, store_left}
+use Rattle.app_side.specs.declared.side.AppSide.{AppSide}
+use Rattle.app_side.specs.Asking.{reaching, reaching_in_family}
+use Rattle.app_side.specs.Represents.{IsLeft, doubtful, machine_of, machine_over, noted, over}
+use Rattle.app_side.specs.Serving.{IsEntryOutcome, IsEntryServed, IsTurnOf}
 
-abbrev objects : Store → List Entry → Objects
-objects store handles = record { store = store; handles = handles }
+-- ---- asks about objects: no more of the machine is looked at than its objects and whether the storage is lost
 
--- the objects and handles that are left, and all else as before
-left_in : {A : Type 0} (old new : AppSide A) (ko kn doubt : Store) (left : List Entry) (outcome : Result_of) (stated : Outcome Objects) (whole : Outcome (Machine A))
-    → IsOutcome outcome stated (objects ko old.handles) (objects kn left) → whole ≡ outcome_in (with_objects (machine_over old ko doubt)) stated → new ≡ record old { handles = left }
+-- what comes of a course in which the store serves, or is damaged, is what comes of the objects' course
+serves_in : {A : Type 0} (m : Machine A) (ask : Ask) (c : Course Objects) → served Serves m ask (course_in (with_objects m) c) ≡ outcome_in (with_objects m) (came_of Serves m.lost c)
+serves_in m ask (Settled outcome) = refl
+serves_in m ask (ComesToStore kept plain) =
+    elim m.lost as (λ b. cond b (refused (with_objects m kept) storage_not_available) (outcome_in (with_objects m) plain) ≡ outcome_in (with_objects m) (cond b (refused kept storage_not_available) plain)) [ true ↦ refl | false ↦ refl ]
+
+damaged_in : {A : Type 0} (m : Machine A) (ask : Ask) (c : Course Objects) → served Damaged m ask (course_in (with_objects m) c) ≡ outcome_in (with_objects m) (came_of Damaged m.lost c)
+damaged_in m ask (Settled outcome) = refl
+damaged_in m ask (ComesToStore kept plain) = refl
+
+-- an ask of this family goes so
+pub of_family : {A : Type 0} (family : Family) (m : Machine A) (i : ℕ) (r : Running) (ask : Ask) → family_of ask ≡ family → course m i r ask ≡ course_in_family family m i r ask
+of_family {A} family m i r ask e = ap (λ (f : Family). course_in_family f m i r ask) e
+
+abbrev objects : Store → Held → Objects
+objects store held = record { store = store; held = held }
+
+-- the objects that are left, and all else as before
+left_in : {A : Type 0} (old new : AppSide A) (ko kn doubt : Store) (left : Held) (outcome : Result_of) (stated : Outcome Objects) (whole : Outcome (Machine A))
+    → IsOutcome outcome stated (objects ko old.held) (objects kn left) → whole ≡ outcome_in (with_objects (machine_over old ko doubt)) stated → new ≡ record old { held = left }
     → IsLeft outcome whole new kn doubt (machine_over old ko doubt)
 left_in {A} old new ko kn doubt left (outcomes.Answered answer) stated whole is lifted same =
     (doubt, lifted ∙ ap (outcome_in (with_objects (machine_over old ko doubt))) is ∙ ap (λ (s : AppSide A). Answered (machine_over s kn doubt) answer) (sym same))
@@ -51,8 +68,8 @@ in_doubt_is : (b there : Bool) (left doubt : Store) → cond b (Some left) (doub
 in_doubt_is true there left doubt = refl
 in_doubt_is false there left doubt = refl
 
-lost_in : {A : Type 0} (old new : AppSide A) (ko kn doubt : Store) (left : List Entry) (outcome : Result_of) (changes b : Bool) (kept : Objects) (plain : Outcome (Machine A))
-    → IsOutcome outcome (refused kept storage_not_available) (objects ko old.handles) (objects kn left) → changes ≡ b → new ≡ record old { handles = left; lost = true; in_doubt = changes || old.in_doubt }
+lost_in : {A : Type 0} (old new : AppSide A) (ko kn doubt : Store) (left : Held) (outcome : Result_of) (changes b : Bool) (kept : Objects) (plain : Outcome (Machine A))
+    → IsOutcome outcome (refused kept storage_not_available) (objects ko old.held) (objects kn left) → changes ≡ b → new ≡ record old { held = left; lost = true; in_doubt = changes || old.in_doubt }
     → IsLeft outcome (refused (lost_at (with_objects (machine_over old ko doubt) kept) b plain) storage_not_available) new kn doubt (machine_over old ko doubt)
 lost_in {A} old new ko kn doubt left (outcomes.Answered answer) changes b kept plain is same noted =
     let m : Machine A = machine_over old ko doubt in
@@ -60,17 +77,17 @@ lost_in {A} old new ko kn doubt left (outcomes.Answered answer) changes b kept p
     let stays : kept ≡ objects kn left = cc in
     let gone : Store = store_left (with_objects m kept) plain in (
       cond b gone doubt,
-      ap (λ (o : Option Store). Answered (record m { store = kept.store; handles = kept.handles; lost = true; in_doubt = o }) (Refused storage_not_available)) (in_doubt_is b old.in_doubt gone doubt)
-          ∙ ap (λ (x : Objects). Answered (record m { store = x.store; handles = x.handles; lost = true; in_doubt = doubtful (b || old.in_doubt) (cond b gone doubt) }) (Refused storage_not_available)) stays
-          ∙ ap (λ (x : Bool). Answered (machine_over (record old { handles = left; lost = true; in_doubt = x || old.in_doubt }) kn (cond b gone doubt)) (Refused storage_not_available)) (sym same)
+      ap (λ (o : Option Store). Answered (record m { store = kept.store; held = kept.held; lost = true; in_doubt = o }) (Refused storage_not_available)) (in_doubt_is b old.in_doubt gone doubt)
+          ∙ ap (λ (x : Objects). Answered (record m { store = x.store; held = x.held; lost = true; in_doubt = doubtful (b || old.in_doubt) (cond b gone doubt) }) (Refused storage_not_available)) stays
+          ∙ ap (λ (x : Bool). Answered (machine_over (record old { held = left; lost = true; in_doubt = x || old.in_doubt }) kn (cond b gone doubt)) (Refused storage_not_available)) (sym same)
           ∙ ap (λ (s : AppSide A). Answered (machine_over s kn (cond b gone doubt)) (Refused storage_not_available)) (sym noted)
           ∙ ap (λ (a : Answer). Answered (machine_over new kn (cond b gone doubt)) a) told,
     )
 lost_in old new ko kn doubt left (outcomes.Returned ending) changes b kept plain is same noted = absurd (let e : Answered kept (Refused storage_not_available) ≡ Returned ending.code ending.outs = is.0 in cc)
 lost_in old new ko kn doubt left outcomes.Panicked changes b kept plain is same noted = absurd (let e : Answered kept (Refused storage_not_available) ≡ Panicked = is.0 in cc)
 
-carried_in : {A : Type 0} (old new : AppSide A) (ko kn doubt : Store) (left : List Entry) (ask : Ask) (kind : TurnKind) (outcome : Result_of) (c : Course Objects)
-    → IsOutcome outcome (came_of (serving_of kind) old.lost c) (objects ko old.handles) (objects kn left) → Meets kind (comes_to_store c) → SaysChange kind (changes_store ask) → new ≡ noted (record old { handles = left }) kind
+carried_in : {A : Type 0} (old new : AppSide A) (ko kn doubt : Store) (left : Held) (ask : Ask) (kind : TurnKind) (outcome : Result_of) (c : Course Objects)
+    → IsOutcome outcome (came_of (serving_of kind) old.lost c) (objects ko old.held) (objects kn left) → Meets kind (comes_to_store c) → SaysChange kind (changes_store ask) → new ≡ noted (record old { held = left }) kind
     → IsLeft outcome (served (serving_of kind) (machine_over old ko doubt) ask (course_in (with_objects (machine_over old ko doubt)) c)) new kn doubt (machine_over old ko doubt)
 carried_in old new ko kn doubt left ask Plain outcome c is reaches says notes = left_in old new ko kn doubt left outcome _ _ is (serves_in (machine_over old ko doubt) ask c) notes
 carried_in old new ko kn doubt left ask Corrupted outcome c is reaches says notes = left_in old new ko kn doubt left outcome _ _ is (damaged_in (machine_over old ko doubt) ask c) notes
@@ -78,32 +95,65 @@ carried_in old new ko kn doubt left ask (Lost changes) outcome (Settled o) is re
 carried_in old new ko kn doubt left ask (Lost changes) outcome (ComesToStore kept plain) is reaches says notes =
     lost_in old new ko kn doubt left outcome changes (changes_store ask) kept (outcome_in (with_objects (machine_over old ko doubt)) plain) is says notes
 
-pub carried : {A : Type 0} (old new : AppSide A) (ko kn doubt : Store) (left : List Entry) (i : ℕ) (stage : Stage) (ask : Ask) (kind : TurnKind) (outcome : Result_of)
-    → ((code : Code) (outs : Outs) → ask ≡ asked.Return code outs → ⊥)
-    → IsOutcome outcome (came_of (serving_of kind) old.lost (object_course (objects ko old.handles) i ask)) (objects ko old.handles) (objects kn left) → Meets kind (comes_to_store (object_course (objects ko old.handles) i ask)) → SaysChange kind (changes_store ask) → new ≡ noted (record old { handles = left }) kind
-    → IsLeft outcome (served (serving_of kind) (machine_over old ko doubt) ask (course (machine_over old ko doubt) i stage ask)) new kn doubt (machine_over old ko doubt)
-carried {A} old new ko kn doubt left i stage ask kind outcome other is reaches says notes =
-    subst (λ (c : Course (Machine A)). IsLeft outcome (served (serving_of kind) (machine_over old ko doubt) ask c) new kn doubt (machine_over old ko doubt)) (sym (no_return (machine_over old ko doubt) i stage ask other))
-    (carried_in old new ko kn doubt left ask kind outcome (object_course (objects ko old.handles) i ask) is reaches says notes)
+pub carried : {A : Type 0} (old new : AppSide A) (ko kn doubt : Store) (left : Held) (i : ℕ) (r : Running) (ask : Ask) (kind : TurnKind) (outcome : Result_of)
+    → family_of ask ≡ families.Objects
+    → IsOutcome outcome (came_of (serving_of kind) old.lost (object_course (objects ko old.held) i ask)) (objects ko old.held) (objects kn left) → Meets kind (comes_to_store (object_course (objects ko old.held) i ask)) → SaysChange kind (changes_store ask) → new ≡ noted (record old { held = left }) kind
+    → IsLeft outcome (served (serving_of kind) (machine_over old ko doubt) ask (course (machine_over old ko doubt) i r ask)) new kn doubt (machine_over old ko doubt)
+carried {A} old new ko kn doubt left i r ask kind outcome family is reaches says notes =
+    subst (λ (c : Course (Machine A)). IsLeft outcome (served (serving_of kind) (machine_over old ko doubt) ask c) new kn doubt (machine_over old ko doubt)) (sym (of_family families.Objects (machine_over old ko doubt) i r ask family))
+    (carried_in old new ko kn doubt left ask kind outcome (object_course (objects ko old.held) i ask) is reaches says notes)
 
--- an ask comes to the store where that about objects does
-pub reaching_is : {A : Type 0} (m : Machine A) (i made : ℕ) (stage : Stage) (ask : Ask) → reaching (objects_of m) i made stage ask ≡ comes_to_store (course_after made m i stage ask)
-reaching_is {A} m i made stage ask =
-    elim (nat_le 65536 made) as (λ b. (not b && comes_to_store (object_course (objects_of m) i ask)) ≡ comes_to_store (cond b (Settled Panicked) (course m i stage ask))) [ true ↦ refl | false ↦ course_comes m i stage ask ]
+-- ---- whether an ask comes to the store
 
--- ---- what a return comes to
+comes_in : {A : Type 0} (m : Machine A) (c : Course Objects) → comes_to_store c ≡ comes_to_store (course_in (with_objects m) c)
+comes_in m (Settled o) = refl
+comes_in m (ComesToStore kept plain) = refl
 
-pub return_left : {A : Type 0} (side : AppSide A) (store doubt : Store) (i : ℕ) (stage : Stage) (code : Code) (outs : Outs)
-    → IsLeft (return_of stage code outs).outcome (served (serving_of (return_of stage code outs).kind) (machine_over side store doubt) (asked.Return code outs) (course (machine_over side store doubt) i stage (asked.Return code outs))) side store doubt (machine_over side store doubt)
-unfolding course
-return_left {A} side store doubt i stage code outs =
-    elim (is_misuse (places_at stage) outs) as (λ b. (let r : Served = cond b (plainly outcomes.Panicked) (plainly (outcomes.Returned (record { code = code; outs = outs }))) in IsLeft r.outcome (served (serving_of r.kind) (machine_over side store doubt) (asked.Return code outs) (cond b (Settled Panicked) (Settled (Returned code outs)))) side store doubt (machine_over side store doubt))) [
-      | true ↦ (refl, refl)
-      | false ↦ (refl, refl)
-    ]
+entry_settled : {A : Type 0} (m : Machine A) (r : Running) (ask : Ask) → false ≡ comes_to_store (entry_course m r ask)
+entry_settled {A} m r (asked.Return code outs) = elim (is_misuse (places_at r.stage) outs) as (λ b. false ≡ comes_to_store {S = Machine A} (cond b (Settled Panicked) (Settled (Returned code outs)))) [ true ↦ refl | false ↦ refl ]
+entry_settled m r asked.CancelFlag = refl
+entry_settled m r asked.CancelMask = refl
+entry_settled m r asked.CancelUnmask = refl
+entry_settled m r ask = refl
 
-pub return_plain : (stage : Stage) (code : Code) (outs : Outs) → (return_of stage code outs).kind ≡ Plain
-return_plain stage code outs = elim (is_misuse (places_at stage) outs) as (λ b. (let r : Served = cond b (plainly outcomes.Panicked) (plainly (outcomes.Returned (record { code = code; outs = outs }))) in r.kind ≡ Plain)) [ true ↦ refl | false ↦ refl ]
+family_comes : {A : Type 0} (family : Family) (m : Machine A) (i : ℕ) (r : Running) (ask : Ask) → reaching_in_family family (objects_of m) i ask ≡ comes_to_store (course_in_family family m i r ask)
+family_comes families.Entry m i r ask = entry_settled m r ask
+family_comes families.Objects m i r ask = comes_in m (object_course (objects_of m) i ask)
+family_comes families.Unbuilt m i r ask = refl
+
+-- an ask comes to the store where it is said to
+pub reaching_is : {A : Type 0} (m : Machine A) (i : ℕ) (r : Running) (ask : Ask) → reaching (objects_of m) i r ask ≡ comes_to_store (course_after m i r ask)
+reaching_is {A} m i r ask =
+    elim (nat_le ASKS r.asks) as (λ b. (not b && reaching_in_family (family_of ask) (objects_of m) i ask) ≡ comes_to_store (cond b (Settled Panicked) (course m i r ask))) [ true ↦ refl | false ↦ family_comes (family_of ask) m i r ask ]
+
+-- ---- asks about the entry itself: they don't look at the objects, and leave them
+
+entry_over : {A : Type 0} (store : Store) (doubt : Option Store) (m : Machine A) (r : Running) (ask : Ask) → entry_course (over store doubt m) r ask ≡ course_in (over store doubt) (entry_course m r ask)
+entry_over {A} store doubt m r (asked.Return code outs) =
+    elim (is_misuse (places_at r.stage) outs) as (λ b. (let c : Course (Machine A) = cond b (Settled Panicked) (Settled (Returned code outs)) in c ≡ course_in (over store doubt) c)) [ true ↦ refl | false ↦ refl ]
+entry_over store doubt m r asked.CancelFlag = refl
+entry_over store doubt m r asked.CancelMask = refl
+entry_over store doubt m r asked.CancelUnmask = refl
+entry_over store doubt m r ask = refl
+
+entry_in : {A : Type 0} (old new : AppSide A) (store doubt : Store) (serving : Serving) (ask : Ask) (c : Course (Machine A)) (o : Result_of) → IsEntryOutcome o c old new → new.in_doubt ≡ old.in_doubt
+    → IsLeft o (served serving (machine_over old store doubt) ask (course_in (over store (doubtful old.in_doubt doubt)) c)) new store doubt (machine_over old store doubt)
+entry_in {A} old new store doubt serving ask c (outcomes.Answered answer) e same = (
+  doubt,
+  ap (λ (c : Course (Machine A)). served serving (machine_over old store doubt) ask (course_in (over store (doubtful old.in_doubt doubt)) c)) e
+      ∙ ap (λ (b : Bool). Answered (over store (doubtful b doubt) (machine_of new)) answer) (sym same),
+)
+entry_in {A} old new store doubt serving ask c (outcomes.Returned ending) e same =
+    (ap (λ (c : Course (Machine A)). served serving (machine_over old store doubt) ask (course_in (over store (doubtful old.in_doubt doubt)) c)) e.0, ap (λ (s : AppSide A). machine_over s store doubt) e.1)
+entry_in {A} old new store doubt serving ask c outcomes.Panicked e same =
+    (ap (λ (c : Course (Machine A)). served serving (machine_over old store doubt) ask (course_in (over store (doubtful old.in_doubt doubt)) c)) e.0, ap (λ (s : AppSide A). machine_over s store doubt) e.1)
+
+pub entry_left : {A : Type 0} (old new : AppSide A) (store doubt : Store) (i : ℕ) (r : Running) (ask : Ask) (done : Served) → family_of ask ≡ families.Entry → IsEntryServed done (entry_course (machine_of old) r ask) old new
+    → IsLeft done.outcome (served (serving_of done.kind) (machine_over old store doubt) ask (course (machine_over old store doubt) i r ask)) new store doubt (machine_over old store doubt)
+entry_left {A} old new store doubt i r ask done family is =
+    subst (λ (c : Course (Machine A)). IsLeft done.outcome (served (serving_of done.kind) (machine_over old store doubt) ask c) new store doubt (machine_over old store doubt))
+    (sym (of_family families.Entry (machine_over old store doubt) i r ask family ∙ entry_over store (doubtful old.in_doubt doubt) (machine_of old) r ask))
+    (entry_in old new store doubt (serving_of done.kind) ask (entry_course (machine_of old) r ask) done.outcome is.outcome (ap (λ (s : AppSide A). s.in_doubt) is.rest))
 
 -- ---- what is noted
 
@@ -117,8 +167,17 @@ noted_lost side Plain before after stands same = same ∙ sym stands.cause
 noted_lost side (Lost changes) before after stands same = sym stands.cause.1
 noted_lost side Corrupted before after stands same = same ∙ stands.cause.0 ∙ sym stands.cause.1
 
-pub below : (made : ℕ) (b : Bool) → made < 65536 → (not (nat_le 65536 made) && b) ≡ b
-below made b lt = ap (λ (c : Bool). not c && b) (lt-leb 65536 made lt)
+pub below : (made : ℕ) (b : Bool) → made < ASKS → (not (nat_le ASKS made) && b) ≡ b
+below made b lt = ap (λ (c : Bool). not c && b) (lt-leb ASKS made lt)
+
+-- after fewer asks than an entry may make
+pub course_below : {A : Type 0} (m : Machine A) (i j : ℕ) (r : Running) (ask : Ask) → r.asks < ASKS → i ≡ j → course_after m i r ask ≡ course m j r ask
+course_below {A} m i j r ask lt same =
+    ap (λ (b : Bool). cond b (Settled Panicked) (course m i r ask)) (lt-leb ASKS r.asks lt) ∙ ap (λ (n : ℕ). course m n r ask) same
+
+-- after as many or more
+pub course_above : {A : Type 0} (m : Machine A) (i : ℕ) (r : Running) (ask : Ask) → ASKS ≤ r.asks → course_after m i r ask ≡ Settled Panicked
+course_above {A} m i r ask le = ap (λ (b : Bool). cond b (Settled Panicked) (course m i r ask)) (le-leb ASKS r.asks le)
 
 -- a turn without the store tries no change
 pub none_tried : (changes : Bool) (s : Status) → TriesOnce changes s s

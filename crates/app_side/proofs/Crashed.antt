@@ -1,23 +1,22 @@
 -- From what a crash within an ask may leave to what one within the turn may leave: the store in doubt is the machine's.
 use Rattle.std.proofs.Common.{ℕ, ◌≡◌, Bool, true, false, cond, Option, Some, sym, ap, subst}
 use Rattle.app_api.specs.declared.ask.Ask.{Ask}
-use Rattle.app_api.specs.declared.ask.Ask.TheVariants as asked
-use Rattle.app_api.specs.declared.out.Outs.{Outs}
-use Rattle.tee_base.specs.declared.codes.Code.{Code}
 use Rattle.store_api.specs.Keeping.{Keeper}
 use Rattle.store_api.specs.Stores.{Store}
 use Rattle.object_asks.specs.declared.turn.TurnKind.{TurnKind}
 use Rattle.object_asks.specs.declared.turn.TurnKind.TheVariants.{Plain, Lost, Corrupted}
-use Rattle.object_asks.specs.Asks.{Answered, ComesToStore, Course, Objects, Outcome, Panicked, Returned, Settled, changes_store, course_in, object_course, outcome_in}
+use Rattle.object_asks.specs.Asks.{changes_store, object_course}
+use Rattle.object_asks.specs.Courses.{Answered, ComesToStore, Course, Objects, Outcome, Panicked, Returned, Settled, course_in, outcome_in}
 use Rattle.object_asks.specs.Serving.{CrashTurns, SaysChange, serving_of, would_leave}
 use Rattle.object_asks.proofs.Crashes.{in_any}
 use Rattle.alone.specs.declared.running.Instance.{Instance}
 use Rattle.alone.specs.declared.running.Running.{Running}
-use Rattle.alone.specs.declared.running.Stage.{Stage}
+use Rattle.alone.specs.declared.family.Family.TheVariants as families
+use Rattle.alone.specs.Families.{family_of}
 use Rattle.alone.specs.Asks.{course, objects_of, with_objects}
 use Rattle.alone.specs.Machine.{Machine}
 use Rattle.alone.specs.Step.{acted, served, store_left}
-use Rattle.alone.proofs.Courses.{no_return}
+use Rattle.app_side.proofs.Carried.{of_family}
 use Rattle.app_side.specs.Serving.{in_doubt_by}
 
 -- the store in doubt where a change's call failed
@@ -42,10 +41,10 @@ module _ {D : Type 0} (K : Keeper D) (old new : D) where
   carried_in m ask (Lost true) (Settled outcome) says crash = in_any K (Lost true) _ old new crash
   carried_in m ask (Lost true) (ComesToStore kept plain) says crash = lost_in m ask kept plain says crash
 
-  pub carried_crash : {A : Type 0} (m : Machine A) (i : ℕ) (stage : Stage) (ask : Ask) (kind : TurnKind) → ((code : Code) (outs : Outs) → ask ≡ asked.Return code outs → ⊥) → SaysChange kind (changes_store ask)
-      → Crash kind (would_leave (object_course (objects_of m) i ask)) → Crash kind (in_doubt_by (served (serving_of kind) m ask (course m i stage ask)))
-  carried_crash {A} m i stage ask kind other says crash =
-      subst (λ (c : Course (Machine A)). Crash kind (in_doubt_by (served (serving_of kind) m ask c))) (sym (no_return m i stage ask other)) (carried_in m ask kind (object_course (objects_of m) i ask) says crash)
+  pub carried_crash : {A : Type 0} (m : Machine A) (i : ℕ) (r : Running) (ask : Ask) (kind : TurnKind) → family_of ask ≡ families.Objects → SaysChange kind (changes_store ask)
+      → Crash kind (would_leave (object_course (objects_of m) i ask)) → Crash kind (in_doubt_by (served (serving_of kind) m ask (course m i r ask)))
+  carried_crash {A} m i r ask kind family says crash =
+      subst (λ (c : Course (Machine A)). Crash kind (in_doubt_by (served (serving_of kind) m ask c))) (sym (of_family families.Objects m i r ask family)) (carried_in m ask kind (object_course (objects_of m) i ask) says crash)
 
   -- the machine behind the ask has that store in doubt
   pub acted_crash : {A : Type 0} (m : Machine A) (inst : Instance A) (r : Running) (kind : TurnKind) (o : Outcome (Machine A)) → Crash kind (in_doubt_by o) → Crash kind (acted m inst r o).machine.in_doubt

@@ -1,6 +1,10 @@
 pub mod CallLemmas
 pub mod Carried
 pub mod Crashed
+pub mod Placed
+pub mod Starving
+pub mod Storeless
 pub mod Stored
 pub mod Taken
+pub mod Torn
 pub mod TurnLemmas

@@ -1,5 +1,5 @@
 -- Calls, beginnings and returns don't look at the objects, and leave them.
-use Rattle.std.proofs.Common.{ℕ, ◌≡◌, Bool, true, false, cond, Option, None, Some, Result, Ok, Err, is_some, refl, sym, ap, ◌∙◌}
+use Rattle.std.proofs.Common.{ℕ, ◌≡◌, Bool, true, false, cond, ◌&&◌, [], ◌∷◌, Option, None, Some, Result, Ok, Err, is_some, refl, sym, ap, ◌∙◌}
 use Rattle.tee_base.specs.declared.codes.Code.{Code}
 use Rattle.app_api.specs.declared.out.Outs.{Outs}
 use Rattle.app_api.specs.declared.param.Params.{Params}
@@ -11,15 +11,25 @@ use Rattle.instances.specs.declared.instances.Refusal.{Refusal}
 use Rattle.instances.specs.declared.session.SessionFacts.{SessionFacts}
 use Rattle.instances.specs.declared.session.SessionState.{SessionState}
 use Rattle.instances.specs.declared.session.SessionState.TheVariants.{Opening, Open, Closing, Dead}
-use Rattle.instances.specs.Instances.{admission_of}
+use Rattle.instances.specs.Instances.{admission_of, is_left, session_removed, state_set}
 use Rattle.op_queue.specs.declared.operation.Begun.{Begun}
-use Rattle.op_queue.specs.Queue.{is_full, first_waiting, begun_at, after_begin}
+use Rattle.op_queue.specs.Queue.{is_full, first_waiting, begun_at, after_begin, after_cancel, cancel_of, operation_of}
 use Rattle.store_api.specs.Stores.{Store, empty_store}
 use Rattle.alone.specs.declared.running.Instance.{Instance}
 use Rattle.alone.specs.declared.running.Stage.{Stage}
 use Rattle.alone.specs.declared.running.Stage.TheVariants as stages
 use Rattle.alone.specs.Machine.{Machine}
-use Rattle.alone.specs.Step.{Stepped, begun, begun_with, called, called_open, closed_at, closed_in, invoked_at, invoked_in, is_success, known, opened_as, quiet, returned}
+use Rattle.alone.specs.Asks.{cancel}
+use Rattle.alone.specs.Machine.{instance_at}
+use Rattle.alone.specs.Places.{delivered}
+use Rattle.alone.specs.Replies.{no_outputs}
+use Rattle.alone.specs.declared.reply.Outputs.{Outputs}
+use Rattle.tee_base.specs.declared.codes.Origin.{Origin}
+use Rattle.tee_base.specs.declared.codes.Origin.TheVariants.{Tee}
+use Rattle.object_asks.specs.Codes.{success}
+use Rattle.alone.specs.Step.{Stepped, after_session, answered, begun, begun_with, called, called_open, cancelled, cancelled_by, closed_at, closed_in, dropped, idle, invoked_at, invoked_in, is_success, is_unused, known, opened_as, quiet, reply_of, returned, torn_down, waiting_open}
+use Rattle.op_queue.specs.declared.operation.Cancelled.{Cancelled as Cancellation}
+use Rattle.op_queue.specs.declared.operation.Cancelled.TheVariants.{Dropped, Flagged, Nothing}
 use Rattle.app_side.specs.declared.side.AppSide.{AppSide}
 use Rattle.app_side.specs.Represents.{Represents, doubtful, machine_of, machine_over, over}
 
@@ -70,18 +80,57 @@ called_over store doubt m client (calls.Invoke label command ps) =
     chosen store doubt (is_some (first_oversized ps)) _ _ _ _ refl (invoke_in_over store doubt m client (calls.Invoke label command ps) (known m client label))
 called_over store doubt m client (calls.Close label) = close_in_over store doubt m client label (known m client label)
 
+-- a choice of machines is the same on both sides
+chosen_machine : {A : Type 0} (store : Store) (doubt : Option Store) (b : Bool) (x y x2 y2 : Machine A) → x2 ≡ over store doubt x → y2 ≡ over store doubt y → cond b x2 y2 ≡ over store doubt (cond b x y)
+chosen_machine store doubt true x y x2 y2 ex ey = ex
+chosen_machine store doubt false x y x2 y2 ex ey = ey
+
+pub idle_over : {A : Type 0} (store : Store) (doubt : Option Store) (m : Machine A) (inst : Instance A) → idle (over store doubt m) inst ≡ over store doubt (idle m inst)
+idle_over store doubt m inst = chosen_machine store doubt (inst.created && is_left m.table inst.number) _ _ _ _ refl refl
+
 begun_with_over : {A : Type 0} (store : Store) (doubt : Option Store) (m : Machine A) (inst : Instance A) (o : Option Begun) → begun_with (over store doubt m) inst o ≡ over store doubt (begun_with m inst o)
-begun_with_over store doubt m inst None = refl
+begun_with_over store doubt m inst None = idle_over store doubt m inst
 begun_with_over store doubt m inst (Some b) = refl
 
 pub begun_over : {A : Type 0} (store : Store) (doubt : Option Store) (m : Machine A) (inst : Instance A) → begun (over store doubt m) inst ≡ over store doubt (begun m inst)
 begun_over store doubt m inst = begun_with_over store doubt (record m { queue = after_begin m.queue (first_waiting m.queue inst.number) }) inst (begun_at (first_waiting m.queue inst.number))
 
-pub returned_over : {A : Type 0} (store : Store) (doubt : Option Store) (m : Machine A) (inst : Instance A) (op : ℕ) (stage : Stage) (code : Code) (outs : Outs) → returned (over store doubt m) inst op stage code outs ≡ step_over store doubt (returned m inst op stage code outs)
-returned_over store doubt m inst op (stages.Create session ps) code outs = chosen store doubt (is_success code) _ _ _ _ refl refl
-returned_over store doubt m inst op (stages.Start session places) code outs = refl
-returned_over store doubt m inst op (stages.Invoke session places) code outs = refl
-returned_over store doubt m inst op (stages.Stop session) code outs = refl
+answered_over : {A : Type 0} (store : Store) (doubt : Option Store) (m : Machine A) (inst : Instance A) (op : Option ℕ) (code : Code) (outputs : Outputs) → answered (over store doubt m) inst op code outputs ≡ step_over store doubt (answered m inst op code outputs)
+answered_over store doubt m inst None code outputs = refl
+answered_over store doubt m inst (Some op) code outputs = refl
+
+after_session_over : {A : Type 0} (store : Store) (doubt : Option Store) (m : Machine A) (inst : Instance A) (op : Option ℕ) (code : Code) (outputs : Outputs) → after_session (over store doubt m) inst op code outputs ≡ step_over store doubt (after_session m inst op code outputs)
+after_session_over store doubt m inst op code outputs = chosen store doubt (is_left m.table inst.number) _ _ _ _ refl (answered_over store doubt m inst op code outputs)
+
+pub returned_over : {A : Type 0} (store : Store) (doubt : Option Store) (m : Machine A) (inst : Instance A) (op : Option ℕ) (stage : Stage) (code : Code) (outs : Outs) → returned (over store doubt m) inst op stage code outs ≡ step_over store doubt (returned m inst op stage code outs)
+returned_over store doubt m inst op (stages.Create session ps places) code outs = chosen store doubt (is_success code) _ _ _ _ refl refl
+returned_over store doubt m inst op (stages.Start session places) code outs =
+    chosen store doubt (is_success code) _ _ _ _
+    (answered_over store doubt (record m { table = state_set m.table session Open }) inst op code (delivered places outs))
+    (after_session_over store doubt (record m { table = session_removed m.table session }) inst op code (delivered places outs))
+returned_over store doubt m inst op (stages.Invoke session places) code outs = answered_over store doubt m inst op code (delivered places outs)
+returned_over store doubt m inst op (stages.Stop session) code outs = after_session_over store doubt (record m { table = session_removed m.table session }) inst op success no_outputs
+returned_over store doubt m inst op (stages.Destroy reply) code outs = refl
+
+pub torn_over : {A : Type 0} (store : Store) (doubt : Option Store) (m : Machine A) (i : ℕ) (code : Code) (origin : Origin) → torn_down (over store doubt m) i code origin ≡ step_over store doubt (torn_down m i code origin)
+torn_over store doubt m i code origin = refl
+
+dropped_over : {A : Type 0} (store : Store) (doubt : Option Store) (m : Machine A) (o : Option (ℕ × ℕ)) → dropped (over store doubt m) o ≡ over store doubt (dropped m o)
+dropped_over store doubt m None = refl
+dropped_over {A} store doubt m (Some o) =
+    let left : Machine A = record m { table = session_removed m.table o.0 } in
+    chosen_machine store doubt (is_unused left o.1 (instance_at left o.1)) _ _ _ _ refl refl
+
+cancelled_by_over : {A : Type 0} (store : Store) (doubt : Option Store) (m : Machine A) (op : ℕ) (o : Option (ℕ × ℕ)) (c : Cancellation) → cancelled_by (over store doubt m) op o c ≡ step_over store doubt (cancelled_by m op o c)
+cancelled_by_over {A} store doubt m op o Dropped = ap (λ (x : Machine A). (let s : Stepped A = record { machine = x; replies = reply_of op cancel Tee no_outputs ∷ []; instance = 0 } in s)) (dropped_over store doubt m o)
+cancelled_by_over store doubt m op o Flagged = refl
+cancelled_by_over store doubt m op o Nothing = refl
+
+pub cancelled_over : {A : Type 0} (store : Store) (doubt : Option Store) (m : Machine A) (op : ℕ) → cancelled (over store doubt m) op ≡ step_over store doubt (cancelled m op)
+unfolding cancelled
+cancelled_over store doubt m op =
+    let o = operation_of m.queue op in
+    cancelled_by_over store doubt (record m { queue = after_cancel m.queue op (cancel_of o) }) op (waiting_open o) (cancel_of o)
 
 -- ---- what a value stands for
 

@@ -1,8 +1,6 @@
 -- An instance whose running entry is in hand keeps its place, and its turn is that of an instance with the entry.
 use Rattle.app_api.specs.Behaviours.{Behaviour}
 use Rattle.std.proofs.Common.{ℕ, ◌≡◌, List, Option, None, Some, find, get_or, get_or-set_same, length-set, set, set-set, sym, subst, ◌∙◌, ap, arith}
-use Rattle.app_api.specs.declared.ask.Ask.{Ask}
-use Rattle.app_api.specs.declared.ask.Given.{Given}
 use Rattle.object_asks.specs.Asks.{Serving}
 use Rattle.alone.specs.declared.running.Instance.{Instance}
 use Rattle.alone.specs.declared.running.Running.{Running}
@@ -10,7 +8,7 @@ use Rattle.alone.specs.InList.{IsPlace}
 use Rattle.alone.specs.Machine.{Machine, is_number, put_instance}
 use Rattle.alone.specs.Step.{Stepped, turned_by, went_on}
 use Rattle.alone.proofs.Lists.{find_put, put_put}
-use Rattle.alone.proofs.Taken.{idle, taken, went_on_taken}
+use Rattle.app_side.proofs.Placed.{emptied, taken, went_on_taken}
 
 -- an instance that is put where its number is keeps the place
 pub place_kept : {A : Type 0} (i : ℕ) (xs : List (Instance A)) (place : ℕ) (new : Instance A) → IsPlace i xs place → new.number ≡ i → IsPlace i (set xs place new) place
@@ -38,10 +36,10 @@ go_on_turned {A} behaviour serving m i place x left r P at here none runs steps 
     let there : find (is_number i) m.instances ≡ Some x = at.found x ∙ ap Some (sym here) in
     let both : Some x ≡ Some inst = sym there ∙ found in
     let same : x ≡ inst = cc in
-    let at_none : P (went_on behaviour serving (record m { instances = set m.instances place (idle x) }) (idle x) r r.waits)
+    let at_none : P (went_on behaviour serving (record m { instances = set m.instances place (emptied x) }) (emptied x) r r.waits)
     = subst (λ (o : Option Running). P (went_on behaviour serving (record m { instances = set m.instances place (record x { running = o }) }) (record x { running = o }) r r.waits)) none steps in
-    let taken_steps : P (went_on behaviour serving (taken m x) (idle x) r r.waits)
-    = subst (λ (xs : List (Instance A)). P (went_on behaviour serving (record m { instances = xs }) (idle x) r r.waits)) (sym (at.put (idle x) numbered)) at_none in
-    let goes : went_on behaviour serving (taken m x) (idle x) r r.waits ≡ turned_by behaviour serving m inst inst.running
+    let taken_steps : P (went_on behaviour serving (taken m x) (emptied x) r r.waits)
+    = subst (λ (xs : List (Instance A)). P (went_on behaviour serving (record m { instances = xs }) (emptied x) r r.waits)) (sym (at.put (emptied x) numbered)) at_none in
+    let goes : went_on behaviour serving (taken m x) (emptied x) r r.waits ≡ turned_by behaviour serving m inst inst.running
     = went_on_taken behaviour serving m x r r.waits ∙ ap (turned_by behaviour serving m x) (sym runs) ∙ ap (λ (y : Instance A). turned_by behaviour serving m y y.running) same in
     subst P goes taken_steps

@@ -6,7 +6,6 @@ use Rattle.app_api.specs.declared.out.Outs.{Outs}
 use Rattle.app_api.specs.declared.ask.Ask.{Ask}
 use Rattle.op_queue.specs.declared.operation.Begun.{Begun}
 use Rattle.op_queue.specs.Queue.{first_waiting, begun_at, after_begin}
-use Rattle.store_api.specs.declared.answer.StoreAnswer.{StoreAnswer}
 use Rattle.store_api.specs.Keeping.{Keeper, Status}
 use Rattle.alone.specs.declared.running.Stage.{Stage}
 use Rattle.alone.specs.declared.running.Stage.TheVariants as stages
@@ -21,18 +20,27 @@ use Rattle.alone.specs.declared.running.Running.{Running}
 use Rattle.alone.specs.declared.running.Waits.TheVariants as waits
 use Rattle.object_asks.specs.declared.turn.TurnKind.{TurnKind}
 use Rattle.object_asks.specs.declared.turn.TurnKind.TheVariants.{Plain, Lost, Corrupted}
-use Rattle.object_asks.specs.Asks.{Outcome, Answered, comes_to_store}
+use Rattle.object_asks.specs.Courses.{Outcome, Answered, comes_to_store}
+use Rattle.object_asks.specs.Codes.{success}
+use Rattle.tee_base.specs.declared.codes.Origin.{Origin}
+use Rattle.instances.specs.declared.session.SessionState.TheVariants.{Open}
+use Rattle.instances.specs.Instances.{is_left, session_removed, state_set}
+use Rattle.alone.specs.Places.{delivered}
+use Rattle.alone.specs.Replies.{no_outputs}
+use Rattle.alone.specs.declared.reply.Outputs.{Outputs}
 use Rattle.alone.specs.Asks.{course_after, objects_of}
+use Rattle.alone.specs.Kinds.{kind_by}
 use Rattle.alone.specs.Machine.{Machine, is_number, with_instance}
-use Rattle.alone.specs.Step.{Stepped, acted, begun, begun_with, create_failed, is_success, start_begun, is_changing, may_stand, of_instance, of_running, of_waits, reaches, quiet, returned, step, thought, turned_as}
+use Rattle.alone.specs.Step.{Stepped, acted, after_session, answered, begun, begun_with, destroying, idle, is_success, is_changing, may_stand, of_instance, of_running, of_waits, reaches, quiet, returned, step, thought, torn_down, turned_as}
 use Rattle.app_side.specs.declared.side.AppSide.{AppSide}
-use Rattle.app_side.specs.Represents.{IsStep, IsTurned, Represents, event_of, machine_of, machine_over}
+use Rattle.app_side.specs.Asking.{changing, reaching}
+use Rattle.app_side.specs.Represents.{IsStep, IsTurned, Represents, event_of, machine_of, machine_over, store_kind}
 use Rattle.object_asks.specs.Serving.{HasStatus, Meets, SaysChange, TriesOnce, serving_of}
-use Rattle.app_side.specs.Serving.{IsTurnOf, changing, reaching}
+use Rattle.app_side.specs.Serving.{IfStarved, IsTurnOf}
 use Rattle.app_side.proofs.Carried.{reaching_is}
 use Rattle.alone.specs.declared.running.Waits.{Waits}
 use Rattle.std.specs.Prelude.{◌&&◌, not}
-use Rattle.app_side.proofs.Stored.{begun_over, replies_over, returned_over, stands_over}
+use Rattle.app_side.proofs.Stored.{begun_over, replies_over, returned_over, stands_over, torn_over}
 
 pub begins : {A : Type 0} (old new : AppSide A) (given : List Reply) (inst : Instance A) (store doubt : Store) → machine_of new ≡ begun (machine_of old) inst → given ≡ (quiet (machine_of new)).replies → IsStep new store given (quiet (begun (machine_over old store doubt) inst))
 begins {A} old new given inst store doubt is none = record {
@@ -48,34 +56,57 @@ thinks {A} behaviour old new given inst r g store doubt is none = record {
   replies = none;
 }
 
-pub returns : {A : Type 0} (old new : AppSide A) (given : List Reply) (inst : Instance A) (r : Running) (ending : Ending) (m : Machine A) (store doubt : Store) → IsTurned new given (returned (machine_of old) inst r.op r.stage ending.code ending.outs) → machine_over old store doubt ≡ m → IsStep new store given (returned m inst r.op r.stage ending.code ending.outs)
-returns {A} old new given inst r ending m store doubt is same = subst (λ (x : Machine A). IsStep new store given (returned x inst r.op r.stage ending.code ending.outs)) same (record {
+pub returns : {A : Type 0} (old new : AppSide A) (given : List Reply) (inst : Instance A) (op : Option ℕ) (stage : Stage) (ending : Ending) (m : Machine A) (store doubt : Store) → IsTurned new given (returned (machine_of old) inst op stage ending.code ending.outs) → machine_over old store doubt ≡ m → IsStep new store given (returned m inst op stage ending.code ending.outs)
+returns {A} old new given inst op stage ending m store doubt is same = subst (λ (x : Machine A). IsStep new store given (returned x inst op stage ending.code ending.outs)) same (record {
   doubt = doubt;
-  machine = stands_over old new (λ (x : Machine A). returned x inst r.op r.stage ending.code ending.outs) (λ s d x. returned_over s d x inst r.op r.stage ending.code ending.outs) is.machine store doubt;
-  replies = is.replies ∙ replies_over old (λ (x : Machine A). returned x inst r.op r.stage ending.code ending.outs) (λ s d x. returned_over s d x inst r.op r.stage ending.code ending.outs) store doubt;
+  machine = stands_over old new (λ (x : Machine A). returned x inst op stage ending.code ending.outs) (λ s d x. returned_over s d x inst op stage ending.code ending.outs) is.machine store doubt;
+  replies = is.replies ∙ replies_over old (λ (x : Machine A). returned x inst op stage ending.code ending.outs) (λ s d x. returned_over s d x inst op stage ending.code ending.outs) store doubt;
 })
 
+-- an instance that is torn down
+pub tears : {A : Type 0} (old new : AppSide A) (given : List Reply) (i : ℕ) (code : Code) (origin : Origin) (m : Machine A) (store doubt : Store) → IsTurned new given (torn_down (machine_of old) i code origin) → machine_over old store doubt ≡ m → IsStep new store given (torn_down m i code origin)
+tears {A} old new given i code origin m store doubt is same = subst (λ (x : Machine A). IsStep new store given (torn_down x i code origin)) same (record {
+  doubt = doubt;
+  machine = stands_over old new (λ (x : Machine A). torn_down x i code origin) (λ s d x. torn_over s d x i code origin) is.machine store doubt;
+  replies = is.replies ∙ replies_over old (λ (x : Machine A). torn_down x i code origin) (λ s d x. torn_over s d x i code origin) store doubt;
+})
+
+-- the running entry that is given this answer next
+abbrev pub answered_next : {A : Type 0} → Instance A → Running → Answer → Instance A
+answered_next inst r answer = record inst { running = Some (record { op = r.op; stage = r.stage; waits = waits.Given (givens.Answer answer); asks = r.asks + 1; masked = r.masked }) }
+
 pub answers : {A : Type 0} (old new : AppSide A) (given : List Reply) (inst : Instance A) (r : Running) (answer : Answer) (store after : Store) (stated : Outcome (Machine A))
-    → machine_of new ≡ with_instance (machine_of old) (record inst { running = Some (record { op = r.op; stage = r.stage; waits = waits.Given (givens.Answer answer); asks = r.asks + 1 }) }) → given ≡ (quiet (machine_of new)).replies → stated ≡ Answered (machine_over old store after) answer
+    → machine_of new ≡ with_instance (machine_of old) (answered_next inst r answer) → given ≡ (quiet (machine_of new)).replies → stated ≡ Answered (machine_over old store after) answer
     → (m : Machine A) → IsStep new store given (acted m inst r stated)
 answers {A} old new given inst r answer store after stated is none same m =
-    let inst2 : Instance A = record inst { running = Some (record { op = r.op; stage = r.stage; waits = waits.Given (givens.Answer answer); asks = r.asks + 1 }) } in
     subst (λ (o : Outcome (Machine A)). IsStep new store given (acted m inst r o)) (sym same) (record {
       doubt = after;
-      machine = stands_over old new (λ (x : Machine A). quiet (with_instance x inst2)) (λ s d x. refl) is store after;
+      machine = stands_over old new (λ (x : Machine A). quiet (with_instance x (answered_next inst r answer))) (λ s d x. refl) is store after;
       replies = none;
     })
 
 -- the event of a turn of a kind is that turn
-pub event_is : {A : Type 0} (behaviour : Behaviour A) (m : Machine A) (kind : TurnKind) (i : ℕ) → turned_as behaviour (serving_of kind) m i ≡ step behaviour m (event_of kind i)
+pub event_is : {A : Type 0} (behaviour : Behaviour A) (m : Machine A) (kind : TurnKind) (i : ℕ) → turned_as behaviour (serving_of kind) m i ≡ step behaviour m (event_of (kind_by kind) i)
 event_is behaviour m Plain i = refl
 event_is behaviour m (Lost changes) i = refl
 event_is behaviour m Corrupted i = refl
 
+-- how the store did in a turn of such a kind
+pub kind_back : (kind : TurnKind) → kind ≡ store_kind (kind_by kind)
+kind_back Plain = refl
+kind_back (Lost changes) = refl
+kind_back Corrupted = refl
+
+-- no turn that was carried out is one that found no memory
+pub not_starved : (kind : TurnKind) (fact : Type 0) → IfStarved (kind_by kind) fact
+not_starved Plain fact = tt
+not_starved (Lost changes) fact = tt
+not_starved Corrupted fact = tt
+
 -- what holds of a turn over all objects holds of the step of each machine that the value stands for
 pub turn_stands : {A : Type 0} (behaviour : Behaviour A) (old : AppSide A) (kind : TurnKind) (i : ℕ) (before : Store) (P : Stepped A → Type 0)
     → ((doubt : Store) → P (turned_as behaviour (serving_of kind) (machine_over old before doubt) i))
-    → (m : Machine A) → Represents old m → m.store ≡ before → P (step behaviour m (event_of kind i))
+    → (m : Machine A) → Represents old m → m.store ≡ before → P (step behaviour m (event_of (kind_by kind) i))
 turn_stands {A} behaviour old kind i before P each m stands same =
     subst P (event_is behaviour m kind i)
     (subst (λ (x : Machine A). P (turned_as behaviour (serving_of kind) x i)) (sym (stands.parts ∙ ap (λ (s : Store). machine_over old s stands.doubt) same)) (each stands.doubt))
@@ -92,32 +123,59 @@ pub none_of : (o : Option Running) → is_some o ≡ false → o ≡ None
 none_of None e = refl
 none_of (Some r) e = absurd (let f : true ≡ false = e in cc)
 
+idle_lost : {A : Type 0} (m : Machine A) (inst : Instance A) → (idle m inst).lost ≡ m.lost
+idle_lost {A} m inst = choice (inst.created && is_left m.table inst.number) (destroying m inst None None) refl
+  where
+    choice : (b : Bool) (x : Machine A) → x.lost ≡ m.lost → (cond b x m).lost ≡ m.lost
+    choice true x e = e
+    choice false x e = refl
+
 begun_with_lost : {A : Type 0} (m : Machine A) (inst : Instance A) (o : Option Begun) → (begun_with m inst o).lost ≡ m.lost
-begun_with_lost m inst None = refl
+begun_with_lost m inst None = idle_lost m inst
 begun_with_lost m inst (Some b) = refl
 
 pub begun_lost : {A : Type 0} (m : Machine A) (inst : Instance A) → (begun m inst).lost ≡ m.lost
 begun_lost m inst = begun_with_lost (record m { queue = after_begin m.queue (first_waiting m.queue inst.number) }) inst (begun_at (first_waiting m.queue inst.number))
 
-pub returned_lost : {A : Type 0} (m : Machine A) (inst : Instance A) (op : ℕ) (stage : Stage) (code : Code) (outs : Outs) → (returned m inst op stage code outs).machine.lost ≡ m.lost
-returned_lost {A} m inst op (stages.Create session ps) code outs =
-    elim (is_success code) as (λ b. (let s : Stepped A = cond b (quiet (with_instance m (record inst { created = true; running = Some (start_begun op session ps) }))) (create_failed m inst code) in s.machine.lost ≡ m.lost)) [ true ↦ refl | false ↦ refl ]
-returned_lost m inst op (stages.Start session places) code outs = refl
-returned_lost m inst op (stages.Invoke session places) code outs = refl
-returned_lost m inst op (stages.Stop session) code outs = refl
+-- whichever way a test turns out
+either_lost : {A : Type 0} (lost b : Bool) (x y : Stepped A) → x.machine.lost ≡ lost → y.machine.lost ≡ lost → (cond b x y).machine.lost ≡ lost
+either_lost lost true x y ex ey = ex
+either_lost lost false x y ex ey = ey
 
-pub turned_lost : {A : Type 0} (old new : AppSide A) (given : List Reply) (inst : Instance A) (op : ℕ) (stage : Stage) (code : Code) (outs : Outs) → IsTurned new given (returned (machine_of old) inst op stage code outs) → old.lost ≡ new.lost
+answered_lost : {A : Type 0} (m : Machine A) (inst : Instance A) (op : Option ℕ) (code : Code) (outputs : Outputs) → (answered m inst op code outputs).machine.lost ≡ m.lost
+answered_lost m inst None code outputs = refl
+answered_lost m inst (Some op) code outputs = refl
+
+after_session_lost : {A : Type 0} (m : Machine A) (inst : Instance A) (op : Option ℕ) (code : Code) (outputs : Outputs) → (after_session m inst op code outputs).machine.lost ≡ m.lost
+after_session_lost m inst op code outputs = either_lost m.lost (is_left m.table inst.number) _ _ refl (answered_lost m inst op code outputs)
+
+pub returned_lost : {A : Type 0} (m : Machine A) (inst : Instance A) (op : Option ℕ) (stage : Stage) (code : Code) (outs : Outs) → (returned m inst op stage code outs).machine.lost ≡ m.lost
+returned_lost m inst op (stages.Create session ps places) code outs = either_lost m.lost (is_success code) _ _ refl refl
+returned_lost m inst op (stages.Start session places) code outs =
+    either_lost m.lost (is_success code)
+    (answered (record m { table = state_set m.table session Open }) inst op code (delivered places outs))
+    (after_session (record m { table = session_removed m.table session }) inst op code (delivered places outs))
+    (answered_lost (record m { table = state_set m.table session Open }) inst op code (delivered places outs))
+    (after_session_lost (record m { table = session_removed m.table session }) inst op code (delivered places outs))
+returned_lost m inst op (stages.Invoke session places) code outs = answered_lost m inst op code (delivered places outs)
+returned_lost m inst op (stages.Stop session) code outs = after_session_lost (record m { table = session_removed m.table session }) inst op success no_outputs
+returned_lost m inst op (stages.Destroy reply) code outs = refl
+
+pub turned_lost : {A : Type 0} (old new : AppSide A) (given : List Reply) (inst : Instance A) (op : Option ℕ) (stage : Stage) (code : Code) (outs : Outs) → IsTurned new given (returned (machine_of old) inst op stage code outs) → old.lost ≡ new.lost
 turned_lost {A} old new given inst op stage code outs is = sym (ap (λ (m : Machine A). m.lost) is.machine ∙ returned_lost (machine_of old) inst op stage code outs)
 
-of_waits_same : (one other : ℕ → Stage → Ask → Bool) (r : Running) (w : Waits) → ((made : ℕ) (stage : Stage) (ask : Ask) → one made stage ask ≡ other made stage ask) → of_waits one r w ≡ of_waits other r w
-of_waits_same one other r (waits.Given given) same = refl
-of_waits_same one other r (waits.Ask ask) same = same r.asks r.stage ask
+pub torn_lost : {A : Type 0} (old new : AppSide A) (given : List Reply) (i : ℕ) (code : Code) (origin : Origin) → IsTurned new given (torn_down (machine_of old) i code origin) → old.lost ≡ new.lost
+torn_lost {A} old new given i code origin is = sym (ap (λ (m : Machine A). m.lost) is.machine)
 
-of_running_same : (one other : ℕ → Stage → Ask → Bool) (o : Option Running) → ((made : ℕ) (stage : Stage) (ask : Ask) → one made stage ask ≡ other made stage ask) → of_running one o ≡ of_running other o
+of_waits_same : (one other : Running → Ask → Bool) (r : Running) (w : Waits) → ((r : Running) (ask : Ask) → one r ask ≡ other r ask) → of_waits one r w ≡ of_waits other r w
+of_waits_same one other r (waits.Given given) same = refl
+of_waits_same one other r (waits.Ask ask) same = same r ask
+
+of_running_same : (one other : Running → Ask → Bool) (o : Option Running) → ((r : Running) (ask : Ask) → one r ask ≡ other r ask) → of_running one o ≡ of_running other o
 of_running_same one other None same = refl
 of_running_same one other (Some r) same = of_waits_same one other r r.waits same
 
-of_instance_same : {A : Type 0} (one other : ℕ → Stage → Ask → Bool) (o : Option (Instance A)) → ((made : ℕ) (stage : Stage) (ask : Ask) → one made stage ask ≡ other made stage ask) → of_instance one o ≡ of_instance other o
+of_instance_same : {A : Type 0} (one other : Running → Ask → Bool) (o : Option (Instance A)) → ((r : Running) (ask : Ask) → one r ask ≡ other r ask) → of_instance one o ≡ of_instance other o
 of_instance_same one other None same = refl
 of_instance_same one other (Some inst) same = of_running_same one other inst.running same
 
@@ -125,11 +183,11 @@ both_true : (a b : Bool) → a ≡ true → b ≡ false → (a && not b) ≡ tru
 both_true a b ha hb = rw (ha, hb) refl
 
 reaches_is : {A : Type 0} (old : AppSide A) (store doubt : Store) (i : ℕ) → of_instance (reaching (objects_of (machine_over old store doubt)) i) (find (is_number i) old.instances.items) ≡ reaches (machine_over old store doubt) i
-reaches_is old store doubt i = of_instance_same _ (λ made stage ask. comes_to_store (course_after made (machine_over old store doubt) i stage ask)) (find (is_number i) old.instances.items) (λ made stage ask. reaching_is (machine_over old store doubt) i made stage ask)
+reaches_is old store doubt i = of_instance_same _ (λ r ask. comes_to_store (course_after (machine_over old store doubt) i r ask)) (find (is_number i) old.instances.items) (λ r ask. reaching_is (machine_over old store doubt) i r ask)
 
 -- the event of a turn may stand
 pub turn_may_stand : {A : Type 0} (old : AppSide A) (store : Store) (kind : TurnKind) (i : ℕ) (before after : Status) → old.lost ≡ before.lost → HasStatus kind before after
-    → Meets kind (of_instance (reaching (record { store = store; handles = old.handles }) i) (find (is_number i) old.instances.items)) → (m : Machine A) → Represents old m → m.store ≡ store → may_stand m (event_of kind i) ≡ true
+    → Meets kind (of_instance (reaching (record { store = store; held = old.held }) i) (find (is_number i) old.instances.items)) → (m : Machine A) → Represents old m → m.store ≡ store → may_stand m (event_of (kind_by kind) i) ≡ true
 turn_may_stand old store Plain i before after same stands meets m of_m kept = refl
 turn_may_stand {A} old store (Lost changes) i before after same stands meets m of_m kept =
     subst (λ (x : Machine A). (reaches x i && not x.lost) ≡ true) (sym (of_m.parts ∙ ap (λ (s : Store). machine_over old s of_m.doubt) kept)) (both_true _ _ (sym (reaches_is old store of_m.doubt i) ∙ meets) (same ∙ stands.cause.0))

@@ -1,26 +1,50 @@
 -- An entry that asks, taken apart.
-use Rattle.std.specs.Prelude.{ℕ, Bool}
+use Rattle.std.specs.Prelude.{ℕ, ◌+◌, not, nat_le, ◌&&◌, Bool, false}
+use Rattle.tee_base.specs.declared.limits.TheConstants.{ASKS}
 use Rattle.app_api.specs.Behaviours.{Behaviour}
+use Rattle.app_api.specs.declared.ask.Answer.{Answer}
+use Rattle.app_api.specs.declared.ask.Ask.{Ask}
+use Rattle.app_api.specs.declared.ask.Given.TheVariants as givens
 use Rattle.store_api.specs.Keeping.{Contents}
-use Rattle.object_asks.specs.Asks.{Serving}
+use Rattle.object_asks.specs.Asks.{Objects, Serving, changes_store, comes_to_store, object_course}
 use Rattle.object_asks.specs.Serving.{objects_in}
+use Rattle.alone.specs.declared.family.Family.{Family}
+use Rattle.alone.specs.declared.family.Family.TheVariants as families
 use Rattle.alone.specs.declared.running.Instance.{Instance}
 use Rattle.alone.specs.declared.running.Running.{Running}
 use Rattle.alone.specs.declared.running.Waits.TheVariants as waits
+use Rattle.alone.specs.Families.{family_of}
 use Rattle.alone.specs.Machine.{Machine}
 use Rattle.alone.specs.Step.{Stepped, went_on}
 use Rattle.app_side.specs.declared.side.AppSide.{AppSide}
-use Rattle.app_side.specs.declared.turns.Asked.{Asked}
-use Rattle.app_side.specs.Serving.{reaching}
+use Rattle.app_side.specs.declared.turns.Entered.{Entered}
 
 -- the running entry that waits with this ask
-abbrev pub asking : Asked → Running
-asking asked = record { op = asked.op; stage = asked.stage; waits = waits.Ask asked.ask; asks = asked.asks }
+abbrev pub asking : Entered → Ask → Running
+asking e ask = record { op = e.op; stage = e.stage; waits = waits.Ask ask; asks = e.asks; masked = e.masked }
+
+-- the running entry that is given this answer next, masked so
+abbrev pub given_next : Entered → Bool → Answer → Running
+given_next e masked answer = record { op = e.op; stage = e.stage; waits = waits.Given (givens.Answer answer); asks = e.asks + 1; masked = masked }
 
 -- a turn in which the instance's ask is carried out
-abbrev pub asked_turn : {A : Type 0} → Behaviour A → Serving → Machine A → Instance A → Asked → Stepped A
-asked_turn behaviour serving m inst asked = went_on behaviour serving m inst (asking asked) (waits.Ask asked.ask)
+abbrev pub asked_turn : {A : Type 0} → Behaviour A → Serving → Machine A → Instance A → Entered → Ask → Stepped A
+asked_turn behaviour serving m inst e ask = went_on behaviour serving m inst (asking e ask) (waits.Ask ask)
 
--- the ask comes to the store
-abbrev pub comes : {A : Type 0} → AppSide A → ℕ → Contents → Asked → Bool
-comes side i contents asked = reaching (objects_in side.handles contents) i asked.asks asked.stage asked.ask
+-- an ask of this family comes to the store: only one about objects does
+abbrev pub reaching_in_family : Family → Objects → ℕ → Ask → Bool
+reaching_in_family families.Entry o i ask = false
+reaching_in_family families.Objects o i ask = comes_to_store (object_course o i ask)
+reaching_in_family families.Unbuilt o i ask = false
+
+-- the ask that an instance makes in this entry comes to the store
+abbrev pub reaching : Objects → ℕ → Running → Ask → Bool
+reaching o i r ask = not (nat_le ASKS r.asks) && reaching_in_family (family_of ask) o i ask
+
+-- the same of an entry taken apart
+abbrev pub comes : {A : Type 0} → AppSide A → ℕ → Contents → Entered → Ask → Bool
+comes side i contents e ask = reaching (objects_in side.held contents) i (asking e ask) ask
+
+-- the ask is to change the store
+abbrev pub changing : Running → Ask → Bool
+changing r ask = changes_store ask

@@ -1,6 +1,6 @@
-pub mod Adder
+pub mod Actor
 pub mod Asking
-pub mod Endless
 pub mod Probe
 pub mod Represents
 pub mod Serving
+pub mod Storeless

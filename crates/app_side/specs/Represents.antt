@@ -1,13 +1,17 @@
 -- Which machines a running application stands for.
-use Rattle.std.specs.Prelude.{ℕ, ◌≡◌, Bool, true, ◌||◌, List, Option, None, Some, if◌then◌else◌}
-use Rattle.app_api.specs.declared.host.Host.{Host}
+use Rattle.std.specs.Prelude.{ℕ, ◌≡◌, Bool, true, ◌||◌, List, [], Option, None, Some, if◌then◌else◌}
 use Rattle.store_api.specs.Stores.{Store, empty_store}
 use Rattle.alone.specs.declared.reply.Reply.{Reply}
-use Rattle.object_asks.specs.declared.turn.TurnKind.{TurnKind}
-use Rattle.object_asks.specs.declared.turn.TurnKind.TheVariants.{Plain, Lost as LostTurn, Corrupted as CorruptedTurn}
+use Rattle.object_asks.specs.declared.turn.TurnKind.{TurnKind as StoreKind}
+use Rattle.object_asks.specs.declared.turn.TurnKind.TheVariants as store_kinds
+use Rattle.operation_asks.specs.Asks.{no_operations}
+use Rattle.tee_base.specs.declared.codes.Code.{Code}
+use Rattle.tee_base.specs.declared.codes.Origin.{Origin}
+use Rattle.alone.specs.declared.turn.TurnKind.{TurnKind}
+use Rattle.alone.specs.declared.turn.TurnKind.TheVariants as kinds
 use Rattle.object_asks.specs.Asks.{Outcome, Answered, Returned, Panicked}
 use Rattle.alone.specs.Machine.{Machine}
-use Rattle.alone.specs.Step.{Stepped, Event, Turned, TurnLost, Corrupted}
+use Rattle.alone.specs.Step.{Stepped, Event, Turned, TurnLost, Corrupted, Starved, torn_down}
 use Rattle.object_asks.specs.declared.outcome.Outcome.{Outcome as Result_of}
 use Rattle.object_asks.specs.declared.outcome.Outcome.TheVariants as outcomes
 use Rattle.app_side.specs.declared.side.AppSide.{AppSide}
@@ -23,6 +27,7 @@ machine_of side = record {
   template = side.template;
   index = side.application;
   seed = side.seed;
+  boot = side.boot;
   table = side.table;
   instances = side.instances.items;
   queue = side.queue;
@@ -30,7 +35,8 @@ machine_of side = record {
   store = empty_store;
   lost = side.lost;
   in_doubt = doubtful side.in_doubt empty_store;
-  handles = side.handles;
+  held = side.held;
+  crypto = no_operations side.seed side.application side.boot;
 }
 
 -- the machine with other objects, and others in doubt
@@ -51,11 +57,26 @@ pub record Represents {A : Type 0} (side : AppSide A) (m : Machine A) : Type 0 w
 abbrev pub is_lost : {A : Type 0} → AppSide A → Bool
 is_lost side = side.lost
 
+-- how many turns were made, and how often the power was lost
+abbrev pub turns_of : {A : Type 0} → AppSide A → ℕ
+turns_of side = side.turns
+
+abbrev pub boot_of : {A : Type 0} → AppSide A → ℕ
+boot_of side = side.boot
+
 -- the event that a turn of this kind is
 abbrev pub event_of : TurnKind → ℕ → Event
-event_of Plain instance = Turned instance
-event_of (LostTurn changes) instance = TurnLost instance
-event_of CorruptedTurn instance = Corrupted instance
+event_of kinds.Plain instance = Turned instance
+event_of (kinds.Lost changes) instance = TurnLost instance
+event_of kinds.Starved instance = Starved instance
+event_of kinds.Corrupted instance = Corrupted instance
+
+-- how the store did in a turn of this kind
+abbrev pub store_kind : TurnKind → StoreKind
+store_kind kinds.Plain = store_kinds.Plain
+store_kind (kinds.Lost changes) = store_kinds.Lost changes
+store_kind kinds.Starved = store_kinds.Plain
+store_kind kinds.Corrupted = store_kinds.Corrupted
 
 -- the value and what became of the call are those of a step
 pub record IsCalled {A : Type 0} (side : AppSide A) (called : Called) (number : ℕ) (s : Stepped A) : Type 0 where
@@ -69,6 +90,15 @@ pub record IsTurned {A : Type 0} (side : AppSide A) (given : List Reply) (s : St
   pub machine : machine_of side ≡ s.machine
   pub replies : given ≡ s.replies
 
+-- whatever tears the instance down finds the same as in this machine
+abbrev pub IsTornAlike : {A : Type 0} → ℕ → AppSide A → Machine A → Type 0
+IsTornAlike instance side m = (code : Code) (origin : Origin) → torn_down (machine_of side) instance code origin ≡ torn_down m instance code origin
+
+-- the same, and there is no reply yet
+pub record StarvesAlike {A : Type 0} (instance : ℕ) (side : AppSide A) (given : List Reply) (m : Machine A) : Type 0 where
+  pub alike : IsTornAlike instance side m
+  pub none : given ≡ []
+
 -- the value stands for what a step leaves, with this store, and the replies are the step's
 pub record IsStep {A : Type 0} (side : AppSide A) (store : Store) (given : List Reply) (s : Stepped A) : Type 0 where
   pub doubt : Store
@@ -76,19 +106,13 @@ pub record IsStep {A : Type 0} (side : AppSide A) (store : Store) (given : List 
   pub replies : given ≡ s.replies
 
 -- the value with what a turn of this kind leaves of the storage
-abbrev pub noted : {A : Type 0} → AppSide A → TurnKind → AppSide A
-noted side Plain = side
-noted side (LostTurn changes) = record side { lost = true; in_doubt = changes || side.in_doubt }
-noted side CorruptedTurn = side
+abbrev pub noted : {A : Type 0} → AppSide A → StoreKind → AppSide A
+noted side store_kinds.Plain = side
+noted side (store_kinds.Lost changes) = record side { lost = true; in_doubt = changes || side.in_doubt }
+noted side store_kinds.Corrupted = side
 
 -- the value stands for what the stated outcome leaves, with this store; where the entry ends, that is the machine before it
 abbrev pub IsLeft : {A : Type 0} → Result_of → Outcome (Machine A) → AppSide A → Store → Store → Machine A → Type 0
 IsLeft {A} (outcomes.Answered answer) stated side store doubt before = (after : Store) × (stated ≡ Answered (machine_over side store after) answer)
 IsLeft (outcomes.Returned ending) stated side store doubt before = (stated ≡ Returned ending.code ending.outs) × (machine_over side store doubt ≡ before)
 IsLeft outcomes.Panicked stated side store doubt before = (stated ≡ Panicked) × (machine_over side store doubt ≡ before)
-
--- one instance serves all sessions, and stays
-pub record IsOneInstance {A : Type 0} (host : Host A) : Type 0 where
-  pub single : host.properties.single ≡ true
-  pub multi : host.properties.multi ≡ true
-  pub keep : host.properties.keep ≡ true

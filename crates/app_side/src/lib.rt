@@ -2,10 +2,13 @@
 #![tactic(auto)]
 
 mod calls;
+mod cancelling;
+mod no_store;
 mod public;
 mod returns;
 mod serving;
 mod side;
+mod teardown;
 #[cfg(test)]
 mod tests;
 mod turns;

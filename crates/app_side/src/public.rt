@@ -1,51 +1,55 @@
 //! The calls of a running application, each of them a step of every machine that the value represents.
 
-ghost use Rattle.std.specs.Prelude.{◌≡◌, [], IfOk, OnErr, false, true};
+ghost use Rattle.std.specs.Prelude.{◌≡◌, ◌<◌, ◌^◌, ◌-◌, [], IfOk, OnErr, false, true};
 ghost use Rattle.store_api.specs.Stores.{Store};
-ghost use Rattle.object_asks.specs.Serving.{EndsUnchanged, TriesOnce};
+ghost use Rattle.object_asks.specs.Serving.{TriesOnce};
+ghost use Rattle.alone.specs.Laws.{live};
 ghost use Rattle.alone.specs.Machine.{Machine, start};
-ghost use Rattle.alone.specs.Step.{called, is_answered, is_changing, step, Lost};
-ghost use Rattle.app_side.specs.Represents.{is_lost, Represents, IsOneInstance};
+ghost use Rattle.alone.specs.Step.{called, cancelled, is_answered, is_changing, step, torn_down, Cancelled, Lost, Restarted, Starved};
+ghost use Rattle.app_side.specs.Represents.{boot_of, event_of, is_lost, turns_of, Represents};
 ghost use Rattle.app_side.specs.Serving.{IsTurn};
+ghost use Rattle.app_side.specs.Storeless.{IsStoreless, wants_store};
 
+use crate::no_store::NoStore;
 use crate::side::{AppSide, Called, Turned};
 use alone::{Call, Replies, TurnKind};
 use app_api::{Application, Host};
 use instances::Instances;
-use object_asks::Handles;
+use object_asks::Held;
 use op_queue::OpQueue;
 use std::alloc::Global;
 use store_api::AppStore;
-use tee_base::NoMemory;
+use tee_base::{Code, NoMemory, Origin};
 
-/// How many calls are numbered and turns are counted: more than any script makes.
+/// How many calls are numbered: more than any script makes.
 const MOST: u64 = 1 << 63;
 
 impl<A: Application> AppSide<A> {
-    /// An application that has run nothing, the one of this index among the hosts. Its one instance serves all sessions and
-    /// stays, as long as other properties aren't built.
+    /// An application that has run nothing, the one of this index among the hosts.
     pub fn new(
         alloc: Global,
         host: Host<A>,
         application: u8,
         seed: [u8; 32],
     ) -> Result<AppSide<A>, NoMemory>
-        requires { IsOneInstance host }
         ensures start { IfOk result (λ side. (store : Store) → Represents side (start host application seed store)) }
         ensures lost { IfOk result (λ side. is_lost side ≡ false) }
+        ensures turns { IfOk result (λ side. turns_of side ≡ 0) }
+        ensures boot { IfOk result (λ side. boot_of side ≡ 0) }
     {
         Ok(AppSide {
             alloc,
             template: host.template,
             application,
             seed,
+            boot: 0,
             table: Instances::new(host.properties),
             instances: Vec::new(alloc),
             queue: OpQueue::new(alloc),
             turns: 0,
             lost: false,
             in_doubt: false,
-            handles: Handles::new(alloc),
+            held: Held::new(alloc),
         })
     }
 
@@ -65,26 +69,35 @@ impl<A: Application> AppSide<A> {
         self.serve(client, call)
     }
 
+    /// A client asks for the operation of this number to be cancelled. One that has not begun is answered, and an open among
+    /// them loses its session; one that runs reads of it, unless it is a close; all else is ignored. It takes no memory.
+    pub fn cancel(&mut self, op: u64) -> Replies
+        ensures step { (m : Machine A) → Represents self.old m
+            → Represents self.new (step A.behaviour m (Cancelled op)).machine }
+        ensures replies { (m : Machine A) → Represents self.old m
+            → result ≡ (step A.behaviour m (Cancelled op)).replies }
+        ensures lost { is_lost self.new ≡ is_lost self.old }
+    {
+        self.request(op)
+    }
+
     /// A turn of the instance: its entry goes on, or its next operation begins, or nothing happens. The store handed in keeps
     /// the application's objects. It is asked for a change at most once, and only where the ask that waits is one of those that
-    /// change it. The turn's kind says whether a call of the store failed, or told of damage. A crash within the turn leaves what
-    /// was kept before it or after it; where the turn is lost, what was kept before it or the store that is then in doubt.
-    ///
-    /// # Errors
-    ///
-    /// Want of memory ends the run: the entry that ran is gone. No call of the store failed then, and it keeps what it kept, since
-    /// a turn takes all its memory before it asks for a change.
-    pub fn turn<T: AppStore>(&mut self, instance: u8, store: &mut T) -> Result<Turned, NoMemory>
-        requires { is_lost self.old ≡ (T.keeper.status store.old).lost }
-        ensures turn { IfOk result (λ turned. IsTurn T.keeper A.behaviour instance turned.kind turned.replies
-            self.old self.new store.old store.new) }
+    /// change it. The turn's kind says whether a call of the store failed, or told of damage, or that there was no memory: then
+    /// the instance is torn down, and the store keeps what it kept, since a turn takes all its memory before it asks for a
+    /// change. A crash within the turn leaves what was kept before it or after it; where the turn is lost, what was kept before
+    /// it or the store that is then in doubt.
+    pub fn turn<T: AppStore>(&mut self, instance: u8, store: &mut T) -> Turned
+        requires few { turns_of self.old < 2 ^ 63 }
+        requires loss { is_lost self.old ≡ (T.keeper.status store.old).lost }
+        ensures turn { IsTurn T.keeper A.behaviour instance result.kind result.replies
+            self.old self.new store.old store.new }
         ensures tried { (m : Machine A) → Represents self.old m
             → TriesOnce (is_changing m instance) (T.keeper.status store.old) (T.keeper.status store.new) }
-        ensures want { OnErr result (EndsUnchanged T.keeper store.old store.new) }
     {
         let mut replies = Replies::none();
-        let kind = self.turn_into(instance, store, &mut replies)?;
-        Ok(Turned { kind, replies })
+        let kind = self.turn_into(instance, store, &mut replies);
+        Turned { kind, replies }
     }
 
     /// The same, with its replies in a table that the caller keeps, so that many turns need one.
@@ -93,20 +106,67 @@ impl<A: Application> AppSide<A> {
         instance: u8,
         store: &mut T,
         replies: &mut Replies,
-    ) -> Result<TurnKind, NoMemory>
+    ) -> TurnKind
+        requires few { turns_of self.old < 2 ^ 63 }
         requires loss { is_lost self.old ≡ (T.keeper.status store.old).lost }
         requires none { replies.old ≡ [] }
-        ensures turn { IfOk result (λ kind. IsTurn T.keeper A.behaviour instance kind replies.new
-            self.old self.new store.old store.new) }
+        ensures turn { IsTurn T.keeper A.behaviour instance result replies.new
+            self.old self.new store.old store.new }
         ensures tried { (m : Machine A) → Represents self.old m
             → TriesOnce (is_changing m instance) (T.keeper.status store.old) (T.keeper.status store.new) }
-        ensures want { OnErr result (EndsUnchanged T.keeper store.old store.new) }
     {
-        if self.turns >= MOST {
-            return Err(NoMemory);
+        match self.advance(store, instance, replies) {
+            Ok(kind) => TurnKind::of(kind),
+            Err(NoMemory) => {
+                self.tear_down(instance, Code::OUT_OF_MEMORY, Origin::Tee, replies);
+                TurnKind::Starved
+            }
         }
-        let kind = self.advance(store, instance, replies)?;
-        Ok(kind)
+    }
+
+    /// A turn of an instance in which no ask waits that may need the store. It is the same turn over whatever store the
+    /// application has.
+    pub fn turn_without_store(&mut self, instance: u8) -> Turned
+        requires few { turns_of self.old < 2 ^ 63 }
+        requires storeless { wants_store self.old instance ≡ false }
+        ensures kind { IsStoreless result.kind }
+        ensures step { (m : Machine A) → Represents self.old m
+            → Represents self.new (step A.behaviour m (event_of result.kind instance)).machine }
+        ensures told { (m : Machine A) → Represents self.old m
+            → result.replies ≡ (step A.behaviour m (event_of result.kind instance)).replies }
+        ensures lost { is_lost self.new ≡ is_lost self.old }
+    {
+        let mut store = NoStore::new(self.lost);
+        let turned = self.turn(instance, &mut store);
+        store.bounds();
+        turned
+    }
+
+    /// A turn of the instance for which there is no memory: the instance is torn down. It takes no memory itself.
+    pub fn starve(&mut self, instance: u8) -> Replies
+        requires { turns_of self.old < 2 ^ 63 }
+        ensures step { (m : Machine A) → Represents self.old m
+            → Represents self.new (step A.behaviour m (Starved instance)).machine }
+        ensures replies { (m : Machine A) → Represents self.old m
+            → result ≡ (step A.behaviour m (Starved instance)).replies }
+        ensures lost { is_lost self.new ≡ is_lost self.old }
+    {
+        self.turns += 1;
+        self.teardown(instance, Code::OUT_OF_MEMORY)
+    }
+
+    /// Each unanswered operation of the instance is answered with the code, and the instance is gone with all that it holds. It
+    /// takes no memory.
+    pub fn teardown(&mut self, instance: u8, code: Code) -> Replies
+        ensures machine { (m : Machine A) → Represents self.old m
+            → Represents self.new (torn_down m instance code Origin.Tee).machine }
+        ensures replies { (m : Machine A) → Represents self.old m
+            → result ≡ (torn_down m instance code Origin.Tee).replies }
+        ensures lost { is_lost self.new ≡ is_lost self.old }
+    {
+        let mut replies = Replies::none();
+        self.tear_down(instance, code, Origin::Tee, &mut replies);
+        replies
     }
 
     /// The storage is lost, for a reason that lies outside of this application.
@@ -118,9 +178,27 @@ impl<A: Application> AppSide<A> {
         self.lost = true;
     }
 
+    /// The power came back, with the change in doubt or without it: sessions, instances and unanswered operations are gone
+    /// without a reply, and the storage serves again. It takes no memory.
+    pub fn restart(&mut self, took: bool)
+        requires { boot_of self.old < 2 ^ 32 - 1 }
+        ensures step { (m : Machine A) → Represents self.old m
+            → Represents self.new (step A.behaviour m (Restarted took)).machine }
+        ensures lost { is_lost self.new ≡ false }
+    {
+        self.boot += 1;
+        self.table.reset();
+        self.instances.clear();
+        self.queue.forget();
+        self.held = Held::new(self.alloc);
+        self.lost = false;
+        self.in_doubt = false;
+    }
+
     /// How many turns were made so far.
     pub fn turns(&self) -> u64
-        ensures { (m : Machine A) → Represents self.now m → result ≡ m.turns }
+        ensures machine { (m : Machine A) → Represents self.now m → result ≡ m.turns }
+        ensures own { result ≡ turns_of self.now }
     {
         self.turns
     }
@@ -130,5 +208,20 @@ impl<A: Application> AppSide<A> {
         ensures { (m : Machine A) → Represents self.now m → result ≡ is_answered m op }
     {
         op < self.queue.next_number() && self.queue.facts(op).is_none()
+    }
+
+    /// Whether the storage is lost.
+    pub fn is_lost(&self) -> bool
+        ensures { result ≡ is_lost self.now }
+    {
+        self.lost
+    }
+
+    /// How many operations are unanswered, and how many instances there are, in all.
+    pub fn live(&self) -> usize
+        ensures { (m : Machine A) → Represents self.now m → result ≡ live m }
+    {
+        self.queue.bounds();
+        self.queue.operations().len() + self.instances.len()
     }
 }

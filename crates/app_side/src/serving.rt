@@ -1,17 +1,20 @@
 //! What an instance asks for is carried out.
 
-ghost use Rattle.std.specs.Prelude.{◌≡◌};
-ghost use Rattle.object_asks.specs.Asks.{changes_store, comes_to_store, object_course};
+ghost use Rattle.std.specs.Prelude.{◌≡◌, Option};
+ghost use Rattle.object_asks.specs.Asks.{changes_store};
 ghost use Rattle.object_asks.specs.Serving.{objects_in};
-ghost use Rattle.alone.specs.Asks.{course};
+ghost use Rattle.alone.specs.Families.{family_of};
+ghost use Rattle.alone.specs.Asks.{course, entry_course, flag_for, mask_for, mask_set_for};
 ghost use Rattle.alone.specs.Step.{served};
-ghost use Rattle.app_side.specs.Represents.{noted};
-ghost use Rattle.app_side.specs.Serving.{CarriesOut};
+ghost use Rattle.app_side.specs.Asking.{asking, reaching_in_family};
+ghost use Rattle.app_side.specs.Represents.{machine_of, noted};
+ghost use Rattle.app_side.specs.Serving.{CarriesOut, IsEntryServed};
 
 use crate::side::AppSide;
-use alone::{Stage, TurnKind, returned};
-use app_api::{Application, Ask};
-use object_asks::{Served, serve};
+use crate::turns::Entered;
+use alone::{Family, family_of, not_built, returned};
+use app_api::{Answer, Application, Ask};
+use object_asks::{Outcome, Served, TurnKind, answered, panicked, serve};
 use store_api::AppStore;
 use tee_base::NoMemory;
 
@@ -26,26 +29,69 @@ impl<A: Application> AppSide<A> {
         }
     }
 
-    /// Carries out what the instance asks for in an entry of this stage.
+    /// Whether the entry reads that its operation was asked to be cancelled.
+    fn reads_flag(&self, op: Option<u64>) -> bool
+        ensures { result ≡ flag_for self.now.queue op }
+    {
+        match op {
+            None => false,
+            Some(op) => self.queue.flag(op),
+        }
+    }
+
+    /// Masks cancellation for the entry, or unmasks it, and answers whether it was masked. An entry without an operation has
+    /// a mask of its own.
+    fn set_mask(&mut self, op: Option<u64>, own: bool, masked: bool) -> bool
+        ensures before { result ≡ mask_for self.old.queue op own }
+        ensures after { self.new ≡ record self.old { queue = mask_set_for self.old.queue op masked } }
+    {
+        match op {
+            None => own,
+            Some(op) if masked => self.queue.mask(op),
+            Some(op) => self.queue.unmask(op),
+        }
+    }
+
+    /// Serves an ask about the entry itself. One of another family doesn't come here.
+    fn serve_entry(&mut self, entry: &Entered, ask: Ask) -> Served
+        ensures { IsEntryServed result (entry_course (machine_of self.old) (asking entry.now ask) ask)
+            self.old self.new }
+    {
+        match ask {
+            Ask::Return { code, outs } => returned(&entry.stage, code, outs),
+            Ask::CancelFlag => answered(Answer::Truth(self.reads_flag(entry.op))),
+            Ask::CancelMask => answered(Answer::Truth(self.set_mask(entry.op, entry.masked, true))),
+            Ask::CancelUnmask => answered(Answer::Truth(self.set_mask(
+                entry.op,
+                entry.masked,
+                false,
+            ))),
+            _ => panicked(),
+        }
+    }
+
+    /// Carries out what the instance asks for in this entry.
     pub(crate) fn carry_out<T: AppStore>(
         &mut self,
         store: &mut T,
         instance: u8,
-        stage: &Stage,
+        entry: &Entered,
         ask: Ask,
     ) -> Result<Served, NoMemory>
-        ensures { let before = objects_in self.old.handles (T.keeper.contents store.old)
-            in CarriesOut T.keeper (λ serving m. served serving m ask (course m instance stage.now ask))
-            (comes_to_store (object_course before instance ask)) (changes_store ask)
-            result self.old self.new store.old store.new }
+        ensures { CarriesOut T.keeper
+            (λ serving m. served serving m ask (course m instance (asking entry.now ask) ask))
+            (reaching_in_family (family_of ask)
+            (objects_in self.old.held (T.keeper.contents store.old)) instance ask)
+            (changes_store ask) instance result self.old self.new store.old store.new }
     {
-        match ask {
-            Ask::Return { code, outs } => Ok(returned(stage, code, outs)),
-            ask => {
-                let served = serve(self.alloc, &mut self.handles, store, instance, ask)?;
+        match family_of(&ask) {
+            Family::Entry => Ok(self.serve_entry(entry, ask)),
+            Family::Objects => {
+                let served = serve(self.alloc, &mut self.held, store, instance, ask)?;
                 self.note(served.kind);
                 Ok(served)
             }
+            Family::Unbuilt => Ok(Served::plain(Outcome::Returned(not_built()))),
         }
     }
 }

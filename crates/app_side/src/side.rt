@@ -3,19 +3,20 @@
 use alone::{Instance, Replies, TurnKind};
 use app_api::{Application, Host};
 use instances::Instances;
-use object_asks::Handles;
+use object_asks::Held;
 use op_queue::OpQueue;
 use std::alloc::Global;
-use tee_base::NoMemory;
 
-/// A running application: its instances, its sessions, its unanswered operations and its handles. Its objects are kept
-/// elsewhere.
+/// A running application: its instances, its sessions, its unanswered operations, and what asks touch in memory. Its objects
+/// are kept elsewhere.
 #[derive(Drop)]
 pub struct AppSide<A> {
     pub(crate) alloc: Global,
     pub(crate) template: A,
     pub(crate) application: u8,
     pub(crate) seed: [u8; 32],
+    /// How often the power was lost.
+    pub(crate) boot: u32,
     pub(crate) table: Instances,
     pub(crate) instances: Vec<Instance<A>>,
     pub(crate) queue: OpQueue,
@@ -24,7 +25,7 @@ pub struct AppSide<A> {
     pub(crate) lost: bool,
     /// Whether a change is in doubt.
     pub(crate) in_doubt: bool,
-    pub(crate) handles: Handles,
+    pub(crate) held: Held,
 }
 
 /// What became of a call.

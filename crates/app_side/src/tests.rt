@@ -1,9 +1,12 @@
 //! Tables of events with their replies, as the requirements have them, and turns over stores of which some calls fail, or tell
 //! of damage.
 
-mod adder;
+mod actor;
+mod cancellation;
 mod damaged;
-mod endless;
+mod full;
+mod power;
 mod probe;
 mod sessions;
+mod tables;
 mod turns;

@@ -1,41 +1,70 @@
 //! Turns of an instance.
 
-ghost use Rattle.std.specs.Prelude.{◌≡◌, ℕ, ◌<◌, ◌^◌, ◌+◌, [], OnOk, Some, find, length};
+ghost use Rattle.std.specs.Prelude.{◌≡◌, ℕ, ◌<◌, ◌^◌, ◌+◌, [], OnOk, OnErr, Some, find, length};
 ghost use Rattle.object_asks.specs.Asks.{changes_store};
 ghost use Rattle.object_asks.specs.Serving.{objects_in};
 ghost use Rattle.alone.specs.declared.running.Instance.{Instance};
 ghost use Rattle.alone.specs.declared.running.Waits.{Waits};
+ghost use Rattle.alone.specs.Asks.{mask_after};
 ghost use Rattle.alone.specs.Machine.{is_number, with_instance};
-ghost use Rattle.alone.specs.Step.{begun, of_instance, of_waits, thought, turned_as, turned_by, went_on};
+ghost use Rattle.alone.specs.Step.{begun, idle, of_instance, of_waits, thought, turned_as, turned_by, went_on};
 ghost use Rattle.alone.specs.InList.{IsPlace};
-ghost use Rattle.app_side.specs.Represents.{machine_of};
-ghost use Rattle.app_side.specs.Serving.{changing, reaching, TakesTurn};
-ghost use Rattle.app_side.specs.Asking.{asked_turn, comes};
+ghost use Rattle.app_side.specs.Represents.{machine_of, IsTornAlike};
+ghost use Rattle.app_side.specs.Serving.{AdvancesTurn, TakesTurn};
+ghost use Rattle.app_side.specs.Asking.{asked_turn, changing, comes, given_next, reaching};
 
 use crate::side::AppSide;
-use alone::{Replies, Running, Stage, TurnKind, Waits, first_entry, not_built, place_of};
+use alone::{Replies, Running, Stage, Waits, first_entry, place_of};
 use app_api::{Answer, Application, Ask, Given};
-use object_asks::{Outcome, Served};
+use object_asks::{Outcome, Served, TurnKind};
 use store_api::AppStore;
-use tee_base::{NoMemory, limits};
+use tee_base::{Code, NoMemory, Origin, limits};
 
-/// An entry that asks.
+/// An entry, without what it waits for.
 #[derive(Debug, Drop)]
-struct Asked {
-    op: u64,
-    stage: Stage,
-    asks: u32,
-    ask: Ask,
+pub(crate) struct Entered {
+    pub(crate) op: Option<u64>,
+    pub(crate) stage: Stage,
+    pub(crate) asks: u32,
+    pub(crate) masked: bool,
+}
+
+/// The entry's own mask after the ask.
+fn mask_after(masked: bool, ask: &Ask) -> bool
+    ensures { result ≡ mask_after masked ask.now }
+{
+    match ask {
+        Ask::CancelMask => true,
+        Ask::CancelUnmask => false,
+        _ => masked,
+    }
 }
 
 impl<A: Application> AppSide<A> {
+    /// No operation waits for the instance: where it is left without a session and isn't kept alive, its destroy entry begins.
+    fn idle(&mut self, place: usize, number: u8)
+        requires { IsPlace number self.old.instances.items place }
+        ensures { (inst : Instance A) → find (is_number number) self.old.instances.items ≡ Some inst
+            → machine_of self.new ≡ idle (machine_of self.old) inst }
+    {
+        if self.instances[place].created && self.table.is_left(number) {
+            self.destroy(place, number, None, None);
+        }
+    }
+
     /// The waiting operation with the least number begins, if there is one.
     fn begin(&mut self, place: usize, number: u8) -> Result<(), NoMemory>
         requires { IsPlace number self.old.instances.items place }
-        ensures { OnOk result ((inst : Instance A) → find (is_number number) self.old.instances.items ≡ Some inst → machine_of self.new ≡ begun (machine_of self.old) inst) }
+        ensures ok { OnOk result ((inst : Instance A) → find (is_number number) self.old.instances.items ≡ Some inst
+            → machine_of self.new ≡ begun (machine_of self.old) inst) }
+        ensures err { OnErr result (IsTornAlike number self.new (machine_of self.old)) }
     {
+        self.queue.bounds();
         match self.queue.begin(number) {
-            None => Ok(()),
+            None => {
+                self.idle(place, number);
+                Ok(())
+            }
             Some(begun) => {
                 let created = self.instances[place].created;
                 let running = first_entry(self.alloc, created, begun)?;
@@ -49,36 +78,50 @@ impl<A: Application> AppSide<A> {
     fn think(
         &mut self,
         place: usize,
-        op: u64,
-        stage: Stage,
-        asks: u32,
+        number: u8,
+        entry: Entered,
         given: Given,
     ) -> Result<(), NoMemory>
-        requires { place < length self.old.instances.items }
-        ensures { OnOk result ((number : ℕ) → IsPlace number self.old.instances.items place → (inst : Instance A) → find (is_number number) self.old.instances.items ≡ Some inst → (waits : Waits) → machine_of self.new ≡ thought A.behaviour (machine_of self.old) inst (record { op = op; stage = stage; waits = waits; asks = asks }) given) }
+        requires { IsPlace number self.old.instances.items place }
+        ensures ok { OnOk result ((inst : Instance A) → find (is_number number) self.old.instances.items ≡ Some inst
+            → (waits : Waits) → machine_of self.new ≡ thought A.behaviour (machine_of self.old) inst
+            (record { op = entry.op; stage = entry.stage; waits = waits; asks = entry.asks; masked = entry.masked }) given) }
+        ensures err { OnErr result (IsTornAlike number self.new (machine_of self.old)) }
     {
         let alloc = self.alloc;
         let current = &mut self.instances[place];
         let ask = current.state.step(alloc, given)?;
         current.running = Some(Running {
-            op,
-            stage,
+            op: entry.op,
+            stage: entry.stage,
             waits: Waits::Ask(ask),
-            asks,
+            asks: entry.asks,
+            masked: entry.masked,
         });
         Ok(())
     }
 
     /// The application is given the answer to its ask next.
-    fn answer_next(&mut self, place: usize, op: u64, stage: Stage, asks: u32, answer: Answer)
-        requires { place < length self.old.instances.items }
-        ensures { (number : ℕ) → IsPlace number self.old.instances.items place → (inst : Instance A) → find (is_number number) self.old.instances.items ≡ Some inst → machine_of self.new ≡ with_instance (machine_of self.old) (record inst { running = Some (record { op = op; stage = stage; waits = Waits.Given (Given.Answer answer); asks = asks }) }) }
+    fn answer_next(
+        &mut self,
+        place: usize,
+        number: u8,
+        entry: Entered,
+        masked: bool,
+        answer: Answer,
+    )
+        requires place { IsPlace number self.old.instances.items place }
+        requires few { entry.asks < 2 ^ 31 }
+        ensures { (inst : Instance A) → find (is_number number) self.old.instances.items ≡ Some inst
+            → machine_of self.new ≡ with_instance (machine_of self.old)
+            (record inst { running = Some (given_next entry masked answer) }) }
     {
         self.instances[place].running = Some(Running {
-            op,
-            stage,
+            op: entry.op,
+            stage: entry.stage,
             waits: Waits::Given(Given::Answer(answer)),
-            asks,
+            asks: entry.asks + 1,
+            masked,
         });
     }
 
@@ -88,41 +131,31 @@ impl<A: Application> AppSide<A> {
         store: &mut T,
         place: usize,
         number: u8,
-        running: Asked,
+        entry: Entered,
+        ask: Ask,
         replies: &mut Replies,
     ) -> Result<TurnKind, NoMemory>
         requires place { IsPlace number self.old.instances.items place }
         requires none { replies.old ≡ [] }
         ensures { (inst : Instance A) → find (is_number number) self.old.instances.items ≡ Some inst
-            → TakesTurn T.keeper (λ serving m. asked_turn A.behaviour serving m inst running)
-            (comes self.old number (T.keeper.contents store.old) running)
-            (changes_store running.ask) result self.old self.new replies.new store.old store.new }
+            → TakesTurn T.keeper (λ serving m. asked_turn A.behaviour serving m inst entry ask)
+            (comes self.old number (T.keeper.contents store.old) entry ask)
+            (changes_store ask) number result self.old self.new replies.new store.old store.new }
     {
-        let Asked {
-            op,
-            stage,
-            asks,
-            ask,
-        } = running;
-        if asks >= limits::ASKS {
-            self.end_entry(place, number, op, stage, not_built(), replies)?;
+        if entry.asks >= limits::ASKS {
+            self.tear_down(number, Code::TARGET_DEAD, Origin::Tee, replies);
             return Ok(TurnKind::Plain);
         }
-        let Served { kind, outcome } = self.carry_out(store, number, &stage, ask)?;
+        let masked = mask_after(entry.masked, &ask);
+        let Served { kind, outcome } = self.carry_out(store, number, &entry, ask)?;
         match outcome {
-            Outcome::Answered(answer) => {
-                self.answer_next(place, op, stage, asks + 1, answer);
-                Ok(kind)
-            }
+            Outcome::Answered(answer) => self.answer_next(place, number, entry, masked, answer),
             Outcome::Returned(ending) => {
-                self.end_entry(place, number, op, stage, ending, replies)?;
-                Ok(kind)
+                self.end_entry(place, number, entry.op, entry.stage, ending, replies)
             }
-            Outcome::Panicked => {
-                self.end_entry(place, number, op, stage, not_built(), replies)?;
-                Ok(kind)
-            }
+            Outcome::Panicked => self.tear_down(number, Code::TARGET_DEAD, Origin::Tee, replies),
         }
+        Ok(kind)
     }
 
     /// The entry that runs goes on.
@@ -138,31 +171,30 @@ impl<A: Application> AppSide<A> {
         requires none { replies.old ≡ [] }
         ensures { (inst : Instance A) → find (is_number number) self.old.instances.items ≡ Some inst
             → TakesTurn T.keeper (λ serving m. went_on A.behaviour serving m inst running running.waits)
-            (of_waits (reaching (objects_in self.old.handles (T.keeper.contents store.old)) number)
+            (of_waits (reaching (objects_in self.old.held (T.keeper.contents store.old)) number)
             running running.waits)
             (of_waits changing running running.waits)
-            result self.old self.new replies.new store.old store.new }
+            number result self.old self.new replies.new store.old store.new }
     {
         let Running {
             op,
             stage,
             waits,
             asks,
+            masked,
         } = running;
+        let entry = Entered {
+            op,
+            stage,
+            asks,
+            masked,
+        };
         match waits {
             Waits::Given(given) => {
-                self.think(place, op, stage, asks, given)?;
+                self.think(place, number, entry, given)?;
                 Ok(TurnKind::Plain)
             }
-            Waits::Ask(ask) => {
-                let asked = Asked {
-                    op,
-                    stage,
-                    asks,
-                    ask,
-                };
-                self.act(store, place, number, asked, replies)
-            }
+            Waits::Ask(ask) => self.act(store, place, number, entry, ask, replies),
         }
     }
 
@@ -179,9 +211,9 @@ impl<A: Application> AppSide<A> {
         ensures { let found = find (is_number number) self.old.instances.items
             in (inst : Instance A) → found ≡ Some inst
             → TakesTurn T.keeper (λ serving m. turned_by A.behaviour serving m inst inst.running)
-            (of_instance (reaching (objects_in self.old.handles (T.keeper.contents store.old)) number) found)
+            (of_instance (reaching (objects_in self.old.held (T.keeper.contents store.old)) number) found)
             (of_instance changing found)
-            result self.old self.new replies.new store.old store.new }
+            number result self.old self.new replies.new store.old store.new }
     {
         if self.instances[place].running.is_none() {
             self.begin(place, number)?;
@@ -204,10 +236,10 @@ impl<A: Application> AppSide<A> {
         requires few { self.old.turns < 2 ^ 63 }
         requires none { replies.old ≡ [] }
         ensures { let found = find (is_number instance) self.old.instances.items
-            in TakesTurn T.keeper (λ serving m. turned_as A.behaviour serving m instance)
-            (of_instance (reaching (objects_in self.old.handles (T.keeper.contents store.old)) instance) found)
+            in AdvancesTurn T.keeper (λ serving m. turned_as A.behaviour serving m instance)
+            (of_instance (reaching (objects_in self.old.held (T.keeper.contents store.old)) instance) found)
             (of_instance changing found)
-            result self.old self.new replies.new store.old store.new }
+            instance result self.old self.new replies.new store.old store.new }
     {
         self.turns += 1;
         match place_of(self.instances.as_slice(), instance) {

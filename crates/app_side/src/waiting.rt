@@ -5,6 +5,7 @@ ghost use Rattle.object_asks.specs.Asks.{may_need_store};
 ghost use Rattle.alone.specs.Machine.{Machine};
 ghost use Rattle.alone.specs.Step.{needs_store, of_running};
 ghost use Rattle.app_side.specs.Represents.{Represents};
+ghost use Rattle.app_side.specs.Storeless.{wants_store};
 
 use crate::side::AppSide;
 use alone::{Running, Waits, place_of};
@@ -35,7 +36,7 @@ fn may_need_store(ask: &Ask) -> bool
 
 /// Whether the entry waits with an ask that may need the store.
 fn waits_for_store(running: &Option<Running>) -> bool
-    ensures { result ≡ of_running (λ made stage ask. may_need_store ask) running.now }
+    ensures { result ≡ of_running (λ r ask. may_need_store ask) running.now }
 {
     match running {
         Some(
@@ -51,7 +52,8 @@ fn waits_for_store(running: &Option<Running>) -> bool
 impl<A: Application> AppSide<A> {
     /// Whether an ask waits in the instance that may need the store.
     pub fn needs_store(&self, instance: u8) -> bool
-        ensures { (m : Machine A) → Represents self.now m → result ≡ needs_store m instance }
+        ensures machine { (m : Machine A) → Represents self.now m → result ≡ needs_store m instance }
+        ensures own { result ≡ wants_store self.now instance }
     {
         match place_of(self.instances.as_slice(), instance) {
             None => false,

@@ -6,6 +6,7 @@ use Rattle.std.proofs.lemmas.List.Quantifiers.{all_pairs_push}
 use Rattle.std.proofs.lemmas.List.Kept.{AllPairs-filter}
 use Rattle.std.proofs.lemmas.List.Sums.{length-filter, count_by-le-length}
 use Rattle.tee_base.specs.Numbers.{lowest_free}
+use Rattle.tee_base.specs.declared.limits.TheConstants.{INSTANCES, SESSIONS}
 use Rattle.tee_base.proofs.LowestFree.{lowest_free-free, lowest_free-positive, lowest_free-near}
 use Rattle.instances.specs.declared.session.Session.{Session}
 use Rattle.instances.specs.declared.session.Slot.{Slot}
@@ -55,14 +56,14 @@ number_of_slot slot = slot.number
 abbrev pub number_of : Session → ℕ
 number_of s = s.number
 
-pub slots_Fits : (t : Table) → IsTable t → Fits number_of_slot 4 t.slots
+pub slots_Fits : (t : Table) → IsTable t → Fits number_of_slot INSTANCES t.slots
 slots_Fits t old = record { few = old.few_slots; numbers = old.instance_numbers; apart = old.slots_apart }
 
-pub sessions_Fits : (t : Table) → IsTable t → Fits number_of 8 t.sessions
+pub sessions_Fits : (t : Table) → IsTable t → Fits number_of SESSIONS t.sessions
 sessions_Fits t old = record { few = old.few_sessions; numbers = old.session_numbers; apart = old.sessions_apart }
 
 -- a table of such lists
-pub IsTable-from_Fits : (t : Table) → Fits number_of_slot 4 t.slots → Fits number_of 8 t.sessions → (t.properties.single ≡ true → length t.slots ≤ 1) → IsTable t
+pub IsTable-from_Fits : (t : Table) → Fits number_of_slot INSTANCES t.slots → Fits number_of SESSIONS t.sessions → (t.properties.single ≡ true → length t.slots ≤ 1) → IsTable t
 IsTable-from_Fits t slots sessions one = record {
   few_slots = slots.few;
   few_sessions = sessions.few;

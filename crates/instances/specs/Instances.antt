@@ -3,6 +3,8 @@ use Rattle.std.specs.Prelude.{ℕ, ◌≡◌, ◌≢◌, ◌≤◌, ◌==◌, na
 use Rattle.std.specs.List.{list_any}
 use Rattle.tee_base.specs.Numbers.{lowest_free}
 use Rattle.tee_base.specs.declared.codes.Origin.TheVariants.{Api, Tee}
+use Rattle.tee_base.specs.declared.codes.TheConstants.Code.{BUSY, BAD_STATE}
+use Rattle.tee_base.specs.declared.limits.TheConstants.{INSTANCES, SESSIONS}
 use Rattle.app_api.specs.declared.host.Properties.{Properties}
 use Rattle.instances.specs.declared.session.Session.{Session}
 use Rattle.instances.specs.declared.session.Slot.{Slot}
@@ -44,6 +46,14 @@ counts_for instance s = (s.instance == instance) && not (is_dead s.state)
 abbrev pub has_session : Table → ℕ → Bool
 has_session t instance = list_any (counts_for instance) t.sessions
 
+-- an application of one instance that stays without a session
+abbrev pub is_kept_alive : Properties → Bool
+is_kept_alive properties = properties.single && properties.keep
+
+-- the instance has no session and isn't kept alive
+abbrev pub is_left : Table → ℕ → Bool
+is_left t instance = not (has_session t instance) && not (is_kept_alive t.properties)
+
 abbrev pub slot_exists : Table → ℕ → Bool
 slot_exists t instance = list_any (λ slot. slot.number == instance) t.slots
 
@@ -54,15 +64,15 @@ abbrev pub instance_numbers : Table → List ℕ
 instance_numbers t = map (λ slot. slot.number) t.slots
 
 abbrev pub bad_state : Refusal
-bad_state = record { code = record { 0 = 4294901767 }; origin = Api }
+bad_state = record { code = BAD_STATE; origin = Api }
 
 abbrev pub busy : Refusal
-busy = record { code = record { 0 = 4294901773 }; origin = Tee }
+busy = record { code = BUSY; origin = Tee }
 
 -- an instance of its own: the lowest free number of four
 abbrev pub own_instance : Table → Result Admission Refusal
 own_instance t =
-    if nat_le 4 (length t.slots) then Err busy
+    if nat_le INSTANCES (length t.slots) then Err busy
     else Ok (record { session = lowest_free (session_numbers t); instance = lowest_free (instance_numbers t); new_instance = true })
 
 -- the one instance: it takes no second session unless it is multi, and none once its destroy entry has begun
@@ -76,7 +86,7 @@ shared_instance t (slot ∷ slots) =
 abbrev pub admission_of : Table → ℕ → ℕ → Result Admission Refusal
 admission_of t client label =
     if is_some (session_of t client label) then Err bad_state
-    else if nat_le 8 (length t.sessions) then Err busy
+    else if nat_le SESSIONS (length t.sessions) then Err busy
     else if t.properties.single then shared_instance t t.slots
     else own_instance t
 
@@ -139,10 +149,10 @@ SlotsApart slot other = slot.number ≢ other.number
 -- what each table keeps: at most four instances, numbered from 1 to 4, and one of an application that is single;
 -- at most eight sessions, numbered from 1 to 8; and no number twice
 pub record IsTable (t : Table) : Type 0 where
-  pub few_slots : length t.slots ≤ 4
-  pub few_sessions : length t.sessions ≤ 8
-  pub instance_numbers : All (λ slot. (1 ≤ slot.number) × (slot.number ≤ 4)) t.slots
-  pub session_numbers : All (λ s. (1 ≤ s.number) × (s.number ≤ 8)) t.sessions
+  pub few_slots : length t.slots ≤ INSTANCES
+  pub few_sessions : length t.sessions ≤ SESSIONS
+  pub instance_numbers : All (λ slot. (1 ≤ slot.number) × (slot.number ≤ INSTANCES)) t.slots
+  pub session_numbers : All (λ s. (1 ≤ s.number) × (s.number ≤ SESSIONS)) t.sessions
   pub slots_apart : AllPairs SlotsApart t.slots
   pub sessions_apart : AllPairs AreApart t.sessions
   pub one_instance : t.properties.single ≡ true → length t.slots ≤ 1

@@ -68,7 +68,7 @@ impl Model for Instances {
 
 impl Instances {
     ghost use Rattle.std.specs.Prelude.{◌≡◌, ◌↔◌, IsTrue, IsSome, option_map, Ok};
-    ghost use Rattle.instances.specs.Instances.{Table, IsTable, no_instances, session_of, facts_of, admission_of, own_instance, shared_instance, entered, state_set, session_removed, has_session, has_number, slot_exists, destroy_begun, ended};
+    ghost use Rattle.instances.specs.Instances.{Table, IsTable, no_instances, session_of, facts_of, admission_of, own_instance, shared_instance, entered, state_set, session_removed, has_session, has_number, is_left, slot_exists, destroy_begun, ended};
 
     /// No instance and no session.
     pub fn new(properties: Properties) -> Instances
@@ -189,9 +189,15 @@ impl Instances {
         self.sessions.iter().any(|s| s.counts_for(instance))
     }
 
-    /// Notes that the destroy entry of the instance has begun.
+    /// Whether the instance has no session and isn't kept alive: its application isn't of one instance that is kept.
+    pub fn is_left(&self, instance: u8) -> bool
+        ensures { result ≡ is_left self.now instance }
+    {
+        !self.has_session(instance) && !(self.properties.single && self.properties.keep)
+    }
+
+    /// Notes that the destroy entry of the instance has begun. Where there is none of this number, nothing changes.
     pub fn begin_destroy(&mut self, instance: u8)
-        requires { IsTrue (slot_exists self.old instance) }
         ensures { self.new ≡ destroy_begun self.old instance }
     {
         let slots = tables::with_ending(self.slots.as_slice(), instance);
@@ -206,5 +212,13 @@ impl Instances {
         self.slots = slots;
         let sessions = tables::after_end(self.sessions.as_slice(), instance);
         self.sessions = sessions;
+    }
+
+    /// No instance and no session from now on; the properties stay. No memory is taken.
+    pub fn reset(&mut self)
+        ensures { self.new ≡ no_instances self.old.properties }
+    {
+        self.slots = ArrayVec::new();
+        self.sessions = ArrayVec::new();
     }
 }

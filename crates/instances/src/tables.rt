@@ -2,6 +2,7 @@
 
 ghost use Rattle.std.specs.Prelude.{◌≡◌, ◌==◌, ◌≤◌, ◌<◌, [], ◌∷◌, ◌++◌, true, false, if◌then◌else◌, not, filter, map, find, option_map, length};
 ghost use Rattle.tee_base.specs.Numbers.{lowest_free};
+ghost use Rattle.tee_base.specs.declared.limits.TheConstants.{INSTANCES, SESSIONS};
 ghost use Rattle.instances.specs.Instances.{is_known_as, facts_of, with_state, with_ending, stays_after_end, killed};
 
 use crate::instances::Admission;
@@ -11,7 +12,7 @@ use tee_base::find_lowest_free;
 
 /// The lowest session number that is free.
 pub fn free_session(sessions: &[Session]) -> u8
-    requires { length sessions.now ≤ 8 }
+    requires { length sessions.now ≤ SESSIONS }
     ensures { result ≡ lowest_free (map (λ s. s.number) sessions.now) }
 {
     let mut taken = ArrayVec::<u8, 8>::new();
@@ -23,7 +24,7 @@ pub fn free_session(sessions: &[Session]) -> u8
 
 /// The lowest instance number that is free.
 pub fn free_instance(slots: &[Slot]) -> u8
-    requires { length slots.now ≤ 4 }
+    requires { length slots.now ≤ INSTANCES }
     ensures { result ≡ lowest_free (map (λ slot. slot.number) slots.now) }
 {
     let mut taken = ArrayVec::<u8, 4>::new();
@@ -35,7 +36,7 @@ pub fn free_instance(slots: &[Slot]) -> u8
 
 /// Adds the instance that an open was admitted to, where it is new.
 pub fn add_instance(slots: &mut ArrayVec<Slot, 4>, admission: Admission)
-    requires { admission.new_instance ≡ true → length slots.old.items < 4 }
+    requires { admission.new_instance ≡ true → length slots.old.items < INSTANCES }
     ensures { slots.new.items ≡ (if admission.new_instance then slots.old.items ++ record { number = admission.instance; ending = false } ∷ [] else slots.old.items) }
 {
     if admission.new_instance {
@@ -58,7 +59,7 @@ pub fn known_as(sessions: &[Session], client: u8, label: u32) -> Option<SessionF
 
 /// The sessions, with the one of this number in this state.
 pub fn with_state(sessions: &[Session], number: u8, state: SessionState) -> ArrayVec<Session, 8>
-    requires { length sessions.now ≤ 8 }
+    requires { length sessions.now ≤ SESSIONS }
     ensures { result.items ≡ map (with_state number state) sessions.now }
 {
     let mut after = ArrayVec::<Session, 8>::new();
@@ -70,7 +71,7 @@ pub fn with_state(sessions: &[Session], number: u8, state: SessionState) -> Arra
 
 /// The sessions but the one of this number.
 pub fn without_session(sessions: &[Session], number: u8) -> ArrayVec<Session, 8>
-    requires { length sessions.now ≤ 8 }
+    requires { length sessions.now ≤ SESSIONS }
     ensures { result.items ≡ filter (λ s. not (s.number == number)) sessions.now }
 {
     let mut after = ArrayVec::<Session, 8>::new();
@@ -84,7 +85,7 @@ pub fn without_session(sessions: &[Session], number: u8) -> ArrayVec<Session, 8>
 
 /// The slots, with the destroy entry of this instance begun.
 pub fn with_ending(slots: &[Slot], instance: u8) -> ArrayVec<Slot, 4>
-    requires { length slots.now ≤ 4 }
+    requires { length slots.now ≤ INSTANCES }
     ensures { result.items ≡ map (with_ending instance) slots.now }
 {
     let mut after = ArrayVec::<Slot, 4>::new();
@@ -96,7 +97,7 @@ pub fn with_ending(slots: &[Slot], instance: u8) -> ArrayVec<Slot, 4>
 
 /// The slots but the one of this instance.
 pub fn without_slot(slots: &[Slot], instance: u8) -> ArrayVec<Slot, 4>
-    requires { length slots.now ≤ 4 }
+    requires { length slots.now ≤ INSTANCES }
     ensures { result.items ≡ filter (λ slot. not (slot.number == instance)) slots.now }
 {
     let mut after = ArrayVec::<Slot, 4>::new();
@@ -110,7 +111,7 @@ pub fn without_slot(slots: &[Slot], instance: u8) -> ArrayVec<Slot, 4>
 
 /// The sessions once the instance has ended.
 pub fn after_end(sessions: &[Session], instance: u8) -> ArrayVec<Session, 8>
-    requires { length sessions.now ≤ 8 }
+    requires { length sessions.now ≤ SESSIONS }
     ensures { result.items ≡ map (killed instance) (filter (stays_after_end instance) sessions.now) }
 {
     let mut after = ArrayVec::<Session, 8>::new();

@@ -89,6 +89,8 @@ fn four_instances_of_their_own(rt: HostRuntime) -> Result<(), Fail> {
     assert_eq!(rt; open(&mut instances, 3, 7), Err(BUSY));
     instances.end(2);
     assert!(rt; !instances.exists(2));
+    assert!(rt; instances.is_left(2));
+    assert!(rt; !instances.is_left(1));
     assert_eq!(rt; instances.find(0, 8), None);
     assert_eq!(rt; open(&mut instances, 3, 7), admitted(2, 2, true));
     Ok(())
@@ -139,7 +141,12 @@ fn one_session_of_one_instance(rt: HostRuntime) -> Result<(), Fail> {
     assert_eq!(rt; open(&mut instances, 1, 0), Err(BUSY));
     close(&mut instances, 0, 0);
     assert!(rt; !instances.has_session(1));
+    assert!(rt; !instances.is_left(1));
     assert_eq!(rt; open(&mut instances, 1, 0), admitted(1, 1, false));
+    instances.reset();
+    assert!(rt; !instances.exists(1));
+    assert_eq!(rt; instances.find(1, 0), None);
+    assert_eq!(rt; open(&mut instances, 1, 0), admitted(1, 1, true));
     Ok(())
 }
 

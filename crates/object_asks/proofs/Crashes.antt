@@ -1,14 +1,14 @@
 -- What a crash may leave where an ask has no call of the store.
-use Rattle.std.proofs.Common.{ℕ, ◌≡◌, true, false, Option, None, Some, inl, refl, arith}
+use Rattle.std.proofs.Common.{◌≡◌, true, false, Option, None, Some, inl, refl, arith}
 use Rattle.tee_base.proofs.Crash.{started, weaker}
 use Rattle.store_api.specs.Stores.{Store}
-use Rattle.store_api.specs.Keeping.{Contents, Keeper, Remains, KeepsPast, LeavesJust, LeavesNothingNew}
+use Rattle.store_api.specs.Keeping.{Contents, Keeper, Remains, LeavesJust}
 use Rattle.object_asks.specs.declared.turn.TurnKind.{TurnKind}
 use Rattle.object_asks.specs.declared.turn.TurnKind.TheVariants.{Plain, Lost, Corrupted}
-use Rattle.object_asks.specs.Serving.{CrashTurns, IsKept, LeftByTurn, StaysBeside, UnlessInDoubt}
+use Rattle.object_asks.specs.Serving.{CrashTurns, IsKept, LeftByTurn, UnlessInDoubt}
 
 -- what was kept before is among what any turn may leave
-only_old : (kind : TurnKind) (in_doubt : Option Store) (old new : Contents) (o : Remains) → o ≡ Some old → LeftByTurn kind in_doubt old new o
+pub only_old : (kind : TurnKind) (in_doubt : Option Store) (old new : Contents) (o : Remains) → o ≡ Some old → LeftByTurn kind in_doubt old new o
 only_old Plain in_doubt old new o e = inl e
 only_old (Lost true) None old new o e = e
 only_old (Lost true) (Some store) old new o e = inl e
@@ -43,7 +43,7 @@ module _ {D : Type 0} (K : Keeper D) where
     model = λ there. there;
     beside = λ there. record { rest = refl; number = omega arith };
     quiet = λ lost. record { same = refl; none = λ t o left. left };
-    past = λ honest. record { past = λ t o le left. left };
+    past = λ honest. record { later = omega arith; past = λ t o le left. left };
   }
 
   pub in_any : (kind : TurnKind) (in_doubt : Option Store) (old new : D) → CrashTurns K kind None old new → CrashTurns K kind in_doubt old new

@@ -1,4 +1,11 @@
 pub mod Asks
 pub mod Codes
+pub mod Courses
 pub mod Handles
+pub mod Held
+pub mod KeyOf
+pub mod Keys
+pub mod Lists
 pub mod Serving
+pub mod Sources
+pub mod Valid

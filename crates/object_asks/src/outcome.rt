@@ -51,6 +51,20 @@ impl Served {
     }
 }
 
+/// An ask that is done.
+pub fn done() -> Outcome
+    ensures { result ≡ answered Answer.Done }
+{
+    Outcome::Answered(Answer::Done)
+}
+
+/// An ask that is refused.
+pub fn declined(code: Code) -> Outcome
+    ensures { result ≡ answered (Answer.Refused code) }
+{
+    Outcome::Answered(Answer::Refused(code))
+}
+
 /// An ask that is answered without the store.
 pub fn answered(answer: Answer) -> Served
     ensures { result ≡ plainly (answered answer) }
@@ -65,7 +79,7 @@ pub fn refused(code: Code) -> Served
     answered(Answer::Refused(code))
 }
 
-/// An ask that is misuse, or that isn't built.
+/// An ask that is misuse, or that doesn't come here.
 pub fn panicked() -> Served
     ensures { result ≡ plainly panicked }
 {
@@ -73,7 +87,7 @@ pub fn panicked() -> Served
 }
 
 /// How an application is told of what a store answers in place of a result.
-fn code_of(answer: StoreAnswer) -> Code
+pub fn code_of(answer: StoreAnswer) -> Code
     ensures { result ≡ code_of answer }
 {
     match answer {
@@ -87,7 +101,7 @@ fn code_of(answer: StoreAnswer) -> Code
 }
 
 /// How the turn went in which a store answered this in place of a result.
-fn kind_of(answer: StoreAnswer, change: bool) -> TurnKind
+pub fn kind_of(answer: StoreAnswer, change: bool) -> TurnKind
     ensures { result ≡ kind_of change answer }
 {
     match answer {
@@ -98,12 +112,12 @@ fn kind_of(answer: StoreAnswer, change: bool) -> TurnKind
 }
 
 /// What comes of an ask, by what the store's answer gives for it. `change` says whether it was to change the store.
-pub fn told(answer: Result<Answer, StoreAnswer>, change: bool) -> Result<Served, NoMemory>
-    ensures ok { IfOk result (λ served. told_of change answer ≡ Some served) }
-    ensures err { OnErr result (told_of change answer ≡ None) }
+pub fn told(outcome: Result<Outcome, StoreAnswer>, change: bool) -> Result<Served, NoMemory>
+    ensures ok { IfOk result (λ served. told_of change outcome ≡ Some served) }
+    ensures err { OnErr result (told_of change outcome ≡ None) }
 {
-    match answer {
-        Ok(answer) => Ok(answered(answer)),
+    match outcome {
+        Ok(outcome) => Ok(Served::plain(outcome)),
         Err(StoreAnswer::NoMemory) => Err(NoMemory),
         Err(answer) => Ok(Served {
             kind: kind_of(answer, change),

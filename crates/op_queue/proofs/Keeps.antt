@@ -2,26 +2,42 @@
 use Rattle.std.proofs.Common.{◌≡◌, ◌<◌, ◌≤◌, ◌+◌, ◌==◌, ◌&&◌, ℕ, Bool, true, false, not, cond, List, [], ◌∷◌, length, get_or, map, filter, count_by, refl, ap, ◌∙◌, arith}
 use Rattle.std.proofs.lemmas.Bool.{leb-false}
 use Rattle.std.proofs.lemmas.List.{get_or-map, length-map}
-use Rattle.std.proofs.lemmas.List.Elements.{All-push, All-map, All-filter, All-weaker}
+use Rattle.std.proofs.lemmas.List.Elements.{All-nil, All-push, All-map, All-filter, All-weaker}
 use Rattle.std.proofs.lemmas.List.Quantifiers.{all_pairs_push}
 use Rattle.std.proofs.lemmas.List.Kept.{AllPairs-filter}
 use Rattle.std.proofs.lemmas.List.Filters.{sum_by-filter_both}
 use Rattle.std.proofs.lemmas.List.Sums.{sum_by_push, sum_by-cons}
+use Rattle.tee_base.specs.declared.limits.TheConstants.{SESSIONS, OPERATIONS}
 use Rattle.app_api.specs.declared.call.Call.{Call}
 use Rattle.op_queue.specs.declared.operation.Operation.{Operation}
 use Rattle.op_queue.specs.declared.operation.Progress.{Progress}
 use Rattle.op_queue.specs.declared.operation.Progress.TheVariants.{Waiting, Running}
-use Rattle.op_queue.specs.Queue.{Queue, IsQueue, ComesBefore, is_close, is_close_call, is_full, submitted, skipped, without, started, requested, with_request, masked_as, with_mask}
+use Rattle.op_queue.specs.Queue.{Queue, IsQueue, ComesBefore, is_close, is_close_call, is_full, submitted, skipped, without, forgotten, started, requested, with_request, masked_as, with_mask}
 
 abbrev pub is_other : Operation → Bool
 is_other o = not (is_close o.progress)
 
-count_same : (f : Operation → Operation) (xs : List Operation) → ((o : Operation) → is_close (f o).progress ≡ is_close o.progress) → count_by is_other (map f xs) ≡ count_by is_other xs
-count_same f [] same = refl
-count_same f (x ∷ xs) same =
-    let weight : Bool → ℕ = λ b. cond (not b) 1 0 in
-    let head : weight (is_close (f x).progress) ≡ weight (is_close x.progress) = ap weight (same x) in
-    sum_by-cons (λ (o : Operation). cond (is_other o) 1 0) (f x) (map f xs) ∙ omega (arith, head, count_same f xs same, sum_by-cons (λ (o : Operation). cond (is_other o) 1 0) x xs)
+abbrev pub closes : Operation → Bool
+closes o = is_close o.progress
+
+-- a change that leaves what is counted
+count_same : (p : Operation → Bool) (f : Operation → Operation) (xs : List Operation) → ((o : Operation) → p (f o) ≡ p o) → count_by p (map f xs) ≡ count_by p xs
+count_same p f [] same = refl
+count_same p f (x ∷ xs) same =
+    let weight : Bool → ℕ = λ b. cond b 1 0 in
+    let head : weight (p (f x)) ≡ weight (p x) = ap weight (same x) in
+    sum_by-cons (λ (o : Operation). cond (p o) 1 0) (f x) (map f xs) ∙ omega (arith, head, count_same p f xs same, sum_by-cons (λ (o : Operation). cond (p o) 1 0) x xs)
+
+-- each operation is a close, or another
+all_counted : (xs : List Operation) → count_by is_other xs + count_by closes xs ≡ length xs
+all_counted [] = refl
+all_counted (x ∷ xs) =
+    let one : (b : Bool) → cond (not b) 1 0 + cond b 1 0 ≡ 1 = λ b. elim b as (λ v. cond (not v) 1 0 + cond v 1 0 ≡ 1) [ true ↦ refl | false ↦ refl ] in
+    omega (arith, all_counted xs, one (closes x), sum_by-cons (λ (o : Operation). cond (is_other o) 1 0) x xs, sum_by-cons (λ (o : Operation). cond (closes o) 1 0) x xs)
+
+-- no queue has more operations than both counts allow
+pub all_few : (q : Queue) → IsQueue q → length q.operations ≤ OPERATIONS + SESSIONS
+all_few q old = omega (arith, old.few, old.closes, all_counted q.operations)
 
 -- a change that leaves each number, and whether it is a close
 pub map_IsQueue : (q : Queue) (f : Operation → Operation) → ((o : Operation) → (f o).number ≡ o.number) → ((o : Operation) → is_close (f o).progress ≡ is_close o.progress) → IsQueue q → IsQueue (record q { operations = map f q.operations })
@@ -29,7 +45,8 @@ map_IsQueue q f number close old =
     let place : (k : ℕ) (d : Operation) → k < length q.operations → (get_or (map f q.operations) k d).number ≡ (get_or q.operations k d).number = λ k d inside. ap (λ (o : Operation). o.number) (get_or-map f q.operations k d d inside) ∙ number (get_or q.operations k d) in
     record {
       first = old.first;
-      few = omega (arith, count_same f q.operations close, old.few);
+      few = omega (arith, count_same is_other f q.operations (λ o. ap not (close o)), old.few);
+      closes = omega (arith, count_same closes f q.operations close, old.closes);
       numbers = All-map (λ (o : Operation). (1 ≤ o.number) × (o.number < q.next)) f q.operations (All-weaker (λ (o : Operation). (1 ≤ o.number) × (o.number < q.next)) (λ (o : Operation). (1 ≤ (f o).number) × ((f o).number < q.next)) (λ o h. (omega (arith, number o, h.0), omega (arith, number o, h.1))) q.operations old.numbers);
       ordered = λ i j d lt inside. let within : j < length q.operations = omega (arith, length-map q.operations f) in omega (arith, old.ordered i j d lt within, place i d (omega arith), place j d within);
     }
@@ -38,6 +55,7 @@ pub filter_IsQueue : (q : Queue) (p : Operation → Bool) → IsQueue q → IsQu
 filter_IsQueue q p old = record {
   first = old.first;
   few = omega (arith, old.few, sum_by-filter_both p (λ (o : Operation). not (p o)) (λ o. refl) (λ (o : Operation). cond (is_other o) 1 0) q.operations);
+  closes = omega (arith, old.closes, sum_by-filter_both p (λ (o : Operation). not (p o)) (λ o. refl) (λ (o : Operation). cond (closes o) 1 0) q.operations);
   numbers = All-filter p (λ (o : Operation). (1 ≤ o.number) × (o.number < q.next)) q.operations old.numbers;
   ordered = AllPairs-filter ComesBefore p q.operations old.ordered;
 }
@@ -46,22 +64,28 @@ pub skipped_IsQueue : (q : Queue) → IsQueue q → IsQueue (skipped q)
 skipped_IsQueue q old = record {
   first = omega (arith, old.first);
   few = old.few;
+  closes = old.closes;
   numbers = All-weaker (λ (o : Operation). (1 ≤ o.number) × (o.number < q.next)) (λ (o : Operation). (1 ≤ o.number) × (o.number < q.next + 1)) (λ o h. (h.0, omega (arith, h.1))) q.operations old.numbers;
   ordered = old.ordered;
 }
 
-room : (q : Queue) (close : Bool) → (is_full q && not close) ≡ false → IsQueue q → count_by is_other q.operations + cond (not close) 1 0 ≤ 16
+room : (q : Queue) (close : Bool) → (is_full q && not close) ≡ false → IsQueue q → count_by is_other q.operations + cond (not close) 1 0 ≤ OPERATIONS
 room q true free old = omega (arith, old.few)
 room q false free old =
     let full : (b : Bool) → (b && true) ≡ false → b ≡ false = λ b. elim b as (λ v. (v && true) ≡ false → v ≡ false) [ true ↦ λ e. e | false ↦ λ e. refl ] in
     omega (arith, leb-false _ _ (full (is_full q) free))
 
-pub submitted_IsQueue : (q : Queue) (client instance session : ℕ) (call : Call) → (is_full q && not (is_close_call call)) ≡ false → IsQueue q → IsQueue (submitted q client instance session call)
-submitted_IsQueue q client instance session call free old =
+room_for_close : (q : Queue) (close : Bool) → (close ≡ true → count_by closes q.operations < SESSIONS) → IsQueue q → count_by closes q.operations + cond close 1 0 ≤ SESSIONS
+room_for_close q true free old = omega (arith, free refl)
+room_for_close q false free old = omega (arith, old.closes)
+
+pub submitted_IsQueue : (q : Queue) (client instance session : ℕ) (call : Call) → (is_full q && not (is_close_call call)) ≡ false → (is_close_call call ≡ true → count_by closes q.operations < SESSIONS) → IsQueue q → IsQueue (submitted q client instance session call)
+submitted_IsQueue q client instance session call free few_closes old =
     let o : Operation = record { number = q.next; client = client; session = session; instance = instance; progress = Waiting call } in
     record {
       first = omega (arith, old.first);
       few = omega (arith, sum_by_push (λ (o : Operation). cond (is_other o) 1 0) q.operations o, room q (is_close_call call) free old);
+      closes = omega (arith, sum_by_push (λ (o : Operation). cond (closes o) 1 0) q.operations o, room_for_close q (is_close_call call) few_closes old);
       numbers = All-push (λ (o : Operation). (1 ≤ o.number) × (o.number < q.next + 1)) q.operations o (All-weaker (λ (o : Operation). (1 ≤ o.number) × (o.number < q.next)) (λ (o : Operation). (1 ≤ o.number) × (o.number < q.next + 1)) (λ o h. (h.0, omega (arith, h.1))) q.operations old.numbers) (old.first, omega arith);
       ordered = all_pairs_push ComesBefore q.operations o old.ordered (λ k d inside. (old.numbers k d inside).1);
     }
@@ -107,3 +131,12 @@ masked_IsQueue q op value old =
 
 pub without_IsQueue : (q : Queue) (op : ℕ) → IsQueue q → IsQueue (without q op)
 without_IsQueue q op old = filter_IsQueue q (λ o. not (o.number == op)) old
+
+pub forgotten_IsQueue : (q : Queue) → IsQueue q → IsQueue (forgotten q)
+forgotten_IsQueue q old = record {
+  first = old.first;
+  few = omega arith;
+  closes = omega arith;
+  numbers = All-nil (λ (o : Operation). (1 ≤ o.number) × (o.number < q.next));
+  ordered = λ i j d lt inside. absurd (omega arith);
+}

@@ -1,4 +1,5 @@
 pub mod Keeps
 pub mod Places
 pub mod Runs
+pub mod Started
 pub mod Told

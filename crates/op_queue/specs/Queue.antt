@@ -1,5 +1,6 @@
 -- Client operations of one application, and their cancellation (TEE Client API 1.0, sections 4.5.5 to 4.5.8; TEE Internal Core API 1.3, section 4.10).
 use Rattle.std.specs.Prelude.{ℕ, ◌+◌, ◌≤◌, ◌<◌, ◌==◌, nat_le, nat_lt, Bool, true, false, not, ◌&&◌, List, [], ◌∷◌, ◌++◌, Option, None, Some, option_map, if◌then◌else◌, find, filter, map, count_by, All, AllPairs}
+use Rattle.tee_base.specs.declared.limits.TheConstants.{SESSIONS, OPERATIONS}
 use Rattle.app_api.specs.declared.call.Call.{Call}
 use Rattle.app_api.specs.declared.call.Call.TheVariants.{Open, Invoke, Close}
 use Rattle.op_queue.specs.declared.operation.Operation.{Operation}
@@ -31,9 +32,9 @@ abbrev pub is_running : Progress → Bool
 is_running (Waiting call) = false
 is_running (Running close cancelled masked) = true
 
--- sixteen operations other than closes are unanswered
+-- as many operations other than closes are unanswered as there may be
 abbrev pub is_full : Queue → Bool
-is_full q = nat_le 16 (count_by (λ o. not (is_close o.progress)) q.operations)
+is_full q = nat_le OPERATIONS (count_by (λ o. not (is_close o.progress)) q.operations)
 
 -- one more operation, which waits
 abbrev pub submitted : Queue → ℕ → ℕ → ℕ → Call → Queue
@@ -88,6 +89,14 @@ cancel_of (Some o) = if is_close o.progress then Nothing else if is_running o.pr
 abbrev pub without : Queue → ℕ → Queue
 without q op = record q { operations = filter (λ o. not (o.number == op)) q.operations }
 
+-- the operations of an instance taken out
+abbrev pub cleared : Queue → ℕ → Queue
+cleared q instance = record q { operations = filter (λ o. not (o.instance == instance)) q.operations }
+
+-- all operations taken out; the numbers go on
+abbrev pub forgotten : Queue → Queue
+forgotten q = record q { operations = [] }
+
 abbrev pub with_request : Progress → Progress
 with_request (Waiting call) = Waiting call
 with_request (Running close cancelled masked) = Running close true masked
@@ -138,10 +147,11 @@ mask_at q op = if_operation (operation_of q op) true (λ o. mask_of o.progress)
 abbrev pub ComesBefore : Operation → Operation → Type 0
 ComesBefore o later = o.number < later.number
 
--- what each queue keeps: at most sixteen operations other than closes, with numbers in ascending order from 1 on, all of
--- them below the next
+-- what each queue keeps: at most sixteen operations other than closes, and a close for each of eight sessions at most,
+-- with numbers in ascending order from 1 on, all of them below the next
 pub record IsQueue (q : Queue) : Type 0 where
   pub first : 1 ≤ q.next
-  pub few : count_by (λ o. not (is_close o.progress)) q.operations ≤ 16
+  pub few : count_by (λ o. not (is_close o.progress)) q.operations ≤ OPERATIONS
+  pub closes : count_by (λ o. is_close o.progress) q.operations ≤ SESSIONS
   pub numbers : All (λ o. (1 ≤ o.number) × (o.number < q.next)) q.operations
   pub ordered : AllPairs ComesBefore q.operations

@@ -1,6 +1,7 @@
 //! The queue.
 
-ghost use Rattle.std.specs.Prelude.{◌≡◌, ◌≤◌, ◌^◌, ◌&&◌, ◌↔◌, IsTrue, IfOk, OnErr, Ok, Err, true, false, not, option_map, is_some, filter, ◌==◌};
+ghost use Rattle.std.specs.Prelude.{◌≡◌, ◌≤◌, ◌+◌, ◌^◌, ◌&&◌, ◌↔◌, IsTrue, IfOk, OnErr, Ok, Err, true, false, not, option_map, length};
+ghost use Rattle.tee_base.specs.declared.limits.TheConstants.{SESSIONS, OPERATIONS};
 
 use crate::operation::{
     Begun, Cancelled, OpFacts, Operation, Progress, QueueAnswer, is_close_call,
@@ -29,7 +30,7 @@ impl Model for OpQueue {
 }
 
 impl OpQueue {
-    ghost use Rattle.op_queue.specs.Queue.{Queue, IsQueue, empty_queue, is_close_call, is_full, submitted, skipped, first_waiting, begun_at, after_begin, operation_of, facts_of, next_of, cancel_of, after_cancel, mask_at, mask_set, flag_of, runs, without};
+    ghost use Rattle.op_queue.specs.Queue.{Queue, IsQueue, empty_queue, is_close_call, is_full, submitted, skipped, first_waiting, begun_at, after_begin, operation_of, facts_of, next_of, cancel_of, after_cancel, mask_at, mask_set, flag_of, without, cleared, forgotten};
 
     /// No operations yet; the first will have the number 1.
     pub fn new(alloc: Global) -> OpQueue
@@ -43,7 +44,8 @@ impl OpQueue {
 
     /// A law: what the queue keeps.
     pub fn bounds(&self)
-        ensures { IsQueue self.now }
+        ensures kept { IsQueue self.now }
+        ensures all { length self.now.operations ≤ OPERATIONS + SESSIONS }
     {
         let _ = &self.next;
     }
@@ -52,8 +54,9 @@ impl OpQueue {
     ///
     /// # Errors
     ///
-    /// Full exactly where 16 operations other than closes are unanswered and the call is no close. Both errors change
-    /// nothing.
+    /// Full exactly where 16 operations other than closes are unanswered and the call is no close. NoMemory where memory
+    /// runs out, and for a close where eight closes are unanswered: this can't be where each close has a session of its
+    /// own, of which there are eight. Both errors change nothing.
     pub fn submit(
         &mut self,
         client: u8,
@@ -70,6 +73,11 @@ impl OpQueue {
             && scans::count_others(self.operations.as_slice()) >= limits::OPERATIONS
         {
             return Err(QueueAnswer::Full);
+        }
+        if is_close_call(&call)
+            && scans::count_closes(self.operations.as_slice()) >= limits::SESSIONS
+        {
+            return Err(QueueAnswer::NoMemory);
         }
         let operation = Operation {
             number: self.next,
@@ -145,18 +153,18 @@ impl OpQueue {
         Cancelled::Dropped
     }
 
-    /// Masks cancellation for the running entry, and answers whether it was.
+    /// Masks cancellation for the running entry, and answers whether it was. Where there is no such operation, or it
+    /// waits, nothing changes, and the answer is true.
     pub fn mask(&mut self, op: u64) -> bool
-        requires { IsTrue (runs self.old op) }
         ensures before { result ≡ mask_at self.old op }
         ensures after { self.new ≡ mask_set self.old op true }
     {
         self.set_mask(op, true)
     }
 
-    /// Unmasks cancellation for the running entry, and answers whether it was masked.
+    /// Unmasks cancellation for the running entry, and answers whether it was masked. Where there is no such operation,
+    /// or it waits, nothing changes, and the answer is true.
     pub fn unmask(&mut self, op: u64) -> bool
-        requires { IsTrue (runs self.old op) }
         ensures before { result ≡ mask_at self.old op }
         ensures after { self.new ≡ mask_set self.old op false }
     {
@@ -164,19 +172,17 @@ impl OpQueue {
     }
 
     fn set_mask(&mut self, op: u64, value: bool) -> bool
-        requires { IsTrue (runs self.old op) }
         ensures before { result ≡ mask_at self.old op }
         ensures after { self.new ≡ mask_set self.old op value }
     {
         match scans::place_of(self.operations.as_slice(), op) {
-            None => unreachable!(),
+            None => return true,
             Some(index) => self.operations[index].set_mask(value),
         }
     }
 
-    /// Whether a cancellation was requested and isn't masked.
+    /// Whether a cancellation was requested and isn't masked. False where there is none, or it waits.
     pub fn flag(&self, op: u64) -> bool
-        requires { IsTrue (runs self.now op) }
         ensures { result ≡ flag_of self.now op }
     {
         match scans::place_of(self.operations.as_slice(), op) {
@@ -204,9 +210,16 @@ impl OpQueue {
 
     /// Takes all operations of the instance out, which are answered.
     pub fn clear(&mut self, instance: u8)
-        ensures { self.new ≡ record self.old { operations = filter (λ o. not (o.instance == instance)) self.old.operations } }
+        ensures { self.new ≡ cleared self.old instance }
     {
         scans::leave_out(&mut self.operations, instance);
+    }
+
+    /// Takes all operations out, with no answer. The number of the next call stays. No memory is taken.
+    pub fn forget(&mut self)
+        ensures { self.new ≡ forgotten self.old }
+    {
+        self.operations.clear();
     }
 
     /// Whether 16 operations other than closes are unanswered.

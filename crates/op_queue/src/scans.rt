@@ -18,6 +18,19 @@ pub fn count_others(operations: &[Operation]) -> usize
     count
 }
 
+/// How many are closes.
+pub fn count_closes(operations: &[Operation]) -> usize
+    ensures { result ≡ count_by (λ o. is_close o.progress) operations.now }
+{
+    let mut count = 0;
+    for operation in operations {
+        if operation.progress.is_close() {
+            count += 1;
+        }
+    }
+    count
+}
+
 /// Takes the operation at this place out.
 pub fn take_out(operations: &mut Vec<Operation>, index: usize)
     requires { index < vec_len operations.old }

@@ -33,34 +33,6 @@ fn skip(queue: &mut OpQueue) -> Option<u64> {
     }
 }
 
-/// Masks or unmasks where the operation runs.
-#[tactic(auto, using(crate::proofs::Told::running_runs))]
-fn set_mask(queue: &mut OpQueue, op: u64, value: bool) -> Option<bool> {
-    if !queue.facts(op)?.running {
-        return None;
-    }
-    Some(if value {
-        queue.mask(op)
-    } else {
-        queue.unmask(op)
-    })
-}
-
-#[tactic(auto, using(crate::proofs::Told::running_runs))]
-fn flag(queue: &OpQueue, op: u64) -> Option<bool> {
-    if !queue.facts(op)?.running {
-        return None;
-    }
-    Some(queue.flag(op))
-}
-
-#[tactic(auto, using(crate::proofs::Told::told_is_there))]
-fn answer(queue: &mut OpQueue, op: u64) {
-    if queue.facts(op).is_some() {
-        queue.answer(op);
-    }
-}
-
 fn begin(queue: &mut OpQueue, instance: u8) -> Option<u64> {
     queue.begin(instance).map(|begun| begun.op)
 }
@@ -76,7 +48,7 @@ fn facts(instance: u8, running: bool, close: bool) -> Option<OpFacts> {
 }
 
 #[test]
-fn sixteen_that_are_no_closes(rt: HostRuntime) -> Result<(), Fail> {
+fn sixteen_that_are_no_closes_and_eight_closes(rt: HostRuntime) -> Result<(), Fail> {
     let mut queue = OpQueue::new(rt.alloc());
     for op in 1..17u64 {
         assert_eq!(rt; submit(&mut queue, 1, invoke(0)), Some(Ok(op)));
@@ -91,9 +63,20 @@ fn sixteen_that_are_no_closes(rt: HostRuntime) -> Result<(), Fail> {
         submit(&mut queue, 1, invoke(0)),
         Some(Err(QueueAnswer::Full))
     );
-    answer(&mut queue, 1);
+    queue.answer(1);
     assert_eq!(rt; submit(&mut queue, 2, invoke(0)), Some(Ok(18)));
+    for op in 19..26u64 {
+        assert_eq!(rt; submit(&mut queue, 1, close(0)), Some(Ok(op)));
+    }
+    assert_eq!(rt;
+        submit(&mut queue, 1, close(0)),
+        Some(Err(QueueAnswer::NoMemory))
+    );
+    assert_eq!(rt; queue.operations().len(), 24);
     queue.bounds();
+    queue.forget();
+    assert_eq!(rt; queue.operations().len(), 0);
+    assert_eq!(rt; submit(&mut queue, 1, close(0)), Some(Ok(26)));
     Ok(())
 }
 
@@ -129,16 +112,21 @@ fn what_a_request_does(rt: HostRuntime) -> Result<(), Fail> {
     assert_eq!(rt; queue.cancel(4), Cancelled::Nothing);
     assert_eq!(rt; begin(&mut queue, 1), Some(1));
     assert_eq!(rt; queue.cancel(1), Cancelled::Flagged);
-    assert_eq!(rt; flag(&queue, 1), Some(false));
-    assert_eq!(rt; set_mask(&mut queue, 1, false), Some(true));
-    assert_eq!(rt; flag(&queue, 1), Some(true));
-    assert_eq!(rt; set_mask(&mut queue, 1, true), Some(false));
-    assert_eq!(rt; flag(&queue, 1), Some(false));
+    assert!(rt; !queue.flag(1));
+    assert!(rt; queue.unmask(1));
+    assert!(rt; queue.flag(1));
+    assert!(rt; !queue.mask(1));
+    assert!(rt; !queue.flag(1));
+    assert!(rt; queue.unmask(2));
+    assert!(rt; queue.mask(2));
+    assert!(rt; !queue.flag(2));
     assert_eq!(rt; queue.cancel(2), Cancelled::Dropped);
+    assert!(rt; queue.unmask(2));
+    assert!(rt; !queue.flag(2));
     assert_eq!(rt; queue.facts(2), None);
     assert_eq!(rt; begin(&mut queue, 1), Some(3));
     assert_eq!(rt; queue.cancel(3), Cancelled::Nothing);
-    assert_eq!(rt; set_mask(&mut queue, 3, false), Some(true));
-    assert_eq!(rt; flag(&queue, 3), Some(false));
+    assert!(rt; queue.unmask(3));
+    assert!(rt; !queue.flag(3));
     Ok(())
 }

@@ -5,8 +5,8 @@ use Rattle.std.specs.Int.{w32, to_be_bytes}
 use Rattle.hex.specs.Hex.{encode_lower}
 use Rattle.tee_base.specs.Codes.{number_of}
 use Rattle.tee_base.specs.declared.codes.Code.{Code}
-use Rattle.object_asks.specs.declared.turn.TurnKind.{TurnKind}
-use Rattle.object_asks.specs.declared.turn.TurnKind.TheVariants.{Plain, Lost, Corrupted}
+use Rattle.alone.specs.declared.turn.TurnKind.{TurnKind}
+use Rattle.alone.specs.declared.turn.TurnKind.TheVariants.{Plain, Lost, Starved, Corrupted}
 use Rattle.alone.specs.declared.power.Power.{Power}
 use Rattle.alone.specs.declared.power.Power.TheVariants.{Clean, Kept, Absent}
 use Rattle.alone.specs.declared.reply.Reply.{Reply}
@@ -45,11 +45,8 @@ mark_text word name turn = codes "board " ++ word ++ codes " " ++ name ++ codes 
 abbrev pub happened_text : List ℕ → TurnKind → ℕ → List ℕ
 happened_text name Plain turn = []
 happened_text name (Lost change) turn = mark_text (codes "lost") name turn
+happened_text name Starved turn = mark_text (codes "starve") name turn
 happened_text name Corrupted turn = mark_text (codes "corrupt") name turn
-
--- a turn for which there was no memory
-abbrev pub starved_text : List ℕ → ℕ → List ℕ
-starved_text name turn = mark_text (codes "starve") name turn
 
 -- what a power left of the change in doubt, which is that of the application of this name
 abbrev pub power_text : List ℕ → Power → List ℕ

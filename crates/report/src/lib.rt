@@ -2,7 +2,7 @@
 #![tactic(auto)]
 
 ghost use Rattle.std.specs.Prelude.{◌≡◌, IfOk};
-ghost use Rattle.report.specs.Texts.{happened_text, mark_text, power_text, reply_text, starved_text};
+ghost use Rattle.report.specs.Texts.{happened_text, mark_text, power_text, reply_text};
 
 mod line;
 
@@ -85,7 +85,8 @@ fn mark_line(alloc: Global, word: &[u8], name: &[u8], turn: u64) -> Result<Bytes
 }
 
 /// The line of a turn of the application of this name, counted from 1: `board lost NAME T` where a call of the store failed in
-/// it, `board corrupt NAME T` where it read damage, and no bytes where it is plain.
+/// it, `board corrupt NAME T` where it read damage, `board starve NAME T` where there was no memory for it, and no bytes where it is
+/// plain.
 pub fn happened_line(
     alloc: Global,
     name: &[u8],
@@ -97,15 +98,9 @@ pub fn happened_line(
     match kind {
         TurnKind::Plain => Ok(Bytes::empty(alloc)),
         TurnKind::Lost { .. } => mark_line(alloc, b"lost", name, turn),
+        TurnKind::Starved => mark_line(alloc, b"starve", name, turn),
         TurnKind::Corrupted => mark_line(alloc, b"corrupt", name, turn),
     }
-}
-
-/// The line of a turn of the application of this name, counted from 1, for which there was no memory: `board starve NAME T`.
-pub fn starved_line(alloc: Global, name: &[u8], turn: u64) -> Result<Bytes, NoMemory>
-    ensures { IfOk result (λ line. line ≡ starved_text name.now turn) }
-{
-    mark_line(alloc, b"starve", name, turn)
 }
 
 /// The line of a power: `board power clean`, `board power kept NAME` or `board power absent NAME`. The name is that of the

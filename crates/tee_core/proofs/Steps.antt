@@ -1,7 +1,7 @@
 -- What the calls and turns of one application are for its machine.
 use Rattle.std.proofs.Common.{◌≡◌, ◌++◌, ℕ, List, [], ◌∷◌, Result, Ok, Err, OnErr, refl, ap}
 use Rattle.app_api.specs.declared.call.Call.{Call}
-use Rattle.object_asks.specs.declared.turn.TurnKind.TheVariants.{Plain}
+use Rattle.alone.specs.declared.turn.TurnKind.TheVariants.{Plain}
 use Rattle.alone.specs.declared.reply.Reply.{Reply}
 use Rattle.alone.specs.Machine.{Machine}
 use Rattle.alone.specs.Step.{called}

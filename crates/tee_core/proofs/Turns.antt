@@ -1,8 +1,6 @@
 -- Turns of one machine, made one after the other.
 use Rattle.app_api.specs.Behaviours.{Behaviour}
 use Rattle.std.proofs.Common.{◌≡◌, ◌++◌, ◌<◌, ◌≤◌, ◌-◌, ◌+◌, ℕ, zero, suc, List, [], ◌∷◌, true, false, cond, refl, sym, subst, ◌∙◌, ap, append_assoc, append-nil, arith}
-use Rattle.app_api.specs.declared.ask.Ask.{Ask}
-use Rattle.app_api.specs.declared.ask.Given.{Given}
 use Rattle.alone.specs.declared.reply.Reply.{Reply}
 use Rattle.alone.specs.Machine.{Machine}
 use Rattle.alone.specs.Runs.{machine_after, most_turns, turns_until}

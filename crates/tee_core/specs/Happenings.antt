@@ -1,23 +1,24 @@
 -- What is told of events of one application's machine.
 use Rattle.app_api.specs.Behaviours.{Behaviour}
 use Rattle.std.specs.Prelude.{ℕ, List, [], ◌∷◌, ◌++◌}
-use Rattle.app_api.specs.declared.ask.Ask.{Ask}
-use Rattle.app_api.specs.declared.ask.Given.{Given}
 use Rattle.app_api.specs.declared.call.Call.{Call}
-use Rattle.object_asks.specs.declared.turn.TurnKind.TheVariants.{Plain}
+use Rattle.alone.specs.declared.turn.TurnKind.TheVariants.{Plain}
 use Rattle.alone.specs.declared.reply.Reply.{Reply}
 use Rattle.alone.specs.Machine.{Machine}
 use Rattle.alone.specs.Runs.{turns_of_call}
-use Rattle.alone.specs.Step.{Event, Called, Turned, TurnLost, Corrupted, Lost, Stepped, called, step}
+use Rattle.alone.specs.Step.{Event, Called, Cancelled, Turned, TurnLost, Corrupted, Lost, Starved, Restarted, Stepped, called, step}
 use Rattle.tee_core.specs.declared.happened.Happened.{Happened}
 
--- the number of the operation that an event calls, 0 for one that calls none
+-- the number of the operation that an event calls or cancels, 0 for any other
 abbrev pub op_called : {A : Type 0} → Machine A → Event → ℕ
 op_called m (Called client call) = m.queue.next
 op_called m (Turned instance) = 0
 op_called m (TurnLost instance) = 0
 op_called m (Corrupted instance) = 0
 op_called m Lost = 0
+op_called m (Cancelled op) = op
+op_called m (Starved instance) = 0
+op_called m (Restarted took) = 0
 
 -- the instance of an event: for a call the one for which it waits, 0 where it is answered
 abbrev pub instance_met : {A : Type 0} → Event → Stepped A → ℕ
@@ -26,6 +27,9 @@ instance_met (Turned instance) s = instance
 instance_met (TurnLost instance) s = instance
 instance_met (Corrupted instance) s = instance
 instance_met Lost s = 0
+instance_met (Cancelled op) s = 0
+instance_met (Starved instance) s = instance
+instance_met (Restarted took) s = 0
 
 -- a happening is told where it has a reply
 abbrev pub told_with : List Reply → Happened → List Happened → List Happened

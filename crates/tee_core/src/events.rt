@@ -1,9 +1,8 @@
 //! Events of all applications, each of them one event of every world that the value represents.
 
-ghost use Rattle.std.specs.Prelude.{◌≡◌, ◌<◌, ◌≤◌, IfOk, OnErr, OnOk, Some, All, length, slice_get};
+ghost use Rattle.std.specs.Prelude.{◌≡◌, ◌<◌, ◌≤◌, IfOk, OnErr, OnOk, Some, length, slice_get};
 ghost use Rattle.store_api.specs.Stores.{empty_store};
 ghost use Rattle.app_api.specs.Hosts.{HostsFit};
-ghost use Rattle.app_side.specs.Represents.{IsOneInstance};
 ghost use Rattle.alone.specs.Machine.{Machine};
 ghost use Rattle.tee_core.specs.Happenings.{happening, told_of_call};
 ghost use Rattle.tee_core.specs.Represents.{app_count, app_of, applications_of, event_of, machine_event, AreHosted, LeftByWant, OthersStay, Represents};
@@ -24,8 +23,7 @@ fn start_all<A: Application>(
     hosts: Vec<Host<A>>,
     seed: [u8; 32],
 ) -> Result<Vec<Hosted<A>>, NoMemory>
-    requires one { All (λ host. IsOneInstance host) hosts.items }
-    requires few { length hosts.items ≤ 16 }
+    requires { length hosts.items ≤ 16 }
     ensures { IfOk result (λ hosted. AreHosted hosted.items (world_of hosts.items seed (λ app. empty_store))) }
 {
     let mut rest = VecDeque::from(hosts);
@@ -38,11 +36,9 @@ fn start_all<A: Application>(
 }
 
 impl<A: Application> Tee<A> {
-    /// Applications that have run nothing, over empty stores. Each has one instance, which serves all sessions and stays, as
-    /// long as other properties aren't built.
+    /// Applications that have run nothing, over empty stores.
     pub fn new(alloc: Global, hosts: Vec<Host<A>>, seed: [u8; 32]) -> Result<Tee<A>, NoMemory>
-        requires fit { HostsFit hosts.items }
-        requires one { All (λ host. IsOneInstance host) hosts.items }
+        requires { HostsFit hosts.items }
         ensures world { IfOk result (λ tee. Represents tee (world_of hosts.items seed (λ app. empty_store))) }
         ensures apps { IfOk result (λ tee. app_count tee ≡ length hosts.items) }
     {

@@ -5,7 +5,6 @@ ghost use Rattle.store_api.specs.Stores.{empty_store};
 ghost use Rattle.alone.specs.Machine.{Machine, start};
 ghost use Rattle.alone.specs.Runs.{events_of_call, machine_after, most_turns, turns_until};
 ghost use Rattle.alone.specs.Step.{called, is_answered, turned, Called, Turned};
-ghost use Rattle.app_side.specs.Represents.{IsOneInstance};
 ghost use Rattle.tee_core.specs.Happenings.{happening, replying, told_of_call};
 ghost use Rattle.tee_core.specs.Represents.{IsHosted};
 
@@ -18,6 +17,9 @@ use std::alloc::Global;
 use store_api::MapStore;
 use tee_base::{NoMemory, limits};
 
+/// How many turns are counted: more than any script makes.
+const MOST: u64 = 1 << 63;
+
 impl<A: Application> Hosted<A> {
     /// An application that has run nothing, over an empty store whose calls don't fail.
     pub fn new(
@@ -26,7 +28,6 @@ impl<A: Application> Hosted<A> {
         application: u8,
         seed: [u8; 32],
     ) -> Result<Hosted<A>, NoMemory>
-        requires { IsOneInstance host }
         ensures { IfOk result (λ hosted. IsHosted hosted (start host application seed empty_store)) }
     {
         let side = AppSide::new(alloc, host, application, seed)?;
@@ -62,16 +63,16 @@ impl<A: Application> Hosted<A> {
         ensures replies { OnOk result ((m : Machine A) → IsHosted self.old m
             → replies.new ≡ (turned A.behaviour m instance).replies) }
     {
-        if self.spent {
+        if self.spent || self.side.turns() >= MOST {
             return Err(NoMemory);
         }
         self.spent = true;
-        match self.side.turn_into(instance, &mut self.store, replies)? {
+        match self.side.turn_into(instance, &mut self.store, replies) {
             TurnKind::Plain => {
                 self.spent = false;
                 Ok(())
             }
-            TurnKind::Lost { .. } | TurnKind::Corrupted => Err(NoMemory),
+            TurnKind::Lost { .. } | TurnKind::Starved | TurnKind::Corrupted => Err(NoMemory),
         }
     }
 

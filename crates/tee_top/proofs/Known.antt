@@ -1,5 +1,5 @@
 -- The lines of a script name hosts that there are.
-use Rattle.std.proofs.Common.{◌≡◌, ◌<◌, ℕ, List, [], ◌∷◌, ◌++◌, length, sym, subst}
+use Rattle.std.proofs.Common.{◌<◌, ℕ, List, [], ◌∷◌, ◌++◌, length, sym, subst}
 use Rattle.std.specs.List.{AllByRecursion, flat_map}
 use Rattle.std.proofs.lemmas.Option.{slice_get_within}
 use Rattle.app_api.specs.declared.host.Host.{Host}
@@ -8,7 +8,7 @@ use Rattle.script.specs.declared.line.Line.{Line}
 use Rattle.script.specs.declared.line.Line.TheVariants as lines
 use Rattle.script.specs.declared.line.Meaning.{Meaning}
 use Rattle.script.specs.declared.line.Meaning.TheVariants.{Nothing, Client, Script}
-use Rattle.script.specs.Grammar.{AreNext, IsHost, IsLine, IsNext, Means, Place, Reads, lines_of}
+use Rattle.script.specs.Grammar.{AreNext, IsHost, IsLine, Means, Place, Reads, lines_of}
 use Rattle.tee_top.specs.Runs.{IsKnown}
 
 known_host : {A : Type 0} (hosts : List (Host A)) (word : List ℕ) (app : ℕ) → IsHost hosts word app → app < length hosts

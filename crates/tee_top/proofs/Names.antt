@@ -1,5 +1,5 @@
 -- Names of hosts, as the first words of lines.
-use Rattle.std.proofs.Common.{◌≡◌, ◌≢◌, ℕ, ◌<◌, ◌⊎◌, List, [], ◌∷◌, length, sym, ◌∙◌, arith, inl, inr}
+use Rattle.std.proofs.Common.{◌≢◌, ℕ, ◌<◌, ◌⊎◌, List, [], ◌∷◌, length, sym, ◌∙◌, arith, inl, inr}
 use Rattle.std.specs.Prelude.{All, AllPairs}
 use Rattle.std.proofs.lemmas.List.{get_or-map, length-map}
 use Rattle.std.proofs.lemmas.List.Elements.{All-map, All-weaker}

@@ -2,8 +2,6 @@
 use Rattle.app_api.specs.Behaviours.{Behaviour}
 use Rattle.std.specs.Prelude.{ℕ, ◌==◌, Bool, true, false, List, [], ◌∷◌, ◌++◌, codes, map}
 use Rattle.std.specs.List.{filter, flat_map, slice_split, starts_with}
-use Rattle.app_api.specs.declared.ask.Ask.{Ask}
-use Rattle.app_api.specs.declared.ask.Given.{Given}
 use Rattle.alone.specs.Machine.{Machine}
 use Rattle.alone.specs.Runs.{events_of_call, machine_after}
 use Rattle.alone.specs.Step.{Event, Called}

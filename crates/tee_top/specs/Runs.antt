@@ -6,10 +6,7 @@ use Rattle.std.specs.Io.KnownBytes.{Appends}
 use Rattle.tee_base.specs.Faults.{Rose}
 use Rattle.tee_base.specs.declared.limits.TheConstants.{SCRIPT_BYTES}
 use Rattle.tee_base.specs.Transfer.{AppendsFront}
-use Rattle.app_api.specs.declared.ask.Ask.{Ask}
-use Rattle.app_api.specs.declared.ask.Given.{Given}
 use Rattle.app_api.specs.declared.host.Host.{Host}
-use Rattle.app_side.specs.Represents.{IsOneInstance}
 use Rattle.store_api.specs.Stores.{empty_store}
 use Rattle.script.specs.declared.line.Line.{Line}
 use Rattle.script.specs.declared.line.Line.TheVariants as lines
@@ -22,10 +19,6 @@ use Rattle.tee_top.specs.declared.status.Status.TheVariants.{Done, BadWords, Bad
 -- the words of a run: the one word
 abbrev pub AreRunWords : List (String Global) → Type 0
 AreRunWords words = (length words ≡ 1) × All (λ word. string_bytes word ≡ codes "run") words
-
--- each host has one instance, which serves all sessions and stays
-abbrev pub AreOneInstance : {A : Type 0} → List (Host A) → Type 0
-AreOneInstance hosts = All (λ host. IsOneInstance host) hosts
 
 -- a status of a run whose script was read and all of whose lines are in the grammar
 abbrev pub IsServed : Status → Type 0

@@ -2,8 +2,6 @@
 use Rattle.app_api.specs.Behaviours.{Behaviour}
 use Rattle.std.specs.Prelude.{ℕ, List, [], ◌∷◌, ◌++◌, true, false, slice_index_or}
 use Rattle.std.specs.List.{flat_map}
-use Rattle.app_api.specs.declared.ask.Ask.{Ask}
-use Rattle.app_api.specs.declared.ask.Given.{Given}
 use Rattle.app_api.specs.declared.host.Host.{Host}
 use Rattle.store_api.specs.Stores.{Store}
 use Rattle.alone.specs.declared.reply.Reply.{Reply}

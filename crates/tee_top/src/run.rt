@@ -10,7 +10,7 @@ ghost use Rattle.script.specs.Grammar.{names_of};
 ghost use Rattle.tee_base.specs.Faults.{Rose};
 ghost use Rattle.tee_base.specs.Transfer.{AppendsFront, ConsumesWithin, HasMoreThan};
 ghost use Rattle.tee_base.specs.declared.limits.TheConstants.{SCRIPT_BYTES};
-ghost use Rattle.tee_top.specs.Runs.{AreRunWords, AreOneInstance, IsKnown, IsServed, IsUnrun, IsReadStatus, ReadsTo, IsBadAt, IsOfTranscript, IsReadable, IsText, IsBadText, IsTooMuch, IsWithin};
+ghost use Rattle.tee_top.specs.Runs.{AreRunWords, IsKnown, IsServed, IsUnrun, IsReadStatus, ReadsTo, IsBadAt, IsOfTranscript, IsReadable, IsText, IsBadText, IsTooMuch, IsWithin};
 ghost use Rattle.tee_top.specs.Transcript.{transcript};
 
 use crate::lines::{Stop, run_lines};
@@ -81,7 +81,6 @@ fn serve<W: Sink, A: Application>(
     seed: [u8; 32],
 ) -> Status
     requires fit { HostsFit hosts.items }
-    requires one { AreOneInstance hosts.items }
     requires known { AllByRecursion (IsKnown (length hosts.items)) lines.items }
     ensures done { result ≡ Status.Done → Appends (W.written sink.old) (W.written sink.new) (transcript A.behaviour hosts.items seed (λ app. empty_store) lines.items) }
     ensures stopped { AppendsFront (transcript A.behaviour hosts.items seed (λ app. empty_store) lines.items) (W.written sink.old) (W.written sink.new) }
@@ -113,8 +112,7 @@ pub fn run_tee<S: Source, W: Sink, A: Application>(
     hosts: Vec<Host<A>>,
     seed: [u8; 32],
 ) -> Status
-    requires fit { HostsFit hosts.items }
-    requires one { AreOneInstance hosts.items }
+    requires { HostsFit hosts.items }
     ensures written { result ≡ Status.Done → IsOfTranscript A.behaviour hosts.items seed (S.left source.old) (Appends (W.written sink.old) (W.written sink.new)) }
     ensures cut_short { result ≡ Status.WriteFault → IsOfTranscript A.behaviour hosts.items seed (S.left source.old) (λ text. AppendsFront text (W.written sink.old) (W.written sink.new)) }
     ensures no_memory { result ≡ Status.NoMemory → (sink.new ≡ sink.old) ⊎ IsOfTranscript A.behaviour hosts.items seed (S.left source.old) (λ text. AppendsFront text (W.written sink.old) (W.written sink.new)) }

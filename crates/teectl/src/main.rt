@@ -5,17 +5,12 @@
 mod tests;
 mod words;
 
-ghost use Rattle.std.specs.Prelude.{IfOk};
-ghost use Rattle.app_api.specs.Hosts.{HostsFit};
-ghost use Rattle.tee_top.specs.Runs.{AreOneInstance};
-
-use app_api::Host;
-use sample_apps::{Sample, one_instance_hosts};
+use sample_apps::sample_hosts;
 use std::alloc::Global;
 use std::io;
 use std::process::ExitCode;
 use std::string::String;
-use tee_base::{NoMemory, StdSink, StdSource};
+use tee_base::{StdSink, StdSource};
 use tee_top::{Status, run_tee, status_line};
 
 const HELP: &str = "\
@@ -33,18 +28,9 @@ docs/SCRIPT.md describes the script language and the printed lines.
 
 const VERSION: &str = "teectl 0.1.0\n";
 
-/// The hosts of the sample applications. Each has one instance, which takes all sessions and stays; `sample_hosts` takes their
-/// place once the runtime serves other hosts.
-fn samples(alloc: Global) -> Result<Vec<Host<Sample>>, NoMemory>
-    ensures fit { IfOk result (λ hosts. HostsFit hosts.items) }
-    ensures one { IfOk result (λ hosts. AreOneInstance hosts.items) }
-{
-    one_instance_hosts(alloc)
-}
-
 /// Runs the words, and says how it ended.
 fn run<R: Input + Print>(rt: &R, alloc: Global, words: &[String]) -> Status {
-    let Ok(hosts) = samples(alloc) else {
+    let Ok(hosts) = sample_hosts(alloc) else {
         return Status::NoMemory;
     };
     let mut source = StdSource::new(rt.reader());

@@ -1,12 +1,9 @@
 //! Whole scripts, from bytes to bytes.
 
-ghost use Rattle.std.specs.Prelude.{IsTrue};
 ghost use Rattle.app_api.specs.Hosts.{HostsFit};
-ghost use Rattle.tee_top.specs.Runs.{AreOneInstance};
 
-use crate::samples;
 use app_api::{Host, Properties, hosts_fit};
-use sample_apps::{Sample, Store};
+use sample_apps::{Sample, Store, sample_hosts};
 use std::alloc::Global;
 use std::test::Fail;
 use tee_base::{Bytes, MemSink, MemSource};
@@ -22,8 +19,7 @@ fn run_for(
     reads: &[u64],
     writes: &[u64],
 ) -> Result<(Status, MemSink), Fail>
-    requires fit { HostsFit hosts.items }
-    requires one { AreOneInstance hosts.items }
+    requires { HostsFit hosts.items }
 {
     let text = Bytes::from_slice(alloc, script.as_bytes())?;
     let mut source = MemSource::new(alloc, text, reads)?;
@@ -48,7 +44,7 @@ fn run(
     reads: &[u64],
     writes: &[u64],
 ) -> Result<(Status, MemSink), Fail> {
-    let hosts = samples(alloc)?;
+    let hosts = sample_hosts(alloc)?;
     run_for(alloc, hosts, word, script, reads, writes)
 }
 
@@ -237,13 +233,6 @@ fn store_host(alloc: Global, name: &str, id: u128) -> Result<Host<Sample>, Fail>
     })
 }
 
-/// Whether each host has one instance, which takes all sessions and stays.
-fn are_one_instance(hosts: &[Host<Sample>]) -> bool
-    ensures { IsTrue result → AreOneInstance hosts.now }
-{
-    hosts.iter().all(|host| host.properties.single && host.properties.multi && host.properties.keep)
-}
-
 const FILLED: &str = "\
 one open 1
 one invoke 1 2 mi:61 vi:3:0 mf:260096:00 vo
@@ -265,7 +254,6 @@ fn a_quota_is_one_application_s(rt: HostRuntime) -> Result<(), Fail> {
     let alloc = rt.alloc();
     let hosts = vec![in alloc; store_host(alloc, "one", 1)?, store_host(alloc, "two", 2)?]?;
     assert!(rt; hosts_fit(hosts.as_slice()));
-    assert!(rt; are_one_instance(hosts.as_slice()));
     let (status, sink) = run_for(alloc, hosts, "run", FILLED, &[], &[])?;
     assert_eq!(rt; status, Status::Done);
     assert_eq!(rt; sink.written(), FILLED_LINES.as_bytes());

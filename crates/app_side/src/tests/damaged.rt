@@ -110,7 +110,7 @@ fn damage_is_told_and_loses_nothing(rt: HostRuntime) -> Result<(), Fail> {
         (Step::Create(ALL, b"a", b"1234"), DAMAGED, CORRUPT),
         (Step::Open(ALL, b"a"), DAMAGED, CORRUPT),
         (Step::Open(ALL, b"a"), PLAIN, NOT_FOUND),
-        (Step::Close(1), PLAIN, Told::Code(Code::NOT_IMPLEMENTED)),
+        (Step::Close(1), PLAIN, Told::Code(Code::TARGET_DEAD)),
     ];
     check_over(&rt, rt.alloc(), &mut store, &steps)
 }

@@ -26,7 +26,7 @@ fn fine(out: Out) -> Ask
     returns(Code::SUCCESS, out)
 }
 
-fn first(param: &Param) -> u32
+pub fn first(param: &Param) -> u32
     ensures { result ≡ first_of param.now }
 {
     match param {
@@ -35,7 +35,7 @@ fn first(param: &Param) -> u32
     }
 }
 
-fn second(param: &Param) -> u32
+pub fn second(param: &Param) -> u32
     ensures { result ≡ second_of param.now }
 {
     match param {
@@ -53,7 +53,7 @@ fn open(flags: u32, storage: u32, id: Param) -> Ask
     }
 }
 
-fn create(flags: u32, attr: u32, id: Param, content: Param) -> Ask
+pub fn create(flags: u32, attr: u32, id: Param, content: Param) -> Ask
     ensures { result ≡ create_of flags attr id content }
 {
     match (id, content) {

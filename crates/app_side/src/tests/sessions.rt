@@ -1,222 +1,223 @@
-//! Sessions of an application that keeps a sum: from open to close, refusals, and a create entry that fails.
+//! Sessions and instances: from open to close, by the properties, and how an instance ends.
 
-ghost use Rattle.std.specs.Prelude.{◌≡◌, OnOk};
-ghost use Rattle.app_side.specs.Represents.{is_lost};
-
-use super::adder::Adder;
-use super::turns::host;
-use crate::AppSide;
-use alone::{Replies, Reply, Shown};
-use app_api::{Call, Param, Params};
-use instances::SessionState;
-use std::alloc::Global;
-use std::process::Abort;
+use super::tables::{API, APP, Do, FINE, NONE, PLAIN, Row, Seen, TEE, Table, ZEROS, run};
+use app_api::Properties;
 use std::test::Fail;
-use store_api::MapStore;
-use tee_base::{Code, Origin};
+use tee_base::Code;
 
-/// An event in words that a table can hold. The calls are those of client 0 where none is said.
-#[derive(Clone, Copy, Debug)]
-enum Do {
-    Open(u32),
-    OpenFor(u8, u32),
-    /// With a memory reference that is too large.
-    OpenLarge(u32),
-    /// Command 1 with this value.
-    Add(u32, u32),
-    /// A command that there is not.
-    Unknown(u32),
-    InvokeLarge(u32),
-    Close(u32),
-    Turn(u8),
-}
-
-/// A reply: its operation, code and origin, and the value at position 1.
-type Told = (u64, Code, Origin, Option<u32>);
-
-fn large() -> Params {
-    let mut params = Params::nothing();
-    params.p2 = Param::MemOut(524_289);
-    params
-}
-
-fn invoke(label: u32, command: u32, params: Params) -> Call {
-    Call::Invoke {
-        label,
-        command,
-        params,
-    }
-}
-
-fn add(label: u32, value: u32) -> Call {
-    let mut params = Params::nothing();
-    params.p0 = Param::ValueIn(value, 0);
-    params.p1 = Param::ValueOut;
-    invoke(label, 1, params)
-}
-
-fn open(label: u32, params: Params) -> Call {
-    Call::Open { label, params }
-}
-
-/// The replies of the event.
-fn replies_to(side: &mut AppSide<Adder>, store: &mut MapStore, what: Do) -> Result<Replies, Fail>
-    requires { is_lost side.old ≡ store.old.lost }
-    ensures { OnOk result (is_lost side.new ≡ store.new.lost) }
-{
-    let (client, call) = match what {
-        Do::Turn(instance) => return Ok(side.turn(instance, store)?.replies),
-        Do::Open(label) => (0, open(label, Params::nothing())),
-        Do::OpenFor(client, label) => (client, open(label, Params::nothing())),
-        Do::OpenLarge(label) => (0, open(label, large())),
-        Do::Add(label, value) => (0, add(label, value)),
-        Do::Unknown(label) => (0, invoke(label, 2, Params::nothing())),
-        Do::InvokeLarge(label) => (0, invoke(label, 1, large())),
-        Do::Close(label) => (0, Call::Close { label }),
-    };
-    Ok(side.call(client, call)?.replies)
-}
-
-fn told(reply: &Reply) -> Told {
-    let value = match &reply.outputs.p1 {
-        Shown::Value(value, _) => Some(*value),
-        _ => None,
-    };
-    (reply.op, reply.code, reply.origin, value)
-}
-
-fn compare(rt: &impl Abort, replies: &Replies, wanted: &[Told]) {
-    assert_eq!(rt; replies.len(), wanted.len());
-    for (reply, wanted) in replies.as_slice().iter().zip(wanted.iter()) {
-        assert_eq!(rt; told(reply), *wanted);
-    }
-}
-
-/// Makes the event of each row, and compares its replies.
-fn run(
-    rt: &impl Abort,
-    side: &mut AppSide<Adder>,
-    store: &mut MapStore,
-    rows: &[(Do, &[Told])],
-) -> Result<(), Fail>
-    requires { is_lost side.old ≡ store.old.lost }
-    ensures { OnOk result (is_lost side.new ≡ store.new.lost) }
-{
-    for (what, wanted) in rows {
-        let replies = replies_to(side, store, *what)?;
-        compare(rt, &replies, wanted);
-    }
-    Ok(())
-}
-
-const API: Origin = Origin::Api;
-
-const TEE: Origin = Origin::Tee;
-
-const APP: Origin = Origin::App;
-
-/// From open to close, and another open.
-const SESSION: &[(Do, &[Told])] = &[
-    (Do::Turn(1), &[]),
-    (Do::Add(7, 5), &[(1, Code::BAD_STATE, API, None)]),
-    (Do::Close(7), &[(2, Code::BAD_STATE, API, None)]),
-    (Do::OpenLarge(7), &[(3, Code::BAD_PARAMETERS, API, None)]),
+/// From open to close, and another open: the instance is kept, with its number, and doesn't run create again.
+const KEPT: &[Row] = &[
+    (Do::Turns(1, 1), &[]),
+    (Do::Add(7, 5), &[(1, Code::BAD_STATE, API, NONE)]),
+    (Do::Close(7), &[(2, Code::BAD_STATE, API, NONE)]),
+    (Do::OpenLarge(7), &[(3, Code::BAD_PARAMETERS, API, NONE)]),
     (Do::Open(7), &[]),
-    (Do::OpenLarge(7), &[(5, Code::BAD_PARAMETERS, API, None)]),
-    (Do::Open(7), &[(6, Code::BAD_STATE, API, None)]),
-    (Do::Add(7, 5), &[(7, Code::BAD_STATE, API, None)]),
-    (Do::Close(7), &[(8, Code::BAD_STATE, API, None)]),
+    (Do::OpenLarge(7), &[(5, Code::BAD_PARAMETERS, API, NONE)]),
+    (Do::Open(7), &[(6, Code::BAD_STATE, API, NONE)]),
+    (Do::Add(7, 5), &[(7, Code::BAD_STATE, API, NONE)]),
+    (Do::Close(7), &[(8, Code::BAD_STATE, API, NONE)]),
     // create, then start
-    (Do::Turn(1), &[]),
-    (Do::Turn(1), &[]),
-    (Do::Turn(1), &[]),
-    (Do::Turn(1), &[]),
-    (Do::Turn(1), &[(4, Code::SUCCESS, APP, None)]),
+    (Do::Turns(1, 5), &[(4, FINE, APP, NONE)]),
     (Do::Add(7, 5), &[]),
-    (Do::Unknown(7), &[]),
-    (Do::InvokeLarge(7), &[(11, Code::BAD_PARAMETERS, API, None)]),
-    (Do::Turn(1), &[]),
-    (Do::Turn(1), &[]),
-    (Do::Turn(1), &[(9, Code::SUCCESS, APP, Some(5))]),
-    (Do::Turn(1), &[]),
-    (Do::Turn(1), &[]),
-    (Do::Turn(1), &[(10, Code::BAD_PARAMETERS, APP, None)]),
+    (Do::Invoke(7, 99, 0, 0), &[]),
+    (Do::InvokeLarge(7), &[(11, Code::BAD_PARAMETERS, API, NONE)]),
+    (Do::Turns(1, 3), &[(9, FINE, APP, Seen::Value(5, 1))]),
+    (Do::Turns(1, 3), &[(10, Code::BAD_PARAMETERS, APP, ZEROS)]),
     // nothing waits, and there is no instance 2
-    (Do::Turn(1), &[]),
-    (Do::Turn(2), &[]),
+    (Do::Turns(1, 1), &[]),
+    (Do::Turns(2, 1), &[]),
     (Do::Close(7), &[]),
-    (Do::Add(7, 5), &[(13, Code::BAD_STATE, API, None)]),
-    (Do::Close(7), &[(14, Code::BAD_STATE, API, None)]),
+    (Do::Add(7, 5), &[(13, Code::BAD_STATE, API, NONE)]),
+    (Do::Close(7), &[(14, Code::BAD_STATE, API, NONE)]),
     // the code of stop is ignored
-    (Do::Turn(1), &[]),
-    (Do::Turn(1), &[]),
-    (Do::Turn(1), &[(12, Code::SUCCESS, APP, None)]),
-    (Do::Close(7), &[(15, Code::BAD_STATE, API, None)]),
-    // the instance is kept, with its sum, and doesn't run create again
+    (Do::Turns(1, 3), &[(12, FINE, APP, NONE)]),
+    (Do::Close(7), &[(15, Code::BAD_STATE, API, NONE)]),
+    (Do::Live(1), &[]),
     (Do::Open(8), &[]),
-    (Do::Turn(1), &[]),
-    (Do::Turn(1), &[]),
-    (Do::Turn(1), &[(16, Code::SUCCESS, APP, None)]),
-];
-
-/// The instance keeps its sum.
-const KEPT: &[(Do, &[Told])] = &[
+    (Do::Turns(1, 3), &[(16, FINE, APP, NONE)]),
     (Do::Add(8, 2), &[]),
-    (Do::Turn(1), &[]),
-    (Do::Turn(1), &[]),
-    (Do::Turn(1), &[(17, Code::SUCCESS, APP, Some(7))]),
+    (Do::Turns(1, 3), &[(17, FINE, APP, Seen::Value(7, 1))]),
 ];
 
-/// A dead session.
-const DEAD: &[(Do, &[Told])] = &[
-    (Do::Add(8, 1), &[(18, Code::TARGET_DEAD, TEE, None)]),
-    (Do::Close(8), &[(19, Code::SUCCESS, TEE, None)]),
-    (Do::Close(8), &[(20, Code::BAD_STATE, API, None)]),
+/// Destroy runs when the last session goes, and a new open begins with a fresh state.
+const NOT_KEPT: &[Row] = &[
+    (Do::Open(1), &[]),
+    (Do::Turns(1, 5), &[(1, FINE, APP, NONE)]),
+    (Do::Open(2), &[]),
+    (Do::Turns(1, 3), &[(2, FINE, APP, NONE)]),
+    (Do::Add(1, 5), &[]),
+    (Do::Turns(1, 3), &[(3, FINE, APP, Seen::Value(5, 2))]),
+    (Do::Close(1), &[]),
+    (Do::Turns(1, 3), &[(4, FINE, APP, NONE)]),
+    (Do::Add(2, 1), &[]),
+    (Do::Turns(1, 3), &[(5, FINE, APP, Seen::Value(6, 1))]),
+    (Do::Close(2), &[]),
+    (Do::Turns(1, 3), &[]),
+    // the destroy entry runs
+    (Do::Open(3), &[(7, Code::BUSY, TEE, NONE)]),
+    (Do::Turns(1, 2), &[(6, FINE, APP, NONE)]),
+    (Do::Live(0), &[]),
+    (Do::Open(3), &[]),
+    (Do::Turns(1, 5), &[(8, FINE, APP, NONE)]),
+    (Do::Add(3, 0), &[]),
+    (Do::Turns(1, 3), &[(9, FINE, APP, Seen::Value(0, 1))]),
+];
+
+const ONE_SESSION: &[Row] = &[
+    (Do::Open(1), &[]),
+    (Do::Turns(1, 5), &[(1, FINE, APP, NONE)]),
+    (Do::Open(2), &[(2, Code::BUSY, TEE, NONE)]),
+    (Do::Close(1), &[]),
+    (Do::Open(2), &[(4, Code::BUSY, TEE, NONE)]),
+    (Do::Turns(1, 3), &[(3, FINE, APP, NONE)]),
+    (Do::Open(2), &[]),
+    (Do::Turns(1, 3), &[(5, FINE, APP, NONE)]),
 ];
 
 /// Two sessions of an instance whose create entry fails.
-const FAILING: &[(Do, &[Told])] = &[
+const CREATE_FAILS: &[Row] = &[
     (Do::Open(1), &[]),
     (Do::OpenFor(1, 1), &[]),
-    (Do::OpenFor(1, 1), &[(3, Code::BAD_STATE, API, None)]),
-    (Do::Turn(1), &[]),
-    (Do::Turn(1), &[]),
+    (Do::OpenFor(1, 1), &[(3, Code::BAD_STATE, API, NONE)]),
     (
-        Do::Turn(1),
-        &[(1, Code::GENERIC, APP, None), (2, Code::GENERIC, APP, None)],
+        Do::Turns(1, 3),
+        &[(1, Code::GENERIC, APP, NONE), (2, Code::GENERIC, APP, NONE)],
     ),
-    (Do::Turn(1), &[]),
-    (Do::Add(1, 1), &[(4, Code::BAD_STATE, API, None)]),
+    (Do::Live(0), &[]),
+    (Do::Turns(1, 1), &[]),
+    (Do::Add(1, 1), &[(4, Code::BAD_STATE, API, NONE)]),
     (Do::Open(1), &[]),
 ];
 
-#[test]
-fn a_session_from_open_to_close(rt: HostRuntime) -> Result<(), Fail> {
-    let alloc = rt.alloc();
-    let adder = Adder {
-        sum: 0,
-        fails: false,
-    };
-    let mut side = AppSide::new(alloc, host(alloc, adder)?, 0, [0; 32])?;
-    let mut store = MapStore::new(alloc, &[])?;
-    run(&rt, &mut side, &mut store, SESSION)?;
-    assert_eq!(rt; side.turns(), 20);
-    run(&rt, &mut side, &mut store, KEPT)?;
-    // as if the instance had ended while the session was open
-    side.table.set(1, SessionState::Dead);
-    run(&rt, &mut side, &mut store, DEAD)
-}
+/// Destroy comes before the reply where no other session is left.
+const START_FAILS: &[Row] = &[
+    (Do::OpenWith(1, Code::GENERIC.0, 0), &[]),
+    (Do::Turns(1, 5), &[]),
+    (Do::Open(2), &[(2, Code::BUSY, TEE, NONE)]),
+    (Do::Turns(1, 2), &[(1, Code::GENERIC, APP, ZEROS)]),
+    (Do::Live(0), &[]),
+    (Do::Open(1), &[]),
+    (Do::Turns(1, 5), &[(3, FINE, APP, NONE)]),
+    (Do::OpenWith(2, Code::GENERIC.0, 0), &[]),
+    (Do::Turns(1, 3), &[(4, Code::GENERIC, APP, ZEROS)]),
+    (Do::Live(1), &[]),
+    (Do::Add(2, 1), &[(5, Code::BAD_STATE, API, NONE)]),
+];
+
+/// A panic with a second session's operation waiting, and a third session after it. Then misuse: a size within the room.
+const PANIC: &[Row] = &[
+    (Do::Open(1), &[]),
+    (Do::Turns(1, 5), &[(1, FINE, APP, NONE)]),
+    (Do::Open(2), &[]),
+    (Do::Turns(1, 3), &[(2, FINE, APP, NONE)]),
+    (Do::Object(1, b"h"), &[]),
+    (Do::Turns(1, 5), &[(3, FINE, APP, Seen::Value(1, 0))]),
+    (Do::Invoke(1, 2, 0, 0), &[]),
+    (Do::Object(2, b"h"), &[]),
+    (
+        Do::Turns(1, 3),
+        &[
+            (4, Code::TARGET_DEAD, TEE, NONE),
+            (5, Code::TARGET_DEAD, TEE, NONE),
+        ],
+    ),
+    (Do::Live(0), &[]),
+    (Do::Open(3), &[]),
+    (Do::Turns(1, 5), &[(6, FINE, APP, NONE)]),
+    // the object is no longer open
+    (Do::Object(3, b"h"), &[]),
+    (Do::Turns(1, 5), &[(7, FINE, APP, Seen::Value(1, 0))]),
+    (Do::Add(1, 1), &[(8, Code::TARGET_DEAD, TEE, NONE)]),
+    (Do::Close(2), &[(9, FINE, TEE, NONE)]),
+    (Do::Close(2), &[(10, Code::BAD_STATE, API, NONE)]),
+    (Do::Open(1), &[(11, Code::BAD_STATE, API, NONE)]),
+    (Do::Size(3, 4), &[]),
+    (
+        Do::Turns(1, 3),
+        &[(12, Code::SHORT_BUFFER, APP, Seen::Size(1000))],
+    ),
+    (Do::Size(3, 1000), &[]),
+    (Do::Turns(1, 3), &[(13, Code::TARGET_DEAD, TEE, NONE)]),
+];
+
+/// A panic, and another instance of the application. Neither is kept.
+const APART: &[Row] = &[
+    (Do::Open(1), &[]),
+    (Do::Open(2), &[]),
+    (Do::Turns(1, 5), &[(1, FINE, APP, NONE)]),
+    (Do::Turns(2, 5), &[(2, FINE, APP, NONE)]),
+    (Do::Add(2, 3), &[]),
+    (Do::Invoke(1, 2, 0, 0), &[]),
+    (Do::Turns(1, 3), &[(4, Code::TARGET_DEAD, TEE, NONE)]),
+    (Do::Turns(2, 3), &[(3, FINE, APP, Seen::Value(3, 1))]),
+    (Do::Close(2), &[]),
+    (Do::Turns(2, 5), &[(5, FINE, APP, NONE)]),
+    (Do::Live(0), &[]),
+];
+
+const TABLES: &[Table] = &[
+    Table {
+        rows: KEPT,
+        turns: 23,
+        ..PLAIN
+    },
+    Table {
+        properties: Properties {
+            single: true,
+            multi: true,
+            keep: false,
+        },
+        rows: NOT_KEPT,
+        turns: 30,
+        ..PLAIN
+    },
+    Table {
+        properties: Properties {
+            single: true,
+            multi: false,
+            keep: true,
+        },
+        rows: ONE_SESSION,
+        turns: 11,
+        ..PLAIN
+    },
+    Table {
+        create: Code::GENERIC,
+        rows: CREATE_FAILS,
+        turns: 4,
+        ..PLAIN
+    },
+    Table {
+        properties: Properties {
+            single: true,
+            multi: true,
+            keep: false,
+        },
+        rows: START_FAILS,
+        turns: 15,
+        ..PLAIN
+    },
+    Table {
+        rows: PANIC,
+        turns: 32,
+        ..PLAIN
+    },
+    Table {
+        properties: Properties {
+            single: false,
+            multi: true,
+            keep: true,
+        },
+        rows: APART,
+        turns: 21,
+        ..PLAIN
+    },
+];
 
 #[test]
-fn create_that_fails(rt: HostRuntime) -> Result<(), Fail> {
-    let alloc = rt.alloc();
-    let adder = Adder {
-        sum: 0,
-        fails: true,
-    };
-    let mut side = AppSide::new(alloc, host(alloc, adder)?, 0, [0; 32])?;
-    let mut store = MapStore::new(alloc, &[])?;
-    run(&rt, &mut side, &mut store, FAILING)?;
-    assert_eq!(rt; side.turns(), 4);
+fn sessions_come_and_go(rt: HostRuntime) -> Result<(), Fail> {
+    for table in TABLES {
+        run(&rt, rt.alloc(), table)?;
+    }
     Ok(())
 }

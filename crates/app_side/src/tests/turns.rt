@@ -1,18 +1,18 @@
 //! Calls and their turns, over stores of which some calls fail.
 
-ghost use Rattle.std.specs.Prelude.{◌≡◌, IfOk, OnOk, false};
-ghost use Rattle.app_side.specs.Represents.{is_lost, IsOneInstance};
+ghost use Rattle.std.specs.Prelude.{◌≡◌, OnOk, false};
+ghost use Rattle.app_side.specs.Represents.{is_lost};
 
 use super::probe::Probe;
+use super::tables::{self, MOST, host};
 use crate::{AppSide, Call, TurnKind};
 use alone::{Reply, Shown};
-use app_api::{Host, Param, Params, Properties};
+use app_api::{Param, Params};
 use std::alloc::Global;
 use std::process::Abort;
 use std::test::Fail;
 use store_api::{AppStore, MapStore};
 use tee_base::{Bytes, Code};
-use uuid::Uuid;
 
 /// Reads, writes and lets others do so.
 pub const ALL: u32 = 0x33;
@@ -26,6 +26,8 @@ pub enum Step<'a> {
     Info(u32),
     Read(u32, u32),
     Write(u32, &'a [u8]),
+    /// The session is dead: it is closed, and opened again.
+    Again,
 }
 
 /// What is shown of it.
@@ -84,6 +86,7 @@ fn invoke(alloc: Global, step: Step<'_>) -> Result<Call, Fail> {
             Param::Nothing,
             Param::Nothing,
         ),
+        Step::Again => return Ok(open()),
     };
     Ok(Call::Invoke {
         label: 1,
@@ -92,23 +95,8 @@ fn invoke(alloc: Global, step: Step<'_>) -> Result<Call, Fail> {
     })
 }
 
-pub fn host<A: Drop>(alloc: Global, template: A) -> Result<Host<A>, Fail>
-    ensures { IfOk result (λ host. IsOneInstance host) }
-{
-    Ok(Host {
-        name: Bytes::from_slice(alloc, b"probe")?,
-        id: Uuid::nil(),
-        properties: Properties {
-            single: true,
-            multi: true,
-            keep: true,
-        },
-        template,
-    })
-}
-
 /// A session is opened.
-pub fn open() -> Call {
+fn open() -> Call {
     Call::Open {
         label: 1,
         params: Params::nothing(),
@@ -139,7 +127,8 @@ fn run<T: AppStore>(
     let mut met = false;
     let mut replies = 0u32;
     for _ in 0..8u8 {
-        let turned = side.turn(1, store)?;
+        assert!(rt; side.turns() < MOST);
+        let turned = side.turn(1, store);
         if turned.kind == kind {
             met = true;
         } else {
@@ -166,10 +155,14 @@ pub fn check_over<T: AppStore>(
 ) -> Result<(), Fail>
     requires { (T.keeper.status store.old).lost ≡ false }
 {
-    let mut side = AppSide::new(alloc, host(alloc, Probe { number: 0 })?, 0, [0; 32])?;
+    let host = host(alloc, tables::PLAIN.properties, Probe { number: 0 })?;
+    let mut side = AppSide::new(alloc, host, 0, [0; 32])?;
     let _called = side.call(0, open())?;
     run(rt, &mut side, store, TurnKind::Plain, None)?;
     for (step, kind, wanted) in steps {
+        if matches!(step, Step::Again) {
+            let _closed = side.call(0, Call::Close { label: 1 })?;
+        }
         let _called = side.call(0, invoke(alloc, *step)?)?;
         run(rt, &mut side, store, *kind, Some(*wanted))?;
     }
@@ -189,6 +182,9 @@ fn check(
 pub const PLAIN: TurnKind = TurnKind::Plain;
 
 const FINE: Told<'static> = Told::Code(Code::SUCCESS);
+
+/// Of a panic.
+const DEAD: Told<'static> = Told::Code(Code::TARGET_DEAD);
 
 #[test]
 fn objects_are_kept_and_shared(rt: HostRuntime) -> Result<(), Fail> {
@@ -229,20 +225,17 @@ fn objects_are_kept_and_shared(rt: HostRuntime) -> Result<(), Fail> {
             ),
             (Step::Create(0x403, b"a", b"x"), PLAIN, Told::Number(1)),
             (Step::Read(1, 9), PLAIN, Told::Bytes(b"x")),
-            (Step::Close(5), PLAIN, Told::Code(Code::NOT_IMPLEMENTED)),
-            (Step::Info(1), PLAIN, Told::Code(Code::NOT_IMPLEMENTED)),
-            (
-                Step::Open(0x800, b"a"),
-                PLAIN,
-                Told::Code(Code::NOT_IMPLEMENTED),
-            ),
+            (Step::Info(1), PLAIN, FINE),
+            // misuse: no such handle, and a flag that isn't known
+            (Step::Close(5), PLAIN, DEAD),
+            (Step::Again, PLAIN, FINE),
+            (Step::Open(0x800, b"a"), PLAIN, DEAD),
         ],
     )
 }
 
 #[test]
 fn bytes_go_where_the_handle_stands(rt: HostRuntime) -> Result<(), Fail> {
-    const MISUSE: Told<'static> = Told::Code(Code::NOT_IMPLEMENTED);
     check(
         &rt,
         rt.alloc(),
@@ -254,8 +247,12 @@ fn bytes_go_where_the_handle_stands(rt: HostRuntime) -> Result<(), Fail> {
             (Step::Read(1, 9), PLAIN, Told::Bytes(b"56")),
             (Step::Close(1), PLAIN, FINE),
             (Step::Open(1, b"a"), PLAIN, Told::Number(1)),
-            (Step::Write(1, b"z"), PLAIN, MISUSE),
-            (Step::Read(1, 524_289), PLAIN, MISUSE),
+            (Step::Write(1, b"z"), PLAIN, DEAD),
+            (Step::Again, PLAIN, FINE),
+            (Step::Open(1, b"a"), PLAIN, Told::Number(1)),
+            (Step::Read(1, 524_289), PLAIN, DEAD),
+            (Step::Again, PLAIN, FINE),
+            (Step::Open(1, b"a"), PLAIN, Told::Number(1)),
             (Step::Read(1, 524_288), PLAIN, Told::Bytes(b"12xy56")),
         ],
     )
@@ -290,7 +287,7 @@ fn a_lost_store_is_told(rt: HostRuntime) -> Result<(), Fail> {
                 TurnKind::Lost { change: false },
                 GONE,
             ),
-            (Step::Close(2), PLAIN, Told::Code(Code::NOT_IMPLEMENTED)),
+            (Step::Close(2), PLAIN, DEAD),
         ],
     )?;
     check(
@@ -313,7 +310,7 @@ fn a_lost_store_is_told(rt: HostRuntime) -> Result<(), Fail> {
                 TurnKind::Lost { change: true },
                 GONE,
             ),
-            (Step::Close(1), PLAIN, Told::Code(Code::NOT_IMPLEMENTED)),
+            (Step::Close(1), PLAIN, DEAD),
         ],
     )
 }

@@ -1,7 +1,6 @@
 //! Calls and turns of two applications, each of which has its numbers, its turns and its store.
 
 ghost use Rattle.std.specs.Prelude.{◌≡◌, ◌<◌, IfOk, OnOk};
-ghost use Rattle.app_side.specs.Represents.{IsOneInstance};
 ghost use Rattle.tee_core.specs.Represents.{app_count};
 
 use super::creator::Creator;
@@ -17,9 +16,7 @@ use uuid::Uuid;
 /// What an object of one application may hold at most: with the block of the object itself it costs the whole quota.
 const FULL: usize = 254 * 1024;
 
-fn host(alloc: Global, name: &[u8], id: u128) -> Result<Host<Creator>, Fail>
-    ensures { IfOk result (λ host. IsOneInstance host) }
-{
+fn host(alloc: Global, name: &[u8], id: u128) -> Result<Host<Creator>, Fail> {
     Ok(Host {
         name: Bytes::from_slice(alloc, name)?,
         id: Uuid::from_u128(id),

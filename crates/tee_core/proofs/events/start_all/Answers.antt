@@ -1,8 +1,7 @@
-use Rattle.std.proofs.Common.{◌≡◌, ◌<◌, ◌+◌, ◌++◌, ℕ, suc, List, [], ◌∷◌, length, length-append, get_or, sym, subst, ◌∙◌, ap, arith}
+use Rattle.std.proofs.Common.{◌≡◌, ◌+◌, ◌++◌, ℕ, List, [], ◌∷◌, length, length-append, sym, subst, ◌∙◌, ap, arith}
 use Rattle.app_api.specs.declared.host.Host.{Host}
 use Rattle.store_api.specs.Stores.{empty_store}
 use Rattle.alone.specs.Machine.{Machine, start}
-use Rattle.app_side.specs.Represents.{IsOneInstance}
 use Rattle.tee_core.specs.declared.hosted.Hosted.{Hosted}
 use Rattle.tee_core.specs.Represents.{AreHosted, IsHosted}
 use Rattle.tee_core.specs.World.{starts_from}
@@ -17,15 +16,8 @@ loop-host-init g c =
       front = [];
       hosted = subst (λ (hs : List (Hosted g.row.A.Denot)). AreHosted hs []) (sym none) tt;
       whole = ap (λ (hs : List (Hosted g.row.A.Denot)). starts_from (length hs) c.from-rest.result.items c.args.seed (λ app. empty_store)) none ∙ ap (λ (hosts : List (Host g.row.A.Denot)). starts_from 0 hosts c.args.seed (λ app. empty_store)) all;
-      one = subst (λ (hosts : List (Host g.row.A.Denot)). (k : ℕ) (d : Host g.row.A.Denot) → k < length hosts → IsOneInstance (get_or hosts k d)) (sym all) c.requires.one;
-      few = omega (arith, ap (λ (hs : List (Hosted g.row.A.Denot)). length hs) none, ap (λ (hosts : List (Host g.row.A.Denot)). length hosts) all, c.requires.few);
+      few = omega (arith, ap (λ (hs : List (Hosted g.row.A.Denot)). length hs) none, ap (λ (hosts : List (Host g.row.A.Denot)). length hosts) all, c.requires);
     }
-
-pub new-requires : goal.new-requires
-new-requires g c =
-    let items = c.in-Some.ensures.items in
-    let some : 0 < length c.loop-host.rest.items = omega (arith, ap (λ (hosts : List (Host g.row.A.Denot)). length hosts) items) in
-    subst (λ (hosts : List (Host g.row.A.Denot)). IsOneInstance (get_or hosts 0 c.in-Some.host)) items (c.loop-host.invariant.one 0 c.in-Some.host some)
 
 pub loop-host-preserved : goal.loop-host-preserved
 loop-host-preserved g c =
@@ -45,6 +37,5 @@ loop-host-preserved g c =
           ∙ starts_one old.front n c.in-Some.host c.pop_front.new.self.items c.args.seed (λ app. empty_store)
           ∙ ap (λ (hosts : List (Host g.row.A.Denot)). old.front ++ starts_from n hosts c.args.seed (λ app. empty_store)) (sym items)
           ∙ old.whole;
-      one = λ k d lt. subst (λ (hosts : List (Host g.row.A.Denot)). IsOneInstance (get_or hosts (suc k) d)) items (old.one (suc k) d (omega (arith, lt, shorter)));
       few = omega (arith, longer, shorter, old.few);
     }

@@ -1,7 +1,5 @@
 use Rattle.std.proofs.Common.{◌≡◌, ◌≤◌, ◌+◌, ◌++◌, length}
-use Rattle.std.specs.Prelude.{All}
 use Rattle.store_api.specs.Stores.{empty_store}
-use Rattle.app_side.specs.Represents.{IsOneInstance}
 use Rattle.tee_core.specs.Represents.{AreHosted}
 use Rattle.tee_core.specs.World.{World, starts_from, world_of}
 use Rattle.tee_core.proofs.events.start_all.Given as goal
@@ -12,7 +10,6 @@ invariant-loop-host g l = record {
   front : World g.row.A.Denot;
   hosted : AreHosted l.hosted.items front;
   whole : front ++ starts_from (length l.hosted.items) l.rest.items l.seed (λ app. empty_store) ≡ world_of l.fn.hosts.items l.seed (λ app. empty_store);
-  one : All (λ host. IsOneInstance host) l.rest.items;
   few : length l.hosted.items + length l.rest.items ≤ 16;
 }
 

@@ -1,4 +1,4 @@
-use Rattle.std.proofs.Common.{◌≡◌, ◌<◌, length, subst, arith}
+use Rattle.std.proofs.Common.{subst}
 use Rattle.script.specs.declared.line.Line.{Line}
 use Rattle.tee_core.specs.Represents.{app_count}
 use Rattle.tee_top.specs.Runs.{IsKnown}

@@ -1,4 +1,4 @@
-use Rattle.std.proofs.Common.{◌≡◌, List, length, subst, sym}
+use Rattle.std.proofs.Common.{List, length, subst, sym}
 use Rattle.std.specs.List.{AllByRecursion}
 use Rattle.script.specs.declared.dialect.Dialect.TheVariants.{Calls}
 use Rattle.script.specs.declared.line.Line.{Line}

@@ -12,7 +12,7 @@ returns-in-Err-clause-bad_line g c = λ n e.
 
 pub returns-in-Err-clause-each_bad_line : goal.returns-in-Err-clause-each_bad_line
 returns-in-Err-clause-each_bad_line g c = λ text n readable bad.
-    bad_line_told c.args.hosts.items c.requires.fit (g.S.Source.left c.args.source.now) (g.S.Source.failures c.args.source.now) (g.S.Source.failures c.read_lines.new.source) text c.in-Err.status n
+    bad_line_told c.args.hosts.items c.requires (g.S.Source.left c.args.source.now) (g.S.Source.failures c.args.source.now) (g.S.Source.failures c.read_lines.new.source) text c.in-Err.status n
     (record {
       few = c.in-Err.ensures.few;
       bad = λ k e. subst (λ hosts. IsBadAt hosts (g.S.Source.left c.args.source.now) k) c.as_slice.ensures.value (c.in-Err.ensures.bad k (ap Err e)).0;
@@ -23,7 +23,7 @@ returns-in-Err-clause-each_bad_line g c = λ text n readable bad.
 
 pub returns-in-Err-clause-complete : goal.returns-in-Err-clause-complete
 returns-in-Err-clause-complete g c = λ text script readable unfailed good.
-    script_told c.args.hosts.items c.requires.fit (g.S.Source.left c.args.source.now) (g.S.Source.failures c.args.source.now) (g.S.Source.failures c.read_lines.new.source) text c.in-Err.status script
+    script_told c.args.hosts.items c.requires (g.S.Source.left c.args.source.now) (g.S.Source.failures c.args.source.now) (g.S.Source.failures c.read_lines.new.source) text c.in-Err.status script
     (record {
       few = c.in-Err.ensures.few;
       bad = λ k e. subst (λ hosts. IsBadAt hosts (g.S.Source.left c.args.source.now) k) c.as_slice.ensures.value (c.in-Err.ensures.bad k (ap Err e)).0;
@@ -35,11 +35,11 @@ returns-in-Err-clause-complete g c = λ text script readable unfailed good.
 pub returns-clause-each_bad_line : goal.returns-clause-each_bad_line
 returns-clause-each_bad_line g c = λ text n readable bad.
     let reads = subst (λ hosts. ReadsTo hosts (g.S.Source.left c.args.source.now) c.in-Ok.lines.items) c.as_slice.ensures.value c.in-Ok.ensures.read in
-    absurd (not_both Calls c.args.hosts.items text c.in-Ok.lines.items n c.requires.fit (subst (λ left. ReadsTo c.args.hosts.items left c.in-Ok.lines.items) readable.told reads) bad)
+    absurd (not_both Calls c.args.hosts.items text c.in-Ok.lines.items n c.requires (subst (λ left. ReadsTo c.args.hosts.items left c.in-Ok.lines.items) readable.told reads) bad)
 
 pub returns-in-Err-clause-each_too_long : goal.returns-in-Err-clause-each_too_long
 returns-in-Err-clause-each_too_long g c = λ text much.
-    too_long_told c.args.hosts.items c.requires.fit (g.S.Source.left c.args.source.now) (g.S.Source.failures c.args.source.now) (g.S.Source.failures c.read_lines.new.source) text c.in-Err.status
+    too_long_told c.args.hosts.items c.requires (g.S.Source.left c.args.source.now) (g.S.Source.failures c.args.source.now) (g.S.Source.failures c.read_lines.new.source) text c.in-Err.status
     (record {
       few = c.in-Err.ensures.few;
       bad = λ k e. subst (λ hosts. IsBadAt hosts (g.S.Source.left c.args.source.now) k) c.as_slice.ensures.value (c.in-Err.ensures.bad k (ap Err e)).0;
@@ -50,4 +50,4 @@ returns-in-Err-clause-each_too_long g c = λ text much.
 
 pub returns-clause-each_too_long : goal.returns-clause-each_too_long
 returns-clause-each_too_long g c = λ text much.
-    absurd (within_for c.args.hosts.items c.requires.fit (g.S.Source.left c.args.source.now) (g.S.Source.failures c.args.source.now) (g.S.Source.failures c.read_lines.new.source) text much.told much.beyond c.in-Ok.ensures.within)
+    absurd (within_for c.args.hosts.items c.requires (g.S.Source.left c.args.source.now) (g.S.Source.failures c.args.source.now) (g.S.Source.failures c.read_lines.new.source) text much.told much.beyond c.in-Ok.ensures.within)

@@ -1,12 +1,13 @@
-use Rattle.std.proofs.Common.{◌≡◌, ◌∙◌, ◌+◌, List, Option, Some, None, find, refl, sym, ap, subst}
+use Rattle.std.proofs.Common.{◌≡◌, ◌∙◌, ◌+◌, List, Option, Some, None, is_some, find, refl, sym, ap, subst}
 use Rattle.alone.specs.declared.running.Instance.{Instance}
 use Rattle.alone.specs.Machine.{is_number}
 use Rattle.app_side.specs.Represents.{IsStep, machine_over}
-use Rattle.object_asks.specs.Asks.{Serves}
+use Rattle.object_asks.specs.Courses.{Serves}
 use Rattle.object_asks.specs.Serving.{CrashTurns, serving_of}
 use Rattle.app_side.proofs.Carried.{none_tried, plain_turn}
 use Rattle.std.proofs.lemmas.Result.{IfOk-weaker}
 use Rattle.alone.specs.Step.{turned_as, turned_at}
+use Rattle.app_side.proofs.Torn.{on_err_any}
 use Rattle.object_asks.proofs.Crashes.{idle_crash}
 use Rattle.app_side.proofs.side.AppSide.advance.Goals as goal
 
@@ -23,6 +24,8 @@ returns-in-None g c =
       kind = plain_turn t _ _ _ _ c.args.store.now refl;
       tried = none_tried _ (t.status c.args.store.now);
       want = tt;
+      starves = tt;
+      there = tt;
       crash = λ honest just doubt. idle_crash t _ _ c.args.store.now just;
     }
 
@@ -40,6 +43,8 @@ returns-in-Some g c =
       kind = is.kind;
       tried = is.tried;
       want = is.want;
+      starves = is.starves;
+      there = on_err_any c.go_on.result (ap is_some here);
       crash = IfOk-weaker c.go_on.result _ _ (λ kind crash honest just doubt.
           subst (λ (o : Option (Instance g.row.A.Denot)). CrashTurns t kind (turned_at g.A.Application.behaviour (serving_of kind) (record (machine_over c.args.self.now before.store doubt) { turns = c.args.self.now.turns + 1 }) o).machine.in_doubt c.args.store.now c.go_on.new.store) (sym here) (crash honest just doubt)) is.crash;
     }

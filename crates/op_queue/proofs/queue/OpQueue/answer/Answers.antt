@@ -1,5 +1,5 @@
 use Rattle.std.proofs.lemmas.Bool.{cases_Bool, cond-true, cond-false}
-use Rattle.std.proofs.Common.{⊎_elim, position, [], ◌∷◌, find, ◌≡◌, ◌==◌, not, ℕ, is_some, Bool, true, false, List, Option, None, Some, IsTrue, set, remove, map, filter, refl, sym, ap, subst, ◌∙◌}
+use Rattle.std.proofs.Common.{⊎_elim, position, [], ◌∷◌, find, ◌≡◌, ◌==◌, not, ℕ, true, false, List, None, Some, filter, refl, sym, ap, subst, ◌∙◌}
 use Rattle.op_queue.specs.declared.operation.Operation.{Operation}
 use Rattle.op_queue.specs.Queue.{Queue, IsQueue, without}
 use Rattle.op_queue.proofs.Keeps.{without_IsQueue}

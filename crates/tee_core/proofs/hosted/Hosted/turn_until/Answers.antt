@@ -31,7 +31,7 @@ loop-preserved g c = record {
       let h : Happened = plain_turn c.turns.result c.args.instance c.advance.new.replies in
       subst (λ (told : List Happened). HasTurned behaviour (IsHosted c.advance.new.self) m c.args.instance c.args.op (c.loop.counter + 1) c.args.told.now told) (sym c.in_ok-tell_turn.ensures.ok)
       (turns_further behaviour (IsHosted c.loop.self) (IsHosted c.advance.new.self) m c.args.instance c.args.op c.loop.counter c.args.told.now c.loop.told run c.loop-test.true (sym (c.answered.ensures run.now run.stands.side) ∙ c.if-answered.false)
-      stands h (happened_is _ _ _ _ _ _ _ _ (c.turns.ensures _ stands.side) refl refl (c.in_ok-advance.ensures.replies run.now run.stands)));
+      stands h (happened_is _ _ _ _ _ _ _ _ (c.turns.ensures.machine _ stands.side) refl refl (c.in_ok-advance.ensures.replies run.now run.stands)));
   none = c.in_ok-tell_turn.ensures.taken;
 }
 

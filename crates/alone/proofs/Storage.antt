@@ -1,0 +1,87 @@
+-- What steps leave of the storage.
+use Rattle.app_api.specs.Behaviours.{Behaviour}
+use Rattle.std.proofs.Common.{ℕ, ◌≡◌, Bool, Option, None, Some, refl}
+use Rattle.std.proofs.lemmas.Bool.{cond_both}
+use Rattle.app_api.specs.declared.call.Call.{Call}
+use Rattle.instances.specs.Instances.{session_removed}
+use Rattle.op_queue.specs.declared.operation.Cancelled.{Cancelled as Cancellation}
+use Rattle.op_queue.specs.declared.operation.Cancelled.TheVariants.{Dropped, Flagged, Nothing}
+use Rattle.op_queue.specs.Queue.{after_cancel, cancel_of, operation_of}
+use Rattle.object_asks.specs.Asks.{Serves, Damaged, object_course}
+use Rattle.store_api.specs.Stores.{Store}
+use Rattle.alone.specs.Asks.{objects_of}
+use Rattle.alone.specs.Laws.{StorageStays}
+use Rattle.alone.specs.Machine.{Machine, instance_at}
+use Rattle.alone.specs.Step.{called, cancelled, cancelled_by, dropped, instance_gone, is_unused, turned_as, unless_unused, waiting_open}
+use Rattle.alone.proofs.Born.{goes_all}
+use Rattle.alone.proofs.Kept.{IsKept, turned_kept}
+use Rattle.alone.proofs.KeptByCalls.{IsKeptByCalls, called_kept}
+
+module _ {A : Type 0} where
+  -- this store is in doubt, or none
+  abbrev IsInDoubt : Option Store → Machine A → Type 0
+  IsInDoubt doubt m = m.in_doubt ≡ doubt
+
+  doubt_kept : (doubt : Option Store) → IsKept (IsInDoubt doubt)
+  doubt_kept doubt = record {
+    counted = λ m same. same;
+    put = λ m inst same. same;
+    begun = λ m o same. same;
+    cancel = λ m op c same. same;
+    masked = λ m op value same. same;
+    answered = λ m op same. same;
+    opened = λ m session same. same;
+    removed = λ m session same. same;
+    ending = λ m i same. same;
+    gone = λ m i same. same;
+    objects = λ m i ask same. goes_all (λ _. m.in_doubt ≡ doubt) (object_course (objects_of m) i ask) (λ _. same);
+  }
+
+  -- a turn in which no call of the store fails leaves the change in doubt
+  pub turn_leaves_doubt : (behaviour : Behaviour A) (m : Machine A) (i : ℕ) → (turned_as behaviour Serves m i).machine.in_doubt ≡ m.in_doubt
+  turn_leaves_doubt behaviour m i = turned_kept (IsInDoubt m.in_doubt) (doubt_kept m.in_doubt) behaviour Serves tt m i refl
+
+  -- nor does one in which what it reads is damaged
+  pub damage_leaves_doubt : (behaviour : Behaviour A) (m : Machine A) (i : ℕ) → (turned_as behaviour Damaged m i).machine.in_doubt ≡ m.in_doubt
+  damage_leaves_doubt behaviour m i = turned_kept (IsInDoubt m.in_doubt) (doubt_kept m.in_doubt) behaviour Damaged tt m i refl
+
+  -- the storage is in the state in which it was
+  abbrev IsSame : Store → Option Store → Bool → Machine A → Type 0
+  IsSame store doubt lost m = (m.store ≡ store) × (m.in_doubt ≡ doubt) × (m.lost ≡ lost)
+
+  calls_same : (store : Store) (doubt : Option Store) (lost : Bool) → IsKeptByCalls (IsSame store doubt lost) (IsSame store doubt lost)
+  calls_same store doubt lost = record {
+    at_once = λ m same. same;
+    dead_gone = λ m session same. same;
+    waits = λ m client i session call same. same;
+    closes = λ m client i session call same. same;
+    opens = λ m client label a call same. same;
+  }
+
+  pub call_leaves_storage : (m : Machine A) (client : ℕ) (call : Call) → StorageStays m (called m client call).machine
+  call_leaves_storage m client call =
+      let same = called_kept (IsSame m.store m.in_doubt m.lost) (IsSame m.store m.in_doubt m.lost) (calls_same m.store m.in_doubt m.lost) m client call (refl, refl, refl) in
+      record { store = same.0; in_doubt = same.1; lost = same.2 }
+
+  -- ---- cancellation
+
+  unless_same : (store : Store) (doubt : Option Store) (lost : Bool) (m : Machine A) (i : ℕ) → IsSame store doubt lost m → IsSame store doubt lost (unless_unused m i)
+  unless_same store doubt lost m i same = cond_both (is_unused m i (instance_at m i)) (instance_gone m i) m (IsSame store doubt lost) (λ _. same) (λ _. same)
+
+  dropped_same : (store : Store) (doubt : Option Store) (lost : Bool) (m : Machine A) (o : Option (ℕ × ℕ)) → IsSame store doubt lost m → IsSame store doubt lost (dropped m o)
+  dropped_same store doubt lost m None same = same
+  dropped_same store doubt lost m (Some o) same = unless_same store doubt lost (record m { table = session_removed m.table o.0 }) o.1 same
+
+  cancelled_same : (store : Store) (doubt : Option Store) (lost : Bool) (m : Machine A) (op : ℕ) (o : Option (ℕ × ℕ)) (c : Cancellation)
+      → IsSame store doubt lost m → IsSame store doubt lost (cancelled_by m op o c).machine
+  cancelled_same store doubt lost m op o Dropped same = dropped_same store doubt lost m o same
+  cancelled_same store doubt lost m op o Flagged same = same
+  cancelled_same store doubt lost m op o Nothing same = same
+
+  pub cancellation_leaves_storage : (m : Machine A) (op : ℕ) → StorageStays m (cancelled m op).machine
+  unfolding cancelled
+  cancellation_leaves_storage m op =
+      let o = operation_of m.queue op in
+      let c = cancel_of o in
+      let same = cancelled_same m.store m.in_doubt m.lost (record m { queue = after_cancel m.queue op c }) op (waiting_open o) c (refl, refl, refl) in
+      record { store = same.0; in_doubt = same.1; lost = same.2 }

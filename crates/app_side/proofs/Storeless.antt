@@ -1,0 +1,139 @@
+-- A turn that needs no store, over one that serves nothing, is that turn over any.
+use Rattle.app_api.specs.Behaviours.{Behaviour}
+use Rattle.std.proofs.Common.{ℕ, ◌≡◌, ◌+◌, ◌-◌, ◌^◌, ◌<◌, ◌∙◌, Bool, true, false, List, [], Result, IfOk, ⊎_elim, ap, subst, refl, arith}
+use Rattle.tee_base.specs.Faults.{Rose}
+use Rattle.store_api.specs.declared.answer.StoreAnswer.{StoreAnswer}
+use Rattle.store_api.specs.declared.change.Change.{Change}
+use Rattle.store_api.specs.Keeping.{Answers, Applied, Applies, Contents, IsCall, Keeper, Reads, Status}
+use Rattle.store_api.specs.Limits.{IsWithinLimits}
+use Rattle.store_api.specs.MapStores.{contents_after}
+use Rattle.store_api.specs.Stores.{Store, empty_store}
+use Rattle.store_api.proofs.Named.{are_none}
+use Rattle.alone.specs.declared.reply.Reply.{Reply}
+use Rattle.alone.specs.declared.turn.TurnKind.{TurnKind}
+use Rattle.alone.specs.declared.turn.TurnKind.TheVariants.{Plain, Lost, Starved, Corrupted}
+use Rattle.alone.specs.Laws.{step_with_store, with_store}
+use Rattle.alone.specs.Machine.{Machine}
+use Rattle.alone.specs.Step.{Stepped, needs_store, step}
+use Rattle.alone.proofs.WithoutStore.{turned_over}
+use Rattle.app_side.specs.declared.side.AppSide.{AppSide}
+use Rattle.app_side.specs.Represents.{Represents, event_of, is_lost}
+use Rattle.app_side.specs.Serving.{IsTurn}
+use Rattle.app_side.specs.Storeless.{IsRefusalOf, IsStoreless, wants_store}
+
+-- what contracts see of a store that serves nothing
+abbrev pub no_keeper : Keeper Status
+no_keeper = record {
+  has_model = λ _. Unit {0};
+  contents = λ _. contents_after [] empty_store;
+  status = λ status. status;
+  honest = λ _. ⊥;
+  damage = λ _ _. ⊥;
+  moment = λ _. 0;
+  left_since = λ _ _ _. ⊥;
+}
+
+-- ---- its calls
+
+empty_within : IsWithinLimits empty_store
+empty_within = let none = are_none [] refl in subst IsWithinLimits none.store none.kept.limits
+
+refused_call : {X : Type 0} (b : Bool) (r : Result X StoreAnswer) (n : ℕ) (old new : Status) → old.lost ≡ b → IsRefusalOf b r → new ≡ record old { change_attempts = old.change_attempts + n } → IsCall no_keeper n r old new
+refused_call {X} true r n old new lost is same = rw (is, same) (record {
+  model = λ h. h;
+  limits = λ _. (empty_within, empty_within);
+  cause = record { cause = (lost, lost); later = omega arith; orders = refl; ordered = refl; reports = omega arith };
+  attempts = refl;
+  damage = tt;
+  honest = λ h. absurd h;
+  quiet = λ _. record { same = refl; none = λ t o left. left };
+  past = λ h. absurd h;
+})
+refused_call {X} false r n old new lost is same = rw (is, same) (record {
+  model = λ h. h;
+  limits = λ _. (empty_within, empty_within);
+  cause = record { cause = (lost, lost); later = omega arith; orders = refl; ordered = refl; reports = omega arith };
+  attempts = refl;
+  damage = tt;
+  honest = λ h. absurd h;
+  quiet = λ _. record { same = refl; none = λ t o left. left };
+  past = λ h. absurd h;
+})
+
+refused_answers : {X : Type 0} (b : Bool) (r stated : Result X StoreAnswer) → IsRefusalOf b r → Answers r stated
+refused_answers true r stated is = rw is tt
+refused_answers false r stated is = rw is tt
+
+refused_bounds : {X : Type 0} (b : Bool) (r : Result X StoreAnswer) (P : X → Type 0) → IsRefusalOf b r → IfOk r P
+refused_bounds true r P is = rw is tt
+refused_bounds false r P is = rw is tt
+
+refused_applied : {X : Type 0} (b : Bool) (r : Result X StoreAnswer) (stated : Result Store StoreAnswer) (kept : Contents) → IsRefusalOf b r → Applied r stated kept kept
+refused_applied true r stated kept is = rw is (tt, refl)
+refused_applied false r stated kept is = rw is (tt, refl)
+
+pub refused_reads : {X : Type 0} (stated : Store → Result X StoreAnswer) (Bounds : X → Type 0) (r : Result X StoreAnswer) (s : Status) → IsRefusalOf s.lost r → Reads no_keeper stated Bounds r s s
+refused_reads {X} stated Bounds r s is = record {
+  answer = λ _. refused_answers s.lost r _ is;
+  same = λ _. refl;
+  bounds = refused_bounds s.lost r Bounds is;
+  call = refused_call s.lost r 0 s s refl is (ap (λ (n : ℕ). record s { change_attempts = n }) (omega arith));
+  crash = λ h. absurd h;
+}
+
+pub refused_applies : {X : Type 0} (c : Change) (r : Result X StoreAnswer) (old new : Status) → IsRefusalOf old.lost r → new ≡ record old { change_attempts = old.change_attempts + 1 } → Applies no_keeper c r old new
+refused_applies {X} c r old new is same = record {
+  applied = λ _. refused_applied old.lost r _ _ is;
+  call = refused_call old.lost r 1 old new refl is same;
+  crash = λ h. absurd h;
+}
+
+-- ---- a turn over it
+
+module _ {A : Type 0} (behaviour : Behaviour A) (i : ℕ) (replies : List Reply) (before after : AppSide A) (old new : Status) where
+  abbrev Turn : TurnKind → Type 0
+  Turn kind = IsTurn no_keeper behaviour i kind replies before after old new
+
+  -- no call failed, and none told of damage
+  pub kind_is : (kind : TurnKind) → Turn kind → new.faults ≡ 0 → new.damage_reports ≡ 0 → IsStoreless kind
+  kind_is Plain turn faults reports = tt
+  kind_is Starved turn faults reports = tt
+  kind_is (Lost changes) turn faults reports = never turn.status.cause.2
+    where
+      never : Rose old.faults new.faults → ⊥
+      never rose = ⊎_elim (λ (more : old.faults < new.faults). absurd (omega (arith, more, faults))) (λ (most : new.faults ≡ 2 ^ 64 - 1). absurd (omega (arith, most, faults))) rose
+  kind_is Corrupted turn faults reports = let told = turn.status.reports in absurd (omega (arith, told, reports))
+
+  -- the objects that a value stands for may be others
+  with_objects : (side : AppSide A) (s : Store) (m : Machine A) → Represents side (with_store s m) → Represents side m
+  with_objects side s m stands = record { doubt = stands.doubt; parts = ap (with_store m.store) stands.parts }
+
+  other_objects : (side : AppSide A) (s : Store) (m : Machine A) → Represents side m → Represents side (with_store s m)
+  other_objects side s m stands = record { doubt = stands.doubt; parts = ap (with_store s) stands.parts }
+
+  needs : (m : Machine A) → Represents before m → wants_store before i ≡ false → needs_store m i ≡ false
+  needs m stands storeless = ap (λ (x : Machine A). needs_store x i) stands.parts ∙ storeless
+
+  -- the step over no objects, and over those of the machine
+  same : (kind : TurnKind) → IsStoreless kind → (m : Machine A) → needs_store m i ≡ false → step behaviour (with_store empty_store m) (event_of kind i) ≡ step_with_store empty_store (step behaviour m (event_of kind i))
+  same Plain is m e = turned_over empty_store behaviour m i e
+  same Starved is m e = refl
+  same (Lost changes) is m e = absurd is
+  same Corrupted is m e = absurd is
+
+  pub step_is : (kind : TurnKind) → Turn kind → IsStoreless kind → wants_store before i ≡ false → (m : Machine A) → Represents before m → Represents after (step behaviour m (event_of kind i)).machine
+  step_is kind turn is storeless m stands =
+      with_objects after empty_store (step behaviour m (event_of kind i)).machine
+      (subst (λ (s : Stepped A). Represents after s.machine) (same kind is m (needs m stands storeless))
+      (turn.step tt (with_store empty_store m) (other_objects before empty_store m stands) refl))
+
+  pub told_is : (kind : TurnKind) → Turn kind → IsStoreless kind → wants_store before i ≡ false → (m : Machine A) → Represents before m → replies ≡ (step behaviour m (event_of kind i)).replies
+  told_is kind turn is storeless m stands =
+      turn.told tt (with_store empty_store m) (other_objects before empty_store m stands) refl
+      ∙ ap (λ (s : Stepped A). s.replies) (same kind is m (needs m stands storeless))
+
+  pub stays_lost : (kind : TurnKind) → Turn kind → IsStoreless kind → old.lost ≡ is_lost before → is_lost after ≡ is_lost before
+  stays_lost Plain turn is same = turn.lost ∙ turn.status.cause ∙ same
+  stays_lost Starved turn is same = turn.lost ∙ turn.status.cause ∙ same
+  stays_lost (Lost changes) turn is same = absurd is
+  stays_lost Corrupted turn is same = absurd is

@@ -1,7 +1,0 @@
-use Rattle.std.proofs.Common.{rules, false}
-use Rattle.object_asks.proofs.ServingLemmas.{serves_told}
-use Rattle.object_asks.proofs.objects.open.Goals as goal
-
-pub returns : goal.returns
-returns g c =
-    serves_told g.T.AppStore.keeper c.open_found.result c.told.result _ _ false c.args.handles.now c.open_found.new.handles c.args.store.now c.open_found.new.store c.told.ensures.ok c.told.ensures.err (search rules) c.open_found.ensures

@@ -1,0 +1,172 @@
+-- What asks about objects touch in memory: the object handles, the keys and the enumerators of all instances of an application.
+use Rattle.std.specs.Prelude.{ℕ, ◌≡◌, ◌<◌, ◌≤◌, ◌*◌, ◌==◌, Bool, true, false, not, ◌&&◌, List, [], ◌∷◌, ◌++◌, Option, None, Some, option_map, find, filter, map, count_by, length}
+use Rattle.std.specs.List.{list_all}
+use Rattle.std.specs.Str.{bytes_eq}
+use Rattle.tee_base.specs.declared.codes.Flags.{Flags}
+use Rattle.tee_base.specs.declared.limits.TheConstants.{ENUMERATORS}
+use Rattle.share_rules.specs.Sharing.{access_write_meta, has as has_bit}
+use Rattle.handle_table.specs.declared.handle.Entry.{Entry}
+use Rattle.handle_table.specs.declared.handle.Handle.{Handle}
+use Rattle.handle_table.specs.declared.handle.Handle.TheVariants.{Persistent, Transient}
+use Rattle.handle_table.specs.Handles.{Table, added, all_closed, change_first, closed, entry_is_on, free_number, handle_at, renamed, sought_at}
+use Rattle.object_asks.specs.declared.numbered.NumberedKey.{NumberedKey as DeclaredKey}
+use Rattle.object_asks.specs.declared.numbered.NumberedList.{NumberedList as DeclaredList}
+use Rattle.object_asks.specs.declared.numbered.Walk.{Walk}
+use Rattle.transient_obj.specs.Keys.{Key}
+use Rattle.object_asks.specs.Handles.{entry_has_identifier, settled}
+
+-- a key in memory with its instance and the number of its handle; an enumerator with its instance and its number
+abbrev pub NumberedKey : Type 0
+NumberedKey = DeclaredKey
+
+abbrev pub NumberedList : Type 0
+NumberedList = DeclaredList
+
+-- the handles, the keys that those on objects in memory are on, and the enumerators
+pub record Held : Type 0 where
+  pub handles : List Entry
+  pub keys : List NumberedKey
+  pub lists : List NumberedList
+
+abbrev pub nothing_held : Held
+nothing_held = record { handles = []; keys = []; lists = [] }
+
+-- ---- keys and enumerators by instance and number
+
+abbrev pub is_key_of : ℕ → NumberedKey → Bool
+is_key_of instance k = k.instance == instance
+
+abbrev pub is_key_at : ℕ → ℕ → NumberedKey → Bool
+is_key_at instance number k = (k.instance == instance) && (k.number == number)
+
+abbrev pub is_list_of : ℕ → NumberedList → Bool
+is_list_of instance l = l.instance == instance
+
+abbrev pub is_list_at : ℕ → ℕ → NumberedList → Bool
+is_list_at instance number l = (l.instance == instance) && (l.number == number)
+
+-- what the instance has under this number
+abbrev pub key_at : Held → ℕ → ℕ → Option Key
+key_at h instance number = option_map (λ k. k.key) (find (is_key_at instance number) h.keys)
+
+abbrev pub walk_at : Held → ℕ → ℕ → Option Walk
+walk_at h instance number = option_map (λ l. l.walk) (find (is_list_at instance number) h.lists)
+
+-- how long a secret is in bits, none being no bits
+abbrev pub secret_bits : Option (List ℕ) → ℕ
+secret_bits None = 0
+secret_bits (Some secret) = 8 * length secret
+
+-- the key that the instance's handle of this number is on, if it is on one
+abbrev pub transient_on : Held → ℕ → ℕ → Option Handle → Option Key
+transient_on h instance number None = None
+transient_on h instance number (Some (Persistent id flags position)) = None
+transient_on h instance number (Some Transient) = key_at h instance number
+
+abbrev pub transient_at : Held → ℕ → ℕ → Option Key
+transient_at h instance number = transient_on h instance number (handle_at (settled h.handles) instance number)
+
+-- ---- changes of keys
+
+-- a new key, with a handle on it under the lowest free number of the instance
+abbrev pub key_added : Held → ℕ → Key → Held
+key_added h instance key = record h {
+  handles = (added (settled h.handles) instance Transient).handles;
+  keys = h.keys ++ record { instance = instance; number = free_number h.handles instance; key = key } ∷ [];
+}
+
+abbrev pub with_key : Key → NumberedKey → NumberedKey
+with_key key k = record k { key = key }
+
+-- the instance's key of this number is this one now
+abbrev pub key_set : Held → ℕ → ℕ → Key → Held
+key_set h instance number key = record h { keys = change_first (is_key_at instance number) (with_key key) h.keys }
+
+-- ---- changes of handles
+
+-- a new handle on a persistent object, at its first byte, under the lowest free number of the instance
+abbrev pub handle_added : Held → ℕ → List ℕ → Flags → Held
+handle_added h instance id flags = record h { handles = (added (settled h.handles) instance (Persistent id flags 0)).handles }
+
+-- the handle goes on from this position
+abbrev pub handle_sought : Held → ℕ → ℕ → ℕ → Held
+handle_sought h instance number to = record h { handles = (sought_at (settled h.handles) instance number to).handles }
+
+-- the handle is on this identifier now
+abbrev pub handle_renamed : Held → ℕ → ℕ → List ℕ → Held
+handle_renamed h instance number to = record h { handles = renamed (record { instance = instance; number = number; to = to }) h.handles }
+
+-- the handle goes, and with it the object in memory that it is on
+abbrev pub handle_closed : Held → ℕ → ℕ → Held
+handle_closed h instance number = record h {
+  handles = (closed (settled h.handles) instance number).handles;
+  keys = filter (λ k. not (is_key_at instance number k)) h.keys;
+}
+
+-- the instance's handles, keys and enumerators go; all others stay
+abbrev pub instance_closed : Held → ℕ → Held
+instance_closed h instance = record {
+  handles = (all_closed (settled h.handles) instance).handles;
+  keys = filter (λ k. not (is_key_of instance k)) h.keys;
+  lists = filter (λ l. not (is_list_of instance l)) h.lists;
+}
+
+-- ---- what holds between two events
+
+-- the handle is on an object in memory
+abbrev pub is_transient : Handle → Bool
+is_transient (Persistent id flags position) = false
+is_transient Transient = true
+
+abbrev pub is_in_memory : Entry → Bool
+is_in_memory e = is_transient e.handle
+
+-- instances and numbers: of the handles on objects in memory, and of the keys
+abbrev pub place_of : Entry → ℕ × ℕ
+place_of e = (e.instance, e.number)
+
+abbrev pub key_place : NumberedKey → ℕ × ℕ
+key_place k = (k.instance, k.number)
+
+abbrev pub memory_places : List Entry → List (ℕ × ℕ)
+memory_places handles = map place_of (filter is_in_memory handles)
+
+abbrev pub key_places : List NumberedKey → List (ℕ × ℕ)
+key_places keys = map key_place keys
+
+-- the handle is on the object, and its flags have ACCESS_WRITE_META
+abbrev pub writes_meta_on : List ℕ → Handle → Bool
+writes_meta_on id (Persistent own flags position) = bytes_eq own id && has_bit access_write_meta flags
+writes_meta_on id Transient = false
+
+abbrev pub is_meta_writer : List ℕ → Option Handle → Bool
+is_meta_writer id None = false
+is_meta_writer id (Some handle) = writes_meta_on id handle
+
+-- the instance's handle of this number is on the object, and has ACCESS_WRITE_META
+abbrev pub may_rename : Held → ℕ → ℕ → List ℕ → Bool
+may_rename h instance number id = is_meta_writer id (handle_at (settled h.handles) instance number)
+
+-- how many handles are on the object, and how many of them have ACCESS_WRITE_META
+abbrev pub ones_on : List ℕ → List Entry → ℕ
+ones_on id handles = count_by (entry_is_on id) handles
+
+abbrev pub meta_writers : List ℕ → List Entry → ℕ
+meta_writers id handles = count_by (λ e. writes_meta_on id e.handle) handles
+
+-- a handle with ACCESS_WRITE_META is the only one on its identifier
+abbrev pub AreSole : List Entry → Type 0
+AreSole handles = (id : List ℕ) → 0 < meta_writers id handles → ones_on id handles ≤ 1
+
+-- each key has its handle and each handle on an object in memory its key, in the same order
+abbrev pub BelongTogether : List Entry → List NumberedKey → Type 0
+BelongTogether handles keys = key_places keys ≡ memory_places handles
+
+-- no rename is pending, identifiers have at most 64 bytes, those who write meta are alone, keys and handles belong together, and
+-- an instance has at most four enumerators
+pub record IsHeld (t : Table) (keys : List NumberedKey) (lists : List NumberedList) : Type 0 where
+  pub no_rename : t.pending ≡ None
+  pub identifiers : list_all entry_has_identifier t.handles ≡ true
+  pub sole : AreSole t.handles
+  pub together : BelongTogether t.handles keys
+  pub few_lists : (instance : ℕ) → count_by (is_list_of instance) lists ≤ ENUMERATORS
