@@ -1,0 +1,10 @@
+pub mod AgreeLemmas
+pub mod BlankLemmas
+pub mod ContentLemmas
+pub mod EntryLemmas
+pub mod NextLemmas
+pub mod ReadLemmas
+pub mod RegionLemmas
+pub mod RuleLemmas
+pub mod StoreLemmas
+pub mod TableLemmas

@@ -1,0 +1,9 @@
+pub mod Entries
+pub mod Inodes
+pub mod Laws
+pub mod Layout
+pub mod Locating
+pub mod Parts
+pub mod Reading
+pub mod Regions
+pub mod Tables

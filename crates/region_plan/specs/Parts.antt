@@ -1,0 +1,11 @@
+-- Pieces of a leaf.
+use Rattle.std.specs.Prelude.{ℕ, ◌==◌, Bool, List, take, drop}
+use Rattle.std.specs.List.{list_all, slice_index}
+
+-- so many bytes from a place on
+abbrev pub part : ℕ → ℕ → List ℕ → List ℕ
+part at count bytes = take count (drop at bytes)
+
+-- no byte is another than zero
+abbrev pub are_zero : List ℕ → Bool
+are_zero bytes = list_all (λ byte. byte == 0) bytes

@@ -1,0 +1,77 @@
+//! Inode leaves: the first leaf of an object, with all of it but its content.
+
+ghost use Rattle.std.specs.Prelude.{◌≡◌, IfOk, true, IsTrue};
+ghost use Rattle.store_api.specs.Limits.{IsIdentifier, IsSecret};
+ghost use Rattle.region_plan.specs.Inodes.{inode_of, is_inode_leaf as follows_rules};
+
+use crate::bytes::{all_zero, number_at};
+use std::alloc::Global;
+use tee_base::limits::{BLOCK_BYTES, IDENTIFIER_BYTES, SECRET_BYTES};
+use tee_base::{Bytes, NoMemory};
+
+// Where the parts of an inode leaf begin. The object's kind is first.
+pub(crate) const USAGE_AT: usize = 4;
+
+pub(crate) const LENGTH_AT: usize = 8;
+
+pub(crate) const IDENTIFIER_LENGTH_AT: usize = 12;
+
+pub(crate) const SECRET_LENGTH_AT: usize = 13;
+
+pub(crate) const IDENTIFIER_AT: usize = 16;
+
+pub(crate) const SECRET_AT: usize = 80;
+
+pub(crate) const REST_AT: usize = 208;
+
+/// What an inode leaf tells of its object.
+#[derive(Debug, Drop)]
+pub(crate) struct Inode {
+    /// The number of the leaf.
+    pub number: u8,
+    pub kind: u32,
+    pub usage: u32,
+    /// Bytes of the content.
+    pub length: u32,
+    pub id: Bytes,
+    pub secret: Bytes,
+}
+
+/// Whether the bytes of an inode leaf follow the rules.
+#[tactic(auto, unfolding(crate::specs::Inodes::is_inode_leaf))]
+pub(crate) fn is_inode_leaf(leaf: &[u8; BLOCK_BYTES]) -> bool
+    ensures { result ≡ follows_rules leaf.now }
+{
+    let id = leaf[IDENTIFIER_LENGTH_AT] as usize;
+    let secret = leaf[SECRET_LENGTH_AT] as usize;
+    id <= IDENTIFIER_BYTES
+        && secret <= SECRET_BYTES
+        && all_zero(&leaf[SECRET_LENGTH_AT + 1..IDENTIFIER_AT])
+        && all_zero(&leaf[IDENTIFIER_AT + id..SECRET_AT])
+        && all_zero(&leaf[SECRET_AT + secret..REST_AT])
+        && all_zero(&leaf[REST_AT..])
+}
+
+/// What an inode leaf tells.
+#[tactic(auto, unfolding(crate::specs::Inodes::is_inode_leaf, crate::specs::Inodes::inode_of, crate::specs::Inodes::identifier_in, crate::specs::Inodes::secret_in))]
+pub(crate) fn inode_in(
+    alloc: Global,
+    number: u8,
+    leaf: &[u8; BLOCK_BYTES],
+) -> Result<Inode, NoMemory>
+    requires { IsTrue (follows_rules leaf.now) }
+    ensures inode { IfOk result (λ inode. inode ≡ inode_of number leaf.now) }
+    ensures id { IfOk result (λ inode. IsIdentifier inode.id) }
+    ensures secret { IfOk result (λ inode. IsSecret inode.secret) }
+{
+    let id = leaf[IDENTIFIER_LENGTH_AT] as usize;
+    let secret = leaf[SECRET_LENGTH_AT] as usize;
+    Ok(Inode {
+        number,
+        kind: number_at(leaf, 0),
+        usage: number_at(leaf, USAGE_AT),
+        length: number_at(leaf, LENGTH_AT),
+        id: Bytes::from_slice(alloc, &leaf[IDENTIFIER_AT..IDENTIFIER_AT + id])?,
+        secret: Bytes::from_slice(alloc, &leaf[SECRET_AT..SECRET_AT + secret])?,
+    })
+}
