@@ -1,5 +1,6 @@
 pub mod AgreeLemmas
 pub mod BlankLemmas
+pub mod CheckLemmas
 pub mod ContentLemmas
 pub mod EntryLemmas
 pub mod NextLemmas

@@ -25,6 +25,13 @@ from_deeper true true true false e f is isnt = refl
 from_deeper true true true true false f is isnt = refl
 from_deeper true true true true true f is isnt = absurd (let g : true ≡ false = isnt in cc)
 
+from_doubled : (a b c d e f : Bool) → b ≡ true → d ≡ true → IsTrue (not a || ((b && not (c && (not d && e))) || f))
+from_doubled false b c d e f is twice = refl
+from_doubled true false c d e f is twice = absurd (let g : false ≡ true = is in cc)
+from_doubled true true false d e f is twice = refl
+from_doubled true true true true e f is twice = refl
+from_doubled true true true false e f is twice = absurd (let g : false ≡ true = twice in cc)
+
 from_third : (a b c d : Bool) → c ≡ true → d ≡ false → IsTrue (not a || (b || (c && not d)))
 from_third true true true false is isnt = refl
 from_third true false true false is isnt = refl
@@ -42,6 +49,11 @@ module _ (L : Layout) (leaves : ℕ → List ℕ) where
   pub inode_breaks : (i : ℕ) → is_inode L leaves i ≡ true → is_inode_leaf (leaves i) ≡ false → IsTrue (breaks L leaves i)
   unfolding breaks
   inode_breaks i is isnt = from_second (is_well_formed L leaves i) (is_inode L leaves i) (is_inode_leaf (leaves i)) _ _ is isnt
+
+  -- an inode whose identifier one before it has
+  pub doubled_breaks : (i : ℕ) → is_inode L leaves i ≡ true → is_doubled L leaves i ≡ true → IsTrue (breaks L leaves i)
+  unfolding breaks
+  doubled_breaks i is doubled = from_doubled (is_well_formed L leaves i) (is_inode L leaves i) (is_inode_leaf (leaves i)) (is_doubled L leaves i) (has_data L leaves i) _ is doubled
 
   -- an inode with data at other indexes than it should have
   pub index_breaks : (i : ℕ) → is_inode L leaves i ≡ true → has_data L leaves i ≡ false → IsTrue (breaks L leaves i)

@@ -16,6 +16,7 @@ use Rattle.std.proofs.lemmas.List.FromFn.{length-map-range_with_len}
 use Rattle.store_api.specs.declared.object.Object.{Object}
 use Rattle.store_api.specs.Stores.{Store, object_at, is_after, with_object, facts_of, found, secret_at, read_at, listed, next_after}
 use Rattle.store_api.specs.declared.object.Facts.{Facts}
+use Rattle.store_api.specs.declared.object.Listed.{Listed}
 use Rattle.store_api.specs.declared.answer.StoreAnswer.{StoreAnswer}
 use Rattle.store_api.specs.declared.answer.StoreAnswer.TheVariants.{NotFound}
 use Rattle.store_api.proofs.Costs.{by_bytes, tied_same, equal, first, second}
@@ -40,6 +41,9 @@ same_is_tied x q =
 
 abbrev facts_with : ℕ → ℕ → ℕ → ℕ → Facts
 facts_with kind usage secret long = record { kind = kind; usage = usage; secret = secret; length = long }
+
+abbrev listed_as : List ℕ → Facts → Result Listed StoreAnswer
+listed_as id facts = Ok (record { id = id; facts = facts })
 
 module _ (L : Layout) (leaves : ℕ → List ℕ) where
   abbrev told : ℕ → Inode
@@ -217,7 +221,7 @@ module _ (L : Layout) (leaves : ℕ → List ℕ) where
 
   pub next_told : (last : Option (List ℕ)) (inode : Inode) → best_after last (inodes_of L leaves) ≡ Some inode → next_after (store_of L leaves) last ≡ Ok (record { id = inode.id; facts = inode_facts inode })
   next_told last inode is =
-      next_is last ∙ ap (λ r. listed (option_map entry_for r)) is ∙ ap (λ f. Ok (record { id = inode.id; facts = f })) (facts_same inode (listed_is_told last inode is))
+      next_is last ∙ ap (λ r. listed (option_map entry_for r)) is ∙ ap (listed_as inode.id) (facts_same inode (listed_is_told last inode is))
 
   pub next_none : (last : Option (List ℕ)) → best_after last (inodes_of L leaves) ≡ None → next_after (store_of L leaves) last ≡ Err NotFound
   next_none last is = next_is last ∙ ap (λ r. listed (option_map entry_for r)) is

@@ -1,6 +1,6 @@
 -- Look-ups among the inodes of a region.
-use Rattle.std.specs.Prelude.{ℕ, ◌≡◌, Bool, true, not, ◌&&◌, List, [], ◌∷◌, length, Option, None, Some, cond, if◌then◌else◌}
-use Rattle.std.specs.List.{find}
+use Rattle.std.specs.Prelude.{ℕ, ◌≡◌, Bool, true, not, ◌&&◌, List, [], ◌∷◌, map, length, Option, None, Some, cond, if◌then◌else◌}
+use Rattle.std.specs.List.{find, filter, range_with_len}
 use Rattle.std.specs.Ordering.{nat_cmp, is_lt}
 use Rattle.std.specs.Cmp.Lexicographic.{slice_cmp}
 use Rattle.std.specs.Str.{bytes_eq}
@@ -9,7 +9,7 @@ use Rattle.store_api.specs.Stores.{is_after}
 use Rattle.store_api.specs.declared.object.Facts.{Facts}
 use Rattle.region_plan.specs.Layout.{Layout}
 use Rattle.region_plan.specs.Entries.{is_inode}
-use Rattle.region_plan.specs.Inodes.{length_in}
+use Rattle.region_plan.specs.Inodes.{length_in, inode_of}
 use Rattle.region_plan.specs.declared.inode.Inode.{Inode}
 
 -- the identifier and the secret of an inode are within their limits
@@ -35,6 +35,10 @@ best_after last (inode ∷ rest) =
 -- what is told of the object of an inode
 abbrev pub inode_facts : Inode → Facts
 inode_facts inode = record { kind = inode.kind; usage = inode.usage; secret = length inode.secret; length = inode.length }
+
+-- the inodes below a number, in ascending order
+unfoldable pub inodes_below : Layout → (ℕ → List ℕ) → ℕ → List Inode
+inodes_below L leaves n = map (λ i. inode_of i (leaves i)) (filter (λ i. is_inode L leaves i) (range_with_len 0 n))
 
 -- a leaf is an inode with a content of this length, and these bytes are the first leaf of the map
 pub record IsInode (L : Layout) (leaves : ℕ → List ℕ) (bytes : List ℕ) (number length' : ℕ) : Type 0 where

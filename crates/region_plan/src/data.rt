@@ -29,7 +29,7 @@ fn is_data_at(entry: Entry, inode: u8, index: u32) -> bool
 }
 
 /// The leaf that holds the data of an inode at an index.
-fn data_leaf(map: &[u8; BLOCK_BYTES], inode: u8, index: u32) -> Option<u8>
+pub(crate) fn data_leaf(map: &[u8; BLOCK_BYTES], inode: u8, index: u32) -> Option<u8>
     ensures { (leaves : ℕ → List ℕ) → leaves 0 ≡ map.now
         → result ≡ leaf_of version_one leaves inode index }
 {

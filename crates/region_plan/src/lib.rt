@@ -3,6 +3,7 @@
 
 mod bytes;
 mod calls;
+mod check;
 mod data;
 mod entry;
 mod inode;

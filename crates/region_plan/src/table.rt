@@ -8,8 +8,9 @@ ghost use Rattle.region_plan.specs.Entries.{is_inode};
 ghost use Rattle.region_plan.specs.Inodes.{inode_of};
 ghost use Rattle.region_plan.specs.Reading.{IsUnread, ReadsOnly, IfGarbled, leaves_of, refusal_of};
 ghost use Rattle.region_plan.specs.Regions.{breaks, inodes_of};
-ghost use Rattle.region_plan.specs.Tables.{IsWithin, inode_with};
+ghost use Rattle.region_plan.specs.Tables.{IsWithin, inode_with, inodes_below};
 
+use crate::check::{has_data, is_new};
 use crate::entry::{INODE, entry_in, is_well_formed};
 use crate::inode::{Inode, inode_in, is_inode_leaf};
 use crate::source::{LeafSource, read};
@@ -31,13 +32,21 @@ fn check_map(map: &[u8; BLOCK_BYTES]) -> Result<(), StoreAnswer>
     Ok(())
 }
 
-/// Reads an inode.
-fn read_inode<L: LeafSource>(alloc: Global, from: &mut L, leaf: u8) -> Result<Inode, StoreAnswer>
+/// Reads an inode, and checks it beside the map and those before it.
+fn read_inode<L: LeafSource>(
+    alloc: Global,
+    from: &mut L,
+    map: &[u8; BLOCK_BYTES],
+    before: &[Inode],
+    leaf: u8,
+) -> Result<Inode, StoreAnswer>
     ensures inode { L.keeper.honest from.old → IfOk result
         (λ inode. inode ≡ inode_of leaf (leaves_of L.keeper L.region from.old leaf)) }
     ensures within { IfOk result IsWithin }
     ensures garbled { L.keeper.honest from.old
+        → leaves_of L.keeper L.region from.old 0 ≡ map.now
         → IsTrue (is_inode version_one (leaves_of L.keeper L.region from.old) leaf)
+        → before.now ≡ inodes_below version_one (leaves_of L.keeper L.region from.old) leaf
         → IfGarbled (refusal_of result)
         (λ n. IsTrue (breaks version_one (leaves_of L.keeper L.region from.old) n)) }
     ensures unread { IsUnread (refusal_of result) }
@@ -48,7 +57,11 @@ fn read_inode<L: LeafSource>(alloc: Global, from: &mut L, leaf: u8) -> Result<In
     if !is_inode_leaf(&block) {
         return Err(StoreAnswer::Garbled(leaf));
     }
-    Ok(inode_in(alloc, leaf, &block)?)
+    let inode = inode_in(alloc, leaf, &block)?;
+    if !is_new(before, inode.id.as_slice()) || !has_data(map, &inode) {
+        return Err(StoreAnswer::Garbled(leaf));
+    }
+    Ok(inode)
 }
 
 /// Reads the inodes that the map names, in ascending order.
@@ -71,7 +84,8 @@ fn read_inodes<L: LeafSource>(
     let mut inodes = Vec::new(alloc);
     for leaf in 0..LEAVES {
         if entry_in(map, leaf).kind == INODE {
-            inodes.push(read_inode(alloc, from, leaf as u8)?)?;
+            let inode = read_inode(alloc, from, map, inodes.as_slice(), leaf as u8)?;
+            inodes.push(inode)?;
         }
     }
     Ok(inodes)

@@ -2,8 +2,7 @@ use Rattle.std.proofs.Common.{◌≡◌, None}
 use Rattle.std.specs.List.{All}
 use Rattle.region_plan.specs.Layout.{version_one}
 use Rattle.region_plan.specs.Reading.{ReadsOnly, leaves_of}
-use Rattle.region_plan.specs.Tables.{IsWithin}
-use Rattle.region_plan.proofs.TableLemmas.{inodes_below}
+use Rattle.region_plan.specs.Tables.{IsWithin, inodes_below}
 use Rattle.region_plan.proofs.table.read_inodes.Given as goal
 
 -- the inodes below the leaf were read
