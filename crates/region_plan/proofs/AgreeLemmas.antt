@@ -243,8 +243,8 @@ module _ (L : Layout) (leaves others : ℕ → List ℕ) (agree : AgreeInUse L l
   byte_same : (inode at : ℕ) → byte_at L others inode at ≡ byte_at L leaves inode at
   unfolding byte_at
   byte_same inode at =
-      ap (λ r. byte_in others r (at % 1024)) (leaf_same inode (at / 1024))
-      ∙ elim (leaf_of L leaves inode (at / 1024)) as (λ r. leaf_of L leaves inode (at / 1024) ≡ r → byte_in others r (at % 1024) ≡ byte_in leaves r (at % 1024)) [
+      ap (λ r. byte_in L others r (at % 1024)) (leaf_same inode (at / 1024))
+      ∙ elim (leaf_of L leaves inode (at / 1024)) as (λ r. leaf_of L leaves inode (at / 1024) ≡ r → byte_in L others r (at % 1024) ≡ byte_in L leaves r (at % 1024)) [
         | None ↦ λ e. refl
         | Some k ↦ λ e. (let met = data_met inode (at / 1024) k e in ap (λ (x : List ℕ). get_or x (at % 1024) 0) (at_data k met.0 met.1))
       ] refl

@@ -14,12 +14,12 @@ use Rattle.region_plan.specs.Regions.{numbers, breaks, object_of, store_of, inod
 use Rattle.region_plan.specs.declared.entry.Entry.{Entry}
 use Rattle.region_plan.specs.declared.entry.TheConstants.{INODE, DATA}
 
-drop_zeros : (k n : ℕ) → drop k (replicate n 0) ≡ replicate (n - k) 0
+drop_zeros : (k n : ℕ) → drop {A = ℕ} k (replicate n 0) ≡ replicate (n - k) 0
 drop_zeros zero n = ap (λ (m : ℕ). replicate m 0) (let e : n ≡ n - 0 = omega arith in e)
 drop_zeros (suc k) zero = ap (λ (m : ℕ). replicate m 0) (let e : 0 ≡ 0 - suc k = omega arith in e)
 drop_zeros (suc k) (suc n) = drop_zeros k n ∙ ap (λ (m : ℕ). replicate m 0) (let e : n - k ≡ suc n - suc k = omega arith in e)
 
-take_zeros : (k n : ℕ) → k ≤ n → take k (replicate n 0) ≡ replicate k 0
+take_zeros : (k n : ℕ) → k ≤ n → take {A = ℕ} k (replicate n 0) ≡ replicate k 0
 take_zeros zero n le = refl
 take_zeros (suc k) zero le = absurd (omega arith)
 take_zeros (suc k) (suc n) le = ap (λ (l : List ℕ). 0 ∷ l) (take_zeros k n (omega arith))

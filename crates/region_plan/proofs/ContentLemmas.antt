@@ -1,6 +1,6 @@
 -- The content of an object, piece by piece.
-use Rattle.std.proofs.Common.{◌≡◌, ◌≢◌, ℕ, zero, suc, ◌+◌, ◌-◌, ◌*◌, ◌/◌, ◌%◌, ◌<◌, ◌≤◌, min, Bool, true, false, cond, not, List, [], ◌∷◌, ◌++◌, map, length, get_or, take, drop, Option, None, Some, find, refl, sym, ◌∙◌, ap, subst, arith, rules, nat_le}
-use Rattle.std.specs.Prelude.{IsTrue, ◌&&◌, ◌||◌, ◌==◌}
+use Rattle.std.proofs.Common.{◌≡◌, ◌≢◌, ℕ, zero, suc, ◌+◌, ◌-◌, ◌*◌, ◌/◌, ◌%◌, ◌<◌, ◌≤◌, min, Bool, true, false, cond, not, List, [], ◌∷◌, ◌++◌, map, length, get_or, take, drop, Option, None, Some, Result, Ok, Err, find, refl, sym, ◌∙◌, ap, subst, arith, rules, nat_le}
+use Rattle.std.specs.Prelude.{IsTrue, IfOk, ◌&&◌, ◌||◌, ◌==◌}
 use Rattle.std.specs.List.{range_with_len, sum_by, count_by, list_all, list_any}
 use Rattle.std.proofs.Math.Seq.{drop-cons}
 use Rattle.std.proofs.lemmas.List.{map-append}
@@ -8,12 +8,14 @@ use Rattle.std.proofs.lemmas.List.Sums.{sum_by-cons}
 use Rattle.std.proofs.lemmas.List.FromFn.{get_or-range_with_len, length-range_with_len}
 use Rattle.std.proofs.lemmas.List.Folds.{list_all_at}
 use Rattle.std.proofs.lemmas.Bool.{leb-true, leb-false, lt-leb, eqb-true}
-use Rattle.region_plan.specs.Layout.{Layout}
+use Rattle.store_api.specs.declared.answer.StoreAnswer.{StoreAnswer}
+use Rattle.region_plan.specs.Layout.{Layout, version_one}
 use Rattle.region_plan.specs.Parts.{are_zero}
 use Rattle.region_plan.specs.Entries.{entry_at, is_inode, is_data_of, is_data_at}
 use Rattle.region_plan.specs.Inodes.{length_in, is_inode_leaf}
 use Rattle.region_plan.specs.Regions.{numbers, breaks, byte_at, byte_in, leaf_of, has_one, has_data, is_past, is_padded, data_leaves, content_of}
 use Rattle.region_plan.specs.declared.entry.TheConstants.{DATA}
+use Rattle.region_plan.proofs.CheckLemmas.{index_wrong}
 use Rattle.region_plan.proofs.RuleLemmas.{data_breaks, index_breaks}
 
 -- a part of a list as a function of the places
@@ -126,17 +128,21 @@ second_of false b e = absurd (let f : false ≡ true = e in cc)
 same_number : (a b : ℕ) → (a == b) ≡ true → a ≡ b
 same_number a b e = eqb-true a b e
 
+-- the index of a place within a content
+pub index_below : (at end long n : ℕ) → at < end → end ≤ long → long ≡ n → at / 1024 < data_leaves n
+index_below at end long n ahead inside is = omega (arith, ahead, inside, is)
+
 module _ (L : Layout) (leaves : ℕ → List ℕ) where
+  -- data that lacks an index
+  pub missing_wrong : (inode index : ℕ) → index < data_leaves (length_in (leaves inode)) → leaf_of L leaves inode index ≡ None → has_data L leaves inode ≡ false
+  unfolding leaf_of
+  missing_wrong inode index below none =
+      let counted : count_by (λ i. is_data_at L leaves inode index i) (numbers L) ≡ 0 = none_counted (λ i. is_data_at L leaves inode index i) (numbers L) none in
+      index_wrong L leaves inode index below (ap (λ (n : ℕ). n == 1) counted)
+
   -- an inode whose data lacks an index breaks a rule
   pub missing_breaks : (inode index : ℕ) → is_inode L leaves inode ≡ true → index < data_leaves (length_in (leaves inode)) → leaf_of L leaves inode index ≡ None → IsTrue (breaks L leaves inode)
-  unfolding leaf_of has_data
-  missing_breaks inode index is below none =
-      let counted : count_by (λ i. is_data_at L leaves inode index i) (numbers L) ≡ 0 = none_counted (λ i. is_data_at L leaves inode index i) (numbers L) none in
-      let one : has_one L leaves inode index ≡ false = ap (λ (n : ℕ). n == 1) counted in
-      let at : get_or (range_with_len 0 (data_leaves (length_in (leaves inode)))) index 0 ≡ index = get_or-range_with_len 0 (data_leaves (length_in (leaves inode))) index 0 below ∙ (let e : 0 + index ≡ index = omega arith in e) in
-      let all : list_all (λ x. has_one L leaves inode x) (range_with_len 0 (data_leaves (length_in (leaves inode)))) ≡ false =
-      list_all_at (λ x. has_one L leaves inode x) (range_with_len 0 (data_leaves (length_in (leaves inode)))) index 0 (omega (arith, below, length-range_with_len 0 (data_leaves (length_in (leaves inode))))) (ap (λ (x : ℕ). has_one L leaves inode x) at ∙ one) in
-      index_breaks L leaves inode is (ap (λ b. b && not (list_any (λ i. is_past L leaves inode i) (numbers L))) all)
+  missing_breaks inode index is below none = index_breaks L leaves inode is (missing_wrong inode index below none)
 
   -- the leaf of an index is data of that index
   pub leaf_is : (inode index k : ℕ) → leaf_of L leaves inode index ≡ Some k → is_data_at L leaves inode index k ≡ true
@@ -171,11 +177,42 @@ module _ (L : Layout) (leaves : ℕ → List ℕ) where
       (λ j below.
       let index : (at + j) / 1024 ≡ at / 1024 = omega arith in
       let place : (at + j) % 1024 ≡ (at - 1024 * (at / 1024)) + j = omega arith in
-      ap (λ (x : ℕ). byte_in leaves (leaf_of L leaves inode x) ((at + j) % 1024)) index ∙ ap (λ (x : ℕ). byte_in leaves (leaf_of L leaves inode (at / 1024)) x) place
-      ∙ ap (λ r. byte_in leaves r ((at - 1024 * (at / 1024)) + j)) is ∙ ap (λ (b : List ℕ). get_or b ((at - 1024 * (at / 1024)) + j) 0) (sym read))
+      ap (λ (x : ℕ). byte_in L leaves (leaf_of L leaves inode x) ((at + j) % 1024)) index ∙ ap (λ (x : ℕ). byte_in L leaves (leaf_of L leaves inode (at / 1024)) x) place
+      ∙ ap (λ r. byte_in L leaves r ((at - 1024 * (at / 1024)) + j)) is ∙ ap (λ (b : List ℕ). get_or b ((at - 1024 * (at / 1024)) + j) 0) (sym read))
 
   -- a part of a content
   pub content_part : (inode start count : ℕ)
       → take count (drop start (content_of L leaves inode)) ≡ map (λ n. byte_at L leaves inode n) (range_with_len (min start (length_in (leaves inode))) (min count (length_in (leaves inode) - min start (length_in (leaves inode)))))
   unfolding content_of
   content_part inode start count = part_is (λ n. byte_at L leaves inode n) (length_in (leaves inode)) start count
+
+-- one more piece of a content
+pub part_joined : (leaves mid : ℕ → List ℕ) (inode start at stop : ℕ) (old new : List ℕ) → mid ≡ leaves → start ≤ at → at ≤ stop → old ≡ map (λ n. byte_at version_one leaves inode n) (range_with_len start (at - start))
+    → new ≡ old ++ map (λ n. byte_at version_one mid inode n) (range_with_len at (stop - at)) → new ≡ map (λ n. byte_at version_one leaves inode n) (range_with_len start (stop - start))
+part_joined leaves mid inode start at stop old new same low high before is =
+    let seam : at ≡ start + (at - start) = omega arith in
+    let sum : (at - start) + (stop - at) ≡ stop - start = omega arith in
+    is ∙ ap (λ (l : List ℕ). l ++ map (λ n. byte_at version_one mid inode n) (range_with_len at (stop - at))) before
+    ∙ ap (λ (l : ℕ → List ℕ). map (λ n. byte_at version_one leaves inode n) (range_with_len start (at - start)) ++ map (λ n. byte_at version_one l inode n) (range_with_len at (stop - at))) same
+    ∙ ap (λ (k : ℕ). map (λ n. byte_at version_one leaves inode n) (range_with_len start (at - start)) ++ map (λ n. byte_at version_one leaves inode n) (range_with_len k (stop - at))) seam
+    ∙ pieces_joined (λ n. byte_at version_one leaves inode n) (at - start) (stop - at) start
+    ∙ ap (λ (k : ℕ). map (λ n. byte_at version_one leaves inode n) (range_with_len start k)) sum
+
+-- what a content answers
+pub content_answer : (leaves mid : ℕ → List ℕ) (number start count long s k : ℕ) (a : List ℕ) → mid ≡ leaves → long ≡ length_in (leaves number) → s ≡ min start long → k ≡ min count (long - s)
+    → a ≡ map (λ n. byte_at version_one mid number n) (range_with_len s ((s + k) - s)) → take count (drop start (content_of version_one leaves number)) ≡ a
+content_answer leaves mid number start count long s k a same is_long is_s is_k is =
+    let n : ℕ = length_in (leaves number) in
+    let begin : min start (length_in (leaves number)) ≡ s = ap (λ (x : ℕ). min start x) (sym is_long) ∙ sym is_s in
+    let many : min count (length_in (leaves number) - min start (length_in (leaves number))) ≡ (s + k) - s =
+    ap (λ (x : ℕ). min count (length_in (leaves number) - x)) begin ∙ ap (λ (x : ℕ). min count (x - s)) (sym is_long) ∙ sym is_k ∙ (let e : k ≡ (s + k) - s = omega arith in e) in
+    content_part version_one leaves number start count
+    ∙ ap (λ (x : ℕ). map (λ m. byte_at version_one leaves number m) (range_with_len x (min count (length_in (leaves number) - min start (length_in (leaves number)))))) begin
+    ∙ ap (λ (x : ℕ). map (λ m. byte_at version_one leaves number m) (range_with_len s x)) many
+    ∙ ap (λ (l : ℕ → List ℕ). map (λ m. byte_at version_one l number m) (range_with_len s ((s + k) - s))) (sym same)
+    ∙ sym is
+
+-- what holds of an answer, and what follows of it
+pub if_ok : {A : Type 0} (r : Result A StoreAnswer) (P Q : A → Type 0) → ((a : A) → P a → Q a) → IfOk r (λ a. P a) → IfOk r (λ a. Q a)
+if_ok (Ok a) P Q implies is = implies a is
+if_ok (Err e) P Q implies is = tt

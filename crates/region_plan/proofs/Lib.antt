@@ -3,6 +3,7 @@ pub mod BlankLemmas
 pub mod CheckLemmas
 pub mod ContentLemmas
 pub mod EntryLemmas
+pub mod LeafLemmas
 pub mod NextLemmas
 pub mod ReadLemmas
 pub mod RegionLemmas

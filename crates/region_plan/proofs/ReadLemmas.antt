@@ -110,59 +110,6 @@ module _ {S : Type 0} (K : VolumeKeeper S) (region : S → ℕ) where
   pub reads_no_memory : (old new : S) → ReadsOnly K region None old new → ReadsOnly K region (Some answers.NoMemory) old new
   reads_no_memory old new run = reads_refused (Some answers.NoMemory) old new (λ c. c) (λ P. tt) run
 
-  -- a read that is done
-  pub read_done : {A : Type 0} (a : A) (number : ℕ) (bytes : List ℕ) (old new : S) → ReadsNumber K region number bytes (Ok a) old new → ReadsOnly K region None old new
-  read_done a number bytes old new is = record {
-    cause = is.reads.call.cause.cause;
-    later = is.reads.call.cause.later;
-    orders = is.reads.call.cause.orders;
-    ordered = is.reads.call.cause.ordered;
-    same_region = is.same_region;
-    sequence = is.reads.sequence;
-    same = is.reads.same;
-    honest = λ h. ((is.reads.call.honest h).0, tt);
-    damage = is.reads.damage;
-    shows = λ t. tt;
-    quiet = is.reads.call.quiet;
-    past = is.reads.call.past;
-    crash = is.reads.crash;
-  }
-
-  read_cause : {A : Type 0} (answer : LeafAnswer) (old new : Condition) → LeafCause {A = A} (Err answer) old new → ReadCause (Some (store_answer answer)) old new
-  read_cause leaf_answers.Lost old new is = is
-  read_cause leaf_answers.Failed old new is = is
-  read_cause (leaf_answers.Mismatch tags) old new is = is
-  read_cause leaf_answers.NoMemory old new is = is
-
-  read_intact : {A : Type 0} (answer : LeafAnswer) (P : Mismatch → Type 0) → IfMismatch {A = A} (Err answer) P → IfCorrupt (Some (store_answer answer)) P
-  read_intact leaf_answers.Lost P is = tt
-  read_intact leaf_answers.Failed P is = tt
-  read_intact (leaf_answers.Mismatch tags) P is = is
-  read_intact leaf_answers.NoMemory P is = tt
-
-  read_shows : {A : Type 0} (answer : LeafAnswer) (damage : Option Mismatch) → ShowsLeaf {A = A} (Err answer) damage → IfMismatch {A = A} (Err answer) (λ tags. damage ≡ Some tags)
-  read_shows leaf_answers.Lost damage is = tt
-  read_shows leaf_answers.Failed damage is = tt
-  read_shows (leaf_answers.Mismatch tags) damage is = is
-  read_shows leaf_answers.NoMemory damage is = tt
-
-  -- a read that isn't
-  pub read_refused : {A : Type 0} (answer : LeafAnswer) (number : ℕ) (bytes : List ℕ) (old new : S) → number < 256 → ReadsNumber {A = A} K region number bytes (Err answer) old new → ReadsOnly K region (Some (store_answer answer)) old new
-  read_refused {A} answer number bytes old new below is = record {
-    cause = read_cause {A = A} answer (K.condition old) (K.condition new) is.reads.call.cause.cause;
-    later = is.reads.call.cause.later;
-    orders = is.reads.call.cause.orders;
-    ordered = is.reads.call.cause.ordered;
-    same_region = is.same_region;
-    sequence = is.reads.sequence;
-    same = is.reads.same;
-    honest = λ h. ((is.reads.call.honest h).0, read_intact {A = A} answer (λ tags. ⊥) (is.reads.call.honest h).1);
-    damage = is.reads.damage;
-    shows = λ t.
-        let here : K.damage new (region new) number ≡ K.damage old (region old) number = ap (λ d. d (region new) number) (is.reads.damage t) ∙ ap (λ r. K.damage old r number) is.same_region in
-        corrupt_same (Some (store_answer answer)) (λ tags. K.damage old (region old) number ≡ Some tags) _ (λ tags e. (number, below, here ∙ e))
-        (read_intact {A = A} answer (λ tags. K.damage old (region old) number ≡ Some tags) (read_shows {A = A} answer (K.damage old (region old) number) (is.reads.shows t)));
-    quiet = is.reads.call.quiet;
-    past = is.reads.call.past;
-    crash = is.reads.crash;
-  }
+  -- the leaves stay
+  pub leaves_stay : (old new : S) → ReadsOnly K region None old new → K.honest old → leaves_of K region new ≡ leaves_of K region old
+  leaves_stay old new run h = ap (λ (held : Held). held.leaves (region new)) (run.same h) ∙ ap (λ (r : ℕ). (K.held old).leaves r) run.same_region

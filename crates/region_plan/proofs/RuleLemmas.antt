@@ -66,7 +66,7 @@ module _ (L : Layout) (leaves : ℕ → List ℕ) where
   data_breaks i is isnt = from_third (is_well_formed L leaves i) _ _ (is_padded L leaves i) (ap (λ (k : ℕ). k == DATA) is) isnt
 
   unbroken : (r : Option ℕ) (store : Store) → unless_broken L leaves r ≡ Ok store → store ≡ store_of L leaves
-  unbroken None store is = let same : Ok {E = ℕ} (store_of L leaves) ≡ Ok store = is in cc
+  unbroken None store is = cc
   unbroken (Some i) store is = cc
 
   -- the store of a region that stands for one

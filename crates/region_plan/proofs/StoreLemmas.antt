@@ -1,5 +1,5 @@
 -- What the inodes of a region tell of its store.
-use Rattle.std.proofs.Common.{◌≡◌, ℕ, ◌+◌, Bool, true, false, cond, not, List, [], ◌∷◌, length, map, take, drop, Option, None, Some, find, option_map, Result, Ok, Err, refl, sym, ◌∙◌, ap, subst}
+use Rattle.std.proofs.Common.{◌≡◌, ℕ, ◌+◌, Bool, true, false, cond, not, List, [], ◌∷◌, length, map, take, drop, Option, None, Some, find, option_map, option_copied, Bor, Result, Ok, Err, refl, sym, ◌∙◌, ap, subst}
 use Rattle.std.specs.Prelude.{T, ◌&&◌, if◌then◌else◌}
 use Rattle.std.specs.List.{range_with_len, All}
 use Rattle.std.specs.Str.{bytes_eq}
@@ -42,7 +42,7 @@ same_is_tied x q =
 abbrev facts_with : ℕ → ℕ → ℕ → ℕ → Facts
 facts_with kind usage secret long = record { kind = kind; usage = usage; secret = secret; length = long }
 
-abbrev listed_as : List ℕ → Facts → Result Listed StoreAnswer
+abbrev pub listed_as : List ℕ → Facts → Result Listed StoreAnswer
 listed_as id facts = Ok (record { id = id; facts = facts })
 
 module _ (L : Layout) (leaves : ℕ → List ℕ) where
@@ -225,3 +225,16 @@ module _ (L : Layout) (leaves : ℕ → List ℕ) where
 
   pub next_none : (last : Option (List ℕ)) → best_after last (inodes_of L leaves) ≡ None → next_after (store_of L leaves) last ≡ Err NotFound
   next_none last is = next_is last ∙ ap (λ r. listed (option_map entry_for r)) is
+
+  -- what the code looked up
+  pub looked_none : (q : List ℕ) (r : Option (Bor Inode)) (slice items : List Inode) → option_copied r ≡ inode_with q slice → slice ≡ items → items ≡ inodes_of L leaves → r ≡ None → inode_with q (inodes_of L leaves) ≡ None
+  looked_none q r slice items told same all is = ap (λ (l : List Inode). inode_with q l) (sym (same ∙ all)) ∙ sym told ∙ ap option_copied is
+
+  pub looked_up : (q : List ℕ) (r : Option (Bor Inode)) (slice items : List Inode) (inode : Bor Inode) → option_copied r ≡ inode_with q slice → slice ≡ items → items ≡ inodes_of L leaves → r ≡ Some inode → inode_with q (inodes_of L leaves) ≡ Some inode.now
+  looked_up q r slice items inode told same all is = ap (λ (l : List Inode). inode_with q l) (sym (same ∙ all)) ∙ sym told ∙ ap option_copied is
+
+  pub listed_none : (last : Option (List ℕ)) (r : Option (Bor Inode)) (slice items : List Inode) → option_copied r ≡ best_after last slice → slice ≡ items → items ≡ inodes_of L leaves → r ≡ None → best_after last (inodes_of L leaves) ≡ None
+  listed_none last r slice items told same all is = ap (λ (l : List Inode). best_after last l) (sym (same ∙ all)) ∙ sym told ∙ ap option_copied is
+
+  pub listed_up : (last : Option (List ℕ)) (r : Option (Bor Inode)) (slice items : List Inode) (inode : Bor Inode) → option_copied r ≡ best_after last slice → slice ≡ items → items ≡ inodes_of L leaves → r ≡ Some inode → best_after last (inodes_of L leaves) ≡ Some inode.now
+  listed_up last r slice items inode told same all is = ap (λ (l : List Inode). best_after last l) (sym (same ∙ all)) ∙ sym told ∙ ap option_copied is

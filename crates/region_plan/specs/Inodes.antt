@@ -12,7 +12,7 @@ abbrev pub four_at : ℕ → List ℕ → ℕ
 four_at at bytes = from_le_bytes w32 (part at 4 bytes)
 
 -- how many bytes of content the object has
-abbrev pub length_in : List ℕ → ℕ
+unfoldable pub length_in : List ℕ → ℕ
 length_in bytes = four_at LENGTH_AT bytes
 
 -- its identifier and its secret, each as long as its length says

@@ -1,6 +1,6 @@
 //! Inode leaves: the first leaf of an object, with all of it but its content.
 
-ghost use Rattle.std.specs.Prelude.{◌≡◌, IfOk, true, IsTrue};
+ghost use Rattle.std.specs.Prelude.{◌≡◌, ◌&&◌, IfOk, IsTrue};
 ghost use Rattle.store_api.specs.Limits.{IsIdentifier, IsSecret};
 ghost use Rattle.region_plan.specs.Inodes.{inode_of, is_inode_leaf as follows_rules};
 
@@ -38,22 +38,32 @@ pub(crate) struct Inode {
 }
 
 /// Whether the bytes of an inode leaf follow the rules.
-#[tactic(auto, unfolding(crate::specs::Inodes::is_inode_leaf))]
 pub(crate) fn is_inode_leaf(leaf: &[u8; BLOCK_BYTES]) -> bool
     ensures { result ≡ follows_rules leaf.now }
 {
     let id = leaf[IDENTIFIER_LENGTH_AT] as usize;
     let secret = leaf[SECRET_LENGTH_AT] as usize;
-    id <= IDENTIFIER_BYTES
-        && secret <= SECRET_BYTES
-        && all_zero(&leaf[SECRET_LENGTH_AT + 1..IDENTIFIER_AT])
-        && all_zero(&leaf[IDENTIFIER_AT + id..SECRET_AT])
-        && all_zero(&leaf[SECRET_AT + secret..REST_AT])
-        && all_zero(&leaf[REST_AT..])
+    if id > IDENTIFIER_BYTES {
+        return false;
+    }
+    if secret > SECRET_BYTES {
+        return false;
+    }
+    let reserved = all_zero(&leaf[SECRET_LENGTH_AT + 1..IDENTIFIER_AT]);
+    let behind_id = all_zero(&leaf[IDENTIFIER_AT + id..SECRET_AT]);
+    let behind_secret = all_zero(&leaf[SECRET_AT + secret..REST_AT]);
+    let rest = all_zero(&leaf[REST_AT..]);
+    all_true(reserved, behind_id, behind_secret, rest)
+}
+
+fn all_true(first: bool, second: bool, third: bool, fourth: bool) -> bool
+    ensures { result ≡ (first && (second && (third && fourth))) }
+{
+    first && second && third && fourth
 }
 
 /// What an inode leaf tells.
-#[tactic(auto, unfolding(crate::specs::Inodes::is_inode_leaf, crate::specs::Inodes::inode_of, crate::specs::Inodes::identifier_in, crate::specs::Inodes::secret_in))]
+#[tactic(auto, unfolding(crate::specs::Inodes::is_inode_leaf, crate::specs::Inodes::inode_of, crate::specs::Inodes::length_in, crate::specs::Inodes::identifier_in, crate::specs::Inodes::secret_in))]
 pub(crate) fn inode_in(
     alloc: Global,
     number: u8,

@@ -58,7 +58,10 @@ fn read_inode<L: LeafSource>(
         return Err(StoreAnswer::Garbled(leaf));
     }
     let inode = inode_in(alloc, leaf, &block)?;
-    if !is_new(before, inode.id.as_slice()) || !has_data(map, &inode) {
+    if !is_new(before, inode.id.as_slice()) {
+        return Err(StoreAnswer::Garbled(leaf));
+    }
+    if !has_data(map, &inode) {
         return Err(StoreAnswer::Garbled(leaf));
     }
     Ok(inode)
