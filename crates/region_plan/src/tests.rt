@@ -1,6 +1,5 @@
 //! A region of two objects: each call once, and each rule broken once.
-ghost use Rattle.std.specs.Prelude.{◌≡◌, ◌≤◌, ℕ, None, Some, true, refl, get_or, length, vec_len};
-ghost use Rattle.region_plan.specs.Reading.{ReadsNumber};
+ghost use Rattle.std.specs.Prelude.{◌≡◌, [], None, Some, true, slice_index_or, vec_len};
 
 use crate::{LeafSource, content, facts, locate, next_after, secret};
 use std::alloc::Global;
@@ -20,12 +19,12 @@ struct Memory {
 impl LeafSource for Memory {
     ghost keeper = { record {
       tells_reads = true;
-      held = λ m. record { leaves = λ r l. get_or m.leaves.items l []; sequence = 0 };
+      held = λ m. record { leaves = λ r l. slice_index_or m.leaves.items l []; sequence = 0 };
       condition = λ m. record { lost = m.lost; faults = 0; orders = 0; ordered = 0 };
       honest = λ m. Unit {0};
       damage = λ m r l. None;
       moment = λ m. 0;
-      left_since = λ m t o. o ≡ Some (record { leaves = λ r l. get_or m.leaves.items l []; sequence = 0 });
+      left_since = λ m t o. o ≡ Some (record { leaves = λ r l. slice_index_or m.leaves.items l []; sequence = 0 });
     } };
 
     ghost region = { λ m. 0 };
@@ -154,7 +153,7 @@ fn in_order(rt: HostRuntime) -> Result<(), Fail> {
 }
 
 // A byte that breaks one rule, and the leaf that is told.
-const BROKEN: [(Byte, u8); 14] = [
+const BROKEN: [(Byte, u8); 18] = [
     ((0, 0, 2), 0),
     ((0, 1, 1), 0),
     ((0, 28, 3), 7),
@@ -169,6 +168,10 @@ const BROKEN: [(Byte, u8); 14] = [
     ((5, 79, 1), 5),
     ((5, 207, 1), 5),
     ((2, 1023, 1), 2),
+    ((2, 16, 0x61), 5),
+    ((0, 14, 0), 5),
+    ((5, 9, 8), 5),
+    ((5, 8, 0), 5),
 ];
 
 fn tells(rt: &impl Abort, alloc: Global, byte: Byte, leaf: u8) -> Result<(), Fail> {
