@@ -1,7 +1,7 @@
 -- Regions that agree on the leaves in use stand for the same store.
-use Rattle.std.proofs.Common.{◌≡◌, ℕ, zero, suc, ◌+◌, ◌-◌, ◌*◌, ◌/◌, ◌%◌, ◌<◌, ◌≤◌, Bool, true, false, cond, not, List, [], ◌∷◌, map, get_or, drop, Option, None, Some, Result, Ok, Err, find, refl, sym, ◌∙◌, ap, subst, arith, nat_le}
+use Rattle.std.proofs.Common.{◌≡◌, ℕ, zero, suc, ◌+◌, ◌-◌, ◌*◌, ◌/◌, ◌%◌, ◌<◌, ◌≤◌, Bool, true, false, cond, not, List, [], ◌∷◌, map, get_or, drop, Option, None, Some, Ok, find, refl, sym, ◌∙◌, ap, subst, arith, nat_le}
 use Rattle.std.specs.Prelude.{◌&&◌, ◌||◌, ◌==◌, if◌then◌else◌, nat_lt}
-use Rattle.std.specs.List.{range_with_len, filter, list_any, list_all, count_by, sum_by, All}
+use Rattle.std.specs.List.{range_with_len, filter, list_any, list_all, count_by, All}
 use Rattle.std.specs.Int.{w32, from_le_bytes}
 use Rattle.std.specs.Str.{bytes_eq}
 use Rattle.std.specs.FinMap as finite
@@ -12,7 +12,7 @@ use Rattle.store_api.specs.declared.object.Object.{Object}
 use Rattle.store_api.specs.Stores.{Store}
 use Rattle.region_plan.specs.Layout.{Layout}
 use Rattle.region_plan.specs.Parts.{part, are_zero}
-use Rattle.region_plan.specs.Entries.{entry_at, entry_of, entry_number, form_of, is_inode, is_data_of, is_data_at, is_used, is_well_formed}
+use Rattle.region_plan.specs.Entries.{entry_at, entry_of, entry_number, form_of, is_inode, is_data_of, is_data_at, is_well_formed}
 use Rattle.region_plan.specs.Inodes.{four_at, length_in, identifier_in, secret_in, is_inode_leaf}
 use Rattle.region_plan.specs.Laws.{AgreeInUse}
 use Rattle.region_plan.specs.Regions.{numbers, is_doubled, has_one, is_past, has_data, is_padded, breaks, leaf_of, byte_in, byte_at, content_of, object_of, inode_numbers, store_of, first_broken, unless_broken, region_of, data_leaves}

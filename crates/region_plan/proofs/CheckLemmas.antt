@@ -1,7 +1,7 @@
 -- Inodes that break a rule together with the map or other inodes.
 use Rattle.std.proofs.Common.{◌≡◌, ◌≢◌, ℕ, zero, suc, ◌+◌, ◌<◌, ◌≤◌, Bool, true, false, cond, not, List, [], ◌∷◌, map, get_or, Option, None, Some, find, refl, sym, ◌∙◌, ap, subst, arith}
-use Rattle.std.specs.Prelude.{is_some, IsTrue, ◌&&◌, ◌||◌, ◌==◌, nat_le}
-use Rattle.std.specs.List.{range_with_len, filter, list_any, list_all, count_by}
+use Rattle.std.specs.Prelude.{is_some, ◌&&◌, ◌||◌, ◌==◌, nat_le}
+use Rattle.std.specs.List.{range_with_len, filter, list_any, count_by}
 use Rattle.std.specs.Str.{bytes_eq}
 use Rattle.std.proofs.lemmas.Bool.{eqb-true, eq-eqb, le-leb, leb-true, leb-false, and_left, and_right, and_from, not-false}
 use Rattle.std.proofs.lemmas.List.Sums.{sum_by-cons}
@@ -10,11 +10,10 @@ use Rattle.std.proofs.lemmas.List.FromFn.{get_or-range_with_len, length-range_wi
 use Rattle.region_plan.specs.Layout.{Layout, version_one}
 use Rattle.region_plan.specs.Entries.{entry_at, is_inode, is_data_of, is_data_at}
 use Rattle.region_plan.specs.Inodes.{inode_of, identifier_in, length_in}
-use Rattle.region_plan.specs.Regions.{numbers, breaks, has_one, has_data, is_doubled, is_past, leaf_of, data_leaves}
+use Rattle.region_plan.specs.Regions.{numbers, has_one, has_data, is_doubled, is_past, leaf_of, data_leaves}
 use Rattle.region_plan.specs.declared.entry.Entry.{Entry}
 use Rattle.region_plan.specs.declared.entry.TheConstants.{DATA}
 use Rattle.region_plan.specs.declared.inode.Inode.{Inode}
-use Rattle.region_plan.proofs.RuleLemmas.{doubled_breaks}
 use Rattle.region_plan.specs.Tables.{inodes_below}
 
 -- what passes is counted

@@ -1,19 +1,16 @@
 -- The content of an object, piece by piece.
-use Rattle.std.proofs.Common.{◌≡◌, ◌≢◌, ℕ, zero, suc, ◌+◌, ◌-◌, ◌*◌, ◌/◌, ◌%◌, ◌<◌, ◌≤◌, min, Bool, true, false, cond, not, List, [], ◌∷◌, ◌++◌, map, length, get_or, take, drop, Option, None, Some, Result, Ok, Err, find, refl, sym, ◌∙◌, ap, subst, arith, rules, nat_le}
+use Rattle.std.proofs.Common.{◌≡◌, ℕ, zero, suc, ◌+◌, ◌-◌, ◌*◌, ◌/◌, ◌%◌, ◌<◌, ◌≤◌, min, Bool, true, false, cond, List, [], ◌∷◌, ◌++◌, map, length, get_or, take, drop, None, Some, Result, Ok, Err, find, refl, sym, ◌∙◌, ap, subst, arith, nat_le}
 use Rattle.std.specs.Prelude.{IsTrue, IfOk, ◌&&◌, ◌||◌, ◌==◌}
-use Rattle.std.specs.List.{range_with_len, sum_by, count_by, list_all, list_any}
+use Rattle.std.specs.List.{range_with_len, count_by}
 use Rattle.std.proofs.Math.Seq.{drop-cons}
-use Rattle.std.proofs.lemmas.List.{map-append}
 use Rattle.std.proofs.lemmas.List.Sums.{sum_by-cons}
-use Rattle.std.proofs.lemmas.List.FromFn.{get_or-range_with_len, length-range_with_len}
-use Rattle.std.proofs.lemmas.List.Folds.{list_all_at}
 use Rattle.std.proofs.lemmas.Bool.{leb-true, leb-false, lt-leb, eqb-true}
 use Rattle.store_api.specs.declared.answer.StoreAnswer.{StoreAnswer}
 use Rattle.region_plan.specs.Layout.{Layout, version_one}
 use Rattle.region_plan.specs.Parts.{are_zero}
-use Rattle.region_plan.specs.Entries.{entry_at, is_inode, is_data_of, is_data_at}
-use Rattle.region_plan.specs.Inodes.{length_in, is_inode_leaf}
-use Rattle.region_plan.specs.Regions.{numbers, breaks, byte_at, byte_in, leaf_of, has_one, has_data, is_past, is_padded, data_leaves, content_of}
+use Rattle.region_plan.specs.Entries.{entry_at, is_inode, is_data_at}
+use Rattle.region_plan.specs.Inodes.{length_in}
+use Rattle.region_plan.specs.Regions.{numbers, breaks, byte_at, byte_in, leaf_of, has_data, is_padded, data_leaves, content_of}
 use Rattle.region_plan.specs.declared.entry.TheConstants.{DATA}
 use Rattle.region_plan.proofs.CheckLemmas.{index_wrong}
 use Rattle.region_plan.proofs.RuleLemmas.{data_breaks, index_breaks}

@@ -1,16 +1,13 @@
 -- Reads of leaves, one after another.
-use Rattle.std.proofs.Common.{◌≡◌, ◌≢◌, ◌≤◌, ◌<◌, ℕ, true, false, Bool, List, Option, None, Some, Result, Ok, Err, ⊎_elim, inl, inr, refl, sym, ◌∙◌, ap, subst, arith}
-use Rattle.std.specs.Prelude.{IsTrue, OnOk}
+use Rattle.std.proofs.Common.{◌≡◌, ◌≤◌, ◌<◌, ℕ, true, false, Bool, Option, None, Some, ⊎_elim, inl, inr, refl, sym, ◌∙◌, ap, subst, arith}
 use Rattle.tee_base.specs.Crash.{LeavesOnly}
 use Rattle.tee_base.specs.Faults.{Rose}
-use Rattle.tee_base.proofs.Crash.{joined, started, weaker}
+use Rattle.tee_base.proofs.Crash.{joined, started}
 use Rattle.store_api.specs.declared.answer.Mismatch.{Mismatch}
 use Rattle.store_api.specs.declared.answer.StoreAnswer.{StoreAnswer}
 use Rattle.store_api.specs.declared.answer.StoreAnswer.TheVariants as answers
-use Rattle.store_api.specs.declared.leaves.LeafAnswer.{LeafAnswer}
-use Rattle.store_api.specs.declared.leaves.LeafAnswer.TheVariants as leaf_answers
-use Rattle.store_api.specs.Volumes.{Held, Condition, VolumeKeeper, AddsNothing, ReadsLeaf, LeafCause, ShowsLeaf, IfMismatch, RestsAt}
-use Rattle.region_plan.specs.Reading.{ReadsOnly, ReadsNumber, ReadCause, IfCorrupt, store_answer, leaves_of}
+use Rattle.store_api.specs.Volumes.{Held, Condition, VolumeKeeper, RestsAt}
+use Rattle.region_plan.specs.Reading.{ReadsOnly, ReadCause, IfCorrupt, leaves_of}
 
 not_both : {A : Type 0} (b : Bool) → b ≡ true → b ≡ false → A
 not_both b yes' no' = absurd (let e : true ≡ false = sym yes' ∙ no' in cc)

@@ -1,5 +1,5 @@
 -- What a call that only reads promises, by how it ends.
-use Rattle.std.proofs.Common.{◌≡◌, ℕ, List, Option, None, Some, Result, Ok, Err, refl, sym, ◌∙◌, ap, subst}
+use Rattle.std.proofs.Common.{◌≡◌, ℕ, List, Option, None, Some, Result, Ok, Err, ◌∙◌, ap}
 use Rattle.std.specs.Prelude.{IsTrue, IfOk}
 use Rattle.store_api.specs.declared.answer.StoreAnswer.{StoreAnswer}
 use Rattle.store_api.specs.declared.answer.StoreAnswer.TheVariants as answers
@@ -9,7 +9,7 @@ use Rattle.store_api.specs.Volumes.{VolumeKeeper}
 use Rattle.region_plan.specs.Layout.{Layout}
 use Rattle.region_plan.specs.Locating.{Locates, LocatesInode}
 use Rattle.region_plan.specs.Reading.{ReadsOnly, ReadsRegion, IfGarbled, IsUnread, leaves_of, refusal_of}
-use Rattle.region_plan.specs.Regions.{breaks, region_of, store_of}
+use Rattle.region_plan.specs.Regions.{breaks, store_of}
 use Rattle.region_plan.proofs.ReadLemmas.{reads_joined, reads_not_found, reads_no_memory}
 use Rattle.region_plan.proofs.RuleLemmas.{region_store}
 

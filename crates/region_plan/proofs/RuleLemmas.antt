@@ -1,5 +1,5 @@
 -- Which leaf breaks a rule, and what a region is where none does.
-use Rattle.std.proofs.Common.{◌≡◌, ◌≢◌, ℕ, ◌<◌, Bool, true, false, cond, not, List, [], ◌∷◌, ◌++◌, Option, None, Some, Result, Ok, Err, find, refl, sym, ◌∙◌, ap, subst}
+use Rattle.std.proofs.Common.{◌≡◌, ℕ, Bool, true, false, not, List, Option, None, Some, Ok, refl, ap}
 use Rattle.std.specs.Prelude.{IsTrue, ◌&&◌, ◌||◌, ◌==◌}
 use Rattle.store_api.specs.Stores.{Store}
 use Rattle.region_plan.specs.Layout.{Layout}

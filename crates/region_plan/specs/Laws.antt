@@ -1,11 +1,8 @@
 -- What follows from the definition of a region.
-use Rattle.std.specs.Prelude.{ℕ, ◌≡◌, ◌<◌, ◌≤◌, true, List, Result, Ok, IsTrue, replicate}
-use Rattle.std.specs.List.{count_by}
+use Rattle.std.specs.Prelude.{ℕ, ◌≡◌, ◌<◌, true, List, replicate}
 use Rattle.tee_base.specs.declared.limits.TheConstants.{BLOCK_BYTES}
-use Rattle.store_api.specs.Stores.{Store, empty_store, cost}
 use Rattle.region_plan.specs.Layout.{Layout}
 use Rattle.region_plan.specs.Entries.{is_used}
-use Rattle.region_plan.specs.Regions.{numbers, region_of}
 
 -- all leaves are zeros
 abbrev pub IsBlank : Layout → (ℕ → List ℕ) → Type 0

@@ -1,6 +1,6 @@
 -- Pieces of a leaf.
 use Rattle.std.specs.Prelude.{ℕ, ◌==◌, Bool, List, take, drop}
-use Rattle.std.specs.List.{list_all, slice_index}
+use Rattle.std.specs.List.{list_all}
 
 -- so many bytes from a place on
 abbrev pub part : ℕ → ℕ → List ℕ → List ℕ

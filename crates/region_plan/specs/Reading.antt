@@ -1,5 +1,5 @@
 -- Reads of the leaves of one region, and what calls that only read promise.
-use Rattle.std.specs.Prelude.{ℕ, ◌≡◌, ◌≢◌, ◌≤◌, ◌<◌, Bool, true, false, List, Option, None, Some, Result, Ok, Err, IfOk, IsTrue}
+use Rattle.std.specs.Prelude.{ℕ, ◌≡◌, ◌≢◌, ◌≤◌, ◌<◌, true, false, List, Option, None, Some, Result, Ok, Err, IfOk, IsTrue}
 use Rattle.tee_base.specs.Crash.{LeavesOnly}
 use Rattle.tee_base.specs.Faults.{Rose}
 use Rattle.tee_base.specs.declared.limits.TheConstants.{LEAVES}

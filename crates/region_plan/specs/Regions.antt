@@ -1,5 +1,5 @@
 -- The store that the leaves of a region stand for, or the least leaf that breaks a rule.
-use Rattle.std.specs.Prelude.{ℕ, ◌+◌, ◌-◌, ◌*◌, ◌/◌, ◌%◌, ◌==◌, nat_le, nat_lt, Bool, true, false, not, ◌&&◌, ◌||◌, List, map, Option, None, Some, Result, Ok, Err, if◌then◌else◌, drop}
+use Rattle.std.specs.Prelude.{ℕ, ◌+◌, ◌-◌, ◌*◌, ◌/◌, ◌%◌, ◌==◌, nat_le, Bool, not, ◌&&◌, ◌||◌, List, map, Option, None, Some, Result, Ok, Err, drop}
 use Rattle.std.specs.List.{range_with_len, filter, find, list_any, list_all, count_by, slice_index}
 use Rattle.std.specs.Str.{bytes_eq}
 use Rattle.std.specs.FinMap as finite

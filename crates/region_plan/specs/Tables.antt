@@ -1,5 +1,5 @@
 -- Look-ups among the inodes of a region.
-use Rattle.std.specs.Prelude.{ℕ, ◌≡◌, Bool, true, not, ◌&&◌, List, [], ◌∷◌, map, length, Option, None, Some, cond, if◌then◌else◌}
+use Rattle.std.specs.Prelude.{ℕ, ◌≡◌, Bool, true, not, ◌&&◌, List, [], ◌∷◌, map, length, Option, None, Some, if◌then◌else◌}
 use Rattle.std.specs.List.{find, filter, range_with_len}
 use Rattle.std.specs.Ordering.{nat_cmp, is_lt}
 use Rattle.std.specs.Cmp.Lexicographic.{slice_cmp}

@@ -1,4 +1,4 @@
-use Rattle.std.proofs.Common.{◌≡◌, ◌∙◌, sym, ap, subst, Ok}
+use Rattle.std.proofs.Common.{◌∙◌, sym, ap, subst, Ok}
 use Rattle.store_api.specs.Limits.{AreFacts}
 use Rattle.store_api.specs.Stores.{found}
 use Rattle.region_plan.specs.Layout.{version_one}

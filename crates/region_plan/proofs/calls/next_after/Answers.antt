@@ -1,4 +1,4 @@
-use Rattle.std.proofs.Common.{◌≡◌, ◌∙◌, ℕ, List, sym, ap, subst, Ok, option_copied}
+use Rattle.std.proofs.Common.{◌∙◌, ℕ, List, sym, ap, subst, option_copied}
 use Rattle.store_api.specs.Limits.{IsListed, IsIdentifier, AreFacts}
 use Rattle.store_api.specs.Stores.{next_after}
 use Rattle.region_plan.specs.Layout.{version_one}

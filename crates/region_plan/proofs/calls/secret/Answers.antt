@@ -1,4 +1,4 @@
-use Rattle.std.proofs.Common.{◌≡◌, ◌∙◌, sym, ap, subst, Ok}
+use Rattle.std.proofs.Common.{◌∙◌, sym, ap, subst, Ok}
 use Rattle.store_api.specs.Limits.{IsSecret}
 use Rattle.store_api.specs.Stores.{secret_at}
 use Rattle.region_plan.specs.Layout.{version_one}

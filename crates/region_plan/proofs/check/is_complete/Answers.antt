@@ -1,6 +1,5 @@
-use Rattle.std.proofs.Common.{◌≡◌, ◌<◌, ◌∙◌, ℕ, None, sym, subst, arith}
+use Rattle.std.proofs.Common.{◌<◌, ◌∙◌, ℕ, sym, subst, arith}
 use Rattle.region_plan.specs.Layout.{version_one}
-use Rattle.region_plan.specs.Regions.{leaf_of}
 use Rattle.region_plan.proofs.CheckLemmas.{none_is}
 use Rattle.region_plan.proofs.ContentLemmas.{missing_wrong}
 use Rattle.region_plan.proofs.check.is_complete.Goals as goal

@@ -1,6 +1,5 @@
-use Rattle.std.proofs.Common.{◌≡◌, ◌<◌, ◌≤◌, ◌∙◌, ℕ, None, Some, sym, ap, subst, arith}
-use Rattle.region_plan.specs.Layout.{version_one}
-use Rattle.region_plan.proofs.CheckLemmas.{of_inode, past_entry, elsewhere_entry, other_leaf}
+use Rattle.std.proofs.Common.{◌≡◌, ◌∙◌, None, Some, sym}
+use Rattle.region_plan.proofs.CheckLemmas.{past_entry, elsewhere_entry, other_leaf}
 use Rattle.region_plan.proofs.check.is_in_place.Goals as goal
 
 pub returns-then-entry-blocks : goal.returns-then-entry-blocks

@@ -1,4 +1,4 @@
-use Rattle.std.proofs.Common.{◌≡◌, ◌+◌, ◌-◌, None, ℕ, List, sym, subst, arith}
+use Rattle.std.proofs.Common.{◌+◌, None, ℕ, List, sym, subst, arith}
 use Rattle.region_plan.specs.Layout.{version_one}
 use Rattle.region_plan.specs.Reading.{leaves_of}
 use Rattle.region_plan.specs.Tables.{IsInode}

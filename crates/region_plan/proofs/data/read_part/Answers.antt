@@ -1,9 +1,7 @@
-use Rattle.std.proofs.Common.{◌≡◌, ◌<◌, ◌-◌, ◌*◌, ◌/◌, ◌++◌, ◌∙◌, ℕ, false, List, drop, sym, ap, subst, arith}
+use Rattle.std.proofs.Common.{◌≡◌, ◌-◌, ◌*◌, ◌/◌, ◌++◌, ◌∙◌, ℕ, false, List, drop, sym, ap, subst}
 use Rattle.region_plan.specs.Layout.{version_one}
 use Rattle.region_plan.specs.Parts.{are_zero}
-use Rattle.region_plan.specs.Inodes.{length_in}
 use Rattle.region_plan.specs.Reading.{leaves_of}
-use Rattle.region_plan.specs.Regions.{data_leaves}
 use Rattle.region_plan.proofs.LeafLemmas.{unpadded_from}
 use Rattle.region_plan.proofs.ContentLemmas.{missing_breaks, unpadded_breaks, leaf_bytes, index_below}
 use Rattle.region_plan.proofs.data.read_part.Goals as goal

@@ -1,4 +1,4 @@
-use Rattle.std.proofs.Common.{◌≡◌, ◌∙◌, ℕ, false, sym, ap, subst, refl}
+use Rattle.std.proofs.Common.{◌≡◌, ◌∙◌, ℕ, false, sym, ap, subst}
 use Rattle.region_plan.specs.Layout.{version_one}
 use Rattle.region_plan.specs.Inodes.{is_inode_leaf}
 use Rattle.region_plan.specs.Reading.{leaves_of}
