@@ -3,6 +3,7 @@
 
 mod bytes;
 mod calls;
+mod changes;
 mod check;
 mod data;
 mod entry;
@@ -11,9 +12,12 @@ mod laws;
 mod source;
 mod table;
 #[cfg(test)]
+mod change_tests;
+#[cfg(test)]
 mod tests;
 
 pub use calls::{facts, locate, next_after, secret};
+pub use changes::{cost, plan};
 pub use data::content;
 pub use laws::region_laws;
 pub use source::LeafSource;

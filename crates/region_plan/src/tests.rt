@@ -10,9 +10,9 @@ use tee_base::limits::{BLOCK_BYTES, LEAVES};
 
 /// The leaves of a region in memory.
 #[derive(Drop)]
-struct Memory {
-    leaves: Vec<[u8; BLOCK_BYTES]>,
-    lost: bool,
+pub(crate) struct Memory {
+    pub leaves: Vec<[u8; BLOCK_BYTES]>,
+    pub lost: bool,
     ghost whole: { vec_len leaves ≡ 256 },
 }
 
@@ -80,7 +80,7 @@ const OBJECTS: [Byte; 25] = [
     (3, 1, 24),
 ];
 
-fn blank(alloc: Global) -> Result<Memory, Fail> {
+pub(crate) fn blank(alloc: Global) -> Result<Memory, Fail> {
     let mut leaves = Vec::new(alloc);
     leaves.resize(LEAVES, [0; BLOCK_BYTES])?;
     Ok(Memory {
