@@ -1,11 +1,11 @@
 -- What a crash may leave where an ask has no call of the store.
-use Rattle.std.proofs.Common.{ℕ, ◌≡◌, true, false, Option, None, Some, inl, refl, arith}
+use Rattle.std.proofs.Common.{◌≡◌, true, false, Option, None, Some, inl, refl, arith}
 use Rattle.tee_base.proofs.Crash.{started, weaker}
 use Rattle.store_api.specs.Stores.{Store}
-use Rattle.store_api.specs.Keeping.{Contents, Keeper, Remains, KeepsPast, LeavesJust, LeavesNothingNew}
+use Rattle.store_api.specs.Keeping.{Contents, Keeper, Remains, LeavesJust}
 use Rattle.object_asks.specs.declared.turn.TurnKind.{TurnKind}
 use Rattle.object_asks.specs.declared.turn.TurnKind.TheVariants.{Plain, Lost, Corrupted}
-use Rattle.object_asks.specs.Serving.{CrashTurns, IsKept, LeftByTurn, StaysBeside, UnlessInDoubt}
+use Rattle.object_asks.specs.Serving.{CrashTurns, IsKept, LeftByTurn, UnlessInDoubt}
 
 -- what was kept before is among what any turn may leave
 only_old : (kind : TurnKind) (in_doubt : Option Store) (old new : Contents) (o : Remains) → o ≡ Some old → LeftByTurn kind in_doubt old new o

@@ -12,17 +12,13 @@ use Rattle.share_rules.specs.Sharing.{flags_on, conflicts, uses_of, is_on as sha
 use Rattle.handle_table.specs.declared.handle.Entry.{Entry}
 use Rattle.handle_table.specs.declared.handle.Handle.{Handle}
 use Rattle.handle_table.specs.declared.handle.Handle.TheVariants.{Persistent, Transient}
-use Rattle.handle_table.specs.Handles.{Table, added, change_first, closed, entry_is_on, entry_sought, free_number, handle_at, is_at, is_of, is_on, is_open, is_there, may_open, share_of, shares_of, sought}
+use Rattle.handle_table.specs.Handles.{added, change_first, closed, entry_is_on, entry_sought, free_number, handle_at, is_at, is_of, is_on, is_open, is_there, may_open, share_of, shares_of, sought}
 use Rattle.object_asks.specs.Handles.{settled}
-use Rattle.object_asks.specs.Handles.{HasIdentifier, IsBetweenEvents, entry_has_identifier, has_identifier}
-
--- a table is known by its handles, since no rename is pending
-pub settled_is : (t : Table) (hs : List Entry) → t.handles ≡ hs → IsBetweenEvents t → t ≡ settled hs
-settled_is t hs same between = rw (← same, ← between.no_rename) refl
+use Rattle.object_asks.specs.Handles.{HasIdentifier, entry_has_identifier, has_identifier}
 
 -- ---- what holds of each handle
 
-both : (a b : Bool) → a ≡ true → b ≡ true → (a && b) ≡ true
+pub both : (a b : Bool) → a ≡ true → b ≡ true → (a && b) ≡ true
 both a b ha hb = rw (ha, hb) refl
 
 first_true : (a b : Bool) → (a && b) ≡ true → a ≡ true
@@ -105,11 +101,11 @@ result_there f o hs i n here = sym (result_some f o) ∙ ap is_some here ∙ han
 eqb_sym : (m n : ℕ) → (m == n) ≡ (n == m)
 eqb_sym m n = elim (m == n) as (λ b. (m == n) ≡ b → b ≡ (n == m)) [ true ↦ λ e. sym (eq-eqb n m (sym (eqb-true m n e))) | false ↦ λ e. elim (n == m) as (λ b. (n == m) ≡ b → false ≡ b) [ true ↦ λ f. absurd (both_ways _ e (eq-eqb m n (sym (eqb-true n m f)))) | false ↦ λ f. refl ] refl ] refl
 
-or_first : (a b : Bool) → (a || b) ≡ false → a ≡ false
+pub or_first : (a b : Bool) → (a || b) ≡ false → a ≡ false
 or_first true b h = h
 or_first false b h = refl
 
-or_second : (a b : Bool) → (a || b) ≡ false → b ≡ false
+pub or_second : (a b : Bool) → (a || b) ≡ false → b ≡ false
 or_second true b h = absurd (both_ways _ h refl)
 or_second false b h = h
 
@@ -126,6 +122,16 @@ stays_all i n [] none = refl
 stays_all i n (e ∷ hs) none =
     ap (λ b. cond (not b) (e ∷ filter (λ e. not (is_at i n e)) hs) (filter (λ e. not (is_at i n e)) hs)) (kept_one (e.instance == i) n e.number e (filter (is_of i) hs) hs none refl (λ h. refl))
     ∙ ap (λ rest. e ∷ rest) (stays_all i n hs (none_rest (e.instance == i) n e (filter (is_of i) hs) none))
+
+-- a number that isn't taken is that of no handle
+absent : (i n : ℕ) (hs : List Entry) → list_any (nat_eq n) (map (λ e. e.number) (filter (is_of i) hs)) ≡ false → list_any (is_at i n) hs ≡ false
+absent i n [] none = refl
+absent i n (e ∷ hs) none =
+    ap (λ b. b || list_any (is_at i n) hs) (kept_one (e.instance == i) n e.number e (filter (is_of i) hs) hs none refl (λ h. refl))
+    ∙ absent i n hs (none_rest (e.instance == i) n e (filter (is_of i) hs) none)
+
+pub free_absent : (hs : List Entry) (i : ℕ) → list_any (is_at i (free_number hs i)) hs ≡ false
+free_absent hs i = absent i (free_number hs i) hs (lowest_free-untaken (map (λ e. e.number) (filter (is_of i) hs)))
 
 pub closed_again : (hs : List Entry) (i : ℕ) (h : Handle) → (closed (added (settled hs) i h) i (free_number hs i)).handles ≡ hs
 closed_again hs i h =

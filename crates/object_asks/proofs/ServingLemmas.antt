@@ -1,5 +1,5 @@
 -- From what the store gives to what comes of an ask.
-use Rattle.std.proofs.Common.{ℕ, ◌≡◌, Bool, true, false, List, Option, None, Some, IfOk, IfSome, OnErr, Result, Ok, Err, IsTrue, refl, sym, ap, subst, ◌∙◌, arith}
+use Rattle.std.proofs.Common.{◌≡◌, Bool, true, false, Option, None, Some, IfOk, IfSome, OnErr, Result, Ok, Err, refl, sym, ap, subst, ◌∙◌, arith}
 use Rattle.std.proofs.lemmas.Result.{IfOk-weaker}
 use Rattle.tee_base.specs.declared.bytes.NoMemory.{NoMemory as WantOfMemory}
 use Rattle.tee_base.proofs.Crash.{started}
@@ -8,7 +8,7 @@ use Rattle.app_api.specs.declared.ask.Answer.TheVariants.{Refused}
 use Rattle.store_api.specs.declared.answer.StoreAnswer.{StoreAnswer}
 use Rattle.store_api.specs.declared.answer.StoreAnswer.TheVariants as stores
 use Rattle.store_api.specs.Keeping.{Status, Keeper, HasCause, LeavesJust}
-use Rattle.handle_table.specs.declared.handle.Entry.{Entry}
+use Rattle.object_asks.specs.Held.{Held}
 use Rattle.object_asks.specs.declared.turn.TurnKind.{TurnKind}
 use Rattle.object_asks.specs.declared.turn.TurnKind.TheVariants.{Plain}
 use Rattle.object_asks.specs.Asks.{Outcome, Answered, Panicked, Course, Settled, ComesToStore, Objects, came_of, code_of, refused, Serves}
@@ -29,10 +29,25 @@ keeps lost s plain e = rw e refl
 stays : (s : Status) → HasStatus Plain s s
 stays s = record { cause = refl; later = omega arith; orders = refl; ordered = refl; reports = omega arith }
 
+abbrev told_as : Bool → StoreAnswer → Served
+told_as changes answer = record { kind = kind_of changes answer; outcome = outcomes.Answered (Refused (code_of answer)) }
+
 pub ends_with : (outcome : Result_of) (fact : Type 0) → fact → UnlessAnswered outcome fact
 ends_with (outcomes.Answered answer) fact holds = tt
 ends_with (outcomes.Returned ending) fact holds = holds
 ends_with outcomes.Panicked fact holds = holds
+
+-- what isn't told is want of memory
+untold : (result : Result Answer StoreAnswer) (changes : Bool) → told_of changes result ≡ None → result ≡ Err stores.NoMemory
+untold (Ok answer) changes told = absurd (let e : Some (plainly (outcomes.Answered answer)) ≡ None = told in cc)
+untold (Err stores.NoMemory) changes told = refl
+untold (Err stores.NotFound) changes told = absurd (let e : Some (told_as changes stores.NotFound) ≡ None = told in cc)
+untold (Err stores.Exists) changes told = absurd (let e : Some (told_as changes stores.Exists) ≡ None = told in cc)
+untold (Err stores.NoSpace) changes told = absurd (let e : Some (told_as changes stores.NoSpace) ≡ None = told in cc)
+untold (Err stores.Lost) changes told = absurd (let e : Some (told_as changes stores.Lost) ≡ None = told in cc)
+untold (Err stores.Failed) changes told = absurd (let e : Some (told_as changes stores.Failed) ≡ None = told in cc)
+untold (Err (stores.Corrupt tags)) changes told = absurd (let e : Some (told_as changes (stores.Corrupt tags)) ≡ None = told in cc)
+untold (Err (stores.Garbled leaf)) changes told = absurd (let e : Some (told_as changes (stores.Garbled leaf)) ≡ None = told in cc)
 
 module _ {D : Type 0} (K : Keeper D) where
   -- an ask that finds no memory before it comes to the store
@@ -46,12 +61,12 @@ module _ {D : Type 0} (K : Keeper D) where
   }
 
   -- the store refuses
-  declined : (answer : StoreAnswer) (plain : Outcome Objects) (changes : Bool) (handles left : List Entry) (old new : D)
-      → kind_of changes answer ≡ Plain → (K.has_model old → (plain ≡ refused (objects_in handles (K.contents old)) (code_of answer)) × (objects_in left (K.contents new) ≡ objects_in handles (K.contents old)))
+  declined : (answer : StoreAnswer) (plain : Outcome Objects) (changes : Bool) (held kept left : Held) (old new : D)
+      → kind_of changes answer ≡ Plain → (K.has_model old → (plain ≡ refused (objects_in kept (K.contents old)) (code_of answer)) × (objects_in left (K.contents new) ≡ objects_in kept (K.contents old)))
       → (K.status old).lost ≡ false → HasStatus Plain (K.status old) (K.status new) → (K.honest old → K.honest new)
       → IsKept K old new → (K.honest old → LeavesJust K old (K.contents old) → CrashTurns K (kind_of changes answer) (left_by plain) old new)
-      → IsServed K (plainly (outcomes.Answered (Refused (code_of answer)))) (ComesToStore (objects_in handles (K.contents old)) plain) changes handles left old new
-  declined answer plain changes handles left old new kind gives works stands sound keeps crash = record {
+      → IsServed K (plainly (outcomes.Answered (Refused (code_of answer)))) (ComesToStore (objects_in kept (K.contents old)) plain) changes held left old new
+  declined answer plain changes held kept left old new kind gives works stands sound keeps crash = record {
     outcome = λ t. serves (K.status old).lost _ plain works ∙ (gives t).0 ∙ ap (λ s. refused s (code_of answer)) (sym (gives t).1);
     ends = tt;
     reaches = λ t. tt;
@@ -63,9 +78,9 @@ module _ {D : Type 0} (K : Keeper D) where
     crash = λ h just. subst (λ (k : TurnKind). CrashTurns K k (left_by plain) old new) kind (crash h just);
   }
 
-  told_served : (result : Result Answer StoreAnswer) (plain : Outcome Objects) (changes : Bool) (handles left : List Entry) (old new : D)
-      → IsGiven K result plain changes handles left old new → IfSome (told_of changes result) (λ served. IsServed K served (ComesToStore (objects_in handles (K.contents old)) plain) changes handles left old new)
-  told_served (Ok answer) plain changes handles left old new given =
+  told_served : (result : Result Answer StoreAnswer) (plain : Outcome Objects) (changes : Bool) (held kept left : Held) (old new : D)
+      → IsGiven K result plain changes held kept left old new → IfSome (told_of changes result) (λ served. IsServed K served (ComesToStore (objects_in kept (K.contents old)) plain) changes held left old new)
+  told_served (Ok answer) plain changes held kept left old new given =
       let met : HasCause (Ok answer) (K.status old) (K.status new) = given.cause (λ e. let f : Ok answer ≡ Err stores.NoMemory = e in cc) in
       record {
         outcome = λ t. serves (K.status old).lost _ plain met.cause.0 ∙ given.gives t;
@@ -78,16 +93,16 @@ module _ {D : Type 0} (K : Keeper D) where
         keeps = given.keeps;
         crash = given.crash;
       }
-  told_served (Err stores.NotFound) plain changes handles left old new given =
+  told_served (Err stores.NotFound) plain changes held kept left old new given =
       let met : HasCause (Err stores.NotFound) (K.status old) (K.status new) = given.cause (λ e. let f : (Err stores.NotFound) ≡ Err stores.NoMemory = e in cc) in
-      declined stores.NotFound plain changes handles left old new refl given.gives met.cause.0 (record { cause = met.cause.1 ∙ sym met.cause.0; later = met.later; orders = met.orders; ordered = met.ordered; reports = met.reports }) (λ h. (given.honest h).0) given.keeps given.crash
-  told_served (Err stores.Exists) plain changes handles left old new given =
+      declined stores.NotFound plain changes held kept left old new refl given.gives met.cause.0 (record { cause = met.cause.1 ∙ sym met.cause.0; later = met.later; orders = met.orders; ordered = met.ordered; reports = met.reports }) (λ h. (given.honest h).0) given.keeps given.crash
+  told_served (Err stores.Exists) plain changes held kept left old new given =
       let met : HasCause (Err stores.Exists) (K.status old) (K.status new) = given.cause (λ e. let f : (Err stores.Exists) ≡ Err stores.NoMemory = e in cc) in
-      declined stores.Exists plain changes handles left old new refl given.gives met.cause.0 (record { cause = met.cause.1 ∙ sym met.cause.0; later = met.later; orders = met.orders; ordered = met.ordered; reports = met.reports }) (λ h. (given.honest h).0) given.keeps given.crash
-  told_served (Err stores.NoSpace) plain changes handles left old new given =
+      declined stores.Exists plain changes held kept left old new refl given.gives met.cause.0 (record { cause = met.cause.1 ∙ sym met.cause.0; later = met.later; orders = met.orders; ordered = met.ordered; reports = met.reports }) (λ h. (given.honest h).0) given.keeps given.crash
+  told_served (Err stores.NoSpace) plain changes held kept left old new given =
       let met : HasCause (Err stores.NoSpace) (K.status old) (K.status new) = given.cause (λ e. let f : (Err stores.NoSpace) ≡ Err stores.NoMemory = e in cc) in
-      declined stores.NoSpace plain changes handles left old new refl given.gives met.cause.0 (record { cause = met.cause.1 ∙ sym met.cause.0; later = met.later; orders = met.orders; ordered = met.ordered; reports = met.reports }) (λ h. (given.honest h).0) given.keeps given.crash
-  told_served (Err stores.Lost) plain changes handles left old new given =
+      declined stores.NoSpace plain changes held kept left old new refl given.gives met.cause.0 (record { cause = met.cause.1 ∙ sym met.cause.0; later = met.later; orders = met.orders; ordered = met.ordered; reports = met.reports }) (λ h. (given.honest h).0) given.keeps given.crash
+  told_served (Err stores.Lost) plain changes held kept left old new given =
       let met : HasCause (Err stores.Lost) (K.status old) (K.status new) = given.cause (λ e. let f : (Err stores.Lost) ≡ Err stores.NoMemory = e in cc) in
       record {
         outcome = λ t. keeps (K.status old).lost _ plain met.cause.0 ∙ ap (λ s. refused s storage_not_available) (sym (given.gives t));
@@ -100,7 +115,7 @@ module _ {D : Type 0} (K : Keeper D) where
         keeps = given.keeps;
         crash = given.crash;
       }
-  told_served (Err stores.Failed) plain changes handles left old new given =
+  told_served (Err stores.Failed) plain changes held kept left old new given =
       let met : HasCause (Err stores.Failed) (K.status old) (K.status new) = given.cause (λ e. let f : (Err stores.Failed) ≡ Err stores.NoMemory = e in cc) in
       record {
         outcome = λ t. ap (λ s. refused s storage_not_available) (sym (given.gives t));
@@ -113,7 +128,7 @@ module _ {D : Type 0} (K : Keeper D) where
         keeps = given.keeps;
         crash = given.crash;
       }
-  told_served (Err (stores.Corrupt tags)) plain changes handles left old new given =
+  told_served (Err (stores.Corrupt tags)) plain changes held kept left old new given =
       let met : HasCause (Err (stores.Corrupt tags)) (K.status old) (K.status new) = given.cause (λ e. let f : (Err (stores.Corrupt tags)) ≡ Err stores.NoMemory = e in cc) in
       record {
         outcome = λ t. ap (λ s. refused s (code_of (stores.Corrupt tags))) (sym (given.gives t));
@@ -126,7 +141,7 @@ module _ {D : Type 0} (K : Keeper D) where
         keeps = given.keeps;
         crash = given.crash;
       }
-  told_served (Err (stores.Garbled leaf)) plain changes handles left old new given =
+  told_served (Err (stores.Garbled leaf)) plain changes held kept left old new given =
       let met : HasCause (Err (stores.Garbled leaf)) (K.status old) (K.status new) = given.cause (λ e. let f : (Err (stores.Garbled leaf)) ≡ Err stores.NoMemory = e in cc) in
       record {
         outcome = λ t. ap (λ s. refused s (code_of (stores.Garbled leaf))) (sym (given.gives t));
@@ -139,38 +154,25 @@ module _ {D : Type 0} (K : Keeper D) where
         keeps = given.keeps;
         crash = given.crash;
       }
-  told_served (Err stores.NoMemory) plain changes handles left old new given = tt
+  told_served (Err stores.NoMemory) plain changes held kept left old new given = tt
 
   -- what was told of what the store gave is what comes of the ask
-  by_store : (result : Result Answer StoreAnswer) (served : Served) (course : Course Objects) (plain : Outcome Objects) (changes : Bool) (handles left : List Entry) (old new : D)
-      → told_of changes result ≡ Some served → course ≡ ComesToStore (objects_in handles (K.contents old)) plain → IsGiven K result plain changes handles left old new → IsServed K served course changes handles left old new
-  by_store result served course plain changes handles left old new told same given =
-      let done : IfSome (told_of changes result) (λ s. IsServed K s (ComesToStore (objects_in handles (K.contents old)) plain) changes handles left old new) = told_served result plain changes handles left old new given in
-      let here : IsServed K served (ComesToStore (objects_in handles (K.contents old)) plain) changes handles left old new = subst (λ (o : Option Served). IfSome o (λ s. IsServed K s (ComesToStore (objects_in handles (K.contents old)) plain) changes handles left old new)) told done in
-      subst (λ (c : Course Objects). IsServed K served c changes handles left old new) (sym same) here
+  by_store : (result : Result Answer StoreAnswer) (served : Served) (course : Course Objects) (plain : Outcome Objects) (changes : Bool) (held kept left : Held) (old new : D)
+      → told_of changes result ≡ Some served → course ≡ ComesToStore (objects_in kept (K.contents old)) plain → IsGiven K result plain changes held kept left old new → IsServed K served course changes held left old new
+  by_store result served course plain changes held kept left old new told same given =
+      let done : IfSome (told_of changes result) (λ s. IsServed K s (ComesToStore (objects_in kept (K.contents old)) plain) changes held left old new) = told_served result plain changes held kept left old new given in
+      let here : IsServed K served (ComesToStore (objects_in kept (K.contents old)) plain) changes held left old new = subst (λ (o : Option Served). IfSome o (λ s. IsServed K s (ComesToStore (objects_in kept (K.contents old)) plain) changes held left old new)) told done in
+      subst (λ (c : Course Objects). IsServed K served c changes held left old new) (sym same) here
 
-  by_told : (result : Result Answer StoreAnswer) (given : Result Served WantOfMemory) (course : Course Objects) (plain : Outcome Objects) (changes : Bool) (handles left : List Entry) (old new : D)
-      → IfOk given (λ served. told_of changes result ≡ Some served) → course ≡ ComesToStore (objects_in handles (K.contents old)) plain → IsGiven K result plain changes handles left old new → IfOk given (λ served. IsServed K served course changes handles left old new)
-  by_told result given course plain changes handles left old new told same is =
-      IfOk-weaker given _ _ (λ served t. by_store result served course plain changes handles left old new t same is) told
-
-  -- where there was no memory, what is kept is as it was
-  by_want : (result : Result Answer StoreAnswer) (plain : Outcome Objects) (changes : Bool) (handles left : List Entry) (old new : D)
-      → told_of changes result ≡ None → IsGiven K result plain changes handles left old new → EndsUnchanged K old new
-  by_want (Ok answer) plain changes handles left old new told given = absurd (let e : Some (plainly (outcomes.Answered answer)) ≡ None = told in cc)
-  by_want (Err stores.NoMemory) plain changes handles left old new told given = given.want refl
-  by_want (Err stores.NotFound) plain changes handles left old new told given = absurd (let e : Some (record { kind = kind_of changes stores.NotFound; outcome = outcomes.Answered (Refused (code_of stores.NotFound)) }) ≡ None = told in cc)
-  by_want (Err stores.Exists) plain changes handles left old new told given = absurd (let e : Some (record { kind = kind_of changes stores.Exists; outcome = outcomes.Answered (Refused (code_of stores.Exists)) }) ≡ None = told in cc)
-  by_want (Err stores.NoSpace) plain changes handles left old new told given = absurd (let e : Some (record { kind = kind_of changes stores.NoSpace; outcome = outcomes.Answered (Refused (code_of stores.NoSpace)) }) ≡ None = told in cc)
-  by_want (Err stores.Lost) plain changes handles left old new told given = absurd (let e : Some (record { kind = kind_of changes stores.Lost; outcome = outcomes.Answered (Refused (code_of stores.Lost)) }) ≡ None = told in cc)
-  by_want (Err stores.Failed) plain changes handles left old new told given = absurd (let e : Some (record { kind = kind_of changes stores.Failed; outcome = outcomes.Answered (Refused (code_of stores.Failed)) }) ≡ None = told in cc)
-  by_want (Err (stores.Corrupt tags)) plain changes handles left old new told given = absurd (let e : Some (record { kind = kind_of changes (stores.Corrupt tags); outcome = outcomes.Answered (Refused (code_of (stores.Corrupt tags))) }) ≡ None = told in cc)
-  by_want (Err (stores.Garbled leaf)) plain changes handles left old new told given = absurd (let e : Some (record { kind = kind_of changes (stores.Garbled leaf); outcome = outcomes.Answered (Refused (code_of (stores.Garbled leaf))) }) ≡ None = told in cc)
+  by_told : (result : Result Answer StoreAnswer) (given : Result Served WantOfMemory) (course : Course Objects) (plain : Outcome Objects) (changes : Bool) (held kept left : Held) (old new : D)
+      → IfOk given (λ served. told_of changes result ≡ Some served) → course ≡ ComesToStore (objects_in kept (K.contents old)) plain → IsGiven K result plain changes held kept left old new → IfOk given (λ served. IsServed K served course changes held left old new)
+  by_told result given course plain changes held kept left old new told same is =
+      IfOk-weaker given _ _ (λ served t. by_store result served course plain changes held kept left old new t same is) told
 
   -- what is settled before the store is asked
-  by_panic : (served : Served) (course : Course Objects) (changes : Bool) (handles : List Entry) (old : D)
-      → served ≡ plainly outcomes.Panicked → course ≡ Settled Panicked → IsServed K served course changes handles handles old old
-  by_panic served course changes handles old is same = rw (is, same) (record {
+  by_panic : (served : Served) (course : Course Objects) (changes : Bool) (held : Held) (old : D)
+      → served ≡ plainly outcomes.Panicked → course ≡ Settled Panicked → IsServed K served course changes held held old old
+  by_panic served course changes held old is same = rw (is, same) (record {
     outcome = λ t. (refl, refl);
     ends = by_nothing old;
     reaches = λ t. tt;
@@ -182,9 +184,9 @@ module _ {D : Type 0} (K : Keeper D) where
     crash = λ h just. idle_crash K _ _ old just;
   })
 
-  by_answer : (served : Served) (course : Course Objects) (answer : Answer) (changes : Bool) (handles left : List Entry) (old : D)
-      → served ≡ plainly (outcomes.Answered answer) → course ≡ Settled (Answered (objects_in left (K.contents old)) answer) → IsServed K served course changes handles left old old
-  by_answer served course answer changes handles left old is same = rw (is, same) (record {
+  by_answer : (served : Served) (course : Course Objects) (answer : Answer) (changes : Bool) (held left : Held) (old : D)
+      → served ≡ plainly (outcomes.Answered answer) → course ≡ Settled (Answered (objects_in left (K.contents old)) answer) → IsServed K served course changes held left old old
+  by_answer served course answer changes held left old is same = rw (is, same) (record {
     outcome = λ t. refl;
     ends = tt;
     reaches = λ t. tt;
@@ -197,10 +199,10 @@ module _ {D : Type 0} (K : Keeper D) where
   })
 
   -- what comes of an ask in which the store has no part
-  by_kind : (served : Served) (course : Course Objects) (changes : Bool) (handles left : List Entry) (old : D)
-      → served.kind ≡ Plain → IsOutcome served.outcome (came_of Serves (K.status old).lost course) (objects_in handles (K.contents old)) (objects_in left (K.contents old)) → IsServed K served course changes handles left old old
-  by_kind served course changes handles left old kind outcome =
-      subst (λ (k : TurnKind). IsServed K (record { kind = k; outcome = served.outcome }) course changes handles left old old) (sym kind) (record {
+  by_kind : (served : Served) (course : Course Objects) (changes : Bool) (held left : Held) (old : D)
+      → served.kind ≡ Plain → IsOutcome served.outcome (came_of Serves (K.status old).lost course) (objects_in held (K.contents old)) (objects_in left (K.contents old)) → IsServed K served course changes held left old old
+  by_kind served course changes held left old kind outcome =
+      subst (λ (k : TurnKind). IsServed K (record { kind = k; outcome = served.outcome }) course changes held left old old) (sym kind) (record {
         outcome = λ t. outcome;
         ends = ends_with served.outcome _ (by_nothing old);
         reaches = λ t. tt;
@@ -217,36 +219,32 @@ module _ {D : Type 0} (K : Keeper D) where
   idle_tries false s = refl
 
   -- an ask that finds no memory before it comes to the store
-  pub serves_nothing : (course : Course Objects) (changes : Bool) (handles : List Entry) (old : D) (e : WantOfMemory) → ServesAsk K (Err e) course changes handles handles old old
-  serves_nothing course changes handles old e = record { served = tt; tried = idle_tries changes (K.status old); want = record { same_handles = refl; store = by_nothing old } }
+  pub serves_nothing : (course : Course Objects) (changes : Bool) (held : Held) (old : D) (e : WantOfMemory) → ServesAsk K (Err e) course changes held held old old
+  serves_nothing course changes held old e = record { served = tt; tried = idle_tries changes (K.status old); want = record { same_held = refl; store = by_nothing old } }
 
   -- an ask that is settled before the store is asked
-  pub serves_panic : (served : Served) (course : Course Objects) (changes : Bool) (handles : List Entry) (old : D)
-      → served ≡ plainly outcomes.Panicked → course ≡ Settled Panicked → ServesAsk K (Ok served) course changes handles handles old old
-  serves_panic served course changes handles old is same = record { served = by_panic served course changes handles old is same; tried = idle_tries changes (K.status old); want = tt }
+  pub serves_panic : (served : Served) (course : Course Objects) (changes : Bool) (held : Held) (old : D)
+      → served ≡ plainly outcomes.Panicked → course ≡ Settled Panicked → ServesAsk K (Ok served) course changes held held old old
+  serves_panic served course changes held old is same = record { served = by_panic served course changes held old is same; tried = idle_tries changes (K.status old); want = tt }
 
-  pub serves_answer : (served : Served) (course : Course Objects) (answer : Answer) (changes : Bool) (handles left : List Entry) (old : D)
-      → served ≡ plainly (outcomes.Answered answer) → course ≡ Settled (Answered (objects_in left (K.contents old)) answer) → ServesAsk K (Ok served) course changes handles left old old
-  serves_answer served course answer changes handles left old is same = record { served = by_answer served course answer changes handles left old is same; tried = idle_tries changes (K.status old); want = tt }
+  pub serves_answer : (served : Served) (course : Course Objects) (answer : Answer) (changes : Bool) (held left : Held) (old : D)
+      → served ≡ plainly (outcomes.Answered answer) → course ≡ Settled (Answered (objects_in left (K.contents old)) answer) → ServesAsk K (Ok served) course changes held left old old
+  serves_answer served course answer changes held left old is same = record { served = by_answer served course answer changes held left old is same; tried = idle_tries changes (K.status old); want = tt }
 
-  pub serves_kind : (served : Served) (course : Course Objects) (changes : Bool) (handles left : List Entry) (old : D)
-      → served.kind ≡ Plain → IsOutcome served.outcome (came_of Serves (K.status old).lost course) (objects_in handles (K.contents old)) (objects_in left (K.contents old)) → ServesAsk K (Ok served) course changes handles left old old
-  serves_kind served course changes handles left old kind outcome = record { served = by_kind served course changes handles left old kind outcome; tried = idle_tries changes (K.status old); want = tt }
+  pub serves_kind : (served : Served) (course : Course Objects) (changes : Bool) (held left : Held) (old : D)
+      → served.kind ≡ Plain → IsOutcome served.outcome (came_of Serves (K.status old).lost course) (objects_in held (K.contents old)) (objects_in left (K.contents old)) → ServesAsk K (Ok served) course changes held left old old
+  serves_kind served course changes held left old kind outcome = record { served = by_kind served course changes held left old kind outcome; tried = idle_tries changes (K.status old); want = tt }
 
-  left_there : (result : Result Answer StoreAnswer) (changes : Bool) (handles left : List Entry) → told_of changes result ≡ None → OnErr result (left ≡ handles) → left ≡ handles
-  left_there (Ok answer) changes handles left told stays = absurd (let e : Some (plainly (outcomes.Answered answer)) ≡ None = told in cc)
-  left_there (Err answer) changes handles left told stays = stays
-
-  wants : (result : Result Answer StoreAnswer) (given : Result Served WantOfMemory) (plain : Outcome Objects) (changes : Bool) (handles left : List Entry) (old new : D)
-      → OnErr given (told_of changes result ≡ None) → IsGiven K result plain changes handles left old new → OnErr given (FindsNoMemory K handles left old new)
-  wants result (Ok served) plain changes handles left old new told is = tt
-  wants result (Err e) plain changes handles left old new told is = record { same_handles = left_there result changes handles left told is.stays; store = by_want result plain changes handles left old new told is }
+  wants : (result : Result Answer StoreAnswer) (given : Result Served WantOfMemory) (plain : Outcome Objects) (changes : Bool) (held kept left : Held) (old new : D)
+      → OnErr given (told_of changes result ≡ None) → IsGiven K result plain changes held kept left old new → OnErr given (FindsNoMemory K held left old new)
+  wants result (Ok served) plain changes held kept left old new told is = tt
+  wants result (Err e) plain changes held kept left old new told is = record { same_held = is.stays (untold result changes told); store = is.want (untold result changes told) }
 
   -- an ask that came to the store
-  pub serves_told : (result : Result Answer StoreAnswer) (given : Result Served WantOfMemory) (course : Course Objects) (plain : Outcome Objects) (changes : Bool) (handles left : List Entry) (old new : D)
-      → IfOk given (λ served. told_of changes result ≡ Some served) → OnErr given (told_of changes result ≡ None) → course ≡ ComesToStore (objects_in handles (K.contents old)) plain → IsGiven K result plain changes handles left old new → ServesAsk K given course changes handles left old new
-  serves_told result given course plain changes handles left old new told untold same is = record {
-    served = by_told result given course plain changes handles left old new told same is;
+  pub serves_told : (result : Result Answer StoreAnswer) (given : Result Served WantOfMemory) (course : Course Objects) (plain : Outcome Objects) (changes : Bool) (held kept left : Held) (old new : D)
+      → IfOk given (λ served. told_of changes result ≡ Some served) → OnErr given (told_of changes result ≡ None) → course ≡ ComesToStore (objects_in kept (K.contents old)) plain → IsGiven K result plain changes held kept left old new → ServesAsk K given course changes held left old new
+  serves_told result given course plain changes held kept left old new told lack same is = record {
+    served = by_told result given course plain changes held kept left old new told same is;
     tried = is.tried;
-    want = wants result given plain changes handles left old new untold is;
+    want = wants result given plain changes held kept left old new lack is;
   }

@@ -16,22 +16,12 @@ use Rattle.handle_table.specs.declared.handle.Handle.TheVariants.{Persistent, Tr
 use Rattle.handle_table.specs.Handles.{change_first, entry_is_on, entry_sought, is_on, may_open, share_of, shares_of, sought}
 use Rattle.handle_table.proofs.Changes.{sum_change}
 use Rattle.object_asks.specs.Handles.{settled}
-
--- the handle is on the object, and its flags have ACCESS_WRITE_META
-abbrev pub writes_meta_on : List ℕ → Handle → Bool
-writes_meta_on id (Persistent own flags position) = bytes_eq own id && has_bit access_write_meta flags
-writes_meta_on id Transient = false
-
-abbrev pub ones_on : List ℕ → List Entry → ℕ
-ones_on id handles = count_by (entry_is_on id) handles
-
-abbrev pub meta_writers : List ℕ → List Entry → ℕ
-meta_writers id handles = count_by (λ e. writes_meta_on id e.handle) handles
+use Rattle.object_asks.specs.Held.{AreSole, meta_writers, ones_on, writes_meta_on}
 
 -- the facts of a valid machine, by counts
 pub record IsSound (store : Store) (handles : List Entry) : Type 0 where
   pub stored : (id : List ℕ) → 0 < ones_on id handles → has store id ≡ true
-  pub sole : (id : List ℕ) → 0 < meta_writers id handles → ones_on id handles ≤ 1
+  pub sole : AreSole handles
 
 pub none_sound : (store : Store) → IsSound store []
 none_sound store = record { stored = λ id some. absurd (omega arith); sole = λ id some. absurd (omega arith) }
@@ -41,14 +31,17 @@ none_sound store = record { stored = λ id some. absurd (omega arith); sole = λ
 filtered : (test stays : Entry → Bool) (hs : List Entry) → count_by test (filter stays hs) ≤ count_by test hs
 filtered test stays hs = omega (arith, sum_by-filter_both stays (λ e. not (stays e)) (λ e. refl) (λ e. cond (test e) 1 0) hs)
 
+pub fewer_sole : (stays : Entry → Bool) (hs : List Entry) → AreSole hs → AreSole (filter stays hs)
+fewer_sole stays hs sole = λ id some.
+    let few = filtered (λ e. writes_meta_on id e.handle) stays hs in
+    let one = sole id (omega arith) in
+    let fewer = filtered (entry_is_on id) stays hs in
+    omega arith
+
 pub fewer_sound : (store : Store) (stays : Entry → Bool) (hs : List Entry) → IsSound store hs → IsSound store (filter stays hs)
 fewer_sound store stays hs sound = record {
   stored = λ id some. let few = filtered (entry_is_on id) stays hs in sound.stored id (omega arith);
-  sole = λ id some.
-      let few = filtered (λ e. writes_meta_on id e.handle) stays hs in
-      let one = sound.sole id (omega arith) in
-      let fewer = filtered (entry_is_on id) stays hs in
-      omega arith;
+  sole = fewer_sole stays hs sound.sole;
 }
 
 sought_on : (id : List ℕ) (to : ℕ) (h : Handle) → is_on id (sought to h) ≡ is_on id h
@@ -59,16 +52,24 @@ sought_meta : (id : List ℕ) (to : ℕ) (h : Handle) → writes_meta_on id (sou
 sought_meta id to (Persistent own flags position) = refl
 sought_meta id to Transient = refl
 
+ons_sought : (test : Entry → Bool) (to : ℕ) (hs : List Entry) (id : List ℕ) → ones_on id (change_first test (entry_sought to) hs) ≡ ones_on id hs
+ons_sought test to hs id = sum_change test (entry_sought to) (λ e. cond (entry_is_on id e) 1 0) (λ e. ap (λ b. cond b 1 0) (sought_on id to e.handle)) hs
+
+metas_sought : (test : Entry → Bool) (to : ℕ) (hs : List Entry) (id : List ℕ) → meta_writers id (change_first test (entry_sought to) hs) ≡ meta_writers id hs
+metas_sought test to hs id = sum_change test (entry_sought to) (λ e. cond (writes_meta_on id e.handle) 1 0) (λ e. ap (λ b. cond b 1 0) (sought_meta id to e.handle)) hs
+
+pub moved_sole : (test : Entry → Bool) (to : ℕ) (hs : List Entry) → AreSole hs → AreSole (change_first test (entry_sought to) hs)
+moved_sole test to hs sole = λ id some.
+    let same = ons_sought test to hs id in
+    let alike = metas_sought test to hs id in
+    let one = sole id (omega arith) in
+    omega arith
+
 pub moved_sound : (store : Store) (test : Entry → Bool) (to : ℕ) (hs : List Entry) → IsSound store hs → IsSound store (change_first test (entry_sought to) hs)
-moved_sound store test to hs sound =
-    let ons : (id : List ℕ) → ones_on id (change_first test (entry_sought to) hs) ≡ ones_on id hs =
-    λ id. sum_change test (entry_sought to) (λ e. cond (entry_is_on id e) 1 0) (λ e. ap (λ b. cond b 1 0) (sought_on id to e.handle)) hs in
-    let metas : (id : List ℕ) → meta_writers id (change_first test (entry_sought to) hs) ≡ meta_writers id hs =
-    λ id. sum_change test (entry_sought to) (λ e. cond (writes_meta_on id e.handle) 1 0) (λ e. ap (λ b. cond b 1 0) (sought_meta id to e.handle)) hs in
-    record {
-      stored = λ id some. let same = ons id in sound.stored id (omega arith);
-      sole = λ id some. let same = ons id in let alike = metas id in let one = sound.sole id (omega arith) in omega arith;
-    }
+moved_sound store test to hs sound = record {
+  stored = λ id some. let same = ons_sought test to hs id in sound.stored id (omega arith);
+  sole = moved_sole test to hs sound.sole;
+}
 
 -- ---- a store that has what another has
 
@@ -130,6 +131,18 @@ alone_on : (id : List ℕ) (flags : Flags) (hs : List Entry) → may_open (settl
 alone_on id flags hs may some =
     ⊎_elim (λ none. omega arith) (λ calm. absurd (weightless (has_bit access_write_meta flags) (meta_writers id hs) calm.0 calm.1 some)) (opens id flags hs may)
 
+pub added_sole : (hs : List Entry) (i n : ℕ) (id : List ℕ) (flags : Flags) (at : ℕ) → may_open (settled hs) id flags ≡ true → AreSole hs → AreSole (hs ++ newcomer i n id flags at ∷ [])
+added_sole hs i n id flags at may sole = λ q some.
+    let e = newcomer i n id flags at in
+    let more : ones_on q (hs ++ e ∷ []) ≡ ones_on q hs + cond (bytes_eq id q) 1 0 = sum_by_push (λ (x : Entry). cond (entry_is_on q x) 1 0) hs e in
+    let metas : meta_writers q (hs ++ e ∷ []) ≡ meta_writers q hs + cond (bytes_eq id q && has_bit access_write_meta flags) 1 0 = sum_by_push (λ (x : Entry). cond (writes_meta_on q x.handle) 1 0) hs e in
+    let bound : ones_on q hs + cond (bytes_eq id q) 1 0 ≤ 1 =
+    by_identifier id q (λ b. 0 < meta_writers q hs + cond (b && has_bit access_write_meta flags) 1 0 → ones_on q hs + cond b 1 0 ≤ 1)
+    (λ same any. subst (λ x. 0 < meta_writers x hs + cond (has_bit access_write_meta flags) 1 0 → ones_on x hs + 1 ≤ 1) same (alone_on id flags hs may) any)
+    (λ any. let one = sole q (omega arith) in omega arith)
+    (omega arith) in
+    omega arith
+
 pub added_sound : (store : Store) (hs : List Entry) (i n : ℕ) (id : List ℕ) (flags : Flags) (at : ℕ) → has store id ≡ true → may_open (settled hs) id flags ≡ true → IsSound store hs → IsSound store (hs ++ newcomer i n id flags at ∷ [])
 added_sound store hs i n id flags at there may sound =
     let e = newcomer i n id flags at in
@@ -140,13 +153,5 @@ added_sound store hs i n id flags at there may sound =
           (λ same any. subst (λ x. has store x ≡ true) same there)
           (λ any. sound.stored q (omega arith))
           (omega arith);
-      sole = λ q some.
-          let more : ones_on q (hs ++ e ∷ []) ≡ ones_on q hs + cond (bytes_eq id q) 1 0 = sum_by_push (λ (x : Entry). cond (entry_is_on q x) 1 0) hs e in
-          let metas : meta_writers q (hs ++ e ∷ []) ≡ meta_writers q hs + cond (bytes_eq id q && has_bit access_write_meta flags) 1 0 = sum_by_push (λ (x : Entry). cond (writes_meta_on q x.handle) 1 0) hs e in
-          let bound : ones_on q hs + cond (bytes_eq id q) 1 0 ≤ 1 =
-          by_identifier id q (λ b. 0 < meta_writers q hs + cond (b && has_bit access_write_meta flags) 1 0 → ones_on q hs + cond b 1 0 ≤ 1)
-          (λ same any. subst (λ x. 0 < meta_writers x hs + cond (has_bit access_write_meta flags) 1 0 → ones_on x hs + 1 ≤ 1) same (alone_on id flags hs may) any)
-          (λ any. let one = sound.sole q (omega arith) in omega arith)
-          (omega arith) in
-          omega arith;
+      sole = added_sole hs i n id flags at may sound.sole;
     }

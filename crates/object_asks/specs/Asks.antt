@@ -15,12 +15,12 @@ use Rattle.store_api.specs.declared.change.Change.{Change}
 use Rattle.store_api.specs.declared.change.Change.TheVariants.{Put, Write}
 use Rattle.store_api.specs.declared.object.Facts.{Facts}
 use Rattle.store_api.specs.Stores.{Store, change, found, read_at}
-use Rattle.handle_table.specs.declared.handle.Entry.{Entry}
 use Rattle.handle_table.specs.declared.handle.Handle.{Handle}
 use Rattle.handle_table.specs.declared.handle.Handle.TheVariants.{Persistent, Transient}
-use Rattle.handle_table.specs.Handles.{added, closed, free_number, handle_at, is_full, is_open, is_there, may_open, sought_at}
+use Rattle.handle_table.specs.Handles.{free_number, handle_at, is_full, is_open, is_there, may_open}
 use Rattle.object_asks.specs.Codes.{item_not_found, access_conflict, storage_no_space, storage_not_available, corrupt_object, out_of_memory, busy, overflow}
 use Rattle.object_asks.specs.Handles.{settled}
+use Rattle.object_asks.specs.Held.{Held, handle_added, handle_closed, handle_sought}
 
 -- what comes of an ask: an answer, with what it leaves; the return of the entry; or a panic
 pub data Outcome (S : Type 0) : Type 0 where
@@ -119,25 +119,25 @@ may_need_store ask = false
 
 -- ---- the objects
 
--- all that an ask about objects touches: the store, and the object handles of all instances
+-- all that an ask about objects touches: the store, and what is held in memory
 pub record Objects : Type 0 where
   pub store : Store
-  pub handles : List Entry
+  pub held : Held
 
 -- a new handle at the object's first byte, under the lowest free number of the instance
 abbrev pub numbered : Objects → ℕ → List ℕ → Flags → Outcome Objects
-numbered o i id flags = Answered (record o { handles = (added (settled o.handles) i (Persistent id flags 0)).handles }) (answers.Number (free_number o.handles i))
+numbered o i id flags = Answered (record o { held = handle_added o.held i id flags }) (answers.Number (free_number o.held.handles i))
 
 -- ObjOpen: there is such an object, and its handles, of whatever instance, leave room for one with these flags
 abbrev pub opened_by : Objects → ℕ → List ℕ → Flags → Result Facts StoreAnswer → Outcome Objects
 opened_by o i id flags (Err answer) = refused o (code_of answer)
-opened_by o i id flags (Ok facts) = if may_open (settled o.handles) id flags then numbered o i id flags else refused o access_conflict
+opened_by o i id flags (Ok facts) = if may_open (settled o.held.handles) id flags then numbered o i id flags else refused o access_conflict
 
 abbrev pub open_course : Objects → ℕ → ℕ → List ℕ → ℕ → Course Objects
 open_course o i storage id flags =
     if is_long_identifier id || has_unknown_bits flags then Settled Panicked
     else if not (storage == private_storage) then Settled (refused o item_not_found)
-    else if is_full (settled o.handles) i then Settled (refused o busy)
+    else if is_full (settled o.held.handles) i then Settled (refused o busy)
     else ComesToStore o (opened_by o i id (kept_flags flags) (found o.store id))
 
 -- a new object of the kind DATA, without a secret
@@ -151,7 +151,7 @@ created_by o i id flags (Ok store) = numbered (record o { store = store }) i id 
 
 abbrev pub created : Objects → ℕ → List ℕ → ℕ → List ℕ → Outcome Objects
 created o i id flags content =
-    if is_open (settled o.handles) id then refused o access_conflict
+    if is_open (settled o.held.handles) id then refused o access_conflict
     else created_by o i id (kept_flags flags) (change o.store (put_of id content (overwrites flags)))
 
 -- an attribute object isn't built
@@ -159,19 +159,19 @@ abbrev pub create_course : Objects → ℕ → ℕ → List ℕ → ℕ → ℕ 
 create_course o i storage id flags attr content =
     if is_long_identifier id || is_too_much (length content) || has_unknown_bits flags || not (attr == 0) then Settled Panicked
     else if not (storage == private_storage) then Settled (refused o item_not_found)
-    else if is_full (settled o.handles) i then Settled (refused o busy)
+    else if is_full (settled o.held.handles) i then Settled (refused o busy)
     else ComesToStore o (created o i id flags content)
 
 -- ObjClose: of either sort of handle
 abbrev pub close_course : Objects → ℕ → ℕ → Course Objects
 close_course o i object =
     if object == 0 then Settled (done o)
-    else if not (is_there (settled o.handles) i object) then Settled Panicked
-    else Settled (done (record o { handles = (closed (settled o.handles) i object).handles }))
+    else if not (is_there (settled o.held.handles) i object) then Settled Panicked
+    else Settled (done (record o { held = handle_closed o.held i object }))
 
 -- the handle goes on from here; a position stays within 32 bits, and no object reaches so far
 abbrev pub moved_to : Objects → ℕ → ℕ → ℕ → Objects
-moved_to o i object position = record o { handles = (sought_at (settled o.handles) i object (min position 4294967295)).handles }
+moved_to o i object position = record o { held = handle_sought o.held i object (min position 4294967295) }
 
 -- ObjRead: the bytes from the position on, and the handle stands behind them
 abbrev pub read_by : Objects → ℕ → ℕ → ℕ → Result (List ℕ) StoreAnswer → Outcome Objects
@@ -205,8 +205,8 @@ unfoldable pub object_course : Objects → ℕ → Ask → Course Objects
 object_course o i (asked.ObjOpen storage id flags) = open_course o i storage id flags
 object_course o i (asked.ObjCreate storage id flags attr content) = create_course o i storage id flags attr content
 object_course o i (asked.ObjClose object) = close_course o i object
-object_course o i (asked.ObjRead object count) = read_course o i object count (handle_at (settled o.handles) i object)
-object_course o i (asked.ObjWrite object bytes) = write_course o i object bytes (handle_at (settled o.handles) i object)
+object_course o i (asked.ObjRead object count) = read_course o i object count (handle_at (settled o.held.handles) i object)
+object_course o i (asked.ObjWrite object bytes) = write_course o i object bytes (handle_at (settled o.held.handles) i object)
 object_course o i ask = Settled Panicked
 
 -- how the store does in a turn: it serves, unless it is lost; a call of it fails; or what it reads is damaged

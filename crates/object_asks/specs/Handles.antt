@@ -1,6 +1,5 @@
 -- What holds of an application's handles between two events.
-use Rattle.std.specs.Prelude.{◌≡◌, Bool, true, nat_le, List, None, length}
-use Rattle.std.specs.List.{list_all}
+use Rattle.std.specs.Prelude.{Bool, true, nat_le, List, None, length}
 use Rattle.handle_table.specs.declared.handle.Entry.{Entry}
 use Rattle.handle_table.specs.declared.handle.Handle.{Handle}
 use Rattle.handle_table.specs.declared.handle.Handle.TheVariants.{Persistent, Transient}
@@ -22,8 +21,3 @@ has_identifier Transient = true
 
 abbrev pub entry_has_identifier : Entry → Bool
 entry_has_identifier e = has_identifier e.handle
-
--- no rename is pending, and each identifier has at most 64 bytes
-pub record IsBetweenEvents (t : Table) : Type 0 where
-  pub no_rename : t.pending ≡ None
-  pub identifiers : list_all entry_has_identifier t.handles ≡ true

@@ -1,5 +1,5 @@
 -- How asks are served over a keeper of a store: what each function that serves one promises.
-use Rattle.std.specs.Prelude.{ℕ, ◌≡◌, ◌+◌, ◌≤◌, ◌<◌, ◌⊎◌, Bool, true, false, List, Option, None, Some, Result, Ok, Err, IfOk, IsTrue, OnErr}
+use Rattle.std.specs.Prelude.{ℕ, ◌≡◌, ◌+◌, ◌≤◌, ◌<◌, ◌⊎◌, Bool, true, false, Option, None, Some, Result, Ok, Err, IfOk, IsTrue, OnErr}
 use Rattle.tee_base.specs.Crash.{LeavesOnly}
 use Rattle.tee_base.specs.Faults.{Rose}
 use Rattle.tee_base.specs.declared.bytes.NoMemory.{NoMemory as WantOfMemory}
@@ -9,7 +9,7 @@ use Rattle.store_api.specs.declared.answer.StoreAnswer.{StoreAnswer}
 use Rattle.store_api.specs.declared.answer.StoreAnswer.TheVariants.{NotFound, Exists, NoSpace, Failed, Corrupt, Garbled, NoMemory}
 use Rattle.store_api.specs.Keeping.{Status, Contents, Remains, Keeper, HasCause, TellsDamage, IsIntact, LeavesJust, LeavesNothingNew, KeepsPast, CrashLeaves}
 use Rattle.store_api.specs.Stores.{Store}
-use Rattle.handle_table.specs.declared.handle.Entry.{Entry}
+use Rattle.object_asks.specs.Held.{Held}
 use Rattle.object_asks.specs.declared.turn.TurnKind.{TurnKind}
 use Rattle.object_asks.specs.declared.turn.TurnKind.TheVariants.{Plain, Lost, Corrupted}
 use Rattle.object_asks.specs.Asks.{Outcome, Answered, Returned, Panicked, Course, Objects, Serving, Serves, Fails, Damaged, came_of, code_of, Settled, ComesToStore, comes_to_store, refused}
@@ -44,16 +44,18 @@ told_of changes (Ok answer) = Some (plainly (outcomes.Answered answer))
 told_of changes (Err NoMemory) = None
 told_of changes (Err answer) = Some (record { kind = kind_of changes answer; outcome = outcomes.Answered (Refused (code_of answer)) })
 
-abbrev pub objects_in : List Entry → Contents → Objects
-objects_in handles contents = record { store = contents.store; handles = handles }
+abbrev pub objects_in : Held → Contents → Objects
+objects_in held contents = record { store = contents.store; held = held }
 
--- what the store's answer gives: an answer, or a refusal, which leaves all as it was; so does what keeps the store from serving
+-- what the store's answer gives: an answer, or a refusal, which leaves what the course says of one; so does what keeps the store
+-- from serving, but want of memory
 abbrev pub Gives : Result Answer StoreAnswer → Outcome Objects → Objects → Objects → Type 0
-Gives (Ok answer) plain before after = plain ≡ Answered after answer
-Gives (Err NotFound) plain before after = (plain ≡ refused before (code_of NotFound)) × (after ≡ before)
-Gives (Err Exists) plain before after = (plain ≡ refused before (code_of Exists)) × (after ≡ before)
-Gives (Err NoSpace) plain before after = (plain ≡ refused before (code_of NoSpace)) × (after ≡ before)
-Gives (Err answer) plain before after = after ≡ before
+Gives (Ok answer) plain kept after = plain ≡ Answered after answer
+Gives (Err NotFound) plain kept after = (plain ≡ refused kept (code_of NotFound)) × (after ≡ kept)
+Gives (Err Exists) plain kept after = (plain ≡ refused kept (code_of Exists)) × (after ≡ kept)
+Gives (Err NoSpace) plain kept after = (plain ≡ refused kept (code_of NoSpace)) × (after ≡ kept)
+Gives (Err NoMemory) plain kept after = Unit {0}
+Gives (Err answer) plain kept after = after ≡ kept
 
 -- it is the stated outcome, and this is left
 abbrev pub IsOutcome : Result_of → Outcome Objects → Objects → Objects → Type 0
@@ -172,12 +174,13 @@ module _ {D : Type 0} (K : Keeper D) where
     pub keeps : IsKept old new
     pub crash : K.honest old → LeavesJust K old (K.contents old) → CrashLeaves K (K.contents old) old new
 
-  -- an ask that came to the store: what the store's answer gave, of this plain outcome
-  pub record IsGiven (result : Result Answer StoreAnswer) (plain : Outcome Objects) (changes : Bool) (handles left : List Entry) (old new : D) : Type 0 where
-    pub gives : K.has_model old → Gives result plain (objects_in handles (K.contents old)) (objects_in left (K.contents new))
+  -- an ask that came to the store, from what was held: what the store's answer gave, of this plain outcome, where a refusal leaves
+  -- this of what is held
+  pub record IsGiven (result : Result Answer StoreAnswer) (plain : Outcome Objects) (changes : Bool) (held kept left : Held) (old new : D) : Type 0 where
+    pub gives : K.has_model old → Gives result plain (objects_in kept (K.contents old)) (objects_in left (K.contents new))
     pub cause : ¬ (result ≡ Err NoMemory) → HasCause result (K.status old) (K.status new)
     pub tried : TriesOnce changes (K.status old) (K.status new)
-    pub stays : OnErr result (left ≡ handles)
+    pub stays : result ≡ Err NoMemory → left ≡ held
     pub want : result ≡ Err NoMemory → EndsUnchanged old new
     pub damage : TellsDamage result (K.damage new)
     pub honest : K.honest old → K.honest new × IsIntact result
@@ -185,9 +188,9 @@ module _ {D : Type 0} (K : Keeper D) where
     pub crash : K.honest old → LeavesJust K old (K.contents old) → CrashTurns (kind_by changes result) (left_by plain) old new
 
   -- an ask that was served, of this course
-  pub record IsServed (served : Served) (course : Course Objects) (changes : Bool) (handles left : List Entry) (old new : D) : Type 0 where
+  pub record IsServed (served : Served) (course : Course Objects) (changes : Bool) (held left : Held) (old new : D) : Type 0 where
     -- the outcome is the stated one, over the store that the keeper has
-    pub outcome : K.has_model old → IsOutcome served.outcome (came_of (serving_of served.kind) (K.status old).lost course) (objects_in handles (K.contents old)) (objects_in left (K.contents new))
+    pub outcome : K.has_model old → IsOutcome served.outcome (came_of (serving_of served.kind) (K.status old).lost course) (objects_in held (K.contents old)) (objects_in left (K.contents new))
     -- an ask that ends the entry leaves what is kept
     pub ends : UnlessAnswered served.outcome (EndsUnchanged old new)
     -- a lost or damaged turn comes to the store
@@ -199,13 +202,13 @@ module _ {D : Type 0} (K : Keeper D) where
     pub keeps : IsKept old new
     pub crash : K.honest old → LeavesJust K old (K.contents old) → CrashTurns served.kind (would_leave course) old new
 
-  -- an ask that finds no memory: the handles and the store are as they were
-  pub record FindsNoMemory (handles left : List Entry) (old new : D) : Type 0 where
-    pub same_handles : left ≡ handles
+  -- an ask that finds no memory: what is held and the store are as they were
+  pub record FindsNoMemory (held left : Held) (old new : D) : Type 0 where
+    pub same_held : left ≡ held
     pub store : EndsUnchanged old new
 
   -- what becomes of an ask: it is served, or there is no memory for it; at most one change is tried
-  pub record ServesAsk (result : Result Served WantOfMemory) (course : Course Objects) (changes : Bool) (handles left : List Entry) (old new : D) : Type 0 where
-    pub served : IfOk result (λ served. IsServed served course changes handles left old new)
+  pub record ServesAsk (result : Result Served WantOfMemory) (course : Course Objects) (changes : Bool) (held left : Held) (old new : D) : Type 0 where
+    pub served : IfOk result (λ served. IsServed served course changes held left old new)
     pub tried : TriesOnce changes (K.status old) (K.status new)
-    pub want : OnErr result (FindsNoMemory handles left old new)
+    pub want : OnErr result (FindsNoMemory held left old new)

@@ -10,12 +10,12 @@ ghost use Rattle.share_rules.specs.Sharing.{has as has_bit};
 ghost use Rattle.handle_table.specs.Handles.{handle_at, is_full, is_open, is_there};
 ghost use Rattle.object_asks.specs.Handles.{settled};
 ghost use Rattle.store_api.specs.Keeping.{Contents};
-ghost use Rattle.handle_table.specs.declared.handle.Entry.{Entry};
+ghost use Rattle.object_asks.specs.Held.{Held as HeldValue};
 ghost use Rattle.object_asks.specs.Codes.{access_conflict};
 ghost use Rattle.object_asks.specs.Asks.{Serves, came_of, changes_store, close_course, create_course, created, created_by, has_unknown_bits, is_long_identifier, is_too_much, kept_flags, object_course, open_course, opened_by, overwrites, put_of, read_by, refused, read_course, write_course, written_by};
 ghost use Rattle.object_asks.specs.Serving.{IsGiven, IsOutcome, ServesAsk, objects_in};
 
-use crate::handles::Handles;
+use crate::held::Held;
 use crate::outcome::{Served, answered, panicked, refused, told};
 use crate::turn::TurnKind;
 use app_api::{Answer, Ask};
@@ -74,38 +74,38 @@ fn behind(position: u32, count: usize) -> u32
 
 /// Opens an object that may be there.
 fn open_found<T: AppStore>(
-    handles: &mut Handles,
+    held: &mut Held,
     store: &mut T,
     instance: u8,
     id: &[u8],
     flags: Flags,
 ) -> Result<Answer, StoreAnswer>
     requires id { IsIdentifier id.now }
-    requires room { is_full (settled handles.old) instance ≡ false }
-    ensures { let before = objects_in handles.old (T.keeper.contents store.old)
+    requires room { is_full (settled held.old.handles) instance ≡ false }
+    ensures { let before = objects_in held.old (T.keeper.contents store.old)
         in IsGiven T.keeper result
         (opened_by before instance id.now flags (found before.store id.now))
-        false handles.old handles.new store.old store.new }
+        false held.old held.old held.new store.old store.new }
 {
     let _facts = store.find(id)?;
-    if !handles.may_open(id, flags) {
+    if !held.may_open(id, flags) {
         return Ok(Answer::Refused(Code::ACCESS_CONFLICT));
     }
-    Ok(Answer::Number(handles.add(instance, id, flags)?))
+    Ok(Answer::Number(held.add(instance, id, flags)?))
 }
 
 #[tactic(auto, using(crate::proofs::ServingLemmas::serves_nothing, crate::proofs::ServingLemmas::serves_panic, crate::proofs::ServingLemmas::serves_answer))]
 fn open<T: AppStore>(
-    handles: &mut Handles,
+    held: &mut Held,
     store: &mut T,
     instance: u8,
     storage: u32,
     id: &[u8],
     flags: u32,
 ) -> Result<Served, NoMemory>
-    ensures { let before = objects_in handles.old (T.keeper.contents store.old)
+    ensures { let before = objects_in held.old (T.keeper.contents store.old)
         in ServesAsk T.keeper result (open_course before instance storage id.now flags)
-        false handles.old handles.new store.old store.new }
+        false held.old held.new store.old store.new }
 {
     if is_long_identifier(id) || has_unknown_bits(flags) {
         return Ok(panicked());
@@ -113,11 +113,11 @@ fn open<T: AppStore>(
     if storage != PRIVATE {
         return Ok(refused(Code::ITEM_NOT_FOUND));
     }
-    if handles.is_full(instance) {
+    if held.is_full(instance) {
         return Ok(refused(Code::BUSY));
     }
     told(
-        open_found(handles, store, instance, id, kept_flags(flags)),
+        open_found(held, store, instance, id, kept_flags(flags)),
         false,
     )
 }
@@ -125,7 +125,7 @@ fn open<T: AppStore>(
 /// A create over an object that is open. The store is asked, since a lost one is answered first.
 fn conflict<T: AppStore>(store: &mut T, id: &[u8]) -> Result<Answer, StoreAnswer>
     requires { IsIdentifier id.now }
-    ensures { (handles : List Entry) → IsGiven T.keeper result (refused (objects_in handles (T.keeper.contents store.old)) access_conflict) true handles handles store.old store.new }
+    ensures { (held : HeldValue) → IsGiven T.keeper result (refused (objects_in held (T.keeper.contents store.old)) access_conflict) true held held held store.old store.new }
 {
     match store.find(id) {
         Ok(_) | Err(StoreAnswer::NotFound | StoreAnswer::Exists | StoreAnswer::NoSpace) => {
@@ -137,10 +137,10 @@ fn conflict<T: AppStore>(store: &mut T, id: &[u8]) -> Result<Answer, StoreAnswer
 
 /// Makes an object on which no handle is open. Its handle is there before the store is changed, and goes again where the
 /// store refuses.
-#[tactic(auto, using(crate::proofs::HandleLemmas::closed_opens, crate::proofs::HandleLemmas::closed_again))]
+#[tactic(auto, using(crate::proofs::HandleLemmas::closed_opens))]
 fn create_closed<T: AppStore>(
     alloc: Global,
-    handles: &mut Handles,
+    held: &mut Held,
     store: &mut T,
     instance: u8,
     id: Bytes,
@@ -149,14 +149,14 @@ fn create_closed<T: AppStore>(
 ) -> Result<Answer, StoreAnswer>
     requires id { IsIdentifier id }
     requires content { length content ≤ ASK_BYTES }
-    requires room { is_full (settled handles.old) instance ≡ false }
-    requires closed { is_open (settled handles.old) id ≡ false }
-    ensures { let before = objects_in handles.old (T.keeper.contents store.old)
+    requires room { is_full (settled held.old.handles) instance ≡ false }
+    requires closed { is_open (settled held.old.handles) id ≡ false }
+    ensures { let before = objects_in held.old (T.keeper.contents store.old)
         in IsGiven T.keeper result
         (created_by before instance id (kept_flags flags) (change before.store (put_of id content (overwrites flags))))
-        true handles.old handles.new store.old store.new }
+        true held.old held.old held.new store.old store.new }
 {
-    let number = handles.add(instance, id.as_slice(), kept_flags(flags))?;
+    let number = held.add(instance, id.as_slice(), kept_flags(flags))?;
     let change = Change::Put {
         id,
         kind: DATA,
@@ -168,7 +168,7 @@ fn create_closed<T: AppStore>(
     match store.apply(&change) {
         Ok(()) => Ok(Answer::Number(number)),
         Err(answer) => {
-            handles.close(instance, number);
+            held.close(instance, number);
             Err(answer)
         }
     }
@@ -176,7 +176,7 @@ fn create_closed<T: AppStore>(
 
 fn create_object<T: AppStore>(
     alloc: Global,
-    handles: &mut Handles,
+    held: &mut Held,
     store: &mut T,
     instance: u8,
     id: Bytes,
@@ -185,22 +185,22 @@ fn create_object<T: AppStore>(
 ) -> Result<Answer, StoreAnswer>
     requires id { IsIdentifier id }
     requires content { length content ≤ ASK_BYTES }
-    requires room { is_full (settled handles.old) instance ≡ false }
-    ensures { let before = objects_in handles.old (T.keeper.contents store.old)
+    requires room { is_full (settled held.old.handles) instance ≡ false }
+    ensures { let before = objects_in held.old (T.keeper.contents store.old)
         in IsGiven T.keeper result
         (created before instance id flags content)
-        true handles.old handles.new store.old store.new }
+        true held.old held.old held.new store.old store.new }
 {
-    if handles.is_open(id.as_slice()) {
+    if held.is_open(id.as_slice()) {
         return conflict(store, id.as_slice());
     }
-    create_closed(alloc, handles, store, instance, id, flags, content)
+    create_closed(alloc, held, store, instance, id, flags, content)
 }
 
 #[tactic(auto, using(crate::proofs::ServingLemmas::serves_nothing, crate::proofs::ServingLemmas::serves_panic, crate::proofs::ServingLemmas::serves_answer))]
 fn create<T: AppStore>(
     alloc: Global,
-    handles: &mut Handles,
+    held: &mut Held,
     store: &mut T,
     instance: u8,
     storage: u32,
@@ -209,9 +209,9 @@ fn create<T: AppStore>(
     attr: u32,
     content: Bytes,
 ) -> Result<Served, NoMemory>
-    ensures { let before = objects_in handles.old (T.keeper.contents store.old)
+    ensures { let before = objects_in held.old (T.keeper.contents store.old)
         in ServesAsk T.keeper result (create_course before instance storage id flags attr content)
-        true handles.old handles.new store.old store.new }
+        true held.old held.new store.old store.new }
 {
     if is_long_identifier(id.as_slice())
         || is_too_much(content.len())
@@ -223,32 +223,32 @@ fn create<T: AppStore>(
     if storage != PRIVATE {
         return Ok(refused(Code::ITEM_NOT_FOUND));
     }
-    if handles.is_full(instance) {
+    if held.is_full(instance) {
         return Ok(refused(Code::BUSY));
     }
     told(
-        create_object(alloc, handles, store, instance, id, flags, content),
+        create_object(alloc, held, store, instance, id, flags, content),
         true,
     )
 }
 
-fn close(handles: &mut Handles, instance: u8, object: u32) -> Served
+fn close(held: &mut Held, instance: u8, object: u32) -> Served
     ensures kind { result.kind ≡ TurnKind.Plain }
-    ensures outcome { (contents : Contents) (lost : Bool) → IsOutcome result.outcome (came_of Serves lost (close_course (objects_in handles.old contents) instance object)) (objects_in handles.old contents) (objects_in handles.new contents) }
+    ensures outcome { (contents : Contents) (lost : Bool) → IsOutcome result.outcome (came_of Serves lost (close_course (objects_in held.old contents) instance object)) (objects_in held.old contents) (objects_in held.new contents) }
 {
     if object == 0 {
         return answered(Answer::Done);
     }
-    if !handles.is_there(instance, object) {
+    if !held.is_there(instance, object) {
         return panicked();
     }
-    handles.close(instance, object);
+    held.close(instance, object);
     answered(Answer::Done)
 }
 
 /// Reads from the position on, and the handle stands behind what was read.
 fn read_on<T: AppStore>(
-    handles: &mut Handles,
+    held: &mut Held,
     store: &mut T,
     instance: u8,
     object: u32,
@@ -258,29 +258,29 @@ fn read_on<T: AppStore>(
 ) -> Result<Answer, StoreAnswer>
     requires id { IsIdentifier id }
     requires count { count ≤ ASK_BYTES }
-    requires there { IsTrue (is_there (settled handles.old) instance object) }
-    ensures { let before = objects_in handles.old (T.keeper.contents store.old)
+    requires there { IsTrue (is_there (settled held.old.handles) instance object) }
+    ensures { let before = objects_in held.old (T.keeper.contents store.old)
         in IsGiven T.keeper result
         (read_by before instance object position (read_at before.store id position count))
-        false handles.old handles.new store.old store.new }
+        false held.old held.old held.new store.old store.new }
 {
     let bytes = store.read(id.as_slice(), position, count)?;
-    handles.seek(instance, object, behind(position, bytes.len()));
+    held.seek(instance, object, behind(position, bytes.len()));
     Ok(Answer::Content(bytes))
 }
 
 #[tactic(auto, using(crate::proofs::ServingLemmas::serves_nothing, crate::proofs::ServingLemmas::serves_panic, crate::proofs::ServingLemmas::serves_answer))]
 fn read<T: AppStore>(
     alloc: Global,
-    handles: &mut Handles,
+    held: &mut Held,
     store: &mut T,
     instance: u8,
     object: u32,
     count: u32,
 ) -> Result<Served, NoMemory>
-    ensures { let before = objects_in handles.old (T.keeper.contents store.old)
-        in ServesAsk T.keeper result (read_course before instance object count (handle_at (settled handles.old) instance object))
-        false handles.old handles.new store.old store.new }
+    ensures { let before = objects_in held.old (T.keeper.contents store.old)
+        in ServesAsk T.keeper result (read_course before instance object count (handle_at (settled held.old.handles) instance object))
+        false held.old held.new store.old store.new }
 {
     let Some(
         Handle::Persistent {
@@ -288,7 +288,7 @@ fn read<T: AppStore>(
             flags,
             position,
         },
-    ) = handles.get(instance, object)
+    ) = held.get(instance, object)
     else {
         return Ok(panicked());
     };
@@ -301,14 +301,14 @@ fn read<T: AppStore>(
     let position = *position;
     let id = id.copy(alloc)?;
     told(
-        read_on(handles, store, instance, object, id, position, count),
+        read_on(held, store, instance, object, id, position, count),
         false,
     )
 }
 
 /// Writes the bytes at the position, and the handle stands behind them.
 fn write_through<T: AppStore>(
-    handles: &mut Handles,
+    held: &mut Held,
     store: &mut T,
     instance: u8,
     object: u32,
@@ -319,11 +319,11 @@ fn write_through<T: AppStore>(
     requires id { IsIdentifier id }
     requires bytes { length bytes ≤ ASK_BYTES }
     requires within { position + length bytes ≤ 4294967295 }
-    requires there { IsTrue (is_there (settled handles.old) instance object) }
-    ensures { let before = objects_in handles.old (T.keeper.contents store.old)
+    requires there { IsTrue (is_there (settled held.old.handles) instance object) }
+    ensures { let before = objects_in held.old (T.keeper.contents store.old)
         in IsGiven T.keeper result
         (written_by before instance object (position + length bytes) (change before.store (write_at id position bytes)))
-        true handles.old handles.new store.old store.new }
+        true held.old held.old held.new store.old store.new }
 {
     let end = behind(position, bytes.len());
     store.apply(&Change::Write {
@@ -331,22 +331,22 @@ fn write_through<T: AppStore>(
         at: position,
         bytes,
     })?;
-    handles.seek(instance, object, end);
+    held.seek(instance, object, end);
     Ok(Answer::Done)
 }
 
 #[tactic(auto, using(crate::proofs::ServingLemmas::serves_nothing, crate::proofs::ServingLemmas::serves_panic, crate::proofs::ServingLemmas::serves_answer))]
 fn write<T: AppStore>(
     alloc: Global,
-    handles: &mut Handles,
+    held: &mut Held,
     store: &mut T,
     instance: u8,
     object: u32,
     bytes: Bytes,
 ) -> Result<Served, NoMemory>
-    ensures { let before = objects_in handles.old (T.keeper.contents store.old)
-        in ServesAsk T.keeper result (write_course before instance object bytes (handle_at (settled handles.old) instance object))
-        true handles.old handles.new store.old store.new }
+    ensures { let before = objects_in held.old (T.keeper.contents store.old)
+        in ServesAsk T.keeper result (write_course before instance object bytes (handle_at (settled held.old.handles) instance object))
+        true held.old held.new store.old store.new }
 {
     let Some(
         Handle::Persistent {
@@ -354,7 +354,7 @@ fn write<T: AppStore>(
             flags,
             position,
         },
-    ) = handles.get(instance, object)
+    ) = held.get(instance, object)
     else {
         return Ok(panicked());
     };
@@ -370,7 +370,7 @@ fn write<T: AppStore>(
     let position = *position;
     let id = id.copy(alloc)?;
     told(
-        write_through(handles, store, instance, object, id, position, bytes),
+        write_through(held, store, instance, object, id, position, bytes),
         true,
     )
 }
@@ -379,18 +379,18 @@ fn write<T: AppStore>(
 #[tactic(auto, unfolding(crate::specs::Asks::object_course))]
 pub fn serve<T: AppStore>(
     alloc: Global,
-    handles: &mut Handles,
+    held: &mut Held,
     store: &mut T,
     instance: u8,
     ask: Ask,
 ) -> Result<Served, NoMemory>
-    ensures { let before = objects_in handles.old (T.keeper.contents store.old)
+    ensures { let before = objects_in held.old (T.keeper.contents store.old)
         in ServesAsk T.keeper result (object_course before instance ask)
-        (changes_store ask) handles.old handles.new store.old store.new }
+        (changes_store ask) held.old held.new store.old store.new }
 {
     match ask {
         Ask::ObjOpen { storage, id, flags } => open(
-            handles,
+            held,
             store,
             instance,
             storage,
@@ -404,11 +404,11 @@ pub fn serve<T: AppStore>(
             attr,
             content,
         } => create(
-            alloc, handles, store, instance, storage, id, flags, attr, content,
+            alloc, held, store, instance, storage, id, flags, attr, content,
         ),
-        Ask::ObjClose { object } => Ok(close(handles, instance, object)),
-        Ask::ObjRead { object, count } => read(alloc, handles, store, instance, object, count),
-        Ask::ObjWrite { object, bytes } => write(alloc, handles, store, instance, object, bytes),
+        Ask::ObjClose { object } => Ok(close(held, instance, object)),
+        Ask::ObjRead { object, count } => read(alloc, held, store, instance, object, count),
+        Ask::ObjWrite { object, bytes } => write(alloc, held, store, instance, object, bytes),
         _ => Ok(panicked()),
     }
 }

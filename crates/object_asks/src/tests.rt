@@ -1,6 +1,6 @@
 //! Asks of two instances over a store in memory.
 
-use crate::{Handles, Outcome, TurnKind, serve};
+use crate::{Held, Outcome, TurnKind, serve};
 use app_api::{Answer, Ask};
 use std::alloc::Global;
 use std::process::Abort;
@@ -76,11 +76,11 @@ fn check(
     failing: &[u64],
     rows: &[(u8, Do<'_>, TurnKind, Told<'_>)],
 ) -> Result<(), Fail> {
-    let mut handles = Handles::new(alloc);
+    let mut held = Held::new(alloc);
     let mut store = MapStore::new(alloc, failing)?;
     for (instance, what, kind, wanted) in rows {
         let ask = ask(alloc, *what)?;
-        let served = serve(alloc, &mut handles, &mut store, *instance, ask)?;
+        let served = serve(alloc, &mut held, &mut store, *instance, ask)?;
         assert_eq!(rt; served.kind, *kind);
         assert_eq!(rt; shown(&served.outcome), *wanted);
     }

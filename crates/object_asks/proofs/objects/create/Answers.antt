@@ -4,4 +4,4 @@ use Rattle.object_asks.proofs.objects.create.Goals as goal
 
 pub returns : goal.returns
 returns g c =
-    serves_told g.T.AppStore.keeper c.create_object.result c.told.result _ _ true c.args.handles.now c.create_object.new.handles c.args.store.now c.create_object.new.store c.told.ensures.ok c.told.ensures.err (search rules) c.create_object.ensures
+    serves_told g.T.AppStore.keeper c.create_object.result c.told.result _ _ true c.args.held.now c.args.held.now c.create_object.new.held c.args.store.now c.create_object.new.store c.told.ensures.ok c.told.ensures.err (search rules) c.create_object.ensures

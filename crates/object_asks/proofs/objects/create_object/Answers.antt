@@ -5,5 +5,5 @@ use Rattle.object_asks.proofs.objects.create_object.Goals as goal
 
 pub returns-then-is_open : goal.returns-then-is_open
 returns-then-is_open g c =
-    let e : is_open (settled c.args.handles.now) c.args.id ≡ true = subst (λ (id : List ℕ). is_open (settled c.args.handles.now) id ≡ true) c.as_slice.ensures (sym c.is_open.ensures ∙ c.if-is_open.true) in
-    rw e (c.conflict.ensures c.args.handles.now)
+    let e : is_open (settled c.args.held.now.handles) c.args.id ≡ true = subst (λ (id : List ℕ). is_open (settled c.args.held.now.handles) id ≡ true) c.as_slice.ensures (sym c.is_open.ensures ∙ c.if-is_open.true) in
+    rw e (c.conflict.ensures c.args.held.now)

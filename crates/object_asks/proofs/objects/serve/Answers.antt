@@ -9,7 +9,7 @@ pub returns-in-ObjClose : goal.returns-in-ObjClose
 unfolding object_course
 returns-in-ObjClose g c =
     let t = g.T.AppStore.keeper in
-    let before = objects_in c.args.handles.now (t.contents c.args.store.now) in
-    serves_kind t c.close.result (object_course before c.args.instance c.args.ask) (changes_store c.args.ask) c.args.handles.now c.close.new.handles c.args.store.now c.close.ensures.kind
-    (subst (λ (ask : Ask). IsOutcome c.close.result.outcome (came_of Serves (t.status c.args.store.now).lost (object_course before c.args.instance ask)) before (objects_in c.close.new.handles (t.contents c.args.store.now))) (sym c.in-ObjClose.is)
+    let before = objects_in c.args.held.now (t.contents c.args.store.now) in
+    serves_kind t c.close.result (object_course before c.args.instance c.args.ask) (changes_store c.args.ask) c.args.held.now c.close.new.held c.args.store.now c.close.ensures.kind
+    (subst (λ (ask : Ask). IsOutcome c.close.result.outcome (came_of Serves (t.status c.args.store.now).lost (object_course before c.args.instance ask)) before (objects_in c.close.new.held (t.contents c.args.store.now))) (sym c.in-ObjClose.is)
     (c.close.ensures.outcome (t.contents c.args.store.now) (t.status c.args.store.now).lost))

@@ -1,0 +1,99 @@
+-- Keys and the handles on them belong together, and what keeps it.
+use Rattle.std.proofs.Common.{ℕ, ◌≡◌, ◌≤◌, ◌==◌, ◌&&◌, ◌||◌, Bool, true, false, not, cond, List, [], ◌∷◌, ◌++◌, map, filter, count_by, arith, refl, sym, ap, ◌∙◌, ⊎_elim}
+use Rattle.std.specs.List.{list_any}
+use Rattle.std.proofs.lemmas.Bool.{cases_Bool}
+use Rattle.std.proofs.lemmas.List.Filters.{sum_by-filter_both}
+use Rattle.tee_base.specs.declared.codes.Flags.{Flags}
+use Rattle.handle_table.specs.declared.handle.Entry.{Entry}
+use Rattle.handle_table.specs.declared.handle.Handle.{Handle}
+use Rattle.handle_table.specs.declared.handle.Handle.TheVariants.{Persistent, Transient}
+use Rattle.handle_table.specs.Handles.{change_first, entry_sought, free_number, sought}
+use Rattle.object_asks.specs.Held.{BelongTogether, Held, NumberedKey, NumberedList, handle_added, handle_closed, is_in_memory, is_transient, key_place, key_places, memory_places, place_of}
+use Rattle.object_asks.proofs.HandleLemmas.{closed_again, free_absent, or_first, or_second}
+
+-- the places of what stays, by a test of places
+places_left : (f : ℕ × ℕ → Bool) (ks : List NumberedKey) → key_places (filter (λ k. f (key_place k)) ks) ≡ filter f (key_places ks)
+places_left f [] = refl
+places_left f (k ∷ ks) =
+    ⊎_elim
+    (λ (yes : f (key_place k) ≡ true). rw yes (ap (λ rest. key_place k ∷ rest) (places_left f ks)))
+    (λ (no : f (key_place k) ≡ false). rw no (places_left f ks))
+    (cases_Bool (f (key_place k)))
+
+memory_left : (f : ℕ × ℕ → Bool) (hs : List Entry) → memory_places (filter (λ e. f (place_of e)) hs) ≡ filter f (memory_places hs)
+memory_left f [] = refl
+memory_left f (e ∷ hs) =
+    ⊎_elim
+    (λ (here : is_transient e.handle ≡ true).
+    ⊎_elim
+    (λ (yes : f (place_of e) ≡ true). rw (yes, here, yes) (ap (λ rest. place_of e ∷ rest) (memory_left f hs)))
+    (λ (no : f (place_of e) ≡ false). rw (no, here, no) (memory_left f hs))
+    (cases_Bool (f (place_of e))))
+    (λ (elsewhere : is_transient e.handle ≡ false).
+    ⊎_elim
+    (λ (yes : f (place_of e) ≡ true). rw (yes, elsewhere) (memory_left f hs))
+    (λ (no : f (place_of e) ≡ false). rw (no, elsewhere) (memory_left f hs))
+    (cases_Bool (f (place_of e))))
+    (cases_Bool (is_transient e.handle))
+
+pub together_left : (f : ℕ × ℕ → Bool) (hs : List Entry) (ks : List NumberedKey) → BelongTogether hs ks → BelongTogether (filter (λ e. f (place_of e)) hs) (filter (λ k. f (key_place k)) ks)
+together_left f hs ks together = places_left f ks ∙ ap (filter f) together ∙ sym (memory_left f hs)
+
+-- a position makes no difference
+sought_in_memory : (to : ℕ) (h : Handle) → is_transient (sought to h) ≡ is_transient h
+sought_in_memory to (Persistent id flags position) = refl
+sought_in_memory to Transient = refl
+
+same_place : (b : Bool) (to : ℕ) (e : Entry) (rest : List Entry) → map place_of (cond b (entry_sought to e ∷ rest) rest) ≡ map place_of (cond b (e ∷ rest) rest)
+same_place true to e rest = refl
+same_place false to e rest = refl
+
+more_places : (b : Bool) (e : Entry) (xs ys : List Entry) → map place_of xs ≡ map place_of ys → map place_of (cond b (e ∷ xs) xs) ≡ map place_of (cond b (e ∷ ys) ys)
+more_places true e xs ys same = ap (λ rest. place_of e ∷ rest) same
+more_places false e xs ys same = same
+
+memory_sought : (test : Entry → Bool) (to : ℕ) (hs : List Entry) → memory_places (change_first test (entry_sought to) hs) ≡ memory_places hs
+memory_sought test to [] = refl
+memory_sought test to (e ∷ hs) =
+    ⊎_elim
+    (λ (yes : test e ≡ true). rw yes (ap (λ b. map place_of (cond b (entry_sought to e ∷ filter is_in_memory hs) (filter is_in_memory hs))) (sought_in_memory to e.handle) ∙ same_place (is_transient e.handle) to e (filter is_in_memory hs)))
+    (λ (no : test e ≡ false). rw no (more_places (is_transient e.handle) e _ _ (memory_sought test to hs)))
+    (cases_Bool (test e))
+
+pub together_sought : (test : Entry → Bool) (to : ℕ) (hs : List Entry) (ks : List NumberedKey) → BelongTogether hs ks → BelongTogether (change_first test (entry_sought to) hs) ks
+together_sought test to hs ks together = together ∙ sym (memory_sought test to hs)
+
+-- a handle that is added at the end
+memory_added : (hs : List Entry) (e : Entry) → is_transient e.handle ≡ false → memory_places (hs ++ e ∷ []) ≡ memory_places hs
+memory_added [] e none = rw none refl
+memory_added (x ∷ hs) e none = more_places (is_transient x.handle) x _ _ (memory_added hs e none)
+
+pub together_added : (hs : List Entry) (ks : List NumberedKey) (e : Entry) → is_transient e.handle ≡ false → BelongTogether hs ks → BelongTogether (hs ++ e ∷ []) ks
+together_added hs ks e none together = together ∙ sym (memory_added hs e none)
+
+-- no more are left than there were
+pub few_left : (stays test : NumberedList → Bool) (ls : List NumberedList) → {n : ℕ} → count_by test ls ≤ n → count_by test (filter stays ls) ≤ n
+few_left stays test ls few = omega (arith, few, sum_by-filter_both stays (λ l. not (stays l)) (λ l. refl) (λ l. cond (test l) 1 0) ls)
+
+-- ---- a handle that is added and closed again
+
+no_memory : (f : ℕ × ℕ → Bool) (hs : List Entry) → list_any (λ e. f (place_of e)) hs ≡ false → list_any f (memory_places hs) ≡ false
+no_memory f [] none = refl
+no_memory f (e ∷ hs) none =
+    elim (is_transient e.handle) as (λ b. list_any f (map place_of (cond b (e ∷ filter is_in_memory hs) (filter is_in_memory hs))) ≡ false) [
+      | true ↦ ap (λ b. b || list_any f (memory_places hs)) (or_first _ _ none) ∙ no_memory f hs (or_second _ _ none)
+      | false ↦ no_memory f hs (or_second _ _ none)
+    ]
+
+keys_stay : (f : ℕ × ℕ → Bool) (ks : List NumberedKey) → list_any f (key_places ks) ≡ false → filter (λ k. not (f (key_place k))) ks ≡ ks
+keys_stay f [] none = refl
+keys_stay f (k ∷ ks) none =
+    ap (λ b. cond (not b) (k ∷ filter (λ k. not (f (key_place k))) ks) (filter (λ k. not (f (key_place k))) ks)) (or_first _ _ none)
+    ∙ ap (λ rest. k ∷ rest) (keys_stay f ks (or_second _ _ none))
+
+pub closed_added : (h : Held) (i : ℕ) (id : List ℕ) (flags : Flags) → BelongTogether h.handles h.keys → handle_closed (handle_added h i id flags) i (free_number h.handles i) ≡ h
+closed_added h i id flags together =
+    let n = free_number h.handles i in
+    let f : ℕ × ℕ → Bool = λ p. (p.0 == i) && (p.1 == n) in
+    let none : list_any f (key_places h.keys) ≡ false = ap (list_any f) together ∙ no_memory f h.handles (free_absent h.handles i) in
+    rw (closed_again h.handles i (Persistent id flags 0), keys_stay f h.keys none) refl

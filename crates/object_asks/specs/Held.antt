@@ -1,0 +1,121 @@
+-- What asks about objects touch in memory: the object handles, the keys and the enumerators of all instances of an application.
+use Rattle.std.specs.Prelude.{ℕ, ◌≡◌, ◌<◌, ◌≤◌, ◌==◌, Bool, true, false, not, ◌&&◌, List, [], None, filter, map, count_by}
+use Rattle.std.specs.List.{list_all}
+use Rattle.std.specs.Str.{bytes_eq}
+use Rattle.tee_base.specs.declared.codes.Flags.{Flags}
+use Rattle.tee_base.specs.declared.limits.TheConstants.{ENUMERATORS}
+use Rattle.share_rules.specs.Sharing.{access_write_meta, has as has_bit}
+use Rattle.handle_table.specs.declared.handle.Entry.{Entry}
+use Rattle.handle_table.specs.declared.handle.Handle.{Handle}
+use Rattle.handle_table.specs.declared.handle.Handle.TheVariants.{Persistent, Transient}
+use Rattle.handle_table.specs.Handles.{Table, added, all_closed, closed, entry_is_on, sought_at}
+use Rattle.object_asks.specs.declared.numbered.NumberedKey.{NumberedKey as DeclaredKey}
+use Rattle.object_asks.specs.declared.numbered.NumberedList.{NumberedList as DeclaredList}
+use Rattle.object_asks.specs.Handles.{entry_has_identifier, settled}
+
+-- a key in memory with its instance and the number of its handle; an enumerator with its instance and its number
+abbrev pub NumberedKey : Type 0
+NumberedKey = DeclaredKey
+
+abbrev pub NumberedList : Type 0
+NumberedList = DeclaredList
+
+-- the handles, the keys that those on objects in memory are on, and the enumerators
+pub record Held : Type 0 where
+  pub handles : List Entry
+  pub keys : List NumberedKey
+  pub lists : List NumberedList
+
+abbrev pub nothing_held : Held
+nothing_held = record { handles = []; keys = []; lists = [] }
+
+-- ---- keys and enumerators by instance and number
+
+abbrev pub is_key_of : ℕ → NumberedKey → Bool
+is_key_of instance k = k.instance == instance
+
+abbrev pub is_key_at : ℕ → ℕ → NumberedKey → Bool
+is_key_at instance number k = (k.instance == instance) && (k.number == number)
+
+abbrev pub is_list_of : ℕ → NumberedList → Bool
+is_list_of instance l = l.instance == instance
+
+abbrev pub is_list_at : ℕ → ℕ → NumberedList → Bool
+is_list_at instance number l = (l.instance == instance) && (l.number == number)
+
+-- ---- changes of handles
+
+-- a new handle on a persistent object, at its first byte, under the lowest free number of the instance
+abbrev pub handle_added : Held → ℕ → List ℕ → Flags → Held
+handle_added h instance id flags = record h { handles = (added (settled h.handles) instance (Persistent id flags 0)).handles }
+
+-- the handle goes on from this position
+abbrev pub handle_sought : Held → ℕ → ℕ → ℕ → Held
+handle_sought h instance number to = record h { handles = (sought_at (settled h.handles) instance number to).handles }
+
+-- the handle goes, and with it the object in memory that it is on
+abbrev pub handle_closed : Held → ℕ → ℕ → Held
+handle_closed h instance number = record h {
+  handles = (closed (settled h.handles) instance number).handles;
+  keys = filter (λ k. not (is_key_at instance number k)) h.keys;
+}
+
+-- the instance's handles, keys and enumerators go; all others stay
+abbrev pub instance_closed : Held → ℕ → Held
+instance_closed h instance = record {
+  handles = (all_closed (settled h.handles) instance).handles;
+  keys = filter (λ k. not (is_key_of instance k)) h.keys;
+  lists = filter (λ l. not (is_list_of instance l)) h.lists;
+}
+
+-- ---- what holds between two events
+
+-- the handle is on an object in memory
+abbrev pub is_transient : Handle → Bool
+is_transient (Persistent id flags position) = false
+is_transient Transient = true
+
+abbrev pub is_in_memory : Entry → Bool
+is_in_memory e = is_transient e.handle
+
+-- instances and numbers: of the handles on objects in memory, and of the keys
+abbrev pub place_of : Entry → ℕ × ℕ
+place_of e = (e.instance, e.number)
+
+abbrev pub key_place : NumberedKey → ℕ × ℕ
+key_place k = (k.instance, k.number)
+
+abbrev pub memory_places : List Entry → List (ℕ × ℕ)
+memory_places handles = map place_of (filter is_in_memory handles)
+
+abbrev pub key_places : List NumberedKey → List (ℕ × ℕ)
+key_places keys = map key_place keys
+
+-- the handle is on the object, and its flags have ACCESS_WRITE_META
+abbrev pub writes_meta_on : List ℕ → Handle → Bool
+writes_meta_on id (Persistent own flags position) = bytes_eq own id && has_bit access_write_meta flags
+writes_meta_on id Transient = false
+
+-- how many handles are on the object, and how many of them have ACCESS_WRITE_META
+abbrev pub ones_on : List ℕ → List Entry → ℕ
+ones_on id handles = count_by (entry_is_on id) handles
+
+abbrev pub meta_writers : List ℕ → List Entry → ℕ
+meta_writers id handles = count_by (λ e. writes_meta_on id e.handle) handles
+
+-- a handle with ACCESS_WRITE_META is the only one on its identifier
+abbrev pub AreSole : List Entry → Type 0
+AreSole handles = (id : List ℕ) → 0 < meta_writers id handles → ones_on id handles ≤ 1
+
+-- each key has its handle and each handle on an object in memory its key, in the same order
+abbrev pub BelongTogether : List Entry → List NumberedKey → Type 0
+BelongTogether handles keys = key_places keys ≡ memory_places handles
+
+-- no rename is pending, identifiers have at most 64 bytes, those who write meta are alone, keys and handles belong together, and
+-- an instance has at most four enumerators
+pub record IsHeld (t : Table) (keys : List NumberedKey) (lists : List NumberedList) : Type 0 where
+  pub no_rename : t.pending ≡ None
+  pub identifiers : list_all entry_has_identifier t.handles ≡ true
+  pub sole : AreSole t.handles
+  pub together : BelongTogether t.handles keys
+  pub few_lists : (instance : ℕ) → count_by (is_list_of instance) lists ≤ ENUMERATORS

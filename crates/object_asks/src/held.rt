@@ -1,0 +1,150 @@
+//! What asks about objects touch in memory, as it is between events: no rename is pending.
+
+ghost use Rattle.std.specs.Prelude.{◌≡◌, filter, not};
+ghost use Rattle.object_asks.specs.Held.{is_key_at, is_key_of, is_list_of};
+
+use crate::numbered::{NumberedKey, NumberedList};
+use handle_table::{Handle, HandleAnswer, HandleTable};
+use std::alloc::Global;
+use std::marker::Model;
+use tee_base::{Flags, NoMemory};
+
+/// The object handles, the keys in memory and the enumerators of all instances of an application. Each handle is on an
+/// identifier of at most 64 bytes, or on a key.
+#[derive(Drop)]
+pub struct Held {
+    table: HandleTable,
+    keys: Vec<NumberedKey>,
+    lists: Vec<NumberedList>,
+}
+
+impl Model for Held {
+    ghost use Rattle.object_asks.specs.Held.{Held, IsHeld};
+
+    ghost Value = { Held };
+
+    ghost view = { λ h. record { handles = h.table.handles; keys = h.keys.items; lists = h.lists.items } };
+
+    ghost invariant = { λ h. IsHeld h.table h.keys.items h.lists.items };
+}
+
+/// Takes out the instance's key of this number.
+fn take_key(keys: &mut Vec<NumberedKey>, instance: u8, number: u32)
+    ensures { keys.new.items ≡ filter (λ k. not (is_key_at instance number k)) keys.old.items }
+{
+    keys.retain(|k| !k.is_at(instance, number));
+}
+
+/// Takes out all keys of the instance.
+fn take_keys(keys: &mut Vec<NumberedKey>, instance: u8)
+    ensures { keys.new.items ≡ filter (λ k. not (is_key_of instance k)) keys.old.items }
+{
+    keys.retain(|k| k.instance != instance);
+}
+
+/// Takes out all enumerators of the instance.
+fn take_lists(lists: &mut Vec<NumberedList>, instance: u8)
+    ensures { lists.new.items ≡ filter (λ l. not (is_list_of instance l)) lists.old.items }
+{
+    lists.retain(|l| l.instance != instance);
+}
+
+impl Held {
+    ghost use Rattle.std.specs.Prelude.{◌≡◌, IsTrue, IfOk, OnOk, OnErr, IfSome, option_map, is_some, false};
+    ghost use Rattle.handle_table.specs.Handles.{may_open, is_open, is_full, is_there, free_number, handle_at};
+    ghost use Rattle.store_api.specs.Limits.{IsIdentifier};
+    ghost use Rattle.object_asks.specs.Handles.{settled, HasIdentifier};
+    ghost use Rattle.object_asks.specs.Held.{nothing_held, handle_added, handle_sought, handle_closed, instance_closed};
+
+    /// Nothing. It takes no memory.
+    pub fn new(alloc: Global) -> Held
+        ensures { result ≡ nothing_held }
+    {
+        Held {
+            table: HandleTable::new(alloc),
+            keys: Vec::new(alloc),
+            lists: Vec::new(alloc),
+        }
+    }
+
+    /// Whether a handle of any instance is on the object.
+    pub(crate) fn is_open(&self, id: &[u8]) -> bool
+        ensures { result ≡ is_open (settled self.now.handles) id.now }
+    {
+        self.table.is_open(id)
+    }
+
+    /// Whether a handle with these flags may be opened on the object, beside those of all instances.
+    pub(crate) fn may_open(&self, id: &[u8], flags: Flags) -> bool
+        ensures { result ≡ may_open (settled self.now.handles) id.now flags }
+    {
+        self.table.may_open(id, flags)
+    }
+
+    /// Whether the instance has 16 handles.
+    pub(crate) fn is_full(&self, instance: u8) -> bool
+        ensures { result ≡ is_full (settled self.now.handles) instance }
+    {
+        self.table.is_full(instance)
+    }
+
+    /// What the instance's handle of this number is for.
+    pub(crate) fn get(&self, instance: u8, number: u32) -> Option<&Handle>
+        ensures handle { option_map (λ handle. handle.now) result ≡ handle_at (settled self.now.handles) instance number }
+        ensures identifier { IfSome result (λ handle. HasIdentifier handle.now) }
+        ensures there { is_some result ≡ is_there (settled self.now.handles) instance number }
+    {
+        self.table.get(instance, number)
+    }
+
+    /// Whether the instance has a handle of this number.
+    pub(crate) fn is_there(&self, instance: u8, number: u32) -> bool
+        ensures { result ≡ is_there (settled self.now.handles) instance number }
+    {
+        self.get(instance, number).is_some()
+    }
+
+    /// Adds a handle at the object's first byte, and answers its number. Want of memory changes nothing.
+    pub(crate) fn add(&mut self, instance: u8, id: &[u8], flags: Flags) -> Result<u32, NoMemory>
+        requires identifier { IsIdentifier id.now }
+        requires may_open { IsTrue (may_open (settled self.old.handles) id.now flags) }
+        requires room { is_full (settled self.old.handles) instance ≡ false }
+        ensures number { IfOk result (λ n. n ≡ free_number self.old.handles instance) }
+        ensures ok { OnOk result (self.new ≡ handle_added self.old instance id.now flags) }
+        // Closed again, it leaves all as it was.
+        ensures undone { IfOk result (λ n. handle_closed self.new instance n ≡ self.old) }
+        ensures unchanged { OnErr result (self.new ≡ self.old) }
+    {
+        match self.table.add(instance, id, flags) {
+            Ok(number) => Ok(number),
+            Err(HandleAnswer::NoMemory) => Err(NoMemory),
+            Err(HandleAnswer::Full) => unreachable!(),
+        }
+    }
+
+    /// Sets where the next read or write of the handle begins.
+    pub(crate) fn seek(&mut self, instance: u8, number: u32, position: u32)
+        requires { IsTrue (is_there (settled self.old.handles) instance number) }
+        ensures { self.new ≡ handle_sought self.old instance number position }
+    {
+        self.table.seek(instance, number, position);
+    }
+
+    /// Closes the handle. A key that it is on goes with it.
+    pub(crate) fn close(&mut self, instance: u8, number: u32)
+        requires { IsTrue (is_there (settled self.old.handles) instance number) }
+        ensures { self.new ≡ handle_closed self.old instance number }
+    {
+        self.table.close(instance, number);
+        take_key(&mut self.keys, instance, number);
+    }
+
+    /// Closes all that the instance has. It takes no memory.
+    pub fn close_instance(&mut self, instance: u8)
+        ensures { self.new ≡ instance_closed self.old instance }
+    {
+        self.table.close_all(instance);
+        take_keys(&mut self.keys, instance);
+        take_lists(&mut self.lists, instance);
+    }
+}
