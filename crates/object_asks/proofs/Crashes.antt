@@ -8,7 +8,7 @@ use Rattle.object_asks.specs.declared.turn.TurnKind.TheVariants.{Plain, Lost, Co
 use Rattle.object_asks.specs.Serving.{CrashTurns, IsKept, LeftByTurn, UnlessInDoubt}
 
 -- what was kept before is among what any turn may leave
-only_old : (kind : TurnKind) (in_doubt : Option Store) (old new : Contents) (o : Remains) → o ≡ Some old → LeftByTurn kind in_doubt old new o
+pub only_old : (kind : TurnKind) (in_doubt : Option Store) (old new : Contents) (o : Remains) → o ≡ Some old → LeftByTurn kind in_doubt old new o
 only_old Plain in_doubt old new o e = inl e
 only_old (Lost true) None old new o e = e
 only_old (Lost true) (Some store) old new o e = inl e
@@ -43,7 +43,7 @@ module _ {D : Type 0} (K : Keeper D) where
     model = λ there. there;
     beside = λ there. record { rest = refl; number = omega arith };
     quiet = λ lost. record { same = refl; none = λ t o left. left };
-    past = λ honest. record { past = λ t o le left. left };
+    past = λ honest. record { later = omega arith; past = λ t o le left. left };
   }
 
   pub in_any : (kind : TurnKind) (in_doubt : Option Store) (old new : D) → CrashTurns K kind None old new → CrashTurns K kind in_doubt old new

@@ -1,13 +1,15 @@
 -- Keys and the handles on them belong together, and what keeps it.
-use Rattle.std.proofs.Common.{ℕ, ◌≡◌, ◌≤◌, ◌==◌, ◌&&◌, ◌||◌, Bool, true, false, not, cond, List, [], ◌∷◌, ◌++◌, map, filter, count_by, arith, refl, sym, ap, ◌∙◌, ⊎_elim}
+use Rattle.std.proofs.Common.{ℕ, ◌≡◌, ◌+◌, ◌<◌, ◌≤◌, Option, None, Some, find, option_map, sum_by, ◌==◌, ◌&&◌, ◌||◌, Bool, true, false, not, cond, List, [], ◌∷◌, ◌++◌, map, filter, count_by, arith, refl, sym, ap, ◌∙◌, ⊎_elim}
 use Rattle.std.specs.List.{list_any}
 use Rattle.std.proofs.lemmas.Bool.{cases_Bool}
 use Rattle.std.proofs.lemmas.List.Filters.{sum_by-filter_both}
+use Rattle.std.proofs.lemmas.List.Sums.{sum_by-cons}
 use Rattle.tee_base.specs.declared.codes.Flags.{Flags}
 use Rattle.handle_table.specs.declared.handle.Entry.{Entry}
 use Rattle.handle_table.specs.declared.handle.Handle.{Handle}
 use Rattle.handle_table.specs.declared.handle.Handle.TheVariants.{Persistent, Transient}
-use Rattle.handle_table.specs.Handles.{change_first, entry_sought, free_number, sought}
+use Rattle.handle_table.specs.Handles.{change_first, entry_sought, free_number, handle_at, is_at, sought}
+use Rattle.object_asks.specs.Handles.{settled}
 use Rattle.object_asks.specs.Held.{BelongTogether, Held, NumberedKey, NumberedList, handle_added, handle_closed, is_in_memory, is_transient, key_place, key_places, memory_places, place_of}
 use Rattle.object_asks.proofs.HandleLemmas.{closed_again, free_absent, or_first, or_second}
 
@@ -97,3 +99,40 @@ closed_added h i id flags together =
     let f : ℕ × ℕ → Bool = λ p. (p.0 == i) && (p.1 == n) in
     let none : list_any f (key_places h.keys) ≡ false = ap (list_any f) together ∙ no_memory f h.handles (free_absent h.handles i) in
     rw (closed_again h.handles i (Persistent id flags 0), keys_stay f h.keys none) refl
+
+-- ---- the handle that is found
+
+-- by whether it is the first
+by_first : (b : Bool) (x : Entry) (rest : Option Entry) (e : Entry) (P : Type 0) → cond b (Some x) rest ≡ Some e → (b ≡ true → x ≡ e → P) → (b ≡ false → rest ≡ Some e → P) → P
+by_first true x rest e P here first later = first refl (let same : x ≡ e = cc in same)
+by_first false x rest e P here first later = later refl here
+
+pub found_counts : (q t : Entry → Bool) (hs : List Entry) (e : Entry) → find q hs ≡ Some e → t e ≡ true → 0 < count_by t hs
+found_counts q t [] e here passes = absurd (let f : None ≡ Some e = here in cc)
+found_counts q t (x ∷ xs) e here passes =
+    let w : Entry → ℕ = λ y. cond (t y) 1 0 in
+    by_first (q x) x (find q xs) e (0 < count_by t (x ∷ xs)) here
+    (λ _ same. let one : w x ≡ 1 = ap w same ∙ ap (λ b. cond b 1 0) passes in omega (arith, sum_by-cons w x xs, one))
+    (λ _ later. omega (arith, sum_by-cons w x xs, found_counts q t xs e later passes))
+
+pub found_goes : (q t : Entry → Bool) (hs : List Entry) (e : Entry) → find q hs ≡ Some e → t e ≡ true → count_by t (filter (λ x. not (q x)) hs) + 1 ≤ count_by t hs
+found_goes q t [] e here passes = absurd (let f : None ≡ Some e = here in cc)
+found_goes q t (x ∷ xs) e here passes =
+    let w : Entry → ℕ = λ y. cond (t y) 1 0 in
+    by_first (q x) x (find q xs) e (count_by t (filter (λ x. not (q x)) (x ∷ xs)) + 1 ≤ count_by t (x ∷ xs)) here
+    (λ first same.
+        let one : w x ≡ 1 = ap w same ∙ ap (λ b. cond b 1 0) passes in
+        let rest : count_by t (filter (λ x. not (q x)) xs) ≤ count_by t xs = omega (arith, sum_by-filter_both (λ y. not (q y)) (λ y. not (not (q y))) (λ y. refl) w xs) in
+        let gone : count_by t (filter (λ x. not (q x)) (x ∷ xs)) ≡ count_by t (filter (λ x. not (q x)) xs) = ap (λ b. sum_by w (cond (not b) (x ∷ filter (λ x. not (q x)) xs) (filter (λ x. not (q x)) xs))) first in
+        omega (arith, sum_by-cons w x xs, one, rest, gone))
+    (λ other later.
+        let stays : count_by t (filter (λ x. not (q x)) (x ∷ xs)) ≡ w x + count_by t (filter (λ x. not (q x)) xs) =
+        ap (λ b. sum_by w (cond (not b) (x ∷ filter (λ x. not (q x)) xs) (filter (λ x. not (q x)) xs))) other ∙ sum_by-cons w x (filter (λ x. not (q x)) xs) in
+        omega (arith, sum_by-cons w x xs, stays, found_goes q t xs e later passes))
+
+entry_found : (o : Option Entry) (h : Handle) → option_map (λ e. e.handle) o ≡ Some h → (e : Entry) × (o ≡ Some e) × (e.handle ≡ h)
+entry_found None h here = absurd (let f : None ≡ Some h = here in cc)
+entry_found (Some e) h here = (e, refl, (let same : e.handle ≡ h = cc in same))
+
+pub handle_found : (hs : List Entry) (i n : ℕ) (h : Handle) → handle_at (settled hs) i n ≡ Some h → (e : Entry) × (find (is_at i n) hs ≡ Some e) × (e.handle ≡ h)
+handle_found hs i n h here = entry_found (find (is_at i n) hs) h here

@@ -38,8 +38,8 @@ ends_with (outcomes.Returned ending) fact holds = holds
 ends_with outcomes.Panicked fact holds = holds
 
 -- what isn't told is want of memory
-untold : (result : Result Answer StoreAnswer) (changes : Bool) → told_of changes result ≡ None → result ≡ Err stores.NoMemory
-untold (Ok answer) changes told = absurd (let e : Some (plainly (outcomes.Answered answer)) ≡ None = told in cc)
+untold : (result : Result Result_of StoreAnswer) (changes : Bool) → told_of changes result ≡ None → result ≡ Err stores.NoMemory
+untold (Ok outcome) changes told = absurd (let e : Some (plainly outcome) ≡ None = told in cc)
 untold (Err stores.NoMemory) changes told = refl
 untold (Err stores.NotFound) changes told = absurd (let e : Some (told_as changes stores.NotFound) ≡ None = told in cc)
 untold (Err stores.Exists) changes told = absurd (let e : Some (told_as changes stores.Exists) ≡ None = told in cc)
@@ -78,13 +78,13 @@ module _ {D : Type 0} (K : Keeper D) where
     crash = λ h just. subst (λ (k : TurnKind). CrashTurns K k (left_by plain) old new) kind (crash h just);
   }
 
-  told_served : (result : Result Answer StoreAnswer) (plain : Outcome Objects) (changes : Bool) (held kept left : Held) (old new : D)
+  told_served : (result : Result Result_of StoreAnswer) (plain : Outcome Objects) (changes : Bool) (held kept left : Held) (old new : D)
       → IsGiven K result plain changes held kept left old new → IfSome (told_of changes result) (λ served. IsServed K served (ComesToStore (objects_in kept (K.contents old)) plain) changes held left old new)
-  told_served (Ok answer) plain changes held kept left old new given =
-      let met : HasCause (Ok answer) (K.status old) (K.status new) = given.cause (λ e. let f : Ok answer ≡ Err stores.NoMemory = e in cc) in
+  told_served (Ok outcome) plain changes held kept left old new given =
+      let met : HasCause (Ok outcome) (K.status old) (K.status new) = given.cause (λ e. let f : Ok outcome ≡ Err stores.NoMemory = e in cc) in
       record {
-        outcome = λ t. serves (K.status old).lost _ plain met.cause.0 ∙ given.gives t;
-        ends = tt;
+        outcome = λ t. subst (λ (o : Outcome Objects). IsOutcome outcome o (objects_in held (K.contents old)) (objects_in left (K.contents new))) (sym (serves (K.status old).lost _ plain met.cause.0)) (given.gives t);
+        ends = given.ends;
         reaches = λ t. tt;
         change = tt;
         status = record { cause = met.cause.1 ∙ sym met.cause.0; later = met.later; orders = met.orders; ordered = met.ordered; reports = met.reports };
@@ -157,14 +157,14 @@ module _ {D : Type 0} (K : Keeper D) where
   told_served (Err stores.NoMemory) plain changes held kept left old new given = tt
 
   -- what was told of what the store gave is what comes of the ask
-  by_store : (result : Result Answer StoreAnswer) (served : Served) (course : Course Objects) (plain : Outcome Objects) (changes : Bool) (held kept left : Held) (old new : D)
+  by_store : (result : Result Result_of StoreAnswer) (served : Served) (course : Course Objects) (plain : Outcome Objects) (changes : Bool) (held kept left : Held) (old new : D)
       → told_of changes result ≡ Some served → course ≡ ComesToStore (objects_in kept (K.contents old)) plain → IsGiven K result plain changes held kept left old new → IsServed K served course changes held left old new
   by_store result served course plain changes held kept left old new told same given =
       let done : IfSome (told_of changes result) (λ s. IsServed K s (ComesToStore (objects_in kept (K.contents old)) plain) changes held left old new) = told_served result plain changes held kept left old new given in
       let here : IsServed K served (ComesToStore (objects_in kept (K.contents old)) plain) changes held left old new = subst (λ (o : Option Served). IfSome o (λ s. IsServed K s (ComesToStore (objects_in kept (K.contents old)) plain) changes held left old new)) told done in
       subst (λ (c : Course Objects). IsServed K served c changes held left old new) (sym same) here
 
-  by_told : (result : Result Answer StoreAnswer) (given : Result Served WantOfMemory) (course : Course Objects) (plain : Outcome Objects) (changes : Bool) (held kept left : Held) (old new : D)
+  by_told : (result : Result Result_of StoreAnswer) (given : Result Served WantOfMemory) (course : Course Objects) (plain : Outcome Objects) (changes : Bool) (held kept left : Held) (old new : D)
       → IfOk given (λ served. told_of changes result ≡ Some served) → course ≡ ComesToStore (objects_in kept (K.contents old)) plain → IsGiven K result plain changes held kept left old new → IfOk given (λ served. IsServed K served course changes held left old new)
   by_told result given course plain changes held kept left old new told same is =
       IfOk-weaker given _ _ (λ served t. by_store result served course plain changes held kept left old new t same is) told
@@ -235,13 +235,13 @@ module _ {D : Type 0} (K : Keeper D) where
       → served.kind ≡ Plain → IsOutcome served.outcome (came_of Serves (K.status old).lost course) (objects_in held (K.contents old)) (objects_in left (K.contents old)) → ServesAsk K (Ok served) course changes held left old old
   serves_kind served course changes held left old kind outcome = record { served = by_kind served course changes held left old kind outcome; tried = idle_tries changes (K.status old); want = tt }
 
-  wants : (result : Result Answer StoreAnswer) (given : Result Served WantOfMemory) (plain : Outcome Objects) (changes : Bool) (held kept left : Held) (old new : D)
+  wants : (result : Result Result_of StoreAnswer) (given : Result Served WantOfMemory) (plain : Outcome Objects) (changes : Bool) (held kept left : Held) (old new : D)
       → OnErr given (told_of changes result ≡ None) → IsGiven K result plain changes held kept left old new → OnErr given (FindsNoMemory K held left old new)
   wants result (Ok served) plain changes held kept left old new told is = tt
   wants result (Err e) plain changes held kept left old new told is = record { same_held = is.stays (untold result changes told); store = is.want (untold result changes told) }
 
   -- an ask that came to the store
-  pub serves_told : (result : Result Answer StoreAnswer) (given : Result Served WantOfMemory) (course : Course Objects) (plain : Outcome Objects) (changes : Bool) (held kept left : Held) (old new : D)
+  pub serves_told : (result : Result Result_of StoreAnswer) (given : Result Served WantOfMemory) (course : Course Objects) (plain : Outcome Objects) (changes : Bool) (held kept left : Held) (old new : D)
       → IfOk given (λ served. told_of changes result ≡ Some served) → OnErr given (told_of changes result ≡ None) → course ≡ ComesToStore (objects_in kept (K.contents old)) plain → IsGiven K result plain changes held kept left old new → ServesAsk K given course changes held left old new
   serves_told result given course plain changes held kept left old new told lack same is = record {
     served = by_told result given course plain changes held kept left old new told same is;

@@ -1,5 +1,5 @@
 -- What asks about objects touch in memory: the object handles, the keys and the enumerators of all instances of an application.
-use Rattle.std.specs.Prelude.{ℕ, ◌≡◌, ◌<◌, ◌≤◌, ◌==◌, Bool, true, false, not, ◌&&◌, List, [], None, filter, map, count_by}
+use Rattle.std.specs.Prelude.{ℕ, ◌≡◌, ◌<◌, ◌≤◌, ◌*◌, ◌==◌, Bool, true, false, not, ◌&&◌, List, [], Option, None, Some, option_map, find, filter, map, count_by, length}
 use Rattle.std.specs.List.{list_all}
 use Rattle.std.specs.Str.{bytes_eq}
 use Rattle.tee_base.specs.declared.codes.Flags.{Flags}
@@ -8,9 +8,11 @@ use Rattle.share_rules.specs.Sharing.{access_write_meta, has as has_bit}
 use Rattle.handle_table.specs.declared.handle.Entry.{Entry}
 use Rattle.handle_table.specs.declared.handle.Handle.{Handle}
 use Rattle.handle_table.specs.declared.handle.Handle.TheVariants.{Persistent, Transient}
-use Rattle.handle_table.specs.Handles.{Table, added, all_closed, closed, entry_is_on, sought_at}
+use Rattle.handle_table.specs.Handles.{Table, added, all_closed, closed, entry_is_on, renamed, sought_at}
 use Rattle.object_asks.specs.declared.numbered.NumberedKey.{NumberedKey as DeclaredKey}
 use Rattle.object_asks.specs.declared.numbered.NumberedList.{NumberedList as DeclaredList}
+use Rattle.object_asks.specs.declared.numbered.Walk.{Walk}
+use Rattle.transient_obj.specs.Keys.{Key}
 use Rattle.object_asks.specs.Handles.{entry_has_identifier, settled}
 
 -- a key in memory with its instance and the number of its handle; an enumerator with its instance and its number
@@ -43,6 +45,18 @@ is_list_of instance l = l.instance == instance
 abbrev pub is_list_at : ℕ → ℕ → NumberedList → Bool
 is_list_at instance number l = (l.instance == instance) && (l.number == number)
 
+-- what the instance has under this number
+abbrev pub key_at : Held → ℕ → ℕ → Option Key
+key_at h instance number = option_map (λ k. k.key) (find (is_key_at instance number) h.keys)
+
+abbrev pub walk_at : Held → ℕ → ℕ → Option Walk
+walk_at h instance number = option_map (λ l. l.walk) (find (is_list_at instance number) h.lists)
+
+-- how long a secret is in bits, none being no bits
+abbrev pub secret_bits : Option (List ℕ) → ℕ
+secret_bits None = 0
+secret_bits (Some secret) = 8 * length secret
+
 -- ---- changes of handles
 
 -- a new handle on a persistent object, at its first byte, under the lowest free number of the instance
@@ -52,6 +66,10 @@ handle_added h instance id flags = record h { handles = (added (settled h.handle
 -- the handle goes on from this position
 abbrev pub handle_sought : Held → ℕ → ℕ → ℕ → Held
 handle_sought h instance number to = record h { handles = (sought_at (settled h.handles) instance number to).handles }
+
+-- the handle is on this identifier now
+abbrev pub handle_renamed : Held → ℕ → ℕ → List ℕ → Held
+handle_renamed h instance number to = record h { handles = renamed (record { instance = instance; number = number; to = to }) h.handles }
 
 -- the handle goes, and with it the object in memory that it is on
 abbrev pub handle_closed : Held → ℕ → ℕ → Held

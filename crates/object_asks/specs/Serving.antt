@@ -3,7 +3,6 @@ use Rattle.std.specs.Prelude.{ℕ, ◌≡◌, ◌+◌, ◌≤◌, ◌<◌, ◌�
 use Rattle.tee_base.specs.Crash.{LeavesOnly}
 use Rattle.tee_base.specs.Faults.{Rose}
 use Rattle.tee_base.specs.declared.bytes.NoMemory.{NoMemory as WantOfMemory}
-use Rattle.app_api.specs.declared.ask.Answer.{Answer}
 use Rattle.app_api.specs.declared.ask.Answer.TheVariants.{Refused}
 use Rattle.store_api.specs.declared.answer.StoreAnswer.{StoreAnswer}
 use Rattle.store_api.specs.declared.answer.StoreAnswer.TheVariants.{NotFound, Exists, NoSpace, Failed, Corrupt, Garbled, NoMemory}
@@ -39,29 +38,29 @@ abbrev pub plainly : Result_of → Served
 plainly outcome = record { kind = Plain; outcome = outcome }
 
 -- what comes of an ask, by what the store's answer gives for it: nothing at want of memory
-abbrev pub told_of : Bool → Result Answer StoreAnswer → Option Served
-told_of changes (Ok answer) = Some (plainly (outcomes.Answered answer))
+abbrev pub told_of : Bool → Result Result_of StoreAnswer → Option Served
+told_of changes (Ok outcome) = Some (plainly outcome)
 told_of changes (Err NoMemory) = None
 told_of changes (Err answer) = Some (record { kind = kind_of changes answer; outcome = outcomes.Answered (Refused (code_of answer)) })
 
 abbrev pub objects_in : Held → Contents → Objects
 objects_in held contents = record { store = contents.store; held = held }
 
--- what the store's answer gives: an answer, or a refusal, which leaves what the course says of one; so does what keeps the store
--- from serving, but want of memory
-abbrev pub Gives : Result Answer StoreAnswer → Outcome Objects → Objects → Objects → Type 0
-Gives (Ok answer) plain kept after = plain ≡ Answered after answer
-Gives (Err NotFound) plain kept after = (plain ≡ refused kept (code_of NotFound)) × (after ≡ kept)
-Gives (Err Exists) plain kept after = (plain ≡ refused kept (code_of Exists)) × (after ≡ kept)
-Gives (Err NoSpace) plain kept after = (plain ≡ refused kept (code_of NoSpace)) × (after ≡ kept)
-Gives (Err NoMemory) plain kept after = Unit {0}
-Gives (Err answer) plain kept after = after ≡ kept
-
 -- it is the stated outcome, and this is left
-abbrev pub IsOutcome : Result_of → Outcome Objects → Objects → Objects → Type 0
+abbrev pub IsOutcome : {S : Type 0} → Result_of → Outcome S → S → S → Type 0
 IsOutcome (outcomes.Answered answer) stated before after = stated ≡ Answered after answer
 IsOutcome (outcomes.Returned ending) stated before after = (stated ≡ Returned ending.code ending.outs) × (after ≡ before)
 IsOutcome outcomes.Panicked stated before after = (stated ≡ Panicked) × (after ≡ before)
+
+-- what the store's answer gives: an outcome, or a refusal, which leaves what the course says of one; so does what keeps the store
+-- from serving, but want of memory
+abbrev pub Gives : Result Result_of StoreAnswer → Outcome Objects → Objects → Objects → Objects → Type 0
+Gives (Ok outcome) plain before kept after = IsOutcome outcome plain before after
+Gives (Err NotFound) plain before kept after = (plain ≡ refused kept (code_of NotFound)) × (after ≡ kept)
+Gives (Err Exists) plain before kept after = (plain ≡ refused kept (code_of Exists)) × (after ≡ kept)
+Gives (Err NoSpace) plain before kept after = (plain ≡ refused kept (code_of NoSpace)) × (after ≡ kept)
+Gives (Err NoMemory) plain before kept after = Unit {0}
+Gives (Err answer) plain before kept after = after ≡ kept
 
 -- a fact that holds where the entry ends
 abbrev pub UnlessAnswered : Result_of → Type 0 → Type 0
@@ -176,12 +175,13 @@ module _ {D : Type 0} (K : Keeper D) where
 
   -- an ask that came to the store, from what was held: what the store's answer gave, of this plain outcome, where a refusal leaves
   -- this of what is held
-  pub record IsGiven (result : Result Answer StoreAnswer) (plain : Outcome Objects) (changes : Bool) (held kept left : Held) (old new : D) : Type 0 where
-    pub gives : K.has_model old → Gives result plain (objects_in kept (K.contents old)) (objects_in left (K.contents new))
+  pub record IsGiven (result : Result Result_of StoreAnswer) (plain : Outcome Objects) (changes : Bool) (held kept left : Held) (old new : D) : Type 0 where
+    pub gives : K.has_model old → Gives result plain (objects_in held (K.contents old)) (objects_in kept (K.contents old)) (objects_in left (K.contents new))
     pub cause : ¬ (result ≡ Err NoMemory) → HasCause result (K.status old) (K.status new)
     pub tried : TriesOnce changes (K.status old) (K.status new)
     pub stays : result ≡ Err NoMemory → left ≡ held
     pub want : result ≡ Err NoMemory → EndsUnchanged old new
+    pub ends : IfOk result (λ outcome. UnlessAnswered outcome (EndsUnchanged old new))
     pub damage : TellsDamage result (K.damage new)
     pub honest : K.honest old → K.honest new × IsIntact result
     pub keeps : IsKept old new

@@ -1,13 +1,16 @@
 //! What asks about objects touch in memory, as it is between events: no rename is pending.
 
-ghost use Rattle.std.specs.Prelude.{◌≡◌, filter, not};
+ghost use Rattle.std.specs.Prelude.{◌≡◌, filter, find, not, option_map};
 ghost use Rattle.object_asks.specs.Held.{is_key_at, is_key_of, is_list_of};
+ghost use Rattle.object_asks.specs.Sources.{memory_source};
 
 use crate::numbered::{NumberedKey, NumberedList};
+use crate::source::KeySource;
 use handle_table::{Handle, HandleAnswer, HandleTable};
 use std::alloc::Global;
 use std::marker::Model;
 use tee_base::{Flags, NoMemory};
+use transient_obj::{ObjectKey, Transient};
 
 /// The object handles, the keys in memory and the enumerators of all instances of an application. Each handle is on an
 /// identifier of at most 64 bytes, or on a key.
@@ -49,12 +52,40 @@ fn take_lists(lists: &mut Vec<NumberedList>, instance: u8)
     lists.retain(|l| l.instance != instance);
 }
 
+/// The instance's key of this number.
+fn key_of(keys: &[NumberedKey], instance: u8, number: u32) -> Option<&Transient>
+    ensures { option_map (λ key. key.now) result
+        ≡ option_map (λ k. k.key) (find (is_key_at instance number) keys.now) }
+{
+    keys.iter()
+        .find(|k| k.is_at(instance, number))
+        .map(|k| &k.key)
+}
+
+/// What a key in memory gives, if there is one and it is initialised.
+fn memory_source(key: Option<&Transient>) -> KeySource
+    ensures { result ≡ memory_source (option_map (λ key. key.now) key.entry) }
+{
+    let Some(key) = key else {
+        return KeySource::NoKey;
+    };
+    let Some(secret) = key.secret() else {
+        return KeySource::NoKey;
+    };
+    KeySource::InMemory(ObjectKey {
+        kind: key.kind(),
+        usage: key.usage(),
+        secret: secret.copy(),
+    })
+}
+
 impl Held {
     ghost use Rattle.std.specs.Prelude.{◌≡◌, IsTrue, IfOk, OnOk, OnErr, IfSome, option_map, is_some, false};
     ghost use Rattle.handle_table.specs.Handles.{may_open, is_open, is_full, is_there, free_number, handle_at};
     ghost use Rattle.store_api.specs.Limits.{IsIdentifier};
     ghost use Rattle.object_asks.specs.Handles.{settled, HasIdentifier};
-    ghost use Rattle.object_asks.specs.Held.{nothing_held, handle_added, handle_sought, handle_closed, instance_closed};
+    ghost use Rattle.object_asks.specs.Held.{nothing_held, handle_added, handle_sought, handle_closed, instance_closed, key_at};
+    ghost use Rattle.object_asks.specs.Sources.{HasSource, key_source};
 
     /// Nothing. It takes no memory.
     pub fn new(alloc: Global) -> Held
@@ -95,6 +126,30 @@ impl Held {
         ensures there { is_some result ≡ is_there (settled self.now.handles) instance number }
     {
         self.table.get(instance, number)
+    }
+
+    /// The instance's key in memory of this number.
+    pub(crate) fn key(&self, instance: u8, number: u32) -> Option<&Transient>
+        ensures { option_map (λ key. key.now) result ≡ key_at self.now instance number }
+    {
+        key_of(self.keys.as_slice(), instance, number)
+    }
+
+    /// Where the object's kind, usage and secret are.
+    pub(crate) fn source(
+        &self,
+        alloc: Global,
+        instance: u8,
+        object: u32,
+    ) -> Result<KeySource, NoMemory>
+        ensures source { IfOk result (λ source. source ≡ key_source self.now instance object) }
+        ensures bounds { IfOk result (λ source. HasSource source) }
+    {
+        match self.get(instance, object) {
+            None => Ok(KeySource::NoKey),
+            Some(Handle::Persistent { id, .. }) => Ok(KeySource::InStore(id.copy(alloc)?)),
+            Some(Handle::Transient) => Ok(memory_source(self.key(instance, object))),
+        }
     }
 
     /// Whether the instance has a handle of this number.

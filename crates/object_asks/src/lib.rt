@@ -1,15 +1,20 @@
-//! What comes of asks about objects, over the handles of one application and whatever keeps its store.
+//! What comes of asks about objects, over what one application holds in memory and whatever keeps its store.
 #![tactic(auto)]
 
+mod checks;
 mod held;
+mod names;
 mod numbered;
-mod objects;
+mod opening;
 mod outcome;
+mod serving;
+mod source;
+mod stream;
 #[cfg(test)]
 mod tests;
 mod turn;
 
 pub use held::Held;
-pub use objects::serve;
 pub use outcome::{Ending, Outcome, Served, answered, panicked, refused};
+pub use serving::serve;
 pub use turn::TurnKind;

@@ -51,6 +51,20 @@ impl Served {
     }
 }
 
+/// An ask that is done.
+pub fn done() -> Outcome
+    ensures { result ≡ answered Answer.Done }
+{
+    Outcome::Answered(Answer::Done)
+}
+
+/// An ask that is refused.
+pub fn declined(code: Code) -> Outcome
+    ensures { result ≡ answered (Answer.Refused code) }
+{
+    Outcome::Answered(Answer::Refused(code))
+}
+
 /// An ask that is answered without the store.
 pub fn answered(answer: Answer) -> Served
     ensures { result ≡ plainly (answered answer) }
@@ -98,12 +112,12 @@ fn kind_of(answer: StoreAnswer, change: bool) -> TurnKind
 }
 
 /// What comes of an ask, by what the store's answer gives for it. `change` says whether it was to change the store.
-pub fn told(answer: Result<Answer, StoreAnswer>, change: bool) -> Result<Served, NoMemory>
-    ensures ok { IfOk result (λ served. told_of change answer ≡ Some served) }
-    ensures err { OnErr result (told_of change answer ≡ None) }
+pub fn told(outcome: Result<Outcome, StoreAnswer>, change: bool) -> Result<Served, NoMemory>
+    ensures ok { IfOk result (λ served. told_of change outcome ≡ Some served) }
+    ensures err { OnErr result (told_of change outcome ≡ None) }
 {
-    match answer {
-        Ok(answer) => Ok(answered(answer)),
+    match outcome {
+        Ok(outcome) => Ok(Served::plain(outcome)),
         Err(StoreAnswer::NoMemory) => Err(NoMemory),
         Err(answer) => Ok(Served {
             kind: kind_of(answer, change),

@@ -34,4 +34,4 @@ module _ (old new : MapState) (stated : Result Store StoreAnswer) (made : stated
 
   -- the moment before the change, and those before it, stay in the past
   pub made_past : KeepsPast map_keeper old new
-  made_past = record { past = λ t o le left. subst (λ l. (o ≡ Some (contents_of new)) ⊎ LeftBefore l t o) (sym past) (⊎_elim (λ now. inr (inl (le, now))) (λ was. inr (inr was)) left) }
+  made_past = record { later = omega (arith, longer); past = λ t o le left. subst (λ l. (o ≡ Some (contents_of new)) ⊎ LeftBefore l t o) (sym past) (⊎_elim (λ now. inr (inl (le, now))) (λ was. inr (inr was)) left) }

@@ -65,7 +65,7 @@ module _ (old new : MapState) (store : new.store ≡ old.store) (past : new.past
   nothing_new = record { same = same_moment; none = as_before }
 
   past_kept : KeepsPast map_keeper old new
-  past_kept = record { past = λ t o le left. as_after t o left }
+  past_kept = record { later = omega (arith, same_moment); past = λ t o le left. as_after t o left }
 
   still_just : LeavesJust map_keeper old (contents_of old) → LeavesJust map_keeper new (contents_of old)
   still_just just = record { only = λ o left. just.only o (subst (λ t. left_of old t o) same_moment (as_before (moment_of new) o left)) }

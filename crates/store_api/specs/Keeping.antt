@@ -123,8 +123,9 @@ module _ {D : Type 0} (K : Keeper D) where
     pub same : K.moment new ≡ K.moment old
     pub none : (t : ℕ) (o : Remains) → K.left_since new t o → K.left_since old t o
 
-  -- what a crash might have left before the call, it might have left after it too
+  -- what a crash might have left before the call, it might have left after it too, and the clock doesn't fall
   pub record KeepsPast (old new : D) : Type 0 where
+    pub later : K.moment old ≤ K.moment new
     pub past : (t : ℕ) (o : Remains) → t ≤ K.moment old → K.left_since old t o → K.left_since new t o
 
   -- a crash within the call or after it leaves just this

@@ -1,7 +1,7 @@
 use Rattle.std.proofs.Common.{◌≡◌, ◌∙◌, ℕ, List, sym, subst, true}
 use Rattle.handle_table.specs.Handles.{is_open}
 use Rattle.object_asks.specs.Handles.{settled}
-use Rattle.object_asks.proofs.objects.create_object.Goals as goal
+use Rattle.object_asks.proofs.opening.create_object.Goals as goal
 
 pub returns-then-is_open : goal.returns-then-is_open
 returns-then-is_open g c =

@@ -1,6 +1,6 @@
 use Rattle.std.proofs.Common.{rules, true}
 use Rattle.object_asks.proofs.ServingLemmas.{serves_told}
-use Rattle.object_asks.proofs.objects.write.Goals as goal
+use Rattle.object_asks.proofs.stream.write.Goals as goal
 
 pub returns : goal.returns
 returns g c =

@@ -1,6 +1,6 @@
 use Rattle.std.proofs.Common.{rules, false}
 use Rattle.object_asks.proofs.ServingLemmas.{serves_told}
-use Rattle.object_asks.proofs.objects.open.Goals as goal
+use Rattle.object_asks.proofs.opening.open.Goals as goal
 
 pub returns : goal.returns
 returns g c =

@@ -3,7 +3,7 @@ use Rattle.app_api.specs.declared.ask.Ask.{Ask}
 use Rattle.object_asks.specs.Asks.{Serves, came_of, changes_store, object_course}
 use Rattle.object_asks.specs.Serving.{IsOutcome, objects_in}
 use Rattle.object_asks.proofs.ServingLemmas.{serves_kind}
-use Rattle.object_asks.proofs.objects.serve.Goals as goal
+use Rattle.object_asks.proofs.serving.serve.Goals as goal
 
 pub returns-in-ObjClose : goal.returns-in-ObjClose
 unfolding object_course

@@ -1,6 +1,6 @@
 use Rattle.std.proofs.Common.{rules}
 use Rattle.object_asks.proofs.HandleLemmas.{closed_opens}
-use Rattle.object_asks.proofs.objects.create_closed.Goals as goal
+use Rattle.object_asks.proofs.opening.create_closed.Goals as goal
 
 pub returns : goal.returns
 returns g c = record {
@@ -9,6 +9,7 @@ returns g c = record {
   tried = search rules;
   stays = search (rules, closed_opens);
   want = search rules;
+  ends = search rules;
   damage = search rules;
   honest = search rules;
   keeps = search rules;

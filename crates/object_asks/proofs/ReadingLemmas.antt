@@ -1,0 +1,292 @@
+-- One call of the store after another: two reads make one, and what comes after a read is as if nothing came before it.
+use Rattle.std.proofs.Common.{ℕ, ◌≡◌, ◌+◌, ◌≤◌, ◌<◌, List, inl, inr, ⊎_elim, Bool, true, false, Option, None, Some, IfOk, Result, Ok, Err, refl, sym, ap, subst, ◌∙◌, arith}
+use Rattle.std.proofs.lemmas.Bool.{both_ways}
+use Rattle.tee_base.specs.Crash.{LeavesOnly}
+use Rattle.tee_base.specs.Faults.{Rose}
+use Rattle.tee_base.proofs.Crash.{joined, weaker}
+use Rattle.store_api.specs.declared.answer.StoreAnswer.{StoreAnswer}
+use Rattle.store_api.specs.declared.answer.StoreAnswer.TheVariants as stores
+use Rattle.store_api.specs.declared.object.Object.{Object}
+use Rattle.store_api.specs.Keeping.{Answers, Cause, Contents, CrashLeaves, HasCause, IsCall, KeepsPast, Keeper, LeavesJust, Reads, Remains, Status, TellsDamage, damage_in}
+use Rattle.store_api.specs.declared.object.Facts.{Facts}
+use Rattle.store_api.specs.Limits.{IsWithinLimits}
+use Rattle.store_api.specs.Stores.{Store, facts_of, found, object_at, secret_at, with_object}
+use Rattle.transient_obj.specs.declared.object_key.ObjectKey.{ObjectKey}
+use Rattle.object_asks.specs.Sources.{stored_key}
+use Rattle.object_asks.specs.declared.turn.TurnKind.{TurnKind}
+use Rattle.object_asks.specs.declared.outcome.Outcome.{Outcome as Result_of}
+use Rattle.object_asks.specs.declared.outcome.Outcome.TheVariants as outcomes
+use Rattle.object_asks.specs.Courses.{Objects, Outcome}
+use Rattle.object_asks.specs.Held.{Held}
+use Rattle.object_asks.specs.Serving.{CrashTurns, EndsUnchanged, Gives, IsGiven, IsKept, LeftByTurn, StaysBeside, TriesOnce, UnlessAnswered, kind_by, left_by, objects_in}
+use Rattle.object_asks.proofs.Crashes.{only_old}
+
+-- ---- what doesn't rest on the type of an answer's value
+
+cause_of : (A B : Type 0) (e : StoreAnswer) (s t : Status) → Cause {A = A} (Err e) s t → Cause {A = B} (Err e) s t
+cause_of A B stores.NotFound s t met = met
+cause_of A B stores.Exists s t met = met
+cause_of A B stores.NoSpace s t met = met
+cause_of A B stores.Lost s t met = met
+cause_of A B stores.Failed s t met = met
+cause_of A B (stores.Corrupt tags) s t met = met
+cause_of A B (stores.Garbled leaf) s t met = met
+cause_of A B stores.NoMemory s t met = met
+
+damage_of : (A B : Type 0) (e : StoreAnswer) (P : StoreAnswer → Type 0) → TellsDamage {A = A} (Err e) P → TellsDamage {A = B} (Err e) P
+damage_of A B stores.NotFound P told = tt
+damage_of A B stores.Exists P told = tt
+damage_of A B stores.NoSpace P told = tt
+damage_of A B stores.Lost P told = tt
+damage_of A B stores.Failed P told = tt
+damage_of A B (stores.Corrupt tags) P told = told
+damage_of A B (stores.Garbled leaf) P told = told
+damage_of A B stores.NoMemory P told = tt
+
+reports_of : (A B : Type 0) (e : StoreAnswer) → damage_in {A = A} (Err e) ≡ damage_in {A = B} (Err e)
+reports_of A B stores.NotFound = refl
+reports_of A B stores.Exists = refl
+reports_of A B stores.NoSpace = refl
+reports_of A B stores.Lost = refl
+reports_of A B stores.Failed = refl
+reports_of A B (stores.Corrupt tags) = refl
+reports_of A B (stores.Garbled leaf) = refl
+reports_of A B stores.NoMemory = refl
+
+-- ---- answers that differ
+
+ok_err : {A : Type 0} (a : A) (e : StoreAnswer) → Ok a ≡ Err e → ⊥
+ok_err a e same = cc
+
+err_ok : {A : Type 0} (e : StoreAnswer) (a : A) → Err e ≡ Ok a → ⊥
+err_ok e a same = cc
+
+differ_exists : (A : Type 0) → (let r : Result A StoreAnswer = Err stores.NotFound in r ≡ Err stores.Exists) → ⊥
+differ_exists A e = cc
+
+differ_space : (A : Type 0) → (let r : Result A StoreAnswer = Err stores.NotFound in r ≡ Err stores.NoSpace) → ⊥
+differ_space A e = cc
+
+both_of : (o : Option Object) (facts : Facts) (secret : List ℕ) → with_object o (λ x. Ok (facts_of x)) ≡ Ok facts → with_object o (λ x. Ok x.secret) ≡ Ok secret → with_object {A = ObjectKey} o (λ x. Ok (record { kind = x.kind; usage = x.usage; secret = x.secret })) ≡ Ok (record { kind = facts.kind; usage = facts.usage; secret = secret })
+both_of None facts secret one two = absurd (err_ok _ _ one)
+both_of (Some x) facts secret one two =
+    let same : facts_of x ≡ facts = cc in
+    let alike : x.secret ≡ secret = cc in
+    rw (← same, ← alike) refl
+
+-- ---- when an answer comes, after one call that went well
+
+rose : (a b c : ℕ) → a ≤ b → Rose b c → Rose a c
+rose a b c le up = ⊎_elim (λ (l : b < c). inl (omega (arith, le, l))) (λ e. inr e) up
+
+later_cause : {A : Type 0} (result : Result A StoreAnswer) (s m t : Status) → s.lost ≡ false → m.lost ≡ false → s.faults ≤ m.faults → Cause result m t → Cause result s t
+later_cause (Ok a) s m t works worked le met = (works, met.1)
+later_cause (Err stores.NotFound) s m t works worked le met = (works, met.1)
+later_cause (Err stores.Exists) s m t works worked le met = (works, met.1)
+later_cause (Err stores.NoSpace) s m t works worked le met = (works, met.1)
+later_cause (Err stores.Lost) s m t works worked le met = absurd (both_ways _ worked met.0)
+later_cause (Err stores.Failed) s m t works worked le met = (works, met.1, rose s.faults m.faults t.faults le met.2)
+later_cause (Err (stores.Corrupt tags)) s m t works worked le met = (works, met.1, met.2)
+later_cause (Err (stores.Garbled leaf)) s m t works worked le met = (works, met.1)
+later_cause (Err stores.NoMemory) s m t works worked le met = (works, met.1)
+
+tries_after : (changes : Bool) (s m t : Status) → m.change_attempts ≡ s.change_attempts → TriesOnce changes m t → TriesOnce changes s t
+tries_after true s m t same tried = (omega (arith, same, tried.0), omega (arith, same, tried.1))
+tries_after false s m t same tried = tried ∙ same
+
+module _ {D : Type 0} (K : Keeper D) where
+  -- a read that went well
+  pub record Looked (old mid : D) : Type 0 where
+    pub works : (K.status old).lost ≡ false
+    pub worked : (K.status mid).lost ≡ false
+    pub later : (K.status old).faults ≤ (K.status mid).faults
+    pub orders : (K.status mid).orders ≡ (K.status old).orders
+    pub ordered : (K.status mid).ordered ≡ (K.status old).ordered
+    pub reports : (K.status mid).damage_reports ≡ (K.status old).damage_reports
+    pub attempts : (K.status mid).change_attempts ≡ (K.status old).change_attempts
+    pub model : K.has_model old → K.has_model mid
+    pub same : K.has_model old → K.contents mid ≡ K.contents old
+    pub honest : K.honest old → K.honest mid
+    pub past : K.honest old → KeepsPast K old mid
+    pub crash : K.honest old → LeavesJust K old (K.contents old) → CrashLeaves K (K.contents old) old mid
+
+  pub looked : {A : Type 0} (stated : Store → Result A StoreAnswer) (Bounds : A → Type 0) (a : A) (old mid : D) → Reads K stated Bounds (Ok a) old mid → Looked old mid
+  looked stated Bounds a old mid read = record {
+    works = read.call.cause.cause.0;
+    worked = read.call.cause.cause.1;
+    later = read.call.cause.later;
+    orders = read.call.cause.orders;
+    ordered = read.call.cause.ordered;
+    reports = omega (arith, read.call.cause.reports);
+    attempts = omega (arith, read.call.attempts);
+    model = read.call.model;
+    same = read.same;
+    honest = λ h. (read.call.honest h).0;
+    past = read.call.past;
+    crash = read.crash;
+  }
+
+  has_cause_after : {A : Type 0} (result : Result A StoreAnswer) (old mid new : D) → Looked old mid → HasCause result (K.status mid) (K.status new) → HasCause result (K.status old) (K.status new)
+  has_cause_after result old mid new one two = record {
+    cause = later_cause result (K.status old) (K.status mid) (K.status new) one.works one.worked one.later two.cause;
+    later = omega (arith, one.later, two.later);
+    orders = two.orders ∙ one.orders;
+    ordered = two.ordered ∙ one.ordered;
+    reports = omega (arith, two.reports, one.reports);
+  }
+
+  past_after : (old mid new : D) → KeepsPast K old mid → KeepsPast K mid new → KeepsPast K old new
+  past_after old mid new one two = record {
+    later = omega (arith, one.later, two.later);
+    past = λ t o le left. two.past t o (omega (arith, le, one.later)) (one.past t o le left);
+  }
+
+  just_after : (old mid : D) → Looked old mid → K.has_model old → CrashLeaves K (K.contents old) old mid → LeavesJust K mid (K.contents mid)
+  just_after old mid one there leaves = subst (λ c. LeavesJust K mid c) (sym (one.same there)) leaves.afterwards
+
+  -- what remains after the second call, which itself left this alone
+  leaves_after : (old mid new : D) → Looked old mid → K.has_model old → CrashLeaves K (K.contents old) old mid → CrashLeaves K (K.contents mid) mid new → CrashLeaves K (K.contents old) old new
+  leaves_after old mid new one there first second =
+      let two : CrashLeaves K (K.contents old) mid new = subst (λ c. CrashLeaves K c mid new) (one.same there) second in
+      record {
+        any_moment = joined K.moment K.left_since old mid new (λ o. o ≡ Some (K.contents old)) first.any_moment two.any_moment;
+        afterwards = two.afterwards;
+      }
+
+  kept_after : (old mid new : D) → Looked old mid → IsKept K mid new → IsKept K old new
+  kept_after old mid new one two = record {
+    model = λ t. two.model (one.model t);
+    beside = λ t. subst (λ c. StaysBeside c (K.contents new)) (one.same t) (two.beside (one.model t));
+    quiet = λ lost. absurd (both_ways _ one.works lost);
+    past = λ h. past_after old mid new (one.past h) (two.past (one.honest h));
+  }
+
+  -- who is honest has a store to answer from
+  module _ (honest_model : (d : D) → K.honest d → K.has_model d) where
+    ends_after : (old mid new : D) → Looked old mid → EndsUnchanged K mid new → EndsUnchanged K old new
+    ends_after old mid new one two = record {
+      contents = λ t. two.contents (one.model t) ∙ one.same t;
+      status = record {
+        cause = two.status.cause ∙ one.worked ∙ sym one.works;
+        later = omega (arith, one.later, two.status.later);
+        orders = two.status.orders ∙ one.orders;
+        ordered = two.status.ordered ∙ one.ordered;
+        reports = omega (arith, two.status.reports, one.reports);
+      };
+      honest = λ h. two.honest (one.honest h);
+      keeps = kept_after old mid new one two.keeps;
+      crash = λ h just.
+          let first = one.crash h just in
+          leaves_after old mid new one (honest_model old h) first (two.crash (one.honest h) (just_after old mid one (honest_model old h) first));
+    }
+
+    ends_given : (result : Result Result_of StoreAnswer) (old mid new : D) → Looked old mid → IfOk result (λ outcome. UnlessAnswered outcome (EndsUnchanged K mid new)) → IfOk result (λ outcome. UnlessAnswered outcome (EndsUnchanged K old new))
+    ends_given (Ok (outcomes.Answered answer)) old mid new one two = tt
+    ends_given (Ok (outcomes.Returned ending)) old mid new one two = ends_after old mid new one two
+    ends_given (Ok outcomes.Panicked) old mid new one two = ends_after old mid new one two
+    ends_given (Err e) old mid new one two = tt
+
+    turns_after : (kind : TurnKind) (doubt in_doubt : Option Store) (old mid new : D) → Looked old mid → K.has_model old → doubt ≡ in_doubt → CrashLeaves K (K.contents old) old mid → CrashTurns K kind doubt mid new → CrashTurns K kind in_doubt old new
+    turns_after kind doubt in_doubt old mid new one there agree first second =
+        let P : Remains → Type 0 = LeftByTurn kind in_doubt (K.contents old) (K.contents new) in
+        let two : LeavesOnly K.moment K.left_since mid new (LeftByTurn kind doubt (K.contents old) (K.contents new)) = subst (λ c. LeavesOnly K.moment K.left_since mid new (LeftByTurn kind doubt c (K.contents new))) (one.same there) second.any_moment in
+        record {
+          any_moment = joined K.moment K.left_since old mid new P (weaker K.moment K.left_since old mid (λ o. o ≡ Some (K.contents old)) P (λ o e. only_old kind in_doubt (K.contents old) (K.contents new) o e) first.any_moment)
+              (subst (λ d. LeavesOnly K.moment K.left_since mid new (LeftByTurn kind d (K.contents old) (K.contents new))) agree two);
+          afterwards = second.afterwards;
+        }
+
+    -- what comes to the store after a read, as if it came at once
+    pub given_after : (result : Result Result_of StoreAnswer) (seen plain : Outcome Objects) (changes : Bool) (held kept left : Held) (old mid new : D)
+        → Looked old mid → (K.has_model old → seen ≡ plain) → IsGiven K result seen changes held kept left mid new → IsGiven K result plain changes held kept left old new
+    given_after result seen plain changes held kept left old mid new one agree two = record {
+      gives = λ t. subst (λ p. Gives result p (objects_in held (K.contents old)) (objects_in kept (K.contents old)) (objects_in left (K.contents new))) (agree t)
+          (subst (λ c. Gives result seen (objects_in held c) (objects_in kept c) (objects_in left (K.contents new))) (one.same t) (two.gives (one.model t)));
+      cause = λ e. has_cause_after result old mid new one (two.cause e);
+      tried = tries_after changes (K.status old) (K.status mid) (K.status new) one.attempts two.tried;
+      stays = two.stays;
+      want = λ e. ends_after old mid new one (two.want e);
+      ends = ends_given result old mid new one two.ends;
+      damage = two.damage;
+      honest = λ h. two.honest (one.honest h);
+      keeps = kept_after old mid new one two.keeps;
+      crash = λ h just.
+          let first = one.crash h just in
+          turns_after (kind_by changes result) (left_by seen) (left_by plain) old mid new one (honest_model old h) (ap left_by (agree (honest_model old h))) first (two.crash (one.honest h) (just_after old mid one (honest_model old h) first));
+    }
+
+    pub call_after : {A : Type 0} (result : Result A StoreAnswer) (old mid new : D) → Looked old mid → (K.has_model old → K.contents mid ≡ K.contents old) → IsCall K 0 result mid new → IsCall K 0 result old new
+    call_after result old mid new one same two = record {
+      model = λ t. two.model (one.model t);
+      limits = λ t. (subst (λ (c : Contents). IsWithinLimits c.store) (same t) (two.limits (one.model t)).0, (two.limits (one.model t)).1);
+      cause = has_cause_after result old mid new one two.cause;
+      attempts = omega (arith, one.attempts, two.attempts);
+      damage = two.damage;
+      honest = λ h. two.honest (one.honest h);
+      quiet = λ lost. absurd (both_ways _ one.works lost);
+      past = λ h. past_after old mid new (one.past h) (two.past (one.honest h));
+    }
+
+    -- two reads are one of what both give
+    pub read_after : {A : Type 0} (stated : Store → Result A StoreAnswer) (Bounds : A → Type 0) (result : Result A StoreAnswer) (old mid new : D) → Looked old mid
+        → (K.has_model old → Answers result (stated (K.contents old).store)) → Reads K stated Bounds result mid new → Reads K stated Bounds result old new
+    read_after stated Bounds result old mid new one answers two = record {
+      answer = answers;
+      same = λ t. two.same (one.model t) ∙ one.same t;
+      bounds = two.bounds;
+      call = call_after result old mid new one one.same two.call;
+      crash = λ h just.
+          let first = one.crash h just in
+          leaves_after old mid new one (honest_model old h) first (two.crash (one.honest h) (just_after old mid one (honest_model old h) first));
+    }
+
+  -- a read that went well, as one of something else
+  pub ok_read : {A B : Type 0} (stated : Store → Result A StoreAnswer) (Bounds : A → Type 0) (stated_ : Store → Result B StoreAnswer) (Bounds_ : B → Type 0) (a : A) (b : B) (old new : D)
+      → ((store : Store) → stated store ≡ Ok a → stated_ store ≡ Ok b) → Bounds_ b → Reads K stated Bounds (Ok a) old new → Reads K stated_ Bounds_ (Ok b) old new
+  ok_read stated Bounds stated_ Bounds_ a b old new agree bounds read = record {
+    answer = λ t. agree (K.contents old).store (read.answer t);
+    same = read.same;
+    bounds = bounds;
+    call = record { model = read.call.model; limits = read.call.limits; cause = record { cause = read.call.cause.cause; later = read.call.cause.later; orders = read.call.cause.orders; ordered = read.call.cause.ordered; reports = read.call.cause.reports }; attempts = read.call.attempts; damage = tt; honest = λ h. ((read.call.honest h).0, tt); quiet = read.call.quiet; past = read.call.past };
+    crash = read.crash;
+  }
+
+  -- a read that gave nothing
+  pub err_read : {A B : Type 0} (stated : Store → Result A StoreAnswer) (Bounds : A → Type 0) (stated_ : Store → Result B StoreAnswer) (Bounds_ : B → Type 0) (e : StoreAnswer) (old new : D)
+      → ((store : Store) → Answers {A = A} (Err e) (stated store) → Answers {A = B} (Err e) (stated_ store)) → Reads K stated Bounds (Err e) old new → Reads K stated_ Bounds_ (Err e) old new
+  err_read {A} {B} stated Bounds stated_ Bounds_ e old new agree read = record {
+    answer = λ t. agree (K.contents old).store (read.answer t);
+    same = read.same;
+    bounds = tt;
+    call = record {
+      model = read.call.model;
+      limits = read.call.limits;
+      cause = record { cause = cause_of A B e (K.status old) (K.status new) read.call.cause.cause; later = read.call.cause.later; orders = read.call.cause.orders; ordered = read.call.cause.ordered; reports = read.call.cause.reports ∙ ap (λ n. (K.status old).damage_reports + n) (reports_of A B e) };
+      attempts = read.call.attempts;
+      damage = damage_of A B e (K.damage new) read.call.damage;
+      honest = λ h. ((read.call.honest h).0, damage_of A B e (λ answer. ⊥) (read.call.honest h).1);
+      quiet = read.call.quiet;
+      past = read.call.past;
+    };
+    crash = read.crash;
+  }
+
+-- ---- of the same object
+
+-- what isn't there isn't there, whatever is asked of it
+pub not_there : {A B : Type 0} (o : Option Object) (f : Object → A) (g : Object → B) (e : StoreAnswer) → Answers {A = A} (Err e) (with_object o (λ x. Ok (f x))) → Answers {A = B} (Err e) (with_object o (λ x. Ok (g x)))
+not_there None f g stores.NotFound told = refl
+not_there {A} None f g stores.Exists told = absurd (differ_exists A told)
+not_there {A} None f g stores.NoSpace told = absurd (differ_space A told)
+not_there (Some x) f g stores.NotFound told = absurd (ok_err _ _ told)
+not_there (Some x) f g stores.Exists told = absurd (ok_err _ _ told)
+not_there (Some x) f g stores.NoSpace told = absurd (ok_err _ _ told)
+not_there o f g stores.Lost told = tt
+not_there o f g stores.Failed told = tt
+not_there o f g (stores.Corrupt tags) told = tt
+not_there o f g (stores.Garbled leaf) told = tt
+not_there o f g stores.NoMemory told = tt
+
+-- kind and usage by the one read, the secret by the other
+pub key_of_both : (store : Store) (id : List ℕ) (facts : Facts) (secret : List ℕ) → found store id ≡ Ok facts → secret_at store id ≡ Ok secret → stored_key store id ≡ Ok (record { kind = facts.kind; usage = facts.usage; secret = secret })
+key_of_both store id facts secret one two = both_of (object_at store id) facts secret one two

@@ -1,0 +1,290 @@
+-- What asks about persistent objects leave is valid where it was before, and so it is for what the store's answers would give.
+use Rattle.std.proofs.Common.{ℕ, ◌≡◌, ◌<◌, ℤ, pos, ◌+ℤ◌, ◌+◌, ◌==◌, min, Bool, true, false, not, cond, nat_lt, nat_le, ◌&&◌, ◌||◌, List, length, Option, None, Some, is_some, Result, Ok, Err, IfOk, refl, ap, subst, ◌∙◌, arith}
+use Rattle.std.specs.Ordering.{eq_by_cmp}
+use Rattle.std.specs.Cmp.{eq_by_cmp_equiv}
+use Rattle.std.specs.Cmp.Lexicographic.{nat_list_cmp_total}
+use Rattle.std.specs.FinMap as finite
+use Rattle.std.specs.Str.{bytes_eq}
+use Rattle.std.proofs.lemmas.Bool.{cond_both, not-false}
+use Rattle.std.proofs.lemmas.Slice.Eq.{bytes_eq-Decides}
+use Rattle.tee_base.specs.declared.codes.Flags.{Flags}
+use Rattle.share_rules.specs.Sharing.{has as has_bit, access_read, access_write, access_write_meta}
+use Rattle.store_api.specs.declared.object.Object.{Object}
+use Rattle.store_api.specs.declared.object.Facts.{Facts}
+use Rattle.store_api.specs.declared.answer.StoreAnswer.{StoreAnswer}
+use Rattle.store_api.specs.declared.answer.StoreAnswer.TheVariants.{Exists, NoSpace}
+use Rattle.store_api.specs.declared.change.Change.TheVariants.{Delete, Truncate, Write}
+use Rattle.store_api.specs.Stores.{Store, change, cost, facts_of, found, has, object_at, quota, read_at, resized, with_object, within_quota, written}
+use Rattle.store_api.proofs.ChangeLaws.{leaves_others}
+use Rattle.store_api.proofs.Costs.{by_bytes}
+use Rattle.transient_obj.specs.Keys.{Key}
+use Rattle.transient_obj.specs.declared.object_key.ObjectKey.{ObjectKey}
+use Rattle.handle_table.specs.declared.handle.Handle.{Handle}
+use Rattle.handle_table.specs.declared.handle.Handle.TheVariants.{Persistent, Transient}
+use Rattle.handle_table.specs.Handles.{entry_is_on, free_number, handle_at, is_at, is_full, is_of, is_on, is_open, is_there, may_open}
+use Rattle.object_asks.specs.Asks.{Outcome, Answered, Returned, Panicked, Course, Settled, ComesToStore, Objects, close_course, create_course, created, created_by, created_with, delete_course, delete_on, deleted_by, has_unknown_bits, holding, info_course, is_long_identifier, is_too_much, kept_flags, key_info, landed, landed_on, moved_by, moved_from_end, moved_to, numbered, open_course, opened_by, overwrites, private_storage, put_of, read_by, read_course, refused, seek_course, told_of_object, truncate_course, truncated_by, write_course, written_by}
+use Rattle.object_asks.specs.Codes.{access_conflict}
+use Rattle.object_asks.specs.Handles.{settled}
+use Rattle.object_asks.specs.Held.{BelongTogether, handle_added, handle_closed, instance_closed, key_at, nothing_held, ones_on, writes_meta_on}
+use Rattle.object_asks.specs.Sources.{attr_source, is_no_key, key_given}
+use Rattle.object_asks.specs.Valid.{IsValidObjects}
+use Rattle.object_asks.proofs.HandleLemmas.{both, closed_opens}
+use Rattle.object_asks.proofs.HeldLemmas.{found_counts, found_goes, handle_found, together_added, together_left, together_sought}
+use Rattle.object_asks.proofs.SoundHandles.{IsSound, added_sound, fewer_sound, kept_sound, moved_sound}
+
+-- ---- what a put and a write keep
+
+some_either : (b : Bool) (v : Object) (o : Option Object) → is_some o ≡ true → is_some (cond b (Some v) o) ≡ true
+some_either true v o there = refl
+some_either false v o there = there
+
+inserted_keeps : (m : Store) (k : List ℕ) (v : Object) (q : List ℕ) → has m q ≡ true → has (finite.insert m k v) q ≡ true
+inserted_keeps m k v q there = ap is_some (finite.get-insert nat_list_cmp_total m k v q) ∙ some_either (eq_by_cmp by_bytes q k) v (object_at m q) there
+
+inserted_there : (m : Store) (k : List ℕ) (v : Object) → has (finite.insert m k v) k ≡ true
+inserted_there m k v =
+    ap is_some (finite.get-insert nat_list_cmp_total m k v k) ∙ ap (λ b. is_some (cond b (Some v) (object_at m k))) ((eq_by_cmp_equiv nat_list_cmp_total).refl k)
+
+-- the store has all that another has, and this identifier
+record Gains (store : Store) (id : List ℕ) (after : Store) : Type 0 where
+  there : has after id ≡ true
+  keeps : (q : List ℕ) → has store q ≡ true → has after q ≡ true
+
+inserted_gains : (m : Store) (k : List ℕ) (v : Object) → Gains m k (finite.insert m k v)
+inserted_gains m k v = record { there = inserted_there m k v; keeps = inserted_keeps m k v }
+
+within : (P : Store → Type 0) (s : Store) → P s → IfOk (within_quota (Ok s)) (λ after. P after)
+within P s holds = cond_both {A = Result Store StoreAnswer} (nat_le (cost s) quota) (Ok s) (Err NoSpace) (λ r. IfOk r (λ after. P after)) (λ e. holds) (λ e. tt)
+
+put_gains : (m : Store) (id : List ℕ) (key : ObjectKey) (content : List ℕ) (overwrite : Bool) → IfOk (change m (put_of id key content overwrite)) (λ after. Gains m id after)
+unfolding change
+put_gains m id key content overwrite =
+    let o : Object = record { kind = key.kind; usage = key.usage; secret = key.secret; content = content } in
+    cond_both {A = Result Store StoreAnswer} (has m id && not overwrite) (Err Exists) (Ok (finite.insert m id o)) (λ r. IfOk (within_quota r) (λ after. Gains m id after)) (λ e. tt)
+    (λ e. within (Gains m id) (finite.insert m id o) (inserted_gains m id o))
+
+of_found : (P : Store → Type 0) (r : Option Object) (f : Object → Result Store StoreAnswer) → ((o : Object) → IfOk (within_quota (f o)) (λ after. P after)) → IfOk (within_quota (with_object r f)) (λ after. P after)
+of_found P None f each = tt
+of_found P (Some o) f each = each o
+
+write_gains : (m : Store) (id : List ℕ) (at : ℕ) (bytes : List ℕ) → IfOk (change m (Write id at bytes)) (λ after. Gains m id after)
+unfolding change
+write_gains m id at bytes =
+    of_found (Gains m id) (object_at m id) (λ o. Ok (finite.insert m id (record o { content = written o.content at bytes })))
+    (λ o. within (Gains m id) (finite.insert m id (record o { content = written o.content at bytes })) (inserted_gains m id (record o { content = written o.content at bytes })))
+
+truncate_gains : (m : Store) (id : List ℕ) (n : ℕ) → IfOk (change m (Truncate id n)) (λ after. Gains m id after)
+unfolding change
+truncate_gains m id n =
+    of_found (Gains m id) (object_at m id) (λ o. Ok (finite.insert m id (record o { content = resized n o.content })))
+    (λ o. within (Gains m id) (finite.insert m id (record o { content = resized n o.content })) (inserted_gains m id (record o { content = resized n o.content })))
+
+-- a delete leaves the others
+each_other : (r : Result Store StoreAnswer) (m : Store) (id : List ℕ) → ((q : List ℕ) → ¬ (q ≡ id) → IfOk r (λ after. object_at after q ≡ object_at m q)) → IfOk r (λ after. (q : List ℕ) → ¬ (q ≡ id) → object_at after q ≡ object_at m q)
+each_other (Ok after) m id each = each
+each_other (Err answer) m id each = tt
+
+gone_others : (m : Store) (id : List ℕ) → IfOk (change m (Delete id)) (λ after. (q : List ℕ) → ¬ (q ≡ id) → object_at after q ≡ object_at m q)
+gone_others m id = each_other (change m (Delete id)) m id (leaves_others m (Delete id))
+
+-- ---- outcomes and courses
+
+abbrev pub AreSound : Objects → Type 0
+AreSound o = IsValidObjects o
+
+pub of_handles : (o : Objects) → AreSound o → IsSound o.store o.held.handles
+of_handles o sound = record { stored = sound.stored; sole = sound.sole }
+
+pub by_handles : (o : Objects) → IsSound o.store o.held.handles → BelongTogether o.held.handles o.held.keys → AreSound o
+by_handles o sound together = record { stored = sound.stored; sole = sound.sole; together = together }
+
+-- nothing held is valid over any store
+pub nothing_sound : (store : Store) → AreSound (record { store = store; held = nothing_held })
+nothing_sound store = record { stored = λ id some. absurd (omega arith); sole = λ id some. absurd (omega arith); together = refl }
+
+-- all that an instance has goes
+pub instance_closed_sound : (o : Objects) (i : ℕ) → AreSound o → AreSound (record o { held = instance_closed o.held i })
+instance_closed_sound o i sound =
+    by_handles (record o { held = instance_closed o.held i }) (fewer_sound o.store (λ e. not (is_of i e)) o.held.handles (of_handles o sound))
+    (together_left (λ p. not (p.0 == i)) o.held.handles o.held.keys sound.together)
+
+-- what the outcome leaves meets the condition
+abbrev pub Leaves : {S : Type 0} → (S → Type 0) → Outcome S → Type 0
+Leaves P (Answered after answer) = P after
+Leaves P (Returned code outs) = Unit {0}
+Leaves P Panicked = Unit {0}
+
+-- what the course leaves meets it, whatever the store does
+abbrev pub Goes : {S : Type 0} → (S → Type 0) → Course S → Type 0
+Goes P (Settled outcome) = Leaves P outcome
+Goes P (ComesToStore refused plain) = P refused × Leaves P plain
+
+-- at each test the course goes well whichever way it turns out
+pub turn : (b : Bool) (x y : Course Objects) → Goes AreSound x → (b ≡ false → Goes AreSound y) → Goes AreSound (cond b x y)
+turn b x y here there = cond_both b x y (Goes AreSound) (λ e. here) there
+
+numbered_sound : (o : Objects) (i : ℕ) (id : List ℕ) (flags : Flags) → has o.store id ≡ true → may_open (settled o.held.handles) id flags ≡ true → AreSound o → Leaves AreSound (numbered o i id flags)
+numbered_sound o i id flags there may sound =
+    by_handles (record o { held = handle_added o.held i id flags }) (added_sound o.store o.held.handles i (free_number o.held.handles i) id flags 0 there may (of_handles o sound))
+    (together_added o.held.handles o.held.keys (record { instance = i; number = free_number o.held.handles i; handle = Persistent id flags 0 }) refl sound.together)
+
+-- over a store that has what another has
+pub kept_valid : (o : Objects) (after : Store) → ((q : List ℕ) → has o.store q ≡ true → has after q ≡ true) → AreSound o → AreSound (record o { store = after })
+kept_valid o after keeps sound = by_handles (record o { store = after }) (kept_sound o.store after o.held.handles keeps (of_handles o sound)) sound.together
+
+found_there : (store : Store) (r : Option Object) (id : List ℕ) (P : Result Facts StoreAnswer → Type 0) → (is_some r ≡ true → (facts : Facts) → P (Ok facts)) → ((answer : StoreAnswer) → P (Err answer)) → P (with_object r (λ x. Ok (facts_of x)))
+found_there store None id P there not_there = not_there _
+found_there store (Some x) id P there not_there = there refl (facts_of x)
+
+pub open_sound : (o : Objects) (i storage : ℕ) (id : List ℕ) (flags : ℕ) → AreSound o → Goes AreSound (open_course o i storage id flags)
+open_sound o i storage id flags sound =
+    turn (is_long_identifier id || has_unknown_bits flags) _ _ tt (λ _.
+    turn (not (storage == private_storage)) _ _ sound (λ _.
+    turn (is_full (settled o.held.handles) i) _ _ sound (λ _. (
+      sound,
+      found_there o.store (object_at o.store id) id (λ r. Leaves AreSound (opened_by o i id (kept_flags flags) r))
+          (λ there facts. cond_both (may_open (settled o.held.handles) id (kept_flags flags)) (numbered o i id (kept_flags flags)) (refused o access_conflict) (Leaves AreSound) (λ may. numbered_sound o i id (kept_flags flags) there may sound) (λ _. sound))
+          (λ answer. sound),
+    ))))
+
+created_by_sound : (o : Objects) (i : ℕ) (id : List ℕ) (flags : Flags) (r : Result Store StoreAnswer) → IfOk r (λ after. Gains o.store id after) → may_open (settled o.held.handles) id flags ≡ true → AreSound o → Leaves AreSound (created_by o i id flags r)
+created_by_sound o i id flags (Ok after) gains may sound = numbered_sound (record o { store = after }) i id flags gains.there may (kept_valid o after gains.keeps sound)
+created_by_sound o i id flags (Err answer) gains may sound = sound
+
+created_sound : (o : Objects) (i : ℕ) (id : List ℕ) (flags : ℕ) (content : List ℕ) (key : ObjectKey) → AreSound o → Leaves AreSound (created o i id flags content key)
+created_sound o i id flags content key sound =
+    cond_both (is_open (settled o.held.handles) id) (refused o access_conflict) (created_by o i id (kept_flags flags) (change o.store (put_of id key content (overwrites flags)))) (Leaves AreSound) (λ _. sound)
+    (λ none. created_by_sound o i id (kept_flags flags) (change o.store (put_of id key content (overwrites flags))) (put_gains o.store id key content (overwrites flags)) (closed_opens o.held.handles id (kept_flags flags) none) sound)
+
+created_with_sound : (o : Objects) (i : ℕ) (id : List ℕ) (flags : ℕ) (content : List ℕ) (r : Result ObjectKey StoreAnswer) → AreSound o → Leaves AreSound (created_with o i id flags content r)
+created_with_sound o i id flags content (Ok key) sound = created_sound o i id flags content key sound
+created_with_sound o i id flags content (Err answer) sound = sound
+
+pub create_sound : (o : Objects) (i storage : ℕ) (id : List ℕ) (flags attr : ℕ) (content : List ℕ) → AreSound o → Goes AreSound (create_course o i storage id flags attr content)
+create_sound o i storage id flags attr content sound =
+    let source = attr_source o.held i attr in
+    turn (is_long_identifier id || is_too_much (length content) || has_unknown_bits flags || is_no_key source) _ _ tt (λ _.
+    turn (not (storage == private_storage)) _ _ sound (λ _.
+    turn (is_full (settled o.held.handles) i) _ _ sound (λ _.
+    (sound, created_with_sound o i id flags content (key_given o.store source) sound))))
+
+pub closed_sound : (o : Objects) (i object : ℕ) → AreSound o → AreSound (record o { held = handle_closed o.held i object })
+closed_sound o i object sound =
+    by_handles (record o { held = handle_closed o.held i object }) (fewer_sound o.store (λ e. not (is_at i object e)) o.held.handles (of_handles o sound))
+    (together_left (λ p. not ((p.0 == i) && (p.1 == object))) o.held.handles o.held.keys sound.together)
+
+pub close_sound : (o : Objects) (i object : ℕ) → AreSound o → Goes AreSound (close_course o i object)
+close_sound o i object sound =
+    turn (object == 0) _ _ sound (λ _.
+    turn (not (is_there (settled o.held.handles) i object)) _ _ tt (λ _.
+    closed_sound o i object sound))
+
+moved_to_sound : (o : Objects) (i object position : ℕ) → AreSound o → AreSound (moved_to o i object position)
+moved_to_sound o i object position sound =
+    by_handles (moved_to o i object position) (moved_sound o.store (is_at i object) (min position 4294967295) o.held.handles (of_handles o sound))
+    (together_sought (is_at i object) (min position 4294967295) o.held.handles o.held.keys sound.together)
+
+read_by_sound : (o : Objects) (i object position : ℕ) (r : Result (List ℕ) StoreAnswer) → AreSound o → Leaves AreSound (read_by o i object position r)
+read_by_sound o i object position (Ok bytes) sound = moved_to_sound o i object (position + length bytes) sound
+read_by_sound o i object position (Err answer) sound = sound
+
+pub read_sound : (o : Objects) (i object count : ℕ) (h : Option Handle) → AreSound o → Goes AreSound (read_course o i object count h)
+read_sound o i object count None sound = tt
+read_sound o i object count (Some Transient) sound = tt
+read_sound o i object count (Some (Persistent id flags position)) sound =
+    turn (is_too_much count || not (has_bit access_read flags)) _ _ tt (λ _.
+    turn (count == 0) _ _ sound (λ _.
+    (sound, read_by_sound o i object position (read_at o.store id position count) sound)))
+
+written_by_sound : (o : Objects) (i object to : ℕ) (id : List ℕ) (r : Result Store StoreAnswer) → IfOk r (λ after. Gains o.store id after) → AreSound o → Leaves AreSound (written_by o i object to r)
+written_by_sound o i object to id (Ok after) gains sound = moved_to_sound (record o { store = after }) i object to (kept_valid o after gains.keeps sound)
+written_by_sound o i object to id (Err answer) gains sound = sound
+
+pub write_sound : (o : Objects) (i object : ℕ) (bytes : List ℕ) (h : Option Handle) → AreSound o → Goes AreSound (write_course o i object bytes h)
+write_sound o i object bytes None sound = tt
+write_sound o i object bytes (Some Transient) sound = tt
+write_sound o i object bytes (Some (Persistent id flags position)) sound =
+    turn (is_too_much (length bytes) || not (has_bit access_write flags)) _ _ tt (λ _.
+    turn (length bytes == 0) _ _ sound (λ _.
+    turn (nat_lt 4294967295 (position + length bytes)) _ _ sound (λ _.
+    (sound, written_by_sound o i object (position + length bytes) id (change o.store (Write id position bytes)) (write_gains o.store id position bytes) sound))))
+
+-- ---- what an object told, and where a handle goes
+
+told_sound : (o : Objects) (flags : Flags) (position : ℕ) (r : Result Facts StoreAnswer) → AreSound o → Leaves AreSound (told_of_object o flags position r)
+told_sound o flags position (Ok facts) sound = sound
+told_sound o flags position (Err answer) sound = sound
+
+key_told_sound : (o : Objects) (key : Option Key) → AreSound o → Leaves AreSound (key_info o key)
+key_told_sound o None sound = tt
+key_told_sound o (Some key) sound = sound
+
+pub info_sound : (o : Objects) (i object : ℕ) (h : Option Handle) → AreSound o → Goes AreSound (info_course o i object h)
+info_sound o i object None sound = tt
+info_sound o i object (Some Transient) sound = key_told_sound o (key_at o.held i object) sound
+info_sound o i object (Some (Persistent id flags position)) sound = (sound, told_sound o flags position (found o.store id) sound)
+
+landed_sound : (o : Objects) (i object : ℕ) (to : Option ℕ) → AreSound o → Leaves AreSound (landed_on o i object to)
+landed_sound o i object None sound = sound
+landed_sound o i object (Some to) sound = moved_to_sound o i object to sound
+
+moved_by_sound : (o : Objects) (i object base : ℕ) (offset : ℤ) → AreSound o → Leaves AreSound (moved_by o i object base offset)
+moved_by_sound o i object base offset sound = landed_sound o i object (landed (pos base +ℤ offset)) sound
+
+from_end_sound : (o : Objects) (i object : ℕ) (offset : ℤ) (r : Result Facts StoreAnswer) → AreSound o → Leaves AreSound (moved_from_end o i object offset r)
+from_end_sound o i object offset (Ok facts) sound = moved_by_sound o i object facts.length offset sound
+from_end_sound o i object offset (Err answer) sound = sound
+
+pub seek_sound : (o : Objects) (i object : ℕ) (offset : ℤ) (whence : ℕ) (h : Option Handle) → AreSound o → Goes AreSound (seek_course o i object offset whence h)
+seek_sound o i object offset whence None sound = tt
+seek_sound o i object offset whence (Some Transient) sound = tt
+seek_sound o i object offset whence (Some (Persistent id flags position)) sound =
+    turn (whence == 0) _ _ (moved_by_sound o i object 0 offset sound) (λ _.
+    turn (whence == 1) _ _ (moved_by_sound o i object position offset sound) (λ _.
+    turn (whence == 2) _ _ (sound, from_end_sound o i object offset (found o.store id) sound) (λ _. tt)))
+
+truncated_by_sound : (o : Objects) (id : List ℕ) (r : Result Store StoreAnswer) → IfOk r (λ after. Gains o.store id after) → AreSound o → Leaves AreSound (truncated_by o r)
+truncated_by_sound o id (Ok after) gains sound = kept_valid o after gains.keeps sound
+truncated_by_sound o id (Err answer) gains sound = sound
+
+pub truncate_sound : (o : Objects) (i object n : ℕ) (h : Option Handle) → AreSound o → Goes AreSound (truncate_course o i object n h)
+truncate_sound o i object n None sound = tt
+truncate_sound o i object n (Some Transient) sound = tt
+truncate_sound o i object n (Some (Persistent id flags position)) sound =
+    turn (not (has_bit access_write flags)) _ _ tt (λ _.
+    (sound, truncated_by_sound o id (change o.store (Truncate id n)) (truncate_gains o.store id n) sound))
+
+-- ---- an object that goes
+
+-- the handle was the only one on its object
+sole_gone : (o : Objects) (i object : ℕ) (id : List ℕ) (flags : Flags) (position : ℕ) → handle_at (settled o.held.handles) i object ≡ Some (Persistent id flags position) → has_bit access_write_meta flags ≡ true → AreSound o → ones_on id (handle_closed o.held i object).handles ≡ 0
+sole_gone o i object id flags position here meta sound =
+    let hs = o.held.handles in
+    let there = handle_found hs i object (Persistent id flags position) here in
+    let same : bytes_eq id id ≡ true = (bytes_eq-Decides id id).1 refl in
+    let metas = found_counts (is_at i object) (λ e. writes_meta_on id e.handle) hs there.0 there.1 (ap (writes_meta_on id) there.2 ∙ both _ _ same meta) in
+    let fewer = found_goes (is_at i object) (entry_is_on id) hs there.0 there.1 (ap (is_on id) there.2 ∙ same) in
+    let one = sound.sole id metas in
+    omega arith
+
+deleted_sound : (o : Objects) (i object : ℕ) (id : List ℕ) (flags : Flags) (position : ℕ) (r : Result Store StoreAnswer) → handle_at (settled o.held.handles) i object ≡ Some (Persistent id flags position) → has_bit access_write_meta flags ≡ true
+    → IfOk r (λ after. (q : List ℕ) → ¬ (q ≡ id) → object_at after q ≡ object_at o.store q) → AreSound o → Leaves AreSound (deleted_by (holding o (handle_closed o.held i object)) r)
+deleted_sound o i object id flags position (Ok after) here meta others sound =
+    let left : AreSound (holding o (handle_closed o.held i object)) = closed_sound o i object sound in
+    record {
+      stored = λ q some. ap is_some (others q (λ same. let none = sole_gone o i object id flags position here meta sound in let on : 0 < ones_on id (handle_closed o.held i object).handles = subst (λ x. 0 < ones_on x (handle_closed o.held i object).handles) same some in absurd (omega arith))) ∙ left.stored q some;
+      sole = left.sole;
+      together = left.together;
+    }
+deleted_sound o i object id flags position (Err answer) here meta others sound = closed_sound o i object sound
+
+delete_on_sound : (o : Objects) (i object : ℕ) (h : Option Handle) → handle_at (settled o.held.handles) i object ≡ h → AreSound o → Goes AreSound (delete_on o i object h)
+delete_on_sound o i object None here sound = tt
+delete_on_sound o i object (Some Transient) here sound = tt
+delete_on_sound o i object (Some (Persistent id flags position)) here sound =
+    turn (not (has_bit access_write_meta flags)) _ _ tt (λ meta.
+    (closed_sound o i object sound, deleted_sound o i object id flags position (change o.store (Delete id)) here (not-false _ meta) (gone_others o.store id) sound))
+
+pub delete_sound : (o : Objects) (i object : ℕ) → AreSound o → Goes AreSound (delete_course o i object)
+delete_sound o i object sound =
+    turn (object == 0) _ _ sound (λ _. delete_on_sound o i object (handle_at (settled o.held.handles) i object) refl sound)

@@ -1,0 +1,7 @@
+use Rattle.std.proofs.Common.{rules, true}
+use Rattle.object_asks.proofs.ServingLemmas.{serves_told}
+use Rattle.object_asks.proofs.stream.truncate.Goals as goal
+
+pub returns : goal.returns
+returns g c =
+    serves_told g.T.AppStore.keeper c.truncate_through.result c.told.result _ _ true c.args.held.now c.args.held.now c.truncate_through.new.held c.args.store.now c.truncate_through.new.store c.told.ensures.ok c.told.ensures.err (search rules) c.truncate_through.ensures

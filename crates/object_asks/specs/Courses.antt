@@ -1,0 +1,106 @@
+-- How an ask goes, and what comes of it: what the definitions of asks have in common.
+use Rattle.std.specs.Prelude.{ℕ, ◌==◌, nat_lt, bit_and, Bool, true, false, not, List, length, if◌then◌else◌}
+use Rattle.tee_base.specs.declared.codes.Code.{Code}
+use Rattle.tee_base.specs.declared.codes.Flags.{Flags}
+use Rattle.app_api.specs.declared.ask.Answer.{Answer}
+use Rattle.app_api.specs.declared.ask.Answer.TheVariants as answers
+use Rattle.app_api.specs.declared.out.Outs.{Outs}
+use Rattle.share_rules.specs.Sharing.{has as has_bit}
+use Rattle.store_api.specs.declared.answer.StoreAnswer.{StoreAnswer}
+use Rattle.store_api.specs.declared.answer.StoreAnswer.TheVariants as stores
+use Rattle.store_api.specs.Stores.{Store}
+use Rattle.object_asks.specs.Codes.{item_not_found, access_conflict, storage_no_space, storage_not_available, corrupt_object, out_of_memory}
+use Rattle.object_asks.specs.Held.{Held}
+
+-- what comes of an ask: an answer, with what it leaves; the return of the entry; or a panic
+pub data Outcome (S : Type 0) : Type 0 where
+  Answered : (after : S) (answer : Answer) → Outcome S
+  Returned : (code : Code) (outs : Outs) → Outcome S
+  Panicked : Outcome S
+
+-- how an ask goes. Its outcome is settled without the store: misuse, a refusal that stands before the store, an ask that needs
+-- none. Or it comes to the store: then it leaves refused where the store doesn't serve it, and plain is what the store's answer gives
+pub data Course (S : Type 0) : Type 0 where
+  Settled : (outcome : Outcome S) → Course S
+  ComesToStore : (refused : S) (plain : Outcome S) → Course S
+
+abbrev pub refused : {S : Type 0} → S → Code → Outcome S
+refused s code = Answered s (answers.Refused code)
+
+abbrev pub done : {S : Type 0} → S → Outcome S
+done s = Answered s answers.Done
+
+abbrev pub comes_to_store : {S : Type 0} → Course S → Bool
+comes_to_store (Settled outcome) = false
+comes_to_store (ComesToStore refused plain) = true
+
+-- the same of a larger whole, whose part this is
+abbrev pub outcome_in : {S W : Type 0} → (S → W) → Outcome S → Outcome W
+outcome_in put (Answered after answer) = Answered (put after) answer
+outcome_in put (Returned code outs) = Returned code outs
+outcome_in put Panicked = Panicked
+
+abbrev pub course_in : {S W : Type 0} → (S → W) → Course S → Course W
+course_in put (Settled outcome) = Settled (outcome_in put outcome)
+course_in put (ComesToStore refused plain) = ComesToStore (put refused) (outcome_in put plain)
+
+-- all that an ask about objects touches: the store, and what is held in memory
+pub record Objects : Type 0 where
+  pub store : Store
+  pub held : Held
+
+-- the same store with other things held, and the other way round
+abbrev pub holding : Objects → Held → Objects
+holding o held = record o { held = held }
+
+abbrev pub over_store : Objects → Store → Objects
+over_store o store = record o { store = store }
+
+-- how the store does in a turn: it serves, unless it is lost; a call of it fails; or what it reads is damaged
+pub data Serving : Type 0 where
+  Serves : Serving
+  Fails : Serving
+  Damaged : Serving
+
+-- what comes of a course
+abbrev pub came_of : {S : Type 0} → Serving → Bool → Course S → Outcome S
+came_of serving lost (Settled outcome) = outcome
+came_of Serves lost (ComesToStore refused_ plain) = if lost then refused refused_ storage_not_available else plain
+came_of Fails lost (ComesToStore refused_ plain) = refused refused_ storage_not_available
+came_of Damaged lost (ComesToStore refused_ plain) = refused refused_ corrupt_object
+
+-- ---- limits and flags
+
+-- more than 64 bytes
+abbrev pub is_long_identifier : List ℕ → Bool
+is_long_identifier id = nat_lt 64 (length id)
+
+-- more than an ask may bring or want
+abbrev pub is_too_much : ℕ → Bool
+is_too_much count = nat_lt 524288 count
+
+-- the one storage that there is
+abbrev pub private_storage : ℕ
+private_storage = 1
+
+-- a bit without a meaning is set
+abbrev pub has_unknown_bits : ℕ → Bool
+has_unknown_bits flags = not (bit_and flags 1079 == flags)
+
+abbrev pub overwrites : ℕ → Bool
+overwrites flags = has_bit 1024 (record { 0 = flags })
+
+-- the flags that a handle keeps: the known ones but OVERWRITE
+abbrev pub kept_flags : ℕ → Flags
+kept_flags flags = record { 0 = bit_and flags 55 }
+
+-- how an application is told what a store answers in place of a result
+abbrev pub code_of : StoreAnswer → Code
+code_of stores.NotFound = item_not_found
+code_of stores.Exists = access_conflict
+code_of stores.NoSpace = storage_no_space
+code_of stores.Lost = storage_not_available
+code_of stores.Failed = storage_not_available
+code_of (stores.Corrupt tags) = corrupt_object
+code_of (stores.Garbled leaf) = corrupt_object
+code_of stores.NoMemory = out_of_memory

@@ -1,0 +1,62 @@
+//! Asks, each to the function that serves it.
+
+ghost use Rattle.std.specs.Prelude.{◌≡◌};
+ghost use Rattle.object_asks.specs.Asks.{changes_store, object_course};
+ghost use Rattle.object_asks.specs.Serving.{ServesAsk, objects_in};
+
+use crate::held::Held;
+use crate::names;
+use crate::opening;
+use crate::outcome::{Served, panicked};
+use crate::stream;
+use app_api::Ask;
+use std::alloc::Global;
+use store_api::AppStore;
+use tee_base::NoMemory;
+
+/// An ask about objects. Any other isn't built, and ends the entry as a panic does.
+#[tactic(auto, unfolding(crate::specs::Asks::object_course))]
+pub fn serve<T: AppStore>(
+    alloc: Global,
+    held: &mut Held,
+    store: &mut T,
+    instance: u8,
+    ask: Ask,
+) -> Result<Served, NoMemory>
+    ensures { let before = objects_in held.old (T.keeper.contents store.old)
+        in ServesAsk T.keeper result (object_course before instance ask)
+        (changes_store ask) held.old held.new store.old store.new }
+{
+    match ask {
+        Ask::ObjOpen { storage, id, flags } => {
+            opening::open(held, store, instance, storage, id.as_slice(), flags)
+        }
+        Ask::ObjCreate {
+            storage,
+            id,
+            flags,
+            attr,
+            content,
+        } => opening::create(
+            alloc, held, store, instance, storage, id, flags, attr, content,
+        ),
+        Ask::ObjClose { object } => Ok(names::close(held, instance, object)),
+        Ask::ObjDelete { object } => names::delete(alloc, held, store, instance, object),
+        Ask::ObjInfo { object } => names::info(alloc, held, store, instance, object),
+        Ask::ObjRead { object, count } => {
+            stream::read(alloc, held, store, instance, object, count)
+        }
+        Ask::ObjWrite { object, bytes } => {
+            stream::write(alloc, held, store, instance, object, bytes)
+        }
+        Ask::ObjTruncate { object, length } => {
+            stream::truncate(alloc, held, store, instance, object, length)
+        }
+        Ask::ObjSeek {
+            object,
+            offset,
+            whence,
+        } => stream::seek(alloc, held, store, instance, object, offset, whence),
+        _ => Ok(panicked()),
+    }
+}
