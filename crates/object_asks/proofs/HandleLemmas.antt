@@ -21,11 +21,11 @@ use Rattle.object_asks.specs.Handles.{HasIdentifier, entry_has_identifier, has_i
 pub both : (a b : Bool) → a ≡ true → b ≡ true → (a && b) ≡ true
 both a b ha hb = rw (ha, hb) refl
 
-first_true : (a b : Bool) → (a && b) ≡ true → a ≡ true
+pub first_true : (a b : Bool) → (a && b) ≡ true → a ≡ true
 first_true true b h = refl
 first_true false b h = h
 
-second_true : (a b : Bool) → (a && b) ≡ true → b ≡ true
+pub second_true : (a b : Bool) → (a && b) ≡ true → b ≡ true
 second_true true b h = h
 second_true false b h = absurd (both_ways _ refl h)
 

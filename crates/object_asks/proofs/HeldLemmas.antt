@@ -1,6 +1,6 @@
 -- Keys and the handles on them belong together, and what keeps it.
-use Rattle.std.proofs.Common.{ℕ, ◌≡◌, ◌+◌, ◌<◌, ◌≤◌, Option, None, Some, find, option_map, sum_by, ◌==◌, ◌&&◌, ◌||◌, Bool, true, false, not, cond, List, [], ◌∷◌, ◌++◌, map, filter, count_by, arith, refl, sym, ap, ◌∙◌, ⊎_elim}
-use Rattle.std.specs.List.{list_any}
+use Rattle.std.proofs.Common.{ℕ, ◌≡◌, nat_le, length, ◌+◌, ◌<◌, ◌≤◌, Option, None, Some, find, option_map, sum_by, ◌==◌, ◌&&◌, ◌||◌, Bool, true, false, not, cond, List, [], ◌∷◌, ◌++◌, map, filter, count_by, arith, refl, sym, ap, ◌∙◌, ⊎_elim}
+use Rattle.std.specs.List.{list_all, list_any}
 use Rattle.std.proofs.lemmas.Bool.{cases_Bool}
 use Rattle.std.proofs.lemmas.List.Filters.{sum_by-filter_both}
 use Rattle.std.proofs.lemmas.List.Sums.{sum_by-cons}
@@ -8,10 +8,10 @@ use Rattle.tee_base.specs.declared.codes.Flags.{Flags}
 use Rattle.handle_table.specs.declared.handle.Entry.{Entry}
 use Rattle.handle_table.specs.declared.handle.Handle.{Handle}
 use Rattle.handle_table.specs.declared.handle.Handle.TheVariants.{Persistent, Transient}
-use Rattle.handle_table.specs.Handles.{change_first, entry_sought, free_number, handle_at, is_at, sought}
-use Rattle.object_asks.specs.Handles.{settled}
+use Rattle.handle_table.specs.Handles.{change_first, entry_moved, entry_sought, free_number, handle_at, is_at, moved, sought}
+use Rattle.object_asks.specs.Handles.{entry_has_identifier, has_identifier, settled}
 use Rattle.object_asks.specs.Held.{BelongTogether, Held, NumberedKey, NumberedList, handle_added, handle_closed, is_in_memory, is_transient, key_place, key_places, memory_places, place_of}
-use Rattle.object_asks.proofs.HandleLemmas.{closed_again, free_absent, or_first, or_second}
+use Rattle.object_asks.proofs.HandleLemmas.{both, closed_again, first_true, free_absent, or_first, or_second, second_true}
 
 -- the places of what stays, by a test of places
 places_left : (f : ℕ × ℕ → Bool) (ks : List NumberedKey) → key_places (filter (λ k. f (key_place k)) ks) ≡ filter f (key_places ks)
@@ -136,3 +136,47 @@ entry_found (Some e) h here = (e, refl, (let same : e.handle ≡ h = cc in same)
 
 pub handle_found : (hs : List Entry) (i n : ℕ) (h : Handle) → handle_at (settled hs) i n ≡ Some h → (e : Entry) × (find (is_at i n) hs ≡ Some e) × (e.handle ≡ h)
 handle_found hs i n h here = entry_found (find (is_at i n) hs) h here
+
+-- ---- a handle on another identifier
+
+pub sum_first : (q : Entry → Bool) (g : Entry → Entry) (w : Entry → ℕ) (hs : List Entry) (e : Entry) → find q hs ≡ Some e → sum_by w (change_first q g hs) + w e ≡ sum_by w hs + w (g e)
+sum_first q g w [] e here = absurd (let f : None ≡ Some e = here in cc)
+sum_first q g w (x ∷ xs) e here =
+    by_first (q x) x (find q xs) e (sum_by w (change_first q g (x ∷ xs)) + w e ≡ sum_by w (x ∷ xs) + w (g e)) here
+    (λ first same.
+        let moved : sum_by w (change_first q g (x ∷ xs)) ≡ w (g x) + sum_by w xs = ap (λ b. sum_by w (cond b (g x ∷ xs) (x ∷ change_first q g xs))) first ∙ sum_by-cons w (g x) xs in
+        omega (arith, moved, sum_by-cons w x xs, ap w same, ap (λ (y : Entry). w (g y)) same))
+    (λ other later.
+        let stays : sum_by w (change_first q g (x ∷ xs)) ≡ w x + sum_by w (change_first q g xs) = ap (λ b. sum_by w (cond b (g x ∷ xs) (x ∷ change_first q g xs))) other ∙ sum_by-cons w x (change_first q g xs) in
+        omega (arith, stays, sum_by-cons w x xs, sum_first q g w xs e later))
+
+moved_in_memory : (to : List ℕ) (h : Handle) → is_transient (moved to h) ≡ is_transient h
+moved_in_memory to (Persistent id flags position) = refl
+moved_in_memory to Transient = refl
+
+moved_place : (b : Bool) (to : List ℕ) (e : Entry) (rest : List Entry) → map place_of (cond b (entry_moved to e ∷ rest) rest) ≡ map place_of (cond b (e ∷ rest) rest)
+moved_place true to e rest = refl
+moved_place false to e rest = refl
+
+memory_moved : (test : Entry → Bool) (to : List ℕ) (hs : List Entry) → memory_places (change_first test (entry_moved to) hs) ≡ memory_places hs
+memory_moved test to [] = refl
+memory_moved test to (e ∷ hs) =
+    ⊎_elim
+    (λ (yes : test e ≡ true). rw yes (ap (λ b. map place_of (cond b (entry_moved to e ∷ filter is_in_memory hs) (filter is_in_memory hs))) (moved_in_memory to e.handle) ∙ moved_place (is_transient e.handle) to e (filter is_in_memory hs)))
+    (λ (no : test e ≡ false). rw no (more_places (is_transient e.handle) e _ _ (memory_moved test to hs)))
+    (cases_Bool (test e))
+
+pub together_moved : (test : Entry → Bool) (to : List ℕ) (hs : List Entry) (ks : List NumberedKey) → BelongTogether hs ks → BelongTogether (change_first test (entry_moved to) hs) ks
+together_moved test to hs ks together = together ∙ sym (memory_moved test to hs)
+
+moved_has : (to : List ℕ) (h : Handle) → nat_le (length to) 64 ≡ true → has_identifier (moved to h) ≡ true
+moved_has to (Persistent id flags position) short = short
+moved_has to Transient short = refl
+
+pub all_moved : (test : Entry → Bool) (to : List ℕ) (hs : List Entry) → nat_le (length to) 64 ≡ true → list_all entry_has_identifier hs ≡ true → list_all entry_has_identifier (change_first test (entry_moved to) hs) ≡ true
+all_moved test to [] short all = refl
+all_moved test to (e ∷ hs) short all =
+    elim (test e) as (λ b. list_all entry_has_identifier (cond b (entry_moved to e ∷ hs) (e ∷ change_first test (entry_moved to) hs)) ≡ true) [
+      | true ↦ both _ _ (moved_has to e.handle short) (second_true _ _ all)
+      | false ↦ both _ _ (first_true _ _ all) (all_moved test to hs short (second_true _ _ all))
+    ]

@@ -2,6 +2,7 @@ pub mod Crashes
 pub mod HandleLemmas
 pub mod HeldLemmas
 pub mod ReadingLemmas
+pub mod Renames
 pub mod ServingLemmas
 pub mod SoundAsks
 pub mod SoundHandles

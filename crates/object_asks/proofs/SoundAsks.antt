@@ -1,12 +1,12 @@
 -- What asks about objects leave is valid where it was before, and so it is for what the store's answers would give.
 pub use Rattle.object_asks.proofs.SoundObjects.{AreSound, Goes, Leaves, instance_closed_sound, nothing_sound}
-use Rattle.std.proofs.Common.{ℕ}
+use Rattle.std.proofs.Common.{ℕ, refl}
 use Rattle.app_api.specs.declared.ask.Ask.{Ask}
 use Rattle.app_api.specs.declared.ask.Ask.TheVariants as asked
 use Rattle.handle_table.specs.Handles.{handle_at}
 use Rattle.object_asks.specs.Asks.{Objects, object_course}
 use Rattle.object_asks.specs.Handles.{settled}
-use Rattle.object_asks.proofs.SoundObjects.{close_sound, create_sound, delete_sound, info_sound, open_sound, read_sound, seek_sound, truncate_sound, write_sound}
+use Rattle.object_asks.proofs.SoundObjects.{close_sound, create_sound, delete_sound, info_sound, open_sound, read_sound, rename_sound, seek_sound, truncate_sound, write_sound}
 
 pub course_sound : (o : Objects) (i : ℕ) (ask : Ask) → AreSound o → Goes AreSound (object_course o i ask)
 unfolding object_course
@@ -14,6 +14,7 @@ course_sound o i (asked.ObjOpen storage id flags) sound = open_sound o i storage
 course_sound o i (asked.ObjCreate storage id flags attr content) sound = create_sound o i storage id flags attr content sound
 course_sound o i (asked.ObjClose object) sound = close_sound o i object sound
 course_sound o i (asked.ObjDelete object) sound = delete_sound o i object sound
+course_sound o i (asked.ObjRename object to) sound = rename_sound o i object to (handle_at (settled o.held.handles) i object) refl sound
 course_sound o i (asked.ObjInfo object) sound = info_sound o i object (handle_at (settled o.held.handles) i object) sound
 course_sound o i (asked.ObjRead object count) sound = read_sound o i object count (handle_at (settled o.held.handles) i object) sound
 course_sound o i (asked.ObjWrite object bytes) sound = write_sound o i object bytes (handle_at (settled o.held.handles) i object) sound

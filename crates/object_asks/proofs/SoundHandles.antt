@@ -118,7 +118,7 @@ abbrev newcomer : ℕ → ℕ → List ℕ → Flags → ℕ → Entry
 newcomer i n id flags at = record { instance = i; number = n; handle = Persistent id flags at }
 
 -- by whether the identifier is that of the new handle
-by_identifier : (id q : List ℕ) (P : Bool → Type 0) → (id ≡ q → P true) → P false → P (bytes_eq id q)
+pub by_identifier : (id q : List ℕ) (P : Bool → Type 0) → (id ≡ q → P true) → P false → P (bytes_eq id q)
 by_identifier id q P here there =
     elim (bytes_eq id q) as (λ b. bytes_eq id q ≡ b → P b) [ true ↦ λ e. here ((bytes_eq-Decides id q).0 e) | false ↦ λ e. there ] refl
 

@@ -1,11 +1,11 @@
 -- What asks about persistent objects leave is valid where it was before, and so it is for what the store's answers would give.
-use Rattle.std.proofs.Common.{ℕ, ◌≡◌, ◌<◌, ℤ, pos, ◌+ℤ◌, ◌+◌, ◌==◌, min, Bool, true, false, not, cond, nat_lt, nat_le, ◌&&◌, ◌||◌, List, length, Option, None, Some, is_some, Result, Ok, Err, IfOk, refl, ap, subst, ◌∙◌, arith}
+use Rattle.std.proofs.Common.{ℕ, ◌≡◌, ◌<◌, ℤ, pos, ◌+ℤ◌, ◌+◌, ◌==◌, min, Bool, true, false, not, cond, nat_lt, nat_le, ◌&&◌, ◌||◌, List, length, Option, None, Some, is_some, Result, Ok, Err, IfOk, refl, ap, subst, ◌∙◌, arith, ◌⊎◌, ⊎_elim, sym}
 use Rattle.std.specs.Ordering.{eq_by_cmp}
 use Rattle.std.specs.Cmp.{eq_by_cmp_equiv}
 use Rattle.std.specs.Cmp.Lexicographic.{nat_list_cmp_total}
 use Rattle.std.specs.FinMap as finite
 use Rattle.std.specs.Str.{bytes_eq}
-use Rattle.std.proofs.lemmas.Bool.{cond_both, not-false}
+use Rattle.std.proofs.lemmas.Bool.{both_ways, cond_both, not-false}
 use Rattle.std.proofs.lemmas.Slice.Eq.{bytes_eq-Decides}
 use Rattle.tee_base.specs.declared.codes.Flags.{Flags}
 use Rattle.share_rules.specs.Sharing.{has as has_bit, access_read, access_write, access_write_meta}
@@ -13,23 +13,24 @@ use Rattle.store_api.specs.declared.object.Object.{Object}
 use Rattle.store_api.specs.declared.object.Facts.{Facts}
 use Rattle.store_api.specs.declared.answer.StoreAnswer.{StoreAnswer}
 use Rattle.store_api.specs.declared.answer.StoreAnswer.TheVariants.{Exists, NoSpace}
-use Rattle.store_api.specs.declared.change.Change.TheVariants.{Delete, Truncate, Write}
+use Rattle.store_api.specs.declared.change.Change.TheVariants.{Delete, Rename, Truncate, Write}
 use Rattle.store_api.specs.Stores.{Store, change, cost, facts_of, found, has, object_at, quota, read_at, resized, with_object, within_quota, written}
 use Rattle.store_api.proofs.ChangeLaws.{leaves_others}
-use Rattle.store_api.proofs.Costs.{by_bytes}
+use Rattle.store_api.proofs.Costs.{by_bytes, equal, tied_same}
 use Rattle.transient_obj.specs.Keys.{Key}
 use Rattle.transient_obj.specs.declared.object_key.ObjectKey.{ObjectKey}
 use Rattle.handle_table.specs.declared.handle.Handle.{Handle}
 use Rattle.handle_table.specs.declared.handle.Handle.TheVariants.{Persistent, Transient}
-use Rattle.handle_table.specs.Handles.{entry_is_on, free_number, handle_at, is_at, is_full, is_of, is_on, is_open, is_there, may_open}
-use Rattle.object_asks.specs.Asks.{Outcome, Answered, Returned, Panicked, Course, Settled, ComesToStore, Objects, close_course, create_course, created, created_by, created_with, delete_course, delete_on, deleted_by, has_unknown_bits, holding, info_course, is_long_identifier, is_too_much, kept_flags, key_info, landed, landed_on, moved_by, moved_from_end, moved_to, numbered, open_course, opened_by, overwrites, private_storage, put_of, read_by, read_course, refused, seek_course, told_of_object, truncate_course, truncated_by, write_course, written_by}
+use Rattle.handle_table.specs.Handles.{change_first, entry_is_on, entry_moved, free_number, handle_at, is_at, is_full, is_of, is_on, is_open, is_there, may_open}
+use Rattle.object_asks.specs.Asks.{Outcome, Answered, Returned, Panicked, Course, Settled, ComesToStore, Objects, close_course, create_course, created, created_by, created_with, delete_course, delete_on, deleted_by, has_unknown_bits, holding, info_course, is_long_identifier, is_too_much, kept_flags, key_info, landed, landed_on, moved_by, moved_from_end, moved_to, numbered, open_course, opened_by, overwrites, private_storage, put_of, read_by, read_course, refused, rename_course, renamed, renamed_by, seek_course, told_of_object, truncate_course, truncated_by, write_course, written_by}
 use Rattle.object_asks.specs.Codes.{access_conflict}
 use Rattle.object_asks.specs.Handles.{settled}
-use Rattle.object_asks.specs.Held.{BelongTogether, handle_added, handle_closed, instance_closed, key_at, nothing_held, ones_on, writes_meta_on}
+use Rattle.object_asks.specs.Held.{BelongTogether, handle_added, handle_closed, instance_closed, is_meta_writer, key_at, nothing_held, ones_on, writes_meta_on}
 use Rattle.object_asks.specs.Sources.{attr_source, is_no_key, key_given}
 use Rattle.object_asks.specs.Valid.{IsValidObjects}
-use Rattle.object_asks.proofs.HandleLemmas.{both, closed_opens}
-use Rattle.object_asks.proofs.HeldLemmas.{found_counts, found_goes, handle_found, together_added, together_left, together_sought}
+use Rattle.object_asks.proofs.HandleLemmas.{both, closed_opens, or_second}
+use Rattle.object_asks.proofs.HeldLemmas.{found_counts, found_goes, handle_found, together_added, together_left, together_moved, together_sought}
+use Rattle.object_asks.proofs.Renames.{Writes, ones_moved, only_one, renamed_sole, writes_of}
 use Rattle.object_asks.proofs.SoundHandles.{IsSound, added_sound, fewer_sound, kept_sound, moved_sound}
 
 -- ---- what a put and a write keep
@@ -288,3 +289,75 @@ delete_on_sound o i object (Some (Persistent id flags position)) here sound =
 pub delete_sound : (o : Objects) (i object : ℕ) → AreSound o → Goes AreSound (delete_course o i object)
 delete_sound o i object sound =
     turn (object == 0) _ _ sound (λ _. delete_on_sound o i object (handle_at (settled o.held.handles) i object) refl sound)
+
+-- ---- an object that moves
+
+-- after a rename the new identifier is there, and all but the two are as they were
+record Moves (m : Store) (id to : List ℕ) (after : Store) : Type 0 where
+  there : has after to ≡ true
+  others : (q : List ℕ) → ¬ (q ≡ id) → ¬ (q ≡ to) → object_at after q ≡ object_at m q
+
+unlike : (q k : List ℕ) → ¬ (q ≡ k) → eq_by_cmp by_bytes q k ≡ false
+unlike q k differs =
+    elim (eq_by_cmp by_bytes q k) as (λ b. eq_by_cmp by_bytes q k ≡ b → b ≡ false) [ true ↦ λ e. absurd (differs (tied_same q k (equal _ e))) | false ↦ λ e. refl ] refl
+
+moved_there : (m : Store) (id to : List ℕ) (o : Object) → object_at m id ≡ Some o → has m to ≡ false → has (finite.remove (finite.insert m to o) id) to ≡ true
+moved_there m id to o here free =
+    ap is_some (finite.get-remove nat_list_cmp_total (finite.insert m to o) id to)
+    ∙ ap (λ b. is_some (cond b None (object_at (finite.insert m to o) to))) (unlike to id (λ same. both_ways _ free (ap (λ x. has m x) same ∙ ap is_some here)))
+    ∙ inserted_there m to o
+
+of_object : (P : Store → Type 0) (r : Option Object) (f : Object → Result Store StoreAnswer) → ((o : Object) → r ≡ Some o → IfOk (within_quota (f o)) (λ after. P after)) → IfOk (within_quota (with_object r f)) (λ after. P after)
+of_object P None f each = tt
+of_object P (Some o) f each = each o refl
+
+rename_there : (m : Store) (id to : List ℕ) → IfOk (change m (Rename id to)) (λ after. has after to ≡ true)
+unfolding change
+rename_there m id to =
+    let P : Store → Type 0 = λ after. has after to ≡ true in
+    of_object P (object_at m id) (λ o. cond (has m to) (Err Exists) (Ok (finite.remove (finite.insert m to o) id)))
+    (λ o here. cond_both {A = Result Store StoreAnswer} (has m to) (Err Exists) (Ok (finite.remove (finite.insert m to o) id)) (λ r. IfOk (within_quota r) (λ after. P after)) (λ e. tt)
+    (λ free. within P (finite.remove (finite.insert m to o) id) (moved_there m id to o here free)))
+
+moves_by : (r : Result Store StoreAnswer) (m : Store) (id to : List ℕ) → IfOk r (λ after. has after to ≡ true) → ((q : List ℕ) → ¬ ((q ≡ id) ⊎ (q ≡ to)) → IfOk r (λ after. object_at after q ≡ object_at m q)) → IfOk r (λ after. Moves m id to after)
+moves_by (Ok after) m id to there others = record { there = there; others = λ q no neither. others q (λ either. ⊎_elim no neither either) }
+moves_by (Err answer) m id to there others = tt
+
+renamed_by_sound : (o : Objects) (i object : ℕ) (id to : List ℕ) (r : Result Store StoreAnswer) → Writes o.held.handles i object id → is_open (settled o.held.handles) to ≡ false → IfOk r (λ after. Moves o.store id to after) → AreSound o → Leaves AreSound (renamed_by o i object to r)
+renamed_by_sound o i object id to (Ok after) w free moves sound =
+    let hs = o.held.handles in
+    let now = change_first (is_at i object) (entry_moved to) hs in
+    record {
+      stored = λ q some.
+          let count = ones_moved hs i object id to q w in
+          elim (bytes_eq to q) as (λ b. bytes_eq to q ≡ b → has after q ≡ true) [
+            | true ↦ λ here. subst (λ x. has after x ≡ true) ((bytes_eq-Decides to q).0 here) moves.there
+            | false ↦ λ far. elim (bytes_eq id q) as (λ b. bytes_eq id q ≡ b → has after q ≡ true) [
+              | true ↦ λ was.
+                  let one : ones_on q hs ≡ 1 = ap (λ x. ones_on x hs) (sym ((bytes_eq-Decides id q).0 was)) ∙ only_one hs i object id w sound.sole in
+                  let left : cond (bytes_eq id q) 1 0 ≡ (let k : ℕ = 1 in k) = ap (λ b. cond b 1 0) was in
+                  let came : cond (bytes_eq to q) 1 0 ≡ (let k : ℕ = 0 in k) = ap (λ b. cond b 1 0) far in
+                  absurd (omega (arith, some, count, one, left, came))
+              | false ↦ λ other.
+                  let left : cond (bytes_eq id q) 1 0 ≡ (let k : ℕ = 0 in k) = ap (λ b. cond b 1 0) other in
+                  let came : cond (bytes_eq to q) 1 0 ≡ (let k : ℕ = 0 in k) = ap (λ b. cond b 1 0) far in
+                  ap is_some (moves.others q (λ same. both_ways _ other ((bytes_eq-Decides id q).1 (sym same))) (λ same. both_ways _ far ((bytes_eq-Decides to q).1 (sym same))))
+                  ∙ sound.stored q (omega (arith, some, count, left, came))
+            ] refl
+          ] refl;
+      sole = renamed_sole hs i object id to w free sound.sole;
+      together = together_moved (is_at i object) to hs o.held.keys sound.together;
+    }
+renamed_by_sound o i object id to (Err answer) w free moves sound = sound
+
+renamed_sound : (o : Objects) (i object : ℕ) (id to : List ℕ) → Writes o.held.handles i object id → AreSound o → Leaves AreSound (renamed o i object id to)
+renamed_sound o i object id to w sound =
+    cond_both (is_open (settled o.held.handles) to) (refused o access_conflict) (renamed_by o i object to (change o.store (Rename id to))) (Leaves AreSound) (λ _. sound)
+    (λ free. renamed_by_sound o i object id to (change o.store (Rename id to)) w free (moves_by (change o.store (Rename id to)) o.store id to (rename_there o.store id to) (leaves_others o.store (Rename id to))) sound)
+
+pub rename_sound : (o : Objects) (i object : ℕ) (to : List ℕ) (h : Option Handle) → handle_at (settled o.held.handles) i object ≡ h → AreSound o → Goes AreSound (rename_course o i object to h)
+rename_sound o i object to None here sound = tt
+rename_sound o i object to (Some Transient) here sound = tt
+rename_sound o i object to (Some (Persistent id flags position)) here sound =
+    turn (is_long_identifier to || not (has_bit access_write_meta flags)) _ _ tt (λ may.
+    (sound, renamed_sound o i object id to (writes_of o.held.handles i object id (ap (is_meta_writer id) here ∙ both _ _ ((bytes_eq-Decides id id).1 refl) (not-false _ (or_second _ _ may)))) sound))

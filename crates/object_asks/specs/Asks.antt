@@ -227,6 +227,7 @@ object_course o i (asked.ObjOpen storage id flags) = open_course o i storage id 
 object_course o i (asked.ObjCreate storage id flags attr content) = create_course o i storage id flags attr content
 object_course o i (asked.ObjClose object) = close_course o i object
 object_course o i (asked.ObjDelete object) = delete_course o i object
+object_course o i (asked.ObjRename object to) = rename_course o i object to (handle_at (settled o.held.handles) i object)
 object_course o i (asked.ObjInfo object) = info_course o i object (handle_at (settled o.held.handles) i object)
 object_course o i (asked.ObjRead object count) = read_course o i object count (handle_at (settled o.held.handles) i object)
 object_course o i (asked.ObjWrite object bytes) = write_course o i object bytes (handle_at (settled o.held.handles) i object)

@@ -8,7 +8,7 @@ use Rattle.share_rules.specs.Sharing.{access_write_meta, has as has_bit}
 use Rattle.handle_table.specs.declared.handle.Entry.{Entry}
 use Rattle.handle_table.specs.declared.handle.Handle.{Handle}
 use Rattle.handle_table.specs.declared.handle.Handle.TheVariants.{Persistent, Transient}
-use Rattle.handle_table.specs.Handles.{Table, added, all_closed, closed, entry_is_on, renamed, sought_at}
+use Rattle.handle_table.specs.Handles.{Table, added, all_closed, closed, entry_is_on, handle_at, renamed, sought_at}
 use Rattle.object_asks.specs.declared.numbered.NumberedKey.{NumberedKey as DeclaredKey}
 use Rattle.object_asks.specs.declared.numbered.NumberedList.{NumberedList as DeclaredList}
 use Rattle.object_asks.specs.declared.numbered.Walk.{Walk}
@@ -113,6 +113,14 @@ key_places keys = map key_place keys
 abbrev pub writes_meta_on : List ℕ → Handle → Bool
 writes_meta_on id (Persistent own flags position) = bytes_eq own id && has_bit access_write_meta flags
 writes_meta_on id Transient = false
+
+abbrev pub is_meta_writer : List ℕ → Option Handle → Bool
+is_meta_writer id None = false
+is_meta_writer id (Some handle) = writes_meta_on id handle
+
+-- the instance's handle of this number is on the object, and has ACCESS_WRITE_META
+abbrev pub may_rename : Held → ℕ → ℕ → List ℕ → Bool
+may_rename h instance number id = is_meta_writer id (handle_at (settled h.handles) instance number)
 
 -- how many handles are on the object, and how many of them have ACCESS_WRITE_META
 abbrev pub ones_on : List ℕ → List Entry → ℕ

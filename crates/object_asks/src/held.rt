@@ -5,11 +5,13 @@ ghost use Rattle.object_asks.specs.Held.{is_key_at, is_key_of, is_list_of};
 ghost use Rattle.object_asks.specs.Sources.{memory_source};
 
 use crate::numbered::{NumberedKey, NumberedList};
+use crate::outcome::{Outcome, done};
 use crate::source::KeySource;
 use handle_table::{Handle, HandleAnswer, HandleTable};
 use std::alloc::Global;
 use std::marker::Model;
-use tee_base::{Flags, NoMemory};
+use store_api::{AppStore, Change, StoreAnswer};
+use tee_base::{Bytes, Flags, NoMemory};
 use transient_obj::{ObjectKey, Transient};
 
 /// The object handles, the keys in memory and the enumerators of all instances of an application. Each handle is on an
@@ -84,8 +86,13 @@ impl Held {
     ghost use Rattle.handle_table.specs.Handles.{may_open, is_open, is_full, is_there, free_number, handle_at};
     ghost use Rattle.store_api.specs.Limits.{IsIdentifier};
     ghost use Rattle.object_asks.specs.Handles.{settled, HasIdentifier};
-    ghost use Rattle.object_asks.specs.Held.{nothing_held, handle_added, handle_sought, handle_closed, instance_closed, key_at};
+    ghost use Rattle.object_asks.specs.Held.{nothing_held, handle_added, handle_sought, handle_closed, instance_closed, key_at, may_rename};
     ghost use Rattle.object_asks.specs.Sources.{HasSource, key_source};
+    ghost use Rattle.std.specs.Prelude.{true};
+    ghost use Rattle.store_api.specs.Stores.{change};
+    ghost use Rattle.store_api.specs.declared.change.Change.TheVariants.{Rename as renaming};
+    ghost use Rattle.object_asks.specs.Asks.{renamed_by};
+    ghost use Rattle.object_asks.specs.Serving.{IsGiven, objects_in};
 
     /// Nothing. It takes no memory.
     pub fn new(alloc: Global) -> Held
@@ -183,6 +190,37 @@ impl Held {
         ensures { self.new ≡ handle_sought self.old instance number position }
     {
         self.table.seek(instance, number, position);
+    }
+
+    /// Asks the store to move the object to another identifier, and the handle goes with it. Where the store refuses, it stays.
+    pub(crate) fn rename<T: AppStore>(
+        &mut self,
+        store: &mut T,
+        instance: u8,
+        number: u32,
+        id: Bytes,
+        to: Bytes,
+    ) -> Result<Outcome, StoreAnswer>
+        requires id { IsIdentifier id }
+        requires to { IsIdentifier to }
+        requires meta { IsTrue (may_rename self.old instance number id) }
+        requires free { is_open (settled self.old.handles) to ≡ false }
+        ensures { let before = objects_in self.old (T.keeper.contents store.old)
+            in IsGiven T.keeper result
+            (renamed_by before instance number to (change before.store (renaming id to)))
+            true self.old self.old self.new store.old store.new }
+    {
+        self.table.start_rename(instance, number, to.as_slice())?;
+        match store.apply(&Change::Rename { id, to }) {
+            Ok(()) => {
+                self.table.end_rename(true);
+                Ok(done())
+            }
+            Err(answer) => {
+                self.table.end_rename(false);
+                Err(answer)
+            }
+        }
     }
 
     /// Closes the handle. A key that it is on goes with it.

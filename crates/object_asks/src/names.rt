@@ -8,12 +8,13 @@ ghost use Rattle.store_api.specs.declared.change.Change.TheVariants.{Delete as d
 ghost use Rattle.handle_table.specs.Handles.{handle_at, is_alone, is_open, is_there};
 ghost use Rattle.object_asks.specs.Handles.{settled};
 ghost use Rattle.object_asks.specs.Codes.{access_conflict};
-ghost use Rattle.object_asks.specs.Held.{Held as HeldValue, handle_closed};
+ghost use Rattle.object_asks.specs.Held.{Held as HeldValue, handle_closed, may_rename};
 ghost use Rattle.object_asks.specs.Asks.{Serves, came_of, close_course, delete_course, deleted_by, delete_on, holding, info_course, key_info, refused, rename_course, renamed, renamed_by, told_of_object};
 ghost use Rattle.object_asks.specs.Serving.{IsGiven, IsOutcome, ServesAsk, objects_in};
 
 use crate::checks::{has_bit, is_long_identifier};
 use crate::held::Held;
+use crate::opening::conflict;
 use crate::outcome::{Outcome, Served, answered, declined, done, panicked, told};
 use crate::turn::TurnKind;
 use app_api::Answer;
@@ -91,6 +92,52 @@ pub fn delete<T: AppStore>(
     }
     let id = id.copy(alloc)?;
     told(delete_through(held, store, instance, object, id), true)
+}
+
+/// Renames an object to an identifier that may be another's.
+fn rename_object<T: AppStore>(
+    held: &mut Held,
+    store: &mut T,
+    instance: u8,
+    object: u32,
+    id: Bytes,
+    to: Bytes,
+) -> Result<Outcome, StoreAnswer>
+    requires id { IsIdentifier id }
+    requires to { IsIdentifier to }
+    requires meta { IsTrue (may_rename held.old instance object id) }
+    ensures { let before = objects_in held.old (T.keeper.contents store.old)
+        in IsGiven T.keeper result
+        (renamed before instance object id to)
+        true held.old held.old held.new store.old store.new }
+{
+    if held.is_open(to.as_slice()) {
+        return conflict(store, to.as_slice());
+    }
+    held.rename(store, instance, object, id, to)
+}
+
+#[tactic(auto, using(crate::proofs::ServingLemmas::serves_nothing, crate::proofs::ServingLemmas::serves_panic, crate::proofs::ServingLemmas::serves_answer))]
+pub fn rename<T: AppStore>(
+    alloc: Global,
+    held: &mut Held,
+    store: &mut T,
+    instance: u8,
+    object: u32,
+    to: Bytes,
+) -> Result<Served, NoMemory>
+    ensures { let before = objects_in held.old (T.keeper.contents store.old)
+        in ServesAsk T.keeper result (rename_course before instance object to (handle_at (settled held.old.handles) instance object))
+        true held.old held.new store.old store.new }
+{
+    let Some(Handle::Persistent { id, flags, .. }) = held.get(instance, object) else {
+        return Ok(panicked());
+    };
+    if is_long_identifier(to.as_slice()) || !has_bit(Flags::ACCESS_WRITE_META, *flags) {
+        return Ok(panicked());
+    }
+    let id = id.copy(alloc)?;
+    told(rename_object(held, store, instance, object, id, to), true)
 }
 
 /// What the store tells of the object, and the handle of itself.

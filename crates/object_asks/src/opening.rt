@@ -90,8 +90,8 @@ pub fn read_key<T: AppStore>(store: &mut T, id: &[u8]) -> Result<ObjectKey, Stor
     })
 }
 
-/// A create over an object that is open. The store is asked, since a lost one is answered first.
-fn conflict<T: AppStore>(store: &mut T, id: &[u8]) -> Result<Outcome, StoreAnswer>
+/// A create over an object that is open, or a rename to one. The store is asked, since a lost one is answered first.
+pub fn conflict<T: AppStore>(store: &mut T, id: &[u8]) -> Result<Outcome, StoreAnswer>
     requires { IsIdentifier id.now }
     ensures { (held : HeldValue) → IsGiven T.keeper result (refused (objects_in held (T.keeper.contents store.old)) access_conflict) true held held held store.old store.new }
 {

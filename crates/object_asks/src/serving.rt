@@ -42,6 +42,7 @@ pub fn serve<T: AppStore>(
         ),
         Ask::ObjClose { object } => Ok(names::close(held, instance, object)),
         Ask::ObjDelete { object } => names::delete(alloc, held, store, instance, object),
+        Ask::ObjRename { object, id } => names::rename(alloc, held, store, instance, object, id),
         Ask::ObjInfo { object } => names::info(alloc, held, store, instance, object),
         Ask::ObjRead { object, count } => {
             stream::read(alloc, held, store, instance, object, count)
