@@ -1,16 +1,20 @@
 -- Keys and the handles on them belong together, and what keeps it.
-use Rattle.std.proofs.Common.{ℕ, ◌≡◌, nat_le, length, ◌+◌, ◌<◌, ◌≤◌, Option, None, Some, find, option_map, sum_by, ◌==◌, ◌&&◌, ◌||◌, Bool, true, false, not, cond, List, [], ◌∷◌, ◌++◌, map, filter, count_by, arith, refl, sym, ap, ◌∙◌, ⊎_elim}
+use Rattle.std.proofs.Common.{ℕ, ◌≡◌, nat_le, length, ◌+◌, ◌<◌, ◌≤◌, Option, None, Some, find, option_map, sum_by, ◌==◌, ◌&&◌, ◌||◌, Bool, true, false, not, cond, List, [], ◌∷◌, ◌++◌, map, filter, count_by, arith, refl, sym, ap, ◌∙◌, ⊎_elim, Result, Ok, Err, IfOk, OnErr, subst}
 use Rattle.std.specs.List.{list_all, list_any}
-use Rattle.std.proofs.lemmas.Bool.{cases_Bool}
+use Rattle.std.proofs.lemmas.Bool.{cases_Bool, eqb-true}
 use Rattle.std.proofs.lemmas.List.Filters.{sum_by-filter_both}
-use Rattle.std.proofs.lemmas.List.Sums.{sum_by-cons}
+use Rattle.std.proofs.lemmas.List.Sums.{sum_by-cons, sum_by_push}
+use Rattle.handle_table.proofs.Changes.{sum_change}
+use Rattle.object_asks.specs.declared.numbered.Walk.{Walk}
+use Rattle.object_asks.specs.declared.numbered.Walk.TheVariants.{Idle}
+use Rattle.object_asks.specs.Lists.{with_walk}
 use Rattle.tee_base.specs.declared.codes.Flags.{Flags}
 use Rattle.handle_table.specs.declared.handle.Entry.{Entry}
 use Rattle.handle_table.specs.declared.handle.Handle.{Handle}
 use Rattle.handle_table.specs.declared.handle.Handle.TheVariants.{Persistent, Transient}
 use Rattle.handle_table.specs.Handles.{change_first, entry_moved, entry_sought, free_number, handle_at, is_at, moved, sought}
 use Rattle.object_asks.specs.Handles.{entry_has_identifier, has_identifier, settled}
-use Rattle.object_asks.specs.Held.{BelongTogether, Held, NumberedKey, NumberedList, handle_added, handle_closed, is_in_memory, is_transient, key_place, key_places, memory_places, place_of}
+use Rattle.object_asks.specs.Held.{BelongTogether, Held, NumberedKey, NumberedList, handle_added, handle_closed, is_in_memory, is_transient, key_place, key_places, memory_places, place_of, is_list_at, is_list_of}
 use Rattle.object_asks.proofs.HandleLemmas.{both, closed_again, first_true, free_absent, or_first, or_second, second_true}
 
 -- the places of what stays, by a test of places
@@ -180,3 +184,28 @@ all_moved test to (e ∷ hs) short all =
       | true ↦ both _ _ (moved_has to e.handle short) (second_true _ _ all)
       | false ↦ both _ _ (first_true _ _ all) (all_moved test to hs short (second_true _ _ all))
     ]
+
+-- ---- enumerators
+
+walk_counts : (test : NumberedList → Bool) (walk : Walk) (t : NumberedList → Bool) (ls : List NumberedList) → ((l : NumberedList) → t (with_walk walk l) ≡ t l) → count_by t (change_first test (with_walk walk) ls) ≡ count_by t ls
+walk_counts test walk t ls same = sum_change test (with_walk walk) (λ l. cond (t l) 1 0) (λ l. ap (λ b. cond b 1 0) (same l)) ls
+
+pub few_walked : (instance number : ℕ) (walk : Walk) (ls : List NumberedList) (i : ℕ) → count_by (is_list_of i) ls ≤ 4 → count_by (is_list_of i) (change_first (is_list_at instance number) (with_walk walk) ls) ≤ 4
+few_walked instance number walk ls i few = omega (arith, few, walk_counts (is_list_at instance number) walk (is_list_of i) ls (λ l. refl))
+
+abbrev newcomer : ℕ → ℕ → NumberedList
+newcomer instance n = record { instance = instance; number = n; walk = Idle }
+
+few_pushed : (instance n : ℕ) (ls : List NumberedList) (i : ℕ) → count_by (is_list_of instance) ls < 4 → count_by (is_list_of i) ls ≤ 4 → count_by (is_list_of i) (ls ++ newcomer instance n ∷ []) ≤ 4
+few_pushed instance n ls i room few =
+    let w : NumberedList → ℕ = λ l. cond (is_list_of i l) 1 0 in
+    let push = sum_by_push w ls (newcomer instance n) in
+    ⊎_elim
+    (λ (mine : (instance == i) ≡ true). let at : count_by (is_list_of instance) ls ≡ count_by (is_list_of i) ls = ap (λ k. count_by (is_list_of k) ls) (eqb-true instance i mine) in let one : w (newcomer instance n) ≡ 1 = ap (λ b. cond b 1 0) mine in omega (arith, push, one, room, at))
+    (λ (other : (instance == i) ≡ false). let none : w (newcomer instance n) ≡ 0 = ap (λ b. cond b 1 0) other in omega (arith, push, none, few))
+    (cases_Bool (instance == i))
+
+pub few_added : {E : Type 0} (r : Result ℕ E) (instance : ℕ) (free : ℕ) (ls now : List NumberedList) → IfOk r (λ n. (n ≡ free) × (now ≡ ls ++ record { instance = instance; number = n; walk = Idle } ∷ [])) → OnErr r (now ≡ ls)
+    → count_by (is_list_of instance) ls < 4 → ((i : ℕ) → count_by (is_list_of i) ls ≤ 4) → (i : ℕ) → count_by (is_list_of i) now ≤ 4
+few_added (Ok n) instance free ls now made same room few i = subst (λ (xs : List NumberedList). count_by (is_list_of i) xs ≤ 4) (sym made.1) (few_pushed instance n ls i room (few i))
+few_added (Err e) instance free ls now made same room few i = subst (λ (xs : List NumberedList). count_by (is_list_of i) xs ≤ 4) (sym same) (few i)

@@ -7,3 +7,4 @@ pub mod ServingLemmas
 pub mod SoundAsks
 pub mod SoundHandles
 pub mod SoundObjects
+pub mod SoundLists

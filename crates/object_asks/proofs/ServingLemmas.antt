@@ -11,7 +11,7 @@ use Rattle.store_api.specs.Keeping.{Status, Keeper, HasCause, LeavesJust}
 use Rattle.object_asks.specs.Held.{Held}
 use Rattle.object_asks.specs.declared.turn.TurnKind.{TurnKind}
 use Rattle.object_asks.specs.declared.turn.TurnKind.TheVariants.{Plain}
-use Rattle.object_asks.specs.Asks.{Outcome, Answered, Panicked, Course, Settled, ComesToStore, Objects, came_of, code_of, refused, Serves}
+use Rattle.object_asks.specs.Asks.{Outcome, Answered, Panicked, Course, Settled, ComesToStore, Objects, came_of, code_of, holding, outcome_in, refused, Serves, without_store}
 use Rattle.object_asks.specs.Codes.{storage_not_available}
 use Rattle.object_asks.specs.declared.outcome.Outcome.{Outcome as Result_of}
 use Rattle.object_asks.specs.declared.outcome.Outcome.TheVariants as outcomes
@@ -234,6 +234,17 @@ module _ {D : Type 0} (K : Keeper D) where
   pub serves_kind : (served : Served) (course : Course Objects) (changes : Bool) (held left : Held) (old : D)
       → served.kind ≡ Plain → IsOutcome served.outcome (came_of Serves (K.status old).lost course) (objects_in held (K.contents old)) (objects_in left (K.contents old)) → ServesAsk K (Ok served) course changes held left old old
   serves_kind served course changes held left old kind outcome = record { served = by_kind served course changes held left old kind outcome; tried = idle_tries changes (K.status old); want = tt }
+
+  -- an ask that never needs the store
+  left_in : (outcome : Result_of) (stated : Outcome Held) (held left : Held) (old : D) → IsOutcome outcome stated held left
+      → IsOutcome outcome (outcome_in (holding (objects_in held (K.contents old))) stated) (objects_in held (K.contents old)) (objects_in left (K.contents old))
+  left_in (outcomes.Answered answer) stated held left old is = ap (outcome_in (holding (objects_in held (K.contents old)))) is
+  left_in (outcomes.Returned ending) stated held left old is = (ap (outcome_in (holding (objects_in held (K.contents old)))) is.0, ap (λ h. objects_in h (K.contents old)) is.1)
+  left_in outcomes.Panicked stated held left old is = (ap (outcome_in (holding (objects_in held (K.contents old)))) is.0, ap (λ h. objects_in h (K.contents old)) is.1)
+
+  pub serves_held : (served : Served) (outcome : Result_of) (course : Course Objects) (stated : Outcome Held) (changes : Bool) (held left : Held) (old : D)
+      → served ≡ plainly outcome → course ≡ without_store (objects_in held (K.contents old)) stated → IsOutcome outcome stated held left → ServesAsk K (Ok served) course changes held left old old
+  serves_held served outcome course stated changes held left old is same outcome_is = rw (is, same) (serves_kind (plainly outcome) (without_store (objects_in held (K.contents old)) stated) changes held left old refl (left_in outcome stated held left old outcome_is))
 
   wants : (result : Result Result_of StoreAnswer) (given : Result Served WantOfMemory) (plain : Outcome Objects) (changes : Bool) (held kept left : Held) (old new : D)
       → OnErr given (told_of changes result ≡ None) → IsGiven K result plain changes held kept left old new → OnErr given (FindsNoMemory K held left old new)

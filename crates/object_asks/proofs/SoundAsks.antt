@@ -6,6 +6,8 @@ use Rattle.app_api.specs.declared.ask.Ask.TheVariants as asked
 use Rattle.handle_table.specs.Handles.{handle_at}
 use Rattle.object_asks.specs.Asks.{Objects, object_course}
 use Rattle.object_asks.specs.Handles.{settled}
+use Rattle.object_asks.specs.Held.{walk_at}
+use Rattle.object_asks.proofs.SoundLists.{free_list_sound, new_list_sound, next_list_sound, reset_list_sound, start_list_sound}
 use Rattle.object_asks.proofs.SoundObjects.{close_sound, create_sound, delete_sound, info_sound, open_sound, read_sound, rename_sound, seek_sound, truncate_sound, write_sound}
 
 pub course_sound : (o : Objects) (i : ℕ) (ask : Ask) → AreSound o → Goes AreSound (object_course o i ask)
@@ -20,4 +22,9 @@ course_sound o i (asked.ObjRead object count) sound = read_sound o i object coun
 course_sound o i (asked.ObjWrite object bytes) sound = write_sound o i object bytes (handle_at (settled o.held.handles) i object) sound
 course_sound o i (asked.ObjTruncate object n) sound = truncate_sound o i object n (handle_at (settled o.held.handles) i object) sound
 course_sound o i (asked.ObjSeek object offset whence) sound = seek_sound o i object offset whence (handle_at (settled o.held.handles) i object) sound
+course_sound o i asked.EnumNew sound = new_list_sound o i sound
+course_sound o i (asked.EnumFree list) sound = free_list_sound o i list sound
+course_sound o i (asked.EnumReset list) sound = reset_list_sound o i list (walk_at o.held i list) sound
+course_sound o i (asked.EnumStart list storage) sound = start_list_sound o i list storage (walk_at o.held i list) sound
+course_sound o i (asked.EnumNext list) sound = next_list_sound o i list (walk_at o.held i list) sound
 course_sound o i ask sound = tt

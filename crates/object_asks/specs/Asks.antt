@@ -1,6 +1,6 @@
 -- What comes of an ask: one definition for each family of asks, in it one for each ask, with its misuse first, then its refusals
 -- in their order, then its answer (TEE Internal Core API 1.3, sections 5.7 and 5.9).
-pub use Rattle.object_asks.specs.Courses.{Outcome, Answered, Returned, Panicked, Course, Settled, ComesToStore, refused, done, comes_to_store, outcome_in, course_in, Objects, holding, over_store, Serving, Serves, Fails, Damaged, came_of, is_long_identifier, is_too_much, private_storage, has_unknown_bits, overwrites, kept_flags, code_of}
+pub use Rattle.object_asks.specs.Courses.{Outcome, Answered, Returned, Panicked, Course, Settled, ComesToStore, refused, done, comes_to_store, outcome_in, course_in, Objects, holding, over_store, without_store, Serving, Serves, Fails, Damaged, came_of, is_long_identifier, is_too_much, private_storage, has_unknown_bits, overwrites, kept_flags, code_of}
 use Rattle.std.specs.Prelude.{ℕ, ◌+◌, ◌*◌, ◌==◌, ℤ, pos, negsuc, ◌+ℤ◌, min, nat_lt, Bool, true, false, not, ◌||◌, List, [], length, Option, None, Some, Result, Ok, Err, if◌then◌else◌}
 use Rattle.tee_base.specs.declared.codes.Flags.{Flags}
 use Rattle.tee_base.specs.declared.limits.TheConstants.{POSITION}
@@ -21,7 +21,8 @@ use Rattle.handle_table.specs.Handles.{free_number, handle_at, is_full, is_open,
 use Rattle.object_asks.specs.declared.source.KeySource.{KeySource}
 use Rattle.object_asks.specs.Codes.{item_not_found, access_conflict, busy, overflow}
 use Rattle.object_asks.specs.Handles.{settled}
-use Rattle.object_asks.specs.Held.{handle_added, handle_closed, handle_renamed, handle_sought, key_at, secret_bits}
+use Rattle.object_asks.specs.Held.{handle_added, handle_closed, handle_renamed, handle_sought, key_at, secret_bits, walk_at}
+use Rattle.object_asks.specs.Lists.{free_of, new_list, next_course, reset_on, start_course}
 use Rattle.object_asks.specs.Sources.{attr_source, is_no_key, key_given}
 
 -- the five asks that change the store
@@ -233,4 +234,9 @@ object_course o i (asked.ObjRead object count) = read_course o i object count (h
 object_course o i (asked.ObjWrite object bytes) = write_course o i object bytes (handle_at (settled o.held.handles) i object)
 object_course o i (asked.ObjTruncate object n) = truncate_course o i object n (handle_at (settled o.held.handles) i object)
 object_course o i (asked.ObjSeek object offset whence) = seek_course o i object offset whence (handle_at (settled o.held.handles) i object)
+object_course o i asked.EnumNew = without_store o (new_list o.held i)
+object_course o i (asked.EnumFree list) = without_store o (free_of o.held i list)
+object_course o i (asked.EnumReset list) = without_store o (reset_on o.held i list (walk_at o.held i list))
+object_course o i (asked.EnumStart list storage) = start_course o i list storage (walk_at o.held i list)
+object_course o i (asked.EnumNext list) = next_course o i list (walk_at o.held i list)
 object_course o i ask = Settled Panicked

@@ -56,6 +56,10 @@ holding o held = record o { held = held }
 abbrev pub over_store : Objects → Store → Objects
 over_store o store = record o { store = store }
 
+-- how an ask goes that never needs the store
+abbrev pub without_store : Objects → Outcome Held → Course Objects
+without_store o outcome = Settled (outcome_in (holding o) outcome)
+
 -- how the store does in a turn: it serves, unless it is lost; a call of it fails; or what it reads is damaged
 pub data Serving : Type 0 where
   Serves : Serving

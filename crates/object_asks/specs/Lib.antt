@@ -3,6 +3,7 @@ pub mod Codes
 pub mod Courses
 pub mod Handles
 pub mod Held
+pub mod Lists
 pub mod Serving
 pub mod Sources
 pub mod Valid

@@ -4,14 +4,15 @@ ghost use Rattle.std.specs.Prelude.{◌≡◌, filter, find, not, option_map};
 ghost use Rattle.object_asks.specs.Held.{is_key_at, is_key_of, is_list_of};
 ghost use Rattle.object_asks.specs.Sources.{memory_source};
 
-use crate::numbered::{NumberedKey, NumberedList};
+use crate::numbered::{NumberedKey, NumberedList, Walk};
 use crate::outcome::{Outcome, done};
 use crate::source::KeySource;
+use crate::walks;
 use handle_table::{Handle, HandleAnswer, HandleTable};
 use std::alloc::Global;
 use std::marker::Model;
 use store_api::{AppStore, Change, StoreAnswer};
-use tee_base::{Bytes, Flags, NoMemory};
+use tee_base::{Bytes, Flags, NoMemory, limits};
 use transient_obj::{ObjectKey, Transient};
 
 /// The object handles, the keys in memory and the enumerators of all instances of an application. Each handle is on an
@@ -86,7 +87,8 @@ impl Held {
     ghost use Rattle.handle_table.specs.Handles.{may_open, is_open, is_full, is_there, free_number, handle_at};
     ghost use Rattle.store_api.specs.Limits.{IsIdentifier};
     ghost use Rattle.object_asks.specs.Handles.{settled, HasIdentifier};
-    ghost use Rattle.object_asks.specs.Held.{nothing_held, handle_added, handle_sought, handle_closed, instance_closed, key_at, may_rename};
+    ghost use Rattle.object_asks.specs.Held.{nothing_held, handle_added, handle_sought, handle_closed, instance_closed, key_at, may_rename, walk_at};
+    ghost use Rattle.object_asks.specs.Lists.{free_list, has_all_lists, list_added, list_freed, walked};
     ghost use Rattle.object_asks.specs.Sources.{HasSource, key_source};
     ghost use Rattle.std.specs.Prelude.{true};
     ghost use Rattle.store_api.specs.Stores.{change};
@@ -230,6 +232,44 @@ impl Held {
     {
         self.table.close(instance, number);
         take_key(&mut self.keys, instance, number);
+    }
+
+    /// Whether the instance has 4 enumerators.
+    pub(crate) fn has_all_lists(&self, instance: u8) -> bool
+        ensures { result ≡ has_all_lists self.now.lists instance }
+    {
+        walks::count_of(self.lists.as_slice(), instance) >= limits::ENUMERATORS
+    }
+
+    /// Adds an enumerator, and answers its number. Want of memory changes nothing.
+    pub(crate) fn add_list(&mut self, instance: u8) -> Result<u32, NoMemory>
+        requires { has_all_lists self.old.lists instance ≡ false }
+        ensures number { IfOk result (λ n. n ≡ free_list self.old.lists instance) }
+        ensures ok { OnOk result (self.new ≡ list_added self.old instance) }
+        ensures unchanged { OnErr result (self.new ≡ self.old) }
+    {
+        walks::add(&mut self.lists, instance)
+    }
+
+    /// How far the instance's enumerator of this number has come.
+    pub(crate) fn walk(&self, instance: u8, number: u32) -> Option<&Walk>
+        ensures { option_map (λ walk. walk.now) result ≡ walk_at self.now instance number }
+    {
+        walks::walk_of(self.lists.as_slice(), instance, number)
+    }
+
+    /// The enumerator has come so far.
+    pub(crate) fn set_walk(&mut self, instance: u8, number: u32, walk: Walk)
+        ensures { self.new ≡ walked self.old instance number walk }
+    {
+        walks::set(&mut self.lists, instance, number, walk);
+    }
+
+    /// The enumerator goes.
+    pub(crate) fn free_list(&mut self, instance: u8, number: u32)
+        ensures { self.new ≡ list_freed self.old instance number }
+    {
+        walks::take_out(&mut self.lists, instance, number);
     }
 
     /// Closes all that the instance has. It takes no memory.

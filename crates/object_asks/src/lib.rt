@@ -2,6 +2,7 @@
 #![tactic(auto)]
 
 mod checks;
+mod enumerating;
 mod held;
 mod names;
 mod numbered;
@@ -13,6 +14,7 @@ mod stream;
 #[cfg(test)]
 mod tests;
 mod turn;
+mod walks;
 
 pub use held::Held;
 pub use outcome::{Ending, Outcome, Served, answered, panicked, refused};

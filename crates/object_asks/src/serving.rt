@@ -4,6 +4,7 @@ ghost use Rattle.std.specs.Prelude.{◌≡◌};
 ghost use Rattle.object_asks.specs.Asks.{changes_store, object_course};
 ghost use Rattle.object_asks.specs.Serving.{ServesAsk, objects_in};
 
+use crate::enumerating;
 use crate::held::Held;
 use crate::names;
 use crate::opening;
@@ -15,7 +16,7 @@ use store_api::AppStore;
 use tee_base::NoMemory;
 
 /// An ask about objects. Any other isn't built, and ends the entry as a panic does.
-#[tactic(auto, unfolding(crate::specs::Asks::object_course))]
+#[tactic(auto, using(crate::proofs::ServingLemmas::serves_held), unfolding(crate::specs::Asks::object_course))]
 pub fn serve<T: AppStore>(
     alloc: Global,
     held: &mut Held,
@@ -58,6 +59,13 @@ pub fn serve<T: AppStore>(
             offset,
             whence,
         } => stream::seek(alloc, held, store, instance, object, offset, whence),
+        Ask::EnumNew => Ok(Served::plain(enumerating::create(held, instance)?)),
+        Ask::EnumFree { list } => Ok(Served::plain(enumerating::free(held, instance, list))),
+        Ask::EnumReset { list } => Ok(Served::plain(enumerating::reset(held, instance, list))),
+        Ask::EnumStart { list, storage } => {
+            enumerating::start(held, store, instance, list, storage)
+        }
+        Ask::EnumNext { list } => enumerating::next(alloc, held, store, instance, list),
         _ => Ok(panicked()),
     }
 }

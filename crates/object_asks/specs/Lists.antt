@@ -1,0 +1,81 @@
+-- The asks about enumerators: one definition for each, with its misuse first, then its refusals in their order, then its answer
+-- (TEE Internal Core API 1.3, section 5.8).
+use Rattle.std.specs.Prelude.{ℕ, ◌==◌, nat_le, Bool, not, List, [], ◌∷◌, ◌++◌, Option, None, Some, Result, Ok, Err, if◌then◌else◌, filter, map, count_by}
+use Rattle.tee_base.specs.Numbers.{lowest_free}
+use Rattle.tee_base.specs.declared.codes.TheConstants.Code.{BUSY, ITEM_NOT_FOUND}
+use Rattle.tee_base.specs.declared.limits.TheConstants.{ENUMERATORS}
+use Rattle.app_api.specs.declared.ask.Answer.TheVariants as answers
+use Rattle.store_api.specs.declared.answer.StoreAnswer.{StoreAnswer}
+use Rattle.store_api.specs.declared.object.Listed.{Listed}
+use Rattle.store_api.specs.Stores.{next_after}
+use Rattle.handle_table.specs.Handles.{change_first}
+use Rattle.object_asks.specs.declared.numbered.Walk.{Walk}
+use Rattle.object_asks.specs.declared.numbered.Walk.TheVariants.{Idle, Started}
+use Rattle.object_asks.specs.Courses.{Outcome, Answered, Panicked, Course, Settled, ComesToStore, Objects, code_of, done, holding, private_storage, refused}
+use Rattle.object_asks.specs.Held.{Held, NumberedList, is_list_at, is_list_of, walk_at}
+
+-- ---- changes of enumerators
+
+-- the lowest number of the instance that is free
+abbrev pub free_list : List NumberedList → ℕ → ℕ
+free_list lists instance = lowest_free (map (λ l. l.number) (filter (is_list_of instance) lists))
+
+abbrev pub has_all_lists : List NumberedList → ℕ → Bool
+has_all_lists lists instance = nat_le ENUMERATORS (count_by (is_list_of instance) lists)
+
+abbrev pub list_added : Held → ℕ → Held
+list_added h instance = record h { lists = h.lists ++ record { instance = instance; number = free_list h.lists instance; walk = Idle } ∷ [] }
+
+abbrev pub list_freed : Held → ℕ → ℕ → Held
+list_freed h instance number = record h { lists = filter (λ l. not (is_list_at instance number l)) h.lists }
+
+abbrev pub with_walk : Walk → NumberedList → NumberedList
+with_walk walk l = record l { walk = walk }
+
+-- the enumerator has come so far
+abbrev pub walked : Held → ℕ → ℕ → Walk → Held
+walked h instance number walk = record h { lists = change_first (is_list_at instance number) (with_walk walk) h.lists }
+
+-- ---- the asks
+
+-- EnumNew
+abbrev pub new_list : Held → ℕ → Outcome Held
+new_list h i =
+    if has_all_lists h.lists i then refused h BUSY
+    else Answered (list_added h i) (answers.Number (free_list h.lists i))
+
+-- EnumFree
+abbrev pub free_on : Held → ℕ → ℕ → Option Walk → Outcome Held
+free_on h i list None = Panicked
+free_on h i list (Some walk) = done (list_freed h i list)
+
+abbrev pub free_of : Held → ℕ → ℕ → Outcome Held
+free_of h i list = if list == 0 then done h else free_on h i list (walk_at h i list)
+
+-- EnumReset: not started
+abbrev pub reset_on : Held → ℕ → ℕ → Option Walk → Outcome Held
+reset_on h i list None = Panicked
+reset_on h i list (Some walk) = done (walked h i list Idle)
+
+-- EnumStart: there is an object; it has given none yet
+abbrev pub started_by : Objects → ℕ → ℕ → Result Listed StoreAnswer → Outcome Objects
+started_by o i list (Err answer) = refused o (code_of answer)
+started_by o i list (Ok listed) = done (holding o (walked o.held i list (Started None)))
+
+abbrev pub start_course : Objects → ℕ → ℕ → ℕ → Option Walk → Course Objects
+start_course o i list storage None = Settled Panicked
+start_course o i list storage (Some walk) =
+    if not (storage == private_storage) then Settled (refused o ITEM_NOT_FOUND)
+    else ComesToStore o (started_by o i list (next_after o.store None))
+
+-- EnumNext: the least identifier greater than the last one, in the store as it now is
+abbrev pub given_next : Objects → ℕ → ℕ → Result Listed StoreAnswer → Outcome Objects
+given_next o i list (Err answer) = refused o (code_of answer)
+given_next o i list (Ok listed) =
+    Answered (holding o (walked o.held i list (Started (Some listed.id))))
+    (answers.Found listed.id listed.facts.kind listed.facts.usage listed.facts.length)
+
+abbrev pub next_course : Objects → ℕ → ℕ → Option Walk → Course Objects
+next_course o i list None = Settled Panicked
+next_course o i list (Some Idle) = Settled (refused o ITEM_NOT_FOUND)
+next_course o i list (Some (Started last)) = ComesToStore o (given_next o i list (next_after o.store last))
