@@ -14,7 +14,8 @@ use Rattle.handle_table.specs.declared.handle.Handle.{Handle}
 use Rattle.handle_table.specs.declared.handle.Handle.TheVariants.{Persistent, Transient}
 use Rattle.handle_table.specs.Handles.{change_first, entry_moved, entry_sought, free_number, handle_at, is_at, moved, sought}
 use Rattle.object_asks.specs.Handles.{entry_has_identifier, has_identifier, settled}
-use Rattle.object_asks.specs.Held.{BelongTogether, Held, NumberedKey, NumberedList, handle_added, handle_closed, is_in_memory, is_transient, key_place, key_places, memory_places, place_of, is_list_at, is_list_of}
+use Rattle.transient_obj.specs.Keys.{Key}
+use Rattle.object_asks.specs.Held.{BelongTogether, Held, NumberedKey, NumberedList, handle_added, handle_closed, is_in_memory, is_transient, key_place, key_places, memory_places, place_of, is_list_at, is_list_of, with_key}
 use Rattle.object_asks.proofs.HandleLemmas.{both, closed_again, first_true, free_absent, or_first, or_second, second_true}
 
 -- the places of what stays, by a test of places
@@ -209,3 +210,30 @@ pub few_added : {E : Type 0} (r : Result ℕ E) (instance : ℕ) (free : ℕ) (l
     → count_by (is_list_of instance) ls < 4 → ((i : ℕ) → count_by (is_list_of i) ls ≤ 4) → (i : ℕ) → count_by (is_list_of i) now ≤ 4
 few_added (Ok n) instance free ls now made same room few i = subst (λ (xs : List NumberedList). count_by (is_list_of i) xs ≤ 4) (sym made.1) (few_pushed instance n ls i room (few i))
 few_added (Err e) instance free ls now made same room few i = subst (λ (xs : List NumberedList). count_by (is_list_of i) xs ≤ 4) (sym same) (few i)
+
+-- ---- keys
+
+pub places_set : (test : NumberedKey → Bool) (key : Key) (ks : List NumberedKey) → key_places (change_first test (with_key key) ks) ≡ key_places ks
+places_set test key [] = refl
+places_set test key (k ∷ ks) =
+    elim (test k) as (λ b. key_places (cond b (with_key key k ∷ ks) (k ∷ change_first test (with_key key) ks)) ≡ key_place k ∷ key_places ks) [
+      | true ↦ refl
+      | false ↦ ap (λ rest. key_place k ∷ rest) (places_set test key ks)
+    ]
+
+-- a key and its handle at the end of both
+memory_more : (hs : List Entry) (e : Entry) → is_transient e.handle ≡ true → memory_places (hs ++ e ∷ []) ≡ memory_places hs ++ place_of e ∷ []
+memory_more [] e here = rw here refl
+memory_more (x ∷ hs) e here =
+    elim (is_transient x.handle) as (λ b. map place_of (cond b (x ∷ filter is_in_memory (hs ++ e ∷ [])) (filter is_in_memory (hs ++ e ∷ []))) ≡ map place_of (cond b (x ∷ filter is_in_memory hs) (filter is_in_memory hs)) ++ place_of e ∷ []) [
+      | true ↦ ap (λ rest. place_of x ∷ rest) (memory_more hs e here)
+      | false ↦ memory_more hs e here
+    ]
+
+places_more : (ks : List NumberedKey) (k : NumberedKey) → key_places (ks ++ k ∷ []) ≡ key_places ks ++ key_place k ∷ []
+places_more [] k = refl
+places_more (x ∷ ks) k = ap (λ rest. key_place x ∷ rest) (places_more ks k)
+
+pub together_more : (hs : List Entry) (ks : List NumberedKey) (i n : ℕ) (key : Key) → BelongTogether hs ks → BelongTogether (hs ++ record { instance = i; number = n; handle = Transient } ∷ []) (ks ++ record { instance = i; number = n; key = key } ∷ [])
+together_more hs ks i n key together =
+    places_more ks (record { instance = i; number = n; key = key }) ∙ ap (λ ps. ps ++ (i, n) ∷ []) together ∙ sym (memory_more hs (record { instance = i; number = n; handle = Transient }) refl)

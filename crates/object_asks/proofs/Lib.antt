@@ -1,10 +1,12 @@
 pub mod Crashes
 pub mod HandleLemmas
 pub mod HeldLemmas
+pub mod KeyLemmas
 pub mod ReadingLemmas
 pub mod Renames
 pub mod ServingLemmas
 pub mod SoundAsks
 pub mod SoundHandles
-pub mod SoundObjects
+pub mod SoundKeys
 pub mod SoundLists
+pub mod SoundObjects

@@ -26,7 +26,7 @@ serves lost s plain e = rw e refl
 keeps : (lost : Bool) (s : Objects) (plain : Outcome Objects) → lost ≡ true → came_of Serves lost (ComesToStore s plain) ≡ refused s storage_not_available
 keeps lost s plain e = rw e refl
 
-stays : (s : Status) → HasStatus Plain s s
+pub stays : (s : Status) → HasStatus Plain s s
 stays s = record { cause = refl; later = omega arith; orders = refl; ordered = refl; reports = omega arith }
 
 abbrev told_as : Bool → StoreAnswer → Served
@@ -245,6 +245,11 @@ module _ {D : Type 0} (K : Keeper D) where
   pub serves_held : (served : Served) (outcome : Result_of) (course : Course Objects) (stated : Outcome Held) (changes : Bool) (held left : Held) (old : D)
       → served ≡ plainly outcome → course ≡ without_store (objects_in held (K.contents old)) stated → IsOutcome outcome stated held left → ServesAsk K (Ok served) course changes held left old old
   serves_held served outcome course stated changes held left old is same outcome_is = rw (is, same) (serves_kind (plainly outcome) (without_store (objects_in held (K.contents old)) stated) changes held left old refl (left_in outcome stated held left old outcome_is))
+
+  -- an ask that is settled without the store, and leaves all as it was or as stated
+  pub serves_here : (served : Served) (outcome : Result_of) (course : Course Objects) (stated : Outcome Objects) (changes : Bool) (held left : Held) (old : D)
+      → served ≡ plainly outcome → course ≡ Settled stated → IsOutcome outcome stated (objects_in held (K.contents old)) (objects_in left (K.contents old)) → ServesAsk K (Ok served) course changes held left old old
+  serves_here served outcome course stated changes held left old is same outcome_is = rw (is, same) (serves_kind (plainly outcome) (Settled stated) changes held left old refl outcome_is)
 
   wants : (result : Result Result_of StoreAnswer) (given : Result Served WantOfMemory) (plain : Outcome Objects) (changes : Bool) (held kept left : Held) (old new : D)
       → OnErr given (told_of changes result ≡ None) → IsGiven K result plain changes held kept left old new → OnErr given (FindsNoMemory K held left old new)

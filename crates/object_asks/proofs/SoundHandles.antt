@@ -155,3 +155,23 @@ added_sound store hs i n id flags at there may sound =
           (omega arith);
       sole = added_sole hs i n id flags at may sound.sole;
     }
+
+-- ---- a handle on an object in memory
+
+abbrev in_memory : ℕ → ℕ → Entry
+in_memory i n = record { instance = i; number = n; handle = Transient }
+
+pub memory_sole : (hs : List Entry) (i n : ℕ) → AreSole hs → AreSole (hs ++ in_memory i n ∷ [])
+memory_sole hs i n sole = λ id some.
+    let ones : ones_on id (hs ++ in_memory i n ∷ []) ≡ ones_on id hs + 0 = sum_by_push (λ (x : Entry). cond (entry_is_on id x) 1 0) hs (in_memory i n) in
+    let metas : meta_writers id (hs ++ in_memory i n ∷ []) ≡ meta_writers id hs + 0 = sum_by_push (λ (x : Entry). cond (writes_meta_on id x.handle) 1 0) hs (in_memory i n) in
+    let one = sole id (omega arith) in
+    omega arith
+
+pub memory_sound : (store : Store) (hs : List Entry) (i n : ℕ) → IsSound store hs → IsSound store (hs ++ in_memory i n ∷ [])
+memory_sound store hs i n sound = record {
+  stored = λ id some.
+      let ones : ones_on id (hs ++ in_memory i n ∷ []) ≡ ones_on id hs + 0 = sum_by_push (λ (x : Entry). cond (entry_is_on id x) 1 0) hs (in_memory i n) in
+      sound.stored id (omega arith);
+  sole = memory_sole hs i n sound.sole;
+}

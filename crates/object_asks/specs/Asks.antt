@@ -21,7 +21,8 @@ use Rattle.handle_table.specs.Handles.{free_number, handle_at, is_full, is_open,
 use Rattle.object_asks.specs.declared.source.KeySource.{KeySource}
 use Rattle.object_asks.specs.Codes.{item_not_found, access_conflict, busy, overflow}
 use Rattle.object_asks.specs.Handles.{settled}
-use Rattle.object_asks.specs.Held.{handle_added, handle_closed, handle_renamed, handle_sought, key_at, secret_bits, walk_at}
+use Rattle.object_asks.specs.Held.{handle_added, handle_closed, handle_renamed, handle_sought, key_at, secret_bits, transient_at, walk_at}
+use Rattle.object_asks.specs.Keys.{copy_course, new_key, populate_on, reset_key, restrict_on, secret_course}
 use Rattle.object_asks.specs.Lists.{free_of, new_list, next_course, reset_on, start_course}
 use Rattle.object_asks.specs.Sources.{attr_source, is_no_key, key_given}
 
@@ -222,7 +223,7 @@ seek_course o i object offset whence (Some (Persistent id flags position)) =
     else if whence == 2 then ComesToStore o (moved_from_end o i object offset (found o.store id))
     else Settled Panicked
 
--- the asks about objects; the others aren't built, and end the entry as a panic does
+-- the asks about objects, but KeyGenerate, which rests on random bytes too; the others aren't built, and end the entry as a panic does
 unfoldable pub object_course : Objects → ℕ → Ask → Course Objects
 object_course o i (asked.ObjOpen storage id flags) = open_course o i storage id flags
 object_course o i (asked.ObjCreate storage id flags attr content) = create_course o i storage id flags attr content
@@ -239,4 +240,10 @@ object_course o i (asked.EnumFree list) = without_store o (free_of o.held i list
 object_course o i (asked.EnumReset list) = without_store o (reset_on o.held i list (walk_at o.held i list))
 object_course o i (asked.EnumStart list storage) = start_course o i list storage (walk_at o.held i list)
 object_course o i (asked.EnumNext list) = next_course o i list (walk_at o.held i list)
+object_course o i (asked.KeyNew kind max_bits) = without_store o (new_key o.held i kind max_bits)
+object_course o i (asked.KeyPopulate object secret) = without_store o (populate_on o.held i object secret (transient_at o.held i object))
+object_course o i (asked.KeyReset object) = without_store o (reset_key o.held i object (transient_at o.held i object))
+object_course o i (asked.KeySecret object room) = secret_course o i object room
+object_course o i (asked.KeyCopy to from) = copy_course o i to from
+object_course o i (asked.KeyRestrict object usage) = without_store o (restrict_on o.held i object usage (handle_at (settled o.held.handles) i object))
 object_course o i ask = Settled Panicked

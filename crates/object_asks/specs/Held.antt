@@ -1,5 +1,5 @@
 -- What asks about objects touch in memory: the object handles, the keys and the enumerators of all instances of an application.
-use Rattle.std.specs.Prelude.{ℕ, ◌≡◌, ◌<◌, ◌≤◌, ◌*◌, ◌==◌, Bool, true, false, not, ◌&&◌, List, [], Option, None, Some, option_map, find, filter, map, count_by, length}
+use Rattle.std.specs.Prelude.{ℕ, ◌≡◌, ◌<◌, ◌≤◌, ◌*◌, ◌==◌, Bool, true, false, not, ◌&&◌, List, [], ◌∷◌, ◌++◌, Option, None, Some, option_map, find, filter, map, count_by, length}
 use Rattle.std.specs.List.{list_all}
 use Rattle.std.specs.Str.{bytes_eq}
 use Rattle.tee_base.specs.declared.codes.Flags.{Flags}
@@ -8,7 +8,7 @@ use Rattle.share_rules.specs.Sharing.{access_write_meta, has as has_bit}
 use Rattle.handle_table.specs.declared.handle.Entry.{Entry}
 use Rattle.handle_table.specs.declared.handle.Handle.{Handle}
 use Rattle.handle_table.specs.declared.handle.Handle.TheVariants.{Persistent, Transient}
-use Rattle.handle_table.specs.Handles.{Table, added, all_closed, closed, entry_is_on, handle_at, renamed, sought_at}
+use Rattle.handle_table.specs.Handles.{Table, added, all_closed, change_first, closed, entry_is_on, free_number, handle_at, renamed, sought_at}
 use Rattle.object_asks.specs.declared.numbered.NumberedKey.{NumberedKey as DeclaredKey}
 use Rattle.object_asks.specs.declared.numbered.NumberedList.{NumberedList as DeclaredList}
 use Rattle.object_asks.specs.declared.numbered.Walk.{Walk}
@@ -56,6 +56,31 @@ walk_at h instance number = option_map (λ l. l.walk) (find (is_list_at instance
 abbrev pub secret_bits : Option (List ℕ) → ℕ
 secret_bits None = 0
 secret_bits (Some secret) = 8 * length secret
+
+-- the key that the instance's handle of this number is on, if it is on one
+abbrev pub transient_on : Held → ℕ → ℕ → Option Handle → Option Key
+transient_on h instance number None = None
+transient_on h instance number (Some (Persistent id flags position)) = None
+transient_on h instance number (Some Transient) = key_at h instance number
+
+abbrev pub transient_at : Held → ℕ → ℕ → Option Key
+transient_at h instance number = transient_on h instance number (handle_at (settled h.handles) instance number)
+
+-- ---- changes of keys
+
+-- a new key, with a handle on it under the lowest free number of the instance
+abbrev pub key_added : Held → ℕ → Key → Held
+key_added h instance key = record h {
+  handles = (added (settled h.handles) instance Transient).handles;
+  keys = h.keys ++ record { instance = instance; number = free_number h.handles instance; key = key } ∷ [];
+}
+
+abbrev pub with_key : Key → NumberedKey → NumberedKey
+with_key key k = record k { key = key }
+
+-- the instance's key of this number is this one now
+abbrev pub key_set : Held → ℕ → ℕ → Key → Held
+key_set h instance number key = record h { keys = change_first (is_key_at instance number) (with_key key) h.keys }
 
 -- ---- changes of handles
 

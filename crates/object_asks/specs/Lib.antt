@@ -3,6 +3,8 @@ pub mod Codes
 pub mod Courses
 pub mod Handles
 pub mod Held
+pub mod KeyOf
+pub mod Keys
 pub mod Lists
 pub mod Serving
 pub mod Sources

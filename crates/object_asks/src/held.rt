@@ -1,9 +1,6 @@
 //! What asks about objects touch in memory, as it is between events: no rename is pending.
 
-ghost use Rattle.std.specs.Prelude.{◌≡◌, filter, find, not, option_map};
-ghost use Rattle.object_asks.specs.Held.{is_key_at, is_key_of, is_list_of};
-ghost use Rattle.object_asks.specs.Sources.{memory_source};
-
+use crate::keyring;
 use crate::numbered::{NumberedKey, NumberedList, Walk};
 use crate::outcome::{Outcome, done};
 use crate::source::KeySource;
@@ -13,7 +10,7 @@ use std::alloc::Global;
 use std::marker::Model;
 use store_api::{AppStore, Change, StoreAnswer};
 use tee_base::{Bytes, Flags, NoMemory, limits};
-use transient_obj::{ObjectKey, Transient};
+use transient_obj::Transient;
 
 /// The object handles, the keys in memory and the enumerators of all instances of an application. Each handle is on an
 /// identifier of at most 64 bytes, or on a key.
@@ -34,60 +31,12 @@ impl Model for Held {
     ghost invariant = { λ h. IsHeld h.table h.keys.items h.lists.items };
 }
 
-/// Takes out the instance's key of this number.
-fn take_key(keys: &mut Vec<NumberedKey>, instance: u8, number: u32)
-    ensures { keys.new.items ≡ filter (λ k. not (is_key_at instance number k)) keys.old.items }
-{
-    keys.retain(|k| !k.is_at(instance, number));
-}
-
-/// Takes out all keys of the instance.
-fn take_keys(keys: &mut Vec<NumberedKey>, instance: u8)
-    ensures { keys.new.items ≡ filter (λ k. not (is_key_of instance k)) keys.old.items }
-{
-    keys.retain(|k| k.instance != instance);
-}
-
-/// Takes out all enumerators of the instance.
-fn take_lists(lists: &mut Vec<NumberedList>, instance: u8)
-    ensures { lists.new.items ≡ filter (λ l. not (is_list_of instance l)) lists.old.items }
-{
-    lists.retain(|l| l.instance != instance);
-}
-
-/// The instance's key of this number.
-fn key_of(keys: &[NumberedKey], instance: u8, number: u32) -> Option<&Transient>
-    ensures { option_map (λ key. key.now) result
-        ≡ option_map (λ k. k.key) (find (is_key_at instance number) keys.now) }
-{
-    keys.iter()
-        .find(|k| k.is_at(instance, number))
-        .map(|k| &k.key)
-}
-
-/// What a key in memory gives, if there is one and it is initialised.
-fn memory_source(key: Option<&Transient>) -> KeySource
-    ensures { result ≡ memory_source (option_map (λ key. key.now) key.entry) }
-{
-    let Some(key) = key else {
-        return KeySource::NoKey;
-    };
-    let Some(secret) = key.secret() else {
-        return KeySource::NoKey;
-    };
-    KeySource::InMemory(ObjectKey {
-        kind: key.kind(),
-        usage: key.usage(),
-        secret: secret.copy(),
-    })
-}
-
 impl Held {
     ghost use Rattle.std.specs.Prelude.{◌≡◌, IsTrue, IfOk, OnOk, OnErr, IfSome, option_map, is_some, false};
     ghost use Rattle.handle_table.specs.Handles.{may_open, is_open, is_full, is_there, free_number, handle_at};
     ghost use Rattle.store_api.specs.Limits.{IsIdentifier};
     ghost use Rattle.object_asks.specs.Handles.{settled, HasIdentifier};
-    ghost use Rattle.object_asks.specs.Held.{nothing_held, handle_added, handle_sought, handle_closed, instance_closed, key_at, may_rename, walk_at};
+    ghost use Rattle.object_asks.specs.Held.{nothing_held, handle_added, handle_sought, handle_closed, instance_closed, key_added, key_at, key_set, may_rename, transient_at, walk_at};
     ghost use Rattle.object_asks.specs.Lists.{free_list, has_all_lists, list_added, list_freed, walked};
     ghost use Rattle.object_asks.specs.Sources.{HasSource, key_source};
     ghost use Rattle.std.specs.Prelude.{true};
@@ -141,7 +90,43 @@ impl Held {
     pub(crate) fn key(&self, instance: u8, number: u32) -> Option<&Transient>
         ensures { option_map (λ key. key.now) result ≡ key_at self.now instance number }
     {
-        key_of(self.keys.as_slice(), instance, number)
+        keyring::key_of(self.keys.as_slice(), instance, number)
+    }
+
+    /// The key that the instance's handle of this number is on, if it is on one.
+    pub(crate) fn transient(&self, instance: u8, number: u32) -> Option<&Transient>
+        ensures { option_map (λ key. key.now) result ≡ transient_at self.now instance number }
+    {
+        match self.get(instance, number) {
+            Some(Handle::Transient) => self.key(instance, number),
+            _ => None,
+        }
+    }
+
+    /// Adds a key with a handle on it, and answers its number. Want of memory changes nothing.
+    pub(crate) fn add_key(&mut self, instance: u8, key: Transient) -> Result<u32, NoMemory>
+        requires { is_full (settled self.old.handles) instance ≡ false }
+        ensures number { IfOk result (λ n. n ≡ free_number self.old.handles instance) }
+        ensures ok { OnOk result (self.new ≡ key_added self.old instance key) }
+        ensures unchanged { OnErr result (self.new ≡ self.old) }
+    {
+        let number = match self.table.add_transient(instance) {
+            Ok(number) => number,
+            Err(HandleAnswer::NoMemory) => return Err(NoMemory),
+            Err(HandleAnswer::Full) => unreachable!(),
+        };
+        let Ok(()) = keyring::add(&mut self.keys, instance, number, key) else {
+            self.table.close(instance, number);
+            return Err(NoMemory);
+        };
+        Ok(number)
+    }
+
+    /// The instance's key of this number is this one from now on.
+    pub(crate) fn set_key(&mut self, instance: u8, number: u32, key: Transient)
+        ensures { self.new ≡ key_set self.old instance number key }
+    {
+        keyring::set(&mut self.keys, instance, number, key);
     }
 
     /// Where the object's kind, usage and secret are.
@@ -157,7 +142,7 @@ impl Held {
         match self.get(instance, object) {
             None => Ok(KeySource::NoKey),
             Some(Handle::Persistent { id, .. }) => Ok(KeySource::InStore(id.copy(alloc)?)),
-            Some(Handle::Transient) => Ok(memory_source(self.key(instance, object))),
+            Some(Handle::Transient) => Ok(keyring::memory_source(self.key(instance, object))),
         }
     }
 
@@ -231,7 +216,7 @@ impl Held {
         ensures { self.new ≡ handle_closed self.old instance number }
     {
         self.table.close(instance, number);
-        take_key(&mut self.keys, instance, number);
+        keyring::take_key(&mut self.keys, instance, number);
     }
 
     /// Whether the instance has 4 enumerators.
@@ -277,7 +262,7 @@ impl Held {
         ensures { self.new ≡ instance_closed self.old instance }
     {
         self.table.close_all(instance);
-        take_keys(&mut self.keys, instance);
-        take_lists(&mut self.lists, instance);
+        keyring::take_keys(&mut self.keys, instance);
+        walks::take_lists(&mut self.lists, instance);
     }
 }

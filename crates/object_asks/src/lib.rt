@@ -4,6 +4,9 @@
 mod checks;
 mod enumerating;
 mod held;
+mod keyring;
+mod keys;
+mod lending;
 mod names;
 mod numbered;
 mod opening;
@@ -17,6 +20,8 @@ mod turn;
 mod walks;
 
 pub use held::Held;
+pub use keys::{generate, random_wanted};
+pub use lending::{KeyFound, KeyServed, key_of};
 pub use outcome::{Ending, Outcome, Served, answered, panicked, refused};
 pub use serving::serve;
 pub use turn::TurnKind;

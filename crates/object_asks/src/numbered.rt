@@ -7,7 +7,7 @@ use transient_obj::Transient;
 #[derive(Drop)]
 pub struct NumberedKey {
     pub instance: u8,
-    pub number: u8,
+    pub number: u32,
     pub key: Transient,
 }
 
@@ -19,7 +19,7 @@ impl NumberedKey {
     pub fn is_at(&self, instance: u8, number: u32) -> bool
         ensures { result ≡ is_key_at instance number self.now }
     {
-        self.instance == instance && u32::from(self.number) == number
+        self.instance == instance && self.number == number
     }
 }
 

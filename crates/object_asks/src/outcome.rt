@@ -87,7 +87,7 @@ pub fn panicked() -> Served
 }
 
 /// How an application is told of what a store answers in place of a result.
-fn code_of(answer: StoreAnswer) -> Code
+pub fn code_of(answer: StoreAnswer) -> Code
     ensures { result ≡ code_of answer }
 {
     match answer {
@@ -101,7 +101,7 @@ fn code_of(answer: StoreAnswer) -> Code
 }
 
 /// How the turn went in which a store answered this in place of a result.
-fn kind_of(answer: StoreAnswer, change: bool) -> TurnKind
+pub fn kind_of(answer: StoreAnswer, change: bool) -> TurnKind
     ensures { result ≡ kind_of change answer }
 {
     match answer {

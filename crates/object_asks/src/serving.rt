@@ -6,6 +6,7 @@ ghost use Rattle.object_asks.specs.Serving.{ServesAsk, objects_in};
 
 use crate::enumerating;
 use crate::held::Held;
+use crate::keys;
 use crate::names;
 use crate::opening;
 use crate::outcome::{Served, panicked};
@@ -66,6 +67,23 @@ pub fn serve<T: AppStore>(
             enumerating::start(held, store, instance, list, storage)
         }
         Ask::EnumNext { list } => enumerating::next(alloc, held, store, instance, list),
+        Ask::KeyNew { kind, max_bits } => {
+            Ok(Served::plain(keys::create(held, instance, kind, max_bits)?))
+        }
+        Ask::KeyPopulate { object, secret } => Ok(Served::plain(keys::populate(
+            held,
+            instance,
+            object,
+            secret.as_slice(),
+        ))),
+        Ask::KeyReset { object } => Ok(Served::plain(keys::reset(held, instance, object))),
+        Ask::KeySecret { object, room } => {
+            keys::secret(alloc, held, store, instance, object, room)
+        }
+        Ask::KeyCopy { to, from } => keys::copy(alloc, held, store, instance, to, from),
+        Ask::KeyRestrict { object, usage } => Ok(Served::plain(keys::restrict(
+            held, instance, object, usage,
+        ))),
         _ => Ok(panicked()),
     }
 }

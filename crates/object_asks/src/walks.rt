@@ -83,3 +83,10 @@ pub fn take_out(lists: &mut Vec<NumberedList>, instance: u8, number: u32)
 {
     lists.retain(|l| !l.is_at(instance, number));
 }
+
+/// Takes out all enumerators of the instance.
+pub fn take_lists(lists: &mut Vec<NumberedList>, instance: u8)
+    ensures { lists.new.items ≡ filter (λ l. not (is_list_of instance l)) lists.old.items }
+{
+    lists.retain(|l| l.instance != instance);
+}

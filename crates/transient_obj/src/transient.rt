@@ -48,6 +48,18 @@ impl Transient {
         })
     }
 
+    /// Another key that is the same.
+    pub fn copy(&self) -> Transient
+        ensures { result ≡ self.now }
+    {
+        Transient {
+            kind: self.kind,
+            max_bits: self.max_bits,
+            usage: self.usage,
+            secret: self.secret.as_ref().map(|secret| secret.copy()),
+        }
+    }
+
     /// A law: what each key keeps.
     pub fn bounds(&self)
         ensures { IsKey self.now }

@@ -1,0 +1,77 @@
+-- What an object of either sort gives to an operation as its key, and when the store has a part in it.
+use Rattle.std.specs.Prelude.{ℕ, ◌≡◌, Bool, true, false, Option, None, Some, Result, Ok, Err, IfOk, OnErr, if◌then◌else◌}
+use Rattle.tee_base.specs.declared.bytes.NoMemory.{NoMemory as WantOfMemory}
+use Rattle.store_api.specs.declared.answer.StoreAnswer.{StoreAnswer}
+use Rattle.store_api.specs.declared.answer.StoreAnswer.TheVariants.{NoMemory}
+use Rattle.store_api.specs.Keeping.{Contents, CrashLeaves, Keeper, LeavesJust}
+use Rattle.store_api.specs.Stores.{Store}
+use Rattle.transient_obj.specs.declared.object_key.ObjectKey.{ObjectKey}
+use Rattle.object_asks.specs.declared.source.KeySource.{KeySource}
+use Rattle.object_asks.specs.declared.source.KeySource.TheVariants.{NoKey, InMemory, InStore}
+use Rattle.object_asks.specs.declared.lending.KeyFound.{KeyFound}
+use Rattle.object_asks.specs.declared.lending.KeyFound.TheVariants as finds
+use Rattle.object_asks.specs.declared.lending.KeyServed.{KeyServed}
+use Rattle.object_asks.specs.declared.turn.TurnKind.TheVariants.{Plain}
+use Rattle.object_asks.specs.Codes.{corrupt_object, storage_not_available}
+use Rattle.object_asks.specs.Courses.{Objects, Serving, Serves, Fails, Damaged, code_of}
+use Rattle.object_asks.specs.Serving.{EndsUnchanged, HasStatus, IsKept, IsUndamaged, Meets, SaysChange, ShowsDamage, kind_of, serving_of}
+use Rattle.object_asks.specs.Sources.{key_source, stored_key}
+
+-- how the look for a key goes: it is settled without the store, or comes to it, and plain is what the store's answer gives
+pub data KeyCourse : Type 0 where
+  KeySettled : (found : KeyFound) → KeyCourse
+  KeyComesToStore : (plain : KeyFound) → KeyCourse
+
+-- an object that the store hasn't got gives its refusal
+abbrev pub found_by : Result ObjectKey StoreAnswer → KeyFound
+found_by (Ok key) = finds.Key key
+found_by (Err answer) = finds.Refused (code_of answer)
+
+-- misuse where there is no such object or it isn't initialised; the store is lost or damaged for a persistent one alone
+abbrev pub key_course_of : Store → KeySource → KeyCourse
+key_course_of store NoKey = KeySettled finds.NoKey
+key_course_of store (InMemory key) = KeySettled (finds.Key key)
+key_course_of store (InStore id) = KeyComesToStore (found_by (stored_key store id))
+
+abbrev pub key_course : Objects → ℕ → ℕ → KeyCourse
+key_course o i object = key_course_of o.store (key_source o.held i object)
+
+abbrev pub key_comes_to_store : KeyCourse → Bool
+key_comes_to_store (KeySettled found) = false
+key_comes_to_store (KeyComesToStore plain) = true
+
+-- what comes of it
+abbrev pub key_came_of : Serving → Bool → KeyCourse → KeyFound
+key_came_of serving lost (KeySettled found) = found
+key_came_of Serves lost (KeyComesToStore plain) = if lost then finds.Refused storage_not_available else plain
+key_came_of Fails lost (KeyComesToStore plain) = finds.Refused storage_not_available
+key_came_of Damaged lost (KeyComesToStore plain) = finds.Refused corrupt_object
+
+abbrev pub key_plainly : KeyFound → KeyServed
+key_plainly found = record { kind = Plain; found = found }
+
+-- what is told, by what the store's answer gives: nothing at want of memory
+abbrev pub key_told : Result ObjectKey StoreAnswer → Option KeyServed
+key_told (Ok key) = Some (key_plainly (finds.Key key))
+key_told (Err NoMemory) = None
+key_told (Err answer) = Some (record { kind = kind_of false answer; found = finds.Refused (code_of answer) })
+
+module _ {D : Type 0} (K : Keeper D) where
+  -- a look that was served, of this course; what is kept stays
+  pub record IsKeyServed (served : KeyServed) (course : KeyCourse) (old new : D) : Type 0 where
+    pub outcome : K.has_model old → served.found ≡ key_came_of (serving_of served.kind) (K.status old).lost course
+    pub same : K.has_model old → K.contents new ≡ K.contents old
+    -- a lost or damaged look comes to the store
+    pub reaches : K.has_model old → Meets served.kind (key_comes_to_store course)
+    pub change : SaysChange served.kind false
+    pub status : HasStatus served.kind (K.status old) (K.status new)
+    pub damage : ShowsDamage served.kind (K.damage new)
+    pub honest : K.honest old → K.honest new × IsUndamaged served.kind
+    pub keeps : IsKept K old new
+    pub crash : K.honest old → LeavesJust K old (K.contents old) → CrashLeaves K (K.contents old) old new
+
+  -- it is served, or there is no memory for it; no change is tried
+  pub record TellsKey (result : Result KeyServed WantOfMemory) (course : KeyCourse) (old new : D) : Type 0 where
+    pub served : IfOk result (λ served. IsKeyServed served course old new)
+    pub tried : (K.status new).change_attempts ≡ (K.status old).change_attempts
+    pub want : OnErr result (EndsUnchanged K old new)

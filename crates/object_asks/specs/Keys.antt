@@ -1,0 +1,131 @@
+-- The asks about keys in memory: one definition for each, with its misuse first, then its refusals in their order, then its answer
+-- (TEE Internal Core API 1.3, section 5.6); and what an object of either sort gives to an operation.
+use Rattle.std.specs.Prelude.{ℕ, ◌/◌, ◌*◌, ◌==◌, ◌∷◌, ◌++◌, [], nat_le, nat_lt, Bool, true, false, not, ◌&&◌, ◌||◌, List, Option, None, Some, is_some, Result, Ok, Err, if◌then◌else◌, length, bit_and}
+use Rattle.tee_base.specs.KeySizes.{size_fits}
+use Rattle.tee_base.specs.declared.codes.Code.{Code}
+use Rattle.tee_base.specs.declared.codes.TheConstants.Code.{BAD_PARAMETERS, BUSY, ITEM_NOT_FOUND, NOT_SUPPORTED}
+use Rattle.tee_base.specs.declared.keys.TheConstants.{KIND_DATA, USAGE_EXTRACTABLE}
+use Rattle.app_api.specs.declared.ask.Answer.TheVariants as answers
+use Rattle.store_api.specs.declared.answer.StoreAnswer.{StoreAnswer}
+use Rattle.transient_obj.specs.declared.answer.KeyAnswer.{KeyAnswer}
+use Rattle.transient_obj.specs.declared.answer.KeyAnswer.TheVariants as refusals
+use Rattle.transient_obj.specs.declared.object_key.ObjectKey.{ObjectKey}
+use Rattle.transient_obj.specs.Keys.{Key, allocated, copied, copy_answer, populate_answer, populated, restricted, without_secret}
+use Rattle.handle_table.specs.declared.handle.Handle.{Handle}
+use Rattle.handle_table.specs.declared.handle.Handle.TheVariants.{Persistent, Transient}
+use Rattle.handle_table.specs.Handles.{added, free_number, handle_at, is_full}
+use Rattle.object_asks.specs.declared.source.KeySource.{KeySource}
+use Rattle.object_asks.specs.declared.source.KeySource.TheVariants.{NoKey, InMemory, InStore}
+use Rattle.object_asks.specs.Courses.{Outcome, Answered, Panicked, Course, Settled, ComesToStore, Objects, code_of, done, holding, is_too_much, outcome_in, refused, without_store}
+use Rattle.object_asks.specs.Handles.{settled}
+use Rattle.object_asks.specs.Held.{Held, NumberedKey, key_added, key_set, transient_at}
+use Rattle.object_asks.specs.Sources.{key_source, stored_key}
+
+-- KeyNew
+abbrev pub new_key_by : Held → ℕ → Result Key KeyAnswer → Outcome Held
+new_key_by h i (Err answer) = refused h NOT_SUPPORTED
+new_key_by h i (Ok key) =
+    if is_full (settled h.handles) i then refused h BUSY
+    else Answered (key_added h i key) (answers.Number (free_number h.handles i))
+
+abbrev pub new_key : Held → ℕ → ℕ → ℕ → Outcome Held
+new_key h i kind max_bits = new_key_by h i (allocated kind max_bits)
+
+-- KeyPopulate: not initialised; the secret fits
+abbrev pub populated_by : Held → ℕ → ℕ → Key → Result (Unit {0}) KeyAnswer → Outcome Held
+populated_by h i object after (Ok nothing) = done (key_set h i object after)
+populated_by h i object after (Err refusals.BadParameters) = refused h BAD_PARAMETERS
+populated_by h i object after (Err answer) = Panicked
+
+abbrev pub populate_on : Held → ℕ → ℕ → List ℕ → Option Key → Outcome Held
+populate_on h i object secret None = Panicked
+populate_on h i object secret (Some key) = populated_by h i object (populated key secret) (populate_answer key secret)
+
+-- KeyReset
+abbrev pub reset_key : Held → ℕ → ℕ → Option Key → Outcome Held
+reset_key h i object None = Panicked
+reset_key h i object (Some key) = done (key_set h i object (without_secret key))
+
+-- KeySecret: an object of the kind DATA has none, and there is no misuse of one; any other secret may be told where it is extractable
+abbrev pub is_extractable : ℕ → Bool
+is_extractable usage = not (bit_and usage USAGE_EXTRACTABLE == 0)
+
+abbrev pub secret_told : {S : Type 0} → S → ℕ → ObjectKey → Outcome S
+secret_told s room key =
+    if key.kind == KIND_DATA then refused s ITEM_NOT_FOUND
+    else if not (is_extractable key.usage) then Panicked
+    else if nat_lt room (length key.secret) then Answered s (answers.Short (length key.secret))
+    else Answered s (answers.Content key.secret)
+
+abbrev pub secret_by : Objects → ℕ → Result ObjectKey StoreAnswer → Outcome Objects
+secret_by o room (Err answer) = refused o (code_of answer)
+secret_by o room (Ok key) = secret_told o room key
+
+abbrev pub secret_from : Objects → ℕ → KeySource → Course Objects
+secret_from o room NoKey = Settled Panicked
+secret_from o room (InMemory key) = Settled (secret_told o room key)
+secret_from o room (InStore id) = ComesToStore o (secret_by o room (stored_key o.store id))
+
+abbrev pub secret_course : Objects → ℕ → ℕ → ℕ → Course Objects
+secret_course o i object room =
+    if is_too_much room then Settled Panicked else secret_from o room (key_source o.held i object)
+
+-- KeyCopy: to isn't initialised, of the same kind, and large enough
+abbrev pub copied_by : Held → ℕ → ℕ → Key → Result (Unit {0}) KeyAnswer → Outcome Held
+copied_by h i to after (Ok nothing) = done (key_set h i to after)
+copied_by h i to after (Err answer) = Panicked
+
+abbrev pub copied_from : Held → ℕ → ℕ → Key → ObjectKey → Outcome Held
+copied_from h i to key from = copied_by h i to (copied key from.usage from.secret) (copy_answer key from.kind from.secret)
+
+abbrev pub copied_in : Objects → ℕ → ℕ → Key → Result ObjectKey StoreAnswer → Outcome Objects
+copied_in o i to key (Err answer) = refused o (code_of answer)
+copied_in o i to key (Ok from) = outcome_in (holding o) (copied_from o.held i to key from)
+
+abbrev pub copy_from : Objects → ℕ → ℕ → Key → KeySource → Course Objects
+copy_from o i to key NoKey = Settled Panicked
+copy_from o i to key (InMemory from) = without_store o (copied_from o.held i to key from)
+copy_from o i to key (InStore id) = ComesToStore o (copied_in o i to key (stored_key o.store id))
+
+abbrev pub copy_to : Objects → ℕ → ℕ → ℕ → Option Key → Course Objects
+copy_to o i to from None = Settled Panicked
+copy_to o i to from (Some key) = if is_some key.secret then Settled Panicked else copy_from o i to key (key_source o.held i from)
+
+abbrev pub copy_course : Objects → ℕ → ℕ → ℕ → Course Objects
+copy_course o i to from = copy_to o i to from (transient_at o.held i to)
+
+-- KeyRestrict: its usages among these
+abbrev pub restrict_key : Held → ℕ → ℕ → ℕ → Option Key → Outcome Held
+restrict_key h i object usage None = Panicked
+restrict_key h i object usage (Some key) = done (key_set h i object (restricted key usage))
+
+abbrev pub restrict_on : Held → ℕ → ℕ → ℕ → Option Handle → Outcome Held
+restrict_on h i object usage None = Panicked
+restrict_on h i object usage (Some (Persistent id flags position)) = refused h NOT_SUPPORTED
+restrict_on h i object usage (Some Transient) = restrict_key h i object usage (transient_at h i object)
+
+-- KeyGenerate: not initialised; the size fits the kind and isn't above the greatest. So many bytes are taken only then
+abbrev pub fits_key : Key → ℕ → Bool
+fits_key key bits = not (is_some key.secret) && size_fits key.kind bits && nat_le bits key.max_bits
+
+abbrev pub wanted_by : ℕ → Option Key → Option ℕ
+wanted_by bits None = None
+wanted_by bits (Some key) = if fits_key key bits then Some (bits / 8) else None
+
+abbrev pub random_wanted : Held → ℕ → ℕ → ℕ → Option ℕ
+random_wanted h i object bits = wanted_by bits (transient_at h i object)
+
+abbrev pub generated_on : Held → ℕ → ℕ → List ℕ → Option Key → Held
+generated_on h i object secret None = h
+generated_on h i object secret (Some key) = key_set h i object (populated key secret)
+
+abbrev pub generated : Held → ℕ → ℕ → List ℕ → Held
+generated h i object secret = generated_on h i object secret (transient_at h i object)
+
+-- random gives the next so many random bytes
+abbrev pub generated_of : Objects → ℕ → ℕ → (ℕ → List ℕ) → Option ℕ → Course Objects
+generated_of o i object random None = Settled Panicked
+generated_of o i object random (Some n) = Settled (done (holding o (generated o.held i object (random n))))
+
+abbrev pub generate_course : Objects → ℕ → ℕ → ℕ → (ℕ → List ℕ) → Course Objects
+generate_course o i object bits random = generated_of o i object random (random_wanted o.held i object bits)
