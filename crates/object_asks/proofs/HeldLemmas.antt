@@ -126,14 +126,14 @@ found_goes q t (x ∷ xs) e here passes =
     let w : Entry → ℕ = λ y. cond (t y) 1 0 in
     by_first (q x) x (find q xs) e (count_by t (filter (λ x. not (q x)) (x ∷ xs)) + 1 ≤ count_by t (x ∷ xs)) here
     (λ first same.
-        let one : w x ≡ 1 = ap w same ∙ ap (λ b. cond b 1 0) passes in
-        let rest : count_by t (filter (λ x. not (q x)) xs) ≤ count_by t xs = omega (arith, sum_by-filter_both (λ y. not (q y)) (λ y. not (not (q y))) (λ y. refl) w xs) in
-        let gone : count_by t (filter (λ x. not (q x)) (x ∷ xs)) ≡ count_by t (filter (λ x. not (q x)) xs) = ap (λ b. sum_by w (cond (not b) (x ∷ filter (λ x. not (q x)) xs) (filter (λ x. not (q x)) xs))) first in
-        omega (arith, sum_by-cons w x xs, one, rest, gone))
+    let one : w x ≡ 1 = ap w same ∙ ap (λ b. cond b 1 0) passes in
+    let rest : count_by t (filter (λ x. not (q x)) xs) ≤ count_by t xs = omega (arith, sum_by-filter_both (λ y. not (q y)) (λ y. not (not (q y))) (λ y. refl) w xs) in
+    let gone : count_by t (filter (λ x. not (q x)) (x ∷ xs)) ≡ count_by t (filter (λ x. not (q x)) xs) = ap (λ b. sum_by w (cond (not b) (x ∷ filter (λ x. not (q x)) xs) (filter (λ x. not (q x)) xs))) first in
+    omega (arith, sum_by-cons w x xs, one, rest, gone))
     (λ other later.
-        let stays : count_by t (filter (λ x. not (q x)) (x ∷ xs)) ≡ w x + count_by t (filter (λ x. not (q x)) xs) =
-        ap (λ b. sum_by w (cond (not b) (x ∷ filter (λ x. not (q x)) xs) (filter (λ x. not (q x)) xs))) other ∙ sum_by-cons w x (filter (λ x. not (q x)) xs) in
-        omega (arith, sum_by-cons w x xs, stays, found_goes q t xs e later passes))
+    let stays : count_by t (filter (λ x. not (q x)) (x ∷ xs)) ≡ w x + count_by t (filter (λ x. not (q x)) xs) =
+    ap (λ b. sum_by w (cond (not b) (x ∷ filter (λ x. not (q x)) xs) (filter (λ x. not (q x)) xs))) other ∙ sum_by-cons w x (filter (λ x. not (q x)) xs) in
+    omega (arith, sum_by-cons w x xs, stays, found_goes q t xs e later passes))
 
 entry_found : (o : Option Entry) (h : Handle) → option_map (λ e. e.handle) o ≡ Some h → (e : Entry) × (o ≡ Some e) × (e.handle ≡ h)
 entry_found None h here = absurd (let f : None ≡ Some h = here in cc)
@@ -149,11 +149,11 @@ sum_first q g w [] e here = absurd (let f : None ≡ Some e = here in cc)
 sum_first q g w (x ∷ xs) e here =
     by_first (q x) x (find q xs) e (sum_by w (change_first q g (x ∷ xs)) + w e ≡ sum_by w (x ∷ xs) + w (g e)) here
     (λ first same.
-        let moved : sum_by w (change_first q g (x ∷ xs)) ≡ w (g x) + sum_by w xs = ap (λ b. sum_by w (cond b (g x ∷ xs) (x ∷ change_first q g xs))) first ∙ sum_by-cons w (g x) xs in
-        omega (arith, moved, sum_by-cons w x xs, ap w same, ap (λ (y : Entry). w (g y)) same))
+    let moved : sum_by w (change_first q g (x ∷ xs)) ≡ w (g x) + sum_by w xs = ap (λ b. sum_by w (cond b (g x ∷ xs) (x ∷ change_first q g xs))) first ∙ sum_by-cons w (g x) xs in
+    omega (arith, moved, sum_by-cons w x xs, ap w same, ap (λ (y : Entry). w (g y)) same))
     (λ other later.
-        let stays : sum_by w (change_first q g (x ∷ xs)) ≡ w x + sum_by w (change_first q g xs) = ap (λ b. sum_by w (cond b (g x ∷ xs) (x ∷ change_first q g xs))) other ∙ sum_by-cons w x (change_first q g xs) in
-        omega (arith, stays, sum_by-cons w x xs, sum_first q g w xs e later))
+    let stays : sum_by w (change_first q g (x ∷ xs)) ≡ w x + sum_by w (change_first q g xs) = ap (λ b. sum_by w (cond b (g x ∷ xs) (x ∷ change_first q g xs))) other ∙ sum_by-cons w x (change_first q g xs) in
+    omega (arith, stays, sum_by-cons w x xs, sum_first q g w xs e later))
 
 moved_in_memory : (to : List ℕ) (h : Handle) → is_transient (moved to h) ≡ is_transient h
 moved_in_memory to (Persistent id flags position) = refl

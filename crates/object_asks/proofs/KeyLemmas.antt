@@ -4,8 +4,7 @@ use Rattle.std.proofs.lemmas.Result.{IfOk-weaker}
 use Rattle.tee_base.specs.declared.bytes.NoMemory.{NoMemory as WantOfMemory}
 use Rattle.store_api.specs.declared.answer.StoreAnswer.{StoreAnswer}
 use Rattle.store_api.specs.declared.answer.StoreAnswer.TheVariants as stores
-use Rattle.store_api.specs.Keeping.{HasCause, Keeper, Reads, Status}
-use Rattle.store_api.specs.Stores.{Store}
+use Rattle.store_api.specs.Keeping.{Keeper, Reads}
 use Rattle.transient_obj.specs.declared.object_key.ObjectKey.{ObjectKey}
 use Rattle.object_asks.specs.declared.lending.KeyFound.{KeyFound}
 use Rattle.object_asks.specs.declared.lending.KeyFound.TheVariants as finds

@@ -1,7 +1,7 @@
 -- What asks about keys leave is valid where it was before: a key comes with its handle, and else stays with it.
-use Rattle.std.proofs.Common.{ℕ, ◌≡◌, ◌<◌, ◌≤◌, ◌+◌, ◌&&◌, ◌==◌, nat_lt, true, false, not, cond, List, [], ◌∷◌, ◌++◌, Option, None, Some, is_some, Result, Ok, Err, length, refl, ap, ◌∙◌, arith}
+use Rattle.std.proofs.Common.{ℕ, ◌==◌, nat_lt, not, List, Option, None, Some, is_some, Result, Ok, Err, length, ◌∙◌}
 use Rattle.std.proofs.lemmas.Bool.{cond_both}
-use Rattle.tee_base.specs.declared.codes.TheConstants.Code.{BUSY, ITEM_NOT_FOUND}
+use Rattle.tee_base.specs.declared.codes.TheConstants.Code.{BUSY}
 use Rattle.tee_base.specs.declared.keys.TheConstants.{KIND_DATA}
 use Rattle.app_api.specs.declared.ask.Answer.TheVariants as answers
 use Rattle.store_api.specs.declared.answer.StoreAnswer.{StoreAnswer}
@@ -11,13 +11,13 @@ use Rattle.transient_obj.specs.declared.object_key.ObjectKey.{ObjectKey}
 use Rattle.transient_obj.specs.Keys.{Key, allocated, copied, copy_answer, populate_answer, populated, restricted, without_secret}
 use Rattle.handle_table.specs.declared.handle.Handle.{Handle}
 use Rattle.handle_table.specs.declared.handle.Handle.TheVariants.{Persistent, Transient}
-use Rattle.handle_table.specs.Handles.{free_number, handle_at, is_full}
+use Rattle.handle_table.specs.Handles.{free_number, is_full}
 use Rattle.object_asks.specs.declared.source.KeySource.{KeySource}
 use Rattle.object_asks.specs.declared.source.KeySource.TheVariants.{NoKey, InMemory, InStore}
-use Rattle.object_asks.specs.Asks.{Answered, Course, Objects, Outcome, Panicked, Settled, done, holding, is_too_much, outcome_in, refused, without_store}
+use Rattle.object_asks.specs.Asks.{Answered, Objects, holding, is_too_much, outcome_in, refused, without_store}
 use Rattle.object_asks.specs.Handles.{settled}
-use Rattle.object_asks.specs.Held.{Held, is_key_at, key_added, key_set, transient_at}
-use Rattle.object_asks.specs.Keys.{copied_by, copied_from, copied_in, copy_course, copy_from, copy_to, generate_course, generated, generated_of, generated_on, is_extractable, new_key, new_key_by, populate_on, populated_by, random_wanted, reset_key, restrict_key, restrict_on, secret_by, secret_course, secret_from, secret_told}
+use Rattle.object_asks.specs.Held.{is_key_at, key_added, key_set, transient_at}
+use Rattle.object_asks.specs.Keys.{copied_by, copied_from, copied_in, copy_course, copy_from, copy_to, generate_course, generated_of, generated_on, is_extractable, new_key, new_key_by, populate_on, populated_by, random_wanted, reset_key, restrict_key, restrict_on, secret_by, secret_course, secret_from, secret_told}
 use Rattle.object_asks.specs.Sources.{key_source, stored_key}
 use Rattle.object_asks.proofs.HeldLemmas.{places_set, together_more}
 use Rattle.object_asks.proofs.SoundHandles.{memory_sound}

@@ -1,4 +1,5 @@
 -- What asks about persistent objects leave is valid where it was before, and so it is for what the store's answers would give.
+pub use Rattle.object_asks.specs.Valid.{Goes, Leaves}
 use Rattle.std.proofs.Common.{ℕ, ◌≡◌, ◌<◌, ℤ, pos, ◌+ℤ◌, ◌+◌, ◌==◌, min, Bool, true, false, not, cond, nat_lt, nat_le, ◌&&◌, ◌||◌, List, length, Option, None, Some, is_some, Result, Ok, Err, IfOk, refl, ap, subst, ◌∙◌, arith, ◌⊎◌, ⊎_elim, sym}
 use Rattle.std.specs.Ordering.{eq_by_cmp}
 use Rattle.std.specs.Cmp.{eq_by_cmp_equiv}
@@ -22,7 +23,7 @@ use Rattle.transient_obj.specs.declared.object_key.ObjectKey.{ObjectKey}
 use Rattle.handle_table.specs.declared.handle.Handle.{Handle}
 use Rattle.handle_table.specs.declared.handle.Handle.TheVariants.{Persistent, Transient}
 use Rattle.handle_table.specs.Handles.{change_first, entry_is_on, entry_moved, free_number, handle_at, is_at, is_full, is_of, is_on, is_open, is_there, may_open}
-use Rattle.object_asks.specs.Asks.{Outcome, Answered, Returned, Panicked, Course, Settled, ComesToStore, Objects, close_course, create_course, created, created_by, created_with, delete_course, delete_on, deleted_by, has_unknown_bits, holding, info_course, is_long_identifier, is_too_much, kept_flags, key_info, landed, landed_on, moved_by, moved_from_end, moved_to, numbered, open_course, opened_by, overwrites, private_storage, put_of, read_by, read_course, refused, rename_course, renamed, renamed_by, seek_course, told_of_object, truncate_course, truncated_by, write_course, written_by}
+use Rattle.object_asks.specs.Asks.{Course, Objects, close_course, create_course, created, created_by, created_with, delete_course, delete_on, deleted_by, has_unknown_bits, holding, info_course, is_long_identifier, is_too_much, kept_flags, key_info, landed, landed_on, moved_by, moved_from_end, moved_to, numbered, open_course, opened_by, overwrites, private_storage, put_of, read_by, read_course, refused, rename_course, renamed, renamed_by, seek_course, told_of_object, truncate_course, truncated_by, write_course, written_by}
 use Rattle.object_asks.specs.Codes.{access_conflict}
 use Rattle.object_asks.specs.Handles.{settled}
 use Rattle.object_asks.specs.Held.{BelongTogether, handle_added, handle_closed, instance_closed, is_meta_writer, key_at, nothing_held, ones_on, writes_meta_on}
@@ -108,17 +109,6 @@ pub instance_closed_sound : (o : Objects) (i : ℕ) → AreSound o → AreSound 
 instance_closed_sound o i sound =
     by_handles (record o { held = instance_closed o.held i }) (fewer_sound o.store (λ e. not (is_of i e)) o.held.handles (of_handles o sound))
     (together_left (λ p. not (p.0 == i)) o.held.handles o.held.keys sound.together)
-
--- what the outcome leaves meets the condition
-abbrev pub Leaves : {S : Type 0} → (S → Type 0) → Outcome S → Type 0
-Leaves P (Answered after answer) = P after
-Leaves P (Returned code outs) = Unit {0}
-Leaves P Panicked = Unit {0}
-
--- what the course leaves meets it, whatever the store does
-abbrev pub Goes : {S : Type 0} → (S → Type 0) → Course S → Type 0
-Goes P (Settled outcome) = Leaves P outcome
-Goes P (ComesToStore refused plain) = P refused × Leaves P plain
 
 -- at each test the course goes well whichever way it turns out
 pub turn : (b : Bool) (x y : Course Objects) → Goes AreSound x → (b ≡ false → Goes AreSound y) → Goes AreSound (cond b x y)

@@ -1,5 +1,5 @@
 -- What comes of an ask: one definition for each family of asks, in it one for each ask, with its misuse first, then its refusals
--- in their order, then its answer (TEE Internal Core API 1.3, sections 5.7 and 5.9).
+-- in their order, then its answer (TEE Internal Core API 1.3, chapter 5). Here are the asks about handles on objects.
 pub use Rattle.object_asks.specs.Courses.{Outcome, Answered, Returned, Panicked, Course, Settled, ComesToStore, refused, done, comes_to_store, outcome_in, course_in, Objects, holding, over_store, without_store, Serving, Serves, Fails, Damaged, came_of, is_long_identifier, is_too_much, private_storage, has_unknown_bits, overwrites, kept_flags, code_of}
 use Rattle.std.specs.Prelude.{ℕ, ◌+◌, ◌*◌, ◌==◌, ℤ, pos, negsuc, ◌+ℤ◌, min, nat_lt, Bool, true, false, not, ◌||◌, List, [], length, Option, None, Some, Result, Ok, Err, if◌then◌else◌}
 use Rattle.tee_base.specs.declared.codes.Flags.{Flags}
@@ -62,7 +62,8 @@ numbered o i id flags = Answered (holding o (handle_added o.held i id flags)) (a
 -- ObjOpen: there is such an object, and its handles, of whatever instance, leave room for one with these flags
 abbrev pub opened_by : Objects → ℕ → List ℕ → Flags → Result Facts StoreAnswer → Outcome Objects
 opened_by o i id flags (Err answer) = refused o (code_of answer)
-opened_by o i id flags (Ok facts) = if may_open (settled o.held.handles) id flags then numbered o i id flags else refused o access_conflict
+opened_by o i id flags (Ok facts) =
+    if may_open (settled o.held.handles) id flags then numbered o i id flags else refused o access_conflict
 
 abbrev pub open_course : Objects → ℕ → ℕ → List ℕ → ℕ → Course Objects
 open_course o i storage id flags =
@@ -116,7 +117,7 @@ delete_on o i object None = Settled Panicked
 delete_on o i object (Some Transient) = Settled Panicked
 delete_on o i object (Some (Persistent id flags position)) =
     if not (has_bit access_write_meta flags) then Settled Panicked
-    else ComesToStore (holding o (handle_closed o.held i object)) (deleted_by (holding o (handle_closed o.held i object)) (change o.store (Delete id)))
+    else let left = holding o (handle_closed o.held i object) in ComesToStore left (deleted_by left (change o.store (Delete id)))
 
 abbrev pub delete_course : Objects → ℕ → ℕ → Course Objects
 delete_course o i object =
@@ -223,7 +224,7 @@ seek_course o i object offset whence (Some (Persistent id flags position)) =
     else if whence == 2 then ComesToStore o (moved_from_end o i object offset (found o.store id))
     else Settled Panicked
 
--- the asks about objects, but KeyGenerate, which rests on random bytes too; the others aren't built, and end the entry as a panic does
+-- the asks about objects, enumerators and keys, but KeyGenerate, which rests on random bytes; an ask of another family doesn't come here
 unfoldable pub object_course : Objects → ℕ → Ask → Course Objects
 object_course o i (asked.ObjOpen storage id flags) = open_course o i storage id flags
 object_course o i (asked.ObjCreate storage id flags attr content) = create_course o i storage id flags attr content

@@ -3,7 +3,7 @@ use Rattle.std.specs.Prelude.{ℕ, ◌≡◌, Bool, true, false, Option, None, S
 use Rattle.tee_base.specs.declared.bytes.NoMemory.{NoMemory as WantOfMemory}
 use Rattle.store_api.specs.declared.answer.StoreAnswer.{StoreAnswer}
 use Rattle.store_api.specs.declared.answer.StoreAnswer.TheVariants.{NoMemory}
-use Rattle.store_api.specs.Keeping.{Contents, CrashLeaves, Keeper, LeavesJust}
+use Rattle.store_api.specs.Keeping.{CrashLeaves, Keeper, LeavesJust}
 use Rattle.store_api.specs.Stores.{Store}
 use Rattle.transient_obj.specs.declared.object_key.ObjectKey.{ObjectKey}
 use Rattle.object_asks.specs.declared.source.KeySource.{KeySource}

@@ -1,8 +1,7 @@
 -- The asks about keys in memory: one definition for each, with its misuse first, then its refusals in their order, then its answer
 -- (TEE Internal Core API 1.3, section 5.6); and what an object of either sort gives to an operation.
-use Rattle.std.specs.Prelude.{ℕ, ◌/◌, ◌*◌, ◌==◌, ◌∷◌, ◌++◌, [], nat_le, nat_lt, Bool, true, false, not, ◌&&◌, ◌||◌, List, Option, None, Some, is_some, Result, Ok, Err, if◌then◌else◌, length, bit_and}
+use Rattle.std.specs.Prelude.{ℕ, ◌/◌, ◌==◌, nat_le, nat_lt, Bool, not, ◌&&◌, List, Option, None, Some, is_some, Result, Ok, Err, if◌then◌else◌, length, bit_and}
 use Rattle.tee_base.specs.KeySizes.{size_fits}
-use Rattle.tee_base.specs.declared.codes.Code.{Code}
 use Rattle.tee_base.specs.declared.codes.TheConstants.Code.{BAD_PARAMETERS, BUSY, ITEM_NOT_FOUND, NOT_SUPPORTED}
 use Rattle.tee_base.specs.declared.keys.TheConstants.{KIND_DATA, USAGE_EXTRACTABLE}
 use Rattle.app_api.specs.declared.ask.Answer.TheVariants as answers
@@ -13,12 +12,12 @@ use Rattle.transient_obj.specs.declared.object_key.ObjectKey.{ObjectKey}
 use Rattle.transient_obj.specs.Keys.{Key, allocated, copied, copy_answer, populate_answer, populated, restricted, without_secret}
 use Rattle.handle_table.specs.declared.handle.Handle.{Handle}
 use Rattle.handle_table.specs.declared.handle.Handle.TheVariants.{Persistent, Transient}
-use Rattle.handle_table.specs.Handles.{added, free_number, handle_at, is_full}
+use Rattle.handle_table.specs.Handles.{free_number, is_full}
 use Rattle.object_asks.specs.declared.source.KeySource.{KeySource}
 use Rattle.object_asks.specs.declared.source.KeySource.TheVariants.{NoKey, InMemory, InStore}
 use Rattle.object_asks.specs.Courses.{Outcome, Answered, Panicked, Course, Settled, ComesToStore, Objects, code_of, done, holding, is_too_much, outcome_in, refused, without_store}
 use Rattle.object_asks.specs.Handles.{settled}
-use Rattle.object_asks.specs.Held.{Held, NumberedKey, key_added, key_set, transient_at}
+use Rattle.object_asks.specs.Held.{Held, key_added, key_set, transient_at}
 use Rattle.object_asks.specs.Sources.{key_source, stored_key}
 
 -- KeyNew

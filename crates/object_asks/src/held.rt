@@ -1,10 +1,9 @@
 //! What asks about objects touch in memory, as it is between events: no rename is pending.
 
-use crate::keyring;
 use crate::numbered::{NumberedKey, NumberedList, Walk};
 use crate::outcome::{Outcome, done};
 use crate::source::KeySource;
-use crate::walks;
+use crate::{keyring, walks};
 use handle_table::{Handle, HandleAnswer, HandleTable};
 use std::alloc::Global;
 use std::marker::Model;
@@ -79,7 +78,8 @@ impl Held {
 
     /// What the instance's handle of this number is for.
     pub(crate) fn get(&self, instance: u8, number: u32) -> Option<&Handle>
-        ensures handle { option_map (λ handle. handle.now) result ≡ handle_at (settled self.now.handles) instance number }
+        ensures handle { option_map (λ handle. handle.now) result
+            ≡ handle_at (settled self.now.handles) instance number }
         ensures identifier { IfSome result (λ handle. HasIdentifier handle.now) }
         ensures there { is_some result ≡ is_there (settled self.now.handles) instance number }
     {
@@ -194,7 +194,8 @@ impl Held {
         requires free { is_open (settled self.old.handles) to ≡ false }
         ensures { let before = objects_in self.old (T.keeper.contents store.old)
             in IsGiven T.keeper result
-            (renamed_by before instance number to (change before.store (renaming id to)))
+            (renamed_by before instance number to
+            (change before.store (renaming id to)))
             true self.old self.old self.new store.old store.new }
     {
         self.table.start_rename(instance, number, to.as_slice())?;

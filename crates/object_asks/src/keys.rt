@@ -24,12 +24,7 @@ use tee_base::{Bytes, Code, NoMemory, keys};
 use transient_obj::{KeyAnswer, ObjectKey, Transient, size_fits};
 
 /// Makes a key. Want of memory changes nothing.
-pub fn create(
-    held: &mut Held,
-    instance: u8,
-    kind: u32,
-    max_bits: u32,
-) -> Result<Outcome, NoMemory>
+pub fn create(held: &mut Held, instance: u8, kind: u32, max_bits: u32) -> Result<Outcome, NoMemory>
     ensures outcome { IfOk result (λ outcome.
         IsOutcome outcome (new_key held.old instance kind max_bits) held.old held.new) }
     ensures want { OnErr result (held.new ≡ held.old) }
@@ -226,9 +221,7 @@ fn copy_from<T: AppStore>(
 {
     match source {
         KeySource::NoKey => Ok(panicked()),
-        KeySource::InMemory(from) => {
-            Ok(Served::plain(copy_key(held, instance, to, key, from)))
-        }
+        KeySource::InMemory(from) => { Ok(Served::plain(copy_key(held, instance, to, key, from))) }
         KeySource::InStore(id) => told(
             copy_found(held, store, instance, to, key, id.as_slice()),
             false,
@@ -273,7 +266,8 @@ pub fn random_wanted(held: &Held, instance: u8, object: u32, bits: u32) -> Optio
 
 /// Makes the key of these random bytes, as many as are wanted.
 pub fn generate(held: &mut Held, instance: u8, object: u32, secret: &[u8])
-    requires { (bits : ℕ) × (random_wanted held.old instance object bits ≡ some (length secret.now)) }
+    requires { (bits : ℕ)
+        × (random_wanted held.old instance object bits ≡ some (length secret.now)) }
     ensures { held.new ≡ generated held.old instance object secret.now }
 {
     let Some(key) = held.transient(instance, object) else {

@@ -6,6 +6,7 @@ mod enumerating;
 mod held;
 mod keyring;
 mod keys;
+mod laws;
 mod lending;
 mod names;
 mod numbered;
@@ -21,6 +22,7 @@ mod walks;
 
 pub use held::Held;
 pub use keys::{generate, random_wanted};
+pub use laws::objects_stay_valid;
 pub use lending::{KeyFound, KeyServed, key_of};
 pub use outcome::{Ending, Outcome, Served, answered, panicked, refused};
 pub use serving::serve;

@@ -127,7 +127,9 @@ pub fn rename<T: AppStore>(
     to: Bytes,
 ) -> Result<Served, NoMemory>
     ensures { let before = objects_in held.old (T.keeper.contents store.old)
-        in ServesAsk T.keeper result (rename_course before instance object to (handle_at (settled held.old.handles) instance object))
+        in ServesAsk T.keeper result
+        (rename_course before instance object to
+        (handle_at (settled held.old.handles) instance object))
         true held.old held.new store.old store.new }
 {
     let Some(Handle::Persistent { id, flags, .. }) = held.get(instance, object) else {
@@ -200,7 +202,9 @@ pub fn info<T: AppStore>(
     object: u32,
 ) -> Result<Served, NoMemory>
     ensures { let before = objects_in held.old (T.keeper.contents store.old)
-        in ServesAsk T.keeper result (info_course before instance object (handle_at (settled held.old.handles) instance object))
+        in ServesAsk T.keeper result
+        (info_course before instance object
+        (handle_at (settled held.old.handles) instance object))
         false held.old held.new store.old store.new }
 {
     match held.get(instance, object) {

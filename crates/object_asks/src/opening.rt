@@ -14,7 +14,9 @@ ghost use Rattle.object_asks.specs.Sources.{HasSource, IsObjectKey, attr_source,
 ghost use Rattle.object_asks.specs.Asks.{created, created_by, created_with, create_by, create_course, kept_flags, open_course, opened_by, overwrites, put_of, refused};
 ghost use Rattle.object_asks.specs.Serving.{IsGiven, ServesAsk, objects_in};
 
-use crate::checks::{PRIVATE, has_bit, has_unknown_bits, is_long_identifier, is_too_much, kept_flags};
+use crate::checks::{
+    PRIVATE, has_bit, has_unknown_bits, is_long_identifier, is_too_much, kept_flags,
+};
 use crate::held::Held;
 use crate::outcome::{Outcome, Served, declined, panicked, refused, told};
 use crate::source::KeySource;
@@ -93,7 +95,9 @@ pub fn read_key<T: AppStore>(store: &mut T, id: &[u8]) -> Result<ObjectKey, Stor
 /// A create over an object that is open, or a rename to one. The store is asked, since a lost one is answered first.
 pub fn conflict<T: AppStore>(store: &mut T, id: &[u8]) -> Result<Outcome, StoreAnswer>
     requires { IsIdentifier id.now }
-    ensures { (held : HeldValue) → IsGiven T.keeper result (refused (objects_in held (T.keeper.contents store.old)) access_conflict) true held held held store.old store.new }
+    ensures { (held : HeldValue) → IsGiven T.keeper result
+        (refused (objects_in held (T.keeper.contents store.old)) access_conflict)
+        true held held held store.old store.new }
 {
     match store.find(id) {
         Ok(_) | Err(StoreAnswer::NotFound | StoreAnswer::Exists | StoreAnswer::NoSpace) => {
@@ -246,7 +250,8 @@ fn create_by<T: AppStore>(
 ) -> Result<Served, NoMemory>
     requires { HasSource source.now }
     ensures { let before = objects_in held.old (T.keeper.contents store.old)
-        in ServesAsk T.keeper result (create_by before instance storage id flags content source.now)
+        in ServesAsk T.keeper result
+        (create_by before instance storage id flags content source.now)
         true held.old held.new store.old store.new }
 {
     if is_long_identifier(id.as_slice())
@@ -296,9 +301,12 @@ pub fn create<T: AppStore>(
     content: Bytes,
 ) -> Result<Served, NoMemory>
     ensures { let before = objects_in held.old (T.keeper.contents store.old)
-        in ServesAsk T.keeper result (create_course before instance storage id flags attr content)
+        in ServesAsk T.keeper result
+        (create_course before instance storage id flags attr content)
         true held.old held.new store.old store.new }
 {
     let source = attr_source(held, alloc, instance, attr)?;
-    create_by(alloc, held, store, instance, storage, id, flags, content, &source)
+    create_by(
+        alloc, held, store, instance, storage, id, flags, content, &source,
+    )
 }

@@ -79,7 +79,7 @@ pub fn refused(code: Code) -> Served
     answered(Answer::Refused(code))
 }
 
-/// An ask that is misuse, or that isn't built.
+/// An ask that is misuse, or that doesn't come here.
 pub fn panicked() -> Served
     ensures { result ≡ plainly panicked }
 {

@@ -4,19 +4,20 @@ ghost use Rattle.std.specs.Prelude.{◌≡◌};
 ghost use Rattle.object_asks.specs.Asks.{changes_store, object_course};
 ghost use Rattle.object_asks.specs.Serving.{ServesAsk, objects_in};
 
-use crate::enumerating;
 use crate::held::Held;
-use crate::keys;
-use crate::names;
-use crate::opening;
 use crate::outcome::{Served, panicked};
-use crate::stream;
+use crate::{enumerating, keys, names, opening, stream};
 use app_api::Ask;
 use std::alloc::Global;
 use store_api::AppStore;
 use tee_base::NoMemory;
 
-/// An ask about objects. Any other isn't built, and ends the entry as a panic does.
+/// An ask about objects, enumerators or keys. `KeyGenerate` rests on random bytes, and `random_wanted` and `generate` serve it;
+/// an ask of another family doesn't come here. Both end the entry as a panic does.
+///
+/// # Errors
+///
+/// NoMemory changes nothing.
 #[tactic(auto, using(crate::proofs::ServingLemmas::serves_held), unfolding(crate::specs::Asks::object_course))]
 pub fn serve<T: AppStore>(
     alloc: Global,

@@ -61,7 +61,9 @@ pub fn read<T: AppStore>(
     count: u32,
 ) -> Result<Served, NoMemory>
     ensures { let before = objects_in held.old (T.keeper.contents store.old)
-        in ServesAsk T.keeper result (read_course before instance object count (handle_at (settled held.old.handles) instance object))
+        in ServesAsk T.keeper result
+        (read_course before instance object count
+        (handle_at (settled held.old.handles) instance object))
         false held.old held.new store.old store.new }
 {
     let Some(
@@ -104,7 +106,8 @@ fn write_through<T: AppStore>(
     requires there { IsTrue (is_there (settled held.old.handles) instance object) }
     ensures { let before = objects_in held.old (T.keeper.contents store.old)
         in IsGiven T.keeper result
-        (written_by before instance object (position + length bytes) (change before.store (write_at id position bytes)))
+        (written_by before instance object (position + length bytes)
+        (change before.store (write_at id position bytes)))
         true held.old held.old held.new store.old store.new }
 {
     let end = behind(position, bytes.len());
@@ -127,7 +130,9 @@ pub fn write<T: AppStore>(
     bytes: Bytes,
 ) -> Result<Served, NoMemory>
     ensures { let before = objects_in held.old (T.keeper.contents store.old)
-        in ServesAsk T.keeper result (write_course before instance object bytes (handle_at (settled held.old.handles) instance object))
+        in ServesAsk T.keeper result
+        (write_course before instance object bytes
+        (handle_at (settled held.old.handles) instance object))
         true held.old held.new store.old store.new }
 {
     let Some(
@@ -184,7 +189,9 @@ pub fn truncate<T: AppStore>(
     length: u32,
 ) -> Result<Served, NoMemory>
     ensures { let before = objects_in held.old (T.keeper.contents store.old)
-        in ServesAsk T.keeper result (truncate_course before instance object length (handle_at (settled held.old.handles) instance object))
+        in ServesAsk T.keeper result
+        (truncate_course before instance object length
+        (handle_at (settled held.old.handles) instance object))
         true held.old held.new store.old store.new }
 {
     let Some(Handle::Persistent { id, flags, .. }) = held.get(instance, object) else {
@@ -255,7 +262,9 @@ pub fn seek<T: AppStore>(
     whence: u32,
 ) -> Result<Served, NoMemory>
     ensures { let before = objects_in held.old (T.keeper.contents store.old)
-        in ServesAsk T.keeper result (seek_course before instance object offset whence (handle_at (settled held.old.handles) instance object))
+        in ServesAsk T.keeper result
+        (seek_course before instance object offset whence
+        (handle_at (settled held.old.handles) instance object))
         false held.old held.new store.old store.new }
 {
     let Some(Handle::Persistent { id, position, .. }) = held.get(instance, object) else {
@@ -265,9 +274,7 @@ pub fn seek<T: AppStore>(
         SET => Ok(Served::plain(move_from(held, instance, object, 0, offset))),
         CURRENT => {
             let position = *position;
-            Ok(Served::plain(move_from(
-                held, instance, object, position, offset,
-            )))
+            Ok(Served::plain(move_from(held, instance, object, position, offset)))
         }
         END => {
             let id = id.copy(alloc)?;

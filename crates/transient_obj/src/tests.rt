@@ -62,6 +62,15 @@ fn each_call_once(rt: HostRuntime) -> Result<(), Fail> {
     assert_eq!(rt; secret.as_slice(), [7; 24].as_slice());
     key.restrict(keys::USAGE_ENCRYPT | keys::USAGE_MAC);
     assert_eq!(rt; key.usage(), 0xA);
+    let same = key.copy();
+    assert_eq!(rt;
+        (same.kind(), same.max_bits(), same.usage()),
+        (keys::KIND_AES, 256, 0xA)
+    );
+    assert_eq!(rt;
+        same.secret().ok_or("no secret")?.as_slice(),
+        [7; 24].as_slice()
+    );
 
     let mut other = Transient::allocate(keys::KIND_AES, 192)?;
     other.restrict(keys::USAGE_ENCRYPT | keys::USAGE_EXTRACTABLE);

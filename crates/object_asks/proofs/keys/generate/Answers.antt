@@ -1,10 +1,8 @@
-use Rattle.std.proofs.Common.{ℕ, ◌≡◌, ◌∙◌, ◌*◌, ◌/◌, ◌%◌, ◌≤◌, ◌==◌, ◌||◌, ◌&&◌, nat_le, nat_lt, Bool, true, false, not, cond, List, Option, None, Some, Result, Ok, is_ok, is_some, length, refl, sym, ap, arith, ⊎_elim}
-use Rattle.std.proofs.lemmas.Bool.{both_ways, cond_both, eqb-true, leb-true, lt-leb, le-leb, not-true}
+use Rattle.std.proofs.Common.{ℕ, ◌≡◌, ◌∙◌, ◌*◌, ◌/◌, ◌%◌, ◌≤◌, ◌==◌, ◌||◌, ◌&&◌, nat_le, nat_lt, Bool, true, false, not, cond, List, None, Some, Ok, is_ok, is_some, length, refl, sym, ap, arith}
+use Rattle.std.proofs.lemmas.Bool.{both_ways, eqb-true, leb-true, lt-leb, not-true}
 use Rattle.tee_base.specs.KeySizes.{aes, are_bytes_in, hmac_sha256, hmac_sha384, hmac_sha512, size_fits}
-use Rattle.transient_obj.specs.declared.answer.KeyAnswer.{KeyAnswer}
 use Rattle.transient_obj.specs.Keys.{Key, bits_of, populate_answer}
-use Rattle.object_asks.specs.Held.{Held, transient_at}
-use Rattle.object_asks.specs.Keys.{fits_key, random_wanted, wanted_by}
+use Rattle.object_asks.specs.Keys.{fits_key, wanted_by}
 use Rattle.object_asks.proofs.HandleLemmas.{first_true, second_true}
 use Rattle.object_asks.proofs.keys.generate.Goals as goal
 

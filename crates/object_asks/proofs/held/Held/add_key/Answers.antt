@@ -1,4 +1,4 @@
-use Rattle.std.proofs.Common.{ℕ, ◌≡◌, List, refl, sym, ap, ◌∙◌}
+use Rattle.std.proofs.Common.{ℕ, ◌≡◌, List, refl, ap, ◌∙◌}
 use Rattle.handle_table.specs.declared.handle.Handle.TheVariants.{Transient}
 use Rattle.handle_table.specs.Handles.{Table, added, closed, free_number}
 use Rattle.object_asks.specs.Held.{Held, NumberedKey}

@@ -1,5 +1,3 @@
-use Rattle.std.proofs.Common.{List, count_by, ◌≤◌, sym, subst, arith}
-use Rattle.object_asks.specs.Held.{is_list_of}
 use Rattle.object_asks.proofs.HeldLemmas.{few_walked}
 use Rattle.object_asks.proofs.held.Held.set_walk.Goals as goal
 
