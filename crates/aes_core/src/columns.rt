@@ -155,9 +155,10 @@ pub(crate) fn without_3(a: u8, b: u8, c: u8, key: u32) -> u32
 /// A column of a decryption round, where `key` has been through InvMixColumns.
 #[inline(always)]
 pub(crate) fn decrypt_column(a: u8, b: u8, c: u8, d: u8, key: u32) -> u32
-    ensures { word_bytes result ≡ add_columns
-        (inv_mix_column (inverse_substitute a) (inverse_substitute b) (inverse_substitute c) (inverse_substitute d))
-        (word_bytes key) }
+    ensures { word_bytes result
+        ≡ add_columns (inv_mix_column (inverse_substitute a) (inverse_substitute b)
+                (inverse_substitute c) (inverse_substitute d))
+            (word_bytes key) }
 {
     decrypt_0(a) ^ decrypt_1(b) ^ decrypt_2(c) ^ decrypt_3(d) ^ key
 }

@@ -24,7 +24,8 @@ fn word(a: u8, b: u8, c: u8, d: u8) -> u32
 #[inline(always)]
 fn inverse_substitute_word(a: u8, b: u8, c: u8, d: u8) -> u32
     ensures { word_bytes result
-        ≡ inverse_substitute a ∷ inverse_substitute b ∷ inverse_substitute c ∷ inverse_substitute d ∷ [] }
+        ≡ inverse_substitute a ∷ inverse_substitute b ∷ inverse_substitute c ∷ inverse_substitute d
+            ∷ [] }
 {
     word(
         inverse_substitute(a),
@@ -94,13 +95,17 @@ pub(crate) fn add_key(state: [u32; 4], key: [u32; 4]) -> [u32; 4]
 #[inline(always)]
 fn with_shares(columns: [u32; 4], x: u32) -> [u32; 4]
     ensures first { word_bytes (slice_index result 3)
-        ≡ add_columns (word_bytes (slice_index columns 0)) (mixed_0 (substitute (slice_index (word_bytes x) 0))) }
+        ≡ add_columns (word_bytes (slice_index columns 0))
+            (mixed_0 (substitute (slice_index (word_bytes x) 0))) }
     ensures second { word_bytes (slice_index result 0)
-        ≡ add_columns (word_bytes (slice_index columns 1)) (mixed_3 (substitute (slice_index (word_bytes x) 3))) }
+        ≡ add_columns (word_bytes (slice_index columns 1))
+            (mixed_3 (substitute (slice_index (word_bytes x) 3))) }
     ensures third { word_bytes (slice_index result 1)
-        ≡ add_columns (word_bytes (slice_index columns 2)) (mixed_2 (substitute (slice_index (word_bytes x) 2))) }
+        ≡ add_columns (word_bytes (slice_index columns 2))
+            (mixed_2 (substitute (slice_index (word_bytes x) 2))) }
     ensures fourth { word_bytes (slice_index result 2)
-        ≡ add_columns (word_bytes (slice_index columns 3)) (mixed_1 (substitute (slice_index (word_bytes x) 1))) }
+        ≡ add_columns (word_bytes (slice_index columns 3))
+            (mixed_1 (substitute (slice_index (word_bytes x) 1))) }
 {
     let b = x.to_be_bytes();
     let second = columns[1] ^ encrypt_3(b[3]);
@@ -114,7 +119,8 @@ fn with_shares(columns: [u32; 4], x: u32) -> [u32; 4]
 #[inline(always)]
 pub(crate) fn encrypt_round(state: [u32; 4], key: [u32; 4]) -> [u32; 4]
     ensures { block_bytes result
-        ≡ add_round_key (mix_columns (shift_rows (sub_bytes (block_bytes state)))) (block_bytes key) }
+        ≡ add_round_key (mix_columns (shift_rows (sub_bytes (block_bytes state))))
+            (block_bytes key) }
 {
     let one = with_shares(key, state[0]);
     let two = with_shares(one, state[1]);
@@ -126,13 +132,17 @@ pub(crate) fn encrypt_round(state: [u32; 4], key: [u32; 4]) -> [u32; 4]
 #[inline(always)]
 fn with_placed(columns: [u32; 4], x: u32) -> [u32; 4]
     ensures first { word_bytes (slice_index result 3)
-        ≡ add_columns (word_bytes (slice_index columns 0)) (placed_0 (substitute (slice_index (word_bytes x) 0))) }
+        ≡ add_columns (word_bytes (slice_index columns 0))
+            (placed_0 (substitute (slice_index (word_bytes x) 0))) }
     ensures second { word_bytes (slice_index result 0)
-        ≡ add_columns (word_bytes (slice_index columns 1)) (placed_3 (substitute (slice_index (word_bytes x) 3))) }
+        ≡ add_columns (word_bytes (slice_index columns 1))
+            (placed_3 (substitute (slice_index (word_bytes x) 3))) }
     ensures third { word_bytes (slice_index result 1)
-        ≡ add_columns (word_bytes (slice_index columns 2)) (placed_2 (substitute (slice_index (word_bytes x) 2))) }
+        ≡ add_columns (word_bytes (slice_index columns 2))
+            (placed_2 (substitute (slice_index (word_bytes x) 2))) }
     ensures fourth { word_bytes (slice_index result 2)
-        ≡ add_columns (word_bytes (slice_index columns 3)) (placed_1 (substitute (slice_index (word_bytes x) 1))) }
+        ≡ add_columns (word_bytes (slice_index columns 3))
+            (placed_1 (substitute (slice_index (word_bytes x) 1))) }
 {
     let b = x.to_be_bytes();
     let second = columns[1] ^ last_3(b[3]);
@@ -145,7 +155,8 @@ fn with_placed(columns: [u32; 4], x: u32) -> [u32; 4]
 /// The last round of the cipher.
 #[inline(always)]
 pub(crate) fn last_round(state: [u32; 4], key: [u32; 4]) -> [u32; 4]
-    ensures { block_bytes result ≡ add_round_key (shift_rows (sub_bytes (block_bytes state))) (block_bytes key) }
+    ensures { block_bytes result
+        ≡ add_round_key (shift_rows (sub_bytes (block_bytes state))) (block_bytes key) }
 {
     let one = with_placed(key, state[0]);
     let two = with_placed(one, state[1]);
@@ -157,7 +168,8 @@ pub(crate) fn last_round(state: [u32; 4], key: [u32; 4]) -> [u32; 4]
 #[inline(always)]
 pub(crate) fn decrypt_round(state: [u32; 4], key: [u32; 4]) -> [u32; 4]
     ensures { block_bytes result
-        ≡ add_round_key (inv_mix_columns (inv_sub_bytes (inv_shift_rows (block_bytes state)))) (block_bytes key) }
+        ≡ add_round_key (inv_mix_columns (inv_sub_bytes (inv_shift_rows (block_bytes state))))
+            (block_bytes key) }
 {
     let a = state[0].to_be_bytes();
     let b = state[1].to_be_bytes();

@@ -111,7 +111,8 @@ fn schedule(key: &[u8]) -> [u32; 60]
 
 /// Each word as a column through InvMixColumns.
 fn inverse_schedule(words: &[u32; 60]) -> [u32; 60]
-    ensures { (i : ℕ) → i < 60 → word_bytes (slice_index result i) ≡ inv_mixed_word (slice_index words.now i) }
+    ensures { (i : ℕ) → i < 60
+        → word_bytes (slice_index result i) ≡ inv_mixed_word (slice_index words.now i) }
 {
     let mut inverse = [0; 60];
     for i in 0..60 {

@@ -16,8 +16,10 @@ impl Stream {
     #[inline(always)]
     #[tactic(auto, unfolding(crate::specs::Stream::step_text, crate::specs::Stream::step_vector))]
     fn step(&self, vector: &mut [u8; 16], block: &mut [u8; 16])
-        ensures text { block.new ≡ step_text self.now.mode self.now.way (key_bytes self.now.key) vector.old block.old }
-        ensures vector { vector.new ≡ step_vector self.now.mode self.now.way (key_bytes self.now.key) vector.old block.old }
+        ensures text { block.new
+            ≡ step_text self.now.mode self.now.way (key_bytes self.now.key) vector.old block.old }
+        ensures vector { vector.new
+            ≡ step_vector self.now.mode self.now.way (key_bytes self.now.key) vector.old block.old }
     {
         match (self.mode, self.way) {
             (Mode::Ecb, Way::Encrypt) => encrypt_block(&self.key, block),
@@ -101,7 +103,8 @@ impl Stream {
         ensures text { (c : Conversion) → Represents self.old c
             → text_of (extended c input.now)
             ≡ text_of c ++ take ((self.old.count + length input.now) / 16 * 16) output.new }
-        ensures taken { (c : Conversion) → Represents self.old c → Represents self.new (extended c input.now) }
+        ensures taken { (c : Conversion) → Represents self.old c
+            → Represents self.new (extended c input.now) }
         ensures rest { drop ((self.old.count + length input.now) / 16 * 16) output.new
             ≡ drop ((self.old.count + length input.now) / 16 * 16) output.old }
     {

@@ -49,7 +49,8 @@ impl Stream {
         requires whole { length input.now ≡ 16 }
         requires room { length output.old ≡ 16 }
         requires shared { IsSharedStart self.now.key (counter_block counter) start.now }
-        ensures { output.new ≡ xor_bytes input.now (cipher (key_bytes self.now.key) (counter_block counter)) }
+        ensures { output.new
+            ≡ xor_bytes input.now (cipher (key_bytes self.now.key) (counter_block counter)) }
     {
         let words = encrypt_shared(&self.key, start, (counter & 0xff) as u8);
         write_sum(input, words, output);
@@ -60,7 +61,8 @@ impl Stream {
         requires within { skip + length input.now ≤ 16 }
         requires room { length output.old ≡ length input.now }
         ensures { output.new
-            ≡ xor_bytes input.now (drop skip (cipher (key_bytes self.now.key) (counter_block counter))) }
+            ≡ xor_bytes input.now
+                (drop skip (cipher (key_bytes self.now.key) (counter_block counter))) }
     {
         let end = skip + input.len();
         let mut block = [0; 16];
@@ -84,7 +86,8 @@ impl Stream {
         requires within { skip + length input.now ≤ 16 }
         requires room { length output.old ≡ length input.now }
         ensures { output.new
-            ≡ xor_bytes input.now (drop skip (cipher (key_bytes self.now.key) (counter_block counter))) }
+            ≡ xor_bytes input.now
+                (drop skip (cipher (key_bytes self.now.key) (counter_block counter))) }
     {
         if input.len() == 16 {
             self.write_whole(start, counter, input, output);
@@ -124,7 +127,8 @@ impl Stream {
         requires room { length input.now ≤ length output.old }
         ensures text { (c : Conversion) → Represents self.old c
             → text_of (extended c input.now) ≡ text_of c ++ take (length input.now) output.new }
-        ensures taken { (c : Conversion) → Represents self.old c → Represents self.new (extended c input.now) }
+        ensures taken { (c : Conversion) → Represents self.old c
+            → Represents self.new (extended c input.now) }
         ensures rest { drop (length input.now) output.new ≡ drop (length input.now) output.old }
     {
         self.write_bytes(input, output);

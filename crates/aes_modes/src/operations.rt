@@ -49,7 +49,8 @@ impl Stream {
             → result ≡ update_answer c (length input.now) (length output.old) }
         ensures text { (c : Conversion) → Represents self.old c
             → IfOk result (λ n. text_of (extended c input.now) ≡ text_of c ++ take n output.new) }
-        ensures taken { (c : Conversion) → Represents self.old c → OnOk result (Represents self.new (extended c input.now)) }
+        ensures taken { (c : Conversion) → Represents self.old c
+            → OnOk result (Represents self.new (extended c input.now)) }
         ensures rest { IfOk result (λ n. drop n output.new ≡ drop n output.old) }
         ensures unchanged { OnErr result ((self.new ≡ self.old) × (output.new ≡ output.old)) }
     {
@@ -74,7 +75,8 @@ impl Stream {
             → result ≡ finish_answer c (length input.now) (length output.old) }
         ensures text { (c : Conversion) → Represents self.old c
             → IfOk result (λ n. text_of (extended c input.now) ≡ text_of c ++ take n output.new) }
-        ensures restarted { (c : Conversion) → Represents self.old c → OnOk result (Represents self.new (restarted c)) }
+        ensures restarted { (c : Conversion) → Represents self.old c
+            → OnOk result (Represents self.new (restarted c)) }
         ensures rest { IfOk result (λ n. drop n output.new ≡ drop n output.old) }
         ensures unchanged { OnErr result ((self.new ≡ self.old) × (output.new ≡ output.old)) }
     {
@@ -99,11 +101,14 @@ impl Stream {
     // Takes the input and writes its text, for which there is room.
     fn convert(&mut self, input: &[u8], output: &mut [u8])
         requires small { length input.now ≤ 524288 }
-        requires room { needed_by self.old.mode self.old.count (length input.now) ≤ length output.old }
+        requires room { needed_by self.old.mode self.old.count (length input.now)
+            ≤ length output.old }
         ensures text { (c : Conversion) → Represents self.old c
             → text_of (extended c input.now)
-            ≡ text_of c ++ take (needed_by self.old.mode self.old.count (length input.now)) output.new }
-        ensures taken { (c : Conversion) → Represents self.old c → Represents self.new (extended c input.now) }
+                ≡ text_of c
+                    ++ take (needed_by self.old.mode self.old.count (length input.now)) output.new }
+        ensures taken { (c : Conversion) → Represents self.old c
+            → Represents self.new (extended c input.now) }
         ensures rest { drop (needed_by self.old.mode self.old.count (length input.now)) output.new
             ≡ drop (needed_by self.old.mode self.old.count (length input.now)) output.old }
     {

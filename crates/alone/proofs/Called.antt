@@ -21,7 +21,7 @@ use Rattle.op_queue.specs.Queue.{Queue, IsQueue, is_full, submitted}
 use Rattle.alone.specs.declared.running.Instance.{Instance}
 use Rattle.alone.specs.Machine.{Machine}
 use Rattle.alone.specs.Step.{Stepped, called, called_open, opened_as, invoked_in, invoked_at, closed_in, closed_at, known, admitted, queued, answered_at_once}
-use Rattle.object_asks.specs.Codes.{success, bad_parameters, bad_state, busy, target_dead}
+use Rattle.tee_base.specs.declared.codes.TheConstants.Code.{SUCCESS, BAD_PARAMETERS, BAD_STATE, BUSY, TARGET_DEAD}
 use Rattle.alone.proofs.Totals.{each_from_index, found_has}
 use Rattle.alone.proofs.Each.{each_more}
 use Rattle.alone.proofs.Sound.{IsSound, IsSoundMachine, HasSlot}
@@ -71,52 +71,52 @@ module _ {A : Type 0} where
   takes_open m client label ps h =
       let P : Stepped A → Type 0 = IsCalled m.queue.next in
       let last = opened_as m client label ps (admission_of m.table client label) in
-      let third = cond (is_full m.queue) (answered_at_once m busy Tee) last in
-      let second = cond (is_some (known m client label)) (answered_at_once m bad_state Api) third in
-      cond_both (is_some (first_oversized ps)) (answered_at_once m bad_parameters Api) second P
-      (λ _. at_once m m.table bad_parameters Api h)
-      (λ _. cond_both (is_some (known m client label)) (answered_at_once m bad_state Api) third P
-      (λ _. at_once m m.table bad_state Api h)
-      (λ _. cond_both (is_full m.queue) (answered_at_once m busy Tee) last P
-      (λ _. at_once m m.table busy Tee h)
+      let third = cond (is_full m.queue) (answered_at_once m BUSY Tee) last in
+      let second = cond (is_some (known m client label)) (answered_at_once m BAD_STATE Api) third in
+      cond_both (is_some (first_oversized ps)) (answered_at_once m BAD_PARAMETERS Api) second P
+      (λ _. at_once m m.table BAD_PARAMETERS Api h)
+      (λ _. cond_both (is_some (known m client label)) (answered_at_once m BAD_STATE Api) third P
+      (λ _. at_once m m.table BAD_STATE Api h)
+      (λ _. cond_both (is_full m.queue) (answered_at_once m BUSY Tee) last P
+      (λ _. at_once m m.table BUSY Tee h)
       (λ free. opens m client label ps h free (admission_of m.table client label) refl)))
 
   invokes : (m : Machine A) (client label command : ℕ) (ps : Params) (s : Session) → IsSoundMachine m → session_of m.table client label ≡ Some s
       → (state : SessionState) → s.state ≡ state → IsCalled m.queue.next (invoked_at m client (calls.Invoke label command ps) (facts_of s) state)
-  invokes m client label command ps s h e Opening same = at_once m m.table bad_state Api h
-  invokes m client label command ps s h e Closing same = at_once m m.table bad_state Api h
-  invokes m client label command ps s h e Dead same = at_once m m.table target_dead Tee h
+  invokes m client label command ps s h e Opening same = at_once m m.table BAD_STATE Api h
+  invokes m client label command ps s h e Closing same = at_once m m.table BAD_STATE Api h
+  invokes m client label command ps s h e Dead same = at_once m m.table TARGET_DEAD Tee h
   invokes m client label command ps s h e Open same =
       let there : HasSlot m.table s.instance = found_has (λ x. is_dead x.state ≡ false → HasSlot m.table x.instance) (is_known_as client label) m.table.sessions s h.sessions e (ap is_dead same) in
-      cond_both (is_full m.queue) (answered_at_once m busy Tee) (queued m client s.instance s.number (calls.Invoke label command ps)) (IsCalled m.queue.next)
-      (λ _. at_once m m.table busy Tee h)
+      cond_both (is_full m.queue) (answered_at_once m BUSY Tee) (queued m client s.instance s.number (calls.Invoke label command ps)) (IsCalled m.queue.next)
+      (λ _. at_once m m.table BUSY Tee h)
       (λ free. waits m m.table m.instances client s.instance s.number (calls.Invoke label command ps) h.queue
       (sound_invoke m.queue m.table m.instances client s.instance s.number label command ps h free there))
 
   invokes_in : (m : Machine A) (client label command : ℕ) (ps : Params) → IsSoundMachine m → (o : Option Session) → session_of m.table client label ≡ o
       → IsCalled m.queue.next (invoked_in m client (calls.Invoke label command ps) (option_map facts_of o))
-  invokes_in m client label command ps h None e = at_once m m.table bad_state Api h
+  invokes_in m client label command ps h None e = at_once m m.table BAD_STATE Api h
   invokes_in m client label command ps h (Some s) e = invokes m client label command ps s h e s.state refl
 
   closes : (m : Machine A) (client label : ℕ) (s : Session) → IsSoundMachine m → session_of m.table client label ≡ Some s → (state : SessionState)
       → s.state ≡ state → IsCalled m.queue.next (closed_at m client label (facts_of s) state)
-  closes m client label s h e Opening same = at_once m m.table bad_state Api h
-  closes m client label s h e Closing same = at_once m m.table bad_state Api h
-  closes m client label s h e Dead same = at_once m (session_removed m.table s.number) success Tee (sound_dead m.queue m.table m.instances (is_known_as client label) s h e same)
+  closes m client label s h e Opening same = at_once m m.table BAD_STATE Api h
+  closes m client label s h e Closing same = at_once m m.table BAD_STATE Api h
+  closes m client label s h e Dead same = at_once m (session_removed m.table s.number) SUCCESS Tee (sound_dead m.queue m.table m.instances (is_known_as client label) s h e same)
   closes m client label s h e Open same =
       waits m (state_set m.table s.number Closing) m.instances client s.instance s.number (calls.Close label) h.queue
       (sound_close m.queue m.table m.instances (is_known_as client label) s client label h e same)
 
   closes_in : (m : Machine A) (client label : ℕ) → IsSoundMachine m → (o : Option Session) → session_of m.table client label ≡ o
       → IsCalled m.queue.next (closed_in m client label (option_map facts_of o))
-  closes_in m client label h None e = at_once m m.table bad_state Api h
+  closes_in m client label h None e = at_once m m.table BAD_STATE Api h
   closes_in m client label h (Some s) e = closes m client label s h e s.state refl
 
   pub takes : (m : Machine A) (client : ℕ) (call : Call) → IsSoundMachine m → IsCalled m.queue.next (called m client call)
   unfolding called
   takes m client (calls.Open label ps) h = takes_open m client label ps h
   takes m client (calls.Invoke label command ps) h =
-      cond_both (is_some (first_oversized ps)) (answered_at_once m bad_parameters Api) (invoked_in m client (calls.Invoke label command ps) (known m client label)) (IsCalled m.queue.next)
-      (λ _. at_once m m.table bad_parameters Api h)
+      cond_both (is_some (first_oversized ps)) (answered_at_once m BAD_PARAMETERS Api) (invoked_in m client (calls.Invoke label command ps) (known m client label)) (IsCalled m.queue.next)
+      (λ _. at_once m m.table BAD_PARAMETERS Api h)
       (λ _. invokes_in m client label command ps h (session_of m.table client label) refl)
   takes m client (calls.Close label) h = closes_in m client label h (session_of m.table client label) refl

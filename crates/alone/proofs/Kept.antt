@@ -15,7 +15,7 @@ use Rattle.op_queue.specs.declared.operation.Cancelled.{Cancelled as Cancellatio
 use Rattle.op_queue.specs.declared.operation.Cancelled.TheVariants.{Dropped, Flagged, Nothing}
 use Rattle.op_queue.specs.Queue.{after_begin, after_cancel, begun_at, cancel_of, first_waiting, mask_set, operation_of, without}
 use Rattle.object_asks.specs.Asks.{Outcome, Answered, Returned, Panicked, Course, Settled, ComesToStore, Objects, Serving, Serves, Fails, Damaged, changes_store, course_in, object_course, outcome_in, refused}
-use Rattle.object_asks.specs.Codes.{storage_not_available}
+use Rattle.tee_base.specs.declared.codes.TheConstants.Code.{STORAGE_NOT_AVAILABLE}
 use Rattle.object_asks.proofs.SoundAsks.{Goes, Leaves}
 use Rattle.store_api.specs.Stores.{Store}
 use Rattle.alone.specs.declared.family.Family.{Family}
@@ -133,7 +133,7 @@ module _ {A : Type 0} (P : Machine A → Type 0) (k : IsKept P) where
   served_kept Serves loses m ask (Settled outcome) goes = goes
   served_kept Fails loses m ask (Settled outcome) goes = goes
   served_kept Damaged loses m ask (Settled outcome) goes = goes
-  served_kept Serves loses m ask (ComesToStore kept plain) goes = cond_both m.lost (refused kept storage_not_available) plain (Leaves P) (λ _. goes.0) (λ _. goes.1)
+  served_kept Serves loses m ask (ComesToStore kept plain) goes = cond_both m.lost (refused kept STORAGE_NOT_AVAILABLE) plain (Leaves P) (λ _. goes.0) (λ _. goes.1)
   served_kept Fails loses m ask (ComesToStore kept plain) goes = loses kept (cond (changes_store ask) (Some (store_left kept plain)) kept.in_doubt) goes.0
   served_kept Damaged loses m ask (ComesToStore kept plain) goes = goes.0
 

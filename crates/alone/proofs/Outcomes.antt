@@ -8,7 +8,7 @@ use Rattle.app_api.specs.declared.ask.Ask.{Ask}
 use Rattle.app_api.specs.declared.ask.Ask.TheVariants as asked
 use Rattle.app_api.specs.declared.out.Outs.{Outs}
 use Rattle.object_asks.specs.Asks.{Outcome, Answered, Returned, Panicked, Course, Settled, ComesToStore, Serving, Serves, Fails, Damaged, Objects, course_in, object_course, outcome_in, refused}
-use Rattle.object_asks.specs.Codes.{storage_not_available}
+use Rattle.tee_base.specs.declared.codes.TheConstants.Code.{STORAGE_NOT_AVAILABLE}
 use Rattle.alone.specs.declared.family.Family.{Family}
 use Rattle.alone.specs.declared.family.Family.TheVariants as families
 use Rattle.alone.specs.declared.running.Running.{Running}
@@ -69,7 +69,7 @@ module _ {A : Type 0} (m : Machine A) (made : ℕ) where
 
   served_like : (serving : Serving) (ask : Ask) (c : Course (Machine A)) → CourseLike m made c → OutcomeLike m made (served serving m ask c)
   served_like serving ask (Settled outcome) h = h
-  served_like Serves ask (ComesToStore kept plain) h = cond_both m.lost (refused kept storage_not_available) plain (OutcomeLike m made) (λ _. h.0) (λ _. h.1)
+  served_like Serves ask (ComesToStore kept plain) h = cond_both m.lost (refused kept STORAGE_NOT_AVAILABLE) plain (OutcomeLike m made) (λ _. h.0) (λ _. h.1)
   served_like Fails ask (ComesToStore kept plain) h = record { few = h.0.few; queue = h.0.queue; table = h.0.table; instances = h.0.instances }
   served_like Damaged ask (ComesToStore kept plain) h = h.0
 

@@ -2,7 +2,7 @@
 -- sections 4.3, 4.8, 4.10, 5.7 and 5.9).
 use Rattle.std.specs.Prelude.{ℕ, Bool, true, false, nat_le, Option, None, Some, if◌then◌else◌}
 use Rattle.tee_base.specs.declared.codes.Code.{Code}
-use Rattle.tee_base.specs.declared.codes.TheConstants.Code.{CANCEL}
+use Rattle.tee_base.specs.declared.codes.TheConstants.Code.{CANCEL, NOT_IMPLEMENTED}
 use Rattle.tee_base.specs.declared.limits.TheConstants.{ASKS}
 use Rattle.app_api.specs.declared.ask.Ask.{Ask}
 use Rattle.app_api.specs.declared.ask.Ask.TheVariants as asked
@@ -10,7 +10,6 @@ use Rattle.app_api.specs.declared.ask.Answer.TheVariants as answers
 use Rattle.app_api.specs.declared.out.Outs.{Outs}
 use Rattle.app_api.specs.Outs.{no_outs}
 use Rattle.object_asks.specs.Asks.{Answered, Returned, Panicked, Course, Settled, Objects, course_in, object_course}
-use Rattle.object_asks.specs.Codes.{not_implemented}
 use Rattle.object_asks.specs.Serving.{plainly}
 use Rattle.object_asks.specs.declared.outcome.Ending.{Ending}
 use Rattle.object_asks.specs.declared.outcome.Outcome.TheVariants as outcomes
@@ -71,7 +70,7 @@ mask_noted r ask = record { op = r.op; stage = r.stage; waits = r.waits; asks = 
 
 -- how an entry ends at an ask that isn't built
 abbrev pub not_built : Ending
-not_built = record { code = not_implemented; outs = no_outs }
+not_built = record { code = NOT_IMPLEMENTED; outs = no_outs }
 
 -- what an entry returns, unless its outputs are misuse
 abbrev pub return_course : {S : Type 0} → Stage → Code → Outs → Course S

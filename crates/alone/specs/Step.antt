@@ -41,7 +41,7 @@ use Rattle.alone.specs.declared.running.Waits.{Waits}
 use Rattle.alone.specs.declared.running.Waits.TheVariants as waits
 use Rattle.store_api.specs.Stores.{Store}
 use Rattle.object_asks.specs.Asks.{Outcome, Answered, Returned, Panicked, Course, Settled, ComesToStore, Serving, Serves, Fails, Damaged, came_of, changes_store, comes_to_store, may_need_store, refused}
-use Rattle.object_asks.specs.Codes.{success, bad_parameters, bad_state, busy, out_of_memory, storage_not_available, target_dead}
+use Rattle.tee_base.specs.declared.codes.TheConstants.Code.{SUCCESS, BAD_PARAMETERS, BAD_STATE, BUSY, OUT_OF_MEMORY, STORAGE_NOT_AVAILABLE, TARGET_DEAD}
 use Rattle.object_asks.specs.Held.{nothing_held, instance_closed}
 use Rattle.alone.specs.Asks.{cancel, course_after, mask_noted}
 use Rattle.alone.specs.Machine.{Machine, is_number, instance_at, with_instance}
@@ -123,36 +123,36 @@ opened_as m client label ps (Ok a) = queued (admitted m client label a) client a
 -- an open: too large a parameter, a label in use, a full queue, no admission, or it waits
 abbrev pub called_open : {A : Type 0} → Machine A → ℕ → ℕ → Params → Stepped A
 called_open m client label ps =
-    if is_some (first_oversized ps) then answered_at_once m bad_parameters Api
-    else if is_some (known m client label) then answered_at_once m bad_state Api
-    else if is_full m.queue then answered_at_once m busy Tee
+    if is_some (first_oversized ps) then answered_at_once m BAD_PARAMETERS Api
+    else if is_some (known m client label) then answered_at_once m BAD_STATE Api
+    else if is_full m.queue then answered_at_once m BUSY Tee
     else opened_as m client label ps (admission_of m.table client label)
 
 abbrev pub invoked_at : {A : Type 0} → Machine A → ℕ → Call → SessionFacts → SessionState → Stepped A
-invoked_at m client call s Opening = answered_at_once m bad_state Api
-invoked_at m client call s Closing = answered_at_once m bad_state Api
-invoked_at m client call s Dead = answered_at_once m target_dead Tee
-invoked_at m client call s Open = if is_full m.queue then answered_at_once m busy Tee else queued m client s.instance s.session call
+invoked_at m client call s Opening = answered_at_once m BAD_STATE Api
+invoked_at m client call s Closing = answered_at_once m BAD_STATE Api
+invoked_at m client call s Dead = answered_at_once m TARGET_DEAD Tee
+invoked_at m client call s Open = if is_full m.queue then answered_at_once m BUSY Tee else queued m client s.instance s.session call
 
 abbrev pub invoked_in : {A : Type 0} → Machine A → ℕ → Call → Option SessionFacts → Stepped A
-invoked_in m client call None = answered_at_once m bad_state Api
+invoked_in m client call None = answered_at_once m BAD_STATE Api
 invoked_in m client call (Some s) = invoked_at m client call s s.state
 
 -- an invoke: too large a parameter, no open or dead session, a dead one, a full queue, or it waits
 abbrev pub called_invoke : {A : Type 0} → Machine A → ℕ → ℕ → ℕ → Params → Stepped A
 called_invoke m client label command ps =
-    if is_some (first_oversized ps) then answered_at_once m bad_parameters Api
+    if is_some (first_oversized ps) then answered_at_once m BAD_PARAMETERS Api
     else invoked_in m client (calls.Invoke label command ps) (known m client label)
 
 abbrev pub closed_at : {A : Type 0} → Machine A → ℕ → ℕ → SessionFacts → SessionState → Stepped A
-closed_at m client label s Opening = answered_at_once m bad_state Api
-closed_at m client label s Closing = answered_at_once m bad_state Api
-closed_at m client label s Dead = answered_at_once (record m { table = session_removed m.table s.session }) success Tee
+closed_at m client label s Opening = answered_at_once m BAD_STATE Api
+closed_at m client label s Closing = answered_at_once m BAD_STATE Api
+closed_at m client label s Dead = answered_at_once (record m { table = session_removed m.table s.session }) SUCCESS Tee
 closed_at m client label s Open = queued (record m { table = state_set m.table s.session Closing }) client s.instance s.session (calls.Close label)
 
 -- a close: no open or dead session, a dead one, which goes, or it waits
 abbrev pub closed_in : {A : Type 0} → Machine A → ℕ → ℕ → Option SessionFacts → Stepped A
-closed_in m client label None = answered_at_once m bad_state Api
+closed_in m client label None = answered_at_once m BAD_STATE Api
 closed_in m client label (Some s) = closed_at m client label s s.state
 
 unfoldable pub called : {A : Type 0} → Machine A → ℕ → Call → Stepped A
@@ -283,14 +283,14 @@ returned m inst op (stages.Start session places) code outs =
     then answered (record m { table = state_set m.table session Open }) inst op code (delivered places outs)
     else after_session (record m { table = session_removed m.table session }) inst op code (delivered places outs)
 returned m inst op (stages.Invoke session places) code outs = answered m inst op code (delivered places outs)
-returned m inst op (stages.Stop session) code outs = after_session (record m { table = session_removed m.table session }) inst op success no_outputs
+returned m inst op (stages.Stop session) code outs = after_session (record m { table = session_removed m.table session }) inst op SUCCESS no_outputs
 returned m inst op (stages.Destroy reply) code outs = record { machine = instance_gone m inst.number; replies = option_to_list reply; instance = 0 }
 
 -- the machine after the ask of the entry that runs: an answer is given next, and the ask is counted; a panic tears the instance down
 abbrev pub acted : {A : Type 0} → Machine A → Instance A → Running → Outcome (Machine A) → Stepped A
 acted m inst r (Answered after answer) = quiet (with_instance after (record inst { running = Some (record { op = r.op; stage = r.stage; waits = waits.Given (givens.Answer answer); asks = r.asks + 1; masked = r.masked }) }))
 acted m inst r (Returned code outs) = returned m inst r.op r.stage code outs
-acted m inst r Panicked = torn_down m inst.number target_dead Tee
+acted m inst r Panicked = torn_down m inst.number TARGET_DEAD Tee
 
 -- the store that the ask would have left
 abbrev pub store_left : {A : Type 0} → Machine A → Outcome (Machine A) → Store
@@ -306,7 +306,7 @@ lost_at m changes plain = record m { lost = true; in_doubt = if changes then Som
 abbrev pub served : {A : Type 0} → Serving → Machine A → Ask → Course (Machine A) → Outcome (Machine A)
 served serving m ask (Settled outcome) = outcome
 served Serves m ask (ComesToStore kept plain) = came_of Serves m.lost (ComesToStore kept plain)
-served Fails m ask (ComesToStore kept plain) = refused (lost_at kept (changes_store ask) plain) storage_not_available
+served Fails m ask (ComesToStore kept plain) = refused (lost_at kept (changes_store ask) plain) STORAGE_NOT_AVAILABLE
 served Damaged m ask (ComesToStore kept plain) = came_of Damaged m.lost (ComesToStore kept plain)
 
 -- ---- a turn
@@ -338,7 +338,7 @@ turned behaviour m i = turned_as behaviour Serves m i
 
 -- a turn that finds no memory
 abbrev pub starved : {A : Type 0} → Machine A → ℕ → Stepped A
-starved m i = torn_down (turn_counted m) i out_of_memory Tee
+starved m i = torn_down (turn_counted m) i OUT_OF_MEMORY Tee
 
 -- the operation was called, and is no longer unanswered
 abbrev pub is_answered : {A : Type 0} → Machine A → ℕ → Bool

@@ -14,10 +14,14 @@ use app_api::Application;
 /// Whatever happened before, a client's call is answered within the turns that it has: their number is never what
 /// stops it.
 pub fn call_lines_are_answered<A: Application>()
-    ensures { (host : Host A) (index : ℕ) (seed : List ℕ) (store : Store) (events : List Event) (client : ℕ) (call : Call) → CallIsAnswered A.behaviour (machine_after A.behaviour (start host index seed store) events) client call }
+    ensures { (host : Host A) (index : ℕ) (seed : List ℕ) (store : Store) (events : List Event)
+            (client : ℕ) (call : Call)
+        → CallIsAnswered A.behaviour
+            (machine_after A.behaviour (start host index seed store) events) client call }
 {}
 
 /// Whatever happened, at most 24 operations are unanswered: 16 other than closes, and 8 closes.
 pub fn operations_are_few<A: Application>()
-    ensures { (host : Host A) (index : ℕ) (seed : List ℕ) (store : Store) (events : List Event) → OperationsAreFew (machine_after A.behaviour (start host index seed store) events) }
+    ensures { (host : Host A) (index : ℕ) (seed : List ℕ) (store : Store) (events : List Event)
+        → OperationsAreFew (machine_after A.behaviour (start host index seed store) events) }
 {}

@@ -12,19 +12,23 @@ use app_api::Application;
 
 /// Only a call brings operations and instances to life: an operation, and an instance for it.
 pub fn few_are_born<A: Application>()
-    ensures { (m : Machine A) (event : Event) → live (step A.behaviour m event).machine ≤ live m + born_of event }
+    ensures { (m : Machine A) (event : Event)
+        → live (step A.behaviour m event).machine ≤ live m + born_of event }
 {}
 
 /// A turn that isn't lost leaves the change in doubt.
 pub fn turns_leave_the_doubt<A: Application>()
-    ensures serves { (m : Machine A) (i : ℕ) → (turned_as A.behaviour Serves m i).machine.in_doubt ≡ m.in_doubt }
-    ensures damaged { (m : Machine A) (i : ℕ) → (turned_as A.behaviour Damaged m i).machine.in_doubt ≡ m.in_doubt }
+    ensures serves { (m : Machine A) (i : ℕ)
+        → (turned_as A.behaviour Serves m i).machine.in_doubt ≡ m.in_doubt }
+    ensures damaged { (m : Machine A) (i : ℕ)
+        → (turned_as A.behaviour Damaged m i).machine.in_doubt ≡ m.in_doubt }
     ensures starved { (m : Machine A) (i : ℕ) → (starved m i).machine.in_doubt ≡ m.in_doubt }
 {}
 
 /// Neither a call nor its cancellation touches the storage.
 pub fn calls_leave_the_storage<A: Application>()
-    ensures called { (m : Machine A) (client : ℕ) (call : Call) → StorageStays m (called m client call).machine }
+    ensures called { (m : Machine A) (client : ℕ) (call : Call)
+        → StorageStays m (called m client call).machine }
     ensures cancelled { (m : Machine A) (op : ℕ) → StorageStays m (cancelled m op).machine }
 {}
 
@@ -32,6 +36,7 @@ pub fn calls_leave_the_storage<A: Application>()
 /// ask comes to it.
 pub fn turns_without_the_store<A: Application>()
     ensures alike { (m : Machine A) (i : ℕ) (store : Store) → needs_store m i ≡ false
-        → turned A.behaviour (with_store store m) i ≡ step_with_store store (turned A.behaviour m i) }
+        → turned A.behaviour (with_store store m) i
+            ≡ step_with_store store (turned A.behaviour m i) }
     ensures reaches { (m : Machine A) (i : ℕ) → reaches m i ≡ true → needs_store m i ≡ true }
 {}

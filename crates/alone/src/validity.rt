@@ -11,6 +11,8 @@ use app_api::Application;
 
 /// A machine is valid at its start, and stays so at each event, also at one that may not stand. It does nothing.
 pub fn machines_stay_valid<A: Application>()
-    ensures start { (host : Host A) (index : ℕ) (seed : List ℕ) (store : Store) → IsValid (start host index seed store) }
-    ensures step { (m : Machine A) (event : Event) → IsValid m → IsValid (step A.behaviour m event).machine }
+    ensures start { (host : Host A) (index : ℕ) (seed : List ℕ) (store : Store)
+        → IsValid (start host index seed store) }
+    ensures step { (m : Machine A) (event : Event) → IsValid m
+        → IsValid (step A.behaviour m event).machine }
 {}

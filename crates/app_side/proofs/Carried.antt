@@ -10,7 +10,7 @@ use Rattle.app_api.specs.declared.ask.Answer.TheVariants.{Refused}
 use Rattle.store_api.specs.Stores.{Store}
 use Rattle.store_api.specs.Keeping.{Keeper, Status}
 use Rattle.object_asks.specs.Asks.{changes_store, object_course}
-use Rattle.object_asks.specs.Codes.{storage_not_available}
+use Rattle.tee_base.specs.declared.codes.TheConstants.Code.{STORAGE_NOT_AVAILABLE}
 use Rattle.object_asks.specs.Courses.{Outcome, Answered, Returned, Panicked, Course, Settled, ComesToStore, Objects, Serving, Serves, Damaged, came_of, comes_to_store, course_in, outcome_in, refused}
 use Rattle.object_asks.specs.Held.{Held}
 use Rattle.object_asks.specs.Serving.{HasStatus, IsOutcome, Meets, SaysChange, TriesOnce, serving_of}
@@ -39,7 +39,7 @@ use Rattle.app_side.specs.Serving.{IsEntryOutcome, IsEntryServed, IsTurnOf}
 serves_in : {A : Type 0} (m : Machine A) (ask : Ask) (c : Course Objects) → served Serves m ask (course_in (with_objects m) c) ≡ outcome_in (with_objects m) (came_of Serves m.lost c)
 serves_in m ask (Settled outcome) = refl
 serves_in m ask (ComesToStore kept plain) =
-    elim m.lost as (λ b. cond b (refused (with_objects m kept) storage_not_available) (outcome_in (with_objects m) plain) ≡ outcome_in (with_objects m) (cond b (refused kept storage_not_available) plain)) [ true ↦ refl | false ↦ refl ]
+    elim m.lost as (λ b. cond b (refused (with_objects m kept) STORAGE_NOT_AVAILABLE) (outcome_in (with_objects m) plain) ≡ outcome_in (with_objects m) (cond b (refused kept STORAGE_NOT_AVAILABLE) plain)) [ true ↦ refl | false ↦ refl ]
 
 damaged_in : {A : Type 0} (m : Machine A) (ask : Ask) (c : Course Objects) → served Damaged m ask (course_in (with_objects m) c) ≡ outcome_in (with_objects m) (came_of Damaged m.lost c)
 damaged_in m ask (Settled outcome) = refl
@@ -69,22 +69,22 @@ in_doubt_is true there left doubt = refl
 in_doubt_is false there left doubt = refl
 
 lost_in : {A : Type 0} (old new : AppSide A) (ko kn doubt : Store) (left : Held) (outcome : Result_of) (changes b : Bool) (kept : Objects) (plain : Outcome (Machine A))
-    → IsOutcome outcome (refused kept storage_not_available) (objects ko old.held) (objects kn left) → changes ≡ b → new ≡ record old { held = left; lost = true; in_doubt = changes || old.in_doubt }
-    → IsLeft outcome (refused (lost_at (with_objects (machine_over old ko doubt) kept) b plain) storage_not_available) new kn doubt (machine_over old ko doubt)
+    → IsOutcome outcome (refused kept STORAGE_NOT_AVAILABLE) (objects ko old.held) (objects kn left) → changes ≡ b → new ≡ record old { held = left; lost = true; in_doubt = changes || old.in_doubt }
+    → IsLeft outcome (refused (lost_at (with_objects (machine_over old ko doubt) kept) b plain) STORAGE_NOT_AVAILABLE) new kn doubt (machine_over old ko doubt)
 lost_in {A} old new ko kn doubt left (outcomes.Answered answer) changes b kept plain is same noted =
     let m : Machine A = machine_over old ko doubt in
-    let told : Refused storage_not_available ≡ answer = cc in
+    let told : Refused STORAGE_NOT_AVAILABLE ≡ answer = cc in
     let stays : kept ≡ objects kn left = cc in
     let gone : Store = store_left (with_objects m kept) plain in (
       cond b gone doubt,
-      ap (λ (o : Option Store). Answered (record m { store = kept.store; held = kept.held; lost = true; in_doubt = o }) (Refused storage_not_available)) (in_doubt_is b old.in_doubt gone doubt)
-          ∙ ap (λ (x : Objects). Answered (record m { store = x.store; held = x.held; lost = true; in_doubt = doubtful (b || old.in_doubt) (cond b gone doubt) }) (Refused storage_not_available)) stays
-          ∙ ap (λ (x : Bool). Answered (machine_over (record old { held = left; lost = true; in_doubt = x || old.in_doubt }) kn (cond b gone doubt)) (Refused storage_not_available)) (sym same)
-          ∙ ap (λ (s : AppSide A). Answered (machine_over s kn (cond b gone doubt)) (Refused storage_not_available)) (sym noted)
+      ap (λ (o : Option Store). Answered (record m { store = kept.store; held = kept.held; lost = true; in_doubt = o }) (Refused STORAGE_NOT_AVAILABLE)) (in_doubt_is b old.in_doubt gone doubt)
+          ∙ ap (λ (x : Objects). Answered (record m { store = x.store; held = x.held; lost = true; in_doubt = doubtful (b || old.in_doubt) (cond b gone doubt) }) (Refused STORAGE_NOT_AVAILABLE)) stays
+          ∙ ap (λ (x : Bool). Answered (machine_over (record old { held = left; lost = true; in_doubt = x || old.in_doubt }) kn (cond b gone doubt)) (Refused STORAGE_NOT_AVAILABLE)) (sym same)
+          ∙ ap (λ (s : AppSide A). Answered (machine_over s kn (cond b gone doubt)) (Refused STORAGE_NOT_AVAILABLE)) (sym noted)
           ∙ ap (λ (a : Answer). Answered (machine_over new kn (cond b gone doubt)) a) told,
     )
-lost_in old new ko kn doubt left (outcomes.Returned ending) changes b kept plain is same noted = absurd (let e : Answered kept (Refused storage_not_available) ≡ Returned ending.code ending.outs = is.0 in cc)
-lost_in old new ko kn doubt left outcomes.Panicked changes b kept plain is same noted = absurd (let e : Answered kept (Refused storage_not_available) ≡ Panicked = is.0 in cc)
+lost_in old new ko kn doubt left (outcomes.Returned ending) changes b kept plain is same noted = absurd (let e : Answered kept (Refused STORAGE_NOT_AVAILABLE) ≡ Returned ending.code ending.outs = is.0 in cc)
+lost_in old new ko kn doubt left outcomes.Panicked changes b kept plain is same noted = absurd (let e : Answered kept (Refused STORAGE_NOT_AVAILABLE) ≡ Panicked = is.0 in cc)
 
 carried_in : {A : Type 0} (old new : AppSide A) (ko kn doubt : Store) (left : Held) (ask : Ask) (kind : TurnKind) (outcome : Result_of) (c : Course Objects)
     → IsOutcome outcome (came_of (serving_of kind) old.lost c) (objects ko old.held) (objects kn left) → Meets kind (comes_to_store c) → SaysChange kind (changes_store ask) → new ≡ noted (record old { held = left }) kind

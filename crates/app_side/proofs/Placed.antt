@@ -12,7 +12,7 @@ use Rattle.store_api.specs.Stores.{Store}
 use Rattle.instances.specs.declared.session.SessionState.TheVariants.{Open}
 use Rattle.instances.specs.Instances.{is_left, session_removed, state_set}
 use Rattle.object_asks.specs.Asks.{Outcome, Answered, Returned, Panicked, Course, Settled, ComesToStore, Objects, Serving, Serves, Fails, Damaged, changes_store, course_in, object_course, outcome_in, refused}
-use Rattle.object_asks.specs.Codes.{storage_not_available, success, target_dead}
+use Rattle.tee_base.specs.declared.codes.TheConstants.Code.{STORAGE_NOT_AVAILABLE, SUCCESS, TARGET_DEAD}
 use Rattle.alone.specs.declared.family.Family.{Family}
 use Rattle.alone.specs.declared.family.Family.TheVariants as families
 use Rattle.alone.specs.declared.reply.Outputs.{Outputs}
@@ -77,7 +77,7 @@ returned_taken m inst op (stages.Start session places) code outs =
     (answered_taken (record m { table = state_set m.table session Open }) inst op code (delivered places outs))
     (after_session_taken (record m { table = session_removed m.table session }) inst op code (delivered places outs))
 returned_taken m inst op (stages.Invoke session places) code outs = answered_taken m inst op code (delivered places outs)
-returned_taken m inst op (stages.Stop session) code outs = after_session_taken (record m { table = session_removed m.table session }) inst op success no_outputs
+returned_taken m inst op (stages.Stop session) code outs = after_session_taken (record m { table = session_removed m.table session }) inst op SUCCESS no_outputs
 returned_taken {A} m inst op (stages.Destroy reply) code outs =
     ap (left_with (returned m inst op (stages.Destroy reply) code outs)) (filter_put inst.number (emptied inst) m.instances refl)
 
@@ -117,9 +117,9 @@ left_placed xs m Panicked = refl
 pub served_placed : {A : Type 0} (serving : Serving) (xs : List (Instance A)) (m : Machine A) (ask : Ask) (c : Course (Machine A)) → served serving (placed xs m) ask (course_in (placed xs) c) ≡ outcome_in (placed xs) (served serving m ask c)
 served_placed serving xs m ask (Settled outcome) = refl
 served_placed {A} Serves xs m ask (ComesToStore kept plain) =
-    elim m.lost as (λ b. cond b (refused (placed xs kept) storage_not_available) (outcome_in (placed xs) plain) ≡ outcome_in (placed xs) (cond b (refused kept storage_not_available) plain)) [ true ↦ refl | false ↦ refl ]
+    elim m.lost as (λ b. cond b (refused (placed xs kept) STORAGE_NOT_AVAILABLE) (outcome_in (placed xs) plain) ≡ outcome_in (placed xs) (cond b (refused kept STORAGE_NOT_AVAILABLE) plain)) [ true ↦ refl | false ↦ refl ]
 served_placed {A} Fails xs m ask (ComesToStore kept plain) =
-    ap (λ (s : Store). refused (record kept { instances = xs; lost = true; in_doubt = cond (changes_store ask) (Some s) kept.in_doubt }) storage_not_available) (left_placed xs kept plain)
+    ap (λ (s : Store). refused (record kept { instances = xs; lost = true; in_doubt = cond (changes_store ask) (Some s) kept.in_doubt }) STORAGE_NOT_AVAILABLE) (left_placed xs kept plain)
 served_placed Damaged xs m ask (ComesToStore kept plain) = refl
 
 -- an outcome leaves the instances
@@ -136,7 +136,7 @@ plain_leaves m Panicked = tt
 objects_leave : {A : Type 0} (serving : Serving) (m : Machine A) (ask : Ask) (c : Course Objects) → Leaves m.instances (served serving m ask (course_in (with_objects m) c))
 objects_leave serving m ask (Settled outcome) = plain_leaves m outcome
 objects_leave Serves m ask (ComesToStore kept plain) =
-    elim m.lost as (λ b. Leaves m.instances (cond b (refused (with_objects m kept) storage_not_available) (outcome_in (with_objects m) plain))) [ true ↦ refl | false ↦ plain_leaves m plain ]
+    elim m.lost as (λ b. Leaves m.instances (cond b (refused (with_objects m kept) STORAGE_NOT_AVAILABLE) (outcome_in (with_objects m) plain))) [ true ↦ refl | false ↦ plain_leaves m plain ]
 objects_leave Fails m ask (ComesToStore kept plain) = refl
 objects_leave Damaged m ask (ComesToStore kept plain) = refl
 
@@ -164,7 +164,7 @@ acted_taken {A} m inst r (Answered after answer) leaves =
     let new : Instance A = record inst { running = Some (record { op = r.op; stage = r.stage; waits = waits.Given (givens.Answer answer); asks = r.asks + 1; masked = r.masked }) } in
     ap (λ (xs : List (Instance A)). quiet (record after { instances = xs })) (put_put new (emptied inst) m.instances refl ∙ ap (put_instance new) (sym leaves))
 acted_taken m inst r (Returned code outs) leaves = returned_taken m inst r.op r.stage code outs
-acted_taken m inst r Panicked leaves = ap (left_with (torn_down m inst.number target_dead Tee)) (filter_put inst.number (emptied inst) m.instances refl)
+acted_taken m inst r Panicked leaves = ap (left_with (torn_down m inst.number TARGET_DEAD Tee)) (filter_put inst.number (emptied inst) m.instances refl)
 
 pub went_on_taken : {A : Type 0} (behaviour : Behaviour A) (serving : Serving) (m : Machine A) (inst : Instance A) (r : Running) (w : Waits) → went_on behaviour serving (taken m inst) (emptied inst) r w ≡ went_on behaviour serving m inst r w
 went_on_taken {A} behaviour serving m inst r (waits.Given given) =

@@ -26,7 +26,7 @@ use Rattle.alone.specs.Replies.{no_outputs}
 use Rattle.alone.specs.declared.reply.Outputs.{Outputs}
 use Rattle.tee_base.specs.declared.codes.Origin.{Origin}
 use Rattle.tee_base.specs.declared.codes.Origin.TheVariants.{Tee}
-use Rattle.object_asks.specs.Codes.{success}
+use Rattle.tee_base.specs.declared.codes.TheConstants.Code.{SUCCESS}
 use Rattle.alone.specs.Step.{Stepped, after_session, answered, begun, begun_with, called, called_open, cancelled, cancelled_by, closed_at, closed_in, dropped, idle, invoked_at, invoked_in, is_success, is_unused, known, opened_as, quiet, reply_of, returned, torn_down, waiting_open}
 use Rattle.op_queue.specs.declared.operation.Cancelled.{Cancelled as Cancellation}
 use Rattle.op_queue.specs.declared.operation.Cancelled.TheVariants.{Dropped, Flagged, Nothing}
@@ -109,7 +109,7 @@ returned_over store doubt m inst op (stages.Start session places) code outs =
     (answered_over store doubt (record m { table = state_set m.table session Open }) inst op code (delivered places outs))
     (after_session_over store doubt (record m { table = session_removed m.table session }) inst op code (delivered places outs))
 returned_over store doubt m inst op (stages.Invoke session places) code outs = answered_over store doubt m inst op code (delivered places outs)
-returned_over store doubt m inst op (stages.Stop session) code outs = after_session_over store doubt (record m { table = session_removed m.table session }) inst op success no_outputs
+returned_over store doubt m inst op (stages.Stop session) code outs = after_session_over store doubt (record m { table = session_removed m.table session }) inst op SUCCESS no_outputs
 returned_over store doubt m inst op (stages.Destroy reply) code outs = refl
 
 pub torn_over : {A : Type 0} (store : Store) (doubt : Option Store) (m : Machine A) (i : ℕ) (code : Code) (origin : Origin) → torn_down (over store doubt m) i code origin ≡ step_over store doubt (torn_down m i code origin)

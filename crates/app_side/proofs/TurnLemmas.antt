@@ -21,7 +21,7 @@ use Rattle.alone.specs.declared.running.Waits.TheVariants as waits
 use Rattle.object_asks.specs.declared.turn.TurnKind.{TurnKind}
 use Rattle.object_asks.specs.declared.turn.TurnKind.TheVariants.{Plain, Lost, Corrupted}
 use Rattle.object_asks.specs.Courses.{Outcome, Answered, comes_to_store}
-use Rattle.object_asks.specs.Codes.{success}
+use Rattle.tee_base.specs.declared.codes.TheConstants.Code.{SUCCESS}
 use Rattle.tee_base.specs.declared.codes.Origin.{Origin}
 use Rattle.instances.specs.declared.session.SessionState.TheVariants.{Open}
 use Rattle.instances.specs.Instances.{is_left, session_removed, state_set}
@@ -158,7 +158,7 @@ returned_lost m inst op (stages.Start session places) code outs =
     (answered_lost (record m { table = state_set m.table session Open }) inst op code (delivered places outs))
     (after_session_lost (record m { table = session_removed m.table session }) inst op code (delivered places outs))
 returned_lost m inst op (stages.Invoke session places) code outs = answered_lost m inst op code (delivered places outs)
-returned_lost m inst op (stages.Stop session) code outs = after_session_lost (record m { table = session_removed m.table session }) inst op success no_outputs
+returned_lost m inst op (stages.Stop session) code outs = after_session_lost (record m { table = session_removed m.table session }) inst op SUCCESS no_outputs
 returned_lost m inst op (stages.Destroy reply) code outs = refl
 
 pub turned_lost : {A : Type 0} (old new : AppSide A) (given : List Reply) (inst : Instance A) (op : Option ℕ) (stage : Stage) (code : Code) (outs : Outs) → IsTurned new given (returned (machine_of old) inst op stage code outs) → old.lost ≡ new.lost

@@ -17,7 +17,8 @@ impl<A: Application> AppSide<A> {
     /// A call that is answered at once.
     fn refuse(&mut self, code: Code, origin: Origin) -> Called
         requires { self.old.queue.next < 2 ^ 63 }
-        ensures { IsCalled self.new result self.old.queue.next (answered_at_once (machine_of self.old) code origin) }
+        ensures { IsCalled self.new result self.old.queue.next
+            (answered_at_once (machine_of self.old) code origin) }
     {
         let op = self.queue.skip();
         Called {
@@ -42,7 +43,9 @@ impl<A: Application> AppSide<A> {
     ) -> Result<Called, NoMemory>
         requires room { self.old.queue.next < 2 ^ 63 }
         requires accepted { (is_full self.old.queue && not (is_close_call call)) ≡ false }
-        ensures ok { IfOk result (λ waiting. IsCalled self.new waiting self.old.queue.next (queued (machine_of self.old) client instance session call)) }
+        ensures ok { IfOk result (λ waiting.
+                IsCalled self.new waiting self.old.queue.next
+                (queued (machine_of self.old) client instance session call)) }
         ensures err { OnErr result (self.new ≡ self.old) }
     {
         match self.queue.submit(client, instance, session, call) {
@@ -68,7 +71,9 @@ impl<A: Application> AppSide<A> {
         requires accepted { is_full self.old.queue ≡ false }
         requires admitted { admission_of self.old.table client label ≡ Ok admission }
         requires shared { admission.new_instance ≡ false }
-        ensures ok { IfOk result (λ waiting. IsCalled self.new waiting self.old.queue.next (opened_as (machine_of self.old) client label params (Ok admission))) }
+        ensures ok { IfOk result (λ waiting.
+                IsCalled self.new waiting self.old.queue.next
+                (opened_as (machine_of self.old) client label params (Ok admission))) }
         ensures err { OnErr result (machine_of self.new ≡ machine_of self.old) }
     {
         let call = Call::Open { label, params };
@@ -89,7 +94,9 @@ impl<A: Application> AppSide<A> {
         requires accepted { is_full self.old.queue ≡ false }
         requires admitted { admission_of self.old.table client label ≡ Ok admission }
         requires own { admission.new_instance ≡ true }
-        ensures ok { IfOk result (λ waiting. IsCalled self.new waiting self.old.queue.next (opened_as (machine_of self.old) client label params (Ok admission))) }
+        ensures ok { IfOk result (λ waiting.
+                IsCalled self.new waiting self.old.queue.next
+                (opened_as (machine_of self.old) client label params (Ok admission))) }
         ensures err { OnErr result (machine_of self.new ≡ machine_of self.old) }
     {
         let state = self.template.fresh(self.alloc)?;
@@ -114,7 +121,9 @@ impl<A: Application> AppSide<A> {
 
     fn open(&mut self, client: u8, label: u32, params: Params) -> Result<Called, NoMemory>
         requires { self.old.queue.next < 2 ^ 63 }
-        ensures ok { IfOk result (λ waiting. IsCalled self.new waiting self.old.queue.next (called_open (machine_of self.old) client label params)) }
+        ensures ok { IfOk result (λ waiting.
+                IsCalled self.new waiting self.old.queue.next
+                (called_open (machine_of self.old) client label params)) }
         ensures err { OnErr result (machine_of self.new ≡ machine_of self.old) }
     {
         if params.check().is_err() {
@@ -143,7 +152,9 @@ impl<A: Application> AppSide<A> {
         params: Params,
     ) -> Result<Called, NoMemory>
         requires { self.old.queue.next < 2 ^ 63 }
-        ensures ok { IfOk result (λ waiting. IsCalled self.new waiting self.old.queue.next (called_invoke (machine_of self.old) client label command params)) }
+        ensures ok { IfOk result (λ waiting.
+                IsCalled self.new waiting self.old.queue.next
+                (called_invoke (machine_of self.old) client label command params)) }
         ensures err { OnErr result (machine_of self.new ≡ machine_of self.old) }
     {
         if params.check().is_err() {
@@ -174,7 +185,9 @@ impl<A: Application> AppSide<A> {
 
     fn close(&mut self, client: u8, label: u32) -> Result<Called, NoMemory>
         requires { self.old.queue.next < 2 ^ 63 }
-        ensures ok { IfOk result (λ waiting. IsCalled self.new waiting self.old.queue.next (closed_in (machine_of self.old) client label (known (machine_of self.old) client label))) }
+        ensures ok { IfOk result (λ waiting.
+                IsCalled self.new waiting self.old.queue.next (closed_in (machine_of self.old)
+                    client label (known (machine_of self.old) client label))) }
         ensures err { OnErr result (machine_of self.new ≡ machine_of self.old) }
     {
         let Some(known) = self.table.find(client, label) else {
@@ -206,7 +219,9 @@ impl<A: Application> AppSide<A> {
     #[tactic(auto, unfolding(alone::specs::Step::called))]
     pub(crate) fn serve(&mut self, client: u8, call: Call) -> Result<Called, NoMemory>
         requires { self.old.queue.next < 2 ^ 63 }
-        ensures ok { IfOk result (λ waiting. IsCalled self.new waiting self.old.queue.next (called (machine_of self.old) client call)) }
+        ensures ok { IfOk result (λ waiting.
+                IsCalled self.new waiting self.old.queue.next
+                (called (machine_of self.old) client call)) }
         ensures err { OnErr result (machine_of self.new ≡ machine_of self.old) }
     {
         match call {

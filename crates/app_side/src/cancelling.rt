@@ -13,7 +13,8 @@ use tee_base::{Code, Origin};
 
 /// The session and the instance of the operation, where it is an open that waits.
 fn open_of(operation: &Operation) -> Option<(u8, u8)>
-    ensures { result ≡ open_of_progress operation.now.session operation.now.instance operation.now.progress }
+    ensures { result
+        ≡ open_of_progress operation.now.session operation.now.instance operation.now.progress }
 {
     match &operation.progress {
         Progress::Waiting(Call::Open { .. }) => Some((operation.session, operation.instance)),
@@ -41,7 +42,8 @@ fn waiting_open(operations: &[Operation], op: u64) -> Option<(u8, u8)>
 impl<A: Application> AppSide<A> {
     /// Whether the instance never ran its create entry, and has no session left.
     fn is_unused(&self, number: u8) -> bool
-        ensures { result ≡ is_unused (machine_of self.now) number (instance_at (machine_of self.now) number) }
+        ensures { result
+            ≡ is_unused (machine_of self.now) number (instance_at (machine_of self.now) number) }
     {
         match place_of(self.instances.as_slice(), number) {
             None => false,

@@ -32,7 +32,8 @@ impl<A: Application> AppSide<A> {
         application: u8,
         seed: [u8; 32],
     ) -> Result<AppSide<A>, NoMemory>
-        ensures start { IfOk result (λ side. (store : Store) → Represents side (start host application seed store)) }
+        ensures start { IfOk result (λ side.
+                (store : Store) → Represents side (start host application seed store)) }
         ensures lost { IfOk result (λ side. is_lost side ≡ false) }
         ensures turns { IfOk result (λ side. turns_of side ≡ 0) }
         ensures boot { IfOk result (λ side. boot_of side ≡ 0) }
@@ -56,12 +57,20 @@ impl<A: Application> AppSide<A> {
     /// A client's call: what it is answered at once, or that it waits for an instance. Want of memory changes nothing, and
     /// drops the call.
     pub fn call(&mut self, client: u8, call: Call) -> Result<Called, NoMemory>
-        ensures ok { IfOk result (λ made. (m : Machine A) → Represents self.old m → Represents self.new (called m client call).machine) }
-        ensures replies { IfOk result (λ made. (m : Machine A) → Represents self.old m → made.replies ≡ (called m client call).replies) }
-        ensures instance { IfOk result (λ made. (m : Machine A) → Represents self.old m → made.instance ≡ (called m client call).instance) }
-        ensures number { IfOk result (λ made. (m : Machine A) → Represents self.old m → made.op ≡ m.queue.next) }
+        ensures ok { IfOk result (λ made.
+                (m : Machine A) → Represents self.old m
+                → Represents self.new (called m client call).machine) }
+        ensures replies { IfOk result (λ made.
+                (m : Machine A) → Represents self.old m
+                → made.replies ≡ (called m client call).replies) }
+        ensures instance { IfOk result (λ made.
+                (m : Machine A) → Represents self.old m
+                → made.instance ≡ (called m client call).instance) }
+        ensures number { IfOk result (λ made.
+                (m : Machine A) → Represents self.old m → made.op ≡ m.queue.next) }
         ensures lost { is_lost self.new ≡ is_lost self.old }
-        ensures err { OnErr result ((m : Machine A) → Represents self.old m → Represents self.new m) }
+        ensures err { OnErr result
+            ((m : Machine A) → Represents self.old m → Represents self.new m) }
     {
         if self.queue.next_number() >= MOST {
             return Err(NoMemory);
@@ -93,7 +102,8 @@ impl<A: Application> AppSide<A> {
         ensures turn { IsTurn T.keeper A.behaviour instance result.kind result.replies
             self.old self.new store.old store.new }
         ensures tried { (m : Machine A) → Represents self.old m
-            → TriesOnce (is_changing m instance) (T.keeper.status store.old) (T.keeper.status store.new) }
+            → TriesOnce (is_changing m instance) (T.keeper.status store.old)
+                (T.keeper.status store.new) }
     {
         let mut replies = Replies::none();
         let kind = self.turn_into(instance, store, &mut replies);
@@ -113,7 +123,8 @@ impl<A: Application> AppSide<A> {
         ensures turn { IsTurn T.keeper A.behaviour instance result replies.new
             self.old self.new store.old store.new }
         ensures tried { (m : Machine A) → Represents self.old m
-            → TriesOnce (is_changing m instance) (T.keeper.status store.old) (T.keeper.status store.new) }
+            → TriesOnce (is_changing m instance) (T.keeper.status store.old)
+                (T.keeper.status store.new) }
     {
         match self.advance(store, instance, replies) {
             Ok(kind) => TurnKind::of(kind),
@@ -172,7 +183,8 @@ impl<A: Application> AppSide<A> {
     /// The storage is lost, for a reason that lies outside of this application.
     pub fn lose(&mut self)
         requires { is_lost self.old ≡ false }
-        ensures step { (m : Machine A) → Represents self.old m → Represents self.new (step A.behaviour m Lost).machine }
+        ensures step { (m : Machine A) → Represents self.old m
+            → Represents self.new (step A.behaviour m Lost).machine }
         ensures lost { is_lost self.new ≡ true }
     {
         self.lost = true;

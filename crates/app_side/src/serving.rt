@@ -43,7 +43,8 @@ impl<A: Application> AppSide<A> {
     /// a mask of its own.
     fn set_mask(&mut self, op: Option<u64>, own: bool, masked: bool) -> bool
         ensures before { result ≡ mask_for self.old.queue op own }
-        ensures after { self.new ≡ record self.old { queue = mask_set_for self.old.queue op masked } }
+        ensures after { self.new
+            ≡ record self.old { queue = mask_set_for self.old.queue op masked } }
     {
         match op {
             None => own,
@@ -54,8 +55,8 @@ impl<A: Application> AppSide<A> {
 
     /// Serves an ask about the entry itself. One of another family doesn't come here.
     fn serve_entry(&mut self, entry: &Entered, ask: Ask) -> Served
-        ensures { IsEntryServed result (entry_course (machine_of self.old) (asking entry.now ask) ask)
-            self.old self.new }
+        ensures { IsEntryServed result
+            (entry_course (machine_of self.old) (asking entry.now ask) ask) self.old self.new }
     {
         match ask {
             Ask::Return { code, outs } => returned(&entry.stage, code, outs),

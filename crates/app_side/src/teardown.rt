@@ -40,7 +40,8 @@ fn answer_all(
 
 /// Leaves out the instance of this number.
 fn leave_out<A: Drop>(instances: &mut Vec<Instance<A>>, number: u8)
-    ensures { instances.new.items ≡ filter (λ other. not (is_number number other)) instances.old.items }
+    ensures { instances.new.items
+        ≡ filter (λ other. not (is_number number other)) instances.old.items }
 {
     instances.retain(|instance| instance.number != number);
 }

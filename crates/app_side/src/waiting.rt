@@ -52,7 +52,8 @@ fn waits_for_store(running: &Option<Running>) -> bool
 impl<A: Application> AppSide<A> {
     /// Whether an ask waits in the instance that may need the store.
     pub fn needs_store(&self, instance: u8) -> bool
-        ensures machine { (m : Machine A) → Represents self.now m → result ≡ needs_store m instance }
+        ensures machine { (m : Machine A) → Represents self.now m
+            → result ≡ needs_store m instance }
         ensures own { result ≡ wants_store self.now instance }
     {
         match place_of(self.instances.as_slice(), instance) {

@@ -22,7 +22,8 @@ pub struct Counts {
 impl Counts {
     /// Before the first call.
     pub fn new() -> Counts
-        ensures { result ≡ record { fuse = Unset; faults = 0; writes = 0; orders = 0; ordered = 0 } }
+        ensures { result
+            ≡ record { fuse = Unset; faults = 0; writes = 0; orders = 0; ordered = 0 } }
     {
         Counts {
             fuse: Fuse::Unset,

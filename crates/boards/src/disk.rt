@@ -61,7 +61,8 @@ impl Disk {
     pub fn image(&self, alloc: Global) -> Result<Bytes, NoMemory>
         requires { IsWhole self.now }
         ensures count { IfOk result (λ bytes. length bytes ≡ 1024 * vec_len self.now.durable) }
-        ensures blocks { IfOk result (λ bytes. (k : ℕ) → k < vec_len self.now.durable → block_at bytes k ≡ reads_of self.now k) }
+        ensures blocks { IfOk result (λ bytes.
+                (k : ℕ) → k < vec_len self.now.durable → block_at bytes k ≡ reads_of self.now k) }
     {
         image::join(alloc, &self.seen)
     }
@@ -101,7 +102,8 @@ impl Disk {
         ensures whole { IsWhole self.new }
         ensures size { vec_len self.new.durable ≡ vec_len self.old.durable }
         ensures ok { is_ok result ≡ passes fate }
-        ensures faults { self.new.faults ≡ (if passes fate then self.old.faults else capped (self.old.faults + 1)) }
+        ensures faults { self.new.faults
+            ≡ (if passes fate then self.old.faults else capped (self.old.faults + 1)) }
         ensures orders { self.new.orders ≡ self.old.orders }
         ensures bytes { OnOk result (into.new ≡ (state_of self.old).reads block) }
         ensures unchanged { Unchanged (state_of self.old) (state_of self.new) }
@@ -121,12 +123,17 @@ impl Disk {
         ensures whole { IsWhole self.new }
         ensures size { vec_len self.new.durable ≡ vec_len self.old.durable }
         ensures ok { is_ok result ≡ passes fate }
-        ensures faults { self.new.faults ≡ (if passes fate then self.old.faults else capped (self.old.faults + 1)) }
+        ensures faults { self.new.faults
+            ≡ (if passes fate then self.old.faults else capped (self.old.faults + 1)) }
         ensures orders { self.new.orders ≡ self.old.orders }
-        ensures wrote { Wrote block from.now (is_ok result) (state_of self.old) (state_of self.new) }
-        ensures earlier { is_ok result ≡ false → (state_of self.new).reads ≡ (state_of self.old).reads }
-        ensures refused { is_refused fate ≡ true → Unchanged (state_of self.old) (state_of self.new) }
-        ensures offers { Offers block from.now (is_refused fate) (state_of self.new).pending (offered_of self.old) (offered_of self.new) }
+        ensures wrote { Wrote block from.now (is_ok result) (state_of self.old)
+            (state_of self.new) }
+        ensures earlier { is_ok result ≡ false
+            → (state_of self.new).reads ≡ (state_of self.old).reads }
+        ensures refused { is_refused fate ≡ true
+            → Unchanged (state_of self.old) (state_of self.new) }
+        ensures offers { Offers block from.now (is_refused fate) (state_of self.new).pending
+            (offered_of self.old) (offered_of self.new) }
     {
         let at = block as usize;
         if fate == Fate::Refuse {
@@ -148,7 +155,8 @@ impl Disk {
         ensures size { vec_len self.new.durable ≡ vec_len self.old.durable }
         ensures ok { is_ok result ≡ passes fate }
         ensures value { IfOk result (λ n. n ≡ self.old.counter) }
-        ensures faults { self.new.faults ≡ (if passes fate then self.old.faults else capped (self.old.faults + 1)) }
+        ensures faults { self.new.faults
+            ≡ (if passes fate then self.old.faults else capped (self.old.faults + 1)) }
         ensures orders { self.new.orders ≡ self.old.orders }
         ensures counted { Counted result (state_of self.old) (state_of self.new) }
         ensures offered { offered_of self.new ≡ offered_of self.old }
@@ -167,11 +175,14 @@ impl Disk {
         ensures size { vec_len self.new.durable ≡ vec_len self.old.durable }
         ensures ok { is_ok result ≡ (passes fate && nat_lt self.old.counter (2 ^ 64 - 1)) }
         ensures value { IfOk result (λ n. n ≡ self.old.counter + 1) }
-        ensures unsettled { is_ok result ≡ false → self.new.unsettled ≡ (if is_interrupted fate then true else self.old.unsettled) }
-        ensures faults { self.new.faults ≡ (if is_ok result then self.old.faults else capped (self.old.faults + 1)) }
+        ensures unsettled { is_ok result ≡ false
+            → self.new.unsettled ≡ (if is_interrupted fate then true else self.old.unsettled) }
+        ensures faults { self.new.faults
+            ≡ (if is_ok result then self.old.faults else capped (self.old.faults + 1)) }
         ensures orders { self.new.orders ≡ self.old.orders }
         ensures advanced { Advanced result (state_of self.old) (state_of self.new) }
-        ensures refused { is_refused fate ≡ true → Unchanged (state_of self.old) (state_of self.new) }
+        ensures refused { is_refused fate ≡ true
+            → Unchanged (state_of self.old) (state_of self.new) }
         ensures offered { offered_of self.new ≡ offered_of self.old }
     {
         if fate == Fate::Interrupt {
@@ -192,7 +203,8 @@ impl Disk {
         ensures whole { IsWhole self.new }
         ensures size { vec_len self.new.durable ≡ vec_len self.old.durable }
         ensures ok { is_ok result ≡ passes fate }
-        ensures faults { self.new.faults ≡ (if passes fate then self.old.faults else capped (self.old.faults + 1)) }
+        ensures faults { self.new.faults
+            ≡ (if passes fate then self.old.faults else capped (self.old.faults + 1)) }
         ensures orders { self.new.orders ≡ self.old.orders }
         ensures synced { Synced (is_ok result) (state_of self.old) (state_of self.new) }
         ensures offered { offered_of self.new ≡ offered_of self.old }
@@ -238,7 +250,9 @@ impl Disk {
     /// Settles the counter, and gives what is left of the number for the blocks.
     fn settle(&mut self, pick: u64) -> u64
         ensures digits { result ≡ digits_of self.old.unsettled pick }
-        ensures counter { self.new ≡ record self.old { counter = landed_counter self.old.unsettled pick self.old.counter; unsettled = false } }
+        ensures counter { self.new
+            ≡ record self.old { counter = landed_counter self.old.unsettled pick self.old.counter;
+                    unsettled = false } }
     {
         if !self.unsettled {
             return pick;
@@ -254,7 +268,8 @@ impl Disk {
     fn put(&mut self, at: usize, digit: u64)
         requires whole { IsWhole self.old }
         requires within { at < vec_len self.old.durable }
-        ensures { Puts at (landed digit (durable_of self.old at) (offered_of self.old at)) self.old self.new }
+        ensures { Puts at (landed digit (durable_of self.old at) (offered_of self.old at)) self.old
+            self.new }
     {
         let block = landed_block(digit, &self.durable[at], &self.offered[at]);
         self.durable[at] = block;
@@ -267,8 +282,12 @@ impl Disk {
         requires whole { IsWhole self.old }
         ensures whole { IsWhole self.new }
         ensures size { vec_len self.new.durable ≡ vec_len self.old.durable }
-        ensures image { (k : ℕ) → durable_of self.new k ≡ landed_image digits (pending_of self.old) (durable_of self.old) (offered_of self.old) k }
-        ensures blocks { (k : ℕ) → pending_of self.old k ≡ true → length (durable_of self.new k) ≡ 1024 }
+        ensures image { (k : ℕ)
+            → durable_of self.new k
+                ≡ landed_image digits (pending_of self.old) (durable_of self.old)
+                    (offered_of self.old) k }
+        ensures blocks { (k : ℕ) → pending_of self.old k ≡ true
+            → length (durable_of self.new k) ≡ 1024 }
         ensures pending { (k : ℕ) → pending_of self.new k ≡ false }
         ensures offered { self.new.offered ≡ self.old.offered }
         ensures counter { self.new.counter ≡ self.old.counter }
@@ -289,8 +308,12 @@ impl Disk {
         requires whole { IsWhole self.old }
         ensures whole { IsWhole self.new }
         ensures size { vec_len self.new.durable ≡ vec_len self.old.durable }
-        ensures image { (k : ℕ) → reads_of self.new k ≡ landed_image (digits_of self.old.unsettled pick) (pending_of self.old) (durable_of self.old) (offered_of self.old) k }
-        ensures counter { self.new.counter ≡ landed_counter self.old.unsettled pick self.old.counter }
+        ensures image { (k : ℕ)
+            → reads_of self.new k
+                ≡ landed_image (digits_of self.old.unsettled pick) (pending_of self.old)
+                    (durable_of self.old) (offered_of self.old) k }
+        ensures counter { self.new.counter
+            ≡ landed_counter self.old.unsettled pick self.old.counter }
         ensures powered { Powered (state_of self.old) (state_of self.new) }
         ensures offered { offered_of self.new ≡ offered_of self.old }
         ensures faults { self.new.faults ≡ self.old.faults }

@@ -36,7 +36,8 @@ impl MemBoard {
     /// A board of so many zero blocks, with the counter 0.
     pub fn blank(alloc: Global, key: [u8; 32], blocks: u64) -> Result<MemBoard, NoMemory>
         ensures new { IfOk result (λ b. IsNew key blocks 0 (memory_of b)) }
-        ensures zero { IfOk result (λ b. (k : ℕ) → k < blocks → (view_of b).state.reads k ≡ replicate 1024 0) }
+        ensures zero { IfOk result (λ b.
+                (k : ℕ) → k < blocks → (view_of b).state.reads k ≡ replicate 1024 0) }
     {
         let zero = image::repeated(alloc, [0; 1024], blocks as usize)?;
         MemBoard::of_blocks(alloc, zero, 0, key)
@@ -51,7 +52,8 @@ impl MemBoard {
     ) -> Result<MemBoard, NoMemory>
         requires { length image % 1024 ≡ 0 }
         ensures new { IfOk result (λ b. IsNew key (length image / 1024) counter (memory_of b)) }
-        ensures blocks { IfOk result (λ b. (k : ℕ) → k < length image / 1024 → (view_of b).state.reads k ≡ block_at image k) }
+        ensures blocks { IfOk result (λ b.
+                (k : ℕ) → k < length image / 1024 → (view_of b).state.reads k ≡ block_at image k) }
     {
         let blocks = image::split(alloc, image.as_slice())?;
         MemBoard::of_blocks(alloc, blocks, counter, key)
@@ -65,7 +67,8 @@ impl MemBoard {
     ) -> Result<MemBoard, NoMemory>
         requires { AreBlocks blocks.items }
         ensures new { IfOk result (λ b. IsNew key (vec_len blocks) counter (memory_of b)) }
-        ensures blocks { IfOk result (λ b. (k : ℕ) → (view_of b).state.reads k ≡ slice_index_or blocks.items k []) }
+        ensures blocks { IfOk result (λ b.
+                (k : ℕ) → (view_of b).state.reads k ≡ slice_index_or blocks.items k []) }
     {
         Ok(MemBoard {
             disk: Disk::of_blocks(alloc, blocks, counter)?,
@@ -84,7 +87,9 @@ impl MemBoard {
     /// Names calls of `read`, `write`, `sync`, `counter` and `advance` that are to be interrupted, by their numbers
     /// from 0 since the board was made.
     pub fn failing(&mut self, calls: &[u64]) -> Result<(), NoMemory>
-        ensures ok { OnOk result (memory_of self.new ≡ record (memory_of self.old) { failing = (memory_of self.old).failing ++ calls.now }) }
+        ensures ok { OnOk result (memory_of self.new
+                ≡ record (memory_of self.old)
+                    { failing = (memory_of self.old).failing ++ calls.now }) }
         ensures err { OnErr result (memory_of self.new ≡ memory_of self.old) }
     {
         self.schedule.name(calls)
@@ -93,7 +98,9 @@ impl MemBoard {
     /// What reads give, block after block.
     pub fn image(&self, alloc: Global) -> Result<Bytes, NoMemory>
         ensures count { IfOk result (λ bytes. length bytes ≡ 1024 * (view_of self.now).size) }
-        ensures blocks { IfOk result (λ bytes. (k : ℕ) → k < (view_of self.now).size → block_at bytes k ≡ (view_of self.now).state.reads k) }
+        ensures blocks { IfOk result (λ bytes.
+                (k : ℕ) → k < (view_of self.now).size
+                → block_at bytes k ≡ (view_of self.now).state.reads k) }
     {
         self.disk.image(alloc)
     }
@@ -127,8 +134,9 @@ impl Board for MemBoard {
         ensures writes { (view_of self.new).writes ≡ (view_of self.old).writes }
         ensures bytes { OnOk result (into.new ≡ (view_of self.old).state.reads block) }
         ensures same { (view_of self.new).state.reads ≡ (view_of self.old).state.reads }
-        ensures honest { IsHonest self.old → IsHonest self.new × Answered (view_of self.old) (view_of self.new)
-            × Unchanged (view_of self.old).state (view_of self.new).state }
+        ensures honest { IsHonest self.old
+            → IsHonest self.new × Answered (view_of self.old) (view_of self.new)
+                × Unchanged (view_of self.old).state (view_of self.new).state }
         ensures exact { IsExact true (is_ok result) (memory_of self.old) (memory_of self.new) }
         ensures offered { (memory_of self.new).offered ≡ (memory_of self.old).offered }
     {
@@ -141,12 +149,16 @@ impl Board for MemBoard {
         requires { block < (view_of self.old).size }
         ensures call { Called (is_ok result) (view_of self.old) (view_of self.new) }
         ensures writes { (view_of self.new).writes ≡ capped ((view_of self.old).writes + 1) }
-        ensures honest { IsHonest self.old → IsHonest self.new × Answered (view_of self.old) (view_of self.new)
-            × Wrote block from.now (is_ok result) (view_of self.old).state (view_of self.new).state }
+        ensures honest { IsHonest self.old
+            → IsHonest self.new × Answered (view_of self.old) (view_of self.new)
+                × Wrote block from.now (is_ok result) (view_of self.old).state
+                    (view_of self.new).state }
         ensures exact { IsExact true (is_ok result) (memory_of self.old) (memory_of self.new) }
-        ensures earlier { is_ok result ≡ false → (view_of self.new).state.reads ≡ (view_of self.old).state.reads }
-        ensures offers { Offers block from.now (is_refused (next_fate (memory_of self.old))) (view_of self.new).state.pending
-            (memory_of self.old).offered (memory_of self.new).offered }
+        ensures earlier { is_ok result ≡ false
+            → (view_of self.new).state.reads ≡ (view_of self.old).state.reads }
+        ensures offers { Offers block from.now (is_refused (next_fate (memory_of self.old)))
+            (view_of self.new).state.pending (memory_of self.old).offered
+            (memory_of self.new).offered }
     {
         self.past = self.past.then(&self.disk);
         self.writes = self.writes.saturating_add(1);
@@ -157,8 +169,9 @@ impl Board for MemBoard {
     fn sync(&mut self) -> Result<(), BoardFailed>
         ensures call { Called (is_ok result) (view_of self.old) (view_of self.new) }
         ensures writes { (view_of self.new).writes ≡ (view_of self.old).writes }
-        ensures honest { IsHonest self.old → IsHonest self.new × Answered (view_of self.old) (view_of self.new)
-            × Synced (is_ok result) (view_of self.old).state (view_of self.new).state }
+        ensures honest { IsHonest self.old
+            → IsHonest self.new × Answered (view_of self.old) (view_of self.new)
+                × Synced (is_ok result) (view_of self.old).state (view_of self.new).state }
         ensures exact { IsExact true (is_ok result) (memory_of self.old) (memory_of self.new) }
         ensures offered { (memory_of self.new).offered ≡ (memory_of self.old).offered }
     {
@@ -170,8 +183,9 @@ impl Board for MemBoard {
     fn counter(&mut self) -> Result<u64, BoardFailed>
         ensures call { Called (is_ok result) (view_of self.old) (view_of self.new) }
         ensures writes { (view_of self.new).writes ≡ (view_of self.old).writes }
-        ensures honest { IsHonest self.old → IsHonest self.new × Answered (view_of self.old) (view_of self.new)
-            × Counted result (view_of self.old).state (view_of self.new).state }
+        ensures honest { IsHonest self.old
+            → IsHonest self.new × Answered (view_of self.old) (view_of self.new)
+                × Counted result (view_of self.old).state (view_of self.new).state }
         ensures exact { IsExact true (is_ok result) (memory_of self.old) (memory_of self.new) }
         ensures value { IfOk result (λ n. n ≡ (view_of self.old).state.counter) }
         ensures offered { (memory_of self.new).offered ≡ (memory_of self.old).offered }
@@ -184,13 +198,17 @@ impl Board for MemBoard {
     fn advance(&mut self) -> Result<u64, BoardFailed>
         ensures call { Called (is_ok result) (view_of self.old) (view_of self.new) }
         ensures writes { (view_of self.new).writes ≡ (view_of self.old).writes }
-        ensures honest { IsHonest self.old → IsHonest self.new × Answered (view_of self.old) (view_of self.new)
-            × Advanced result (view_of self.old).state (view_of self.new).state }
-        ensures exact { IsExact (nat_lt (view_of self.old).state.counter (2 ^ 64 - 1)) (is_ok result)
-            (memory_of self.old) (memory_of self.new) }
+        ensures honest { IsHonest self.old
+            → IsHonest self.new × Answered (view_of self.old) (view_of self.new)
+                × Advanced result (view_of self.old).state (view_of self.new).state }
+        ensures exact { IsExact (nat_lt (view_of self.old).state.counter (2 ^ 64 - 1))
+            (is_ok result) (memory_of self.old) (memory_of self.new) }
         ensures value { IfOk result (λ n. n ≡ (view_of self.old).state.counter + 1) }
-        ensures unsettled { is_ok result ≡ false → (memory_of self.new).unsettled
-            ≡ (if is_interrupted (next_fate (memory_of self.old)) then true else (memory_of self.old).unsettled) }
+        ensures unsettled { is_ok result ≡ false
+            → (memory_of self.new).unsettled
+                ≡ (if is_interrupted (next_fate (memory_of self.old))
+                        then true
+                        else (memory_of self.old).unsettled) }
         ensures offered { (memory_of self.new).offered ≡ (memory_of self.old).offered }
     {
         self.past = self.past.then(&self.disk);
@@ -201,8 +219,9 @@ impl Board for MemBoard {
     fn fuse(&mut self, calls: u32)
         ensures ordered { Ordered calls (view_of self.old) (view_of self.new) }
         ensures fuse { (view_of self.new).fuse ≡ refitted (view_of self.old).fuse calls }
-        ensures honest { IsHonest self.old → IsHonest self.new × Passes (view_of self.old) (view_of self.new)
-            × Unchanged (view_of self.old).state (view_of self.new).state }
+        ensures honest { IsHonest self.old
+            → IsHonest self.new × Passes (view_of self.old) (view_of self.new)
+                × Unchanged (view_of self.old).state (view_of self.new).state }
         ensures exact { IsOrder (memory_of self.old) (memory_of self.new) }
     {
         self.past = self.past.then(&self.disk);
@@ -214,11 +233,14 @@ impl Board for MemBoard {
     fn power(&mut self, pick: u64)
         ensures ordered { Ordered pick (view_of self.old) (view_of self.new) }
         ensures fuse { (view_of self.new).fuse ≡ Unset }
-        ensures honest { IsHonest self.old → IsHonest self.new × Passes (view_of self.old) (view_of self.new)
-            × Powered (view_of self.old).state (view_of self.new).state }
+        ensures honest { IsHonest self.old
+            → IsHonest self.new × Passes (view_of self.old) (view_of self.new)
+                × Powered (view_of self.old).state (view_of self.new).state }
         ensures exact { IsOrder (memory_of self.old) (memory_of self.new) }
-        ensures image { (k : ℕ) → (view_of self.new).state.reads k ≡ image_after pick (memory_of self.old) k }
-        ensures counter { (view_of self.new).state.counter ≡ counter_after pick (memory_of self.old) }
+        ensures image { (k : ℕ)
+            → (view_of self.new).state.reads k ≡ image_after pick (memory_of self.old) k }
+        ensures counter { (view_of self.new).state.counter
+            ≡ counter_after pick (memory_of self.old) }
     {
         self.past = self.past.then(&self.disk);
         self.disk.power(pick);

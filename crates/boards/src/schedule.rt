@@ -18,7 +18,8 @@ pub struct Schedule {
 impl Schedule {
     /// Counts a call, and says what becomes of it.
     pub fn next(&mut self) -> Fate
-        ensures fate { result ≡ fate_of (is_named self.old.calls self.old.failing.items) (fate_by self.old.fuse) }
+        ensures fate { result
+            ≡ fate_of (is_named self.old.calls self.old.failing.items) (fate_by self.old.fuse) }
         ensures calls { self.new.calls ≡ capped (self.old.calls + 1) }
         ensures fuse { self.new.fuse ≡ burnt self.old.fuse }
         ensures failing { self.new.failing ≡ self.old.failing }

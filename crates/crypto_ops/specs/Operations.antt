@@ -1,5 +1,6 @@
 -- Cryptographic operations: what each is, and what each call answers and leaves (TEE Internal Core API 1.3, sections 6.2 to 6.6).
 use Rattle.std.specs.Prelude.{ℕ, ◌+◌, ◌*◌, ◌==◌, ◌&&◌, ◌||◌, ◌≡◌, ◌≤◌, ◌<◌, not, nat_lt, Bool, true, false, List, [], ◌++◌, length, drop, replicate, bit_and, Option, None, Some, is_none, Result, Ok, Err, is_ok, IsTrue, if◌then◌else◌}
+use Rattle.tee_base.specs.declared.limits.TheConstants.{ASK_BYTES}
 use Rattle.std.specs.Str.{bytes_eq}
 use Rattle.tee_base.specs.KeySizes.{size_fits}
 use Rattle.aes_modes.specs.declared.modes.Mode as modes
@@ -53,7 +54,7 @@ key_bits key = bits_of (key_bytes key)
 
 -- more bytes than a call may bring, or more room than it may offer
 abbrev pub is_too_much : ℕ → Bool
-is_too_much count = nat_lt 524288 count
+is_too_much count = nat_lt ASK_BYTES count
 
 -- no key, where the algorithm wants one
 abbrev pub lacks_key : CryptoOperation → Bool

@@ -1,6 +1,7 @@
 //! Ciphers: AES in ECB, CBC and CTR (TEE Internal Core API 1.3, section 6.4).
 
 ghost use Rattle.std.specs.Prelude.{◌≡◌, ◌+◌, ◌≤◌, ◌++◌, length, IfOk, IfErr, OnOk, OnErr, if◌then◌else◌};
+ghost use Rattle.tee_base.specs.declared.limits.TheConstants.{ASK_BYTES};
 ghost use Rattle.aes_modes.specs.Conversion.{Conversion, text_of, extended, needed_of, ends_within};
 ghost use Rattle.aes_modes.specs.Stream as streams;
 ghost use Rattle.crypto_ops.specs.Operations.{CryptoOperation, is_vector, first_vector, part_of, content_within, cipher_init_answer, cipher_begun, text_so_far, continued, cipher_update_answer, cipher_final_answer, restarted, after_ok, Answers, IsNoMemoryOrShort};
@@ -31,16 +32,17 @@ fn first_vector(mode: Mode, iv: &[u8]) -> Option<[u8; 16]>
 
 /// How many bytes the stream gives for so many more of its message.
 fn needed_for(stream: &Stream, count: usize) -> usize
-    requires { count ≤ 524288 }
-    ensures small { result ≤ 524288 }
-    ensures needed { (c : Conversion) → streams.Represents stream.now c → result ≡ needed_of c count }
+    requires { count ≤ ASK_BYTES }
+    ensures small { result ≤ ASK_BYTES }
+    ensures needed { (c : Conversion) → streams.Represents stream.now c
+        → result ≡ needed_of c count }
 {
     stream.needed(count).min(limits::ASK_BYTES as usize)
 }
 
 /// Whether the stream's message would end within a block that its mode needs whole.
 fn is_incomplete(stream: &Stream, bytes: &[u8]) -> bool
-    requires { length bytes.now ≤ 524288 }
+    requires { length bytes.now ≤ ASK_BYTES }
     ensures { (c : Conversion) → streams.Represents stream.now c
         → result ≡ ends_within c.mode (length c.message + length bytes.now) }
 {
@@ -50,7 +52,7 @@ fn is_incomplete(stream: &Stream, bytes: &[u8]) -> bool
 
 /// Memory for so many bytes, where there is room for them.
 fn memory_for(alloc: Global, needed: usize, room: u32) -> Result<Vec<u8>, OpAnswer>
-    requires { needed ≤ 524288 }
+    requires { needed ≤ ASK_BYTES }
     ensures ok { IfOk result (λ memory. (length memory.items ≡ needed) × (needed ≤ room)) }
     ensures err { IfErr result (λ answer. IsNoMemoryOrShort room needed answer) }
 {
@@ -65,9 +67,10 @@ fn memory_for(alloc: Global, needed: usize, room: u32) -> Result<Vec<u8>, OpAnsw
 
 /// Takes more bytes of the stream's message, and gives the next part of its text.
 fn converted(alloc: Global, stream: &mut Stream, bytes: &[u8], room: u32) -> Result<Bytes, OpAnswer>
-    requires { length bytes.now ≤ 524288 }
+    requires { length bytes.now ≤ ASK_BYTES }
     ensures answer { (c : Conversion) → streams.Represents stream.old c
-        → Answers result (content_within room (needed_of c (length bytes.now)) (part_of c bytes.now)) }
+        → Answers result
+            (content_within room (needed_of c (length bytes.now)) (part_of c bytes.now)) }
     ensures joined { (c : Conversion) → streams.Represents stream.old c
         → IfOk result (λ part. text_of (extended c bytes.now) ≡ text_of c ++ part) }
     ensures taken { (c : Conversion) → streams.Represents stream.old c
@@ -90,7 +93,8 @@ impl Operation {
     ///
     /// Misuse exactly where it is no cipher, has no key, or the vector isn't one for the mode; nothing changes.
     pub fn cipher_init(&mut self, iv: &[u8]) -> Result<(), OpAnswer>
-        ensures answer { (op : CryptoOperation) → Represents self.old op → result ≡ cipher_init_answer op iv.now }
+        ensures answer { (op : CryptoOperation) → Represents self.old op
+            → result ≡ cipher_init_answer op iv.now }
         ensures after { (op : CryptoOperation) → Represents self.old op
             → Represents self.new (after_ok result op (cipher_begun op iv.now)) }
     {

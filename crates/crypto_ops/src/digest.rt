@@ -21,7 +21,8 @@ impl Operation {
     ///
     /// Misuse exactly where the bytes are above 524,288 or it is no digest; nothing changes.
     pub fn digest_update(&mut self, bytes: &[u8]) -> Result<(), OpAnswer>
-        ensures answer { (op : CryptoOperation) → Represents self.old op → result ≡ digest_update_answer op bytes.now }
+        ensures answer { (op : CryptoOperation) → Represents self.old op
+            → result ≡ digest_update_answer op bytes.now }
         ensures after { (op : CryptoOperation) → Represents self.old op
             → Represents self.new (after_ok result op (continued op bytes.now)) }
     {
@@ -72,7 +73,8 @@ impl Operation {
 
     /// A digester that has taken the message so far.
     fn digester(&self, hash: Hash) -> Digester
-        ensures { (op : CryptoOperation) → Represents self.now op → op.algorithm ≡ Algorithm.Digest hash
+        ensures { (op : CryptoOperation) → Represents self.now op
+            → op.algorithm ≡ Algorithm.Digest hash
             → HoldsMessage result hash (message_of op.progress) }
     {
         match &self.state {

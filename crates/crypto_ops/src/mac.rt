@@ -29,7 +29,8 @@ impl Operation {
     ///
     /// Misuse exactly where it is no authentication code or has no key; nothing changes.
     pub fn mac_init(&mut self) -> Result<(), OpAnswer>
-        ensures answer { (op : CryptoOperation) → Represents self.old op → result ≡ mac_init_answer op }
+        ensures answer { (op : CryptoOperation) → Represents self.old op
+            → result ≡ mac_init_answer op }
         ensures after { (op : CryptoOperation) → Represents self.old op
             → Represents self.new (after_ok result op (mac_begun op)) }
     {
@@ -49,7 +50,8 @@ impl Operation {
     ///
     /// Misuse exactly where the bytes are above 524,288, it is no authentication code or not active; nothing changes.
     pub fn mac_update(&mut self, bytes: &[u8]) -> Result<(), OpAnswer>
-        ensures answer { (op : CryptoOperation) → Represents self.old op → result ≡ mac_update_answer op bytes.now }
+        ensures answer { (op : CryptoOperation) → Represents self.old op
+            → result ≡ mac_update_answer op bytes.now }
         ensures after { (op : CryptoOperation) → Represents self.old op
             → Represents self.new (after_ok result op (continued op bytes.now)) }
     {
@@ -100,7 +102,8 @@ impl Operation {
     pub fn mac_compare(&mut self, bytes: &[u8], mac: &[u8]) -> Result<(), OpAnswer>
         ensures answer { (op : CryptoOperation) → Represents self.old op
             → result ≡ mac_compare_answer op bytes.now mac.now }
-        ensures after { (op : CryptoOperation) → Represents self.old op → Represents self.new (compared result op) }
+        ensures after { (op : CryptoOperation) → Represents self.old op
+            → Represents self.new (compared result op) }
     {
         if is_too_much(bytes.len()) || is_too_much(mac.len()) {
             return Err(OpAnswer::Misuse);

@@ -96,7 +96,8 @@ impl Operation {
     ///
     /// Misuse exactly where the algorithm wants a key and there is none; nothing changes.
     pub fn reset(&mut self) -> Result<(), OpAnswer>
-        ensures answer { (op : CryptoOperation) → Represents self.old op → result ≡ reset_answer op }
+        ensures answer { (op : CryptoOperation) → Represents self.old op
+            → result ≡ reset_answer op }
         ensures after { (op : CryptoOperation) → Represents self.old op
             → Represents self.new (after_ok result op (restarted op)) }
     {
@@ -114,7 +115,8 @@ impl Operation {
     /// Misuse exactly where it is a digest or active, the kind is another, the size doesn't fit the kind or is above
     /// the greatest, or the usage isn't that which the mode needs; nothing changes.
     pub fn set_key(&mut self, kind: u32, usage: u32, secret: &[u8]) -> Result<(), OpAnswer>
-        ensures answer { (op : CryptoOperation) → Represents self.old op → result ≡ set_key_answer op kind usage secret.now }
+        ensures answer { (op : CryptoOperation) → Represents self.old op
+            → result ≡ set_key_answer op kind usage secret.now }
         ensures after { (op : CryptoOperation) → Represents self.old op
             → Represents self.new (after_ok result op (keyed op secret.now)) }
     {
@@ -135,7 +137,8 @@ impl Operation {
     ///
     /// Misuse exactly where it is a digest or active; nothing changes.
     pub fn clear_key(&mut self) -> Result<(), OpAnswer>
-        ensures answer { (op : CryptoOperation) → Represents self.old op → result ≡ clear_key_answer op }
+        ensures answer { (op : CryptoOperation) → Represents self.old op
+            → result ≡ clear_key_answer op }
         ensures after { (op : CryptoOperation) → Represents self.old op
             → Represents self.new (after_ok result op (unkeyed op)) }
     {
@@ -160,9 +163,10 @@ impl Operation {
     ///
     /// Misuse exactly where algorithm or mode differ, or the other's key is above the greatest size; nothing changes.
     pub fn copy_from(&mut self, from: &Operation) -> Result<(), OpAnswer>
-        ensures answer { (to other : CryptoOperation) → Represents self.old to → Represents from.now other
-            → result ≡ copy_answer to other }
-        ensures after { (to other : CryptoOperation) → Represents self.old to → Represents from.now other
+        ensures answer { (to other : CryptoOperation) → Represents self.old to
+            → Represents from.now other → result ≡ copy_answer to other }
+        ensures after { (to other : CryptoOperation) → Represents self.old to
+            → Represents from.now other
             → Represents self.new (after_ok result to (copied to other)) }
     {
         if !is_same(self.algorithm, from.algorithm) || from.key_bits() > self.max_bits {

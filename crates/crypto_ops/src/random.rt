@@ -44,7 +44,8 @@ impl Stream {
     /// Want of memory takes no word.
     pub fn take(&mut self, alloc: Global, count: u32) -> Result<Bytes, NoMemory>
         ensures bytes { IfOk result (λ bytes. bytes ≡ random_from self.old count) }
-        ensures of_seed { (seed : List ℕ) (application boot place : ℕ) → self.old ≡ stream_at seed application boot place
+        ensures of_seed { (seed : List ℕ) (application boot place : ℕ)
+            → self.old ≡ stream_at seed application boot place
             → IfOk result (λ bytes. bytes ≡ random seed application boot place count) }
         ensures moved { OnOk result (self.new ≡ moved self.old count) }
         ensures unchanged { OnErr result (self.new ≡ self.old) }

@@ -47,7 +47,11 @@ pub fn flags_at(handles: &[Entry], instance: u8, number: u32) -> Option<Flags>
 /// Adds a handle under the lowest free number of its instance.
 pub fn add(handles: &mut Vec<Entry>, instance: u8, handle: Handle) -> Result<u32, NoMemory>
     requires { count_by (is_of instance) handles.old.items ≤ 16 }
-    ensures ok { IfOk result (λ n. (n ≡ free_number handles.old.items instance) × (handles.new.items ≡ handles.old.items ++ record { instance = instance; number = n; handle = handle } ∷ [])) }
+    ensures ok { IfOk result (λ n.
+            (n ≡ free_number handles.old.items instance)
+            × (handles.new.items
+                    ≡ handles.old.items
+                        ++ record { instance = instance; number = n; handle = handle } ∷ [])) }
     ensures unchanged { OnErr result (handles.new.items ≡ handles.old.items) }
 {
     let number = free_number(handles.as_slice(), instance);
@@ -61,7 +65,8 @@ pub fn add(handles: &mut Vec<Entry>, instance: u8, handle: Handle) -> Result<u32
 
 /// Sets where the handle's next read or write begins.
 pub fn seek(handles: &mut Vec<Entry>, instance: u8, number: u32, position: u32)
-    ensures { handles.new.items ≡ change_first (is_at instance number) (entry_sought position) handles.old.items }
+    ensures { handles.new.items
+        ≡ change_first (is_at instance number) (entry_sought position) handles.old.items }
 {
     if let Some(place) = place_of(handles.as_slice(), instance, number) {
         handles[place].handle.seek(position);
@@ -71,7 +76,8 @@ pub fn seek(handles: &mut Vec<Entry>, instance: u8, number: u32, position: u32)
 /// Puts the handle on the object of another identifier, and hands back the identifier and the flags that it had.
 pub fn move_to(handles: &mut Vec<Entry>, instance: u8, number: u32, to: Bytes) -> Option<Share>
     ensures before { result ≡ share_at handles.old.items instance number }
-    ensures after { handles.new.items ≡ change_first (is_at instance number) (entry_moved to) handles.old.items }
+    ensures after { handles.new.items
+        ≡ change_first (is_at instance number) (entry_moved to) handles.old.items }
 {
     let place = place_of(handles.as_slice(), instance, number)?;
     handles[place].handle.move_to(to)
@@ -112,7 +118,8 @@ pub fn note_rename(
     handles: &[Entry],
     rename: &Rename,
 ) -> Result<(), NoMemory>
-    ensures noted { OnOk result (HoldsFor shares.new (shares.old ++ option_to_list (pending_share (Some rename.now) handles.now))) }
+    ensures noted { OnOk result (HoldsFor shares.new
+            (shares.old ++ option_to_list (pending_share (Some rename.now) handles.now))) }
     ensures unchanged { OnErr result (shares.new ≡ shares.old) }
 {
     let Some(flags) = flags_at(handles, rename.instance, rename.number) else {
@@ -123,7 +130,8 @@ pub fn note_rename(
 
 /// Ends a rename: where it took, the handle is on the new identifier. One of the two that are noted is forgotten.
 pub fn end_rename(handles: &mut Vec<Entry>, shares: &mut ShareIndex, rename: Rename, took: bool)
-    requires { HoldsFor shares.old (shares_of handles.old.items ++ option_to_list (pending_share (Some rename) handles.old.items)) }
+    requires { HoldsFor shares.old (shares_of handles.old.items
+            ++ option_to_list (pending_share (Some rename) handles.old.items)) }
     ensures handles { handles.new.items ≡ ended_by (Some rename) handles.old.items took }
     ensures shares { HoldsFor shares.new (shares_of handles.new.items) }
 {

@@ -37,7 +37,10 @@ pub fn free_instance(slots: &[Slot]) -> u8
 /// Adds the instance that an open was admitted to, where it is new.
 pub fn add_instance(slots: &mut ArrayVec<Slot, 4>, admission: Admission)
     requires { admission.new_instance ≡ true → length slots.old.items < INSTANCES }
-    ensures { slots.new.items ≡ (if admission.new_instance then slots.old.items ++ record { number = admission.instance; ending = false } ∷ [] else slots.old.items) }
+    ensures { slots.new.items
+        ≡ (if admission.new_instance
+                then slots.old.items ++ record { number = admission.instance; ending = false } ∷ []
+                else slots.old.items) }
 {
     if admission.new_instance {
         slots.push(Slot {
@@ -112,7 +115,8 @@ pub fn without_slot(slots: &[Slot], instance: u8) -> ArrayVec<Slot, 4>
 /// The sessions once the instance has ended.
 pub fn after_end(sessions: &[Session], instance: u8) -> ArrayVec<Session, 8>
     requires { length sessions.now ≤ SESSIONS }
-    ensures { result.items ≡ map (killed instance) (filter (stays_after_end instance) sessions.now) }
+    ensures { result.items
+        ≡ map (killed instance) (filter (stays_after_end instance) sessions.now) }
 {
     let mut after = ArrayVec::<Session, 8>::new();
     for session in sessions {

@@ -48,12 +48,12 @@ impl Mac {
 
     /// The code of the message. The value is then as at its start.
     pub fn finish(&mut self) -> Tag
-        ensures code { (hash : Hash) (key message : List ℕ) → HoldsKeyedMessage self.old hash key message
-            → result ≡ hmac_of hash key message }
-        ensures length { (hash : Hash) (key message : List ℕ) → HoldsKeyedMessage self.old hash key message
-            → length result ≡ digest_len hash }
-        ensures started { (hash : Hash) (key message : List ℕ) → HoldsKeyedMessage self.old hash key message
-            → HoldsKeyedMessage self.new hash key [] }
+        ensures code { (hash : Hash) (key message : List ℕ)
+            → HoldsKeyedMessage self.old hash key message → result ≡ hmac_of hash key message }
+        ensures length { (hash : Hash) (key message : List ℕ)
+            → HoldsKeyedMessage self.old hash key message → length result ≡ digest_len hash }
+        ensures started { (hash : Hash) (key message : List ℕ)
+            → HoldsKeyedMessage self.old hash key message → HoldsKeyedMessage self.new hash key [] }
     {
         let inner_digest = self.inner.finish();
         self.inner = self.inner_start.copied();
@@ -65,10 +65,11 @@ impl Mac {
     /// Whether these are the bytes of the message's code, all of them and no more. It looks at every
     /// byte before it answers. The value is then as at its start.
     pub fn compare(&mut self, tag: &[u8]) -> bool
-        ensures same { (hash : Hash) (key message : List ℕ) → HoldsKeyedMessage self.old hash key message
+        ensures same { (hash : Hash) (key message : List ℕ)
+            → HoldsKeyedMessage self.old hash key message
             → (IsTrue result ↔ (tag.now ≡ hmac_of hash key message)) }
-        ensures started { (hash : Hash) (key message : List ℕ) → HoldsKeyedMessage self.old hash key message
-            → HoldsKeyedMessage self.new hash key [] }
+        ensures started { (hash : Hash) (key message : List ℕ)
+            → HoldsKeyedMessage self.old hash key message → HoldsKeyedMessage self.new hash key [] }
     {
         let expected = self.finish();
         is_same(tag, expected.as_slice())

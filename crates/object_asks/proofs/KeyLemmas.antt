@@ -10,7 +10,7 @@ use Rattle.object_asks.specs.declared.lending.KeyFound.{KeyFound}
 use Rattle.object_asks.specs.declared.lending.KeyFound.TheVariants as finds
 use Rattle.object_asks.specs.declared.lending.KeyServed.{KeyServed}
 use Rattle.object_asks.specs.declared.turn.TurnKind.TheVariants.{Plain}
-use Rattle.object_asks.specs.Codes.{storage_not_available}
+use Rattle.tee_base.specs.declared.codes.TheConstants.Code.{STORAGE_NOT_AVAILABLE}
 use Rattle.object_asks.specs.Courses.{Serves, code_of}
 use Rattle.object_asks.specs.KeyOf.{IsKeyServed, KeyComesToStore, KeyCourse, KeySettled, TellsKey, found_by, key_came_of, key_plainly, key_told}
 use Rattle.object_asks.specs.Serving.{EndsUnchanged, HasStatus, IsKept, StaysBeside, kind_of}
@@ -22,7 +22,7 @@ use Rattle.object_asks.proofs.ServingLemmas.{by_nothing, stays}
 serves : (lost : Bool) (plain : KeyFound) → lost ≡ false → key_came_of Serves lost (KeyComesToStore plain) ≡ plain
 serves lost plain e = rw e refl
 
-keeps : (lost : Bool) (plain : KeyFound) → lost ≡ true → key_came_of Serves lost (KeyComesToStore plain) ≡ finds.Refused storage_not_available
+keeps : (lost : Bool) (plain : KeyFound) → lost ≡ true → key_came_of Serves lost (KeyComesToStore plain) ≡ finds.Refused STORAGE_NOT_AVAILABLE
 keeps lost plain e = rw e refl
 
 abbrev told_as : StoreAnswer → KeyServed

@@ -12,7 +12,7 @@ use Rattle.object_asks.specs.Held.{Held}
 use Rattle.object_asks.specs.declared.turn.TurnKind.{TurnKind}
 use Rattle.object_asks.specs.declared.turn.TurnKind.TheVariants.{Plain}
 use Rattle.object_asks.specs.Asks.{Outcome, Answered, Panicked, Course, Settled, ComesToStore, Objects, came_of, code_of, holding, outcome_in, refused, Serves, without_store}
-use Rattle.object_asks.specs.Codes.{storage_not_available}
+use Rattle.tee_base.specs.declared.codes.TheConstants.Code.{STORAGE_NOT_AVAILABLE}
 use Rattle.object_asks.specs.declared.outcome.Outcome.{Outcome as Result_of}
 use Rattle.object_asks.specs.declared.outcome.Outcome.TheVariants as outcomes
 use Rattle.object_asks.specs.declared.outcome.Served.{Served}
@@ -23,7 +23,7 @@ use Rattle.object_asks.proofs.Crashes.{idle_crash, idle_keeps}
 serves : (lost : Bool) (s : Objects) (plain : Outcome Objects) → lost ≡ false → came_of Serves lost (ComesToStore s plain) ≡ plain
 serves lost s plain e = rw e refl
 
-keeps : (lost : Bool) (s : Objects) (plain : Outcome Objects) → lost ≡ true → came_of Serves lost (ComesToStore s plain) ≡ refused s storage_not_available
+keeps : (lost : Bool) (s : Objects) (plain : Outcome Objects) → lost ≡ true → came_of Serves lost (ComesToStore s plain) ≡ refused s STORAGE_NOT_AVAILABLE
 keeps lost s plain e = rw e refl
 
 pub stays : (s : Status) → HasStatus Plain s s
@@ -105,7 +105,7 @@ module _ {D : Type 0} (K : Keeper D) where
   told_served (Err stores.Lost) plain changes held kept left old new given =
       let met : HasCause (Err stores.Lost) (K.status old) (K.status new) = given.cause (λ e. let f : (Err stores.Lost) ≡ Err stores.NoMemory = e in cc) in
       record {
-        outcome = λ t. keeps (K.status old).lost _ plain met.cause.0 ∙ ap (λ s. refused s storage_not_available) (sym (given.gives t));
+        outcome = λ t. keeps (K.status old).lost _ plain met.cause.0 ∙ ap (λ s. refused s STORAGE_NOT_AVAILABLE) (sym (given.gives t));
         ends = tt;
         reaches = λ t. tt;
         change = tt;
@@ -118,7 +118,7 @@ module _ {D : Type 0} (K : Keeper D) where
   told_served (Err stores.Failed) plain changes held kept left old new given =
       let met : HasCause (Err stores.Failed) (K.status old) (K.status new) = given.cause (λ e. let f : (Err stores.Failed) ≡ Err stores.NoMemory = e in cc) in
       record {
-        outcome = λ t. ap (λ s. refused s storage_not_available) (sym (given.gives t));
+        outcome = λ t. ap (λ s. refused s STORAGE_NOT_AVAILABLE) (sym (given.gives t));
         ends = tt;
         reaches = λ t. refl;
         change = refl;

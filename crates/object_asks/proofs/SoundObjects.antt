@@ -24,7 +24,7 @@ use Rattle.handle_table.specs.declared.handle.Handle.{Handle}
 use Rattle.handle_table.specs.declared.handle.Handle.TheVariants.{Persistent, Transient}
 use Rattle.handle_table.specs.Handles.{change_first, entry_is_on, entry_moved, free_number, handle_at, is_at, is_full, is_of, is_on, is_open, is_there, may_open}
 use Rattle.object_asks.specs.Asks.{Course, Objects, close_course, create_course, created, created_by, created_with, delete_course, delete_on, deleted_by, has_unknown_bits, holding, info_course, is_long_identifier, is_too_much, kept_flags, key_info, landed, landed_on, moved_by, moved_from_end, moved_to, numbered, open_course, opened_by, overwrites, private_storage, put_of, read_by, read_course, refused, rename_course, renamed, renamed_by, seek_course, told_of_object, truncate_course, truncated_by, write_course, written_by}
-use Rattle.object_asks.specs.Codes.{access_conflict}
+use Rattle.tee_base.specs.declared.codes.TheConstants.Code.{ACCESS_CONFLICT}
 use Rattle.object_asks.specs.Handles.{settled}
 use Rattle.object_asks.specs.Held.{BelongTogether, handle_added, handle_closed, instance_closed, is_meta_writer, key_at, nothing_held, ones_on, writes_meta_on}
 use Rattle.object_asks.specs.Sources.{attr_source, is_no_key, key_given}
@@ -134,7 +134,7 @@ open_sound o i storage id flags sound =
     turn (is_full (settled o.held.handles) i) _ _ sound (λ _. (
       sound,
       found_there o.store (object_at o.store id) id (λ r. Leaves AreSound (opened_by o i id (kept_flags flags) r))
-          (λ there facts. cond_both (may_open (settled o.held.handles) id (kept_flags flags)) (numbered o i id (kept_flags flags)) (refused o access_conflict) (Leaves AreSound) (λ may. numbered_sound o i id (kept_flags flags) there may sound) (λ _. sound))
+          (λ there facts. cond_both (may_open (settled o.held.handles) id (kept_flags flags)) (numbered o i id (kept_flags flags)) (refused o ACCESS_CONFLICT) (Leaves AreSound) (λ may. numbered_sound o i id (kept_flags flags) there may sound) (λ _. sound))
           (λ answer. sound),
     ))))
 
@@ -144,7 +144,7 @@ created_by_sound o i id flags (Err answer) gains may sound = sound
 
 created_sound : (o : Objects) (i : ℕ) (id : List ℕ) (flags : ℕ) (content : List ℕ) (key : ObjectKey) → AreSound o → Leaves AreSound (created o i id flags content key)
 created_sound o i id flags content key sound =
-    cond_both (is_open (settled o.held.handles) id) (refused o access_conflict) (created_by o i id (kept_flags flags) (change o.store (put_of id key content (overwrites flags)))) (Leaves AreSound) (λ _. sound)
+    cond_both (is_open (settled o.held.handles) id) (refused o ACCESS_CONFLICT) (created_by o i id (kept_flags flags) (change o.store (put_of id key content (overwrites flags)))) (Leaves AreSound) (λ _. sound)
     (λ none. created_by_sound o i id (kept_flags flags) (change o.store (put_of id key content (overwrites flags))) (put_gains o.store id key content (overwrites flags)) (closed_opens o.held.handles id (kept_flags flags) none) sound)
 
 created_with_sound : (o : Objects) (i : ℕ) (id : List ℕ) (flags : ℕ) (content : List ℕ) (r : Result ObjectKey StoreAnswer) → AreSound o → Leaves AreSound (created_with o i id flags content r)
@@ -342,7 +342,7 @@ renamed_by_sound o i object id to (Err answer) w free moves sound = sound
 
 renamed_sound : (o : Objects) (i object : ℕ) (id to : List ℕ) → Writes o.held.handles i object id → AreSound o → Leaves AreSound (renamed o i object id to)
 renamed_sound o i object id to w sound =
-    cond_both (is_open (settled o.held.handles) to) (refused o access_conflict) (renamed_by o i object to (change o.store (Rename id to))) (Leaves AreSound) (λ _. sound)
+    cond_both (is_open (settled o.held.handles) to) (refused o ACCESS_CONFLICT) (renamed_by o i object to (change o.store (Rename id to))) (Leaves AreSound) (λ _. sound)
     (λ free. renamed_by_sound o i object id to (change o.store (Rename id to)) w free (moves_by (change o.store (Rename id to)) o.store id to (rename_there o.store id to) (leaves_others o.store (Rename id to))) sound)
 
 pub rename_sound : (o : Objects) (i object : ℕ) (to : List ℕ) (h : Option Handle) → handle_at (settled o.held.handles) i object ≡ h → AreSound o → Goes AreSound (rename_course o i object to h)

@@ -19,7 +19,7 @@ use Rattle.handle_table.specs.declared.handle.Handle.{Handle}
 use Rattle.handle_table.specs.declared.handle.Handle.TheVariants.{Persistent, Transient}
 use Rattle.handle_table.specs.Handles.{free_number, handle_at, is_full, is_open, is_there, may_open}
 use Rattle.object_asks.specs.declared.source.KeySource.{KeySource}
-use Rattle.object_asks.specs.Codes.{item_not_found, access_conflict, busy, overflow}
+use Rattle.tee_base.specs.declared.codes.TheConstants.Code.{ITEM_NOT_FOUND, ACCESS_CONFLICT, BUSY, OVERFLOW}
 use Rattle.object_asks.specs.Handles.{settled}
 use Rattle.object_asks.specs.Held.{handle_added, handle_closed, handle_renamed, handle_sought, key_at, secret_bits, transient_at, walk_at}
 use Rattle.object_asks.specs.Keys.{copy_course, new_key, populate_on, reset_key, restrict_on, secret_course}
@@ -63,13 +63,13 @@ numbered o i id flags = Answered (holding o (handle_added o.held i id flags)) (a
 abbrev pub opened_by : Objects → ℕ → List ℕ → Flags → Result Facts StoreAnswer → Outcome Objects
 opened_by o i id flags (Err answer) = refused o (code_of answer)
 opened_by o i id flags (Ok facts) =
-    if may_open (settled o.held.handles) id flags then numbered o i id flags else refused o access_conflict
+    if may_open (settled o.held.handles) id flags then numbered o i id flags else refused o ACCESS_CONFLICT
 
 abbrev pub open_course : Objects → ℕ → ℕ → List ℕ → ℕ → Course Objects
 open_course o i storage id flags =
     if is_long_identifier id || has_unknown_bits flags then Settled Panicked
-    else if not (storage == private_storage) then Settled (refused o item_not_found)
-    else if is_full (settled o.held.handles) i then Settled (refused o busy)
+    else if not (storage == private_storage) then Settled (refused o ITEM_NOT_FOUND)
+    else if is_full (settled o.held.handles) i then Settled (refused o BUSY)
     else ComesToStore o (opened_by o i id (kept_flags flags) (found o.store id))
 
 -- a new object with what a key object gives
@@ -83,7 +83,7 @@ created_by o i id flags (Ok store) = numbered (over_store o store) i id flags
 
 abbrev pub created : Objects → ℕ → List ℕ → ℕ → List ℕ → ObjectKey → Outcome Objects
 created o i id flags content key =
-    if is_open (settled o.held.handles) id then refused o access_conflict
+    if is_open (settled o.held.handles) id then refused o ACCESS_CONFLICT
     else created_by o i id (kept_flags flags) (change o.store (put_of id key content (overwrites flags)))
 
 abbrev pub created_with : Objects → ℕ → List ℕ → ℕ → List ℕ → Result ObjectKey StoreAnswer → Outcome Objects
@@ -93,8 +93,8 @@ created_with o i id flags content (Ok key) = created o i id flags content key
 abbrev pub create_by : Objects → ℕ → ℕ → List ℕ → ℕ → List ℕ → KeySource → Course Objects
 create_by o i storage id flags content source =
     if is_long_identifier id || is_too_much (length content) || has_unknown_bits flags || is_no_key source then Settled Panicked
-    else if not (storage == private_storage) then Settled (refused o item_not_found)
-    else if is_full (settled o.held.handles) i then Settled (refused o busy)
+    else if not (storage == private_storage) then Settled (refused o ITEM_NOT_FOUND)
+    else if is_full (settled o.held.handles) i then Settled (refused o BUSY)
     else ComesToStore o (created_with o i id flags content (key_given o.store source))
 
 abbrev pub create_course : Objects → ℕ → ℕ → List ℕ → ℕ → ℕ → List ℕ → Course Objects
@@ -131,7 +131,7 @@ renamed_by o i object to (Ok store) = done (record { store = store; held = handl
 
 abbrev pub renamed : Objects → ℕ → ℕ → List ℕ → List ℕ → Outcome Objects
 renamed o i object id to =
-    if is_open (settled o.held.handles) to then refused o access_conflict
+    if is_open (settled o.held.handles) to then refused o ACCESS_CONFLICT
     else renamed_by o i object to (change o.store (Rename id to))
 
 abbrev pub rename_course : Objects → ℕ → ℕ → List ℕ → Option Handle → Course Objects
@@ -158,7 +158,7 @@ info_course o i object (Some (Persistent id flags position)) = ComesToStore o (t
 
 -- the handle goes on from here; a position stays within 32 bits, and no object reaches so far
 abbrev pub moved_to : Objects → ℕ → ℕ → ℕ → Objects
-moved_to o i object position = holding o (handle_sought o.held i object (min position 4294967295))
+moved_to o i object position = holding o (handle_sought o.held i object (min position POSITION))
 
 -- ObjRead: the bytes from the position on, and the handle stands behind them
 abbrev pub read_by : Objects → ℕ → ℕ → ℕ → Result (List ℕ) StoreAnswer → Outcome Objects
@@ -184,7 +184,7 @@ write_course o i object bytes (Some Transient) = Settled Panicked
 write_course o i object bytes (Some (Persistent id flags position)) =
     if is_too_much (length bytes) || not (has_bit access_write flags) then Settled Panicked
     else if length bytes == 0 then Settled (done o)
-    else if nat_lt 4294967295 (position + length bytes) then Settled (refused o overflow)
+    else if nat_lt POSITION (position + length bytes) then Settled (refused o OVERFLOW)
     else ComesToStore o (written_by o i object (position + length bytes) (change o.store (Write id position bytes)))
 
 -- ObjTruncate: extended by zeros; positions stay
@@ -205,7 +205,7 @@ landed (pos n) = if nat_lt POSITION n then None else Some n
 landed (negsuc n) = Some 0
 
 abbrev pub landed_on : Objects → ℕ → ℕ → Option ℕ → Outcome Objects
-landed_on o i object None = refused o overflow
+landed_on o i object None = refused o OVERFLOW
 landed_on o i object (Some to) = done (moved_to o i object to)
 
 abbrev pub moved_by : Objects → ℕ → ℕ → ℕ → ℤ → Outcome Objects

@@ -1,5 +1,6 @@
 -- How an ask goes, and what comes of it: what the definitions of asks have in common.
 use Rattle.std.specs.Prelude.{ℕ, ◌==◌, nat_lt, bit_and, Bool, true, false, not, List, length, if◌then◌else◌}
+use Rattle.tee_base.specs.declared.limits.TheConstants.{ASK_BYTES, IDENTIFIER_BYTES}
 use Rattle.tee_base.specs.declared.codes.Code.{Code}
 use Rattle.tee_base.specs.declared.codes.Flags.{Flags}
 use Rattle.app_api.specs.declared.ask.Answer.{Answer}
@@ -9,7 +10,7 @@ use Rattle.share_rules.specs.Sharing.{has as has_bit}
 use Rattle.store_api.specs.declared.answer.StoreAnswer.{StoreAnswer}
 use Rattle.store_api.specs.declared.answer.StoreAnswer.TheVariants as stores
 use Rattle.store_api.specs.Stores.{Store}
-use Rattle.object_asks.specs.Codes.{item_not_found, access_conflict, storage_no_space, storage_not_available, corrupt_object, out_of_memory}
+use Rattle.tee_base.specs.declared.codes.TheConstants.Code.{ITEM_NOT_FOUND, ACCESS_CONFLICT, STORAGE_NO_SPACE, STORAGE_NOT_AVAILABLE, CORRUPT_OBJECT, OUT_OF_MEMORY}
 use Rattle.object_asks.specs.Held.{Held}
 
 -- what comes of an ask: an answer, with what it leaves; the return of the entry; or a panic
@@ -69,19 +70,19 @@ pub data Serving : Type 0 where
 -- what comes of a course
 abbrev pub came_of : {S : Type 0} → Serving → Bool → Course S → Outcome S
 came_of serving lost (Settled outcome) = outcome
-came_of Serves lost (ComesToStore refused_ plain) = if lost then refused refused_ storage_not_available else plain
-came_of Fails lost (ComesToStore refused_ plain) = refused refused_ storage_not_available
-came_of Damaged lost (ComesToStore refused_ plain) = refused refused_ corrupt_object
+came_of Serves lost (ComesToStore refused_ plain) = if lost then refused refused_ STORAGE_NOT_AVAILABLE else plain
+came_of Fails lost (ComesToStore refused_ plain) = refused refused_ STORAGE_NOT_AVAILABLE
+came_of Damaged lost (ComesToStore refused_ plain) = refused refused_ CORRUPT_OBJECT
 
 -- ---- limits and flags
 
 -- more than 64 bytes
 abbrev pub is_long_identifier : List ℕ → Bool
-is_long_identifier id = nat_lt 64 (length id)
+is_long_identifier id = nat_lt IDENTIFIER_BYTES (length id)
 
 -- more than an ask may bring or want
 abbrev pub is_too_much : ℕ → Bool
-is_too_much count = nat_lt 524288 count
+is_too_much count = nat_lt ASK_BYTES count
 
 -- the one storage that there is
 abbrev pub private_storage : ℕ
@@ -100,11 +101,11 @@ kept_flags flags = record { 0 = bit_and flags 55 }
 
 -- how an application is told what a store answers in place of a result
 abbrev pub code_of : StoreAnswer → Code
-code_of stores.NotFound = item_not_found
-code_of stores.Exists = access_conflict
-code_of stores.NoSpace = storage_no_space
-code_of stores.Lost = storage_not_available
-code_of stores.Failed = storage_not_available
-code_of (stores.Corrupt tags) = corrupt_object
-code_of (stores.Garbled leaf) = corrupt_object
-code_of stores.NoMemory = out_of_memory
+code_of stores.NotFound = ITEM_NOT_FOUND
+code_of stores.Exists = ACCESS_CONFLICT
+code_of stores.NoSpace = STORAGE_NO_SPACE
+code_of stores.Lost = STORAGE_NOT_AVAILABLE
+code_of stores.Failed = STORAGE_NOT_AVAILABLE
+code_of (stores.Corrupt tags) = CORRUPT_OBJECT
+code_of (stores.Garbled leaf) = CORRUPT_OBJECT
+code_of stores.NoMemory = OUT_OF_MEMORY

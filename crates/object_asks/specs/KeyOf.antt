@@ -12,7 +12,7 @@ use Rattle.object_asks.specs.declared.lending.KeyFound.{KeyFound}
 use Rattle.object_asks.specs.declared.lending.KeyFound.TheVariants as finds
 use Rattle.object_asks.specs.declared.lending.KeyServed.{KeyServed}
 use Rattle.object_asks.specs.declared.turn.TurnKind.TheVariants.{Plain}
-use Rattle.object_asks.specs.Codes.{corrupt_object, storage_not_available}
+use Rattle.tee_base.specs.declared.codes.TheConstants.Code.{CORRUPT_OBJECT, STORAGE_NOT_AVAILABLE}
 use Rattle.object_asks.specs.Courses.{Objects, Serving, Serves, Fails, Damaged, code_of}
 use Rattle.object_asks.specs.Serving.{EndsUnchanged, HasStatus, IsKept, IsUndamaged, Meets, SaysChange, ShowsDamage, kind_of, serving_of}
 use Rattle.object_asks.specs.Sources.{key_source, stored_key}
@@ -43,9 +43,9 @@ key_comes_to_store (KeyComesToStore plain) = true
 -- what comes of it
 abbrev pub key_came_of : Serving → Bool → KeyCourse → KeyFound
 key_came_of serving lost (KeySettled found) = found
-key_came_of Serves lost (KeyComesToStore plain) = if lost then finds.Refused storage_not_available else plain
-key_came_of Fails lost (KeyComesToStore plain) = finds.Refused storage_not_available
-key_came_of Damaged lost (KeyComesToStore plain) = finds.Refused corrupt_object
+key_came_of Serves lost (KeyComesToStore plain) = if lost then finds.Refused STORAGE_NOT_AVAILABLE else plain
+key_came_of Fails lost (KeyComesToStore plain) = finds.Refused STORAGE_NOT_AVAILABLE
+key_came_of Damaged lost (KeyComesToStore plain) = finds.Refused CORRUPT_OBJECT
 
 abbrev pub key_plainly : KeyFound → KeyServed
 key_plainly found = record { kind = Plain; found = found }

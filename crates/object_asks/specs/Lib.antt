@@ -1,5 +1,4 @@
 pub mod Asks
-pub mod Codes
 pub mod Courses
 pub mod Handles
 pub mod Held

@@ -1,6 +1,7 @@
 //! Limits of asks, and flags.
 
 ghost use Rattle.std.specs.Prelude.{◌≡◌, ◌+◌, min};
+ghost use Rattle.tee_base.specs.declared.limits.TheConstants.{POSITION};
 ghost use Rattle.share_rules.specs.Sharing.{has as has_bit};
 ghost use Rattle.object_asks.specs.Courses.{has_unknown_bits, is_long_identifier, is_too_much, kept_flags};
 
@@ -45,7 +46,7 @@ pub fn kept_flags(flags: u32) -> Flags
 
 /// The position that so many bytes lead to.
 pub fn behind(position: u32, count: usize) -> u32
-    ensures { result ≡ min (position + count) 4294967295 }
+    ensures { result ≡ min (position + count) POSITION }
 {
     let end = (position as usize).saturating_add(count);
     u32::try_from(end).unwrap_or(u32::MAX)

@@ -7,7 +7,7 @@ ghost use Rattle.store_api.specs.Stores.{found, change};
 ghost use Rattle.store_api.specs.declared.change.Change.TheVariants.{Delete as deletion, Rename as renaming};
 ghost use Rattle.handle_table.specs.Handles.{handle_at, is_alone, is_open, is_there};
 ghost use Rattle.object_asks.specs.Handles.{settled};
-ghost use Rattle.object_asks.specs.Codes.{access_conflict};
+ghost use Rattle.tee_base.specs.declared.codes.TheConstants.Code.{ACCESS_CONFLICT};
 ghost use Rattle.object_asks.specs.Held.{Held as HeldValue, handle_closed, may_rename};
 ghost use Rattle.object_asks.specs.Asks.{Serves, came_of, close_course, delete_course, deleted_by, delete_on, holding, info_course, key_info, refused, rename_course, renamed, renamed_by, told_of_object};
 ghost use Rattle.object_asks.specs.Serving.{IsGiven, IsOutcome, ServesAsk, objects_in};

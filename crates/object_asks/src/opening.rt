@@ -8,7 +8,7 @@ ghost use Rattle.store_api.specs.Stores.{found, change};
 ghost use Rattle.store_api.specs.Keeping.{Reads};
 ghost use Rattle.handle_table.specs.Handles.{is_full, is_open};
 ghost use Rattle.object_asks.specs.Handles.{settled};
-ghost use Rattle.object_asks.specs.Codes.{access_conflict};
+ghost use Rattle.tee_base.specs.declared.codes.TheConstants.Code.{ACCESS_CONFLICT};
 ghost use Rattle.object_asks.specs.Held.{Held as HeldValue};
 ghost use Rattle.object_asks.specs.Sources.{HasSource, IsObjectKey, attr_source, is_no_key, key_given, stored_key};
 ghost use Rattle.object_asks.specs.Asks.{created, created_by, created_with, create_by, create_course, kept_flags, open_course, opened_by, overwrites, put_of, refused};
@@ -96,7 +96,7 @@ pub fn read_key<T: AppStore>(store: &mut T, id: &[u8]) -> Result<ObjectKey, Stor
 pub fn conflict<T: AppStore>(store: &mut T, id: &[u8]) -> Result<Outcome, StoreAnswer>
     requires { IsIdentifier id.now }
     ensures { (held : HeldValue) → IsGiven T.keeper result
-        (refused (objects_in held (T.keeper.contents store.old)) access_conflict)
+        (refused (objects_in held (T.keeper.contents store.old)) ACCESS_CONFLICT)
         true held held held store.old store.new }
 {
     match store.find(id) {

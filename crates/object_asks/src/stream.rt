@@ -2,7 +2,7 @@
 //! sections 5.5.1 and 5.9).
 
 ghost use Rattle.std.specs.Prelude.{◌≡◌, ◌≤◌, ◌+◌, ℤ, pos, ◌+ℤ◌, false, true, IsTrue, length};
-ghost use Rattle.tee_base.specs.declared.limits.TheConstants.{ASK_BYTES};
+ghost use Rattle.tee_base.specs.declared.limits.TheConstants.{ASK_BYTES, POSITION};
 ghost use Rattle.store_api.specs.Limits.{IsIdentifier};
 ghost use Rattle.store_api.specs.Stores.{found, read_at, change};
 ghost use Rattle.store_api.specs.declared.change.Change.TheVariants.{Write as write_at, Truncate as truncate_to};
@@ -102,7 +102,7 @@ fn write_through<T: AppStore>(
 ) -> Result<Outcome, StoreAnswer>
     requires id { IsIdentifier id }
     requires bytes { length bytes ≤ ASK_BYTES }
-    requires within { position + length bytes ≤ 4294967295 }
+    requires within { position + length bytes ≤ POSITION }
     requires there { IsTrue (is_there (settled held.old.handles) instance object) }
     ensures { let before = objects_in held.old (T.keeper.contents store.old)
         in IsGiven T.keeper result

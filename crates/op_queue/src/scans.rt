@@ -55,7 +55,8 @@ pub fn place_of_waiting(operations: &[Operation], instance: u8) -> Option<usize>
 
 /// Leaves out the operations of the instance.
 pub fn leave_out(operations: &mut Vec<Operation>, instance: u8)
-    ensures { operations.new.items ≡ filter (λ o. not (o.instance == instance)) operations.old.items }
+    ensures { operations.new.items
+        ≡ filter (λ o. not (o.instance == instance)) operations.old.items }
 {
     operations.retain(|o| o.instance != instance);
 }

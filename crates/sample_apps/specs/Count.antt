@@ -12,7 +12,7 @@ use Rattle.app_api.specs.declared.param.Params.{Params}
 use Rattle.app_api.specs.Outs.{no_outs}
 use Rattle.sample_apps.specs.declared.reaction.Reaction.{Reaction}
 use Rattle.sample_apps.specs.declared.count.Count.{Count}
-use Rattle.sample_apps.specs.Codes.{generic, bad_parameters, overflow}
+use Rattle.tee_base.specs.declared.codes.TheConstants.Code.{GENERIC, BAD_PARAMETERS, OVERFLOW}
 use Rattle.sample_apps.specs.Reactions.{succeed_with, fail_with, at_p0, at_p1}
 
 -- nothing counted, and no session
@@ -22,25 +22,25 @@ new_count = record { number = 0; sessions = 0 }
 -- a number is added where the sum is at most 2^32 - 1
 abbrev pub added : Count → ℕ → Reaction Count
 added c a =
-    if nat_lt (2 ^ 32 - 1) (c.number + a) then fail_with c overflow
+    if nat_lt (2 ^ 32 - 1) (c.number + a) then fail_with c OVERFLOW
     else succeed_with (record c { number = c.number + a }) (at_p1 (Value (c.number + a) c.sessions))
 
 -- 1: adds the value's first number
 unfoldable pub add : Count → Param → Param → Param → Param → Reaction Count
 add c (ValueIn a b) ValueOut Nothing Nothing = added c a
-add c p0 p1 p2 p3 = fail_with c bad_parameters
+add c p0 p1 p2 p3 = fail_with c BAD_PARAMETERS
 
 -- 2: shows the number
 unfoldable pub show : Count → Param → Param → Param → Param → Reaction Count
 show c ValueOut Nothing Nothing Nothing = succeed_with c (at_p0 (Value c.number c.sessions))
-show c p0 p1 p2 p3 = fail_with c bad_parameters
+show c p0 p1 p2 p3 = fail_with c BAD_PARAMETERS
 
 -- a command
 unfoldable pub command : Count → ℕ → Params → Reaction Count
 command c n ps =
     if n == 1 then add c ps.p0 ps.p1 ps.p2 ps.p3
     else if n == 2 then show c ps.p0 ps.p1 ps.p2 ps.p3
-    else fail_with c bad_parameters
+    else fail_with c BAD_PARAMETERS
 
 -- an entry. The number of sessions stays at 2^32 - 1 where it would pass it, and at 0 where it would fall below
 unfoldable pub entered : Count → Entry → Reaction Count
@@ -53,7 +53,7 @@ entered c (Invoke session n ps) = command c n ps
 -- each entry returns at once, so no answer can come
 unfoldable pub reaction : Count → Given → Reaction Count
 reaction c (givens.Entry entry) = entered c entry
-reaction c (givens.Answer answer) = fail_with c generic
+reaction c (givens.Answer answer) = fail_with c GENERIC
 
 -- the state after what is given
 abbrev pub next_state : Count → Given → Count

@@ -14,7 +14,7 @@ use Rattle.sample_apps.specs.declared.crypt.Waiting.{Waiting}
 use Rattle.sample_apps.specs.declared.crypt.Waiting.TheVariants as waiting
 use Rattle.sample_apps.specs.declared.crypt.commands.Command.{Command}
 use Rattle.sample_apps.specs.declared.crypt.commands.Command.TheVariants.{SetUp, Update, Finish, Compare}
-use Rattle.sample_apps.specs.Codes.{generic, bad_parameters}
+use Rattle.tee_base.specs.declared.codes.TheConstants.Code.{GENERIC, BAD_PARAMETERS}
 use Rattle.sample_apps.specs.Reactions.{succeed_with, fail_with}
 use Rattle.sample_apps.specs.CryptCommands.{command_of}
 use Rattle.sample_apps.specs.CryptSetUp as first
@@ -29,7 +29,7 @@ reaction_to_command c (Compare bytes mac) = messages.compare c c.class bytes mac
 
 -- an unknown command, or one with parameters of other kinds, is refused before anything else
 unfoldable pub reaction_to_invocation : Crypt → Option Command → Reaction Crypt
-reaction_to_invocation c None = fail_with (first.idle c) bad_parameters
+reaction_to_invocation c None = fail_with (first.idle c) BAD_PARAMETERS
 reaction_to_invocation c (Some command) = reaction_to_command c command
 
 -- an entry begins anew, whatever waited
@@ -60,7 +60,7 @@ set_up_while c (waiting.FillingKey object class) beginning answer = first.after_
 set_up_while c (waiting.SettingKey object class) beginning answer = first.after_op_set_key c object class answer
 set_up_while c (waiting.ClosingKey class) beginning answer = first.after_key_close c class beginning answer
 set_up_while c (waiting.Beginning class) beginning answer = first.after_first_beginning c class answer
-set_up_while c what beginning answer = fail_with (first.idle c) generic
+set_up_while c what beginning answer = fail_with (first.idle c) GENERIC
 
 -- an answer comes to the command that waits; where none waits, none can come
 unfoldable pub reaction_while : Crypt → Waiting → Option Ask → Answer → Reaction Crypt

@@ -14,7 +14,7 @@ use Rattle.sample_apps.specs.declared.crypt.Crypt.{Crypt}
 use Rattle.sample_apps.specs.declared.crypt.Class.{Class}
 use Rattle.sample_apps.specs.declared.crypt.Class.TheVariants.{Cipher, Mac, Digest}
 use Rattle.sample_apps.specs.declared.crypt.Waiting.TheVariants as waiting
-use Rattle.sample_apps.specs.Codes.{success, generic, bad_state, short_buffer, mac_invalid}
+use Rattle.tee_base.specs.declared.codes.TheConstants.Code.{SUCCESS, GENERIC, BAD_STATE, SHORT_BUFFER, MAC_INVALID}
 use Rattle.sample_apps.specs.Reactions.{return_with, succeed_with, fail_with, at_p1}
 use Rattle.sample_apps.specs.CryptSetUp.{idle, wait_for, refusal_of}
 
@@ -24,11 +24,11 @@ delivery_of c bytes = succeed_with (idle c) (at_p1 (Mem bytes))
 
 -- the output needs more room
 abbrev pub shortage_of : Crypt → ℕ → Reaction Crypt
-shortage_of c size = return_with (idle c) short_buffer (at_p1 (Size size))
+shortage_of c size = return_with (idle c) SHORT_BUFFER (at_p1 (Size size))
 
 -- 2: the next bytes of the message
 unfoldable pub update : Crypt → Option Class → List ℕ → ℕ → Reaction Crypt
-update c None bytes room = fail_with (idle c) bad_state
+update c None bytes room = fail_with (idle c) BAD_STATE
 update c (Some (Cipher iv)) bytes room = wait_for c waiting.Enciphering (asked.CipherUpdate c.op bytes room)
 update c (Some Mac) bytes room = wait_for c waiting.Absorbing (asked.MacUpdate c.op bytes)
 update c (Some Digest) bytes room = wait_for c waiting.Absorbing (asked.DigestUpdate c.op bytes)
@@ -46,7 +46,7 @@ after_absorption c answer = refusal_of c answer
 
 -- 3: the last bytes of the message
 unfoldable pub finish : Crypt → Option Class → List ℕ → ℕ → Reaction Crypt
-finish c None bytes room = fail_with (idle c) bad_state
+finish c None bytes room = fail_with (idle c) BAD_STATE
 finish c (Some (Cipher iv)) bytes room = wait_for c waiting.Finishing (asked.CipherFinal c.op bytes room)
 finish c (Some Mac) bytes room = wait_for c waiting.Finishing (asked.MacFinal c.op bytes room)
 finish c (Some Digest) bytes room = wait_for c waiting.Finishing (asked.DigestFinal c.op bytes room)
@@ -70,7 +70,7 @@ after_next_beginning c content answer = refusal_of c answer
 -- 4: the last bytes of the message, whose code is compared
 unfoldable pub compare : Crypt → Option Class → List ℕ → List ℕ → Reaction Crypt
 compare c (Some Mac) bytes mac = wait_for c waiting.Comparing (asked.MacCompare c.op bytes mac)
-compare c class bytes mac = fail_with (idle c) bad_state
+compare c class bytes mac = fail_with (idle c) BAD_STATE
 
 -- 4: the next message begins, whether the codes are equal or not
 abbrev pub after_verdict : Crypt → Code → Reaction Crypt
@@ -78,9 +78,9 @@ after_verdict c code = wait_for c (waiting.Judging code) (asked.MacInit c.op)
 
 -- 4: whether the codes are equal
 unfoldable pub after_mac_compare : Crypt → Answer → Reaction Crypt
-after_mac_compare c Done = after_verdict c success
-after_mac_compare c (Refused code) = if code.0 == mac_invalid.0 then after_verdict c code else fail_with (idle c) code
-after_mac_compare c answer = fail_with (idle c) generic
+after_mac_compare c Done = after_verdict c SUCCESS
+after_mac_compare c (Refused code) = if code.0 == MAC_INVALID.0 then after_verdict c code else fail_with (idle c) code
+after_mac_compare c answer = fail_with (idle c) GENERIC
 
 -- 4: the next message has begun
 unfoldable pub after_compared_beginning : Crypt → Code → Answer → Reaction Crypt

@@ -16,7 +16,7 @@ use Rattle.sample_apps.specs.declared.crypt.Class.TheVariants.{Cipher, Mac, Dige
 use Rattle.sample_apps.specs.declared.crypt.commands.Plan.{Plan}
 use Rattle.sample_apps.specs.declared.crypt.Waiting.{Waiting}
 use Rattle.sample_apps.specs.declared.crypt.Waiting.TheVariants as waiting
-use Rattle.sample_apps.specs.Codes.{generic}
+use Rattle.tee_base.specs.declared.codes.TheConstants.Code.{GENERIC}
 use Rattle.sample_apps.specs.Reactions.{ask_for, succeed_with, fail_with}
 
 -- no operation yet
@@ -33,7 +33,7 @@ wait_for c what ask = ask_for (record c { waiting = what }) ask
 -- an answer that isn't the one hoped for
 abbrev pub refusal_of : Crypt → Answer → Reaction Crypt
 refusal_of c (Refused code) = fail_with (idle c) code
-refusal_of c answer = fail_with (idle c) generic
+refusal_of c answer = fail_with (idle c) GENERIC
 
 -- the kind of an algorithm's keys; none for a digest and for what is no algorithm (section 6.10.1)
 unfoldable pub key_kind : ℕ → Option ℕ

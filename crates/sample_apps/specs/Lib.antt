@@ -1,4 +1,3 @@
-pub mod Codes
 pub mod Reactions
 pub mod StoreCommands
 pub mod StoreAnswers

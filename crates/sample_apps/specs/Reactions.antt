@@ -6,7 +6,7 @@ use Rattle.app_api.specs.declared.out.Out.{Out}
 use Rattle.app_api.specs.declared.out.Outs.{Outs}
 use Rattle.app_api.specs.Outs.{no_outs}
 use Rattle.sample_apps.specs.declared.reaction.Reaction.{Reaction}
-use Rattle.sample_apps.specs.Codes.{success}
+use Rattle.tee_base.specs.declared.codes.TheConstants.Code.{SUCCESS}
 
 abbrev pub ask_for : {S : Type 0} → S → Ask → Reaction S
 ask_for state ask = record { state = state; ask = ask }
@@ -16,7 +16,7 @@ abbrev pub return_with : {S : Type 0} → S → Code → Outs → Reaction S
 return_with state code outs = ask_for state (Return code outs)
 
 abbrev pub succeed_with : {S : Type 0} → S → Outs → Reaction S
-succeed_with state outs = return_with state success outs
+succeed_with state outs = return_with state SUCCESS outs
 
 abbrev pub fail_with : {S : Type 0} → S → Code → Reaction S
 fail_with state code = return_with state code no_outs

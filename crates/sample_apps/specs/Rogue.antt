@@ -19,7 +19,7 @@ use Rattle.sample_apps.specs.declared.rogue.Rogue.{Rogue}
 use Rattle.sample_apps.specs.declared.rogue.Rogue.TheVariants.{Idle, ClosingUnknown, Looping, Creating, Closing, Replacing}
 use Rattle.sample_apps.specs.declared.rogue.commands.Command.{Command}
 use Rattle.sample_apps.specs.declared.rogue.commands.Command.TheVariants.{Panic, CloseUnknown, Loop, Fill, TellSize, Replace}
-use Rattle.sample_apps.specs.Codes.{generic, bad_parameters, short_buffer, storage_no_space}
+use Rattle.tee_base.specs.declared.codes.TheConstants.Code.{GENERIC, BAD_PARAMETERS, SHORT_BUFFER, STORAGE_NO_SPACE}
 use Rattle.sample_apps.specs.Reactions.{ask_for, return_with, succeed_with, fail_with, at_p0}
 
 -- ---- numbers
@@ -101,12 +101,12 @@ reaction_to_command (Panic code) = ask_for Idle (asked.Panic (record { 0 = code 
 reaction_to_command CloseUnknown = ask_for ClosingUnknown (asked.ObjClose unknown_handle)
 reaction_to_command Loop = ask_for Looping asked.CancelFlag
 reaction_to_command Fill = creation_at 0
-reaction_to_command TellSize = return_with Idle short_buffer (at_p0 (Size size_told))
+reaction_to_command TellSize = return_with Idle SHORT_BUFFER (at_p0 (Size size_told))
 reaction_to_command Replace = ask_for Replacing (creation_of replaced_identifier exclusive_overwrite)
 
 -- an unknown command, or one with parameters of other kinds, is refused
 unfoldable pub reaction_to_invocation : Option Command → Reaction Rogue
-reaction_to_invocation None = fail_with Idle bad_parameters
+reaction_to_invocation None = fail_with Idle BAD_PARAMETERS
 reaction_to_invocation (Some command) = reaction_to_command command
 
 -- an entry begins anew, whatever waited
@@ -122,7 +122,7 @@ reaction_to_entry (Invoke session n ps) = reaction_to_invocation (command_of n p
 -- an answer that isn't the one hoped for
 abbrev pub refusal_of : Answer → Reaction Rogue
 refusal_of (Refused code) = fail_with Idle code
-refusal_of answer = fail_with Idle generic
+refusal_of answer = fail_with Idle GENERIC
 
 -- 2: the handle that there can't be was closed
 unfoldable pub after_unknown_close : Answer → Reaction Rogue
@@ -137,8 +137,8 @@ after_flag answer = refusal_of answer
 -- 4: the new object's handle is closed; where there is no space, so many objects were made as there are lesser identifiers
 unfoldable pub after_creation : ℕ → Answer → Reaction Rogue
 after_creation identifier (Number object) = ask_for (Closing identifier) (asked.ObjClose object)
-after_creation identifier (Refused code) = if code.0 == storage_no_space.0 then count_shown identifier else fail_with Idle code
-after_creation identifier answer = fail_with Idle generic
+after_creation identifier (Refused code) = if code.0 == STORAGE_NO_SPACE.0 then count_shown identifier else fail_with Idle code
+after_creation identifier answer = fail_with Idle GENERIC
 
 -- 4: the next identifier, up to 255
 unfoldable pub after_close : ℕ → Answer → Reaction Rogue
@@ -152,7 +152,7 @@ after_replacement answer = refusal_of answer
 
 -- an answer comes to the command that waits; where none waits, none can come
 unfoldable pub reaction_to_answer : Rogue → Answer → Reaction Rogue
-reaction_to_answer Idle answer = fail_with Idle generic
+reaction_to_answer Idle answer = fail_with Idle GENERIC
 reaction_to_answer ClosingUnknown answer = after_unknown_close answer
 reaction_to_answer Looping answer = after_flag answer
 reaction_to_answer (Creating identifier) answer = after_creation identifier answer

@@ -11,7 +11,7 @@ use Rattle.app_api.specs.Outs.{no_outs}
 use Rattle.sample_apps.specs.declared.reaction.Reaction.{Reaction}
 use Rattle.sample_apps.specs.declared.store.Store.{Store}
 use Rattle.sample_apps.specs.declared.store.Store.TheVariants.{Idle, Opening, Creating, Acting, Describing, Reading, MakingList, StartingList, Listing, FreeingList, Polling, Unmasking, Watching, Drawing}
-use Rattle.sample_apps.specs.Codes.{generic, cancel, item_not_found, short_buffer}
+use Rattle.tee_base.specs.declared.codes.TheConstants.Code.{GENERIC, CANCEL, ITEM_NOT_FOUND, SHORT_BUFFER}
 use Rattle.sample_apps.specs.Reactions.{ask_for, return_with, succeed_with, fail_with, at_p0, at_p1, at_p2, at_p3}
 use Rattle.sample_apps.specs.StoreCommands.{polls, watches}
 
@@ -24,12 +24,12 @@ failed code = fail_with Idle code
 
 -- an output needs more room
 abbrev pub too_short : Outs → Reaction Store
-too_short outs = return_with Idle short_buffer outs
+too_short outs = return_with Idle SHORT_BUFFER outs
 
 -- an answer that isn't the one hoped for
 abbrev pub refused : Answer → Reaction Store
 refused (Refused code) = failed code
-refused answer = failed generic
+refused answer = failed GENERIC
 
 -- 1: the handle's number
 unfoldable pub object_opened : Answer → Reaction Store
@@ -68,7 +68,7 @@ list_ended list listed = ask_for (FreeingList listed) (asked.EnumFree list)
 
 -- 11: where there is nothing more the list is at its end, and another refusal ends the command
 abbrev pub list_refused : ℕ → List ℕ → Code → Reaction Store
-list_refused list listed code = if code.0 == item_not_found.0 then list_ended list listed else failed code
+list_refused list listed code = if code.0 == ITEM_NOT_FOUND.0 then list_ended list listed else failed code
 
 -- 11: the enumerator has started, or there are no objects
 unfoldable pub list_started : ℕ → Answer → Reaction Store
@@ -82,7 +82,7 @@ with_identifier listed id = listed ++ length id ∷ id
 
 -- 11: the next identifier. No byte has the length of one above 255 bytes; none of more than 64 is ever found
 abbrev pub object_found : ℕ → List ℕ → List ℕ → Reaction Store
-object_found list listed id = if nat_lt 255 (length id) then failed generic else ask_for (Listing list (with_identifier listed id)) (asked.EnumNext list)
+object_found list listed id = if nat_lt 255 (length id) then failed GENERIC else ask_for (Listing list (with_identifier listed id)) (asked.EnumNext list)
 
 -- 11: the next object, or no more
 unfoldable pub object_listed : ℕ → List ℕ → Answer → Reaction Store
@@ -107,7 +107,7 @@ flag_unmasked n answer = refused answer
 
 -- 14: the flag is set, or not yet
 unfoldable pub flag_watched : ℕ → Answer → Reaction Store
-flag_watched left (Truth flag) = if flag then failed cancel else watches left
+flag_watched left (Truth flag) = if flag then failed CANCEL else watches left
 flag_watched left answer = refused answer
 
 -- 15: the bytes
@@ -118,7 +118,7 @@ random_drawn answer = refused answer
 
 -- an answer comes to the command that waits; where none waits, none can come
 unfoldable pub answered : Store → Answer → Reaction Store
-answered Idle answer = failed generic
+answered Idle answer = failed GENERIC
 answered Opening answer = object_opened answer
 answered Creating answer = object_created answer
 answered Acting answer = object_changed answer

@@ -11,12 +11,12 @@ use Rattle.app_api.specs.Outs.{no_outs}
 use Rattle.sample_apps.specs.declared.reaction.Reaction.{Reaction}
 use Rattle.sample_apps.specs.declared.store.Store.{Store}
 use Rattle.sample_apps.specs.declared.store.Store.TheVariants.{Idle, Opening, Creating, Acting, Describing, Reading, MakingList, Polling, Unmasking, Watching, Drawing}
-use Rattle.sample_apps.specs.Codes.{bad_parameters}
+use Rattle.tee_base.specs.declared.codes.TheConstants.Code.{BAD_PARAMETERS}
 use Rattle.sample_apps.specs.Reactions.{ask_for, succeed_with, fail_with}
 
 -- an unknown command, or parameters of other kinds
 abbrev pub misfit : Reaction Store
-misfit = fail_with Idle bad_parameters
+misfit = fail_with Idle BAD_PARAMETERS
 
 -- 1: the object of an identifier, from a storage
 unfoldable pub open_object : Param → Param → Param → Param → Reaction Store

@@ -83,7 +83,8 @@ impl ShareIndex {
     ///
     /// NoMemory changes nothing.
     pub fn note(&mut self, id: &[u8], flags: Flags) -> Result<(), NoMemory>
-        ensures noted { OnOk result (Gains self.old (record { id = id.now; flags = flags }) self.new) }
+        ensures noted { OnOk result
+            (Gains self.old (record { id = id.now; flags = flags }) self.new) }
         ensures there { OnOk result (IsTrue (is_noted self.new id.now flags)) }
         ensures unchanged { OnErr result (self.new ≡ self.old) }
     {

@@ -1,6 +1,6 @@
 -- The limits of identifiers, secrets, reads and changes.
 use Rattle.std.specs.Prelude.{ℕ, ◌≡◌, ◌+◌, ◌≤◌, List, Some, length}
-use Rattle.tee_base.specs.declared.limits.TheConstants.{ASK_BYTES, IDENTIFIER_BYTES, SECRET_BYTES}
+use Rattle.tee_base.specs.declared.limits.TheConstants.{ASK_BYTES, IDENTIFIER_BYTES, POSITION, SECRET_BYTES}
 use Rattle.store_api.specs.declared.object.Object.{Object}
 use Rattle.store_api.specs.declared.object.Facts.{Facts}
 use Rattle.store_api.specs.declared.object.Listed.{Listed}
@@ -39,5 +39,5 @@ abbrev pub IsChange : Change → Type 0
 IsChange (Put id kind usage secret content overwrite) = IsIdentifier id × IsSecret secret × (length content ≤ ASK_BYTES)
 IsChange (Delete id) = IsIdentifier id
 IsChange (Rename id to) = IsIdentifier id × IsIdentifier to
-IsChange (Write id at bytes) = IsIdentifier id × (length bytes ≤ ASK_BYTES) × (at + length bytes ≤ 0xFFFFFFFF)
+IsChange (Write id at bytes) = IsIdentifier id × (length bytes ≤ ASK_BYTES) × (at + length bytes ≤ POSITION)
 IsChange (Truncate id n) = IsIdentifier id

@@ -177,7 +177,8 @@ impl MapStore {
         ensures begun { Begins result self.old self.new }
         ensures limits { IsWithinLimits self.old.store }
         ensures later { self.old.plan.faults ≤ self.new.plan.faults }
-        ensures rose { IfErr result (λ answer. answer ≡ Failed → Rose self.old.plan.faults self.new.plan.faults) }
+        ensures rose { IfErr result (λ answer.
+                answer ≡ Failed → Rose self.old.plan.faults self.new.plan.faults) }
     {
         self.objects.keep_limits();
         if self.lost {
@@ -192,10 +193,12 @@ impl MapStore {
 
     /// Begins a change, which counts as tried however it begins.
     fn begin_change(&mut self) -> Result<(), StoreAnswer>
-        ensures begun { Begins result (record self.old { change_attempts = self.old.change_attempts + 1 }) self.new }
+        ensures begun { Begins result
+            (record self.old { change_attempts = self.old.change_attempts + 1 }) self.new }
         ensures limits { IsWithinLimits self.old.store }
         ensures later { self.old.plan.faults ≤ self.new.plan.faults }
-        ensures rose { IfErr result (λ answer. answer ≡ Failed → Rose self.old.plan.faults self.new.plan.faults) }
+        ensures rose { IfErr result (λ answer.
+                answer ≡ Failed → Rose self.old.plan.faults self.new.plan.faults) }
     {
         self.change_attempts = self.change_attempts.one_more();
         self.begin()
@@ -213,7 +216,8 @@ impl AppStore for MapStore {
     /// the others.
     fn find(&mut self, id: &[u8]) -> Result<Facts, StoreAnswer>
         requires { IsIdentifier id.now }
-        ensures reads { Reads map_keeper (λ store. found store id.now) AreFacts result self.old self.new }
+        ensures reads { Reads map_keeper (λ store. found store id.now) AreFacts result self.old
+            self.new }
         ensures plan { self.new.plan ≡ plan_after result self.old.plan }
         ensures intact { IsIntact result }
         ensures fails { FailsAsPlanned result self.old }
@@ -224,7 +228,8 @@ impl AppStore for MapStore {
 
     fn secret(&mut self, id: &[u8]) -> Result<Bytes, StoreAnswer>
         requires { IsIdentifier id.now }
-        ensures reads { Reads map_keeper (λ store. secret_at store id.now) IsSecret result self.old self.new }
+        ensures reads { Reads map_keeper (λ store. secret_at store id.now) IsSecret result self.old
+            self.new }
         ensures plan { self.new.plan ≡ plan_after result self.old.plan }
         ensures intact { IsIntact result }
         ensures fails { FailsAsPlanned result self.old }
@@ -236,7 +241,8 @@ impl AppStore for MapStore {
     fn read(&mut self, id: &[u8], from: u32, count: u32) -> Result<Bytes, StoreAnswer>
         requires id { IsIdentifier id.now }
         requires count { count ≤ ASK_BYTES }
-        ensures reads { Reads map_keeper (λ store. read_at store id.now from count) (IsPart count) result self.old self.new }
+        ensures reads { Reads map_keeper (λ store. read_at store id.now from count) (IsPart count)
+            result self.old self.new }
         ensures plan { self.new.plan ≡ plan_after result self.old.plan }
         ensures intact { IsIntact result }
         ensures fails { FailsAsPlanned result self.old }
@@ -246,7 +252,8 @@ impl AppStore for MapStore {
     }
 
     fn next_after(&mut self, last: Option<&[u8]>) -> Result<Listed, StoreAnswer>
-        ensures reads { Reads map_keeper (λ store. next_after store (option_copied last.entry)) IsListed result self.old self.new }
+        ensures reads { Reads map_keeper (λ store. next_after store (option_copied last.entry))
+            IsListed result self.old self.new }
         ensures plan { self.new.plan ≡ plan_after result self.old.plan }
         ensures intact { IsIntact result }
         ensures fails { FailsAsPlanned result self.old }

@@ -74,7 +74,8 @@ fn first_after<'m>(
     map: &'m BTreeMap<Vec<u8>, Object>,
     last: Option<&[u8]>,
 ) -> Option<(&'m Vec<u8>, &'m Object)>
-    ensures { option_map (λ entry. (entry.0.now, entry.1.now)) result ≡ find (λ entry. is_after_of (option_copied last.entry) entry.0.items) map.now.entries }
+    ensures { option_map (λ entry. (entry.0.now, entry.1.now)) result
+        ≡ find (λ entry. is_after_of (option_copied last.entry) entry.0.items) map.now.entries }
 {
     for entry in map {
         if is_after(last, entry.0) {
@@ -145,7 +146,8 @@ impl Objects {
 
     /// Whether an object with so many bytes of content has room under an identifier.
     fn has_room(&self, id: &[u8], bytes: usize) -> bool
-        ensures { (o : Kept) → length o.content ≡ bytes → result ≡ nat_le (cost (finite.insert self.now id.now o)) quota }
+        ensures { (o : Kept) → length o.content ≡ bytes
+            → result ≡ nat_le (cost (finite.insert self.now id.now o)) quota }
     {
         self.used - self.cost_at(id) + blocks_of(bytes) <= QUOTA as usize
     }
@@ -177,7 +179,9 @@ impl Objects {
 
     /// The least identifier greater than the last one, with its object.
     pub fn next_after(&self, last: Option<&[u8]>) -> Option<(&Vec<u8>, &Object)>
-        ensures next { option_map (λ entry. (entry.0.now.items, entry.1.now)) result ≡ find (λ entry. is_after_of (option_copied last.entry) entry.0) (finite.entries self.now) }
+        ensures next { option_map (λ entry. (entry.0.now.items, entry.1.now)) result
+            ≡ find (λ entry. is_after_of (option_copied last.entry) entry.0)
+                (finite.entries self.now) }
         ensures identifier { IfSome result (λ entry. IsIdentifier entry.0.now.items) }
         ensures secret { IfSome result (λ entry. IsSecret entry.1.now.secret) }
         ensures content { IfSome result (λ entry. length entry.1.now.content ≤ 260096) }
@@ -217,7 +221,9 @@ impl Objects {
         overwrite: bool,
     ) -> Result<(), StoreAnswer>
         requires { IsChange (Put id.now kind usage secret.now content.now overwrite) }
-        ensures { Changes result (change_of self.old (Put id.now kind usage secret.now content.now overwrite)) self.old self.new }
+        ensures { Changes result
+            (change_of self.old (Put id.now kind usage secret.now content.now overwrite)) self.old
+            self.new }
     {
         if self.find(id.as_slice()).is_some() && !overwrite {
             return Err(StoreAnswer::Exists);
@@ -249,7 +255,8 @@ impl Objects {
     #[tactic(auto, unfolding(crate::specs::Stores::change))]
     fn write(&mut self, id: &Bytes, at: u32, bytes: &Bytes) -> Result<(), StoreAnswer>
         requires { IsChange (Write id.now at bytes.now) }
-        ensures { Changes result (change_of self.old (Write id.now at bytes.now)) self.old self.new }
+        ensures { Changes result (change_of self.old (Write id.now at bytes.now)) self.old
+            self.new }
     {
         let Some(object) = self.find(id.as_slice()) else {
             return Err(StoreAnswer::NotFound);
@@ -303,7 +310,8 @@ impl Objects {
         requires to { IsIdentifier to.now }
         requires absent { object_at self.old to.now ≡ None }
         requires same { object_at self.old id.now ≡ Some object }
-        ensures ok { OnOk result (self.new ≡ finite.remove (finite.insert self.old to.now object) id.now) }
+        ensures ok { OnOk result
+            (self.new ≡ finite.remove (finite.insert self.old to.now object) id.now) }
         ensures quota { OnOk result (cost self.new ≤ quota) }
         ensures err { OnErr result (self.new ≡ self.old) }
     {

@@ -25,18 +25,21 @@ pub trait AppStore {
     /// An object's secret. `NotFound` exactly where there is no such object.
     fn secret(&mut self, id: &[u8]) -> Result<Bytes, StoreAnswer>
         requires { IsIdentifier id.now }
-        ensures { Reads keeper (λ store. secret_at store id.now) IsSecret result self.old self.new };
+        ensures { Reads keeper (λ store. secret_at store id.now) IsSecret result self.old
+            self.new };
 
     /// At most `count` bytes of an object's content, from a place on. `NotFound` exactly where there is no such object.
     fn read(&mut self, id: &[u8], from: u32, count: u32) -> Result<Bytes, StoreAnswer>
         requires id { IsIdentifier id.now }
         requires count { count ≤ ASK_BYTES }
-        ensures { Reads keeper (λ store. read_at store id.now from count) (IsPart count) result self.old self.new };
+        ensures { Reads keeper (λ store. read_at store id.now from count) (IsPart count) result
+            self.old self.new };
 
     /// The least identifier greater than the last one, or the least of all, with its facts. `NotFound` exactly where
     /// there is none.
     fn next_after(&mut self, last: Option<&[u8]>) -> Result<Listed, StoreAnswer>
-        ensures { Reads keeper (λ store. next_after store (option_copied last.entry)) IsListed result self.old self.new };
+        ensures { Reads keeper (λ store. next_after store (option_copied last.entry)) IsListed
+            result self.old self.new };
 
     /// Makes one change, whole. `NotFound`, `Exists` and `NoSpace` exactly where the change is refused so.
     fn apply(&mut self, change: &Change) -> Result<(), StoreAnswer>

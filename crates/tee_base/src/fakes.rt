@@ -201,7 +201,8 @@ impl Sink for MemSink {
     fn write(&mut self, piece: &[u8]) -> Result<usize, SinkFailed>
         ensures room { IfOk result (λ n. n ≤ length piece.now) }
         ensures some { IfOk result (TakesSome piece.now) }
-        ensures appended { WriteAppends (Some self.old.written) (Some self.new.written) result piece.now }
+        ensures appended { WriteAppends (Some self.old.written) (Some self.new.written) result
+            piece.now }
         ensures counts { self.new.plan.faults ≡ faults_after result self.old.plan.faults }
         ensures cause { OnErr result (Rose self.old.plan.faults self.new.plan.faults) }
         ensures later { self.old.plan.faults ≤ self.new.plan.faults }

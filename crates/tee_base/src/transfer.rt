@@ -37,13 +37,16 @@ pub fn read_all<S: Source>(alloc: Global, source: &mut S, limit: u32) -> Result<
     ensures at_end { OnOk result (IsAtEnd (S.left source.new)) }
     ensures within { IfOk result (λ bytes. length bytes ≤ limit) }
     ensures too_long { IsErrOf result ReadAnswer.TooLong → HasMoreThan limit (S.left source.old) }
-    ensures read_fault { IsErrOf result ReadAnswer.ReadFault → Rose (S.failures source.old) (S.failures source.new) }
+    ensures read_fault { IsErrOf result ReadAnswer.ReadFault
+        → Rose (S.failures source.old) (S.failures source.new) }
     // one call failed, and no call was made after it
     ensures once { IsErrOf result ReadAnswer.ReadFault
         → (S.failures source.new ≡ counted (S.failures source.old)) × S.just_failed source.new }
     // under every other answer no call failed
-    ensures no_fault { ¬ IsErrOf result ReadAnswer.ReadFault → S.failures source.new ≡ S.failures source.old }
-    ensures err { OnErr result (ConsumesWithin (limit + 1) (S.left source.old) (S.left source.new)) }
+    ensures no_fault { ¬ IsErrOf result ReadAnswer.ReadFault
+        → S.failures source.new ≡ S.failures source.old }
+    ensures err { OnErr result
+        (ConsumesWithin (limit + 1) (S.left source.old) (S.left source.new)) }
     ensures later { S.failures source.old ≤ S.failures source.new }
 {
     let mut items = Vec::new(alloc);

@@ -43,8 +43,10 @@ fn write_replies<W: Sink>(
     replies: &[Reply],
     sink: &mut W,
 ) -> Result<(), Stop>
-    ensures written { Writes result (replies_text name.now replies.now) (W.written sink.old) (W.written sink.new) }
-    ensures fault { IsErrOf result Stop.WriteFault → Rose (W.failures sink.old) (W.failures sink.new) }
+    ensures written { Writes result (replies_text name.now replies.now) (W.written sink.old)
+        (W.written sink.new) }
+    ensures fault { IsErrOf result Stop.WriteFault
+        → Rose (W.failures sink.old) (W.failures sink.new) }
     ensures later { W.failures sink.old ≤ W.failures sink.new }
 {
     for reply in replies {
@@ -64,8 +66,10 @@ fn write_told<W: Sink>(
     told: &[Happened],
     sink: &mut W,
 ) -> Result<(), Stop>
-    ensures written { Writes result (told_text name.now told.now) (W.written sink.old) (W.written sink.new) }
-    ensures fault { IsErrOf result Stop.WriteFault → Rose (W.failures sink.old) (W.failures sink.new) }
+    ensures written { Writes result (told_text name.now told.now) (W.written sink.old)
+        (W.written sink.new) }
+    ensures fault { IsErrOf result Stop.WriteFault
+        → Rose (W.failures sink.old) (W.failures sink.new) }
     ensures later { W.failures sink.old ≤ W.failures sink.new }
 {
     for happened in told {
@@ -86,10 +90,17 @@ fn run_call<A: Application, W: Sink>(
     sink: &mut W,
 ) -> Result<(), Stop>
     requires { app < app_count tee.old }
-    ensures world { OnOk result ((world : World A) → Represents tee.old world → Represents tee.new (world_after A.behaviour world (line_events A.behaviour world (Line.Call app client post call)))) }
-    ensures written { (names : List (List ℕ)) (world : World A) → Represents tee.old world → name.now ≡ slice_index_or names app [] → Writes result (text_of A.behaviour names world (line_events A.behaviour world (Line.Call app client post call))) (W.written sink.old) (W.written sink.new) }
+    ensures world { OnOk result ((world : World A) → Represents tee.old world
+            → Represents tee.new (world_after A.behaviour world
+                    (line_events A.behaviour world (Line.Call app client post call)))) }
+    ensures written { (names : List (List ℕ)) (world : World A) → Represents tee.old world
+        → name.now ≡ slice_index_or names app []
+        → Writes result (text_of A.behaviour names world
+                (line_events A.behaviour world (Line.Call app client post call)))
+            (W.written sink.old) (W.written sink.new) }
     ensures apps { app_count tee.new ≡ app_count tee.old }
-    ensures fault { IsErrOf result Stop.WriteFault → Rose (W.failures sink.old) (W.failures sink.new) }
+    ensures fault { IsErrOf result Stop.WriteFault
+        → Rose (W.failures sink.old) (W.failures sink.new) }
     ensures later { W.failures sink.old ≤ W.failures sink.new }
 {
     if post {
@@ -116,7 +127,8 @@ fn run_line<A: Application, W: Sink>(
         → Writes result (text_of A.behaviour names.now world (line_events A.behaviour world line))
         (W.written sink.old) (W.written sink.new) }
     ensures apps { app_count tee.new ≡ app_count tee.old }
-    ensures fault { IsErrOf result Stop.WriteFault → Rose (W.failures sink.old) (W.failures sink.new) }
+    ensures fault { IsErrOf result Stop.WriteFault
+        → Rose (W.failures sink.old) (W.failures sink.new) }
     ensures later { W.failures sink.old ≤ W.failures sink.new }
 {
     match line {
@@ -150,9 +162,11 @@ pub fn run_lines<A: Application, W: Sink>(
     requires names { length names.now ≡ app_count tee.old }
     requires known { AllByRecursion (IsKnown (app_count tee.old)) lines.items }
     ensures written { (world : World A) → Represents tee.old world
-        → Writes result (text_of A.behaviour names.now world (events_of A.behaviour world lines.items))
-        (W.written sink.old) (W.written sink.new) }
-    ensures fault { IsErrOf result Stop.WriteFault → Rose (W.failures sink.old) (W.failures sink.new) }
+        → Writes result
+            (text_of A.behaviour names.now world (events_of A.behaviour world lines.items))
+            (W.written sink.old) (W.written sink.new) }
+    ensures fault { IsErrOf result Stop.WriteFault
+        → Rose (W.failures sink.old) (W.failures sink.new) }
     ensures later { W.failures sink.old ≤ W.failures sink.new }
 {
     let mut rest = VecDeque::from(lines);

@@ -36,15 +36,20 @@ fn read_lines<S: Source, A: Application>(
 ) -> Result<Vec<Line>, Status>
     requires { HostsFit hosts.now }
     ensures read { IfOk result (λ lines. ReadsTo hosts.now (S.left source.old) lines.items) }
-    ensures bad { (n : ℕ) → IsErrOf result (Status.BadLine n) → IsBadAt hosts.now (S.left source.old) n × IsAtEnd (S.left source.new) }
+    ensures bad { (n : ℕ) → IsErrOf result (Status.BadLine n)
+        → IsBadAt hosts.now (S.left source.old) n × IsAtEnd (S.left source.new) }
     ensures at_end { OnOk result (IsAtEnd (S.left source.new)) }
     ensures within { OnOk result (IsWithin (S.left source.old)) }
-    ensures bad_within { (n : ℕ) → IsErrOf result (Status.BadLine n) → IsWithin (S.left source.old) }
-    ensures too_long { IsErrOf result Status.TooLong → HasMoreThan SCRIPT_BYTES (S.left source.old) }
-    ensures fault { IsErrOf result Status.ReadFault → Rose (S.failures source.old) (S.failures source.new) }
+    ensures bad_within { (n : ℕ) → IsErrOf result (Status.BadLine n)
+        → IsWithin (S.left source.old) }
+    ensures too_long { IsErrOf result Status.TooLong
+        → HasMoreThan SCRIPT_BYTES (S.left source.old) }
+    ensures fault { IsErrOf result Status.ReadFault
+        → Rose (S.failures source.old) (S.failures source.new) }
     ensures later { S.failures source.old ≤ S.failures source.new }
     ensures consumed { ConsumesWithin (SCRIPT_BYTES + 1) (S.left source.old) (S.left source.new) }
-    ensures unfailed { IsErrOf result Status.TooLong → S.failures source.new ≡ S.failures source.old }
+    ensures unfailed { IsErrOf result Status.TooLong
+        → S.failures source.new ≡ S.failures source.old }
     ensures known { IfOk result (λ lines. AllByRecursion (IsKnown (length hosts.now)) lines.items) }
     ensures few { IfErr result IsReadStatus }
 {
@@ -82,8 +87,12 @@ fn serve<W: Sink, A: Application>(
 ) -> Status
     requires fit { HostsFit hosts.items }
     requires known { AllByRecursion (IsKnown (length hosts.items)) lines.items }
-    ensures done { result ≡ Status.Done → Appends (W.written sink.old) (W.written sink.new) (transcript A.behaviour hosts.items seed (λ app. empty_store) lines.items) }
-    ensures stopped { AppendsFront (transcript A.behaviour hosts.items seed (λ app. empty_store) lines.items) (W.written sink.old) (W.written sink.new) }
+    ensures done { result ≡ Status.Done
+        → Appends (W.written sink.old) (W.written sink.new)
+            (transcript A.behaviour hosts.items seed (λ app. empty_store) lines.items) }
+    ensures stopped { AppendsFront
+        (transcript A.behaviour hosts.items seed (λ app. empty_store) lines.items)
+        (W.written sink.old) (W.written sink.new) }
     ensures fault { result ≡ Status.WriteFault → Rose (W.failures sink.old) (W.failures sink.new) }
     ensures later { W.failures sink.old ≤ W.failures sink.new }
     ensures few { IsServed result }
@@ -113,17 +122,37 @@ pub fn run_tee<S: Source, W: Sink, A: Application>(
     seed: [u8; 32],
 ) -> Status
     requires { HostsFit hosts.items }
-    ensures written { result ≡ Status.Done → IsOfTranscript A.behaviour hosts.items seed (S.left source.old) (Appends (W.written sink.old) (W.written sink.new)) }
-    ensures cut_short { result ≡ Status.WriteFault → IsOfTranscript A.behaviour hosts.items seed (S.left source.old) (λ text. AppendsFront text (W.written sink.old) (W.written sink.new)) }
-    ensures no_memory { result ≡ Status.NoMemory → (sink.new ≡ sink.old) ⊎ IsOfTranscript A.behaviour hosts.items seed (S.left source.old) (λ text. AppendsFront text (W.written sink.old) (W.written sink.new)) }
+    ensures written { result ≡ Status.Done
+        → IsOfTranscript A.behaviour hosts.items seed (S.left source.old)
+            (Appends (W.written sink.old) (W.written sink.new)) }
+    ensures cut_short { result ≡ Status.WriteFault
+        → IsOfTranscript A.behaviour hosts.items seed (S.left source.old) (λ text.
+                AppendsFront text (W.written sink.old) (W.written sink.new)) }
+    ensures no_memory { result ≡ Status.NoMemory
+        → (sink.new ≡ sink.old)
+            ⊎ IsOfTranscript A.behaviour hosts.items seed (S.left source.old) (λ text.
+                    AppendsFront text (W.written sink.old) (W.written sink.new)) }
     ensures bad_words { (result ≡ Status.BadWords) ↔ ¬ AreRunWords words.now }
-    ensures bad_line { (n : ℕ) → result ≡ Status.BadLine n → IsBadAt hosts.items (S.left source.old) n × IsAtEnd (S.left source.new) }
-    ensures each_bad_line { (text : List ℕ) (n : ℕ) → IsReadable words.now (S.left source.old) text (S.failures source.old) (S.failures source.new) → IsBadText hosts.items text n → (result ≡ Status.BadLine n) ⊎ (result ≡ Status.NoMemory) }
-    ensures complete { (text : List ℕ) (script : List Line) → IsReadable words.now (S.left source.old) text (S.failures source.old) (S.failures source.new) → ¬ Rose (W.failures sink.old) (W.failures sink.new) → IsText hosts.items text script → (result ≡ Status.Done) ⊎ (result ≡ Status.NoMemory) }
+    ensures bad_line { (n : ℕ) → result ≡ Status.BadLine n
+        → IsBadAt hosts.items (S.left source.old) n × IsAtEnd (S.left source.new) }
+    ensures each_bad_line { (text : List ℕ) (n : ℕ)
+        → IsReadable words.now (S.left source.old) text (S.failures source.old)
+            (S.failures source.new)
+        → IsBadText hosts.items text n → (result ≡ Status.BadLine n) ⊎ (result ≡ Status.NoMemory) }
+    ensures complete { (text : List ℕ) (script : List Line)
+        → IsReadable words.now (S.left source.old) text (S.failures source.old)
+            (S.failures source.new)
+        → ¬ Rose (W.failures sink.old) (W.failures sink.new) → IsText hosts.items text script
+        → (result ≡ Status.Done) ⊎ (result ≡ Status.NoMemory) }
     ensures too_long { result ≡ Status.TooLong → HasMoreThan SCRIPT_BYTES (S.left source.old) }
-    ensures each_too_long { (text : List ℕ) → IsTooMuch words.now (S.left source.old) text (S.failures source.old) (S.failures source.new) → (result ≡ Status.TooLong) ⊎ (result ≡ Status.NoMemory) }
-    ensures read_fault { result ≡ Status.ReadFault → Rose (S.failures source.old) (S.failures source.new) }
-    ensures write_fault { result ≡ Status.WriteFault → Rose (W.failures sink.old) (W.failures sink.new) }
+    ensures each_too_long { (text : List ℕ)
+        → IsTooMuch words.now (S.left source.old) text (S.failures source.old)
+            (S.failures source.new)
+        → (result ≡ Status.TooLong) ⊎ (result ≡ Status.NoMemory) }
+    ensures read_fault { result ≡ Status.ReadFault
+        → Rose (S.failures source.old) (S.failures source.new) }
+    ensures write_fault { result ≡ Status.WriteFault
+        → Rose (W.failures sink.old) (W.failures sink.new) }
     ensures done { result ≡ Status.Done → IsAtEnd (S.left source.new) }
     ensures unwritten { IsUnrun result → sink.new ≡ sink.old }
     ensures unread { result ≡ Status.BadWords → source.new ≡ source.old }

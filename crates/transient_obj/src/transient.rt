@@ -103,7 +103,8 @@ impl Transient {
     /// size of the secret doesn't fit the kind or is above the greatest size. Both change nothing.
     pub fn populate(&mut self, secret: &[u8]) -> Result<(), KeyAnswer>
         ensures answer { result ≡ populate_answer self.old secret.now }
-        ensures after { self.new ≡ (if is_ok result then populated self.old secret.now else self.old) }
+        ensures after { self.new
+            ≡ (if is_ok result then populated self.old secret.now else self.old) }
     {
         if self.secret.is_some() || secret.len() > limits::ASK_BYTES as usize {
             return Err(KeyAnswer::Misuse);
@@ -132,7 +133,8 @@ impl Transient {
     /// changes nothing.
     pub fn copy_from(&mut self, kind: u32, usage: u32, secret: &[u8]) -> Result<(), KeyAnswer>
         ensures answer { result ≡ copy_answer self.old kind secret.now }
-        ensures after { self.new ≡ (if is_ok result then copied self.old usage secret.now else self.old) }
+        ensures after { self.new
+            ≡ (if is_ok result then copied self.old usage secret.now else self.old) }
     {
         if self.secret.is_some() || self.kind != kind || exceeds(secret, self.max_bits) {
             return Err(KeyAnswer::Misuse);

@@ -40,7 +40,8 @@ impl Tally {
     // Counts for the seat that owns this part.
     fn count(&mut self, part: u32)
         requires { part < 2 }
-        ensures parts { ChangesOnlyWithin part 1 (self.old.first ∷ self.old.second ∷ []) (self.new.first ∷ self.new.second ∷ []) }
+        ensures parts { ChangesOnlyWithin part 1 (self.old.first ∷ self.old.second ∷ [])
+            (self.new.first ∷ self.new.second ∷ []) }
         ensures trail { IsPrefix self.old.counted.items self.new.counted.items }
     {
         if self.counted.push(part).is_err() {
@@ -64,11 +65,14 @@ fn empty(alloc: Global) -> Tally {
 
 // A cell named 7 with its first seat, which owns part 0, and another, which owns part 1.
 fn two_seats(alloc: Global) -> Result<(TurnCell<Tally>, CellSeat<Tally>, CellSeat<Tally>), NoMemory>
-    ensures cell { IfOk result (λ made. length (original_parts ⟦<Tally as Parted>⟧.parts_of made.0) ≡ 2) }
+    ensures cell { IfOk result (λ made.
+            length (original_parts ⟦<Tally as Parted>⟧.parts_of made.0) ≡ 2) }
     ensures own { IfOk result (λ made. IsSeatOf made.0 made.1 × IsSeatOf made.0 made.2) }
     ensures free { IfOk result (λ made. IsFree made.1 × IsFree made.2) }
-    ensures first { IfOk result (λ made. ((view made.1).first ≡ 0) × (length (view made.1).own ≡ 1)) }
-    ensures second { IfOk result (λ made. ((view made.2).first ≡ 1) × (length (view made.2).own ≡ 1)) }
+    ensures first { IfOk result (λ made.
+            ((view made.1).first ≡ 0) × (length (view made.1).own ≡ 1)) }
+    ensures second { IfOk result (λ made.
+            ((view made.2).first ≡ 1) × (length (view made.2).own ≡ 1)) }
 {
     match TurnCell::new(alloc, empty(alloc), 7) {
         Ok((cell, mut first)) => {
@@ -140,12 +144,16 @@ fn two_threads_take_turns(rt: HostRuntime) -> Result<(), Fail> {
     let (mut first, second) = join(
         runtime,
         move || -> CellSeat<Tally>
-            requires { IsSeatOf shared.now first × IsFree first × ((view first).first ≡ 0) × (length (view first).own ≡ 1) }
-            ensures { IsSeatOf shared.entry.now result × IsFree result × ((view result).first ≡ 0) × (length (view result).own ≡ 1) }
+            requires { IsSeatOf shared.now first × IsFree first × ((view first).first ≡ 0)
+                × (length (view first).own ≡ 1) }
+            ensures { IsSeatOf shared.entry.now result × IsFree result × ((view result).first ≡ 0)
+                × (length (view result).own ≡ 1) }
         { count_often(runtime, shared, first, 0) },
         move || -> CellSeat<Tally>
-            requires { IsSeatOf shared.now second × IsFree second × ((view second).first ≡ 1) × (length (view second).own ≡ 1) }
-            ensures { IsSeatOf shared.entry.now result × IsFree result × ((view result).first ≡ 1) × (length (view result).own ≡ 1) }
+            requires { IsSeatOf shared.now second × IsFree second × ((view second).first ≡ 1)
+                × (length (view second).own ≡ 1) }
+            ensures { IsSeatOf shared.entry.now result × IsFree result × ((view result).first ≡ 1)
+                × (length (view result).own ≡ 1) }
         { count_often(runtime, shared, second, 1) },
     );
 

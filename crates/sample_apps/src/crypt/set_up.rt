@@ -143,7 +143,8 @@ impl Crypt {
 
     /// An algorithm with a key gets an object for it.
     fn make_key(&mut self, plan: Plan) -> Ask
-        ensures { ask_for self.new result ≡ rows.key_or_readiness self.old plan (rows.key_kind plan.alg) }
+        ensures { ask_for self.new result
+            ≡ rows.key_or_readiness self.old plan (rows.key_kind plan.alg) }
     {
         let Plan { alg, key, iv, .. } = plan;
         let Some(kind) = key_kind(alg) else {

@@ -22,7 +22,8 @@ impl<T: Parted> TurnCell<T> {
         ensures name { IfOk result (λ made. name_of made.0 ≡ name) }
         ensures own { IfOk result (λ made. IsSeatOf made.0 made.1) }
         ensures free { IfOk result (λ made. IsFree made.1) }
-        ensures seat { IfOk result (λ made. view made.1 ≡ opening_view (T.parts_of value) (T.trail_of value)) }
+        ensures seat { IfOk result (λ made.
+                view made.1 ≡ opening_view (T.parts_of value) (T.trail_of value)) }
         ensures err { IfErr result (λ refused. refused.value ≡ value) }
     {
         let about = Snapshot::of(&value);

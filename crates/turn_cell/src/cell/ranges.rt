@@ -21,7 +21,8 @@ impl<T: Parted> TurnCell<T> {
         ensures left { IsFree seat.new × (view seat.new ≡ left_at from (view seat.old)) }
         ensures right { IsFree result × (view result ≡ right_at from (view seat.old)) }
         ensures left_size { length (view seat.new).own ≡ from - (view seat.old).first }
-        ensures right_size { length (view result).own ≡ (view seat.old).first + length (view seat.old).own - from }
+        ensures right_size { length (view result).own
+            ≡ (view seat.old).first + length (view seat.old).own - from }
     {
         let right = self.cut::<Brand>(seat, from);
         RangeSeat {
@@ -41,7 +42,8 @@ impl<T: Parted> TurnCell<T> {
         requires own { IsSeatOf self.now seat.old }
         requires free { IsFree seat.old }
         requires inside { CutsWithin from (view seat.old) }
-        ensures own { IsSeatOf self.now seat.new × (result.table_id ≡ self.now.table.shared.table_id) }
+        ensures own { IsSeatOf self.now seat.new
+            × (result.table_id ≡ self.now.table.shared.table_id) }
         ensures left { view seat.new ≡ left_at from (view seat.old) }
         ensures right { (result.me.0 ≡ right_at from (view seat.old)) × (result.me.1 ≡ []) }
     {
@@ -56,7 +58,8 @@ impl<T: Parted> TurnCell<T> {
         ensures own { IsSeatOf self.now seat.new }
         ensures joined { IsFree seat.new × (view seat.new ≡ joined (view seat.old) (view other)) }
         ensures first { (view seat.new).first ≡ min (view seat.old).first (view other).first }
-        ensures size { length (view seat.new).own ≡ length (view seat.old).own + length (view other).own }
+        ensures size { length (view seat.new).own
+            ≡ length (view seat.old).own + length (view other).own }
         ensures own_trail { IsPrefix (view seat.old).trail (view seat.new).trail }
         ensures other_trail { IsPrefix (view other).trail (view seat.new).trail }
     {

@@ -18,7 +18,8 @@ impl<T: Parted> TurnCell<T> {
         ensures own { IsSeatOf self.now seat.new }
         ensures taken { HasTaken T.parts_of T.trail_of seat.new result }
         ensures others { view seat.new
-            ≡ with_turn (with_waits (view seat.old) (view seat.new).waiting_tries) (view seat.new).turn 0 }
+            ≡ with_turn (with_waits (view seat.old) (view seat.new).waiting_tries)
+                (view seat.new).turn 0 }
         ensures waited { (view seat.old).waiting_tries < (view seat.new).waiting_tries }
         ensures continues { Continues T.parts_of T.trail_of (view seat.old) result }
     {
@@ -38,10 +39,12 @@ impl<T: Parted> TurnCell<T> {
         requires free { IsFree seat.old }
         ensures own { IsSeatOf self.now seat.new }
         ensures taken { IfOk result (HasTaken T.parts_of T.trail_of seat.new) }
-        ensures others { OnOk result (view seat.new ≡ with_turn (with_wait (view seat.old)) (view seat.new).turn 0) }
+        ensures others { OnOk result
+            (view seat.new ≡ with_turn (with_wait (view seat.old)) (view seat.new).turn 0) }
         ensures continues { IfOk result (Continues T.parts_of T.trail_of (view seat.old)) }
         ensures free { OnErr result (IsFree seat.new) }
-        ensures found { IfErr result (λ word. view seat.new ≡ with_word (with_wait (view seat.old)) word) }
+        ensures found { IfErr result (λ word.
+                view seat.new ≡ with_word (with_wait (view seat.old)) word) }
     {
         let own_word = seat.own_word();
         let word = self.waiting_step(&mut seat.seat, own_word);
@@ -70,11 +73,13 @@ impl<T: Parted> TurnCell<T> {
         requires free { IsFree seat.old }
         ensures own { IsSeatOf self.now seat.new }
         ensures taken { IfOk result (HasTaken T.parts_of T.trail_of seat.new) }
-        ensures others { OnOk result (view seat.new ≡ with_turn (view seat.old) (view seat.new).turn 0) }
+        ensures others { OnOk result
+            (view seat.new ≡ with_turn (view seat.old) (view seat.new).turn 0) }
         ensures continues { IfOk result (Continues T.parts_of T.trail_of (view seat.old)) }
         ensures busy { IfErr result (λ busy. (busy.cell ≡ name_of self.now) × (busy.word ≢ 0)) }
         ensures free { OnErr result (IsFree seat.new) }
-        ensures missed { IfErr result (λ busy. view seat.new ≡ with_miss (view seat.old) busy.word) }
+        ensures missed { IfErr result (λ busy.
+                view seat.new ≡ with_miss (view seat.old) busy.word) }
     {
         let own_word = seat.own_word();
         let word = self.trying_step(&mut seat.seat, own_word);
@@ -123,7 +128,8 @@ impl<T: Parted> TurnCell<T> {
         requires trail { ExtendsTrail T.trail_of (view seat.old) value }
         ensures own { IsSeatOf self.now seat.new }
         ensures free { IsFree seat.new }
-        ensures given { view seat.new ≡ given (view seat.old) (T.parts_of value) (T.trail_of value) }
+        ensures given { view seat.new
+            ≡ given (view seat.old) (T.parts_of value) (T.trail_of value) }
     {
         let own_word = seat.own_word();
         self.slot_home(&mut seat.seat, own_word, value);
@@ -141,7 +147,8 @@ impl<T: Parted> TurnCell<T> {
         requires parts { KeepsOtherParts T.parts_of seat.old.me.0 value }
         requires trail { ExtendsTrail T.trail_of seat.old.me.0 value }
         ensures own { seat.new.table_id ≡ seat.old.table_id }
-        ensures offered { seat.new.me.0 ≡ with_offer seat.old.me.0 (T.parts_of value) (T.trail_of value) }
+        ensures offered { seat.new.me.0
+            ≡ with_offer seat.old.me.0 (T.parts_of value) (T.trail_of value) }
         ensures home { seat.new.me.1 ≡ (0, Some value) ∷ [] }
     {
         let offered = Some(value);
@@ -154,7 +161,8 @@ impl<T: Parted> TurnCell<T> {
     // Ends the turn of a seat whose slot has the value that it announced.
     fn release(&self, seat: &mut TableSeat<T>)
         requires own { seat.old.table_id ≡ self.now.table.shared.table_id }
-        requires home { (x : T) × (seat.old.me.1 ≡ (0, Some x) ∷ []) × Offers T.parts_of T.trail_of seat.old.me.0 x }
+        requires home { (x : T) × (seat.old.me.1 ≡ (0, Some x) ∷ [])
+            × Offers T.parts_of T.trail_of seat.old.me.0 x }
         requires some_part { 0 < length seat.old.me.0.own }
         ensures own { seat.new.table_id ≡ seat.old.table_id }
         ensures given { seat.new.me ≡ (released seat.old.me.0, []) }

@@ -1,6 +1,6 @@
 use Rattle.std.proofs.Common.{◌≡◌, ◌∙◌, ℕ, Bool, Some, find, refl, sym, ap, subst}
 use Rattle.tee_base.specs.declared.codes.Origin.TheVariants.{Tee}
-use Rattle.object_asks.specs.Codes.{target_dead}
+use Rattle.tee_base.specs.declared.codes.TheConstants.Code.{TARGET_DEAD}
 use Rattle.object_asks.specs.Courses.{Course, Outcome, Panicked, Returned, Serves}
 use Rattle.object_asks.specs.Serving.{CrashTurns, serving_of}
 use Rattle.object_asks.specs.declared.outcome.Outcome.{Outcome as Result_of}
@@ -32,8 +32,8 @@ returns-then-entry-ge-ASKS g c inst found =
       step = λ model same doubt.
           let m : Machine g.row.A.Denot = machine_over c.args.self.now before.store doubt in
           subst (λ (k : Course (Machine g.row.A.Denot)). IsStep new before.store replies (acted m inst (mask_noted r ask) (served Serves m ask k))) (sym (course_above m inst.number r ask c.if-entry-ge-ASKS.true))
-          (tears c.args.self.now new replies inst.number target_dead Tee m before.store doubt (subst (λ (n : ℕ). IsTurned new replies (torn_down (machine_of c.args.self.now) n target_dead Tee)) (sym numbered) c.tear_down.ensures) refl);
-      kind = plain_turn t _ _ _ _ c.args.store.now (sym (torn_lost c.args.self.now new replies c.args.number target_dead Tee c.tear_down.ensures));
+          (tears c.args.self.now new replies inst.number TARGET_DEAD Tee m before.store doubt (subst (λ (n : ℕ). IsTurned new replies (torn_down (machine_of c.args.self.now) n TARGET_DEAD Tee)) (sym numbered) c.tear_down.ensures) refl);
+      kind = plain_turn t _ _ _ _ c.args.store.now (sym (torn_lost c.args.self.now new replies c.args.number TARGET_DEAD Tee c.tear_down.ensures));
       tried = none_tried _ (t.status c.args.store.now);
       want = tt;
       starves = tt;
@@ -134,9 +134,9 @@ returns-in-Panicked g c inst found =
           let left : IsLeft outcomes.Panicked stated mid after.store doubt m = subst (λ (o : Result_of). IsLeft o stated mid after.store doubt m) out (met.left model same doubt) in
           let whole : served (serving_of done.kind) m ask (course_after m inst.number r ask) ≡ Panicked = ap (λ (k : Course (Machine g.row.A.Denot)). served (serving_of done.kind) m ask k) (course_below m inst.number c.args.number r ask c.if-entry-ge-ASKS.false numbered) ∙ left.0 in
           subst (λ (o : Outcome (Machine g.row.A.Denot)). IsStep new after.store replies (acted m inst (mask_noted r ask) o)) (sym whole)
-          (tears mid new replies inst.number target_dead Tee m after.store doubt (subst (λ (n : ℕ). IsTurned new replies (torn_down (machine_of mid) n target_dead Tee)) (sym numbered) torn) left.1);
+          (tears mid new replies inst.number TARGET_DEAD Tee m after.store doubt (subst (λ (n : ℕ). IsTurned new replies (torn_down (machine_of mid) n TARGET_DEAD Tee)) (sym numbered) torn) left.1);
       kind = moves t done.kind _ _ _ _ _ _ _ c.args.store.now c.carry_out.new.store (sym (below c.args.entry.asks _ c.if-entry-ge-ASKS.false)) refl
-          (torn_lost mid new replies c.args.number target_dead Tee torn) met.kind;
+          (torn_lost mid new replies c.args.number TARGET_DEAD Tee torn) met.kind;
       tried = c.carry_out.ensures.tried;
       want = tt;
       starves = tt;

@@ -1,6 +1,6 @@
 use Rattle.std.proofs.Common.{◌≡◌, ◌∙◌, true, find, is_some, refl, sym, ap, subst}
 use Rattle.tee_base.specs.declared.codes.Origin.TheVariants.{Tee}
-use Rattle.object_asks.specs.Codes.{out_of_memory}
+use Rattle.tee_base.specs.declared.codes.TheConstants.Code.{OUT_OF_MEMORY}
 use Rattle.object_asks.specs.Serving.{CrashTurns, HasStatus, IsUndamaged, SaysChange, ShowsDamage}
 use Rattle.object_asks.specs.declared.turn.TurnKind.{TurnKind as StoreKind}
 use Rattle.alone.specs.declared.turn.TurnKind.{TurnKind}
@@ -51,7 +51,7 @@ returns-in-Err-clause-turn g c =
     let old_store = c.args.store.now in
     let new_store = c.advance.new.store in
     let want = c.in-Err.ensures.want in
-    let alike = c.in-Err.ensures.starves.alike out_of_memory Tee in
+    let alike = c.in-Err.ensures.starves.alike OUT_OF_MEMORY Tee in
     let machine : machine_of new ≡ (starved (machine_of side) i).machine = c.tear_down.ensures.machine ∙ ap (λ (s : Stepped g.row.A.Denot). s.machine) alike in
     let replies : c.tear_down.new.replies ≡ (starved (machine_of side) i).replies = c.tear_down.ensures.replies ∙ ap (λ (s : Stepped g.row.A.Denot). s.replies) alike in
     record {
