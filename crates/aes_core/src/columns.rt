@@ -157,8 +157,8 @@ pub(crate) fn without_3(a: u8, b: u8, c: u8, key: u32) -> u32
 pub(crate) fn decrypt_column(a: u8, b: u8, c: u8, d: u8, key: u32) -> u32
     ensures { word_bytes result
         ≡ add_columns (inv_mix_column (inverse_substitute a) (inverse_substitute b)
-                (inverse_substitute c) (inverse_substitute d))
-            (word_bytes key) }
+        (inverse_substitute c) (inverse_substitute d))
+        (word_bytes key) }
 {
     decrypt_0(a) ^ decrypt_1(b) ^ decrypt_2(c) ^ decrypt_3(d) ^ key
 }

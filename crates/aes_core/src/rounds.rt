@@ -25,7 +25,7 @@ fn word(a: u8, b: u8, c: u8, d: u8) -> u32
 fn inverse_substitute_word(a: u8, b: u8, c: u8, d: u8) -> u32
     ensures { word_bytes result
         ≡ inverse_substitute a ∷ inverse_substitute b ∷ inverse_substitute c ∷ inverse_substitute d
-            ∷ [] }
+        ∷ [] }
 {
     word(
         inverse_substitute(a),
@@ -96,16 +96,16 @@ pub(crate) fn add_key(state: [u32; 4], key: [u32; 4]) -> [u32; 4]
 fn with_shares(columns: [u32; 4], x: u32) -> [u32; 4]
     ensures first { word_bytes (slice_index result 3)
         ≡ add_columns (word_bytes (slice_index columns 0))
-            (mixed_0 (substitute (slice_index (word_bytes x) 0))) }
+        (mixed_0 (substitute (slice_index (word_bytes x) 0))) }
     ensures second { word_bytes (slice_index result 0)
         ≡ add_columns (word_bytes (slice_index columns 1))
-            (mixed_3 (substitute (slice_index (word_bytes x) 3))) }
+        (mixed_3 (substitute (slice_index (word_bytes x) 3))) }
     ensures third { word_bytes (slice_index result 1)
         ≡ add_columns (word_bytes (slice_index columns 2))
-            (mixed_2 (substitute (slice_index (word_bytes x) 2))) }
+        (mixed_2 (substitute (slice_index (word_bytes x) 2))) }
     ensures fourth { word_bytes (slice_index result 2)
         ≡ add_columns (word_bytes (slice_index columns 3))
-            (mixed_1 (substitute (slice_index (word_bytes x) 1))) }
+        (mixed_1 (substitute (slice_index (word_bytes x) 1))) }
 {
     let b = x.to_be_bytes();
     let second = columns[1] ^ encrypt_3(b[3]);
@@ -120,7 +120,7 @@ fn with_shares(columns: [u32; 4], x: u32) -> [u32; 4]
 pub(crate) fn encrypt_round(state: [u32; 4], key: [u32; 4]) -> [u32; 4]
     ensures { block_bytes result
         ≡ add_round_key (mix_columns (shift_rows (sub_bytes (block_bytes state))))
-            (block_bytes key) }
+        (block_bytes key) }
 {
     let one = with_shares(key, state[0]);
     let two = with_shares(one, state[1]);
@@ -133,16 +133,16 @@ pub(crate) fn encrypt_round(state: [u32; 4], key: [u32; 4]) -> [u32; 4]
 fn with_placed(columns: [u32; 4], x: u32) -> [u32; 4]
     ensures first { word_bytes (slice_index result 3)
         ≡ add_columns (word_bytes (slice_index columns 0))
-            (placed_0 (substitute (slice_index (word_bytes x) 0))) }
+        (placed_0 (substitute (slice_index (word_bytes x) 0))) }
     ensures second { word_bytes (slice_index result 0)
         ≡ add_columns (word_bytes (slice_index columns 1))
-            (placed_3 (substitute (slice_index (word_bytes x) 3))) }
+        (placed_3 (substitute (slice_index (word_bytes x) 3))) }
     ensures third { word_bytes (slice_index result 1)
         ≡ add_columns (word_bytes (slice_index columns 2))
-            (placed_2 (substitute (slice_index (word_bytes x) 2))) }
+        (placed_2 (substitute (slice_index (word_bytes x) 2))) }
     ensures fourth { word_bytes (slice_index result 2)
         ≡ add_columns (word_bytes (slice_index columns 3))
-            (placed_1 (substitute (slice_index (word_bytes x) 1))) }
+        (placed_1 (substitute (slice_index (word_bytes x) 1))) }
 {
     let b = x.to_be_bytes();
     let second = columns[1] ^ last_3(b[3]);
@@ -169,7 +169,7 @@ pub(crate) fn last_round(state: [u32; 4], key: [u32; 4]) -> [u32; 4]
 pub(crate) fn decrypt_round(state: [u32; 4], key: [u32; 4]) -> [u32; 4]
     ensures { block_bytes result
         ≡ add_round_key (inv_mix_columns (inv_sub_bytes (inv_shift_rows (block_bytes state))))
-            (block_bytes key) }
+        (block_bytes key) }
 {
     let a = state[0].to_be_bytes();
     let b = state[1].to_be_bytes();

@@ -62,7 +62,7 @@ impl Stream {
         requires room { length output.old ≡ length input.now }
         ensures { output.new
             ≡ xor_bytes input.now
-                (drop skip (cipher (key_bytes self.now.key) (counter_block counter))) }
+            (drop skip (cipher (key_bytes self.now.key) (counter_block counter))) }
     {
         let end = skip + input.len();
         let mut block = [0; 16];
@@ -87,7 +87,7 @@ impl Stream {
         requires room { length output.old ≡ length input.now }
         ensures { output.new
             ≡ xor_bytes input.now
-                (drop skip (cipher (key_bytes self.now.key) (counter_block counter))) }
+            (drop skip (cipher (key_bytes self.now.key) (counter_block counter))) }
     {
         if input.len() == 16 {
             self.write_whole(start, counter, input, output);

@@ -105,8 +105,8 @@ impl Stream {
             ≤ length output.old }
         ensures text { (c : Conversion) → Represents self.old c
             → text_of (extended c input.now)
-                ≡ text_of c
-                    ++ take (needed_by self.old.mode self.old.count (length input.now)) output.new }
+            ≡ text_of c
+            ++ take (needed_by self.old.mode self.old.count (length input.now)) output.new }
         ensures taken { (c : Conversion) → Represents self.old c
             → Represents self.new (extended c input.now) }
         ensures rest { drop (needed_by self.old.mode self.old.count (length input.now)) output.new

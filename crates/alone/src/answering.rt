@@ -15,9 +15,9 @@ use app_api::Application;
 /// stops it.
 pub fn call_lines_are_answered<A: Application>()
     ensures { (host : Host A) (index : ℕ) (seed : List ℕ) (store : Store) (events : List Event)
-            (client : ℕ) (call : Call)
+        (client : ℕ) (call : Call)
         → CallIsAnswered A.behaviour
-            (machine_after A.behaviour (start host index seed store) events) client call }
+        (machine_after A.behaviour (start host index seed store) events) client call }
 {}
 
 /// Whatever happened, at most 24 operations are unanswered: 16 other than closes, and 8 closes.

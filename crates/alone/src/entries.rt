@@ -49,7 +49,7 @@ pub fn destroy_entry(op: Option<u64>, reply: Option<Reply>) -> Running
 /// The first entry of an operation.
 pub fn first_entry(alloc: Global, created: bool, begun: Begun) -> Result<Running, NoMemory>
     ensures { IfOk result (λ running.
-            running ≡ first_entry created begun.op begun.session begun.call) }
+        running ≡ first_entry created begun.op begun.session begun.call) }
 {
     let op = Some(begun.op);
     let session = begun.session;

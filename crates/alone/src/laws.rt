@@ -37,6 +37,6 @@ pub fn calls_leave_the_storage<A: Application>()
 pub fn turns_without_the_store<A: Application>()
     ensures alike { (m : Machine A) (i : ℕ) (store : Store) → needs_store m i ≡ false
         → turned A.behaviour (with_store store m) i
-            ≡ step_with_store store (turned A.behaviour m i) }
+        ≡ step_with_store store (turned A.behaviour m i) }
     ensures reaches { (m : Machine A) (i : ℕ) → reaches m i ≡ true → needs_store m i ≡ true }
 {}

@@ -85,7 +85,7 @@ impl Params {
     /// Whether each memory reference has at most 524,288 bytes.
     pub fn check(&self) -> Result<(), TooLarge>
         ensures { MatchResult result (λ _. first_oversized self.now ≡ None) (λ e.
-                first_oversized self.now ≡ Some e.0) }
+            first_oversized self.now ≡ Some e.0) }
     {
         if self.p0.is_too_large() {
             Err(TooLarge(0))

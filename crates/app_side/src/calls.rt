@@ -44,8 +44,8 @@ impl<A: Application> AppSide<A> {
         requires room { self.old.queue.next < 2 ^ 63 }
         requires accepted { (is_full self.old.queue && not (is_close_call call)) ≡ false }
         ensures ok { IfOk result (λ waiting.
-                IsCalled self.new waiting self.old.queue.next
-                (queued (machine_of self.old) client instance session call)) }
+            IsCalled self.new waiting self.old.queue.next
+            (queued (machine_of self.old) client instance session call)) }
         ensures err { OnErr result (self.new ≡ self.old) }
     {
         match self.queue.submit(client, instance, session, call) {
@@ -72,8 +72,8 @@ impl<A: Application> AppSide<A> {
         requires admitted { admission_of self.old.table client label ≡ Ok admission }
         requires shared { admission.new_instance ≡ false }
         ensures ok { IfOk result (λ waiting.
-                IsCalled self.new waiting self.old.queue.next
-                (opened_as (machine_of self.old) client label params (Ok admission))) }
+            IsCalled self.new waiting self.old.queue.next
+            (opened_as (machine_of self.old) client label params (Ok admission))) }
         ensures err { OnErr result (machine_of self.new ≡ machine_of self.old) }
     {
         let call = Call::Open { label, params };
@@ -95,8 +95,8 @@ impl<A: Application> AppSide<A> {
         requires admitted { admission_of self.old.table client label ≡ Ok admission }
         requires own { admission.new_instance ≡ true }
         ensures ok { IfOk result (λ waiting.
-                IsCalled self.new waiting self.old.queue.next
-                (opened_as (machine_of self.old) client label params (Ok admission))) }
+            IsCalled self.new waiting self.old.queue.next
+            (opened_as (machine_of self.old) client label params (Ok admission))) }
         ensures err { OnErr result (machine_of self.new ≡ machine_of self.old) }
     {
         let state = self.template.fresh(self.alloc)?;
@@ -122,8 +122,8 @@ impl<A: Application> AppSide<A> {
     fn open(&mut self, client: u8, label: u32, params: Params) -> Result<Called, NoMemory>
         requires { self.old.queue.next < 2 ^ 63 }
         ensures ok { IfOk result (λ waiting.
-                IsCalled self.new waiting self.old.queue.next
-                (called_open (machine_of self.old) client label params)) }
+            IsCalled self.new waiting self.old.queue.next
+            (called_open (machine_of self.old) client label params)) }
         ensures err { OnErr result (machine_of self.new ≡ machine_of self.old) }
     {
         if params.check().is_err() {
@@ -153,8 +153,8 @@ impl<A: Application> AppSide<A> {
     ) -> Result<Called, NoMemory>
         requires { self.old.queue.next < 2 ^ 63 }
         ensures ok { IfOk result (λ waiting.
-                IsCalled self.new waiting self.old.queue.next
-                (called_invoke (machine_of self.old) client label command params)) }
+            IsCalled self.new waiting self.old.queue.next
+            (called_invoke (machine_of self.old) client label command params)) }
         ensures err { OnErr result (machine_of self.new ≡ machine_of self.old) }
     {
         if params.check().is_err() {
@@ -186,8 +186,8 @@ impl<A: Application> AppSide<A> {
     fn close(&mut self, client: u8, label: u32) -> Result<Called, NoMemory>
         requires { self.old.queue.next < 2 ^ 63 }
         ensures ok { IfOk result (λ waiting.
-                IsCalled self.new waiting self.old.queue.next (closed_in (machine_of self.old)
-                    client label (known (machine_of self.old) client label))) }
+            IsCalled self.new waiting self.old.queue.next (closed_in (machine_of self.old)
+            client label (known (machine_of self.old) client label))) }
         ensures err { OnErr result (machine_of self.new ≡ machine_of self.old) }
     {
         let Some(known) = self.table.find(client, label) else {
@@ -220,8 +220,8 @@ impl<A: Application> AppSide<A> {
     pub(crate) fn serve(&mut self, client: u8, call: Call) -> Result<Called, NoMemory>
         requires { self.old.queue.next < 2 ^ 63 }
         ensures ok { IfOk result (λ waiting.
-                IsCalled self.new waiting self.old.queue.next
-                (called (machine_of self.old) client call)) }
+            IsCalled self.new waiting self.old.queue.next
+            (called (machine_of self.old) client call)) }
         ensures err { OnErr result (machine_of self.new ≡ machine_of self.old) }
     {
         match call {

@@ -33,7 +33,7 @@ impl<A: Application> AppSide<A> {
         seed: [u8; 32],
     ) -> Result<AppSide<A>, NoMemory>
         ensures start { IfOk result (λ side.
-                (store : Store) → Represents side (start host application seed store)) }
+            (store : Store) → Represents side (start host application seed store)) }
         ensures lost { IfOk result (λ side. is_lost side ≡ false) }
         ensures turns { IfOk result (λ side. turns_of side ≡ 0) }
         ensures boot { IfOk result (λ side. boot_of side ≡ 0) }
@@ -58,16 +58,16 @@ impl<A: Application> AppSide<A> {
     /// drops the call.
     pub fn call(&mut self, client: u8, call: Call) -> Result<Called, NoMemory>
         ensures ok { IfOk result (λ made.
-                (m : Machine A) → Represents self.old m
-                → Represents self.new (called m client call).machine) }
+            (m : Machine A) → Represents self.old m
+            → Represents self.new (called m client call).machine) }
         ensures replies { IfOk result (λ made.
-                (m : Machine A) → Represents self.old m
-                → made.replies ≡ (called m client call).replies) }
+            (m : Machine A) → Represents self.old m
+            → made.replies ≡ (called m client call).replies) }
         ensures instance { IfOk result (λ made.
-                (m : Machine A) → Represents self.old m
-                → made.instance ≡ (called m client call).instance) }
+            (m : Machine A) → Represents self.old m
+            → made.instance ≡ (called m client call).instance) }
         ensures number { IfOk result (λ made.
-                (m : Machine A) → Represents self.old m → made.op ≡ m.queue.next) }
+            (m : Machine A) → Represents self.old m → made.op ≡ m.queue.next) }
         ensures lost { is_lost self.new ≡ is_lost self.old }
         ensures err { OnErr result
             ((m : Machine A) → Represents self.old m → Represents self.new m) }
@@ -103,7 +103,7 @@ impl<A: Application> AppSide<A> {
             self.old self.new store.old store.new }
         ensures tried { (m : Machine A) → Represents self.old m
             → TriesOnce (is_changing m instance) (T.keeper.status store.old)
-                (T.keeper.status store.new) }
+            (T.keeper.status store.new) }
     {
         let mut replies = Replies::none();
         let kind = self.turn_into(instance, store, &mut replies);
@@ -124,7 +124,7 @@ impl<A: Application> AppSide<A> {
             self.old self.new store.old store.new }
         ensures tried { (m : Machine A) → Represents self.old m
             → TriesOnce (is_changing m instance) (T.keeper.status store.old)
-                (T.keeper.status store.new) }
+            (T.keeper.status store.new) }
     {
         match self.advance(store, instance, replies) {
             Ok(kind) => TurnKind::of(kind),

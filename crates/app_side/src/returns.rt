@@ -128,10 +128,12 @@ impl<A: Application> AppSide<A> {
         requires { IsPlace number self.old.instances.items place }
         ensures { (inst : Instance A) → find (is_number number) self.old.instances.items ≡ Some inst
             → machine_of self.new
-                ≡ with_instance
-                    (record (machine_of self.old) { queue = masked_again self.old.queue op })
-                    (record inst {
-                        created = true; running = Some (start_begun op session params places) }) }
+            ≡ with_instance
+            (record (machine_of self.old) { queue = masked_again self.old.queue op })
+            (record inst {
+              created = true;
+              running = Some (start_begun op session params places);
+            }) }
     {
         self.mask_again(op);
         let current = &mut self.instances[place];
@@ -154,12 +156,12 @@ impl<A: Application> AppSide<A> {
         requires none { replies.old ≡ [] }
         ensures { (inst : Instance A) → find (is_number number) self.old.instances.items ≡ Some inst
             → IsTurned self.new replies.new (if is_success code
-                    then answered (record (machine_of self.old)
-                            { table = state_set self.old.table session SessionState.Open })
-                        inst op code outputs
-                    else after_session (record (machine_of self.old)
-                            { table = session_removed self.old.table session })
-                        inst op code outputs) }
+            then answered (record (machine_of self.old)
+            { table = state_set self.old.table session SessionState.Open })
+            inst op code outputs
+            else after_session (record (machine_of self.old)
+            { table = session_removed self.old.table session })
+            inst op code outputs) }
     {
         if is_success(code) {
             self.table.set(session, SessionState::Open);

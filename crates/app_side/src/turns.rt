@@ -56,8 +56,8 @@ impl<A: Application> AppSide<A> {
     fn begin(&mut self, place: usize, number: u8) -> Result<(), NoMemory>
         requires { IsPlace number self.old.instances.items place }
         ensures ok { OnOk result ((inst : Instance A)
-                → find (is_number number) self.old.instances.items ≡ Some inst
-                → machine_of self.new ≡ begun (machine_of self.old) inst) }
+            → find (is_number number) self.old.instances.items ≡ Some inst
+            → machine_of self.new ≡ begun (machine_of self.old) inst) }
         ensures err { OnErr result (IsTornAlike number self.new (machine_of self.old)) }
     {
         self.queue.bounds();
@@ -85,12 +85,17 @@ impl<A: Application> AppSide<A> {
     ) -> Result<(), NoMemory>
         requires { IsPlace number self.old.instances.items place }
         ensures ok { OnOk result ((inst : Instance A)
-                → find (is_number number) self.old.instances.items ≡ Some inst → (waits : Waits)
-                → machine_of self.new
-                    ≡ thought A.behaviour (machine_of self.old) inst
-                        (record { op = entry.op; stage = entry.stage; waits = waits;
-                            asks = entry.asks; masked = entry.masked })
-                        given) }
+            → find (is_number number) self.old.instances.items ≡ Some inst → (waits : Waits)
+            → machine_of self.new
+            ≡ thought A.behaviour (machine_of self.old) inst
+            (record {
+              op = entry.op;
+              stage = entry.stage;
+              waits = waits;
+              asks = entry.asks;
+              masked = entry.masked;
+            })
+            given) }
         ensures err { OnErr result (IsTornAlike number self.new (machine_of self.old)) }
     {
         let alloc = self.alloc;
@@ -176,12 +181,12 @@ impl<A: Application> AppSide<A> {
         requires none { replies.old ≡ [] }
         ensures { (inst : Instance A) → find (is_number number) self.old.instances.items ≡ Some inst
             → TakesTurn T.keeper
-                (λ serving m. went_on A.behaviour serving m inst running running.waits)
-                (of_waits
-                    (reaching (objects_in self.old.held (T.keeper.contents store.old)) number)
-                    running running.waits)
-                (of_waits changing running running.waits)
-                number result self.old self.new replies.new store.old store.new }
+            (λ serving m. went_on A.behaviour serving m inst running running.waits)
+            (of_waits
+            (reaching (objects_in self.old.held (T.keeper.contents store.old)) number)
+            running running.waits)
+            (of_waits changing running running.waits)
+            number result self.old self.new replies.new store.old store.new }
     {
         let Running {
             op,
@@ -218,12 +223,12 @@ impl<A: Application> AppSide<A> {
         ensures { let found = find (is_number number) self.old.instances.items
             in (inst : Instance A) → found ≡ Some inst
             → TakesTurn T.keeper
-                (λ serving m. turned_by A.behaviour serving m inst inst.running)
-                (of_instance
-                    (reaching (objects_in self.old.held (T.keeper.contents store.old)) number)
-                    found)
-                (of_instance changing found)
-                number result self.old self.new replies.new store.old store.new }
+            (λ serving m. turned_by A.behaviour serving m inst inst.running)
+            (of_instance
+            (reaching (objects_in self.old.held (T.keeper.contents store.old)) number)
+            found)
+            (of_instance changing found)
+            number result self.old self.new replies.new store.old store.new }
     {
         if self.instances[place].running.is_none() {
             self.begin(place, number)?;
@@ -247,12 +252,12 @@ impl<A: Application> AppSide<A> {
         requires none { replies.old ≡ [] }
         ensures { let found = find (is_number instance) self.old.instances.items
             in AdvancesTurn T.keeper
-                (λ serving m. turned_as A.behaviour serving m instance)
-                (of_instance
-                    (reaching (objects_in self.old.held (T.keeper.contents store.old)) instance)
-                    found)
-                (of_instance changing found)
-                instance result self.old self.new replies.new store.old store.new }
+            (λ serving m. turned_as A.behaviour serving m instance)
+            (of_instance
+            (reaching (objects_in self.old.held (T.keeper.contents store.old)) instance)
+            found)
+            (of_instance changing found)
+            instance result self.old self.new replies.new store.old store.new }
     {
         self.turns += 1;
         match place_of(self.instances.as_slice(), instance) {

@@ -49,7 +49,7 @@ pub trait Board {
             → (view self.new).state.reads ≡ (view self.old).state.reads }
         ensures honest { honest self.old
             → honest self.new × Answered (view self.old) (view self.new)
-                × Unchanged (view self.old).state (view self.new).state };
+            × Unchanged (view self.old).state (view self.new).state };
 
     /// Writes a block. Until the next Ok of `sync` a crash may leave any bytes in it.
     fn write(&mut self, block: u64, from: &[u8; 1024]) -> Result<(), BoardFailed>
@@ -58,7 +58,7 @@ pub trait Board {
         ensures writes { (view self.new).writes ≡ capped ((view self.old).writes + 1) }
         ensures honest { honest self.old
             → honest self.new × Answered (view self.old) (view self.new)
-                × Wrote block from.now (is_ok result) (view self.old).state (view self.new).state };
+            × Wrote block from.now (is_ok result) (view self.old).state (view self.new).state };
 
     /// Makes durable what reads give.
     fn sync(&mut self) -> Result<(), BoardFailed>
@@ -66,7 +66,7 @@ pub trait Board {
         ensures writes { (view self.new).writes ≡ (view self.old).writes }
         ensures honest { honest self.old
             → honest self.new × Answered (view self.old) (view self.new)
-                × Synced (is_ok result) (view self.old).state (view self.new).state };
+            × Synced (is_ok result) (view self.old).state (view self.new).state };
 
     /// The counter.
     fn counter(&mut self) -> Result<u64, BoardFailed>
@@ -74,7 +74,7 @@ pub trait Board {
         ensures writes { (view self.new).writes ≡ (view self.old).writes }
         ensures honest { honest self.old
             → honest self.new × Answered (view self.old) (view self.new)
-                × Counted result (view self.old).state (view self.new).state };
+            × Counted result (view self.old).state (view self.new).state };
 
     /// Raises the counter by one and gives the new one. At the counter 2^64 - 1 it always fails.
     fn advance(&mut self) -> Result<u64, BoardFailed>
@@ -82,7 +82,7 @@ pub trait Board {
         ensures writes { (view self.new).writes ≡ (view self.old).writes }
         ensures honest { honest self.old
             → honest self.new × Answered (view self.old) (view self.new)
-                × Advanced result (view self.old).state (view self.new).state };
+            × Advanced result (view self.old).state (view self.new).state };
 
     /// Lets the next `calls` calls of `read`, `write`, `sync`, `counter` and `advance` pass. The one after them is
     /// interrupted and fails, and every later one fails and does nothing, until `power`.

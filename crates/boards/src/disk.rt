@@ -62,7 +62,7 @@ impl Disk {
         requires { IsWhole self.now }
         ensures count { IfOk result (λ bytes. length bytes ≡ 1024 * vec_len self.now.durable) }
         ensures blocks { IfOk result (λ bytes.
-                (k : ℕ) → k < vec_len self.now.durable → block_at bytes k ≡ reads_of self.now k) }
+            (k : ℕ) → k < vec_len self.now.durable → block_at bytes k ≡ reads_of self.now k) }
     {
         image::join(alloc, &self.seen)
     }
@@ -251,8 +251,10 @@ impl Disk {
     fn settle(&mut self, pick: u64) -> u64
         ensures digits { result ≡ digits_of self.old.unsettled pick }
         ensures counter { self.new
-            ≡ record self.old { counter = landed_counter self.old.unsettled pick self.old.counter;
-                    unsettled = false } }
+            ≡ record self.old {
+              counter = landed_counter self.old.unsettled pick self.old.counter;
+              unsettled = false;
+            } }
     {
         if !self.unsettled {
             return pick;
@@ -284,8 +286,8 @@ impl Disk {
         ensures size { vec_len self.new.durable ≡ vec_len self.old.durable }
         ensures image { (k : ℕ)
             → durable_of self.new k
-                ≡ landed_image digits (pending_of self.old) (durable_of self.old)
-                    (offered_of self.old) k }
+            ≡ landed_image digits (pending_of self.old) (durable_of self.old)
+            (offered_of self.old) k }
         ensures blocks { (k : ℕ) → pending_of self.old k ≡ true
             → length (durable_of self.new k) ≡ 1024 }
         ensures pending { (k : ℕ) → pending_of self.new k ≡ false }
@@ -310,8 +312,8 @@ impl Disk {
         ensures size { vec_len self.new.durable ≡ vec_len self.old.durable }
         ensures image { (k : ℕ)
             → reads_of self.new k
-                ≡ landed_image (digits_of self.old.unsettled pick) (pending_of self.old)
-                    (durable_of self.old) (offered_of self.old) k }
+            ≡ landed_image (digits_of self.old.unsettled pick) (pending_of self.old)
+            (durable_of self.old) (offered_of self.old) k }
         ensures counter { self.new.counter
             ≡ landed_counter self.old.unsettled pick self.old.counter }
         ensures powered { Powered (state_of self.old) (state_of self.new) }

@@ -24,7 +24,7 @@ pub fn split(alloc: Global, image: &[u8]) -> Result<Vec<[u8; 1024]>, NoMemory>
     ensures count { IfOk result (λ v. 1024 * vec_len v ≡ length image.now) }
     ensures whole { IfOk result (λ v. AreBlocks v.items) }
     ensures blocks { IfOk result (λ v.
-            (k : ℕ) → k < vec_len v → slice_index_or v.items k [] ≡ block_at image.now k) }
+        (k : ℕ) → k < vec_len v → slice_index_or v.items k [] ≡ block_at image.now k) }
 {
     let count = image.len() / 1024;
     let mut pieces = Vec::with_capacity(alloc, count)?;
@@ -40,7 +40,7 @@ pub fn split(alloc: Global, image: &[u8]) -> Result<Vec<[u8; 1024]>, NoMemory>
 pub fn join(alloc: Global, blocks: &[[u8; 1024]]) -> Result<Bytes, NoMemory>
     ensures count { IfOk result (λ bytes. length bytes ≡ 1024 * length blocks.now) }
     ensures blocks { IfOk result (λ bytes.
-            (k : ℕ) → k < length blocks.now → block_at bytes k ≡ slice_index_or blocks.now k []) }
+        (k : ℕ) → k < length blocks.now → block_at bytes k ≡ slice_index_or blocks.now k []) }
 {
     let mut bytes = Vec::new(alloc);
     for block in blocks {

@@ -37,7 +37,7 @@ impl MemBoard {
     pub fn blank(alloc: Global, key: [u8; 32], blocks: u64) -> Result<MemBoard, NoMemory>
         ensures new { IfOk result (λ b. IsNew key blocks 0 (memory_of b)) }
         ensures zero { IfOk result (λ b.
-                (k : ℕ) → k < blocks → (view_of b).state.reads k ≡ replicate 1024 0) }
+            (k : ℕ) → k < blocks → (view_of b).state.reads k ≡ replicate 1024 0) }
     {
         let zero = image::repeated(alloc, [0; 1024], blocks as usize)?;
         MemBoard::of_blocks(alloc, zero, 0, key)
@@ -53,7 +53,7 @@ impl MemBoard {
         requires { length image % 1024 ≡ 0 }
         ensures new { IfOk result (λ b. IsNew key (length image / 1024) counter (memory_of b)) }
         ensures blocks { IfOk result (λ b.
-                (k : ℕ) → k < length image / 1024 → (view_of b).state.reads k ≡ block_at image k) }
+            (k : ℕ) → k < length image / 1024 → (view_of b).state.reads k ≡ block_at image k) }
     {
         let blocks = image::split(alloc, image.as_slice())?;
         MemBoard::of_blocks(alloc, blocks, counter, key)
@@ -68,7 +68,7 @@ impl MemBoard {
         requires { AreBlocks blocks.items }
         ensures new { IfOk result (λ b. IsNew key (vec_len blocks) counter (memory_of b)) }
         ensures blocks { IfOk result (λ b.
-                (k : ℕ) → (view_of b).state.reads k ≡ slice_index_or blocks.items k []) }
+            (k : ℕ) → (view_of b).state.reads k ≡ slice_index_or blocks.items k []) }
     {
         Ok(MemBoard {
             disk: Disk::of_blocks(alloc, blocks, counter)?,
@@ -88,8 +88,8 @@ impl MemBoard {
     /// from 0 since the board was made.
     pub fn failing(&mut self, calls: &[u64]) -> Result<(), NoMemory>
         ensures ok { OnOk result (memory_of self.new
-                ≡ record (memory_of self.old)
-                    { failing = (memory_of self.old).failing ++ calls.now }) }
+            ≡ record (memory_of self.old)
+            { failing = (memory_of self.old).failing ++ calls.now }) }
         ensures err { OnErr result (memory_of self.new ≡ memory_of self.old) }
     {
         self.schedule.name(calls)
@@ -99,8 +99,8 @@ impl MemBoard {
     pub fn image(&self, alloc: Global) -> Result<Bytes, NoMemory>
         ensures count { IfOk result (λ bytes. length bytes ≡ 1024 * (view_of self.now).size) }
         ensures blocks { IfOk result (λ bytes.
-                (k : ℕ) → k < (view_of self.now).size
-                → block_at bytes k ≡ (view_of self.now).state.reads k) }
+            (k : ℕ) → k < (view_of self.now).size
+            → block_at bytes k ≡ (view_of self.now).state.reads k) }
     {
         self.disk.image(alloc)
     }
@@ -136,7 +136,7 @@ impl Board for MemBoard {
         ensures same { (view_of self.new).state.reads ≡ (view_of self.old).state.reads }
         ensures honest { IsHonest self.old
             → IsHonest self.new × Answered (view_of self.old) (view_of self.new)
-                × Unchanged (view_of self.old).state (view_of self.new).state }
+            × Unchanged (view_of self.old).state (view_of self.new).state }
         ensures exact { IsExact true (is_ok result) (memory_of self.old) (memory_of self.new) }
         ensures offered { (memory_of self.new).offered ≡ (memory_of self.old).offered }
     {
@@ -151,8 +151,8 @@ impl Board for MemBoard {
         ensures writes { (view_of self.new).writes ≡ capped ((view_of self.old).writes + 1) }
         ensures honest { IsHonest self.old
             → IsHonest self.new × Answered (view_of self.old) (view_of self.new)
-                × Wrote block from.now (is_ok result) (view_of self.old).state
-                    (view_of self.new).state }
+            × Wrote block from.now (is_ok result) (view_of self.old).state
+            (view_of self.new).state }
         ensures exact { IsExact true (is_ok result) (memory_of self.old) (memory_of self.new) }
         ensures earlier { is_ok result ≡ false
             → (view_of self.new).state.reads ≡ (view_of self.old).state.reads }
@@ -171,7 +171,7 @@ impl Board for MemBoard {
         ensures writes { (view_of self.new).writes ≡ (view_of self.old).writes }
         ensures honest { IsHonest self.old
             → IsHonest self.new × Answered (view_of self.old) (view_of self.new)
-                × Synced (is_ok result) (view_of self.old).state (view_of self.new).state }
+            × Synced (is_ok result) (view_of self.old).state (view_of self.new).state }
         ensures exact { IsExact true (is_ok result) (memory_of self.old) (memory_of self.new) }
         ensures offered { (memory_of self.new).offered ≡ (memory_of self.old).offered }
     {
@@ -185,7 +185,7 @@ impl Board for MemBoard {
         ensures writes { (view_of self.new).writes ≡ (view_of self.old).writes }
         ensures honest { IsHonest self.old
             → IsHonest self.new × Answered (view_of self.old) (view_of self.new)
-                × Counted result (view_of self.old).state (view_of self.new).state }
+            × Counted result (view_of self.old).state (view_of self.new).state }
         ensures exact { IsExact true (is_ok result) (memory_of self.old) (memory_of self.new) }
         ensures value { IfOk result (λ n. n ≡ (view_of self.old).state.counter) }
         ensures offered { (memory_of self.new).offered ≡ (memory_of self.old).offered }
@@ -200,15 +200,15 @@ impl Board for MemBoard {
         ensures writes { (view_of self.new).writes ≡ (view_of self.old).writes }
         ensures honest { IsHonest self.old
             → IsHonest self.new × Answered (view_of self.old) (view_of self.new)
-                × Advanced result (view_of self.old).state (view_of self.new).state }
+            × Advanced result (view_of self.old).state (view_of self.new).state }
         ensures exact { IsExact (nat_lt (view_of self.old).state.counter (2 ^ 64 - 1))
             (is_ok result) (memory_of self.old) (memory_of self.new) }
         ensures value { IfOk result (λ n. n ≡ (view_of self.old).state.counter + 1) }
         ensures unsettled { is_ok result ≡ false
             → (memory_of self.new).unsettled
-                ≡ (if is_interrupted (next_fate (memory_of self.old))
-                        then true
-                        else (memory_of self.old).unsettled) }
+            ≡ (if is_interrupted (next_fate (memory_of self.old))
+            then true
+            else (memory_of self.old).unsettled) }
         ensures offered { (memory_of self.new).offered ≡ (memory_of self.old).offered }
     {
         self.past = self.past.then(&self.disk);
@@ -221,7 +221,7 @@ impl Board for MemBoard {
         ensures fuse { (view_of self.new).fuse ≡ refitted (view_of self.old).fuse calls }
         ensures honest { IsHonest self.old
             → IsHonest self.new × Passes (view_of self.old) (view_of self.new)
-                × Unchanged (view_of self.old).state (view_of self.new).state }
+            × Unchanged (view_of self.old).state (view_of self.new).state }
         ensures exact { IsOrder (memory_of self.old) (memory_of self.new) }
     {
         self.past = self.past.then(&self.disk);
@@ -235,7 +235,7 @@ impl Board for MemBoard {
         ensures fuse { (view_of self.new).fuse ≡ Unset }
         ensures honest { IsHonest self.old
             → IsHonest self.new × Passes (view_of self.old) (view_of self.new)
-                × Powered (view_of self.old).state (view_of self.new).state }
+            × Powered (view_of self.old).state (view_of self.new).state }
         ensures exact { IsOrder (memory_of self.old) (memory_of self.new) }
         ensures image { (k : ℕ)
             → (view_of self.new).state.reads k ≡ image_after pick (memory_of self.old) k }

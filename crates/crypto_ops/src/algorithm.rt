@@ -23,7 +23,7 @@ pub enum Algorithm {
 pub fn algorithm_at(number: u32, mode: u32) -> Option<Algorithm>
     ensures table { result ≡ table.algorithm_at number mode }
     ensures numbers { IfSome result (λ a.
-            (table.algorithm_number a ≡ number) × (table.mode_number a ≡ mode)) }
+        (table.algorithm_number a ≡ number) × (table.mode_number a ≡ mode)) }
 {
     match number {
         keys::AES_ECB => cipher_at(Mode::Ecb, mode),
@@ -42,8 +42,8 @@ pub fn algorithm_at(number: u32, mode: u32) -> Option<Algorithm>
 fn cipher_at(mode: Mode, number: u32) -> Option<Algorithm>
     ensures table { result ≡ table.cipher_at mode number }
     ensures numbers { IfSome result (λ a.
-            (table.algorithm_number a ≡ table.algorithm_number (Algorithm.Cipher mode Way.Encrypt))
-            × (table.mode_number a ≡ number)) }
+        (table.algorithm_number a ≡ table.algorithm_number (Algorithm.Cipher mode Way.Encrypt))
+        × (table.mode_number a ≡ number)) }
 {
     match number {
         keys::MODE_ENCRYPT => Some(Algorithm::Cipher(mode, Way::Encrypt)),
@@ -55,8 +55,8 @@ fn cipher_at(mode: Mode, number: u32) -> Option<Algorithm>
 fn mac_at(hash: Hash, number: u32) -> Option<Algorithm>
     ensures table { result ≡ table.mac_at hash number }
     ensures numbers { IfSome result (λ a.
-            (table.algorithm_number a ≡ table.algorithm_number (Algorithm.Mac hash))
-            × (table.mode_number a ≡ number)) }
+        (table.algorithm_number a ≡ table.algorithm_number (Algorithm.Mac hash))
+        × (table.mode_number a ≡ number)) }
 {
     if number == keys::MODE_MAC {
         Some(Algorithm::Mac(hash))
@@ -68,8 +68,8 @@ fn mac_at(hash: Hash, number: u32) -> Option<Algorithm>
 fn digest_at(hash: Hash, number: u32) -> Option<Algorithm>
     ensures table { result ≡ table.digest_at hash number }
     ensures numbers { IfSome result (λ a.
-            (table.algorithm_number a ≡ table.algorithm_number (Algorithm.Digest hash))
-            × (table.mode_number a ≡ number)) }
+        (table.algorithm_number a ≡ table.algorithm_number (Algorithm.Digest hash))
+        × (table.mode_number a ≡ number)) }
 {
     if number == keys::MODE_DIGEST {
         Some(Algorithm::Digest(hash))

@@ -70,7 +70,7 @@ fn converted(alloc: Global, stream: &mut Stream, bytes: &[u8], room: u32) -> Res
     requires { length bytes.now ≤ ASK_BYTES }
     ensures answer { (c : Conversion) → streams.Represents stream.old c
         → Answers result
-            (content_within room (needed_of c (length bytes.now)) (part_of c bytes.now)) }
+        (content_within room (needed_of c (length bytes.now)) (part_of c bytes.now)) }
     ensures joined { (c : Conversion) → streams.Represents stream.old c
         → IfOk result (λ part. text_of (extended c bytes.now) ≡ text_of c ++ part) }
     ensures taken { (c : Conversion) → streams.Represents stream.old c

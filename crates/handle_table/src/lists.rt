@@ -48,10 +48,10 @@ pub fn flags_at(handles: &[Entry], instance: u8, number: u32) -> Option<Flags>
 pub fn add(handles: &mut Vec<Entry>, instance: u8, handle: Handle) -> Result<u32, NoMemory>
     requires { count_by (is_of instance) handles.old.items ≤ 16 }
     ensures ok { IfOk result (λ n.
-            (n ≡ free_number handles.old.items instance)
-            × (handles.new.items
-                    ≡ handles.old.items
-                        ++ record { instance = instance; number = n; handle = handle } ∷ [])) }
+        (n ≡ free_number handles.old.items instance)
+        × (handles.new.items
+        ≡ handles.old.items
+        ++ record { instance = instance; number = n; handle = handle } ∷ [])) }
     ensures unchanged { OnErr result (handles.new.items ≡ handles.old.items) }
 {
     let number = free_number(handles.as_slice(), instance);
@@ -119,7 +119,7 @@ pub fn note_rename(
     rename: &Rename,
 ) -> Result<(), NoMemory>
     ensures noted { OnOk result (HoldsFor shares.new
-            (shares.old ++ option_to_list (pending_share (Some rename.now) handles.now))) }
+        (shares.old ++ option_to_list (pending_share (Some rename.now) handles.now))) }
     ensures unchanged { OnErr result (shares.new ≡ shares.old) }
 {
     let Some(flags) = flags_at(handles, rename.instance, rename.number) else {
@@ -131,7 +131,7 @@ pub fn note_rename(
 /// Ends a rename: where it took, the handle is on the new identifier. One of the two that are noted is forgotten.
 pub fn end_rename(handles: &mut Vec<Entry>, shares: &mut ShareIndex, rename: Rename, took: bool)
     requires { HoldsFor shares.old (shares_of handles.old.items
-            ++ option_to_list (pending_share (Some rename) handles.old.items)) }
+        ++ option_to_list (pending_share (Some rename) handles.old.items)) }
     ensures handles { handles.new.items ≡ ended_by (Some rename) handles.old.items took }
     ensures shares { HoldsFor shares.new (shares_of handles.new.items) }
 {

@@ -39,8 +39,8 @@ pub fn add_instance(slots: &mut ArrayVec<Slot, 4>, admission: Admission)
     requires { admission.new_instance ≡ true → length slots.old.items < INSTANCES }
     ensures { slots.new.items
         ≡ (if admission.new_instance
-                then slots.old.items ++ record { number = admission.instance; ending = false } ∷ []
-                else slots.old.items) }
+        then slots.old.items ++ record { number = admission.instance; ending = false } ∷ []
+        else slots.old.items) }
 {
     if admission.new_instance {
         slots.push(Slot {

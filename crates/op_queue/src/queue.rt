@@ -66,8 +66,8 @@ impl OpQueue {
     ) -> Result<u64, QueueAnswer>
         requires { self.old.next ≤ 2 ^ 63 }
         ensures ok { IfOk result (λ n.
-                (n ≡ self.old.next)
-                × (self.new ≡ submitted self.old client instance session call)) }
+            (n ≡ self.old.next)
+            × (self.new ≡ submitted self.old client instance session call)) }
         ensures full { (result ≡ Err QueueAnswer.Full) ↔ IsTrue
             (is_full self.old && not (is_close_call call)) }
         ensures unchanged { OnErr result (self.new ≡ self.old) }

@@ -244,7 +244,7 @@ impl Crypt {
     /// An answer comes. On `Err` the state stays.
     fn answered(&mut self, alloc: Global, answer: Answer) -> Result<Ask, NoMemory>
         ensures ok { IfOk result (λ ask.
-                ask_for self.new ask ≡ rows.reaction_to_answer self.old answer) }
+            ask_for self.new ask ≡ rows.reaction_to_answer self.old answer) }
         ensures err { OnErr result (self.new ≡ self.old) }
     {
         let mut beginning = self.beginning(alloc)?;

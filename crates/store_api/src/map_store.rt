@@ -178,7 +178,7 @@ impl MapStore {
         ensures limits { IsWithinLimits self.old.store }
         ensures later { self.old.plan.faults ≤ self.new.plan.faults }
         ensures rose { IfErr result (λ answer.
-                answer ≡ Failed → Rose self.old.plan.faults self.new.plan.faults) }
+            answer ≡ Failed → Rose self.old.plan.faults self.new.plan.faults) }
     {
         self.objects.keep_limits();
         if self.lost {
@@ -198,7 +198,7 @@ impl MapStore {
         ensures limits { IsWithinLimits self.old.store }
         ensures later { self.old.plan.faults ≤ self.new.plan.faults }
         ensures rose { IfErr result (λ answer.
-                answer ≡ Failed → Rose self.old.plan.faults self.new.plan.faults) }
+            answer ≡ Failed → Rose self.old.plan.faults self.new.plan.faults) }
     {
         self.change_attempts = self.change_attempts.one_more();
         self.begin()

@@ -181,7 +181,7 @@ impl Objects {
     pub fn next_after(&self, last: Option<&[u8]>) -> Option<(&Vec<u8>, &Object)>
         ensures next { option_map (λ entry. (entry.0.now.items, entry.1.now)) result
             ≡ find (λ entry. is_after_of (option_copied last.entry) entry.0)
-                (finite.entries self.now) }
+            (finite.entries self.now) }
         ensures identifier { IfSome result (λ entry. IsIdentifier entry.0.now.items) }
         ensures secret { IfSome result (λ entry. IsSecret entry.1.now.secret) }
         ensures content { IfSome result (λ entry. length entry.1.now.content ≤ 260096) }

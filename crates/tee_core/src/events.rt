@@ -25,7 +25,7 @@ fn start_all<A: Application>(
 ) -> Result<Vec<Hosted<A>>, NoMemory>
     requires { length hosts.items ≤ 16 }
     ensures { IfOk result (λ hosted.
-            AreHosted hosted.items (world_of hosts.items seed (λ app. empty_store))) }
+        AreHosted hosted.items (world_of hosts.items seed (λ app. empty_store))) }
 {
     let mut rest = VecDeque::from(hosts);
     let mut hosted = Vec::new(alloc);
@@ -41,7 +41,7 @@ impl<A: Application> Tee<A> {
     pub fn new(alloc: Global, hosts: Vec<Host<A>>, seed: [u8; 32]) -> Result<Tee<A>, NoMemory>
         requires { HostsFit hosts.items }
         ensures world { IfOk result (λ tee.
-                Represents tee (world_of hosts.items seed (λ app. empty_store))) }
+            Represents tee (world_of hosts.items seed (λ app. empty_store))) }
         ensures apps { IfOk result (λ tee. app_count tee ≡ length hosts.items) }
     {
         let hosted = start_all(alloc, hosts, seed)?;
@@ -56,11 +56,11 @@ impl<A: Application> Tee<A> {
     pub fn event(&mut self, event: Event) -> Result<Happened, NoMemory>
         requires { app_of event < app_count self.old }
         ensures world { OnOk result ((world : World A) → Represents self.old world
-                → Represents self.new (world_step A.behaviour world (event_of event))) }
+            → Represents self.new (world_step A.behaviour world (event_of event))) }
         ensures told { IfOk result (λ told.
-                (world : World A) (m : Machine A) → Represents self.old world
-                → slice_get world (app_of event) ≡ Some m
-                → told ≡ happening A.behaviour m (machine_event event)) }
+            (world : World A) (m : Machine A) → Represents self.old world
+            → slice_get world (app_of event) ≡ Some m
+            → told ≡ happening A.behaviour m (machine_event event)) }
         ensures err { OnErr result
             (LeftByWant event (applications_of self.old) (applications_of self.new)) }
         ensures apps { app_count self.new ≡ app_count self.old }
@@ -85,11 +85,11 @@ impl<A: Application> Tee<A> {
     ) -> Result<RunReplies, NoMemory>
         requires { app < app_count self.old }
         ensures world { OnOk result ((world : World A) → Represents self.old world
-                → Represents self.new (world_after A.behaviour world
-                        (run_events A.behaviour world app client call))) }
+            → Represents self.new (world_after A.behaviour world
+            (run_events A.behaviour world app client call))) }
         ensures told { IfOk result (λ told.
-                (world : World A) (m : Machine A) → Represents self.old world
-                → slice_get world app ≡ Some m → told ≡ told_of_call A.behaviour m client call) }
+            (world : World A) (m : Machine A) → Represents self.old world
+            → slice_get world app ≡ Some m → told ≡ told_of_call A.behaviour m client call) }
         ensures err { OnErr result
             (OthersStay app (applications_of self.old) (applications_of self.new)) }
         ensures apps { app_count self.new ≡ app_count self.old }

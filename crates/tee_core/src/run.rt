@@ -29,7 +29,7 @@ impl<A: Application> Hosted<A> {
         seed: [u8; 32],
     ) -> Result<Hosted<A>, NoMemory>
         ensures { IfOk result (λ hosted.
-                IsHosted hosted (start host application seed empty_store)) }
+            IsHosted hosted (start host application seed empty_store)) }
     {
         let side = AppSide::new(alloc, host, application, seed)?;
         let store = MapStore::new(alloc, &[])?;
@@ -43,10 +43,10 @@ impl<A: Application> Hosted<A> {
     /// A client's call. Want of memory changes nothing.
     pub fn call(&mut self, client: u8, call: Call) -> Result<Happened, NoMemory>
         ensures hosted { OnOk result ((m : Machine A) → IsHosted self.old m
-                → IsHosted self.new (called m client call).machine) }
+            → IsHosted self.new (called m client call).machine) }
         ensures told { IfOk result (λ told.
-                (m : Machine A) → IsHosted self.old m
-                → told ≡ happening A.behaviour m (Called client call)) }
+            (m : Machine A) → IsHosted self.old m
+            → told ≡ happening A.behaviour m (Called client call)) }
         ensures err { OnErr result ((m : Machine A) → IsHosted self.old m → IsHosted self.new m) }
     {
         let made = self.side.call(client, call)?;
@@ -105,13 +105,13 @@ impl<A: Application> Hosted<A> {
     /// Turns of the instance until the operation is answered; those that have a reply are told.
     fn turn_until(&mut self, instance: u8, op: u64, told: &mut RunReplies) -> Result<(), NoMemory>
         ensures hosted { OnOk result ((m : Machine A) → IsHosted self.old m
-                → IsHosted self.new (machine_after A.behaviour m
-                        (turns_until A.behaviour most_turns m instance op))) }
+            → IsHosted self.new (machine_after A.behaviour m
+            (turns_until A.behaviour most_turns m instance op))) }
         ensures told { OnOk result ((m : Machine A) → IsHosted self.old m
-                → told.new
-                    ≡ told.old
-                        ++ replying A.behaviour m
-                            (turns_until A.behaviour most_turns m instance op)) }
+            → told.new
+            ≡ told.old
+            ++ replying A.behaviour m
+            (turns_until A.behaviour most_turns m instance op)) }
     {
         let mut replies = Replies::none();
         for _ in 0..limits::CALL_TURNS {
@@ -127,11 +127,11 @@ impl<A: Application> Hosted<A> {
     /// A client's call, and then turns of its instance until it is answered.
     pub fn run(&mut self, alloc: Global, client: u8, call: Call) -> Result<RunReplies, NoMemory>
         ensures hosted { OnOk result ((m : Machine A) → IsHosted self.old m
-                → IsHosted self.new
-                    (machine_after A.behaviour m (events_of_call A.behaviour m client call))) }
+            → IsHosted self.new
+            (machine_after A.behaviour m (events_of_call A.behaviour m client call))) }
         ensures told { IfOk result (λ told.
-                (m : Machine A) → IsHosted self.old m
-                → told ≡ told_of_call A.behaviour m client call) }
+            (m : Machine A) → IsHosted self.old m
+            → told ≡ told_of_call A.behaviour m client call) }
     {
         let mut told = RunReplies::new(alloc);
         let made = self.call(client, call)?;

@@ -18,21 +18,21 @@ use app_api::Application;
 /// nothing.
 pub fn applications_are_apart<A: Application>()
     ensures own_events { (hosts : List (Host A)) (seed : List ℕ) (stores : ℕ → Store)
-            (script : List Line) (app : ℕ) (host : Host A)
+        (script : List Line) (app : ℕ) (host : Host A)
         → slice_get hosts app ≡ Some host
         → events_for app (events_of A.behaviour (world_of hosts seed stores) script)
-            ≡ own_events A.behaviour (start host app seed (stores app)) (own_lines app script) }
+        ≡ own_events A.behaviour (start host app seed (stores app)) (own_lines app script) }
     ensures lines { (hosts : List (Host A)) (seed : List ℕ) (stores : ℕ → Store)
-            (script : List Line) (app : ℕ) (host : Host A)
+        (script : List Line) (app : ℕ) (host : Host A)
         → HostsFit hosts → slice_get hosts app ≡ Some host
         → lines_for host.name (transcript A.behaviour hosts seed stores script)
-            ≡ replies_text host.name (replies_to A.behaviour (start host app seed (stores app))
-                    (events_for app (events_of A.behaviour (world_of hosts seed stores) script))) }
+        ≡ replies_text host.name (replies_to A.behaviour (start host app seed (stores app))
+        (events_for app (events_of A.behaviour (world_of hosts seed stores) script))) }
     ensures equal { (hosts others : List (Host A)) (seed : List ℕ) (stores stores_then : ℕ → Store)
-            (script script_then : List Line) (app : ℕ) (host : Host A)
+        (script script_then : List Line) (app : ℕ) (host : Host A)
         → HostsFit hosts → HostsFit others → slice_get hosts app ≡ Some host
         → slice_get others app ≡ Some host → stores app ≡ stores_then app
         → own_lines app script ≡ own_lines app script_then
         → lines_for host.name (transcript A.behaviour hosts seed stores script)
-            ≡ lines_for host.name (transcript A.behaviour others seed stores_then script_then) }
+        ≡ lines_for host.name (transcript A.behaviour others seed stores_then script_then) }
 {}

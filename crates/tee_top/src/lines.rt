@@ -91,13 +91,13 @@ fn run_call<A: Application, W: Sink>(
 ) -> Result<(), Stop>
     requires { app < app_count tee.old }
     ensures world { OnOk result ((world : World A) → Represents tee.old world
-            → Represents tee.new (world_after A.behaviour world
-                    (line_events A.behaviour world (Line.Call app client post call)))) }
+        → Represents tee.new (world_after A.behaviour world
+        (line_events A.behaviour world (Line.Call app client post call)))) }
     ensures written { (names : List (List ℕ)) (world : World A) → Represents tee.old world
         → name.now ≡ slice_index_or names app []
         → Writes result (text_of A.behaviour names world
-                (line_events A.behaviour world (Line.Call app client post call)))
-            (W.written sink.old) (W.written sink.new) }
+        (line_events A.behaviour world (Line.Call app client post call)))
+        (W.written sink.old) (W.written sink.new) }
     ensures apps { app_count tee.new ≡ app_count tee.old }
     ensures fault { IsErrOf result Stop.WriteFault
         → Rose (W.failures sink.old) (W.failures sink.new) }
@@ -163,8 +163,8 @@ pub fn run_lines<A: Application, W: Sink>(
     requires known { AllByRecursion (IsKnown (app_count tee.old)) lines.items }
     ensures written { (world : World A) → Represents tee.old world
         → Writes result
-            (text_of A.behaviour names.now world (events_of A.behaviour world lines.items))
-            (W.written sink.old) (W.written sink.new) }
+        (text_of A.behaviour names.now world (events_of A.behaviour world lines.items))
+        (W.written sink.old) (W.written sink.new) }
     ensures fault { IsErrOf result Stop.WriteFault
         → Rose (W.failures sink.old) (W.failures sink.new) }
     ensures later { W.failures sink.old ≤ W.failures sink.new }

@@ -89,7 +89,7 @@ fn serve<W: Sink, A: Application>(
     requires known { AllByRecursion (IsKnown (length hosts.items)) lines.items }
     ensures done { result ≡ Status.Done
         → Appends (W.written sink.old) (W.written sink.new)
-            (transcript A.behaviour hosts.items seed (λ app. empty_store) lines.items) }
+        (transcript A.behaviour hosts.items seed (λ app. empty_store) lines.items) }
     ensures stopped { AppendsFront
         (transcript A.behaviour hosts.items seed (λ app. empty_store) lines.items)
         (W.written sink.old) (W.written sink.new) }
@@ -124,30 +124,30 @@ pub fn run_tee<S: Source, W: Sink, A: Application>(
     requires { HostsFit hosts.items }
     ensures written { result ≡ Status.Done
         → IsOfTranscript A.behaviour hosts.items seed (S.left source.old)
-            (Appends (W.written sink.old) (W.written sink.new)) }
+        (Appends (W.written sink.old) (W.written sink.new)) }
     ensures cut_short { result ≡ Status.WriteFault
         → IsOfTranscript A.behaviour hosts.items seed (S.left source.old) (λ text.
-                AppendsFront text (W.written sink.old) (W.written sink.new)) }
+        AppendsFront text (W.written sink.old) (W.written sink.new)) }
     ensures no_memory { result ≡ Status.NoMemory
         → (sink.new ≡ sink.old)
-            ⊎ IsOfTranscript A.behaviour hosts.items seed (S.left source.old) (λ text.
-                    AppendsFront text (W.written sink.old) (W.written sink.new)) }
+        ⊎ IsOfTranscript A.behaviour hosts.items seed (S.left source.old) (λ text.
+        AppendsFront text (W.written sink.old) (W.written sink.new)) }
     ensures bad_words { (result ≡ Status.BadWords) ↔ ¬ AreRunWords words.now }
     ensures bad_line { (n : ℕ) → result ≡ Status.BadLine n
         → IsBadAt hosts.items (S.left source.old) n × IsAtEnd (S.left source.new) }
     ensures each_bad_line { (text : List ℕ) (n : ℕ)
         → IsReadable words.now (S.left source.old) text (S.failures source.old)
-            (S.failures source.new)
+        (S.failures source.new)
         → IsBadText hosts.items text n → (result ≡ Status.BadLine n) ⊎ (result ≡ Status.NoMemory) }
     ensures complete { (text : List ℕ) (script : List Line)
         → IsReadable words.now (S.left source.old) text (S.failures source.old)
-            (S.failures source.new)
+        (S.failures source.new)
         → ¬ Rose (W.failures sink.old) (W.failures sink.new) → IsText hosts.items text script
         → (result ≡ Status.Done) ⊎ (result ≡ Status.NoMemory) }
     ensures too_long { result ≡ Status.TooLong → HasMoreThan SCRIPT_BYTES (S.left source.old) }
     ensures each_too_long { (text : List ℕ)
         → IsTooMuch words.now (S.left source.old) text (S.failures source.old)
-            (S.failures source.new)
+        (S.failures source.new)
         → (result ≡ Status.TooLong) ⊎ (result ≡ Status.NoMemory) }
     ensures read_fault { result ≡ Status.ReadFault
         → Rose (S.failures source.old) (S.failures source.new) }

@@ -66,13 +66,13 @@ fn empty(alloc: Global) -> Tally {
 // A cell named 7 with its first seat, which owns part 0, and another, which owns part 1.
 fn two_seats(alloc: Global) -> Result<(TurnCell<Tally>, CellSeat<Tally>, CellSeat<Tally>), NoMemory>
     ensures cell { IfOk result (λ made.
-            length (original_parts ⟦<Tally as Parted>⟧.parts_of made.0) ≡ 2) }
+        length (original_parts ⟦<Tally as Parted>⟧.parts_of made.0) ≡ 2) }
     ensures own { IfOk result (λ made. IsSeatOf made.0 made.1 × IsSeatOf made.0 made.2) }
     ensures free { IfOk result (λ made. IsFree made.1 × IsFree made.2) }
     ensures first { IfOk result (λ made.
-            ((view made.1).first ≡ 0) × (length (view made.1).own ≡ 1)) }
+        ((view made.1).first ≡ 0) × (length (view made.1).own ≡ 1)) }
     ensures second { IfOk result (λ made.
-            ((view made.2).first ≡ 1) × (length (view made.2).own ≡ 1)) }
+        ((view made.2).first ≡ 1) × (length (view made.2).own ≡ 1)) }
 {
     match TurnCell::new(alloc, empty(alloc), 7) {
         Ok((cell, mut first)) => {

@@ -23,7 +23,7 @@ impl<T: Parted> TurnCell<T> {
         ensures own { IfOk result (λ made. IsSeatOf made.0 made.1) }
         ensures free { IfOk result (λ made. IsFree made.1) }
         ensures seat { IfOk result (λ made.
-                view made.1 ≡ opening_view (T.parts_of value) (T.trail_of value)) }
+            view made.1 ≡ opening_view (T.parts_of value) (T.trail_of value)) }
         ensures err { IfErr result (λ refused. refused.value ≡ value) }
     {
         let about = Snapshot::of(&value);

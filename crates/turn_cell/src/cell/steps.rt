@@ -19,7 +19,7 @@ impl<T: Parted> TurnCell<T> {
         ensures taken { HasTaken T.parts_of T.trail_of seat.new result }
         ensures others { view seat.new
             ≡ with_turn (with_waits (view seat.old) (view seat.new).waiting_tries)
-                (view seat.new).turn 0 }
+            (view seat.new).turn 0 }
         ensures waited { (view seat.old).waiting_tries < (view seat.new).waiting_tries }
         ensures continues { Continues T.parts_of T.trail_of (view seat.old) result }
     {
@@ -44,7 +44,7 @@ impl<T: Parted> TurnCell<T> {
         ensures continues { IfOk result (Continues T.parts_of T.trail_of (view seat.old)) }
         ensures free { OnErr result (IsFree seat.new) }
         ensures found { IfErr result (λ word.
-                view seat.new ≡ with_word (with_wait (view seat.old)) word) }
+            view seat.new ≡ with_word (with_wait (view seat.old)) word) }
     {
         let own_word = seat.own_word();
         let word = self.waiting_step(&mut seat.seat, own_word);
@@ -79,7 +79,7 @@ impl<T: Parted> TurnCell<T> {
         ensures busy { IfErr result (λ busy. (busy.cell ≡ name_of self.now) × (busy.word ≢ 0)) }
         ensures free { OnErr result (IsFree seat.new) }
         ensures missed { IfErr result (λ busy.
-                view seat.new ≡ with_miss (view seat.old) busy.word) }
+            view seat.new ≡ with_miss (view seat.old) busy.word) }
     {
         let own_word = seat.own_word();
         let word = self.trying_step(&mut seat.seat, own_word);
