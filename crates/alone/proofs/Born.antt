@@ -11,6 +11,7 @@ use Rattle.op_queue.specs.declared.operation.Cancelled.{Cancelled as Cancellatio
 use Rattle.op_queue.specs.declared.operation.Cancelled.TheVariants.{Dropped, Flagged, Nothing}
 use Rattle.op_queue.specs.Queue.{Queue, after_begin, after_cancel, masked_as, requested, started, submitted}
 use Rattle.object_asks.specs.Asks.{Serves, Fails, Damaged, Outcome, Answered, Returned, Panicked, Course, Settled, ComesToStore, Objects, object_course}
+use Rattle.object_asks.specs.Keys.{generate_course}
 use Rattle.object_asks.proofs.SoundAsks.{Goes, Leaves}
 use Rattle.alone.specs.declared.running.Instance.{Instance}
 use Rattle.alone.specs.Asks.{objects_of}
@@ -74,6 +75,8 @@ module _ {A : Type 0} where
     ending = λ m i few. few;
     gone = gone_few n;
     objects = λ m i ask few. goes_all (λ _. IsFew n m) (object_course (objects_of m) i ask) (λ _. few);
+    crypto = λ m s stream few. few;
+    made = λ m i object bits random few. goes_all (λ _. IsFew n m) (generate_course (objects_of m) i object bits random) (λ _. few);
   }
 
   calls_few : (n : ℕ) → IsKeptByCalls (IsFew n) (IsFew (n + 2))

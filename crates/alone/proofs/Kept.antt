@@ -1,6 +1,6 @@
 -- What all changes keep of which a step is made, each step keeps.
 use Rattle.app_api.specs.Behaviours.{Behaviour}
-use Rattle.std.proofs.Common.{ℕ, ◌≡◌, ◌&&◌, Bool, true, false, cond, nat_le, Option, None, Some, refl, sym, subst}
+use Rattle.std.proofs.Common.{ℕ, ◌≡◌, ◌&&◌, inl, Bool, true, false, cond, nat_le, List, Option, None, Some, refl, sym, subst}
 use Rattle.std.proofs.lemmas.Bool.{cond_both}
 use Rattle.tee_base.specs.declared.codes.Code.{Code}
 use Rattle.tee_base.specs.declared.limits.TheConstants.{ASKS}
@@ -16,7 +16,16 @@ use Rattle.op_queue.specs.declared.operation.Cancelled.TheVariants.{Dropped, Fla
 use Rattle.op_queue.specs.Queue.{after_begin, after_cancel, begun_at, cancel_of, first_waiting, mask_set, operation_of, without}
 use Rattle.object_asks.specs.Asks.{Outcome, Answered, Returned, Panicked, Course, Settled, ComesToStore, Objects, Serving, Serves, Fails, Damaged, changes_store, course_in, object_course, outcome_in, refused}
 use Rattle.tee_base.specs.declared.codes.TheConstants.Code.{STORAGE_NOT_AVAILABLE}
+use Rattle.crypto_ops.specs.Random.{random_from}
+use Rattle.object_asks.specs.KeyOf.{KeyCourse, KeySettled, KeyComesToStore, key_course}
+use Rattle.object_asks.specs.Keys.{generate_course, random_wanted}
 use Rattle.object_asks.proofs.SoundAsks.{Goes, Leaves}
+use Rattle.operation_asks.specs.Asks.{CryptoState, operation_course}
+use Rattle.operation_asks.specs.Asks as operations
+use Rattle.operation_asks.specs.Effects.{Effect}
+use Rattle.operation_asks.specs.Past.{key_effect}
+use Rattle.operation_asks.specs.declared.outcome.Outcome.{Outcome as Told}
+use Rattle.operation_asks.specs.declared.outcome.Outcome.TheVariants as told
 use Rattle.store_api.specs.Stores.{Store}
 use Rattle.alone.specs.declared.family.Family.{Family}
 use Rattle.alone.specs.declared.family.Family.TheVariants as families
@@ -29,10 +38,12 @@ use Rattle.alone.specs.declared.running.Stage.TheVariants as stages
 use Rattle.alone.specs.declared.running.Waits.{Waits}
 use Rattle.alone.specs.declared.running.Waits.TheVariants as waits
 use Rattle.alone.specs.Asks.{course_after, course_in_family, entry_course, mask_course, mask_noted, mask_set_for, objects_of, with_objects}
+use Rattle.alone.specs.Crypto.{drawn_for, effected, generated, generation_course, given_by, keyed_by, operated_by, outcome_by, with_crypto}
 use Rattle.alone.specs.Families.{family_of}
 use Rattle.alone.specs.Machine.{Machine, instance_at, with_instance}
 use Rattle.alone.specs.Places.{is_misuse, places_at}
 use Rattle.alone.specs.Step.{Stepped, acted, after_session, answered, begun_with, cancelled, cancelled_by, destroy_begins, destroying, dropped, instance_gone, is_success, is_unused, masked_again, returned, served, start_begun, store_left, turn_counted, turned_as, turned_at, turned_by, unless_unused, waiting_open, went_on}
+use Rattle.alone.proofs.Streams.{IsOfStream, LeavesStream, course_stream, drawn_stream}
 
 -- each change of which a turn, a cancellation and a teardown are made keeps it
 pub record IsKept {A : Type 0} (P : Machine A → Type 0) : Type 0 where
@@ -47,6 +58,8 @@ pub record IsKept {A : Type 0} (P : Machine A → Type 0) : Type 0 where
   pub ending : (m : Machine A) (i : ℕ) → P m → P (record m { table = destroy_begun m.table i })
   pub gone : (m : Machine A) (i : ℕ) → P m → P (instance_gone m i)
   pub objects : (m : Machine A) (i : ℕ) (ask : Ask) → P m → Goes (λ o. P (with_objects m o)) (object_course (objects_of m) i ask)
+  pub crypto : (m : Machine A) (s : CryptoState) → IsOfStream m.crypto.random s.random → P m → P (with_crypto m s)
+  pub made : (m : Machine A) (i object bits : ℕ) (random : ℕ → List ℕ) → P m → Goes (λ o. P (with_objects m o)) (generate_course (objects_of m) i object bits random)
 
 -- and where a call of the store fails, so does its loss
 abbrev pub IsKeptAs : {A : Type 0} → Serving → (Machine A → Type 0) → Type 0
@@ -121,10 +134,39 @@ module _ {A : Type 0} (P : Machine A → Type 0) (k : IsKept P) where
   entry_kept m r asked.CancelUnmask h = mask_kept m r false r.op refl h
   entry_kept m r ask h = tt
 
+  -- ---- operations, and keys that are made
+
+  told_kept : (m : Machine A) (t : Told) → P m → Leaves P (outcome_by m t)
+  told_kept m (told.Answered answer) h = h
+  told_kept m told.Panicked h = tt
+
+  effected_kept : (m : Machine A) (e : Effect CryptoState) → IsOfStream m.crypto.random e.after.random → P m → Leaves P (effected m e)
+  effected_kept m e stream h = told_kept (with_crypto m e.after) e.told (k.crypto m e.after stream h)
+
+  keyed_kept : (m : Machine A) (i op : ℕ) (c : KeyCourse) → P m → Goes P (keyed_by m i op c)
+  keyed_kept m i op (KeySettled found) h = effected_kept m (key_effect m.crypto i op (given_by found)) (inl refl) h
+  keyed_kept m i op (KeyComesToStore plain) h = (h, effected_kept m (key_effect m.crypto i op (given_by plain)) (inl refl) h)
+
+  operated_kept : (m : Machine A) (i : ℕ) (c : operations.Course CryptoState) → LeavesStream m.crypto.random c → P m → Goes P (operated_by m i c)
+  operated_kept m i (operations.Settled effect) stream h = effected_kept m effect stream h
+  operated_kept m i (operations.WantsKey op object) stream h = keyed_kept m i op (key_course (objects_of m) i object) h
+
+  generated_kept : (m : Machine A) (i object bits : ℕ) → P m → Goes P (generated m i object bits)
+  generated_kept m i object bits h =
+      let wanted = random_wanted m.held i object bits in
+      let drew = with_crypto m (drawn_for m.crypto wanted) in
+      in_whole drew (generate_course (objects_of m) i object bits (random_from m.crypto.random))
+      (k.made drew i object bits (random_from m.crypto.random) (k.crypto m (drawn_for m.crypto wanted) (drawn_stream m.crypto wanted) h))
+
+  generation_kept : (m : Machine A) (i : ℕ) (ask : Ask) → P m → Goes P (generation_course m i ask)
+  generation_kept m i (asked.KeyGenerate object bits) h = generated_kept m i object bits h
+  generation_kept m i ask h = tt
+
   family_kept : (m : Machine A) (i : ℕ) (r : Running) (ask : Ask) (family : Family) → P m → Goes P (course_in_family family m i r ask)
   family_kept m i r ask families.Entry h = entry_kept m r ask h
   family_kept m i r ask families.Objects h = in_whole m (object_course (objects_of m) i ask) (k.objects m i ask h)
-  family_kept m i r ask families.Unbuilt h = tt
+  family_kept m i r ask families.Operations h = operated_kept m i (operation_course m.crypto i ask) (course_stream m.crypto i ask) h
+  family_kept m i r ask families.Generation h = generation_kept m i ask h
 
   after_kept : (m : Machine A) (i : ℕ) (r : Running) (ask : Ask) → P m → Goes P (course_after m i r ask)
   after_kept m i r ask h = either_course (nat_le ASKS r.asks) _ _ tt (family_kept m i r ask (family_of ask) h)

@@ -17,6 +17,7 @@ pub mod Outcomes
 pub mod Sessions
 pub mod Sound
 pub mod Storage
+pub mod Streams
 pub mod Totals
 pub mod Turned
 pub mod ValidMachines

@@ -9,6 +9,15 @@ use Rattle.app_api.specs.declared.ask.Ask.TheVariants as asked
 use Rattle.app_api.specs.declared.out.Outs.{Outs}
 use Rattle.object_asks.specs.Asks.{Outcome, Answered, Returned, Panicked, Course, Settled, ComesToStore, Serving, Serves, Fails, Damaged, Objects, course_in, object_course, outcome_in, refused}
 use Rattle.tee_base.specs.declared.codes.TheConstants.Code.{STORAGE_NOT_AVAILABLE}
+use Rattle.crypto_ops.specs.Random.{random_from}
+use Rattle.object_asks.specs.KeyOf.{KeyCourse, KeySettled, KeyComesToStore, key_course}
+use Rattle.object_asks.specs.Keys.{generate_course, random_wanted}
+use Rattle.operation_asks.specs.Asks.{CryptoState, operation_course}
+use Rattle.operation_asks.specs.Asks as operations
+use Rattle.operation_asks.specs.Past.{key_effect}
+use Rattle.operation_asks.specs.declared.outcome.Outcome.{Outcome as Told}
+use Rattle.operation_asks.specs.declared.outcome.Outcome.TheVariants as told
+use Rattle.alone.specs.Crypto.{drawn_for, generation_course, given_by, keyed_by, operated_by, outcome_by, with_crypto}
 use Rattle.alone.specs.declared.family.Family.{Family}
 use Rattle.alone.specs.declared.family.Family.TheVariants as families
 use Rattle.alone.specs.declared.running.Running.{Running}
@@ -37,17 +46,37 @@ CourseLike m made (Settled outcome) = OutcomeLike m made outcome
 CourseLike m made (ComesToStore kept plain) = IsLike m made kept × OutcomeLike m made plain
 
 module _ {A : Type 0} (m : Machine A) (made : ℕ) where
-  objects_like : (o : Objects) → made < ASKS → IsLike m made (with_objects m o)
-  objects_like o few = record { few = few; queue = within_same m.queue; table = refl; instances = refl }
+  objects_like : (s : CryptoState) (o : Objects) → made < ASKS → IsLike m made (with_objects (with_crypto m s) o)
+  objects_like s o few = record { few = few; queue = within_same m.queue; table = refl; instances = refl }
 
-  outcome_like : (o : Outcome Objects) → made < ASKS → OutcomeLike m made (outcome_in (with_objects m) o)
-  outcome_like (Answered after answer) few = objects_like after few
-  outcome_like (Returned code outs) few = tt
-  outcome_like Panicked few = tt
+  outcome_like : (s : CryptoState) (o : Outcome Objects) → made < ASKS → OutcomeLike m made (outcome_in (with_objects (with_crypto m s)) o)
+  outcome_like s (Answered after answer) few = objects_like s after few
+  outcome_like s (Returned code outs) few = tt
+  outcome_like s Panicked few = tt
 
-  course_in_like : (c : Course Objects) → made < ASKS → CourseLike m made (course_in (with_objects m) c)
-  course_in_like (Settled outcome) few = outcome_like outcome few
-  course_in_like (ComesToStore kept plain) few = (objects_like kept few, outcome_like plain few)
+  course_in_like : (s : CryptoState) (c : Course Objects) → made < ASKS → CourseLike m made (course_in (with_objects (with_crypto m s)) c)
+  course_in_like s (Settled outcome) few = outcome_like s outcome few
+  course_in_like s (ComesToStore kept plain) few = (objects_like s kept few, outcome_like s plain few)
+
+  crypto_like : (s : CryptoState) → made < ASKS → IsLike m made (with_crypto m s)
+  crypto_like s few = record { few = few; queue = within_same m.queue; table = refl; instances = refl }
+
+  told_like : (s : CryptoState) (t : Told) → made < ASKS → OutcomeLike m made (outcome_by (with_crypto m s) t)
+  told_like s (told.Answered answer) few = crypto_like s few
+  told_like s told.Panicked few = tt
+
+  keyed_like : (i op : ℕ) (c : KeyCourse) → made < ASKS → CourseLike m made (keyed_by m i op c)
+  keyed_like i op (KeySettled found) few = let e = key_effect m.crypto i op (given_by found) in told_like e.after e.told few
+  keyed_like i op (KeyComesToStore plain) few = let e = key_effect m.crypto i op (given_by plain) in (crypto_like m.crypto few, told_like e.after e.told few)
+
+  operated_like : (i : ℕ) (c : operations.Course CryptoState) → made < ASKS → CourseLike m made (operated_by m i c)
+  operated_like i (operations.Settled effect) few = told_like effect.after effect.told few
+  operated_like i (operations.WantsKey op object) few = keyed_like i op (key_course (objects_of m) i object) few
+
+  generation_like : (i : ℕ) (ask : Ask) → made < ASKS → CourseLike m made (generation_course m i ask)
+  generation_like i (asked.KeyGenerate object bits) few =
+      course_in_like (drawn_for m.crypto (random_wanted m.held i object bits)) (generate_course (objects_of m) i object bits (random_from m.crypto.random)) few
+  generation_like i ask few = tt
 
   return_like : (stage : Stage) (code : Code) (outs : Outs) → CourseLike m made (return_course stage code outs)
   return_like stage code outs = cond_both (is_misuse (places_at stage) outs) (Settled Panicked) (Settled (Returned code outs)) (CourseLike m made) (λ _. tt) (λ _. tt)
@@ -64,8 +93,9 @@ module _ {A : Type 0} (m : Machine A) (made : ℕ) where
 
   family_like : (i : ℕ) (r : Running) (ask : Ask) (family : Family) → made < ASKS → CourseLike m made (course_in_family family m i r ask)
   family_like i r ask families.Entry few = entry_like r ask few
-  family_like i r ask families.Objects few = course_in_like (object_course (objects_of m) i ask) few
-  family_like i r ask families.Unbuilt few = tt
+  family_like i r ask families.Objects few = course_in_like m.crypto (object_course (objects_of m) i ask) few
+  family_like i r ask families.Operations few = operated_like i (operation_course m.crypto i ask) few
+  family_like i r ask families.Generation few = generation_like i ask few
 
   served_like : (serving : Serving) (ask : Ask) (c : Course (Machine A)) → CourseLike m made c → OutcomeLike m made (served serving m ask c)
   served_like serving ask (Settled outcome) h = h

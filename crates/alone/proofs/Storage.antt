@@ -8,6 +8,7 @@ use Rattle.op_queue.specs.declared.operation.Cancelled.{Cancelled as Cancellatio
 use Rattle.op_queue.specs.declared.operation.Cancelled.TheVariants.{Dropped, Flagged, Nothing}
 use Rattle.op_queue.specs.Queue.{after_cancel, cancel_of, operation_of}
 use Rattle.object_asks.specs.Asks.{Serves, Damaged, object_course}
+use Rattle.object_asks.specs.Keys.{generate_course}
 use Rattle.store_api.specs.Stores.{Store}
 use Rattle.alone.specs.Asks.{objects_of}
 use Rattle.alone.specs.Laws.{StorageStays}
@@ -35,6 +36,8 @@ module _ {A : Type 0} where
     ending = λ m i same. same;
     gone = λ m i same. same;
     objects = λ m i ask same. goes_all (λ _. m.in_doubt ≡ doubt) (object_course (objects_of m) i ask) (λ _. same);
+    crypto = λ m s stream same. same;
+    made = λ m i object bits random same. goes_all (λ _. m.in_doubt ≡ doubt) (generate_course (objects_of m) i object bits random) (λ _. same);
   }
 
   -- a turn in which no call of the store fails leaves the change in doubt

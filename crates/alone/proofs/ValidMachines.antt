@@ -1,17 +1,21 @@
 -- Each step leaves a valid machine where it was one.
 use Rattle.app_api.specs.Behaviours.{Behaviour}
-use Rattle.std.proofs.Common.{ℕ, ◌≡◌, ◌<◌, ◌^◌, ◌==◌, false, not, List, filter, map, refl, sym, ap, ◌∙◌, arith}
+use Rattle.std.proofs.Common.{ℕ, ◌+◌, ◌%◌, ◌≡◌, ◌<◌, ◌^◌, ◌==◌, inl, inr, false, not, List, filter, map, refl, sym, ap, ◌∙◌, arith, lit<}
+use Rattle.std.proofs.Math.Nat.{mod-lt}
 use Rattle.app_api.specs.declared.host.Host.{Host}
 use Rattle.rand_chacha.specs.ChaCha.{ChaCha}
-use Rattle.crypto_ops.specs.Random.{stream_at}
+use Rattle.crypto_ops.specs.Random.{moved, stream_at, words_for}
 use Rattle.instances.specs.declared.session.Slot.{Slot}
 use Rattle.instances.specs.Instances.{instance_numbers}
 use Rattle.object_asks.specs.Asks.{Serves, Fails, Damaged, Outcome, Answered, Returned, Panicked, Course, Settled, ComesToStore, Objects, object_course}
 use Rattle.object_asks.specs.Valid.{IsValidObjects}
-use Rattle.object_asks.proofs.SoundAsks.{AreSound, Goes, Leaves, course_sound, instance_closed_sound, nothing_sound}
+use Rattle.object_asks.specs.Keys.{generate_course}
+use Rattle.object_asks.proofs.SoundAsks.{AreSound, Goes, Leaves, course_sound, generate_sound, instance_closed_sound, nothing_sound}
+use Rattle.operation_asks.specs.Asks.{CryptoState}
 use Rattle.store_api.specs.Stores.{Store}
 use Rattle.alone.specs.declared.running.Instance.{Instance}
 use Rattle.alone.specs.Asks.{objects_of, with_objects}
+use Rattle.alone.specs.Crypto.{with_crypto}
 use Rattle.alone.specs.Machine.{Machine, start}
 use Rattle.alone.specs.Step.{Event, Called, Cancelled, Turned, TurnLost, Corrupted, Lost, Starved, Restarted, instance_gone, new_instance, step}
 use Rattle.alone.specs.Valid.{IsValid}
@@ -20,6 +24,7 @@ use Rattle.alone.proofs.Kept.{IsKept, cancelled_kept, turned_kept}
 use Rattle.alone.proofs.KeptByCalls.{IsKeptByCalls, called_kept}
 use Rattle.alone.proofs.Lists.{numbers_put}
 use Rattle.alone.proofs.Opened.{numbers_entered}
+use Rattle.alone.proofs.Streams.{IsOfStream}
 
 -- validity by the parts that it looks at
 record IsFineIn {A : Type 0} (seed : List ℕ) (index boot : ℕ) (o : Objects) (xs : List (Instance A)) (numbers : List ℕ) (random : ChaCha) : Type 0 where
@@ -55,6 +60,17 @@ course_fine : {A : Type 0} (m : Machine A) (c : Course Objects) → IsFine m →
 course_fine m (Settled outcome) fine sound = outcome_fine m outcome fine sound
 course_fine m (ComesToStore kept plain) fine sound = (over_objects m kept fine sound.0, outcome_fine m plain fine sound.1)
 
+-- with other operations, and the stream or that one moved
+over_crypto : {A : Type 0} (m : Machine A) (s : CryptoState) → IsFine m → IsOfStream m.crypto.random s.random → IsFine (with_crypto m s)
+over_crypto m s fine (inl same) = record { objects = fine.objects; instances = fine.instances; place = fine.place; within = fine.within; stream = same ∙ fine.stream }
+over_crypto m s fine (inr (count, on)) = record {
+  objects = fine.objects;
+  instances = fine.instances;
+  place = (fine.place + words_for count) % 2 ^ 68;
+  within = mod-lt (fine.place + words_for count) (lit< tt);
+  stream = on ∙ ap (λ (r : ChaCha). moved r count) fine.stream;
+}
+
 gone_fine : {A : Type 0} (m : Machine A) (i : ℕ) → IsFine m → IsFine (instance_gone m i)
 gone_fine {A} m i fine = record {
   objects = instance_closed_sound (objects_of m) i fine.objects;
@@ -78,6 +94,8 @@ module _ {A : Type 0} where
     ending = λ m i fine. over_instances m m.instances _ fine (fine.instances ∙ sym (ending_numbers i m.table.slots));
     gone = gone_fine;
     objects = λ m i ask fine. course_fine m (object_course (objects_of m) i ask) fine (course_sound (objects_of m) i ask fine.objects);
+    crypto = λ m s stream fine. over_crypto m s fine stream;
+    made = λ m i object bits random fine. course_fine m (generate_course (objects_of m) i object bits random) fine (generate_sound (objects_of m) i object bits random fine.objects);
   }
 
   calls_fine : IsKeptByCalls {A = A} IsFine IsFine

@@ -1,6 +1,6 @@
 -- A turn in which no ask waits that may need the store goes alike over every store.
 use Rattle.app_api.specs.Behaviours.{Behaviour}
-use Rattle.std.proofs.Common.{ℕ, ◌≡◌, ◌==◌, ◌&&◌, Bool, true, false, not, nat_le, cond, Option, None, Some, refl, ap, ◌∙◌}
+use Rattle.std.proofs.Common.{ℕ, ◌≡◌, ◌==◌, ◌&&◌, Bool, true, false, not, nat_le, cond, List, Option, None, Some, refl, ap, ◌∙◌}
 use Rattle.std.proofs.lemmas.Bool.{both_ways, cond_both}
 use Rattle.tee_base.specs.declared.codes.Code.{Code}
 use Rattle.tee_base.specs.declared.limits.TheConstants.{ASKS}
@@ -16,6 +16,13 @@ use Rattle.object_asks.specs.Asks.{Outcome, Answered, Returned, Panicked, Course
 use Rattle.object_asks.specs.Courses.{without_store}
 use Rattle.object_asks.specs.Handles.{settled}
 use Rattle.object_asks.specs.Held.{Held}
+use Rattle.crypto_ops.specs.Random.{random_from}
+use Rattle.object_asks.specs.Keys.{generated_of, random_wanted}
+use Rattle.operation_asks.specs.Asks.{CryptoState, operation_course}
+use Rattle.operation_asks.specs.Asks as operations
+use Rattle.operation_asks.specs.Effects.{Effect}
+use Rattle.operation_asks.specs.declared.outcome.Outcome.{Outcome as Told}
+use Rattle.operation_asks.specs.declared.outcome.Outcome.TheVariants as told
 use Rattle.store_api.specs.Stores.{Store}
 use Rattle.alone.specs.declared.reply.Outputs.{Outputs}
 use Rattle.alone.specs.declared.running.Instance.{Instance}
@@ -25,6 +32,7 @@ use Rattle.alone.specs.declared.running.Stage.TheVariants as stages
 use Rattle.alone.specs.declared.running.Waits.{Waits}
 use Rattle.alone.specs.declared.running.Waits.TheVariants as waits
 use Rattle.alone.specs.Asks.{course, course_after, mask_noted, objects_of, return_course, with_objects}
+use Rattle.alone.specs.Crypto.{drawn_for, generated, operated_by, outcome_by, with_crypto}
 use Rattle.alone.specs.Laws.{step_with_store, with_store}
 use Rattle.alone.specs.Machine.{Machine, instance_at}
 use Rattle.alone.specs.Places.{delivered, is_misuse, places_at}
@@ -53,6 +61,11 @@ holding_alike : (store : Store) (o : Objects) (outcome : Outcome Held) → IsAli
 holding_alike store o (Answered after answer) = record { same = refl; settles = refl }
 holding_alike store o (Returned code outs) = record { same = refl; settles = refl }
 holding_alike store o Panicked = record { same = refl; settles = refl }
+
+-- a key that is made
+made_alike : (store : Store) (o : Objects) (i object : ℕ) (random : ℕ → List ℕ) (wanted : Option ℕ) → IsAlike (restored store) (generated_of (restored store o) i object random wanted) (generated_of o i object random wanted)
+made_alike store o i object random None = record { same = refl; settles = refl }
+made_alike store o i object random (Some n) = record { same = refl; settles = refl }
 
 module _ {A : Type 0} (store : Store) where
   -- whichever way a test turns out
@@ -111,8 +124,21 @@ module _ {A : Type 0} (store : Store) where
   return_alike stage code outs = either_alike (with_store store) (is_misuse (places_at stage) outs) _ _ _ _ (record { same = refl; settles = refl }) (record { same = refl; settles = refl })
 
   -- one of the asks that don't need the store
+  -- what operations and the stream give doesn't rest on the store
+  told_over : (m : Machine A) (t : Told) → outcome_by (with_store store m) t ≡ outcome_in (with_store store) (outcome_by m t)
+  told_over m (told.Answered answer) = refl
+  told_over m told.Panicked = refl
+
+  operated_alike : (m : Machine A) (i : ℕ) (effect : Effect CryptoState) → IsAlike (with_store store) (operated_by (with_store store m) i (operations.Settled effect)) (operated_by m i (operations.Settled effect))
+  operated_alike m i effect = record { same = ap (λ (o : Outcome (Machine A)). Settled o) (told_over (with_crypto m effect.after) effect.told); settles = refl }
+
+  generated_alike : (m : Machine A) (i object bits : ℕ) → IsAlike (with_store store) (generated (with_store store m) i object bits) (generated m i object bits)
+  generated_alike m i object bits =
+      objects_alike (with_crypto m (drawn_for m.crypto (random_wanted m.held i object bits))) _ _
+      (made_alike store (objects_of m) i object (random_from m.crypto.random) (random_wanted m.held i object bits))
+
   course_alike : (m : Machine A) (i : ℕ) (r : Running) (ask : Ask) → may_need_store ask ≡ false → IsAlike (with_store store) (course (with_store store m) i r ask) (course m i r ask)
-  unfolding object_course
+  unfolding object_course operation_course
   course_alike m i r (asked.Return code outs) e = return_alike r.stage code outs
   course_alike m i r (asked.ObjClose object) e = objects_alike m _ _ (close_alike store (objects_of m) i object)
   course_alike m i r asked.EnumNew e = objects_alike m _ _ (holding_alike store (objects_of m) _)
@@ -136,6 +162,22 @@ module _ {A : Type 0} (store : Store) where
   course_alike m i r (asked.KeySecret object room) e = absurd (both_ways _ e refl)
   course_alike m i r (asked.KeyCopy to from) e = absurd (both_ways _ e refl)
   course_alike m i r (asked.OpSetKey op object) e = absurd (both_ways _ e refl)
+  course_alike m i r (asked.Random count) e = operated_alike m i _
+  course_alike m i r (asked.OpNew alg mode max_bits) e = operated_alike m i _
+  course_alike m i r (asked.OpFree op) e = operated_alike m i _
+  course_alike m i r (asked.OpInfo op) e = operated_alike m i _
+  course_alike m i r (asked.OpReset op) e = operated_alike m i _
+  course_alike m i r (asked.OpCopy to from) e = operated_alike m i _
+  course_alike m i r (asked.CipherInit op iv) e = operated_alike m i _
+  course_alike m i r (asked.CipherUpdate op bytes room) e = operated_alike m i _
+  course_alike m i r (asked.CipherFinal op bytes room) e = operated_alike m i _
+  course_alike m i r (asked.MacInit op) e = operated_alike m i _
+  course_alike m i r (asked.MacUpdate op bytes) e = operated_alike m i _
+  course_alike m i r (asked.MacFinal op bytes room) e = operated_alike m i _
+  course_alike m i r (asked.MacCompare op bytes mac) e = operated_alike m i _
+  course_alike m i r (asked.DigestUpdate op bytes) e = operated_alike m i _
+  course_alike m i r (asked.DigestFinal op bytes room) e = operated_alike m i _
+  course_alike m i r (asked.KeyGenerate object bits) e = generated_alike m i object bits
   course_alike m i r ask e = record { same = refl; settles = refl }
 
   after_alike : (m : Machine A) (i : ℕ) (r : Running) (ask : Ask) → may_need_store ask ≡ false → IsAlike (with_store store) (course_after (with_store store m) i r ask) (course_after m i r ask)
@@ -184,7 +226,7 @@ module _ {A : Type 0} where
   close_settles m i object r = (objects_alike m.store m _ _ (close_alike m.store (objects_of m) i object)).settles
 
   course_needs : (m : Machine A) (i : ℕ) (r : Running) (ask : Ask) → comes_to_store (course m i r ask) ≡ true → may_need_store ask ≡ true
-  unfolding object_course
+  unfolding object_course operation_course
   course_needs m i r (asked.Return code outs) e = absurd (both_ways _ ((return_alike {A = A} m.store r.stage code outs).settles) e)
   course_needs m i r (asked.ObjClose object) e = absurd (both_ways _ (close_settles m i object r) e)
   course_needs m i r (asked.ObjOpen storage id flags) e = refl
@@ -201,6 +243,22 @@ module _ {A : Type 0} where
   course_needs m i r (asked.KeySecret object room) e = refl
   course_needs m i r (asked.KeyCopy to from) e = refl
   course_needs m i r (asked.OpSetKey op object) e = refl
+  course_needs m i r (asked.Random count) e = absurd (both_ways _ refl e)
+  course_needs m i r (asked.OpNew alg mode max_bits) e = absurd (both_ways _ refl e)
+  course_needs m i r (asked.OpFree op) e = absurd (both_ways _ refl e)
+  course_needs m i r (asked.OpInfo op) e = absurd (both_ways _ refl e)
+  course_needs m i r (asked.OpReset op) e = absurd (both_ways _ refl e)
+  course_needs m i r (asked.OpCopy to from) e = absurd (both_ways _ refl e)
+  course_needs m i r (asked.CipherInit op iv) e = absurd (both_ways _ refl e)
+  course_needs m i r (asked.CipherUpdate op bytes room) e = absurd (both_ways _ refl e)
+  course_needs m i r (asked.CipherFinal op bytes room) e = absurd (both_ways _ refl e)
+  course_needs m i r (asked.MacInit op) e = absurd (both_ways _ refl e)
+  course_needs m i r (asked.MacUpdate op bytes) e = absurd (both_ways _ refl e)
+  course_needs m i r (asked.MacFinal op bytes room) e = absurd (both_ways _ refl e)
+  course_needs m i r (asked.MacCompare op bytes mac) e = absurd (both_ways _ refl e)
+  course_needs m i r (asked.DigestUpdate op bytes) e = absurd (both_ways _ refl e)
+  course_needs m i r (asked.DigestFinal op bytes room) e = absurd (both_ways _ refl e)
+  course_needs m i r (asked.KeyGenerate object bits) e = absurd (both_ways _ (generated_alike {A = A} m.store m i object bits).settles e)
   course_needs m i r ask e = absurd (both_ways _ refl e)
 
   after_needs : (m : Machine A) (i : ℕ) (r : Running) (ask : Ask) → comes_to_store (course_after m i r ask) ≡ true → may_need_store ask ≡ true

@@ -1,15 +1,14 @@
--- What comes of an ask of an instance: of a return, of an ask about cancellation, or of one about objects (TEE Internal Core API 1.3,
--- sections 4.3, 4.8, 4.10, 5.7 and 5.9).
+-- What comes of an ask of an instance: of a return, of an ask about cancellation, or of one of another family (TEE Internal Core API
+-- 1.3, sections 4.3, 4.8, 4.10, 5.7 and 5.9).
 use Rattle.std.specs.Prelude.{ℕ, Bool, true, false, nat_le, Option, None, Some, if◌then◌else◌}
 use Rattle.tee_base.specs.declared.codes.Code.{Code}
-use Rattle.tee_base.specs.declared.codes.TheConstants.Code.{CANCEL, NOT_IMPLEMENTED}
+use Rattle.tee_base.specs.declared.codes.TheConstants.Code.{CANCEL}
 use Rattle.tee_base.specs.declared.limits.TheConstants.{ASKS}
 use Rattle.app_api.specs.declared.ask.Ask.{Ask}
 use Rattle.app_api.specs.declared.ask.Ask.TheVariants as asked
 use Rattle.app_api.specs.declared.ask.Answer.TheVariants as answers
 use Rattle.app_api.specs.declared.out.Outs.{Outs}
-use Rattle.app_api.specs.Outs.{no_outs}
-use Rattle.object_asks.specs.Asks.{Answered, Returned, Panicked, Course, Settled, Objects, course_in, object_course}
+use Rattle.object_asks.specs.Asks.{Answered, Returned, Panicked, Course, Settled, course_in, object_course}
 use Rattle.object_asks.specs.Serving.{plainly}
 use Rattle.object_asks.specs.declared.outcome.Ending.{Ending}
 use Rattle.object_asks.specs.declared.outcome.Outcome.TheVariants as outcomes
@@ -17,24 +16,18 @@ use Rattle.object_asks.specs.declared.outcome.Served.{Served}
 use Rattle.op_queue.specs.Queue.{Queue, flag_of, mask_at, mask_set}
 use Rattle.alone.specs.declared.family.Family.{Family}
 use Rattle.alone.specs.declared.family.Family.TheVariants as families
-use Rattle.alone.specs.declared.family.Family.TheVariants.{Entry, Unbuilt}
+use Rattle.alone.specs.declared.family.Family.TheVariants.{Entry}
 use Rattle.alone.specs.declared.running.Running.{Running}
 use Rattle.alone.specs.declared.running.Stage.{Stage}
 use Rattle.alone.specs.Families.{family_of}
+pub use Rattle.alone.specs.Machine.{objects_of, with_objects}
+use Rattle.alone.specs.Crypto.{operated, generation_course}
 use Rattle.alone.specs.Machine.{Machine}
 use Rattle.alone.specs.Places.{is_misuse, places_at}
 
 -- an operation that was cancelled before it began is answered with this
 abbrev pub cancel : Code
 cancel = CANCEL
-
--- ---- objects
-
-abbrev pub objects_of : {A : Type 0} → Machine A → Objects
-objects_of m = record { store = m.store; held = m.held }
-
-abbrev pub with_objects : {A : Type 0} → Machine A → Objects → Machine A
-with_objects m o = record m { store = o.store; held = o.held }
 
 -- ---- cancellation
 
@@ -68,10 +61,6 @@ mask_noted r ask = record { op = r.op; stage = r.stage; waits = r.waits; asks = 
 
 -- ---- the family
 
--- how an entry ends at an ask that isn't built
-abbrev pub not_built : Ending
-not_built = record { code = NOT_IMPLEMENTED; outs = no_outs }
-
 -- what an entry returns, unless its outputs are misuse
 abbrev pub return_course : {S : Type 0} → Stage → Code → Outs → Course S
 return_course stage code outs = if is_misuse (places_at stage) outs then Settled Panicked else Settled (Returned code outs)
@@ -89,7 +78,8 @@ entry_course m r ask = Settled Panicked
 abbrev pub course_in_family : {A : Type 0} → Family → Machine A → ℕ → Running → Ask → Course (Machine A)
 course_in_family Entry m i r ask = entry_course m r ask
 course_in_family families.Objects m i r ask = course_in (with_objects m) (object_course (objects_of m) i ask)
-course_in_family Unbuilt m i r ask = Settled (Returned not_built.code not_built.outs)
+course_in_family families.Operations m i r ask = operated m i ask
+course_in_family families.Generation m i r ask = generation_course m i ask
 
 -- how the ask goes that an instance makes in this entry
 abbrev pub course : {A : Type 0} → Machine A → ℕ → Running → Ask → Course (Machine A)

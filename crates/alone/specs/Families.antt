@@ -2,7 +2,7 @@
 use Rattle.app_api.specs.declared.ask.Ask.{Ask}
 use Rattle.app_api.specs.declared.ask.Ask.TheVariants as asked
 use Rattle.alone.specs.declared.family.Family.{Family}
-use Rattle.alone.specs.declared.family.Family.TheVariants.{Entry, Objects, Unbuilt}
+use Rattle.alone.specs.declared.family.Family.TheVariants.{Entry, Objects, Operations, Generation}
 
 -- which family each ask is of
 abbrev pub family_of : Ask → Family
@@ -32,20 +32,20 @@ family_of (asked.KeyReset object) = Objects
 family_of (asked.KeySecret object room) = Objects
 family_of (asked.KeyCopy to from) = Objects
 family_of (asked.KeyRestrict object usage) = Objects
-family_of (asked.Random count) = Unbuilt
-family_of (asked.KeyGenerate object bits) = Unbuilt
-family_of (asked.OpNew alg mode max_bits) = Unbuilt
-family_of (asked.OpFree op) = Unbuilt
-family_of (asked.OpInfo op) = Unbuilt
-family_of (asked.OpReset op) = Unbuilt
-family_of (asked.OpSetKey op object) = Unbuilt
-family_of (asked.OpCopy to from) = Unbuilt
-family_of (asked.CipherInit op iv) = Unbuilt
-family_of (asked.CipherUpdate op bytes room) = Unbuilt
-family_of (asked.CipherFinal op bytes room) = Unbuilt
-family_of (asked.MacInit op) = Unbuilt
-family_of (asked.MacUpdate op bytes) = Unbuilt
-family_of (asked.MacFinal op bytes room) = Unbuilt
-family_of (asked.MacCompare op bytes mac) = Unbuilt
-family_of (asked.DigestUpdate op bytes) = Unbuilt
-family_of (asked.DigestFinal op bytes room) = Unbuilt
+family_of (asked.Random count) = Operations
+family_of (asked.KeyGenerate object bits) = Generation
+family_of (asked.OpNew alg mode max_bits) = Operations
+family_of (asked.OpFree op) = Operations
+family_of (asked.OpInfo op) = Operations
+family_of (asked.OpReset op) = Operations
+family_of (asked.OpSetKey op object) = Operations
+family_of (asked.OpCopy to from) = Operations
+family_of (asked.CipherInit op iv) = Operations
+family_of (asked.CipherUpdate op bytes room) = Operations
+family_of (asked.CipherFinal op bytes room) = Operations
+family_of (asked.MacInit op) = Operations
+family_of (asked.MacUpdate op bytes) = Operations
+family_of (asked.MacFinal op bytes room) = Operations
+family_of (asked.MacCompare op bytes mac) = Operations
+family_of (asked.DigestUpdate op bytes) = Operations
+family_of (asked.DigestFinal op bytes room) = Operations

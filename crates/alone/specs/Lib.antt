@@ -1,5 +1,6 @@
 pub mod Answering
 pub mod Asks
+pub mod Crypto
 pub mod Families
 pub mod InList
 pub mod Kinds

@@ -4,6 +4,7 @@ use Rattle.app_api.specs.declared.host.Host.{Host}
 use Rattle.instances.specs.Instances.{Table, no_instances}
 use Rattle.op_queue.specs.Queue.{Queue, empty_queue}
 use Rattle.store_api.specs.Stores.{Store}
+use Rattle.object_asks.specs.Asks.{Objects}
 use Rattle.object_asks.specs.Held.{Held, nothing_held}
 use Rattle.operation_asks.specs.Asks.{CryptoState, no_operations}
 use Rattle.alone.specs.declared.running.Instance.{Instance}
@@ -63,3 +64,10 @@ put_instance new (old ∷ more) = if old.number == new.number then new ∷ more 
 
 abbrev pub with_instance : {A : Type 0} → Machine A → Instance A → Machine A
 with_instance m inst = record m { instances = put_instance inst m.instances }
+
+-- what asks about objects touch
+abbrev pub objects_of : {A : Type 0} → Machine A → Objects
+objects_of m = record { store = m.store; held = m.held }
+
+abbrev pub with_objects : {A : Type 0} → Machine A → Objects → Machine A
+with_objects m o = record m { store = o.store; held = o.held }

@@ -3,7 +3,7 @@
 ghost use Rattle.std.specs.Prelude.{◌≡◌, IfOk};
 ghost use Rattle.alone.specs.Places.{is_misuse, places_at};
 ghost use Rattle.alone.specs.Step.{destroy_begins, entry_begun, first_entry, start_begun};
-ghost use Rattle.alone.specs.Asks.{not_built, return_of};
+ghost use Rattle.alone.specs.Asks.{return_of};
 
 use crate::delivery::{is_misuse, places_of};
 use crate::places::Places;
@@ -95,16 +95,6 @@ fn is_misused(stage: &Stage, outs: &Outs) -> bool
         Stage::Create { .. } | Stage::Stop { .. } | Stage::Destroy { .. } => {
             is_misuse(&Places::none(), outs)
         }
-    }
-}
-
-/// How an entry ends at an ask that isn't built.
-pub fn not_built() -> Ending
-    ensures { result ≡ not_built }
-{
-    Ending {
-        code: Code::NOT_IMPLEMENTED,
-        outs: Outs::nothing(),
     }
 }
 

@@ -12,8 +12,10 @@ pub enum Family {
     Entry,
     /// Objects, enumerators and keys.
     Objects,
-    /// Asks that aren't built: crypto operations, random bytes, and keys that are made of them.
-    Unbuilt,
+    /// Crypto operations and random bytes.
+    Operations,
+    /// A key that is made of random bytes.
+    Generation,
 }
 
 /// The family of an ask.
@@ -47,8 +49,8 @@ pub fn family_of(ask: &Ask) -> Family
         | Ask::KeySecret { .. }
         | Ask::KeyCopy { .. }
         | Ask::KeyRestrict { .. } => Family::Objects,
+        Ask::KeyGenerate { .. } => Family::Generation,
         Ask::Random { .. }
-        | Ask::KeyGenerate { .. }
         | Ask::OpNew { .. }
         | Ask::OpFree { .. }
         | Ask::OpInfo { .. }
@@ -63,6 +65,6 @@ pub fn family_of(ask: &Ask) -> Family
         | Ask::MacFinal { .. }
         | Ask::MacCompare { .. }
         | Ask::DigestUpdate { .. }
-        | Ask::DigestFinal { .. } => Family::Unbuilt,
+        | Ask::DigestFinal { .. } => Family::Operations,
     }
 }

@@ -18,7 +18,7 @@ mod validity;
 pub use answering::{call_lines_are_answered, operations_are_few};
 pub use app_api::Call;
 pub use delivery::{deliver, is_misuse, places_of};
-pub use entries::{destroy_entry, first_entry, not_built, returned, start_entry};
+pub use entries::{destroy_entry, first_entry, returned, start_entry};
 pub use family::{Family, family_of};
 pub use laws::{
     calls_leave_the_storage, few_are_born, turns_leave_the_doubt, turns_without_the_store,

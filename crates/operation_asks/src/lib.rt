@@ -3,10 +3,12 @@
 
 mod crypto;
 mod one;
+mod operations;
 mod outcome;
+mod past;
 mod table;
 #[cfg(test)]
 mod tests;
 
-pub use crypto::Crypto;
+pub use operations::Operations;
 pub use outcome::{Asked, KeyGiven, Outcome};

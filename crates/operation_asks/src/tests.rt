@@ -1,6 +1,6 @@
 //! Each ask with an Ok, with each refusal and with each misuse; published vectors in pieces.
 
-use crate::{Asked, Crypto, KeyGiven, Outcome};
+use crate::{Asked, KeyGiven, Operations, Outcome};
 use app_api::{Answer, Ask};
 use std::alloc::Global;
 use std::process::Abort;
@@ -129,7 +129,7 @@ fn ask(alloc: Global, what: Do<'_>) -> Result<Ask, Fail> {
 fn served(
     rt: &impl Abort,
     alloc: Global,
-    crypto: &mut Crypto,
+    crypto: &mut Operations,
     instance: u8,
     what: Do<'_>,
 ) -> Result<Asked, Fail> {
@@ -184,7 +184,7 @@ type Row = (u8, Do<'static>, Told<'static>);
 
 /// Checks that each ask of the rows, in order, comes to what its row says.
 fn check(rt: &impl Abort, alloc: Global, rows: &[(u8, Do<'_>, Told<'_>)]) -> Result<(), Fail> {
-    let mut crypto = Crypto::new(alloc, [0; 32], 0, 0);
+    let mut crypto = Operations::new(alloc, [0; 32], 0, 0);
     for (instance, what, wanted) in rows {
         let asked = served(rt, alloc, &mut crypto, *instance, *what)?;
         assert_eq!(rt; shown(&asked), *wanted);
@@ -496,7 +496,7 @@ fn random_bytes(rt: HostRuntime) -> Result<(), Fail> {
 #[test]
 fn bytes_are_drawn_and_instances_end(rt: HostRuntime) -> Result<(), Fail> {
     let alloc = rt.alloc();
-    let mut crypto = Crypto::new(alloc, [0; 32], 0, 0);
+    let mut crypto = Operations::new(alloc, [0; 32], 0, 0);
     let bytes = crypto.draw(alloc, 6)?;
     assert_eq!(rt;
         bytes.as_slice(),

@@ -1,0 +1,77 @@
+-- What comes of an ask about crypto operations or random bytes, or of one for a key that is made of these, in the whole machine
+-- (TEE Internal Core API 1.3, sections 5.6.10, 6.2 and 6.9).
+use Rattle.std.specs.Prelude.{ℕ, Bool, false, Option, None, Some}
+use Rattle.app_api.specs.declared.ask.Ask.{Ask}
+use Rattle.app_api.specs.declared.ask.Ask.TheVariants as asked
+use Rattle.crypto_ops.specs.Random.{random_from}
+use Rattle.object_asks.specs.Asks.{Outcome, Answered, Panicked, Course, Settled, ComesToStore, Objects, course_in}
+use Rattle.object_asks.specs.KeyOf.{KeyCourse, KeySettled, KeyComesToStore, key_comes_to_store, key_course}
+use Rattle.object_asks.specs.Keys.{generate_course, random_wanted}
+use Rattle.object_asks.specs.declared.lending.KeyFound.{KeyFound}
+use Rattle.object_asks.specs.declared.lending.KeyFound.TheVariants as finds
+use Rattle.operation_asks.specs.Asks.{CryptoState, operation_course}
+use Rattle.operation_asks.specs.Asks as operations
+use Rattle.operation_asks.specs.Effects.{Effect}
+use Rattle.operation_asks.specs.Past.{drawn, key_effect}
+use Rattle.operation_asks.specs.declared.outcome.KeyGiven.{KeyGiven}
+use Rattle.operation_asks.specs.declared.outcome.KeyGiven.TheVariants as gives
+use Rattle.operation_asks.specs.declared.outcome.Outcome.{Outcome as Told}
+use Rattle.operation_asks.specs.declared.outcome.Outcome.TheVariants as told
+use Rattle.alone.specs.Machine.{Machine, objects_of, with_objects}
+
+-- the machine with other operations and another random stream
+abbrev pub with_crypto : {A : Type 0} → Machine A → CryptoState → Machine A
+with_crypto m s = record m { crypto = s }
+
+-- what the application is told, and the machine behind it
+abbrev pub outcome_by : {A : Type 0} → Machine A → Told → Outcome (Machine A)
+outcome_by m (told.Answered answer) = Answered m answer
+outcome_by m told.Panicked = Panicked
+
+-- what comes of an effect on operations and stream
+abbrev pub effected : {A : Type 0} → Machine A → Effect CryptoState → Outcome (Machine A)
+effected m effect = outcome_by (with_crypto m effect.after) effect.told
+
+-- what an operation is given by what the look for a key found
+abbrev pub given_by : KeyFound → KeyGiven
+given_by (finds.Key key) = gives.Key key
+given_by finds.NoKey = gives.NoKey
+given_by (finds.Refused code) = gives.Refused code
+
+-- the operation is given the key that was found
+abbrev pub keyed : {A : Type 0} → Machine A → ℕ → ℕ → KeyFound → Outcome (Machine A)
+keyed m i op found = effected m (key_effect m.crypto i op (given_by found))
+
+-- how that goes: as the look for the key does
+abbrev pub keyed_by : {A : Type 0} → Machine A → ℕ → ℕ → KeyCourse → Course (Machine A)
+keyed_by m i op (KeySettled found) = Settled (keyed m i op found)
+keyed_by m i op (KeyComesToStore plain) = ComesToStore m (keyed m i op plain)
+
+-- how an ask about operations or random bytes goes: an object's key is looked for where it decides
+abbrev pub operated_by : {A : Type 0} → Machine A → ℕ → operations.Course CryptoState → Course (Machine A)
+operated_by m i (operations.Settled effect) = Settled (effected m effect)
+operated_by m i (operations.WantsKey op object) = keyed_by m i op (key_course (objects_of m) i object)
+
+abbrev pub operated : {A : Type 0} → Machine A → ℕ → Ask → Course (Machine A)
+operated m i ask = operated_by m i (operation_course m.crypto i ask)
+
+-- such an ask comes to the store
+abbrev pub key_reaches : Objects → ℕ → operations.Course CryptoState → Bool
+key_reaches o i (operations.Settled effect) = false
+key_reaches o i (operations.WantsKey op object) = key_comes_to_store (key_course o i object)
+
+-- the stream behind the bytes that are wanted
+abbrev pub drawn_for : CryptoState → Option ℕ → CryptoState
+drawn_for s None = s
+drawn_for s (Some count) = drawn s count
+
+-- KeyGenerate: the key is made of the next bytes of the stream, of which none is taken where it isn't made
+abbrev pub generated : {A : Type 0} → Machine A → ℕ → ℕ → ℕ → Course (Machine A)
+generated m i object bits =
+    course_in (with_objects (with_crypto m (drawn_for m.crypto (random_wanted m.held i object bits))))
+    (generate_course (objects_of m) i object bits (random_from m.crypto.random))
+
+-- an ask for a key that is made; any other doesn't come here
+abbrev pub generation_course : {A : Type 0} → Machine A → ℕ → Ask → Course (Machine A)
+generation_course m i (asked.KeyGenerate object bits) = generated m i object bits
+generation_course m i ask = Settled Panicked
