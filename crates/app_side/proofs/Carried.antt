@@ -1,5 +1,5 @@
 -- From what comes of an ask to what it leaves of the machine.
-use Rattle.std.proofs.Common.{ℕ, ◌≡◌, Bool, true, false, not, nat_le, cond, Option, Some, refl, sym, ap, subst, ◌∙◌, arith}
+use Rattle.std.proofs.Common.{ℕ, ◌≡◌, Bool, true, false, not, nat_le, cond, List, Option, None, Some, refl, sym, ap, subst, ◌∙◌, arith}
 use Rattle.std.specs.Prelude.{◌||◌, ◌&&◌, ◌<◌, ◌≤◌}
 use Rattle.std.proofs.lemmas.Bool.{lt-leb, le-leb}
 use Rattle.tee_base.specs.declared.limits.TheConstants.{ASKS}
@@ -20,6 +20,12 @@ use Rattle.object_asks.specs.declared.outcome.Served.{Served}
 use Rattle.object_asks.specs.declared.turn.TurnKind.{TurnKind}
 use Rattle.object_asks.specs.declared.turn.TurnKind.TheVariants.{Plain, Lost, Corrupted}
 use Rattle.object_asks.proofs.Crashes.{idle_keeps}
+use Rattle.crypto_ops.specs.Random.{random_from}
+use Rattle.object_asks.specs.KeyOf.{KeyCourse, KeySettled, KeyComesToStore, key_comes_to_store, key_course}
+use Rattle.object_asks.specs.Keys.{generated_of, random_wanted}
+use Rattle.operation_asks.specs.Asks.{CryptoState, operation_course}
+use Rattle.operation_asks.specs.Asks as operations
+use Rattle.alone.specs.Crypto.{drawn_for, generation_course, key_reaches, keyed_by, operated_by, with_crypto}
 use Rattle.alone.specs.declared.family.Family.{Family}
 use Rattle.alone.specs.declared.family.Family.TheVariants as families
 use Rattle.alone.specs.declared.running.Running.{Running}
@@ -116,15 +122,34 @@ entry_settled m r asked.CancelMask = refl
 entry_settled m r asked.CancelUnmask = refl
 entry_settled m r ask = refl
 
-family_comes : {A : Type 0} (family : Family) (m : Machine A) (i : ℕ) (r : Running) (ask : Ask) → reaching_in_family family (objects_of m) i ask ≡ comes_to_store (course_in_family family m i r ask)
+key_comes : {A : Type 0} (m : Machine A) (i op : ℕ) (c : KeyCourse) → key_comes_to_store c ≡ comes_to_store (keyed_by m i op c)
+key_comes m i op (KeySettled found) = refl
+key_comes m i op (KeyComesToStore plain) = refl
+
+operation_comes : {A : Type 0} (m : Machine A) (i : ℕ) (c : operations.Course CryptoState) → key_reaches (objects_of m) i c ≡ comes_to_store (operated_by m i c)
+operation_comes m i (operations.Settled effect) = refl
+operation_comes m i (operations.WantsKey op object) = key_comes m i op (key_course (objects_of m) i object)
+
+made_settled : {A : Type 0} (m : Machine A) (o : Objects) (i object : ℕ) (random : ℕ → List ℕ) (wanted : Option ℕ) → false ≡ comes_to_store (course_in (with_objects m) (generated_of o i object random wanted))
+made_settled m o i object random None = refl
+made_settled m o i object random (Some count) = refl
+
+generation_settled : {A : Type 0} (m : Machine A) (i : ℕ) (ask : Ask) → false ≡ comes_to_store (generation_course m i ask)
+generation_settled m i (asked.KeyGenerate object bits) =
+    let wanted = random_wanted m.held i object bits in
+    made_settled (with_crypto m (drawn_for m.crypto wanted)) (objects_of m) i object (random_from m.crypto.random) wanted
+generation_settled m i ask = refl
+
+family_comes : {A : Type 0} (family : Family) (m : Machine A) (i : ℕ) (r : Running) (ask : Ask) → reaching_in_family family (objects_of m) m.crypto i ask ≡ comes_to_store (course_in_family family m i r ask)
 family_comes families.Entry m i r ask = entry_settled m r ask
 family_comes families.Objects m i r ask = comes_in m (object_course (objects_of m) i ask)
-family_comes families.Unbuilt m i r ask = refl
+family_comes families.Operations m i r ask = operation_comes m i (operation_course m.crypto i ask)
+family_comes families.Generation m i r ask = generation_settled m i ask
 
 -- an ask comes to the store where it is said to
-pub reaching_is : {A : Type 0} (m : Machine A) (i : ℕ) (r : Running) (ask : Ask) → reaching (objects_of m) i r ask ≡ comes_to_store (course_after m i r ask)
+pub reaching_is : {A : Type 0} (m : Machine A) (i : ℕ) (r : Running) (ask : Ask) → reaching (objects_of m) m.crypto i r ask ≡ comes_to_store (course_after m i r ask)
 reaching_is {A} m i r ask =
-    elim (nat_le ASKS r.asks) as (λ b. (not b && reaching_in_family (family_of ask) (objects_of m) i ask) ≡ comes_to_store (cond b (Settled Panicked) (course m i r ask))) [ true ↦ refl | false ↦ family_comes (family_of ask) m i r ask ]
+    elim (nat_le ASKS r.asks) as (λ b. (not b && reaching_in_family (family_of ask) (objects_of m) m.crypto i ask) ≡ comes_to_store (cond b (Settled Panicked) (course m i r ask))) [ true ↦ refl | false ↦ family_comes (family_of ask) m i r ask ]
 
 -- ---- asks about the entry itself: they don't look at the objects, and leave them
 

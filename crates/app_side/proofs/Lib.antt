@@ -1,10 +1,12 @@
 pub mod CallLemmas
 pub mod Carried
 pub mod Crashed
+pub mod CryptoLemmas
+pub mod Lengths
 pub mod Placed
 pub mod Starving
-pub mod Storeless
 pub mod Stored
+pub mod Storeless
 pub mod Taken
 pub mod Torn
 pub mod TurnLemmas

@@ -13,6 +13,16 @@ use Rattle.instances.specs.declared.session.SessionState.TheVariants.{Open}
 use Rattle.instances.specs.Instances.{is_left, session_removed, state_set}
 use Rattle.object_asks.specs.Asks.{Outcome, Answered, Returned, Panicked, Course, Settled, ComesToStore, Objects, Serving, Serves, Fails, Damaged, changes_store, course_in, object_course, outcome_in, refused}
 use Rattle.tee_base.specs.declared.codes.TheConstants.Code.{STORAGE_NOT_AVAILABLE, SUCCESS, TARGET_DEAD}
+use Rattle.crypto_ops.specs.Random.{random_from}
+use Rattle.object_asks.specs.KeyOf.{KeyCourse, KeySettled, KeyComesToStore, key_course}
+use Rattle.object_asks.specs.Keys.{generate_course, generated_of, random_wanted}
+use Rattle.operation_asks.specs.Asks.{CryptoState, operation_course}
+use Rattle.operation_asks.specs.Asks as operations
+use Rattle.operation_asks.specs.Effects.{Effect}
+use Rattle.operation_asks.specs.Past.{key_effect}
+use Rattle.operation_asks.specs.declared.outcome.Outcome.{Outcome as Told}
+use Rattle.operation_asks.specs.declared.outcome.Outcome.TheVariants as told
+use Rattle.alone.specs.Crypto.{drawn_for, effected, generation_course, given_by, keyed_by, operated_by, outcome_by, with_crypto}
 use Rattle.alone.specs.declared.family.Family.{Family}
 use Rattle.alone.specs.declared.family.Family.TheVariants as families
 use Rattle.alone.specs.declared.reply.Outputs.{Outputs}
@@ -100,10 +110,31 @@ entry_placed xs m r asked.CancelMask = refl
 entry_placed xs m r asked.CancelUnmask = refl
 entry_placed xs m r ask = refl
 
+told_placed : {A : Type 0} (xs : List (Instance A)) (m : Machine A) (t : Told) → outcome_by (placed xs m) t ≡ outcome_in (placed xs) (outcome_by m t)
+told_placed xs m (told.Answered answer) = refl
+told_placed xs m told.Panicked = refl
+
+effected_placed : {A : Type 0} (xs : List (Instance A)) (m : Machine A) (e : Effect CryptoState) → effected (placed xs m) e ≡ outcome_in (placed xs) (effected m e)
+effected_placed xs m e = told_placed xs (with_crypto m e.after) e.told
+
+keyed_placed : {A : Type 0} (xs : List (Instance A)) (m : Machine A) (i op : ℕ) (c : KeyCourse) → keyed_by (placed xs m) i op c ≡ course_in (placed xs) (keyed_by m i op c)
+keyed_placed {A} xs m i op (KeySettled found) = ap (λ (o : Outcome (Machine A)). Settled o) (effected_placed xs m (key_effect m.crypto i op (given_by found)))
+keyed_placed {A} xs m i op (KeyComesToStore plain) = ap (λ (o : Outcome (Machine A)). ComesToStore (placed xs m) o) (effected_placed xs m (key_effect m.crypto i op (given_by plain)))
+
+operated_placed : {A : Type 0} (xs : List (Instance A)) (m : Machine A) (i : ℕ) (c : operations.Course CryptoState) → operated_by (placed xs m) i c ≡ course_in (placed xs) (operated_by m i c)
+operated_placed {A} xs m i (operations.Settled effect) = ap (λ (o : Outcome (Machine A)). Settled o) (effected_placed xs m effect)
+operated_placed xs m i (operations.WantsKey op object) = keyed_placed xs m i op (key_course (objects_of m) i object)
+
+generation_placed : {A : Type 0} (xs : List (Instance A)) (m : Machine A) (i : ℕ) (ask : Ask) → generation_course (placed xs m) i ask ≡ course_in (placed xs) (generation_course m i ask)
+generation_placed xs m i (asked.KeyGenerate object bits) =
+    objects_placed xs (with_crypto m (drawn_for m.crypto (random_wanted m.held i object bits))) (generate_course (objects_of m) i object bits (random_from m.crypto.random))
+generation_placed xs m i ask = refl
+
 family_placed : {A : Type 0} (family : Family) (xs : List (Instance A)) (m : Machine A) (i : ℕ) (r : Running) (ask : Ask) → course_in_family family (placed xs m) i r ask ≡ course_in (placed xs) (course_in_family family m i r ask)
 family_placed families.Entry xs m i r ask = entry_placed xs m r ask
 family_placed families.Objects xs m i r ask = objects_placed xs m (object_course (objects_of m) i ask)
-family_placed families.Unbuilt xs m i r ask = refl
+family_placed families.Operations xs m i r ask = operated_placed xs m i (operation_course m.crypto i ask)
+family_placed families.Generation xs m i r ask = generation_placed xs m i ask
 
 course_after_placed : {A : Type 0} (xs : List (Instance A)) (m : Machine A) (i : ℕ) (r : Running) (ask : Ask) → course_after (placed xs m) i r ask ≡ course_in (placed xs) (course_after m i r ask)
 course_after_placed {A} xs m i r ask =
@@ -148,10 +179,38 @@ entry_leaves serving m r asked.CancelMask = refl
 entry_leaves serving m r asked.CancelUnmask = refl
 entry_leaves serving m r ask = tt
 
+told_leaves : {A : Type 0} (m : Machine A) (s : CryptoState) (t : Told) → Leaves m.instances (outcome_by (with_crypto m s) t)
+told_leaves m s (told.Answered answer) = refl
+told_leaves m s told.Panicked = tt
+
+keyed_leaves : {A : Type 0} (serving : Serving) (m : Machine A) (ask : Ask) (i op : ℕ) (c : KeyCourse) → Leaves m.instances (served serving m ask (keyed_by m i op c))
+keyed_leaves serving m ask i op (KeySettled found) = let e = key_effect m.crypto i op (given_by found) in told_leaves m e.after e.told
+keyed_leaves Serves m ask i op (KeyComesToStore plain) =
+    let e = key_effect m.crypto i op (given_by plain) in
+    elim m.lost as (λ b. Leaves m.instances (cond b (refused m STORAGE_NOT_AVAILABLE) (effected m e))) [ true ↦ refl | false ↦ told_leaves m e.after e.told ]
+keyed_leaves Fails m ask i op (KeyComesToStore plain) = refl
+keyed_leaves Damaged m ask i op (KeyComesToStore plain) = refl
+
+operated_leaves : {A : Type 0} (serving : Serving) (m : Machine A) (ask : Ask) (i : ℕ) (c : operations.Course CryptoState) → Leaves m.instances (served serving m ask (operated_by m i c))
+operated_leaves serving m ask i (operations.Settled effect) = told_leaves m effect.after effect.told
+operated_leaves serving m ask i (operations.WantsKey op object) = keyed_leaves serving m ask i op (key_course (objects_of m) i object)
+
+made_leaves : {A : Type 0} (serving : Serving) (m : Machine A) (ask : Ask) (s : CryptoState) (o : Objects) (i object : ℕ) (random : ℕ → List ℕ) (wanted : Option ℕ)
+    → Leaves m.instances (served serving m ask (course_in (with_objects (with_crypto m s)) (generated_of o i object random wanted)))
+made_leaves serving m ask s o i object random None = tt
+made_leaves serving m ask s o i object random (Some count) = refl
+
+generation_leaves : {A : Type 0} (serving : Serving) (m : Machine A) (i : ℕ) (ask : Ask) → Leaves m.instances (served serving m ask (generation_course m i ask))
+generation_leaves serving m i (asked.KeyGenerate object bits) =
+    let wanted = random_wanted m.held i object bits in
+    made_leaves serving m (asked.KeyGenerate object bits) (drawn_for m.crypto wanted) (objects_of m) i object (random_from m.crypto.random) wanted
+generation_leaves serving m i ask = tt
+
 family_leaves : {A : Type 0} (serving : Serving) (family : Family) (m : Machine A) (i : ℕ) (r : Running) (ask : Ask) → Leaves m.instances (served serving m ask (course_in_family family m i r ask))
 family_leaves serving families.Entry m i r ask = entry_leaves serving m r ask
 family_leaves serving families.Objects m i r ask = objects_leave serving m ask (object_course (objects_of m) i ask)
-family_leaves serving families.Unbuilt m i r ask = tt
+family_leaves serving families.Operations m i r ask = operated_leaves serving m ask i (operation_course m.crypto i ask)
+family_leaves serving families.Generation m i r ask = generation_leaves serving m i ask
 
 pub ask_leaves : {A : Type 0} (serving : Serving) (m : Machine A) (i : ℕ) (r : Running) (ask : Ask) → Leaves m.instances (served serving m ask (course_after m i r ask))
 ask_leaves {A} serving m i r ask =

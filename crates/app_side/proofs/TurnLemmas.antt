@@ -34,6 +34,7 @@ use Rattle.alone.specs.Machine.{Machine, is_number, with_instance}
 use Rattle.alone.specs.Step.{Stepped, acted, after_session, answered, begun, begun_with, destroying, idle, is_success, is_changing, may_stand, of_instance, of_running, of_waits, reaches, quiet, returned, step, thought, torn_down, turned_as}
 use Rattle.app_side.specs.declared.side.AppSide.{AppSide}
 use Rattle.app_side.specs.Asking.{changing, reaching}
+use Rattle.operation_asks.specs.Kept.{state_of}
 use Rattle.app_side.specs.Represents.{IsStep, IsTurned, Represents, event_of, machine_of, machine_over, store_kind}
 use Rattle.object_asks.specs.Serving.{HasStatus, Meets, SaysChange, TriesOnce, serving_of}
 use Rattle.app_side.specs.Serving.{IfStarved, IsTurnOf}
@@ -182,12 +183,12 @@ of_instance_same one other (Some inst) same = of_running_same one other inst.run
 both_true : (a b : Bool) → a ≡ true → b ≡ false → (a && not b) ≡ true
 both_true a b ha hb = rw (ha, hb) refl
 
-reaches_is : {A : Type 0} (old : AppSide A) (store doubt : Store) (i : ℕ) → of_instance (reaching (objects_of (machine_over old store doubt)) i) (find (is_number i) old.instances.items) ≡ reaches (machine_over old store doubt) i
+reaches_is : {A : Type 0} (old : AppSide A) (store doubt : Store) (i : ℕ) → of_instance (reaching (objects_of (machine_over old store doubt)) (state_of old.operations) i) (find (is_number i) old.instances.items) ≡ reaches (machine_over old store doubt) i
 reaches_is old store doubt i = of_instance_same _ (λ r ask. comes_to_store (course_after (machine_over old store doubt) i r ask)) (find (is_number i) old.instances.items) (λ r ask. reaching_is (machine_over old store doubt) i r ask)
 
 -- the event of a turn may stand
 pub turn_may_stand : {A : Type 0} (old : AppSide A) (store : Store) (kind : TurnKind) (i : ℕ) (before after : Status) → old.lost ≡ before.lost → HasStatus kind before after
-    → Meets kind (of_instance (reaching (record { store = store; held = old.held }) i) (find (is_number i) old.instances.items)) → (m : Machine A) → Represents old m → m.store ≡ store → may_stand m (event_of (kind_by kind) i) ≡ true
+    → Meets kind (of_instance (reaching (record { store = store; held = old.held }) (state_of old.operations) i) (find (is_number i) old.instances.items)) → (m : Machine A) → Represents old m → m.store ≡ store → may_stand m (event_of (kind_by kind) i) ≡ true
 turn_may_stand old store Plain i before after same stands meets m of_m kept = refl
 turn_may_stand {A} old store (Lost changes) i before after same stands meets m of_m kept =
     subst (λ (x : Machine A). (reaches x i && not x.lost) ≡ true) (sym (of_m.parts ∙ ap (λ (s : Store). machine_over old s of_m.doubt) kept)) (both_true _ _ (sym (reaches_is old store of_m.doubt i) ∙ meets) (same ∙ stands.cause.0))

@@ -8,6 +8,9 @@ use Rattle.app_api.specs.declared.ask.Given.TheVariants as givens
 use Rattle.store_api.specs.Keeping.{Contents}
 use Rattle.object_asks.specs.Asks.{Objects, Serving, changes_store, comes_to_store, object_course}
 use Rattle.object_asks.specs.Serving.{objects_in}
+use Rattle.operation_asks.specs.Asks.{CryptoState, operation_course}
+use Rattle.operation_asks.specs.Kept.{state_of}
+use Rattle.alone.specs.Crypto.{key_reaches}
 use Rattle.alone.specs.declared.family.Family.{Family}
 use Rattle.alone.specs.declared.family.Family.TheVariants as families
 use Rattle.alone.specs.declared.running.Instance.{Instance}
@@ -31,19 +34,20 @@ given_next e masked answer = record { op = e.op; stage = e.stage; waits = waits.
 abbrev pub asked_turn : {A : Type 0} → Behaviour A → Serving → Machine A → Instance A → Entered → Ask → Stepped A
 asked_turn behaviour serving m inst e ask = went_on behaviour serving m inst (asking e ask) (waits.Ask ask)
 
--- an ask of this family comes to the store: only one about objects does
-abbrev pub reaching_in_family : Family → Objects → ℕ → Ask → Bool
-reaching_in_family families.Entry o i ask = false
-reaching_in_family families.Objects o i ask = comes_to_store (object_course o i ask)
-reaching_in_family families.Unbuilt o i ask = false
+-- an ask of this family comes to the store: one about objects, or one for a key that an object gives
+abbrev pub reaching_in_family : Family → Objects → CryptoState → ℕ → Ask → Bool
+reaching_in_family families.Entry o s i ask = false
+reaching_in_family families.Objects o s i ask = comes_to_store (object_course o i ask)
+reaching_in_family families.Operations o s i ask = key_reaches o i (operation_course s i ask)
+reaching_in_family families.Generation o s i ask = false
 
 -- the ask that an instance makes in this entry comes to the store
-abbrev pub reaching : Objects → ℕ → Running → Ask → Bool
-reaching o i r ask = not (nat_le ASKS r.asks) && reaching_in_family (family_of ask) o i ask
+abbrev pub reaching : Objects → CryptoState → ℕ → Running → Ask → Bool
+reaching o s i r ask = not (nat_le ASKS r.asks) && reaching_in_family (family_of ask) o s i ask
 
 -- the same of an entry taken apart
 abbrev pub comes : {A : Type 0} → AppSide A → ℕ → Contents → Entered → Ask → Bool
-comes side i contents e ask = reaching (objects_in side.held contents) i (asking e ask) ask
+comes side i contents e ask = reaching (objects_in side.held contents) (state_of side.operations) i (asking e ask) ask
 
 -- the ask is to change the store
 abbrev pub changing : Running → Ask → Bool

@@ -4,7 +4,7 @@ use Rattle.store_api.specs.Stores.{Store, empty_store}
 use Rattle.alone.specs.declared.reply.Reply.{Reply}
 use Rattle.object_asks.specs.declared.turn.TurnKind.{TurnKind as StoreKind}
 use Rattle.object_asks.specs.declared.turn.TurnKind.TheVariants as store_kinds
-use Rattle.operation_asks.specs.Asks.{no_operations}
+use Rattle.operation_asks.specs.Kept.{state_of}
 use Rattle.tee_base.specs.declared.codes.Code.{Code}
 use Rattle.tee_base.specs.declared.codes.Origin.{Origin}
 use Rattle.alone.specs.declared.turn.TurnKind.{TurnKind}
@@ -36,7 +36,7 @@ machine_of side = record {
   lost = side.lost;
   in_doubt = doubtful side.in_doubt empty_store;
   held = side.held;
-  crypto = no_operations side.seed side.application side.boot;
+  crypto = state_of side.operations;
 }
 
 -- the machine with other objects, and others in doubt

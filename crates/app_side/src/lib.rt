@@ -4,6 +4,7 @@
 mod calls;
 mod cancelling;
 mod no_store;
+mod operating;
 mod public;
 mod returns;
 mod serving;

@@ -17,6 +17,7 @@ use app_api::{Application, Host};
 use instances::Instances;
 use object_asks::Held;
 use op_queue::OpQueue;
+use operation_asks::Operations;
 use std::alloc::Global;
 use store_api::AppStore;
 use tee_base::{Code, NoMemory, Origin};
@@ -51,6 +52,7 @@ impl<A: Application> AppSide<A> {
             lost: false,
             in_doubt: false,
             held: Held::new(alloc),
+            operations: Operations::new(alloc, seed, application, 0),
         })
     }
 
@@ -203,6 +205,7 @@ impl<A: Application> AppSide<A> {
         self.instances.clear();
         self.queue.forget();
         self.held = Held::new(self.alloc);
+        self.operations = Operations::new(self.alloc, self.seed, self.application, self.boot);
         self.lost = false;
         self.in_doubt = false;
     }

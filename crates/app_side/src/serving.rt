@@ -3,6 +3,7 @@
 ghost use Rattle.std.specs.Prelude.{◌≡◌, Option};
 ghost use Rattle.object_asks.specs.Asks.{changes_store};
 ghost use Rattle.object_asks.specs.Serving.{objects_in};
+ghost use Rattle.operation_asks.specs.Kept.{state_of};
 ghost use Rattle.alone.specs.Families.{family_of};
 ghost use Rattle.alone.specs.Asks.{course, entry_course, flag_for, mask_for, mask_set_for};
 ghost use Rattle.alone.specs.Step.{served};
@@ -12,15 +13,15 @@ ghost use Rattle.app_side.specs.Serving.{CarriesOut, IsEntryServed};
 
 use crate::side::AppSide;
 use crate::turns::Entered;
-use alone::{Family, family_of, not_built, returned};
+use alone::{Family, family_of, returned};
 use app_api::{Answer, Application, Ask};
-use object_asks::{Outcome, Served, TurnKind, answered, panicked, serve};
+use object_asks::{Served, TurnKind, answered, panicked, serve};
 use store_api::AppStore;
 use tee_base::NoMemory;
 
 impl<A: Application> AppSide<A> {
     /// Notes how the store did.
-    fn note(&mut self, kind: TurnKind)
+    pub(crate) fn note(&mut self, kind: TurnKind)
         ensures { self.new ≡ noted self.old kind }
     {
         if let TurnKind::Lost { change } = kind {
@@ -82,7 +83,8 @@ impl<A: Application> AppSide<A> {
         ensures { CarriesOut T.keeper
             (λ serving m. served serving m ask (course m instance (asking entry.now ask) ask))
             (reaching_in_family (family_of ask)
-            (objects_in self.old.held (T.keeper.contents store.old)) instance ask)
+            (objects_in self.old.held (T.keeper.contents store.old))
+            (state_of self.old.operations) instance ask)
             (changes_store ask) instance result self.old self.new store.old store.new }
     {
         match family_of(&ask) {
@@ -92,7 +94,8 @@ impl<A: Application> AppSide<A> {
                 self.note(served.kind);
                 Ok(served)
             }
-            Family::Unbuilt => Ok(Served::plain(Outcome::Returned(not_built()))),
+            Family::Operations => self.operate(store, instance, ask),
+            Family::Generation => self.make_key(instance, ask),
         }
     }
 }

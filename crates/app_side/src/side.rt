@@ -5,6 +5,7 @@ use app_api::{Application, Host};
 use instances::Instances;
 use object_asks::Held;
 use op_queue::OpQueue;
+use operation_asks::Operations;
 use std::alloc::Global;
 
 /// A running application: its instances, its sessions, its unanswered operations, and what asks touch in memory. Its objects
@@ -26,6 +27,7 @@ pub struct AppSide<A> {
     /// Whether a change is in doubt.
     pub(crate) in_doubt: bool,
     pub(crate) held: Held,
+    pub(crate) operations: Operations,
 }
 
 /// What became of a call.

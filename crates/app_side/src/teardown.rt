@@ -54,6 +54,7 @@ impl<A: Application> AppSide<A> {
         self.queue.clear(number);
         self.table.end(number);
         self.held.close_instance(number);
+        self.operations.end_instance(number);
         leave_out(&mut self.instances, number);
     }
 

@@ -6,6 +6,7 @@ ghost use Rattle.object_asks.specs.Serving.{objects_in};
 ghost use Rattle.alone.specs.declared.running.Instance.{Instance};
 ghost use Rattle.alone.specs.declared.running.Waits.{Waits};
 ghost use Rattle.alone.specs.Asks.{mask_after};
+ghost use Rattle.operation_asks.specs.Kept.{state_of};
 ghost use Rattle.alone.specs.Machine.{is_number, with_instance};
 ghost use Rattle.alone.specs.Step.{begun, idle, of_instance, of_waits, thought, turned_as, turned_by, went_on};
 ghost use Rattle.alone.specs.InList.{IsPlace};
@@ -183,7 +184,8 @@ impl<A: Application> AppSide<A> {
             → TakesTurn T.keeper
             (λ serving m. went_on A.behaviour serving m inst running running.waits)
             (of_waits
-            (reaching (objects_in self.old.held (T.keeper.contents store.old)) number)
+            (reaching (objects_in self.old.held (T.keeper.contents store.old))
+            (state_of self.old.operations) number)
             running running.waits)
             (of_waits changing running running.waits)
             number result self.old self.new replies.new store.old store.new }
@@ -225,7 +227,8 @@ impl<A: Application> AppSide<A> {
             → TakesTurn T.keeper
             (λ serving m. turned_by A.behaviour serving m inst inst.running)
             (of_instance
-            (reaching (objects_in self.old.held (T.keeper.contents store.old)) number)
+            (reaching (objects_in self.old.held (T.keeper.contents store.old))
+            (state_of self.old.operations) number)
             found)
             (of_instance changing found)
             number result self.old self.new replies.new store.old store.new }
@@ -254,7 +257,8 @@ impl<A: Application> AppSide<A> {
             in AdvancesTurn T.keeper
             (λ serving m. turned_as A.behaviour serving m instance)
             (of_instance
-            (reaching (objects_in self.old.held (T.keeper.contents store.old)) instance)
+            (reaching (objects_in self.old.held (T.keeper.contents store.old))
+            (state_of self.old.operations) instance)
             found)
             (of_instance changing found)
             instance result self.old self.new replies.new store.old store.new }

@@ -46,6 +46,7 @@ module _ {D : Type 0} (K : Keeper D) where
   settled_key found old = record {
     outcome = λ t. refl;
     same = λ t. refl;
+    refuses = tt;
     reaches = λ t. tt;
     change = tt;
     status = stays (K.status old);
@@ -88,6 +89,7 @@ module _ {D : Type 0} (K : Keeper D) where
     refused_key e answer works stands read = record {
       outcome = λ t. sym (serves (K.status old).lost (found_by stored) works ∙ ap found_by (answer t));
       same = read.same;
+      refuses = tt;
       reaches = λ t. tt;
       change = tt;
       status = stands;
@@ -101,6 +103,7 @@ module _ {D : Type 0} (K : Keeper D) where
     told_key (Ok key) read = record {
       outcome = λ t. sym (serves (K.status old).lost (found_by stored) read.call.cause.cause.0 ∙ ap found_by (read.answer t));
       same = read.same;
+      refuses = tt;
       reaches = λ t. tt;
       change = tt;
       status = plain_status (Ok key) false read.call.cause.cause.0 read.call.cause.cause.1 read.call.cause.reports read;
@@ -115,6 +118,7 @@ module _ {D : Type 0} (K : Keeper D) where
     told_key (Err stores.Lost) read = record {
       outcome = λ t. sym (keeps (K.status old).lost (found_by stored) read.call.cause.cause.0);
       same = read.same;
+      refuses = tt;
       reaches = λ t. tt;
       change = tt;
       status = plain_status (Err stores.Lost) true read.call.cause.cause.0 read.call.cause.cause.1 read.call.cause.reports read;
@@ -126,6 +130,7 @@ module _ {D : Type 0} (K : Keeper D) where
     told_key (Err stores.Failed) read = record {
       outcome = λ t. refl;
       same = read.same;
+      refuses = (code_of stores.Failed, refl);
       reaches = λ t. refl;
       change = refl;
       status = record { cause = read.call.cause.cause; later = read.call.cause.later; orders = read.call.cause.orders; ordered = read.call.cause.ordered; reports = read.call.cause.reports };
@@ -137,6 +142,7 @@ module _ {D : Type 0} (K : Keeper D) where
     told_key (Err (stores.Corrupt tags)) read = record {
       outcome = λ t. refl;
       same = read.same;
+      refuses = (code_of (stores.Corrupt tags), refl);
       reaches = λ t. refl;
       change = tt;
       status = record { cause = (read.call.cause.cause.0, read.call.cause.cause.1); later = read.call.cause.later; orders = read.call.cause.orders; ordered = read.call.cause.ordered; reports = read.call.cause.reports };
@@ -148,6 +154,7 @@ module _ {D : Type 0} (K : Keeper D) where
     told_key (Err (stores.Garbled leaf)) read = record {
       outcome = λ t. refl;
       same = read.same;
+      refuses = (code_of (stores.Garbled leaf), refl);
       reaches = λ t. refl;
       change = tt;
       status = record { cause = read.call.cause.cause; later = read.call.cause.later; orders = read.call.cause.orders; ordered = read.call.cause.ordered; reports = read.call.cause.reports };

@@ -11,7 +11,9 @@ use Rattle.object_asks.specs.declared.source.KeySource.TheVariants.{NoKey, InMem
 use Rattle.object_asks.specs.declared.lending.KeyFound.{KeyFound}
 use Rattle.object_asks.specs.declared.lending.KeyFound.TheVariants as finds
 use Rattle.object_asks.specs.declared.lending.KeyServed.{KeyServed}
-use Rattle.object_asks.specs.declared.turn.TurnKind.TheVariants.{Plain}
+use Rattle.object_asks.specs.declared.turn.TurnKind.{TurnKind}
+use Rattle.object_asks.specs.declared.turn.TurnKind.TheVariants.{Plain, Lost, Corrupted}
+use Rattle.tee_base.specs.declared.codes.Code.{Code}
 use Rattle.tee_base.specs.declared.codes.TheConstants.Code.{CORRUPT_OBJECT, STORAGE_NOT_AVAILABLE}
 use Rattle.object_asks.specs.Courses.{Objects, Serving, Serves, Fails, Damaged, code_of}
 use Rattle.object_asks.specs.Serving.{EndsUnchanged, HasStatus, IsKept, IsUndamaged, Meets, SaysChange, ShowsDamage, kind_of, serving_of}
@@ -56,11 +58,18 @@ key_told (Ok key) = Some (key_plainly (finds.Key key))
 key_told (Err NoMemory) = None
 key_told (Err answer) = Some (record { kind = kind_of false answer; found = finds.Refused (code_of answer) })
 
+-- a lost or damaged look gives a refusal
+abbrev pub RefusesUnlessPlain : TurnKind → KeyFound → Type 0
+RefusesUnlessPlain Plain found = Unit {0}
+RefusesUnlessPlain (Lost changes) found = (code : Code) × (found ≡ finds.Refused code)
+RefusesUnlessPlain Corrupted found = (code : Code) × (found ≡ finds.Refused code)
+
 module _ {D : Type 0} (K : Keeper D) where
   -- a look that was served, of this course; what is kept stays
   pub record IsKeyServed (served : KeyServed) (course : KeyCourse) (old new : D) : Type 0 where
     pub outcome : K.has_model old → served.found ≡ key_came_of (serving_of served.kind) (K.status old).lost course
     pub same : K.has_model old → K.contents new ≡ K.contents old
+    pub refuses : RefusesUnlessPlain served.kind served.found
     -- a lost or damaged look comes to the store
     pub reaches : K.has_model old → Meets served.kind (key_comes_to_store course)
     pub change : SaysChange served.kind false

@@ -10,6 +10,7 @@ use Rattle.app_side.specs.Represents.{IsStep, machine_of, machine_over}
 use Rattle.object_asks.specs.Courses.{Serves}
 use Rattle.object_asks.specs.Serving.{objects_in, serving_of, CrashTurns, TriesOnce}
 use Rattle.app_side.specs.Asking.{changing, reaching}
+use Rattle.operation_asks.specs.Kept.{state_of}
 use Rattle.app_side.proofs.Carried.{none_tried, plain_turn}
 use Rattle.app_side.proofs.Taken.{found_there, go_on_turned, place_kept}
 use Rattle.app_side.proofs.TurnLemmas.{begins, begun_lost, moves, none_of}
@@ -53,7 +54,7 @@ returns g c inst found =
     record {
       step = IfOk-weaker c.resume.result _ _ (λ kind step model same doubt. go_on_turned g.A.Application.behaviour (serving_of kind) (machine_over c.args.self.now before.store doubt) c.args.number c.args.place x c.take.new.self c.in-Some.running (IsStep c.resume.new.self (t.contents c.resume.new.store).store c.resume.new.replies) c.requires.place c.index_mut.ensures.value c.take.ensures.after (sym c.in-Some.ensures.value) (step model same doubt) inst found) is.step;
       kind = IfOk-weaker c.resume.result _ _ (λ kind of. moves t kind _ _ _ _ _ _ _ c.args.store.now c.resume.new.store
-          (waiting (reaching (objects_in c.args.self.now.held before) c.args.number)) (waiting changing) refl of) is.kind;
+          (waiting (reaching (objects_in c.args.self.now.held before) (state_of c.args.self.now.operations) c.args.number)) (waiting changing) refl of) is.kind;
       tried = subst (λ (b : Bool). TriesOnce b (t.status c.args.store.now) (t.status c.resume.new.store)) (waiting changing) is.tried;
       want = is.want;
       starves = on_err_weaker c.resume.result (λ starves. record {

@@ -8,6 +8,7 @@ use Rattle.object_asks.specs.Serving.{objects_in, serving_of, CrashTurns, TriesO
 use Rattle.alone.specs.declared.running.Running.{Running}
 use Rattle.app_side.specs.declared.turns.Entered.{Entered}
 use Rattle.app_side.specs.Asking.{asking, changing, reaching}
+use Rattle.operation_asks.specs.Kept.{state_of}
 use Rattle.app_side.proofs.Carried.{none_tried, plain_turn}
 use Rattle.app_side.proofs.TurnLemmas.{moves, thinks}
 use Rattle.std.proofs.lemmas.Result.{IfOk-weaker}
@@ -42,7 +43,7 @@ returns-in-Ask g c inst found =
           subst (λ (r : Running). IsStep c.act.new.self (t.contents c.act.new.store).store c.act.new.replies (went_on g.A.Application.behaviour (serving_of kind) (machine_over c.args.self.now before.store doubt) inst r r.waits)) (sym same)
           (step there lost doubt)) is.step;
       kind = IfOk-weaker c.act.result _ _ (λ kind of. moves t kind _ _ _ _ _ _ _ c.args.store.now c.act.new.store
-          (ap (λ (r : Running). of_waits (reaching (objects_in c.args.self.now.held before) c.args.number) r r.waits) (sym same)) (ap (λ (r : Running). of_waits changing r r.waits) (sym same)) refl of) is.kind;
+          (ap (λ (r : Running). of_waits (reaching (objects_in c.args.self.now.held before) (state_of c.args.self.now.operations) c.args.number) r r.waits) (sym same)) (ap (λ (r : Running). of_waits changing r r.waits) (sym same)) refl of) is.kind;
       tried = subst (λ (r : Running). TriesOnce (of_waits changing r r.waits) (t.status c.args.store.now) (t.status c.act.new.store)) (sym same) is.tried;
       want = is.want;
       starves = is.starves;
