@@ -211,26 +211,39 @@ fn generates(rt: &impl Abort, held: &mut Held) {
     generate(held, 1, 2, &[3; 16]);
 }
 
+/// Each object gives the key that is stated.
+fn gives(rt: &impl Abort, alloc: Global, held: &Held, store: &mut MapStore) -> Result<(), Fail> {
+    for (object, wanted) in GIVEN {
+        let bits = bits_of(alloc, held, store, *object)?;
+        assert!(rt; bits == *wanted, "{object}");
+    }
+    Ok(())
+}
+
+/// The instance has ended.
+const ENDED: &[Row] = &[
+    (1, Do::Info(1), PLAIN, PANICKED),
+    (1, Do::Info(3), PLAIN, PANICKED),
+    (1, Do::Open(1, META, b"k"), PLAIN, Told::Number(1)),
+];
+
+fn generated_given_and_closed(
+    rt: &impl Abort,
+    alloc: Global,
+    held: &mut Held,
+    store: &mut MapStore,
+) -> Result<(), Fail> {
+    run(rt, alloc, held, store, OF_BOTH_SORTS)?;
+    generates(rt, held);
+    run(rt, alloc, held, store, MADE_OF_THREES)?;
+    gives(rt, alloc, held, store)?;
+    held.close_instance(1);
+    run(rt, alloc, held, store, ENDED)
+}
+
 #[test]
 fn random_keys_and_those_of_operations(rt: HostRuntime) -> Result<(), Fail> {
-    let alloc = rt.alloc();
-    let mut held = Held::new(alloc);
-    let mut store = MapStore::new(alloc, &[])?;
-    run(&rt, alloc, &mut held, &mut store, OF_BOTH_SORTS)?;
-    generates(&rt, &mut held);
-    run(&rt, alloc, &mut held, &mut store, MADE_OF_THREES)?;
-    for (object, wanted) in GIVEN {
-        assert!(rt;
-            bits_of(alloc, &held, &mut store, *object)? == *wanted,
-            "{object}"
-        );
-    }
-    held.close_instance(1);
-    run(
-        &rt,
-        alloc,
-        &mut held,
-        &mut store,
-        &[(1, Do::Info(1), PLAIN, PANICKED)],
-    )
+    let mut store = MapStore::new(rt.alloc(), &[])?;
+    let mut held = Held::new(rt.alloc());
+    generated_given_and_closed(&rt, rt.alloc(), &mut held, &mut store)
 }
