@@ -15,12 +15,15 @@ pub enum Do {
     Open(u32, u32, &'static [u8]),
     /// The storage, the flags, the identifier, the object that it is made of, and the content.
     Create(u32, u32, &'static [u8], u32, &'static [u8]),
+    /// An object with the content of so many zeros.
+    CreateZeros(&'static [u8], u32),
     Close(u32),
     Delete(u32),
     Rename(u32, &'static [u8]),
     Info(u32),
     Read(u32, u32),
     Write(u32, &'static [u8]),
+    WriteZeros(u32, u32),
     Truncate(u32, u32),
     Seek(u32, i64, u32),
     ListNew,
@@ -135,6 +138,12 @@ fn plain_ask(what: Do) -> Ask {
     }
 }
 
+fn zeros(alloc: Global, count: u32) -> Result<Bytes, NoMemory> {
+    let mut bytes = Vec::new(alloc);
+    bytes.resize(count as usize, 0u8)?;
+    Ok(Bytes::from_vec(bytes))
+}
+
 fn ask(alloc: Global, what: Do) -> Result<Ask, NoMemory> {
     match what {
         Do::Open(storage, flags, id) => Ok(Ask::ObjOpen {
@@ -149,6 +158,13 @@ fn ask(alloc: Global, what: Do) -> Result<Ask, NoMemory> {
             attr,
             content: Bytes::from_slice(alloc, content)?,
         }),
+        Do::CreateZeros(id, count) => Ok(Ask::ObjCreate {
+            storage: 1,
+            id: Bytes::from_slice(alloc, id)?,
+            flags: META,
+            attr: 0,
+            content: zeros(alloc, count)?,
+        }),
         Do::Rename(object, id) => Ok(Ask::ObjRename {
             object,
             id: Bytes::from_slice(alloc, id)?,
@@ -156,6 +172,10 @@ fn ask(alloc: Global, what: Do) -> Result<Ask, NoMemory> {
         Do::Write(object, bytes) => Ok(Ask::ObjWrite {
             object,
             bytes: Bytes::from_slice(alloc, bytes)?,
+        }),
+        Do::WriteZeros(object, count) => Ok(Ask::ObjWrite {
+            object,
+            bytes: zeros(alloc, count)?,
         }),
         Do::KeyPopulate(object, secret) => Ok(Ask::KeyPopulate {
             object,
