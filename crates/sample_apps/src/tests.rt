@@ -4,7 +4,10 @@ mod words;
 
 use crate::{Count, Crypt, Rogue, Sample, Store, one_instance_hosts, sample_hosts};
 use app_api::{Answer, Application, Given, Properties, hosts_fit};
+use std::alloc::Global;
+use std::process::Abort;
 use std::test::Fail;
+use tee_base::NoMemory;
 use words::run;
 
 const STORE: &str = "\
@@ -236,24 +239,43 @@ done > 00000000 p0=256,0
 ";
 
 #[test]
-fn samples_by_their_tables(rt: HostRuntime) -> Result<(), Fail> {
-    let alloc = rt.alloc();
-    run(&rt, alloc, &mut Sample::Store(Store::Idle), STORE)?;
-    run(&rt, alloc, &mut Sample::Count(Count::new()), COUNT)?;
-    run(&rt, alloc, &mut Sample::Crypt(Crypt::new()), CRYPT)?;
-    run(&rt, alloc, &mut Sample::Rogue(Rogue::Idle), ROGUE)
+fn store_by_its_table(rt: HostRuntime) -> Result<(), Fail> {
+    run(&rt, rt.alloc(), &mut Sample::Store(Store::Idle), STORE)
+}
+
+#[test]
+fn count_by_its_table(rt: HostRuntime) -> Result<(), Fail> {
+    run(&rt, rt.alloc(), &mut Sample::Count(Count::new()), COUNT)
+}
+
+#[test]
+fn crypt_by_its_table(rt: HostRuntime) -> Result<(), Fail> {
+    run(&rt, rt.alloc(), &mut Sample::Crypt(Crypt::new()), CRYPT)
+}
+
+#[test]
+fn rogue_by_its_table(rt: HostRuntime) -> Result<(), Fail> {
+    run(&rt, rt.alloc(), &mut Sample::Rogue(Rogue::Idle), ROGUE)
+}
+
+fn answer(alloc: Global, sample: &mut Sample, answer: Answer) -> Result<(), NoMemory> {
+    sample.step(alloc, Given::Answer(answer))?;
+    Ok(())
+}
+
+/// All that Rogue's command 4 creates.
+fn fill(rt: &impl Abort, alloc: Global, rogue: &mut Sample) -> Result<(), Fail> {
+    run(rt, alloc, rogue, "4 vo > create 1 3 0 <0> ")?;
+    for _ in 0..255u8 {
+        answer(alloc, rogue, Answer::Number(5))?;
+        answer(alloc, rogue, Answer::Done)?;
+    }
+    run(rt, alloc, rogue, FILLED)
 }
 
 #[test]
 fn all_one_byte_identifiers(rt: HostRuntime) -> Result<(), Fail> {
-    let alloc = rt.alloc();
-    let mut rogue = Sample::Rogue(Rogue::Idle);
-    run(&rt, alloc, &mut rogue, "4 vo > create 1 3 0 <0> ")?;
-    for _ in 0..255 {
-        rogue.step(alloc, Given::Answer(Answer::Number(5)))?;
-        rogue.step(alloc, Given::Answer(Answer::Done))?;
-    }
-    run(&rt, alloc, &mut rogue, FILLED)
+    fill(&rt, rt.alloc(), &mut Sample::Rogue(Rogue::Idle))
 }
 
 /// Name, identifier, the three properties, the application as it begins.

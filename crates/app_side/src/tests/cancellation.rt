@@ -1,6 +1,6 @@
 //! Operations that are cancelled.
 
-use super::tables::{API, APP, Do, FINE, NONE, PLAIN, Row, TEE, Table, ZEROS, run};
+use super::tables::{API, APP, Do, FINE, NONE, PLAIN, Row, TEE, Table, ZEROS, check};
 use app_api::Properties;
 use std::test::Fail;
 use tee_base::Code;
@@ -94,7 +94,7 @@ const TABLES: &[Table] = &[
 #[test]
 fn operations_are_cancelled(rt: HostRuntime) -> Result<(), Fail> {
     for table in TABLES {
-        run(&rt, rt.alloc(), table)?;
+        check(&rt, rt.alloc(), table)?;
     }
     Ok(())
 }

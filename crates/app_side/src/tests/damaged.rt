@@ -1,6 +1,6 @@
 //! Turns over a store that is damaged.
 
-use super::turns::{ALL, PLAIN, Step, Told, check_over};
+use super::turns::{ALL, PLAIN, Row, Step, Told, check_over};
 use crate::TurnKind;
 use std::marker::Model;
 use std::test::Fail;
@@ -95,22 +95,28 @@ impl AppStore for Damaged {
     }
 }
 
+const DAMAGED: TurnKind = TurnKind::Corrupted;
+
+const CORRUPT: Told<'static> = Told::Code(Code::CORRUPT_OBJECT);
+
+const STEPS: &[Row] = &[
+    (Step::Create(ALL, b"a", b"1234"), DAMAGED, CORRUPT),
+    (Step::Open(ALL, b"a"), DAMAGED, CORRUPT),
+    (
+        Step::Open(ALL, b"a"),
+        PLAIN,
+        Told::Code(Code::ITEM_NOT_FOUND),
+    ),
+    (Step::Close(1), PLAIN, Told::Code(Code::TARGET_DEAD)),
+];
+
 #[test]
 fn damage_is_told_and_loses_nothing(rt: HostRuntime) -> Result<(), Fail> {
-    const DAMAGED: TurnKind = TurnKind::Corrupted;
-    const CORRUPT: Told<'static> = Told::Code(Code::CORRUPT_OBJECT);
-    const NOT_FOUND: Told<'static> = Told::Code(Code::ITEM_NOT_FOUND);
     let mut store = Damaged {
         calls: 0,
         faults: 0,
         damage_reports: Tally::none(),
         change_attempts: Tally::none(),
     };
-    let steps = [
-        (Step::Create(ALL, b"a", b"1234"), DAMAGED, CORRUPT),
-        (Step::Open(ALL, b"a"), DAMAGED, CORRUPT),
-        (Step::Open(ALL, b"a"), PLAIN, NOT_FOUND),
-        (Step::Close(1), PLAIN, Told::Code(Code::TARGET_DEAD)),
-    ];
-    check_over(&rt, rt.alloc(), &mut store, &steps)
+    check_over(&rt, rt.alloc(), &mut store, STEPS)
 }

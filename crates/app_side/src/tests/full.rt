@@ -1,6 +1,6 @@
 //! Full tables, and the limit of asks.
 
-use super::tables::{API, APP, Do, FINE, NONE, PLAIN, Row, Seen, TEE, Table, Told, ZEROS, run};
+use super::tables::{API, APP, Do, FINE, NONE, PLAIN, Row, Seen, TEE, Table, Told, ZEROS, check};
 use app_api::Properties;
 use std::test::Fail;
 use tee_base::Code;
@@ -158,7 +158,7 @@ const TABLES: &[Table] = &[
 #[test]
 fn tables_are_full(rt: HostRuntime) -> Result<(), Fail> {
     for table in TABLES {
-        run(&rt, rt.alloc(), table)?;
+        check(&rt, rt.alloc(), table)?;
     }
     Ok(())
 }

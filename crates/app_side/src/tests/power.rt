@@ -1,18 +1,18 @@
 //! Want of memory, and the loss of the storage and of the power.
 
-ghost use Rattle.std.specs.Prelude.{◌≡◌};
+ghost use Rattle.std.specs.Prelude.{◌≡◌, OnOk};
 ghost use Rattle.app_side.specs.Represents.{is_lost};
 
 use super::actor::Actor;
 use super::tables::{
-    API, APP, Do, FINE, MOST, NONE, PLAIN, Row, Seen, TEE, Table, ZEROS, call_of, host, run,
+    API, APP, Do, FINE, NONE, PLAIN, Row, Seen, TEE, Table, ZEROS, check, host, make, turn,
 };
 use crate::{AppSide, TurnKind};
 use std::alloc::Global;
 use std::process::Abort;
 use std::test::Fail;
 use store_api::MapStore;
-use tee_base::Code;
+use tee_base::{Code, NoMemory};
 
 /// Turns without memory, and instances that are torn down: dead sessions stay.
 const TORN_DOWN: &[Row] = &[
@@ -102,48 +102,73 @@ const TABLES: &[Table] = &[
 #[test]
 fn instances_end_and_numbers_go_on(rt: HostRuntime) -> Result<(), Fail> {
     for table in TABLES {
-        run(&rt, rt.alloc(), table)?;
+        check(&rt, rt.alloc(), table)?;
     }
     Ok(())
 }
 
-/// So many turns, of which each may find no memory: then there is no instance left, and its operations are answered so.
+/// A turn that may find no memory: then there is no instance left, and its operation is answered so.
+fn turn_of_want(rt: &impl Abort, side: &mut AppSide<Actor>, store: &mut MapStore)
+    requires { is_lost side.old ≡ store.old.lost }
+    ensures { is_lost side.new ≡ store.new.lost }
+{
+    let turned = turn(rt, side, store, 1);
+    if turned.kind == TurnKind::Starved {
+        assert!(rt; side.live() == 0 && turned.replies.as_slice().len() == 1);
+        for reply in turned.replies.as_slice() {
+            assert!(rt; reply.code == Code::OUT_OF_MEMORY && reply.origin == TEE);
+        }
+    }
+}
+
+/// So many turns, of which each may find no memory.
 fn turns_of_want(rt: &impl Abort, side: &mut AppSide<Actor>, store: &mut MapStore, count: u32)
     requires { is_lost side.old ≡ store.old.lost }
     ensures { is_lost side.new ≡ store.new.lost }
 {
     for _ in 0..count {
-        assert!(rt; side.turns() < MOST);
-        let turned = side.turn(1, store);
-        if turned.kind == TurnKind::Starved {
-            assert_eq!(rt; side.live(), 0);
-            for reply in turned.replies.as_slice() {
-                assert_eq!(rt; reply.code, Code::OUT_OF_MEMORY);
-                assert_eq!(rt; reply.origin, TEE);
-            }
-        }
+        turn_of_want(rt, side, store);
     }
 }
 
-fn make(side: &mut AppSide<Actor>, alloc: Global, what: Do) -> Result<(), Fail>
-    ensures { is_lost side.new ≡ is_lost side.old }
+/// The event is a call, and so many turns are made.
+fn call_and_turns(
+    rt: &impl Abort,
+    alloc: Global,
+    side: &mut AppSide<Actor>,
+    store: &mut MapStore,
+    what: Do,
+    count: u32,
+) -> Result<(), NoMemory>
+    requires { is_lost side.old ≡ store.old.lost }
+    ensures { OnOk result (is_lost side.new ≡ store.new.lost) }
 {
-    if let Some((client, call)) = call_of(alloc, what)? {
-        let _called = side.call(client, call)?;
-    }
+    make(alloc, side, what)?;
+    turns_of_want(rt, side, store, count);
     Ok(())
 }
 
 /// Entries that take memory when they begin, think and act.
+fn calls_of_want(
+    rt: &impl Abort,
+    alloc: Global,
+    side: &mut AppSide<Actor>,
+    store: &mut MapStore,
+) -> Result<(), NoMemory>
+    requires { is_lost side.old ≡ store.old.lost }
+{
+    call_and_turns(rt, alloc, side, store, Do::OpenInOut(1, b"io"), 5)?;
+    call_and_turns(rt, alloc, side, store, Do::InOut(1, b"io"), 3)?;
+    call_and_turns(rt, alloc, side, store, Do::Object(1, b"h"), 5)
+}
+
+/// Where the fifth allocation fails, the open's entry finds no memory as it begins, and where the ninth fails, the invoke's.
 #[test]
 fn a_turn_may_want_memory(rt: HostRuntime) -> Result<(), Fail> {
-    let alloc = rt.alloc();
+    let mut store = MapStore::new(rt.alloc(), &[])?;
     let actor = Actor::new(FINE, false);
-    let mut side = AppSide::new(alloc, host(alloc, PLAIN.properties, actor)?, 0, [0; 32])?;
-    let mut store = MapStore::new(alloc, &[])?;
-    make(&mut side, alloc, Do::Open(1))?;
-    turns_of_want(&rt, &mut side, &mut store, 5);
-    make(&mut side, alloc, Do::Object(1, b"h"))?;
-    turns_of_want(&rt, &mut side, &mut store, 5);
+    let host = host(rt.alloc(), PLAIN.properties, actor)?;
+    let mut side = AppSide::new(rt.alloc(), host, 0, [0; 32])?;
+    calls_of_want(&rt, rt.alloc(), &mut side, &mut store)?;
     Ok(())
 }

@@ -1,6 +1,6 @@
 //! Sessions and instances: from open to close, by the properties, and how an instance ends.
 
-use super::tables::{API, APP, Do, FINE, NONE, PLAIN, Row, Seen, TEE, Table, ZEROS, run};
+use super::tables::{API, APP, Do, FINE, NONE, PLAIN, Row, Seen, TEE, Table, ZEROS, check};
 use app_api::Properties;
 use std::test::Fail;
 use tee_base::Code;
@@ -217,7 +217,7 @@ const TABLES: &[Table] = &[
 #[test]
 fn sessions_come_and_go(rt: HostRuntime) -> Result<(), Fail> {
     for table in TABLES {
-        run(&rt, rt.alloc(), table)?;
+        check(&rt, rt.alloc(), table)?;
     }
     Ok(())
 }

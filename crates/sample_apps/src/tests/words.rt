@@ -173,15 +173,44 @@ fn told(alloc: Global, ask: &Ask) -> Result<String, Fail> {
     Ok(text)
 }
 
-/// Gives each row, and compares what is asked for then. Another value of the same state asks for the same.
+/// What the sample asks for when it is given this.
+fn reaction(alloc: Global, sample: &mut Sample, text: &str) -> Result<String, Fail> {
+    let given = given(alloc, text)?;
+    let ask = sample.step(alloc, given)?;
+    told(alloc, &ask)
+}
+
+/// Gives the row, and compares what is asked for then.
+fn run_row(
+    rt: &impl Abort,
+    alloc: Global,
+    sample: &mut Sample,
+    text: &str,
+    wanted: &str,
+) -> Result<(), Fail> {
+    let told = reaction(alloc, sample, text)?;
+    assert!(rt; told.as_str() == wanted, "{text} > {told}");
+    Ok(())
+}
+
+/// Another value of the same state asks for the same.
+fn run_afresh(
+    rt: &impl Abort,
+    alloc: Global,
+    sample: &Sample,
+    text: &str,
+    wanted: &str,
+) -> Result<(), Fail> {
+    let mut fresh = sample.fresh(alloc)?;
+    run_row(rt, alloc, &mut fresh, text, wanted)
+}
+
+/// Gives each row to the sample, and first to another value of its state.
 pub fn run(rt: &impl Abort, alloc: Global, sample: &mut Sample, table: &str) -> Result<(), Fail> {
     for row in table.lines() {
         let (text, wanted) = row.split_once(" > ").ok_or("a row without a sign")?;
-        let mut fresh = sample.fresh(alloc)?;
-        let ask = told(alloc, &fresh.step(alloc, given(alloc, text)?)?)?;
-        assert_eq!(rt; ask.as_str(), wanted, "{text} to another value");
-        let ask = told(alloc, &sample.step(alloc, given(alloc, text)?)?)?;
-        assert_eq!(rt; ask.as_str(), wanted, "{text}");
+        run_afresh(rt, alloc, sample, text, wanted)?;
+        run_row(rt, alloc, sample, text, wanted)?;
     }
     Ok(())
 }
