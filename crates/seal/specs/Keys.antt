@@ -10,9 +10,8 @@ use Rattle.seal.specs.declared.codes.CodeKey.{CodeKey}
 use Rattle.seal.specs.declared.keys.Keys.{Keys}
 
 -- the key of codes is this one, made ready
-pub record IsCodeKeyOf (ready : CodeKey) (key : List ℕ) : Type 0 where
-  pub inner : Holds256 ready.inner (inner_block Sha256 key)
-  pub outer : Holds256 ready.outer (outer_block Sha256 key)
+unfoldable pub IsCodeKeyOf : CodeKey → List ℕ → Type 0
+IsCodeKeyOf ready key = Holds256 ready.inner (inner_block Sha256 key) × Holds256 ready.outer (outer_block Sha256 key)
 
 -- the keys that this board's key gives, each code at its start
 pub record AreKeysOf (keys : Keys) (key : List ℕ) : Type 0 where

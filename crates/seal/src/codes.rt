@@ -23,6 +23,7 @@ pub(crate) struct CodeKey {
 
 impl CodeKey {
     /// The key made ready.
+    #[tactic(auto, unfolding(crate::specs::Keys::IsCodeKeyOf))]
     pub(crate) fn of(key: &[u8; 32]) -> CodeKey
         ensures { IsCodeKeyOf result key.now }
     {
