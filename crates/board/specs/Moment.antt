@@ -1,5 +1,6 @@
 -- The disk model: what a board reads as at a moment, and what a crash at that moment may leave.
 use Rattle.std.specs.Prelude.{◌≡◌, ◌≤◌, ◌<◌, ◌⊎◌, ◌+◌, ◌^◌, ℕ, Bool, true, false, List, [], ◌∷◌, length}
+use Rattle.tee_base.specs.declared.limits.TheConstants.{BLOCK_BYTES}
 use Rattle.board.specs.declared.fuse.Fuse.{Fuse}
 
 -- what a crash leaves, and how far the counts of faults and orders were
@@ -43,7 +44,7 @@ pub record IsCounter (m : Moment) (n : ℕ) : Type 0 where
 -- what a crash at this moment may leave: any 1,024 bytes in each pending block, and all others as they are on the disk
 pub record IsLeft (m : Moment) (c : Outcome) : Type 0 where
   pub kept : (k : ℕ) → m.pending k ≡ false → c.image k ≡ m.durable k
-  pub any : (k : ℕ) → m.pending k ≡ true → length (c.image k) ≡ 1024
+  pub any : (k : ℕ) → m.pending k ≡ true → length (c.image k) ≡ BLOCK_BYTES
   pub counter : IsCounter m c.counter
   pub faults : c.faults ≡ m.faults
   pub orders : c.orders ≡ m.orders
@@ -64,7 +65,7 @@ left_since v t c = IsLeft v.state c ⊎ WasLeft v.past t c
 -- an honest board as it reads is one of its images, and what is pending is within its size
 pub record IsConsistent (v : View) : Type 0 where
   pub as_read : (k : ℕ) → v.state.pending k ≡ false → v.state.reads k ≡ v.state.durable k
-  pub whole : (k : ℕ) → k < v.size → length (v.state.reads k) ≡ 1024
+  pub whole : (k : ℕ) → k < v.size → length (v.state.reads k) ≡ BLOCK_BYTES
   pub within : (k : ℕ) → v.state.pending k ≡ true → k < v.size
   pub counter : v.state.counter < 2 ^ 64
 

@@ -9,10 +9,11 @@ ghost use Rattle.board.specs.declared.fuse.Fuse.TheVariants.{Unset};
 
 pub mod fuse;
 
+use tee_base::limits;
 use thiserror::Error;
 
 /// How many bytes a block has.
-pub const BLOCK: usize = 1024;
+pub const BLOCK: usize = limits::BLOCK_BYTES;
 
 /// The call didn't reach the device, or the device refused it.
 #[derive(Clone, Copy, Debug, PartialEq, Eq, Error)]

@@ -3,6 +3,7 @@ use Rattle.std.specs.Prelude.{◌≡◌, ◌≢◌, ◌<◌, ◌≤◌, ◌^◌,
 use Rattle.std.proofs.Common.{◌⊎◌, ⊎_elim, sym, ◌∙◌, arith}
 use Rattle.std.proofs.lemmas.Bool.{cases_lt}
 use Rattle.std.proofs.lemmas.List.{get_or_past}
+use Rattle.tee_base.specs.declared.limits.TheConstants.{BLOCK_BYTES}
 use Rattle.board.specs.Moment.{Moment}
 use Rattle.boards.specs.declared.disk.Disk.{Disk}
 
@@ -36,7 +37,7 @@ pub record IsWhole (d : Disk) : Type 0 where
   pub offered : vec_len d.offered ≡ vec_len d.durable
   pub pending : vec_len d.pending ≡ vec_len d.durable
   pub as_read : (k : ℕ) → pending_of d k ≡ false → reads_of d k ≡ durable_of d k
-  pub blocks : (k : ℕ) → k < vec_len d.durable → length (reads_of d k) ≡ 1024
+  pub blocks : (k : ℕ) → k < vec_len d.durable → length (reads_of d k) ≡ BLOCK_BYTES
   pub counter : d.counter < 2 ^ 64
   pub faults : d.faults < 2 ^ 64
   pub orders : d.orders < 2 ^ 64
@@ -61,7 +62,7 @@ pub record Puts (at : ℕ) (bytes : List ℕ) (old new : Disk) : Type 0 where
   pub whole : IsWhole new
   pub size : vec_len new.durable ≡ vec_len old.durable
   pub here : durable_of new at ≡ bytes
-  pub block : length (durable_of new at) ≡ 1024
+  pub block : length (durable_of new at) ≡ BLOCK_BYTES
   pub settled : pending_of new at ≡ false
   pub elsewhere : (k : ℕ) → k ≢ at → durable_of new k ≡ durable_of old k
   pub pending : (k : ℕ) → k ≢ at → pending_of new k ≡ pending_of old k

@@ -1,10 +1,11 @@
 -- What a loss of power leaves in memory, by a number that picks it.
 use Rattle.std.specs.Prelude.{ℕ, zero, suc, ◌+◌, ◌-◌, ◌/◌, ◌%◌, ◌^◌, ◌==◌, if◌then◌else◌, Bool, ◌&&◌, nat_lt, List, ◌++◌, take, drop, replicate}
+use Rattle.tee_base.specs.declared.limits.TheConstants.{BLOCK_BYTES}
 
 -- one pending block, by a digit in base 4: the durable bytes, the last offered, half of each, or all 0xA5
 abbrev pub landed : ℕ → List ℕ → List ℕ → List ℕ
 landed digit durable offered =
-    if digit == 0 then durable else if digit == 1 then offered else if digit == 2 then take 512 offered ++ drop 512 durable else replicate 1024 0xA5
+    if digit == 0 then durable else if digit == 1 then offered else if digit == 2 then take (BLOCK_BYTES / 2) offered ++ drop (BLOCK_BYTES / 2) durable else replicate BLOCK_BYTES 0xA5
 
 -- how many blocks below are pending
 unfoldable pub count_below : (ℕ → Bool) → ℕ → ℕ

@@ -1,5 +1,6 @@
 //! The disk in memory: the bytes that are durable, the bytes that reads give, and the counter.
 ghost use Rattle.std.specs.Prelude.{◌≡◌, ◌≢◌, ◌+◌, ◌-◌, ◌*◌, ◌/◌, ◌%◌, ◌^◌, ◌<◌, ◌≤◌, ℕ, if◌then◌else◌, ◌&&◌, ◌==◌, nat_lt, Bool, true, false, is_ok, OnOk, IfOk, ◌++◌, take, drop, length, slice_set, vec_len};
+ghost use Rattle.tee_base.specs.declared.limits.TheConstants.{BLOCK_BYTES};
 ghost use Rattle.board.specs.Fuse.{passes, is_interrupted, is_refused};
 ghost use Rattle.board.specs.Steps.{capped, Unchanged, Wrote, Synced, Counted, Advanced, Powered};
 ghost use Rattle.boards.specs.Image.{block_at, AreBlocks};
@@ -60,7 +61,7 @@ impl Disk {
     /// What reads give, block after block.
     pub fn image(&self, alloc: Global) -> Result<Bytes, NoMemory>
         requires { IsWhole self.now }
-        ensures count { IfOk result (λ bytes. length bytes ≡ 1024 * vec_len self.now.durable) }
+        ensures count { IfOk result (λ bytes. length bytes ≡ BLOCK_BYTES * vec_len self.now.durable) }
         ensures blocks { IfOk result (λ bytes.
             (k : ℕ) → k < vec_len self.now.durable → block_at bytes k ≡ reads_of self.now k) }
     {
@@ -289,7 +290,7 @@ impl Disk {
             ≡ landed_image digits (pending_of self.old) (durable_of self.old)
             (offered_of self.old) k }
         ensures blocks { (k : ℕ) → pending_of self.old k ≡ true
-            → length (durable_of self.new k) ≡ 1024 }
+            → length (durable_of self.new k) ≡ BLOCK_BYTES }
         ensures pending { (k : ℕ) → pending_of self.new k ≡ false }
         ensures offered { self.new.offered ≡ self.old.offered }
         ensures counter { self.new.counter ≡ self.old.counter }

@@ -13,10 +13,11 @@ use std::fs::OpenFile;
 use std::io;
 use std::io::{Read, Seek, SeekFrom, Write};
 use std::rt::Files;
+use tee_base::limits;
 use thiserror::Error;
 
 /// How many blocks a new image has.
-pub const NEW_BLOCKS: u64 = 8_742;
+pub const NEW_BLOCKS: u64 = limits::BOARD_BLOCKS;
 
 /// Why files are no board.
 #[derive(Clone, Copy, Debug, PartialEq, Eq, Error)]

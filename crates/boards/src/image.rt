@@ -1,5 +1,6 @@
 //! Images: blocks one after another.
 ghost use Rattle.std.specs.Prelude.{◌≡◌, ◌*◌, ◌<◌, ◌%◌, ℕ, List, [], IfOk, length, vec_len, slice_index_or};
+ghost use Rattle.tee_base.specs.declared.limits.TheConstants.{BLOCK_BYTES};
 ghost use Rattle.boards.specs.Image.{block_at, AreBlocks};
 
 use std::alloc::Global;
@@ -20,8 +21,8 @@ pub fn repeated(alloc: Global, block: [u8; 1024], count: usize) -> Result<Vec<[u
 
 /// The blocks of an image.
 pub fn split(alloc: Global, image: &[u8]) -> Result<Vec<[u8; 1024]>, NoMemory>
-    requires { length image.now % 1024 ≡ 0 }
-    ensures count { IfOk result (λ v. 1024 * vec_len v ≡ length image.now) }
+    requires { length image.now % BLOCK_BYTES ≡ 0 }
+    ensures count { IfOk result (λ v. BLOCK_BYTES * vec_len v ≡ length image.now) }
     ensures whole { IfOk result (λ v. AreBlocks v.items) }
     ensures blocks { IfOk result (λ v.
         (k : ℕ) → k < vec_len v → slice_index_or v.items k [] ≡ block_at image.now k) }
@@ -38,7 +39,7 @@ pub fn split(alloc: Global, image: &[u8]) -> Result<Vec<[u8; 1024]>, NoMemory>
 
 /// The image that these blocks make.
 pub fn join(alloc: Global, blocks: &[[u8; 1024]]) -> Result<Bytes, NoMemory>
-    ensures count { IfOk result (λ bytes. length bytes ≡ 1024 * length blocks.now) }
+    ensures count { IfOk result (λ bytes. length bytes ≡ BLOCK_BYTES * length blocks.now) }
     ensures blocks { IfOk result (λ bytes.
         (k : ℕ) → k < length blocks.now → block_at bytes k ≡ slice_index_or blocks.now k []) }
 {

@@ -1,5 +1,6 @@
 //! A board in memory, which is honest.
 ghost use Rattle.std.specs.Prelude.{◌≡◌, ◌+◌, ◌-◌, ◌*◌, ◌/◌, ◌%◌, ◌^◌, ◌<◌, ◌++◌, ℕ, Bool, true, false, IsTrue, IfOk, OnOk, OnErr, is_ok, nat_lt, length, replicate, vec_len, slice_index_or, List, [], if◌then◌else◌, refl};
+ghost use Rattle.tee_base.specs.declared.limits.TheConstants.{BLOCK_BYTES};
 ghost use Rattle.board.specs.Fuse.{refitted, is_interrupted, is_refused};
 ghost use Rattle.board.specs.Steps.{capped, Called, Ordered, Answered, Passes, Unchanged, Wrote, Synced, Counted, Advanced, Powered};
 ghost use Rattle.board.specs.declared.fuse.Fuse.TheVariants.{Unset};
@@ -37,7 +38,7 @@ impl MemBoard {
     pub fn blank(alloc: Global, key: [u8; 32], blocks: u64) -> Result<MemBoard, NoMemory>
         ensures new { IfOk result (λ b. IsNew key blocks 0 (memory_of b)) }
         ensures zero { IfOk result (λ b.
-            (k : ℕ) → k < blocks → (view_of b).state.reads k ≡ replicate 1024 0) }
+            (k : ℕ) → k < blocks → (view_of b).state.reads k ≡ replicate BLOCK_BYTES 0) }
     {
         let zero = image::repeated(alloc, [0; 1024], blocks as usize)?;
         MemBoard::of_blocks(alloc, zero, 0, key)
@@ -50,10 +51,10 @@ impl MemBoard {
         counter: u64,
         key: [u8; 32],
     ) -> Result<MemBoard, NoMemory>
-        requires { length image % 1024 ≡ 0 }
-        ensures new { IfOk result (λ b. IsNew key (length image / 1024) counter (memory_of b)) }
+        requires { length image % BLOCK_BYTES ≡ 0 }
+        ensures new { IfOk result (λ b. IsNew key (length image / BLOCK_BYTES) counter (memory_of b)) }
         ensures blocks { IfOk result (λ b.
-            (k : ℕ) → k < length image / 1024 → (view_of b).state.reads k ≡ block_at image k) }
+            (k : ℕ) → k < length image / BLOCK_BYTES → (view_of b).state.reads k ≡ block_at image k) }
     {
         let blocks = image::split(alloc, image.as_slice())?;
         MemBoard::of_blocks(alloc, blocks, counter, key)
@@ -97,7 +98,7 @@ impl MemBoard {
 
     /// What reads give, block after block.
     pub fn image(&self, alloc: Global) -> Result<Bytes, NoMemory>
-        ensures count { IfOk result (λ bytes. length bytes ≡ 1024 * (view_of self.now).size) }
+        ensures count { IfOk result (λ bytes. length bytes ≡ BLOCK_BYTES * (view_of self.now).size) }
         ensures blocks { IfOk result (λ bytes.
             (k : ℕ) → k < (view_of self.now).size
             → block_at bytes k ≡ (view_of self.now).state.reads k) }

@@ -1,5 +1,6 @@
 -- The advance that ends a search for the header that counts, and what a crash within the search leaves.
-use Rattle.std.proofs.Common.{◌≡◌, ◌≢◌, ◌≤◌, ◌+◌, ◌∙◌, ℕ, Bool, false, List, Option, Some, None, Result, Ok, Err, nat_lt, refl, sym, ap, arith}
+use Rattle.std.proofs.Common.{◌≡◌, ◌≢◌, ◌≤◌, ◌+◌, ◌∙◌, ◌==◌, if◌then◌else◌, ℕ, Bool, true, false, subst, List, Option, Some, None, Result, Ok, Err, IfOk, nat_lt, refl, sym, ap, arith}
+use Rattle.std.proofs.lemmas.Bool.Decides.{nat_tests}
 use Rattle.tee_base.specs.Crash.{LeavesOnly}
 use Rattle.tee_base.proofs.Crash.{weaker}
 use Rattle.board.specs.declared.BoardFailed.{BoardFailed}
@@ -7,15 +8,17 @@ use Rattle.board.specs.Moment.{Moment, View, IsCounter, moment, left_since}
 use Rattle.board.specs.Steps.{Answered, Advanced}
 use Rattle.board.specs.Runs.{IsBase, LeavesBase, RunsOver, Rests}
 use Rattle.board.proofs.Runs.{base-wider, rests_base, run_starts, run_goes_on}
-use Rattle.epoch.specs.Finding.{Finds, IsSettledAt, OpensBelow, RefusesOlder}
+use Rattle.epoch.specs.Finding.{Finds, IsSettledAt, OpensBelow, RefusesOlder, sequence_of}
 use Rattle.epoch.specs.Opening.{IsRuled, header_answer, opening_by, opening_of, opens_as}
 use Rattle.epoch.specs.Slots.{slot_of}
 use Rattle.epoch.specs.Steps.{outcome_opening}
 use Rattle.epoch.specs.declared.answer.OpenAnswer.{OpenAnswer}
-use Rattle.epoch.specs.declared.answer.OpenAnswer.TheVariants.{TooSmall, Rollback, Failed}
+use Rattle.epoch.specs.declared.answer.OpenAnswer.TheVariants.{NoVolume, TooSmall, Rollback, Failed}
 use Rattle.epoch.specs.declared.header.Header.{Header}
 use Rattle.epoch.specs.declared.rule.Found.{Found}
 use Rattle.epoch.specs.declared.slots.Slot.{Slot}
+use Rattle.epoch.specs.declared.slots.Slot.TheVariants.{Shut}
+use Rattle.epoch.proofs.StageLemmas.{blank_first}
 use Rattle.epoch.proofs.RuleLemmas.{if_other, opens_at_two, refuses_rollback}
 
 module _ (open_at : ℕ → Bool) (base : ℕ → List ℕ) (low high n : ℕ) where
@@ -135,3 +138,25 @@ refuses_older version blocks size key m result finds n c found opens settled abo
     let rule : opens_as version blocks size key m.reads finds.counter ≡ Err (Rollback found.header.sequence c)
     = rw (one.0, same) (refuses_rollback version key m.reads n c found one.1 above) in
     finds.ruled made ∙ ap header_answer rule
+
+-- where nothing is found and nothing refused, the counter is 0
+zero_told : (b : Bool) (n : ℕ) → n == 0 ≡ b → (let none : Result (Option Found) OpenAnswer = Ok None in if b then none else Err (NoVolume n)) ≡ Ok None → n ≡ 0
+zero_told true n is e = grind (arith, nat_tests, is)
+zero_told false n is e = cc
+
+pub blank_counter : (version : ℕ) (first second : Slot) (n : ℕ) → (let none : Result (Option Found) OpenAnswer = Ok None in opening_by version first second n ≡ none) → n ≡ 0
+blank_counter version first second n e =
+    let none : Result (Option Found) OpenAnswer = Ok None in
+    let shut = blank_first version first second n e in
+    let one : opening_by version Shut second n ≡ none = subst (λ (s : Slot). opening_by version s second n ≡ none) shut.0 e in
+    let both : opening_by version Shut Shut n ≡ none = subst (λ (s : Slot). opening_by version Shut s n ≡ none) shut.1 one in
+    zero_told (n == 0) n refl both
+
+-- the counter is settled at the header that is told
+pub settled_answer : (r : Result (Option Header) OpenAnswer) (header : Header) (m : Moment) → (r ≢ Err Failed → r ≡ Ok (Some header))
+    → IfOk r (λ h. IsSettledAt header.sequence m) → IfOk r (λ h. IsSettledAt (sequence_of h) m)
+settled_answer (Ok h) header m made settled =
+    let told : Ok h ≡ Ok (Some header) = made (λ w. cc) in
+    let same : h ≡ Some header = cc in
+    rw same settled
+settled_answer (Err answer) header m made settled = tt

@@ -49,7 +49,7 @@ not_blank version slot h n e =
     let three = if_other (nat_lt (n + 1) h.sequence) _ _ _ two.1 (λ w. cc) in
     let last = three.1 in cc
 
-blank_first : (version : ℕ) (first second : Slot) (n : ℕ) → (let none : Result (Option Found) OpenAnswer = Ok None in opening_by version first second n ≡ none) → (first ≡ Shut) × (second ≡ Shut)
+pub blank_first : (version : ℕ) (first second : Slot) (n : ℕ) → (let none : Result (Option Found) OpenAnswer = Ok None in opening_by version first second n ≡ none) → (first ≡ Shut) × (second ≡ Shut)
 blank_first version (Bad t) second n e = absurd cc
 blank_first version Shut (Bad t) n e = absurd cc
 blank_first version Shut Shut n e = (refl, refl)

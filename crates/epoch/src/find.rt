@@ -16,9 +16,10 @@ use crate::rule::judge;
 use crate::slots::gather;
 use board::{Board, BoardFailed};
 use seal::Keys;
+use tee_base::limits;
 
 /// How many blocks a volume has.
-pub const VOLUME_BLOCKS: u64 = 8_742;
+pub const VOLUME_BLOCKS: u64 = limits::BOARD_BLOCKS;
 
 /// The version of a volume that is one flat table.
 pub const FLAT_VERSION: u32 = 0;

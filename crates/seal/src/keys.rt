@@ -9,6 +9,7 @@ ghost use Rattle.mac_digest.specs.declared.digests.Hash.TheVariants as hash_by;
 ghost use Rattle.seal.specs.Sealing.{le64, cipher_key, tag_key, seal_vector, seal_tag};
 ghost use Rattle.seal.specs.Keys.{AreKeysOf};
 
+use crate::codes::CodeKey;
 use aes_core::{Key, expand};
 use aes_modes::{Mode, Way, start};
 use mac_digest::{Hash, Mac, hmac};
@@ -25,9 +26,10 @@ const TAG_TEXT: &[u8; 7] = b"tee tag";
 /// The keys of a board: of initial vectors, of the cipher and of tags.
 #[derive(Drop)]
 pub struct Keys {
-    vector: Mac,
+    vector: CodeKey,
     cipher: Key,
-    tag: Mac,
+    tag: CodeKey,
+    tagger: Mac,
 }
 
 impl Keys {
@@ -40,9 +42,10 @@ impl Keys {
         let cipher = derived_key(key, CIPHER_TEXT);
         let tag = derived_key(key, TAG_TEXT);
         Keys {
-            vector: hmac(Hash::Sha256, &vector),
+            vector: CodeKey::of(&vector),
             cipher: expand(&cipher).unwrap(),
-            tag: hmac(Hash::Sha256, &tag),
+            tag: CodeKey::of(&tag),
+            tagger: hmac(Hash::Sha256, &tag),
         }
     }
 
@@ -51,7 +54,7 @@ impl Keys {
         ensures { (key : List ℕ) → AreKeysOf self.now key
             → HoldsKeyedMessage result hash_by.Sha256 (tag_key key) [] }
     {
-        copied(&self.tag)
+        self.tagger.clone().unwrap()
     }
 
     /// The initial vector of a block.
@@ -59,11 +62,8 @@ impl Keys {
         ensures { (key : List ℕ) → AreKeysOf self.now key
             → result ≡ seal_vector key place sequence plain.now }
     {
-        let mut mac = copied(&self.vector);
-        mac.update(&place.to_le_bytes());
-        mac.update(&sequence.to_le_bytes());
-        mac.update(plain);
-        let code = tag_of(&mut mac);
+        let head = numbers(place, sequence);
+        let code = self.vector.code_of(&head, plain);
         let mut iv = [0; 16];
         iv.copy_from_slice(&code[..16]);
         iv
@@ -80,12 +80,10 @@ impl Keys {
         ensures { (key : List ℕ) → AreKeysOf self.now key
             → result ≡ seal_tag key place sequence iv.now cipher.now }
     {
-        let mut mac = self.tagger();
-        mac.update(&place.to_le_bytes());
-        mac.update(&sequence.to_le_bytes());
-        mac.update(iv);
-        mac.update(cipher);
-        tag_of(&mut mac)
+        let mut head = [0; 32];
+        head[..16].copy_from_slice(&numbers(place, sequence));
+        head[16..].copy_from_slice(iv);
+        self.tag.code_of(&head, cipher)
     }
 
     /// A block through the cipher in counter mode, one way or the other.
@@ -106,11 +104,14 @@ pub fn tag_of(mac: &mut Mac) -> [u8; 32]
     to_array(mac.finish().as_slice())
 }
 
-/// A clone, which never fails.
-fn copied(mac: &Mac) -> Mac
-    ensures { result ≡ mac.now }
+/// A place and a sequence, in eight bytes each.
+fn numbers(place: u64, sequence: u64) -> [u8; 16]
+    ensures { result ≡ le64 place ++ le64 sequence }
 {
-    mac.clone().unwrap()
+    let mut bytes = [0; 16];
+    bytes[..8].copy_from_slice(&place.to_le_bytes());
+    bytes[8..].copy_from_slice(&sequence.to_le_bytes());
+    bytes
 }
 
 /// The 32 bytes of a code.

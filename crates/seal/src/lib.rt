@@ -4,6 +4,7 @@
 //! No call takes memory.
 #![tactic(auto)]
 
+mod codes;
 mod keys;
 mod leaf;
 #[cfg(test)]

@@ -2,11 +2,12 @@
 
 use arrayvec::ArrayVec;
 use std::marker::Model;
+use tee_base::limits::SECRET_BYTES;
 
-/// A secret of at most 128 bytes.
+/// A secret of at most `SECRET_BYTES` bytes.
 #[derive(Drop)]
 pub struct Secret {
-    bytes: ArrayVec<u8, 128>,
+    bytes: ArrayVec<u8, SECRET_BYTES>,
 }
 
 impl Model for Secret {
@@ -22,7 +23,7 @@ impl Secret {
 
     /// A copy of the bytes.
     pub fn from_slice(from: &[u8]) -> Secret
-        requires { length from.now ≤ 128 }
+        requires { length from.now ≤ SECRET_BYTES }
         ensures { result ≡ from.now }
     {
         let mut bytes = ArrayVec::new();
@@ -40,7 +41,7 @@ impl Secret {
     /// The bytes.
     pub fn as_slice(&self) -> &[u8]
         ensures bytes { result.now ≡ self.now }
-        ensures fits { length result.now ≤ 128 }
+        ensures fits { length result.now ≤ SECRET_BYTES }
     {
         self.bytes.as_slice()
     }
@@ -48,7 +49,7 @@ impl Secret {
     /// How many bytes there are.
     pub fn len(&self) -> usize
         ensures count { result ≡ length self.now }
-        ensures fits { result ≤ 128 }
+        ensures fits { result ≤ SECRET_BYTES }
     {
         self.bytes.len()
     }

@@ -1,9 +1,11 @@
 use Rattle.std.proofs.Common.{◌≡◌, ◌≢◌, ◌≤◌, ◌∙◌, ℕ, List, false, Some, None, Ok, Err, refl, sym, subst, arith}
+use Rattle.std.proofs.lemmas.Bool.{ltb-false}
 use Rattle.seal.specs.Keys.{AreKeysOf}
 use Rattle.epoch.specs.Opening.{header_answer}
 use Rattle.epoch.specs.declared.answer.OpenAnswer.TheVariants.{Failed}
 use Rattle.epoch.specs.declared.find.TheConstants.{VOLUME_BLOCKS}
-use Rattle.epoch.proofs.FindLemmas.{find_starts, find_crash, opens_below, judged_opening, ruled_answer, between}
+use Rattle.epoch.proofs.RuleLemmas.{asked}
+use Rattle.epoch.proofs.FindLemmas.{blank_counter, settled_answer, find_starts, find_crash, opens_below, judged_opening, ruled_answer, between}
 use Rattle.epoch.proofs.find.find_version.Goals as goal
 use Rattle.epoch.proofs.find.find_version.Goals.{in-Err, in-Ok-None, in-Ok-Some}
 
@@ -74,3 +76,21 @@ pub returns-clause-crash : goal.returns-clause-crash
 returns-clause-crash g c h n rests =
     let v = g.B.Board.view c.args.board.now in
     find_crash c.args.version n _ _ (returns-clause-run g c h (λ k. false) v.state.reads n _ _ (opens_below c.args.version v.key v.state.reads n) (find_starts c.args.version n _ rests))
+
+pub returns-clause-counter : goal.returns-clause-counter
+returns-clause-counter g c h =
+    let seen = c.in_ok-seen.seen in
+    let counted = c.in_ok-seen.ensures.counter h in
+    elim c.match-judge.branch [
+      | in-Err w ↦ rw w.result-is tt
+      | in-Ok-None w ↦
+          let e : c.judge.result ≡ Ok None = cc in
+          let zero = blank_counter c.args.version seen.first seen.second seen.counter (sym c.judge.ensures ∙ e) in
+          rw (w.result-is, w.board-is) (record { counter = counted.counter ∙ zero; slack = counted.slack })
+      | in-Ok-Some w ↦
+          let e : c.judge.result ≡ Ok (Some w.in-Ok-Some.found) = cc in
+          let two = (asked c.args.version seen.first seen.second seen.counter w.in-Ok-Some.found (sym c.judge.ensures ∙ e)).counts in
+          let settled = w.raise.ensures.counter (c.in_ok-seen.ensures.honest h) (record { counter = counted.counter; slack = counted.slack })
+          (ltb-false _ _ two.least) (ltb-false _ _ two.most) in
+          rw (w.result-is, w.board-is) (settled_answer w.raise.result w.in-Ok-Some.found.header _ w.raise.ensures.answer settled)
+    ]
