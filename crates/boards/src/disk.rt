@@ -61,7 +61,8 @@ impl Disk {
     /// What reads give, block after block.
     pub fn image(&self, alloc: Global) -> Result<Bytes, NoMemory>
         requires { IsWhole self.now }
-        ensures count { IfOk result (λ bytes. length bytes ≡ BLOCK_BYTES * vec_len self.now.durable) }
+        ensures count { IfOk result (λ bytes.
+            length bytes ≡ BLOCK_BYTES * vec_len self.now.durable) }
         ensures blocks { IfOk result (λ bytes.
             (k : ℕ) → k < vec_len self.now.durable → block_at bytes k ≡ reads_of self.now k) }
     {

@@ -52,9 +52,11 @@ impl MemBoard {
         key: [u8; 32],
     ) -> Result<MemBoard, NoMemory>
         requires { length image % BLOCK_BYTES ≡ 0 }
-        ensures new { IfOk result (λ b. IsNew key (length image / BLOCK_BYTES) counter (memory_of b)) }
+        ensures new { IfOk result (λ b.
+            IsNew key (length image / BLOCK_BYTES) counter (memory_of b)) }
         ensures blocks { IfOk result (λ b.
-            (k : ℕ) → k < length image / BLOCK_BYTES → (view_of b).state.reads k ≡ block_at image k) }
+            (k : ℕ) → k < length image / BLOCK_BYTES
+            → (view_of b).state.reads k ≡ block_at image k) }
     {
         let blocks = image::split(alloc, image.as_slice())?;
         MemBoard::of_blocks(alloc, blocks, counter, key)
@@ -98,7 +100,8 @@ impl MemBoard {
 
     /// What reads give, block after block.
     pub fn image(&self, alloc: Global) -> Result<Bytes, NoMemory>
-        ensures count { IfOk result (λ bytes. length bytes ≡ BLOCK_BYTES * (view_of self.now).size) }
+        ensures count { IfOk result (λ bytes.
+            length bytes ≡ BLOCK_BYTES * (view_of self.now).size) }
         ensures blocks { IfOk result (λ bytes.
             (k : ℕ) → k < (view_of self.now).size
             → block_at bytes k ≡ (view_of self.now).state.reads k) }
