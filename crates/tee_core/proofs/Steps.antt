@@ -4,14 +4,17 @@ use Rattle.app_api.specs.declared.call.Call.{Call}
 use Rattle.alone.specs.declared.turn.TurnKind.TheVariants.{Plain}
 use Rattle.alone.specs.declared.reply.Reply.{Reply}
 use Rattle.alone.specs.Machine.{Machine}
-use Rattle.alone.specs.Step.{called}
-use Rattle.app_side.proofs.Stored.{called_over}
+use Rattle.alone.specs.Step.{called, cancelled}
+use Rattle.app_side.proofs.Stored.{called_over, cancelled_over}
 use Rattle.tee_core.specs.declared.happened.Happened.{Happened}
 use Rattle.tee_core.specs.Happenings.{told_behind}
 
--- a call leaves the objects
+-- a call and a cancellation leave the objects
 pub called_store : {A : Type 0} (m : Machine A) (client : ℕ) (call : Call) → (called m client call).machine.store ≡ m.store
 called_store {A} m client call = ap (λ s. s.machine.store) (called_over m.store m.in_doubt m client call)
+
+pub cancelled_store : {A : Type 0} (m : Machine A) (op : ℕ) → (cancelled m op).machine.store ≡ m.store
+cancelled_store {A} m op = ap (λ s. s.machine.store) (cancelled_over m.store m.in_doubt m op)
 
 pub on_err_known : {X E : Type 0} (r : Result X E) (P : Type 0) → P → OnErr r P
 on_err_known (Ok x) P p = tt

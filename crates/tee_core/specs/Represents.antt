@@ -2,7 +2,7 @@
 use Rattle.std.specs.Prelude.{ℕ, ◌≡◌, ◌≢◌, false, List, [], ◌∷◌, length, slice_index_or}
 use Rattle.app_side.specs.Represents.{Represents as Runs_as}
 use Rattle.alone.specs.Machine.{Machine}
-use Rattle.alone.specs.Step.{Event as MachineEvent, Called, Turned}
+use Rattle.alone.specs.Step.{Event as MachineEvent, Called, Cancelled, Turned}
 use Rattle.tee_core.specs.World.{World, AppEvent}
 use Rattle.tee_core.specs.declared.happened.Event.{Event}
 use Rattle.tee_core.specs.declared.happened.Event.TheVariants as events
@@ -33,11 +33,13 @@ app_count tee = length tee.hosted.items
 -- the application of an event
 abbrev pub app_of : Event → ℕ
 app_of (events.Call app client call) = app
+app_of (events.Cancel app op) = app
 app_of (events.Turn app instance) = app
 
 -- what the event is for its machine
 abbrev pub machine_event : Event → MachineEvent
 machine_event (events.Call app client call) = Called client call
+machine_event (events.Cancel app op) = Cancelled op
 machine_event (events.Turn app instance) = Turned instance
 
 abbrev pub event_of : Event → AppEvent
@@ -51,7 +53,8 @@ applications_of tee = tee.hosted.items
 abbrev pub OthersStay : {A : Type 0} → ℕ → List (Hosted A) → List (Hosted A) → Type 0
 OthersStay {A} app old new = (other : ℕ) (d : Hosted A) → other ≢ app → slice_index_or new other d ≡ slice_index_or old other d
 
--- what an event that found no memory leaves: a call leaves all, and a turn all other applications
+-- what an event that found no memory leaves: a call leaves all, and a turn all other applications; no cancellation is such an event
 abbrev pub LeftByWant : {A : Type 0} → Event → List (Hosted A) → List (Hosted A) → Type 0
 LeftByWant {A} (events.Call app client call) old new = (world : World A) → AreHosted old world → AreHosted new world
+LeftByWant (events.Cancel app op) old new = ⊥
 LeftByWant (events.Turn app instance) old new = OthersStay app old new

@@ -52,7 +52,8 @@ impl<A: Application> Tee<A> {
     ///
     /// # Errors
     ///
-    /// Want of memory. In a call it changes nothing; in a turn it ends the run of that application, and leaves the others.
+    /// Want of memory. In a call it changes nothing; in a turn it ends the run of that application, and leaves the others. A
+    /// cancellation takes no memory.
     pub fn event(&mut self, event: Event) -> Result<Happened, NoMemory>
         requires { app_of event < app_count self.old }
         ensures world { OnOk result ((world : World A) → Represents self.old world
@@ -67,6 +68,7 @@ impl<A: Application> Tee<A> {
     {
         match event {
             Event::Call { app, client, call } => self.hosted[app as usize].call(client, call),
+            Event::Cancel { app, op } => Ok(self.hosted[app as usize].cancel(op)),
             Event::Turn { app, instance } => self.hosted[app as usize].turn(instance),
         }
     }

@@ -11,6 +11,8 @@ use tee_base::NoMemory;
 pub enum Event {
     /// A client calls it.
     Call { app: u8, client: u8, call: Call },
+    /// A client asks for the operation of this number to be cancelled.
+    Cancel { app: u8, op: u64 },
     /// An instance of it gets a turn.
     Turn { app: u8, instance: u8 },
 }
@@ -21,9 +23,10 @@ pub struct Happened {
     pub kind: TurnKind,
     /// How many turns the application has made after it.
     pub turn: u64,
-    /// The number of the operation that was called, 0 for a turn.
+    /// The number of the operation that was called, or is to be cancelled; 0 for a turn.
     pub op: u64,
-    /// For a call the instance for which it waits, 0 where it is answered already; for a turn its instance.
+    /// For a call the instance for which it waits, 0 where it is answered already; for a turn its instance; 0 for a
+    /// cancellation.
     pub instance: u8,
     pub replies: Replies,
 }

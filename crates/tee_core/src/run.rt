@@ -1,10 +1,10 @@
-//! Calls and turns of one application, and calls that are run until they are answered.
+//! Calls, cancellations and turns of one application, and calls that are run until they are answered.
 
 ghost use Rattle.std.specs.Prelude.{◌≡◌, ◌++◌, ◌∷◌, [], IfOk, OnOk, OnErr, IsTrue};
 ghost use Rattle.store_api.specs.Stores.{empty_store};
 ghost use Rattle.alone.specs.Machine.{Machine, start};
 ghost use Rattle.alone.specs.Runs.{events_of_call, machine_after, most_turns, turns_until};
-ghost use Rattle.alone.specs.Step.{called, is_answered, turned, Called, Turned};
+ghost use Rattle.alone.specs.Step.{called, cancelled, is_answered, turned, Called, Cancelled, Turned};
 ghost use Rattle.tee_core.specs.Happenings.{happening, replying, told_of_call};
 ghost use Rattle.tee_core.specs.Represents.{IsHosted};
 
@@ -57,6 +57,23 @@ impl<A: Application> Hosted<A> {
             instance: made.instance,
             replies: made.replies,
         })
+    }
+
+    /// A client asks for the operation of this number to be cancelled. It takes no memory.
+    pub fn cancel(&mut self, op: u64) -> Happened
+        ensures hosted { (m : Machine A) → IsHosted self.old m
+            → IsHosted self.new (cancelled m op).machine }
+        ensures told { (m : Machine A) → IsHosted self.old m
+            → result ≡ happening A.behaviour m (Cancelled op) }
+    {
+        let replies = self.side.cancel(op);
+        Happened {
+            kind: TurnKind::Plain,
+            turn: self.side.turns(),
+            op,
+            instance: 0,
+            replies,
+        }
     }
 
     /// A turn of the instance, with its replies.

@@ -1,6 +1,6 @@
 -- One application among others: its machine meets its own events, and what is written of them is under its name.
 use Rattle.app_api.specs.Behaviours.{Behaviour}
-use Rattle.std.proofs.Common.{◌≡◌, ◌≢◌, ◌++◌, ◌+◌, ◌<◌, ℕ, zero, suc, List, [], ◌∷◌, Option, None, Some, Bool, true, false, cond, eqb, map, length, set, refl, sym, ◌∙◌, ap, subst, arith, inl, inr}
+use Rattle.std.proofs.Common.{◌≡◌, ◌≢◌, ◌++◌, ◌+◌, ◌<◌, ℕ, zero, suc, List, [], ◌∷◌, Option, None, Some, Bool, true, false, cond, eqb, map, length, replicate, set, refl, sym, ◌∙◌, ap, subst, arith, inl, inr}
 use Rattle.std.specs.Prelude.{slice_get, slice_index_or}
 use Rattle.std.specs.List.{All, filter}
 use Rattle.std.proofs.lemmas.Bool.{eqb-true, eqb-false, eq-eqb, ne_eqb, cases_order}
@@ -12,7 +12,7 @@ use Rattle.app_api.specs.Hosts.{HostsFit}
 use Rattle.store_api.specs.Stores.{Store}
 use Rattle.alone.specs.Machine.{Machine, start}
 use Rattle.alone.specs.Runs.{events_of_call, machine_after, replies_to}
-use Rattle.alone.specs.Step.{Event, Called, step}
+use Rattle.alone.specs.Step.{Event, Called, Cancelled, Turned, step}
 use Rattle.script.specs.declared.line.Line.{Line}
 use Rattle.script.specs.declared.line.Line.TheVariants as lines
 use Rattle.script.specs.Grammar.{names_of}
@@ -84,16 +84,16 @@ module _ {A : Type 0} (behaviour : Behaviour A) where
   line_same app w m (lines.Call a client false call) here e =
       ap (λ o. events_for app (called_at behaviour a client call o)) (ap (slice_get w) (eqb-true a app e) ∙ here)
       ∙ events_same app a (events_of_call behaviour m client call) e
-  line_same app w m (lines.Turns a client instance count) here e = refl
-  line_same app w m (lines.Cancel a client op) here e = refl
+  line_same app w m (lines.Turns a client instance count) here e = events_same app a (replicate count (Turned instance)) e
+  line_same app w m (lines.Cancel a client op) here e = events_one app (record { app = a; event = Cancelled op }) [] true e
   line_same app w m (lines.Fuse calls) here e = refl
   line_same app w m (lines.Power pick) here e = refl
 
   line_none : (app : ℕ) (w : World A) (line : Line) → is_of app line ≡ false → events_for app (line_events behaviour w line) ≡ []
   line_none app w (lines.Call a client true call) e = events_one app (record { app = a; event = Called client call }) [] false e
   line_none app w (lines.Call a client false call) e = called_none app a client call (slice_get w a) e
-  line_none app w (lines.Turns a client instance count) e = refl
-  line_none app w (lines.Cancel a client op) e = refl
+  line_none app w (lines.Turns a client instance count) e = events_none app a (replicate count (Turned instance)) e
+  line_none app w (lines.Cancel a client op) e = events_one app (record { app = a; event = Cancelled op }) [] false e
   line_none app w (lines.Fuse calls) e = refl
   line_none app w (lines.Power pick) e = refl
 

@@ -3,7 +3,7 @@ use Rattle.std.proofs.Common.{◌≡◌, ◌<◌, ◌≤◌, ◌⊎◌, ℕ, Lis
 use Rattle.app_api.specs.declared.host.Host.{Host}
 use Rattle.app_api.specs.Hosts.{HostsFit}
 use Rattle.script.specs.declared.line.Line.{Line}
-use Rattle.script.specs.declared.dialect.Dialect.TheVariants.{Calls}
+use Rattle.script.specs.declared.dialect.Dialect.TheVariants.{WithoutBoard}
 use Rattle.script.proofs.Places.{not_both, one_line}
 use Rattle.tee_base.specs.Faults.{Rose}
 use Rattle.tee_base.specs.Transfer.{HasMoreThan}
@@ -29,7 +29,7 @@ module _ {A : Type 0} (hosts : List (Host A)) (fit : HostsFit hosts) (left : Opt
   bad_line_told Done n says told within unfailed bad = absurd says.few
   bad_line_told BadWords n says told within unfailed bad = absurd says.few
   bad_line_told WriteFault n says told within unfailed bad = absurd says.few
-  bad_line_told (BadLine m) n says told within unfailed bad = inl (ap BadLine (one_line Calls hosts text m n fit (subst (λ l. IsBadAt hosts l m) told (says.bad m refl)) bad))
+  bad_line_told (BadLine m) n says told within unfailed bad = inl (ap BadLine (one_line WithoutBoard hosts text m n fit (subst (λ l. IsBadAt hosts l m) told (says.bad m refl)) bad))
   bad_line_told TooLong n says told within unfailed bad = absurd (too_long_for told within (says.too_long refl))
   bad_line_told ReadFault n says told within unfailed bad = absurd (unfailed (says.fault refl))
   bad_line_told NoMemory n says told within unfailed bad = inr refl
@@ -38,7 +38,7 @@ module _ {A : Type 0} (hosts : List (Host A)) (fit : HostsFit hosts) (left : Opt
   script_told Done script says told within unfailed good = inl refl
   script_told BadWords script says told within unfailed good = absurd says.few
   script_told WriteFault script says told within unfailed good = absurd says.few
-  script_told (BadLine m) script says told within unfailed good = absurd (not_both Calls hosts text script m fit good (subst (λ l. IsBadAt hosts l m) told (says.bad m refl)))
+  script_told (BadLine m) script says told within unfailed good = absurd (not_both WithoutBoard hosts text script m fit good (subst (λ l. IsBadAt hosts l m) told (says.bad m refl)))
   script_told TooLong script says told within unfailed good = absurd (too_long_for told within (says.too_long refl))
   script_told ReadFault script says told within unfailed good = absurd (unfailed (says.fault refl))
   script_told NoMemory script says told within unfailed good = inr refl

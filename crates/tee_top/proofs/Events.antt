@@ -1,6 +1,6 @@
 -- Runs of events, one part after another.
 use Rattle.app_api.specs.Behaviours.{Behaviour}
-use Rattle.std.proofs.Common.{◌≡◌, ◌++◌, ◌≤◌, ℕ, zero, suc, List, [], ◌∷◌, Option, None, Some, Result, Ok, Err, IsErr, Bool, true, false, length, refl, sym, ◌∙◌, ap, subst, append_assoc, append-nil, arith}
+use Rattle.std.proofs.Common.{◌≡◌, ◌++◌, ◌≤◌, ◌<◌, ◌+◌, ◌-◌, ℕ, suc, replicate, List, [], ◌∷◌, Option, Some, Result, Ok, Err, IsErr, false, refl, sym, ◌∙◌, ap, subst, append_assoc, append-nil, arith}
 use Rattle.std.specs.Prelude.{slice_get, slice_index_or, slice_set}
 use Rattle.std.proofs.lemmas.Bool.{both_ways}
 use Rattle.std.proofs.lemmas.Grind.{flat_map-append}
@@ -11,7 +11,7 @@ use Rattle.app_api.specs.declared.call.Call.{Call}
 use Rattle.alone.specs.Machine.{Machine}
 use Rattle.alone.specs.declared.reply.Reply.{Reply}
 use Rattle.alone.specs.Runs.{events_of_call, replies_to, turns_of_call}
-use Rattle.alone.specs.Step.{Event, Called, step}
+use Rattle.alone.specs.Step.{Event, Called, Turned, step}
 use Rattle.report.specs.Texts.{reply_text}
 use Rattle.script.specs.declared.line.Line.TheVariants as lines
 use Rattle.tee_core.specs.declared.happened.Happened.{Happened}
@@ -158,25 +158,24 @@ module _ {A : Type 0} (behaviour : Behaviour A) where
       ∙ sym (text_at names w app m (events_of_call behaviour m client call) here)
       ∙ ap (λ o. text_of behaviour names w (called_at behaviour app client call o)) (sym here)
 
-  -- a posted call's line
-  pub post_text : (names : List (List ℕ)) (w : World A) (m : Machine A) (app client : ℕ) (call : Call) → slice_get w app ≡ Some m → replies_text (slice_index_or names app []) (happening behaviour m (Called client call)).replies ≡ text_of behaviour names w (line_events behaviour w (lines.Call app client true call))
-  post_text names w m app client call here =
-      let name = slice_index_or names app [] in
-      let s = step behaviour m (Called client call) in
-      sym (append-nil (replies_text name s.replies))
-      ∙ ap (λ o. replies_text name (replied_at behaviour (Called client call) o) ++ []) (sym here)
+  -- the text of one event
+  pub one_text : (names : List (List ℕ)) (w : World A) (e : AppEvent) → text_of behaviour names w (e ∷ []) ≡ replies_text (slice_index_or names e.app []) (world_replies behaviour w e)
+  one_text names w e = append-nil (replies_text (slice_index_or names e.app []) (world_replies behaviour w e))
 
-  -- nothing happens to an application that there isn't
-  pub no_events : (w : World A) (app client : ℕ) (post : Bool) (call : Call) → slice_get w app ≡ None → world_after behaviour w (line_events behaviour w (lines.Call app client post call)) ≡ w
-  no_events w app client true call none = ap (moved_at behaviour w app (Called client call)) none
-  no_events w app client false call none = ap (λ o. world_after behaviour w (called_at behaviour app client call o)) none
+  -- ---- turns, so many
 
-  pub no_text : (names : List (List ℕ)) (w : World A) (app client : ℕ) (post : Bool) (call : Call) → slice_get w app ≡ None → text_of behaviour names w (line_events behaviour w (lines.Call app client post call)) ≡ []
-  no_text names w app client true call none = ap (λ o. replies_text (slice_index_or names app []) (replied_at behaviour (Called client call) o) ++ []) none
-  no_text names w app client false call none = ap (λ o. text_of behaviour names w (called_at behaviour app client call o)) none
+  abbrev pub turns_left : ℕ → ℕ → ℕ → ℕ → List AppEvent
+  turns_left app instance count k = events_at behaviour app (replicate (count - k) (Turned instance))
 
--- there is nothing behind the end
-pub none_behind : {X : Type 0} (xs : List X) (i : ℕ) → length xs ≤ i → slice_get xs i ≡ None
-none_behind [] i le = refl
-none_behind (x ∷ xs) zero le = absurd (omega (arith, le))
-none_behind (x ∷ xs) (suc i) le = none_behind xs i (omega (arith, le))
+  pub turns_all : (app instance count : ℕ) → turns_left app instance count 0 ≡ events_at behaviour app (replicate count (Turned instance))
+  turns_all app instance count = ap (λ n. events_at behaviour app (replicate n (Turned instance))) (omega arith)
+
+  pub turns_more : (app instance count k : ℕ) → k < count → turns_left app instance count k ≡ record { app = app; event = Turned instance } ∷ turns_left app instance count (k + 1)
+  turns_more app instance count k within =
+      let fewer : count - k ≡ suc (count - (k + 1)) = omega (arith, within) in
+      ap (λ n. events_at behaviour app (replicate n (Turned instance))) fewer
+
+  pub turns_none : (app instance count k : ℕ) → count ≤ k → turns_left app instance count k ≡ []
+  turns_none app instance count k all =
+      let none : count - k ≡ 0 = omega (arith, all) in
+      ap (λ n. events_at behaviour app (replicate n (Turned instance))) none

@@ -1,10 +1,10 @@
 -- One application among others: its events, its lines of a script and its lines of the text that is written.
 use Rattle.app_api.specs.Behaviours.{Behaviour}
-use Rattle.std.specs.Prelude.{ℕ, ◌==◌, Bool, true, false, List, [], ◌∷◌, ◌++◌, codes, map}
+use Rattle.std.specs.Prelude.{ℕ, ◌==◌, Bool, true, false, List, [], ◌∷◌, ◌++◌, codes, map, replicate}
 use Rattle.std.specs.List.{filter, flat_map, slice_split, starts_with}
 use Rattle.alone.specs.Machine.{Machine}
 use Rattle.alone.specs.Runs.{events_of_call, machine_after}
-use Rattle.alone.specs.Step.{Event, Called}
+use Rattle.alone.specs.Step.{Event, Called, Cancelled, Turned}
 use Rattle.script.specs.declared.line.Line.{Line}
 use Rattle.script.specs.declared.line.Line.TheVariants as lines
 use Rattle.tee_core.specs.World.{AppEvent}
@@ -35,12 +35,12 @@ own_lines app script = filter (is_of app) script
 
 -- behaviour has the application's two stated functions
 module _ {A : Type 0} (behaviour : Behaviour A) where
-  -- what a line makes happen in one machine: a call, and then turns until it is answered; a posted one is the call alone; no script that is run has other lines as yet
+  -- what a line makes happen in one machine: a call, and then turns until it is answered; a posted one is the call alone; so many turns, or a cancellation; no script that is run has other lines as yet
   abbrev pub own_line_events : Machine A → Line → List Event
   own_line_events m (lines.Call app client true call) = Called client call ∷ []
   own_line_events m (lines.Call app client false call) = events_of_call behaviour m client call
-  own_line_events m (lines.Turns app client instance count) = []
-  own_line_events m (lines.Cancel app client op) = []
+  own_line_events m (lines.Turns app client instance count) = replicate count (Turned instance)
+  own_line_events m (lines.Cancel app client op) = Cancelled op ∷ []
   own_line_events m (lines.Fuse calls) = []
   own_line_events m (lines.Power pick) = []
 

@@ -10,7 +10,7 @@ use Rattle.app_api.specs.declared.host.Host.{Host}
 use Rattle.store_api.specs.Stores.{empty_store}
 use Rattle.script.specs.declared.line.Line.{Line}
 use Rattle.script.specs.declared.line.Line.TheVariants as lines
-use Rattle.script.specs.declared.dialect.Dialect.TheVariants.{Calls}
+use Rattle.script.specs.declared.dialect.Dialect.TheVariants.{WithoutBoard}
 use Rattle.script.specs.Grammar.{FirstBad, Reads}
 use Rattle.tee_top.specs.Transcript.{transcript}
 use Rattle.tee_top.specs.declared.status.Status.{Status}
@@ -55,13 +55,13 @@ abbrev pub Writes : {X E : Type 0} → Result X E → List ℕ → Option (List 
 Writes (Ok x) text old new = Appends old new text
 Writes (Err stop) text old new = AppendsFront text old new
 
--- the text is a script of these lines, which are calls that are run until they are answered
+-- the text is a script of these lines, none of which is about the board
 abbrev pub IsText : {A : Type 0} → List (Host A) → List ℕ → List Line → Type 0
-IsText hosts text script = Reads Calls hosts text script
+IsText hosts text script = Reads WithoutBoard hosts text script
 
--- the text is no such script: line n is the first outside the grammar, or the first that isn't such a call
+-- the text is no such script: line n is the first outside the grammar, or the first that is about the board
 abbrev pub IsBadText : {A : Type 0} → List (Host A) → List ℕ → ℕ → Type 0
-IsBadText hosts text n = FirstBad Calls hosts text n
+IsBadText hosts text n = FirstBad WithoutBoard hosts text n
 
 -- what the source had left, where it tells that, is a script of these lines
 abbrev pub ReadsTo : {A : Type 0} → List (Host A) → Option (List ℕ) → List Line → Type 0

@@ -1,16 +1,16 @@
 -- What the lines of a script make happen in the world, and the text that is written of it.
 use Rattle.app_api.specs.Behaviours.{Behaviour}
-use Rattle.std.specs.Prelude.{ℕ, List, [], ◌∷◌, ◌++◌, true, false, slice_index_or}
+use Rattle.std.specs.Prelude.{ℕ, List, [], ◌∷◌, ◌++◌, true, false, replicate, slice_index_or}
 use Rattle.std.specs.List.{flat_map}
 use Rattle.app_api.specs.declared.host.Host.{Host}
 use Rattle.store_api.specs.Stores.{Store}
 use Rattle.alone.specs.declared.reply.Reply.{Reply}
-use Rattle.alone.specs.Step.{Called}
+use Rattle.alone.specs.Step.{Called, Cancelled, Turned}
 use Rattle.report.specs.Texts.{reply_text}
 use Rattle.script.specs.declared.line.Line.{Line}
 use Rattle.script.specs.declared.line.Line.TheVariants as lines
 use Rattle.script.specs.Grammar.{names_of}
-use Rattle.tee_core.specs.World.{World, AppEvent, run_events, world_after, world_of, world_replies, world_step}
+use Rattle.tee_core.specs.World.{World, AppEvent, events_at, run_events, world_after, world_of, world_replies, world_step}
 
 -- the lines of replies
 abbrev pub replies_text : List ℕ → List Reply → List ℕ
@@ -18,13 +18,13 @@ replies_text name replies = flat_map (reply_text name) replies
 
 -- behaviour has the applications' two stated functions
 module _ {A : Type 0} (behaviour : Behaviour A) where
-  -- a call line is a call of its application, and then turns until it is answered; a posted one is the call alone. No script that is
-  -- run has other lines as yet
+  -- a call line is a call of its application, and then turns until it is answered; a posted one is the call alone. A line of turns
+  -- is so many turns of its instance, one of a cancellation the cancellation. No script that is run has other lines as yet
   abbrev pub line_events : World A → Line → List AppEvent
   line_events world (lines.Call app client true call) = record { app = app; event = Called client call } ∷ []
   line_events world (lines.Call app client false call) = run_events behaviour world app client call
-  line_events world (lines.Turns app client instance count) = []
-  line_events world (lines.Cancel app client op) = []
+  line_events world (lines.Turns app client instance count) = events_at behaviour app (replicate count (Turned instance))
+  line_events world (lines.Cancel app client op) = record { app = app; event = Cancelled op } ∷ []
   line_events world (lines.Fuse calls) = []
   line_events world (lines.Power pick) = []
 

@@ -1,10 +1,12 @@
-//! Lines, one after the other: each is run until it is answered, and its replies are written before the next is run.
+//! Lines, one after the other: the replies of each event are written before the next line is run, and those of each turn of a
+//! line of turns before the next turn is made.
 
-ghost use Rattle.std.specs.Prelude.{◌≡◌, ◌≤◌, ◌<◌, ℕ, List, [], IsErrOf, OnOk, length, slice_index_or};
+ghost use Rattle.std.specs.Prelude.{◌≡◌, ◌≤◌, ◌<◌, ℕ, List, [], IsErrOf, OnOk, length, replicate, slice_index_or};
 ghost use Rattle.std.specs.List.{AllByRecursion};
 ghost use Rattle.tee_base.specs.Faults.{Rose};
-ghost use Rattle.tee_core.specs.Represents.{app_count, Represents};
-ghost use Rattle.tee_core.specs.World.{World, world_after};
+ghost use Rattle.alone.specs.Step.{Turned};
+ghost use Rattle.tee_core.specs.Represents.{app_count, app_of, event_of, Represents};
+ghost use Rattle.tee_core.specs.World.{World, events_at, world_after, world_replies, world_step};
 ghost use Rattle.tee_top.specs.Runs.{IsKnown, Writes};
 ghost use Rattle.tee_top.specs.Told.{told_text};
 ghost use Rattle.tee_top.specs.Transcript.{events_of, line_events, replies_text, text_of};
@@ -78,6 +80,61 @@ fn write_told<W: Sink>(
     Ok(())
 }
 
+/// One event, whose replies are written.
+fn run_event<A: Application, W: Sink>(
+    alloc: Global,
+    name: &[u8],
+    tee: &mut Tee<A>,
+    event: Event,
+    sink: &mut W,
+) -> Result<(), Stop>
+    requires { app_of event < app_count tee.old }
+    ensures world { OnOk result ((world : World A) → Represents tee.old world
+        → Represents tee.new (world_step A.behaviour world (event_of event))) }
+    ensures written { (world : World A) → Represents tee.old world
+        → Writes result
+        (replies_text name.now (world_replies A.behaviour world (event_of event)))
+        (W.written sink.old) (W.written sink.new) }
+    ensures apps { app_count tee.new ≡ app_count tee.old }
+    ensures fault { IsErrOf result Stop.WriteFault
+        → Rose (W.failures sink.old) (W.failures sink.new) }
+    ensures later { W.failures sink.old ≤ W.failures sink.new }
+{
+    let happened = tee.event(event)?;
+    write_replies(alloc, name, happened.replies.as_slice(), sink)
+}
+
+/// So many turns of an instance.
+fn run_turns<A: Application, W: Sink>(
+    alloc: Global,
+    names: &[Bytes],
+    tee: &mut Tee<A>,
+    app: u8,
+    instance: u8,
+    count: u32,
+    sink: &mut W,
+) -> Result<(), Stop>
+    requires names { length names.now ≡ app_count tee.old }
+    requires known { app < app_count tee.old }
+    ensures world { OnOk result ((world : World A) → Represents tee.old world
+        → Represents tee.new (world_after A.behaviour world
+        (events_at A.behaviour app (replicate count (Turned instance))))) }
+    ensures written { (world : World A) → Represents tee.old world
+        → Writes result (text_of A.behaviour names.now world
+        (events_at A.behaviour app (replicate count (Turned instance))))
+        (W.written sink.old) (W.written sink.new) }
+    ensures apps { app_count tee.new ≡ app_count tee.old }
+    ensures fault { IsErrOf result Stop.WriteFault
+        → Rose (W.failures sink.old) (W.failures sink.new) }
+    ensures later { W.failures sink.old ≤ W.failures sink.new }
+{
+    let name = names[app as usize].as_slice();
+    for _ in 0..count {
+        run_event(alloc, name, tee, Event::Turn { app, instance }, sink)?;
+    }
+    Ok(())
+}
+
 /// A call, and unless it is posted turns of its instance until it is answered.
 fn run_call<A: Application, W: Sink>(
     alloc: Global,
@@ -104,14 +161,13 @@ fn run_call<A: Application, W: Sink>(
     ensures later { W.failures sink.old ≤ W.failures sink.new }
 {
     if post {
-        let happened = tee.event(Event::Call { app, client, call })?;
-        return write_replies(alloc, name, happened.replies.as_slice(), sink);
+        return run_event(alloc, name, tee, Event::Call { app, client, call }, sink);
     }
     let told = tee.run(alloc, app, client, call)?;
     write_told(alloc, name, told.as_slice(), sink)
 }
 
-/// Runs a line. Lines that aren't calls do nothing yet: the dialect in which scripts are read has none.
+/// Runs a line. Lines about the board do nothing yet: the dialect in which scripts are read has none.
 fn run_line<A: Application, W: Sink>(
     alloc: Global,
     names: &[Bytes],
@@ -147,7 +203,20 @@ fn run_line<A: Application, W: Sink>(
             call,
             sink,
         ),
-        Line::Turns { .. } | Line::Cancel { .. } | Line::Fuse(_) | Line::Power(_) => Ok(()),
+        Line::Turns {
+            app,
+            instance,
+            count,
+            ..
+        } => run_turns(alloc, names, tee, app, instance, count, sink),
+        Line::Cancel { app, op, .. } => run_event(
+            alloc,
+            names[app as usize].as_slice(),
+            tee,
+            Event::Cancel { app, op },
+            sink,
+        ),
+        Line::Fuse(_) | Line::Power(_) => Ok(()),
     }
 }
 

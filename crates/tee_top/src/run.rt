@@ -59,7 +59,7 @@ fn read_lines<S: Source, A: Application>(
         Err(ReadAnswer::ReadFault) => return Err(Status::ReadFault),
         Err(ReadAnswer::NoMemory) => return Err(Status::NoMemory),
     };
-    match parse_in(alloc, text.as_slice(), hosts, Dialect::Calls) {
+    match parse_in(alloc, text.as_slice(), hosts, Dialect::WithoutBoard) {
         Ok(script) => Ok(script.into_lines()),
         Err(ScriptAnswer::BadLine(number)) => Err(Status::BadLine(number)),
         Err(ScriptAnswer::NoMemory) => Err(Status::NoMemory),
@@ -112,7 +112,7 @@ fn serve<W: Sink, A: Application>(
 
 /// Reads a script from the source, runs it for the hosts, and writes the replies to the sink. The words of a run are
 /// `run`. Nothing is run, and nothing is written, unless the whole source was read and each line is in the
-/// grammar, and of the script's lines a call that is run until it is answered: other lines are bad ones as yet.
+/// grammar, and not about the board: such lines are bad ones as yet.
 pub fn run_tee<S: Source, W: Sink, A: Application>(
     alloc: Global,
     words: &[String],

@@ -92,6 +92,90 @@ fn scripts_give_their_lines(rt: HostRuntime) -> Result<(), Fail> {
     Ok(())
 }
 
+const CANCELLED: &str = "\
+vault open 1
+vault post invoke 1 14 vi:100:1
+vault cancel 2
+vault post invoke 1 14 vi:100:0
+vault turn 1 3
+vault cancel 3
+vault turn 1 300
+vault post invoke 1 14 vi:100:1
+vault turn 1 5
+vault cancel 4
+vault turn 1 300
+vault cancel 4
+";
+
+const CANCELLED_LINES: &str = "\
+vault 1 00000000 4
+vault 2 ffff0002 3
+vault 3 00000000 4
+vault 4 ffff0002 4
+";
+
+const PANICKED: &str = "\
+rogue open 1
+rogue open 2
+rogue invoke 1 6
+rogue post invoke 1 1 vi:7:0
+rogue post invoke 2 6
+rogue turn 1 4
+rogue open 3
+rogue invoke 3 6
+";
+
+const PANICKED_LINES: &str = "\
+rogue 1 00000000 4
+rogue 2 00000000 4
+rogue 3 00000000 4
+rogue 4 ffff3024 3
+rogue 5 ffff3024 3
+rogue 6 00000000 4
+rogue 7 00000000 4
+";
+
+#[test]
+fn waiting_calls_get_the_turns_that_the_script_gives(rt: HostRuntime) -> Result<(), Fail> {
+    let alloc = rt.alloc();
+    let rows = [
+        (CANCELLED, CANCELLED_LINES, Status::Done),
+        (PANICKED, PANICKED_LINES, Status::Done),
+        (
+            "keep post open 1\nkeep turn 1 4\nkeep turn 2 1\n",
+            "",
+            Status::Done,
+        ),
+        (
+            "keep post open 1\nkeep turn 1 5\n",
+            "keep 1 00000000 4\n",
+            Status::Done,
+        ),
+        ("keep turn 1 0\n", "", Status::BadLine(1)),
+        ("keep turn 5 1\n", "", Status::BadLine(1)),
+        ("keep turn 1 1000001\n", "", Status::BadLine(1)),
+        ("keep open 1\nboard fuse 1\n", "", Status::BadLine(2)),
+        ("board power 0\n", "", Status::BadLine(1)),
+    ];
+    for (script, output, wanted) in rows {
+        let (status, sink) = run(alloc, "run", script, &[], &[])?;
+        assert_eq!(rt; status, wanted, "{script}");
+        assert_eq!(rt; sink.written(), output.as_bytes(), "{script}");
+    }
+    Ok(())
+}
+
+#[test]
+fn a_write_that_fails_within_turns_ends_the_run(rt: HostRuntime) -> Result<(), Fail> {
+    let alloc = rt.alloc();
+    let (status, sink) = run(alloc, "run", PANICKED, &[], &[4])?;
+    assert_eq!(rt; status, Status::WriteFault);
+    let written =
+        "rogue 1 00000000 4\nrogue 2 00000000 4\nrogue 3 00000000 4\nrogue 4 ffff3024 3\n";
+    assert_eq!(rt; sink.written(), written.as_bytes());
+    Ok(())
+}
+
 #[test]
 fn faults_and_words_have_statuses(rt: HostRuntime) -> Result<(), Fail> {
     let alloc = rt.alloc();

@@ -1,5 +1,5 @@
 use Rattle.std.proofs.Common.{Err, ap, subst}
-use Rattle.script.specs.declared.dialect.Dialect.TheVariants.{Calls}
+use Rattle.script.specs.declared.dialect.Dialect.TheVariants.{WithoutBoard}
 use Rattle.script.proofs.Places.{not_both}
 use Rattle.tee_top.specs.Runs.{IsBadAt, ReadsTo}
 use Rattle.tee_top.proofs.Ended.{bad_line_told, script_told, too_long_told, within_for}
@@ -35,7 +35,7 @@ returns-in-Err-clause-complete g c = λ text script readable unfailed good.
 pub returns-clause-each_bad_line : goal.returns-clause-each_bad_line
 returns-clause-each_bad_line g c = λ text n readable bad.
     let reads = subst (λ hosts. ReadsTo hosts (g.S.Source.left c.args.source.now) c.in-Ok.lines.items) c.as_slice.ensures.value c.in-Ok.ensures.read in
-    absurd (not_both Calls c.args.hosts.items text c.in-Ok.lines.items n c.requires (subst (λ left. ReadsTo c.args.hosts.items left c.in-Ok.lines.items) readable.told reads) bad)
+    absurd (not_both WithoutBoard c.args.hosts.items text c.in-Ok.lines.items n c.requires (subst (λ left. ReadsTo c.args.hosts.items left c.in-Ok.lines.items) readable.told reads) bad)
 
 pub returns-in-Err-clause-each_too_long : goal.returns-in-Err-clause-each_too_long
 returns-in-Err-clause-each_too_long g c = λ text much.

@@ -1,7 +1,7 @@
 use Rattle.std.proofs.Common.{◌≡◌, ◌<◌, length, set, slice_get, ap, sym, subst, ◌∙◌}
 use Rattle.std.proofs.lemmas.List.{get_or-set_other}
 use Rattle.std.proofs.lemmas.Result.{IfOk-weaker, on_err_weaker, on_ok_weaker}
-use Rattle.alone.specs.Step.{Called, Turned}
+use Rattle.alone.specs.Step.{Called, Cancelled, Turned}
 use Rattle.tee_core.specs.declared.happened.Event.{Event}
 use Rattle.tee_core.specs.Happenings.{happening}
 use Rattle.tee_core.specs.Represents.{AreHosted, LeftByWant, app_of, event_of, machine_event}
@@ -29,6 +29,22 @@ returns-in-Call-clause-told g c =
     (λ told h world m are here. subst (λ (e : Event). told ≡ happening behaviour m (machine_event e)) (sym c.in-Call.is)
     (h m (hosted_here hs world c.in-Call.app c.index_mut.result.now _ m are known c.index_mut.ensures.value (ap (λ (e : Event). slice_get world (app_of e)) (sym c.in-Call.is) ∙ here))))
     c.call.ensures.told
+
+pub returns-in-Cancel-clause-world : goal.returns-in-Cancel-clause-world
+returns-in-Cancel-clause-world g c =
+    let behaviour = g.A.Application.behaviour in
+    let hs = c.args.self.now.hosted.items in
+    let known : c.in-Cancel.app < length hs = subst (λ (e : Event). app_of e < length hs) c.in-Cancel.is c.requires in
+    λ world are. subst (λ (e : Event). AreHosted (set hs c.in-Cancel.app c.cancel.new.self) (world_step behaviour world (event_of e))) (sym c.in-Cancel.is)
+    (event_moves behaviour hs world c.in-Cancel.app c.index_mut-in-Cancel.result.now c.cancel.new.self _ (Cancelled c.in-Cancel.op) are known c.index_mut-in-Cancel.ensures.value c.cancel.ensures.hosted)
+
+pub returns-in-Cancel-clause-told : goal.returns-in-Cancel-clause-told
+returns-in-Cancel-clause-told g c =
+    let behaviour = g.A.Application.behaviour in
+    let hs = c.args.self.now.hosted.items in
+    let known : c.in-Cancel.app < length hs = subst (λ (e : Event). app_of e < length hs) c.in-Cancel.is c.requires in
+    λ world m are here. subst (λ (e : Event). c.cancel.result ≡ happening behaviour m (machine_event e)) (sym c.in-Cancel.is)
+    (c.cancel.ensures.told m (hosted_here hs world c.in-Cancel.app c.index_mut-in-Cancel.result.now _ m are known c.index_mut-in-Cancel.ensures.value (ap (λ (e : Event). slice_get world (app_of e)) (sym c.in-Cancel.is) ∙ here)))
 
 pub returns-in-Turn-clause-world : goal.returns-in-Turn-clause-world
 returns-in-Turn-clause-world g c =
