@@ -149,35 +149,3 @@ fn events_move_their_own_application(rt: HostRuntime) -> Result<(), Fail> {
     turn(&rt, &mut tee, 0, (6, 0))?;
     turn(&rt, &mut tee, 1, (2, 0))
 }
-
-/// A cancellation of the first operation: whether it is answered.
-fn cancel(rt: &impl Abort, tee: &mut Tee<Creator>, app: u8, answered: bool) -> Result<(), Fail>
-    requires { app < app_count tee.old }
-    ensures { OnOk result (app_count tee.new ≡ app_count tee.old) }
-{
-    let happened = tee.event(Event::Cancel { app, op: 1 })?;
-    assert_eq!(rt; (happened.op, happened.instance), (1, 0));
-    assert_eq!(rt; happened.replies.is_empty(), !answered);
-    for reply in happened.replies.as_slice() {
-        assert_eq!(rt; shown(reply), (1, Code::CANCEL, 0));
-    }
-    Ok(())
-}
-
-#[test]
-fn an_operation_is_cancelled_until_it_begins(rt: HostRuntime) -> Result<(), Fail> {
-    let mut tee = two(&rt, rt.alloc())?;
-    for app in 0..2u8 {
-        let call = open();
-        tee.event(Event::Call {
-            app,
-            client: 0,
-            call,
-        })?;
-    }
-    turn(&rt, &mut tee, 1, (1, 0))?;
-    cancel(&rt, &mut tee, 0, true)?;
-    cancel(&rt, &mut tee, 0, false)?;
-    cancel(&rt, &mut tee, 1, false)?;
-    turn(&rt, &mut tee, 1, (2, 0))
-}
