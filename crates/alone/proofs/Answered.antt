@@ -2,7 +2,7 @@
 use Rattle.app_api.specs.Behaviours.{Behaviour}
 use Rattle.std.proofs.Common.{ℕ, zero, suc, ◌≡◌, ◌≢◌, ◌+◌, ◌≤◌, ◌<◌, ◌==◌, ◌&&◌, nat_lt, Bool, true, false, not, cond, List, [], ◌∷◌, find, length, count_by, Option, None, Some, is_some, option_map, refl, sym, ap, subst, ◌∙◌, ⊎_elim, arith}
 use Rattle.std.specs.List.{AllByRecursion}
-use Rattle.std.proofs.lemmas.Bool.{cases_Bool, cases_lt, lt-ltb, ne_eqb, both_ways}
+use Rattle.std.proofs.lemmas.Bool.{cases_Bool, cases_lt, cond_both, lt-ltb, ne_eqb, both_ways}
 use Rattle.std.proofs.lemmas.List.Sums.{count_by-le-length}
 use Rattle.app_api.specs.declared.call.Call.{Call}
 use Rattle.app_api.specs.declared.host.Host.{Host}
@@ -12,14 +12,15 @@ use Rattle.op_queue.specs.declared.operation.Operation.{Operation}
 use Rattle.op_queue.proofs.Keeps.{forgotten_IsQueue}
 use Rattle.op_queue.specs.Queue.{forgotten, is_close, waits_for, facts_of as operation_facts}
 use Rattle.alone.specs.Machine.{Machine, start}
-use Rattle.alone.specs.Step.{Event, Called, Cancelled, Turned, TurnLost, Corrupted, Lost, Starved, Restarted, step, belongs_to, called, turn_counted, turned, is_answered}
+use Rattle.alone.specs.Marks.{Marks, event_at}
+use Rattle.alone.specs.Step.{Event, Called, Cancelled, Turned, TurnLost, Corrupted, Lost, Starved, Restarted, step, belongs_to, called, may_stand, turn_counted, is_answered}
 use Rattle.alone.specs.Runs.{most_turns, machine_after, turns_until}
 use Rattle.alone.specs.Answering.{CallIsAnswered, OperationsAreFew}
 use Rattle.alone.proofs.Totals.{bit, total_both, total_count, total_le, total_ones}
 use Rattle.alone.proofs.Each.{each_both}
 use Rattle.alone.proofs.Sound.{IsSoundMachine, nothing_sound, start_sound}
 use Rattle.alone.proofs.Dropped.{cancels}
-use Rattle.alone.proofs.Ended.{fails}
+use Rattle.alone.proofs.Ended.{IsTurned, fails}
 use Rattle.alone.proofs.Called.{IsOf, takes}
 use Rattle.alone.proofs.Measure.{measure, measure_most, measure_none}
 use Rattle.alone.proofs.Turned.{turns}
@@ -79,30 +80,42 @@ unfolding most_turns
 enough = omega arith
 
 module _ {A : Type 0} (behaviour : Behaviour A) where
-  within : (k : ℕ) (m : Machine A) (op i : ℕ) → IsSoundMachine m → op < m.queue.next → AllByRecursion (IsOf op i) m.queue.operations
-      → measure i m.queue m.instances ≤ k → is_answered (machine_after behaviour m (turns_until behaviour k m i op)) op ≡ true
-  within zero m op i h below owned le = answered_at_end m op i h below owned (omega (arith, le))
-  within (suc k) m op i h below owned le =
-      let z : Machine A = (turned behaviour m i).machine in
-      let on : List Event = Turned i ∷ turns_until behaviour k z i op in
+  -- however a turn goes, it brings the instance nearer
+  goes : (marks : Marks) (m : Machine A) (i : ℕ) → IsSoundMachine m → IsTurned i m (step behaviour m (event_at marks m i))
+  unfolding event_at
+  goes marks m i h =
+      let turn = m.turns + 1 in
+      let P = λ (e : Event). IsTurned i m (step behaviour m e) in
+      cond_both (marks.lost turn && may_stand m (TurnLost i)) _ _ P (λ _. turns behaviour Fails m i h)
+      (λ _. cond_both (marks.corrupt turn && may_stand m (Corrupted i)) _ _ P (λ _. turns behaviour Damaged m i h)
+      (λ _. cond_both (marks.starved turn && may_stand m (Starved i)) _ _ P (λ _. fails (turn_counted m) i h)
+      (λ _. turns behaviour Serves m i h)))
+
+  within : (marks : Marks) (k : ℕ) (m : Machine A) (op i : ℕ) → IsSoundMachine m → op < m.queue.next → AllByRecursion (IsOf op i) m.queue.operations
+      → measure i m.queue m.instances ≤ k → is_answered (machine_after behaviour m (turns_until behaviour marks k m i op)) op ≡ true
+  within marks zero m op i h below owned le = answered_at_end m op i h below owned (omega (arith, le))
+  within marks (suc k) m op i h below owned le =
+      let event : Event = event_at marks m i in
+      let z : Machine A = (step behaviour m event).machine in
+      let on : List Event = event ∷ turns_until behaviour marks k z i op in
       ⊎_elim
       (λ (done : is_answered m op ≡ true). subst (λ (es : List Event). is_answered (machine_after behaviour m es) op ≡ true) (sym (ap (λ b. cond b [] on) done)) done)
       (λ (more : is_answered m op ≡ false).
-      let now = turns behaviour Serves m i h in
+      let now = goes marks m i h in
       let some : 1 ≤ measure i m.queue m.instances = ⊎_elim
       (λ (lt : 0 < measure i m.queue m.instances). lt)
       (λ (ge : measure i m.queue m.instances ≤ 0). absurd (both_ways _ more (answered_at_end m op i h below owned (omega (arith, ge)))))
       (cases_lt 0 (measure i m.queue m.instances)) in
-      let rest : is_answered (machine_after behaviour z (turns_until behaviour k z i op)) op ≡ true = within k z op i now.sound
+      let rest : is_answered (machine_after behaviour z (turns_until behaviour marks k z i op)) op ≡ true = within marks k z op i now.sound
       (omega (arith, below, now.next)) (now.owner op i owned) (omega (arith, now.less some, le)) in
       subst (λ (es : List Event). is_answered (machine_after behaviour m es) op ≡ true) (sym (ap (λ b. cond b [] on) more)) rest)
       (cases_Bool (is_answered m op))
 
-  call_is_answered : (m : Machine A) (client : ℕ) (call : Call) → IsSoundMachine m → CallIsAnswered behaviour m client call
-  call_is_answered m client call h =
+  call_is_answered : (marks : Marks) (m : Machine A) (client : ℕ) (call : Call) → IsSoundMachine m → CallIsAnswered behaviour marks m client call
+  call_is_answered marks m client call h =
       let s = called m client call in
       let now = takes m client call h in
-      within most_turns s.machine m.queue.next s.instance now.sound now.below now.owner (omega (arith, enough, measure_few s.machine s.instance now.sound))
+      within marks most_turns s.machine m.queue.next s.instance now.sound now.below now.owner (omega (arith, enough, measure_few s.machine s.instance now.sound))
 
   -- ---- any events
 
@@ -120,11 +133,11 @@ module _ {A : Type 0} (behaviour : Behaviour A) where
   events_sound m [] h = h
   events_sound m (event ∷ events) h = events_sound (step behaviour m event).machine events (step_sound m event h)
 
-  pub always_answered : (host : Host A) (index : ℕ) (seed : List ℕ) (store : Store) (events : List Event) (client : ℕ) (call : Call)
-      → CallIsAnswered behaviour (machine_after behaviour (start host index seed store) events) client call
-  always_answered host index seed store events client call =
+  pub always_answered : (host : Host A) (index : ℕ) (seed : List ℕ) (store : Store) (events : List Event) (marks : Marks) (client : ℕ) (call : Call)
+      → CallIsAnswered behaviour marks (machine_after behaviour (start host index seed store) events) client call
+  always_answered host index seed store events marks client call =
       let m = start host index seed store in
-      call_is_answered (machine_after behaviour m events) client call (events_sound m events (start_sound host index seed store))
+      call_is_answered marks (machine_after behaviour m events) client call (events_sound m events (start_sound host index seed store))
 
   pub always_few : (host : Host A) (index : ℕ) (seed : List ℕ) (store : Store) (events : List Event) → OperationsAreFew (machine_after behaviour (start host index seed store) events)
   always_few host index seed store events =

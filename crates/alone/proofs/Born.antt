@@ -64,7 +64,6 @@ module _ {A : Type 0} where
 
   few_kept : (n : ℕ) → IsKept (IsFew n)
   few_kept n = record {
-    counted = λ m few. few;
     put = λ m inst few. omega (arith, few, length_put inst m.instances);
     begun = λ m o few. omega (arith, few, begun_length m.queue o);
     cancel = λ m op c few. omega (arith, few, cancel_length m.queue op c);

@@ -45,9 +45,8 @@ use Rattle.alone.specs.Places.{is_misuse, places_at}
 use Rattle.alone.specs.Step.{Stepped, acted, after_session, answered, begun_with, cancelled, cancelled_by, destroy_begins, destroying, dropped, instance_gone, is_success, is_unused, masked_again, returned, served, start_begun, store_left, turn_counted, turned_as, turned_at, turned_by, unless_unused, waiting_open, went_on}
 use Rattle.alone.proofs.Streams.{IsOfStream, LeavesStream, course_stream, drawn_stream}
 
--- each change of which a turn, a cancellation and a teardown are made keeps it
+-- each change of which a turn, a cancellation and a teardown are made keeps it, behind the count of turns
 pub record IsKept {A : Type 0} (P : Machine A → Type 0) : Type 0 where
-  pub counted : (m : Machine A) → P m → P (turn_counted m)
   pub put : (m : Machine A) (inst : Instance A) → P m → P (with_instance m inst)
   pub begun : (m : Machine A) (o : Option Operation) → P m → P (record m { queue = after_begin m.queue o })
   pub cancel : (m : Machine A) (op : ℕ) (c : Cancellation) → P m → P (record m { queue = after_cancel m.queue op c })
@@ -226,6 +225,6 @@ module _ {A : Type 0} (P : Machine A → Type 0) (k : IsKept P) where
     turned_at_kept m None h = h
     turned_at_kept m (Some inst) h = turned_by_kept m inst inst.running h
 
-    pub turned_kept : (m : Machine A) (i : ℕ) → P m → Ends (turned_as behaviour serving m i)
+    pub turned_kept : (m : Machine A) (i : ℕ) → P (turn_counted m) → Ends (turned_as behaviour serving m i)
     unfolding turned_as
-    turned_kept m i h = let now = turn_counted m in turned_at_kept now (instance_at now i) (k.counted m h)
+    turned_kept m i h = let now = turn_counted m in turned_at_kept now (instance_at now i) h

@@ -4,6 +4,7 @@ pub mod Called
 pub mod Calm
 pub mod Changed
 pub mod Closes
+pub mod Counted
 pub mod Dropped
 pub mod Each
 pub mod Ended
@@ -11,6 +12,7 @@ pub mod Gone
 pub mod Kept
 pub mod KeptByCalls
 pub mod Lists
+pub mod Marked
 pub mod Measure
 pub mod Opened
 pub mod Outcomes

@@ -25,7 +25,6 @@ module _ {A : Type 0} where
 
   doubt_kept : (doubt : Option Store) → IsKept (IsInDoubt doubt)
   doubt_kept doubt = record {
-    counted = λ m same. same;
     put = λ m inst same. same;
     begun = λ m o same. same;
     cancel = λ m op c same. same;

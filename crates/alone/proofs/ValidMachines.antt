@@ -83,7 +83,6 @@ gone_fine {A} m i fine = record {
 module _ {A : Type 0} where
   fine_kept : IsKept {A = A} IsFine
   fine_kept = record {
-    counted = λ m fine. fine;
     put = λ m inst fine. over_instances m _ _ fine (numbers_put inst m.instances ∙ fine.instances);
     begun = λ m o fine. fine;
     cancel = λ m op c fine. fine;

@@ -1,16 +1,17 @@
 -- What holds of every machine that events can lead to: a client's call is answered (TEE Client API 1.0, sections 4.5.5 to 4.5.7), and
 -- few operations are unanswered.
 use Rattle.app_api.specs.Behaviours.{Behaviour}
-use Rattle.std.specs.Prelude.{ℕ, ◌≡◌, ◌≤◌, true, not, ◌∷◌, length, count_by}
+use Rattle.std.specs.Prelude.{ℕ, ◌≡◌, ◌≤◌, true, not, length, count_by}
 use Rattle.app_api.specs.declared.call.Call.{Call}
 use Rattle.op_queue.specs.Queue.{is_close}
 use Rattle.alone.specs.Machine.{Machine}
-use Rattle.alone.specs.Step.{Called, belongs_to, is_answered}
-use Rattle.alone.specs.Runs.{machine_after, turns_of_call}
+use Rattle.alone.specs.Marks.{Marks}
+use Rattle.alone.specs.Step.{belongs_to, is_answered}
+use Rattle.alone.specs.Runs.{events_of_call, machine_after}
 
--- a client's call is answered within the turns that it has
-abbrev pub CallIsAnswered : {A : Type 0} → Behaviour A → Machine A → ℕ → Call → Type 0
-CallIsAnswered behaviour m client call = is_answered (machine_after behaviour m (Called client call ∷ turns_of_call behaviour m client call)) m.queue.next ≡ true
+-- a client's call is answered within the turns that it has, where these go as the marks say
+abbrev pub CallIsAnswered : {A : Type 0} → Behaviour A → Marks → Machine A → ℕ → Call → Type 0
+CallIsAnswered behaviour marks m client call = is_answered (machine_after behaviour m (events_of_call behaviour marks m client call)) m.queue.next ≡ true
 
 -- sixteen operations other than closes may be unanswered, and a close for each of eight sessions; so 24 in all, and for one instance
 pub record OperationsAreFew {A : Type 0} (m : Machine A) : Type 0 where

@@ -6,6 +6,7 @@ pub mod InList
 pub mod Kinds
 pub mod Laws
 pub mod Machine
+pub mod Marks
 pub mod Places
 pub mod Replies
 pub mod Runs

@@ -5,7 +5,8 @@ use Rattle.std.specs.Prelude.{ℕ, zero, suc, List, [], ◌∷◌, ◌++◌, if�
 use Rattle.app_api.specs.declared.call.Call.{Call}
 use Rattle.alone.specs.declared.reply.Reply.{Reply}
 use Rattle.alone.specs.Machine.{Machine}
-use Rattle.alone.specs.Step.{Event, Called, Turned, step, called, turned, is_answered}
+use Rattle.alone.specs.Marks.{Marks, event_at}
+use Rattle.alone.specs.Step.{Event, Called, step, called, is_answered}
 
 -- how many turns a call line has at most
 unfoldable pub most_turns : ℕ
@@ -23,10 +24,19 @@ module _ {A : Type 0} (behaviour : Behaviour A) where
   replies_to m [] = []
   replies_to m (event ∷ events) = let s = step behaviour m event in s.replies ++ replies_to s.machine events
 
+-- marks say how its turns go
+module _ {A : Type 0} (behaviour : Behaviour A) (marks : Marks) where
+  -- so many turns of the instance
+  abbrev pub turns_of : ℕ → Machine A → ℕ → List Event
+  turns_of zero m instance = []
+  turns_of (suc more) m instance = let event = event_at marks m instance in event ∷ turns_of more (step behaviour m event).machine instance
+
   -- turns of the instance until the operation is answered, at most so many
   abbrev pub turns_until : ℕ → Machine A → ℕ → ℕ → List Event
   turns_until zero m instance op = []
-  turns_until (suc more) m instance op = if is_answered m op then [] else Turned instance ∷ turns_until more (turned behaviour m instance).machine instance op
+  turns_until (suc more) m instance op =
+      let event = event_at marks m instance in
+      if is_answered m op then [] else event ∷ turns_until more (step behaviour m event).machine instance op
 
   -- turns of the call's instance until the call is answered
   abbrev pub turns_of_call : Machine A → ℕ → Call → List Event

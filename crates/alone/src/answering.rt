@@ -5,18 +5,19 @@ ghost use Rattle.app_api.specs.declared.call.Call.{Call};
 ghost use Rattle.app_api.specs.declared.host.Host.{Host};
 ghost use Rattle.store_api.specs.Stores.{Store};
 ghost use Rattle.alone.specs.Machine.{start};
+ghost use Rattle.alone.specs.Marks.{Marks};
 ghost use Rattle.alone.specs.Step.{Event};
 ghost use Rattle.alone.specs.Runs.{machine_after};
 ghost use Rattle.alone.specs.Answering.{CallIsAnswered, OperationsAreFew};
 
 use app_api::Application;
 
-/// Whatever happened before, a client's call is answered within the turns that it has: their number is never what
-/// stops it.
+/// Whatever happened before, and however its turns go, a client's call is answered within the turns that it has: their
+/// number is never what stops it.
 pub fn call_lines_are_answered<A: Application>()
     ensures { (host : Host A) (index : ℕ) (seed : List ℕ) (store : Store) (events : List Event)
-        (client : ℕ) (call : Call)
-        → CallIsAnswered A.behaviour
+        (marks : Marks) (client : ℕ) (call : Call)
+        → CallIsAnswered A.behaviour marks
         (machine_after A.behaviour (start host index seed store) events) client call }
 {}
 

@@ -2,13 +2,22 @@
 
 ghost use Rattle.std.specs.Prelude.{◌≡◌, ◌+◌, ◌≤◌, false, true, ℕ};
 ghost use Rattle.app_api.specs.declared.call.Call.{Call};
-ghost use Rattle.object_asks.specs.Asks.{Serves, Damaged};
+ghost use Rattle.object_asks.specs.Asks.{Serving, Serves, Damaged};
 ghost use Rattle.store_api.specs.Stores.{Store};
 ghost use Rattle.alone.specs.Laws.{StorageStays, born_of, live, step_with_store, with_store};
 ghost use Rattle.alone.specs.Machine.{Machine};
 ghost use Rattle.alone.specs.Step.{Event, called, cancelled, needs_store, reaches, starved, step, turned, turned_as};
 
 use app_api::Application;
+
+/// Each turn counts, however it goes, and no call does.
+pub fn turns_are_counted<A: Application>()
+    ensures made { (serving : Serving) (m : Machine A) (i : ℕ)
+        → (turned_as A.behaviour serving m i).machine.turns ≡ m.turns + 1 }
+    ensures starved { (m : Machine A) (i : ℕ) → (starved m i).machine.turns ≡ m.turns + 1 }
+    ensures called { (m : Machine A) (client : ℕ) (call : Call)
+        → (called m client call).machine.turns ≡ m.turns }
+{}
 
 /// Only a call brings operations and instances to life: an operation, and an instance for it.
 pub fn few_are_born<A: Application>()

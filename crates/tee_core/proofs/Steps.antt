@@ -1,13 +1,23 @@
 -- What the calls and turns of one application are for its machine.
-use Rattle.std.proofs.Common.{◌≡◌, ◌++◌, ℕ, List, [], ◌∷◌, Result, Ok, Err, OnErr, refl, ap}
+use Rattle.app_api.specs.Behaviours.{Behaviour}
+use Rattle.std.proofs.Common.{◌≡◌, ◌++◌, ℕ, List, [], ◌∷◌, false, not, cond, Result, Ok, Err, OnErr, OnOk, IfOk, refl, sym, ap, ◌∙◌, append-nil}
+use Rattle.std.specs.Prelude.{◌||◌}
 use Rattle.app_api.specs.declared.call.Call.{Call}
-use Rattle.alone.specs.declared.turn.TurnKind.TheVariants.{Plain}
+use Rattle.store_api.specs.Stores.{empty_store}
+use Rattle.alone.specs.declared.turn.TurnKind.{TurnKind}
+use Rattle.alone.specs.declared.turn.TurnKind.TheVariants as kinds
 use Rattle.alone.specs.declared.reply.Reply.{Reply}
 use Rattle.alone.specs.Machine.{Machine}
-use Rattle.alone.specs.Step.{called, cancelled}
+use Rattle.alone.specs.Step.{called, cancelled, step}
+use Rattle.app_side.specs.Represents.{event_of, machine_over, turns_of}
 use Rattle.app_side.proofs.Stored.{called_over, cancelled_over}
 use Rattle.tee_core.specs.declared.happened.Happened.{Happened}
-use Rattle.tee_core.specs.Happenings.{told_behind}
+use Rattle.tee_core.specs.declared.hosted.Hosted.{Hosted}
+use Rattle.tee_core.specs.Happenings.{happening, has_reply, is_plain, told_behind, turn_happened}
+use Rattle.tee_core.specs.Represents.{IsHosted, IsPlainOrStarved}
+
+abbrev of_parts : TurnKind → ℕ → ℕ → ℕ → List Reply → Happened
+of_parts kind turn op instance replies = record { kind = kind; turn = turn; op = op; instance = instance; replies = replies }
 
 -- a call and a cancellation leave the objects
 pub called_store : {A : Type 0} (m : Machine A) (client : ℕ) (call : Call) → (called m client call).machine.store ≡ m.store
@@ -20,20 +30,52 @@ pub on_err_known : {X E : Type 0} (r : Result X E) (P : Type 0) → P → OnErr 
 on_err_known (Ok x) P p = tt
 on_err_known (Err e) P p = p
 
--- a happening in which the store served
-abbrev plain : ℕ → ℕ → ℕ → List Reply → Happened
-plain turn op instance replies = record { kind = Plain; turn = turn; op = op; instance = instance; replies = replies }
+pub if_ok_known : {X E : Type 0} (r : Result X E) (P : Type 0) (Q : X → Type 0) → ((x : X) → P → Q x) → OnOk r P → IfOk r Q
+if_ok_known (Ok x) P Q f p = f x p
+if_ok_known (Err e) P Q f p = tt
 
--- two such that agree in their parts
-pub happened_is : (turn turn_then op op_then instance instance_then : ℕ) (replies replies_then : List Reply) → turn ≡ turn_then → op ≡ op_then → instance ≡ instance_then → replies ≡ replies_then
-    → plain turn op instance replies ≡ plain turn_then op_then instance_then replies_then
-happened_is turn turn_then op op_then instance instance_then replies replies_then et eo ei er = cc
+pub if_ok_all : {X E : Type 0} (r : Result X E) (Q : X → Type 0) → ((x : X) → Q x) → IfOk r Q
+if_ok_all (Ok x) Q f = f x
+if_ok_all (Err e) Q f = tt
 
--- a happening that has a reply is told, and no other
-pub told_unless : (told : List Happened) (h : Happened) (replies : List Reply) → replies ≡ [] → told ≡ told_behind told h replies
-told_unless told h [] none = refl
-told_unless told h (reply ∷ replies) none = absurd (let e : reply ∷ replies ≡ [] = none in cc)
+-- two happenings that agree in their parts
+pub happened_is : (kind kind_then : TurnKind) (turn turn_then op op_then instance instance_then : ℕ) (replies replies_then : List Reply) → kind ≡ kind_then → turn ≡ turn_then → op ≡ op_then
+    → instance ≡ instance_then → replies ≡ replies_then
+    → of_parts kind turn op instance replies ≡ of_parts kind_then turn_then op_then instance_then replies_then
+happened_is kind kind_then turn turn_then op op_then instance instance_then replies replies_then ek et eo ei er = cc
 
-pub told_if : (told : List Happened) (h : Happened) (replies : List Reply) → ¬ (replies ≡ []) → told ++ h ∷ [] ≡ told_behind told h replies
-told_if told h [] some = absurd (some refl)
-told_if told h (reply ∷ replies) some = refl
+module _ {A : Type 0} (behaviour : Behaviour A) where
+  -- what is told of a turn of its kind
+  pub turn_is : (m : Machine A) (kind : TurnKind) (i turn : ℕ) (replies : List Reply) → IsPlainOrStarved kind → turn ≡ (step behaviour m (event_of kind i)).machine.turns
+      → replies ≡ (step behaviour m (event_of kind i)).replies → turn_happened kind turn i replies ≡ happening behaviour m (event_of kind i)
+  turn_is m kinds.Plain i turn replies own same told = happened_is _ _ _ _ _ _ _ _ _ _ refl same refl refl told
+  turn_is m (kinds.Lost change) i turn replies own same told = absurd own
+  turn_is m kinds.Starved i turn replies own same told = happened_is _ _ _ _ _ _ _ _ _ _ refl same refl refl told
+  turn_is m kinds.Corrupted i turn replies own same told = absurd own
+
+-- a machine that the application stands for: each of its value has one
+pub some_machine : {A : Type 0} (h : Hosted A) → IsHosted h (machine_over h.side h.store.map.store empty_store)
+some_machine h = record { side = record { doubt = empty_store; parts = refl }; store = refl }
+
+-- the turns that were made are the machine's
+pub hosted_turns : {A : Type 0} (h : Hosted A) (m : Machine A) → IsHosted h m → m.turns ≡ turns_of h.side
+hosted_turns {A} h m is = ap (λ (x : Machine A). x.turns) is.side.parts
+
+-- what isn't told leaves what was told
+pub told_unless : (told : List Happened) (kind : TurnKind) (turn instance : ℕ) (replies : List Reply) → kind ≡ kinds.Plain → replies ≡ [] → told ≡ told_behind told (turn_happened kind turn instance replies)
+told_unless told kind turn instance replies plain none =
+    sym (append-nil told) ∙ ap (λ b. told ++ cond b (turn_happened kind turn instance replies ∷ []) []) (sym (ap (λ k. not (is_plain k) || has_reply replies) plain ∙ ap has_reply none))
+
+-- what has a reply, or isn't plain, is told
+pub told_replied : (told : List Happened) (kind : TurnKind) (turn instance : ℕ) (replies : List Reply) → ¬ (replies ≡ [])
+    → told ++ turn_happened kind turn instance replies ∷ [] ≡ told_behind told (turn_happened kind turn instance replies)
+told_replied told kind turn instance [] some = absurd (some refl)
+told_replied told kinds.Plain turn instance (reply ∷ replies) some = refl
+told_replied told (kinds.Lost change) turn instance (reply ∷ replies) some = refl
+told_replied told kinds.Starved turn instance (reply ∷ replies) some = refl
+told_replied told kinds.Corrupted turn instance (reply ∷ replies) some = refl
+
+pub told_kind : (told : List Happened) (kind : TurnKind) (turn instance : ℕ) (replies : List Reply) → is_plain kind ≡ false
+    → told ++ turn_happened kind turn instance replies ∷ [] ≡ told_behind told (turn_happened kind turn instance replies)
+told_kind told kind turn instance replies other =
+    sym (ap (λ b. told ++ cond (not b || has_reply replies) (turn_happened kind turn instance replies ∷ []) []) other)

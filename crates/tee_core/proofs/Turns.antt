@@ -1,85 +1,187 @@
 -- Turns of one machine, made one after the other.
 use Rattle.app_api.specs.Behaviours.{Behaviour}
-use Rattle.std.proofs.Common.{◌≡◌, ◌++◌, ◌<◌, ◌≤◌, ◌-◌, ◌+◌, ℕ, zero, suc, List, [], ◌∷◌, true, false, cond, refl, sym, subst, ◌∙◌, ap, append_assoc, append-nil, arith}
-use Rattle.alone.specs.declared.reply.Reply.{Reply}
+use Rattle.std.proofs.Common.{◌≡◌, ◌++◌, ◌<◌, ◌≤◌, ◌-◌, ◌+◌, ℕ, zero, suc, List, [], ◌∷◌, true, false, cond, filter, refl, sym, subst, ◌∙◌, ap, append_assoc, append-nil, arith}
+use Rattle.std.specs.List.{AllByRecursion}
+use Rattle.std.proofs.lemmas.List.Elements.{filter-append}
+use Rattle.object_asks.specs.Asks.{Serves, Fails, Damaged}
+use Rattle.alone.specs.declared.turn.TurnKind.{TurnKind}
+use Rattle.alone.specs.declared.turn.TurnKind.TheVariants as kinds
 use Rattle.alone.specs.Machine.{Machine}
+use Rattle.alone.specs.Marks.{Marks, SameWithin, event_at}
 use Rattle.alone.specs.Runs.{machine_after, most_turns, turns_until}
-use Rattle.alone.specs.Step.{Turned, turned, is_answered}
+use Rattle.alone.specs.Step.{Event, is_answered, may_stand, step}
+use Rattle.alone.proofs.Counted.{turn_counts}
+use Rattle.alone.proofs.Marked.{marked_corrupt, marked_lost, marked_plain, marked_starved}
+use Rattle.app_side.specs.Represents.{event_of}
 use Rattle.tee_core.specs.declared.happened.Happened.{Happened}
-use Rattle.tee_core.specs.Happenings.{happening, replying, told_behind, told_with}
+use Rattle.tee_core.specs.declared.hosted.Hosted.{Hosted}
+use Rattle.tee_core.specs.Happenings.{IsPlainBehind, happening, happenings, is_corrupt_turn, is_lost_turn, is_starved_turn, is_told, marks_of, told_behind}
+use Rattle.tee_core.specs.Represents.{IsHosted, IsPlainOrStarved}
+use Rattle.tee_core.specs.Turns.{IsTurnedUntil, LeavesOthers, StopsBefore}
+use Rattle.tee_core.proofs.Told.{behind_before, behind_here, behind_plain}
 
 most_is : most_turns ≡ 10000000
 unfolding most_turns
 most_is = refl
 
-module _ {A : Type 0} (behaviour : Behaviour A) where
-  -- turns end where the operation is answered
-  turns_done : (k : ℕ) (m : Machine A) (i op : ℕ) → is_answered m op ≡ true → turns_until behaviour k m i op ≡ []
-  turns_done zero m i op h = refl
-  turns_done (suc k) m i op h = ap (λ b. cond b [] (Turned i ∷ turns_until behaviour k (turned behaviour m i).machine i op)) h
+all_more : {X : Type 0} (P : X → Type 0) (xs : List X) (x : X) → AllByRecursion P xs → P x → AllByRecursion P (xs ++ x ∷ [])
+all_more P [] x all here = (here, tt)
+all_more P (y ∷ xs) x all here = (all.0, all_more P xs x all.1 here)
 
-  turns_none : (k : ℕ) (m : Machine A) (i op : ℕ) → k ≡ 0 → turns_until behaviour k m i op ≡ []
-  turns_none k m i op h = ap (λ n. turns_until behaviour n m i op) h
+-- a turn that was served, or starved, is none of another machine's
+pub leaves_others : (kind : TurnKind) (i : ℕ) → IsPlainOrStarved kind → LeavesOthers (event_of kind i)
+leaves_others kinds.Plain i own = tt
+leaves_others (kinds.Lost change) i own = absurd own
+leaves_others kinds.Starved i own = tt
+leaves_others kinds.Corrupted i own = absurd own
+
+-- marks that say so make the turn the event of its kind
+pub event_of_marks : {A : Type 0} (marks : Marks) (m : Machine A) (kind : TurnKind) (i : ℕ) → marks.lost (m.turns + 1) ≡ is_lost_turn kind → marks.corrupt (m.turns + 1) ≡ is_corrupt_turn kind
+    → marks.starved (m.turns + 1) ≡ is_starved_turn kind → may_stand m (event_of kind i) ≡ true → event_at marks m i ≡ event_of kind i
+event_of_marks marks m kinds.Plain i lost corrupt starved may = marked_plain marks m i lost corrupt starved
+event_of_marks marks m (kinds.Lost change) i lost corrupt starved may = marked_lost marks m i lost may
+event_of_marks marks m kinds.Starved i lost corrupt starved may = marked_starved marks m i lost corrupt starved may
+event_of_marks marks m kinds.Corrupted i lost corrupt starved may = marked_corrupt marks m i lost corrupt may
+
+module _ {A : Type 0} (behaviour : Behaviour A) where
+  pub kind_counts : (m : Machine A) (kind : TurnKind) (i : ℕ) → (step behaviour m (event_of kind i)).machine.turns ≡ m.turns + 1
+  kind_counts m kinds.Plain i = turn_counts behaviour Serves m i
+  kind_counts m (kinds.Lost change) i = turn_counts behaviour Fails m i
+  kind_counts m kinds.Starved i = refl
+  kind_counts m kinds.Corrupted i = turn_counts behaviour Damaged m i
+
+  machine_more : (m : Machine A) (made : List Event) (e : Event) → machine_after behaviour m (made ++ e ∷ []) ≡ (step behaviour (machine_after behaviour m made) e).machine
+  machine_more m [] e = refl
+  machine_more m (x ∷ made) e = machine_more (step behaviour m x).machine made e
+
+  happenings_more : (m : Machine A) (made : List Event) (e : Event) → happenings behaviour m (made ++ e ∷ []) ≡ happenings behaviour m made ++ happening behaviour (machine_after behaviour m made) e ∷ []
+  happenings_more m [] e = refl
+  happenings_more m (x ∷ made) e = ap (λ hs. happening behaviour m x ∷ hs) (happenings_more (step behaviour m x).machine made e)
+
+  -- turns end where the operation is answered
+  turns_done : (marks : Marks) (k : ℕ) (m : Machine A) (i op : ℕ) → is_answered m op ≡ true → turns_until behaviour marks k m i op ≡ []
+  turns_done marks zero m i op h = refl
+  turns_done marks (suc k) m i op h =
+      let e : Event = event_at marks m i in ap (λ b. cond b [] (e ∷ turns_until behaviour marks k (step behaviour m e).machine i op)) h
+
+  turns_none : (marks : Marks) (k : ℕ) (m : Machine A) (i op : ℕ) → k ≡ 0 → turns_until behaviour marks k m i op ≡ []
+  turns_none marks k m i op h = ap (λ n. turns_until behaviour marks n m i op) h
 
   -- and go on where it isn't
-  turns_on : (k j : ℕ) (m : Machine A) (i op : ℕ) → k ≡ suc j → is_answered m op ≡ false → turns_until behaviour k m i op ≡ Turned i ∷ turns_until behaviour j (turned behaviour m i).machine i op
-  turns_on k j m i op e h =
-      ap (λ n. turns_until behaviour n m i op) e
-      ∙ ap (λ b. cond b [] (Turned i ∷ turns_until behaviour j (turned behaviour m i).machine i op)) h
+  turns_on : (marks : Marks) (k j : ℕ) (m : Machine A) (i op : ℕ) (e : Event) → k ≡ suc j → is_answered m op ≡ false → event_at marks m i ≡ e
+      → turns_until behaviour marks k m i op ≡ e ∷ turns_until behaviour marks j (step behaviour m e).machine i op
+  turns_on marks k j m i op e more h is =
+      let at : Event = event_at marks m i in
+      ap (λ n. turns_until behaviour marks n m i op) more
+      ∙ ap (λ b. cond b [] (at ∷ turns_until behaviour marks j (step behaviour m at).machine i op)) h
+      ∙ ap (λ (x : Event). x ∷ turns_until behaviour marks j (step behaviour m x).machine i op) is
 
-  -- so many of the turns were made: what is left of them leads to the same machine, and is told behind what was told so far
+  -- so many of the turns were made, and they led there: what is told of them stands behind what was told so far, and under all marks
+  -- that agree with it the turns are these and then those from here on
   pub record HasTurned (Stands : Machine A → Type 0) (m : Machine A) (i op k : ℕ) (before told : List Happened) : Type 0 where
+    pub made : List Event
     pub now : Machine A
+    pub now_is : machine_after behaviour m made ≡ now
     pub stands : Stands now
-    pub machine : machine_after behaviour now (turns_until behaviour (most_turns - k) now i op) ≡ machine_after behaviour m (turns_until behaviour most_turns m i op)
-    pub told_so : told ++ replying behaviour now (turns_until behaviour (most_turns - k) now i op) ≡ before ++ replying behaviour m (turns_until behaviour most_turns m i op)
+    pub told_so : told ≡ before ++ filter is_told (happenings behaviour m made)
+    pub apart : AllByRecursion LeavesOthers made
+    pub later : m.turns ≤ now.turns
+    pub plain : IsPlainBehind now.turns told
+    pub by_marks : (marks : Marks) → SameWithin m.turns now.turns marks (marks_of told)
+        → turns_until behaviour marks most_turns m i op ≡ made ++ turns_until behaviour marks (most_turns - k) now i op
 
-  pub turns_start : (Stands : Machine A → Type 0) (m : Machine A) (i op : ℕ) (before : List Happened) → Stands m → HasTurned Stands m i op 0 before before
-  turns_start Stands m i op before stands = record {
+  pub turns_start : (Stands : Machine A → Type 0) (m : Machine A) (i op : ℕ) (before : List Happened) → Stands m → IsPlainBehind m.turns before
+      → HasTurned Stands m i op 0 before before
+  turns_start Stands m i op before stands plain = record {
+    made = [];
     now = m;
+    now_is = refl;
     stands = stands;
-    machine = ap (λ k. machine_after behaviour m (turns_until behaviour k m i op)) (omega arith);
-    told_so = ap (λ k. before ++ replying behaviour m (turns_until behaviour k m i op)) (omega arith);
+    told_so = sym (append-nil before);
+    apart = tt;
+    later = omega arith;
+    plain = plain;
+    by_marks = λ marks same. ap (λ k. turns_until behaviour marks k m i op) (omega arith);
   }
 
-  one_more : (k : ℕ) (m : Machine A) (i op : ℕ) → k < 10000000 → is_answered m op ≡ false → turns_until behaviour (most_turns - k) m i op ≡ Turned i ∷ turns_until behaviour (most_turns - (k + 1)) (turned behaviour m i).machine i op
-  one_more k m i op within not_yet = turns_on (most_turns - k) (most_turns - (k + 1)) m i op (omega (arith, within, most_is)) not_yet
+  -- marks that agree with what is told after a turn agree with what was told before it
+  pub agree_before : (marks : Marks) (from turns : ℕ) (told : List Happened) (h : Happened) → h.turn ≡ turns + 1 → SameWithin from (turns + 1) marks (marks_of (told_behind told h))
+      → SameWithin from turns marks (marks_of told)
+  agree_before marks from turns told h here same = λ turn above within.
+      let at = same turn above (omega (arith, within)) in
+      let before = behind_before told h turn (λ is. absurd (omega (arith, here, is, within))) in
+      record { lost = at.lost ∙ before.lost; corrupt = at.corrupt ∙ before.corrupt; starved = at.starved ∙ before.starved }
 
-  behind_more : (told : List Happened) (h : Happened) (replies : List Reply) (more : List Happened) → told_behind told h replies ++ more ≡ told ++ told_with replies h more
-  behind_more told h [] more = refl
-  behind_more told h (reply ∷ replies) more = append_assoc told (h ∷ []) more
+  -- and make it the event of its kind
+  pub agree_here : (marks : Marks) (m : Machine A) (from : ℕ) (told : List Happened) (h : Happened) (i : ℕ) → from ≤ m.turns → h.turn ≡ m.turns + 1 → IsPlainBehind m.turns told
+      → SameWithin from (m.turns + 1) marks (marks_of (told_behind told h)) → may_stand m (event_of h.kind i) ≡ true → event_at marks m i ≡ event_of h.kind i
+  agree_here marks m from told h i later here plain same may =
+      let at = same (m.turns + 1) (omega (arith, later)) (omega arith) in
+      let went = behind_here told h m.turns here plain in
+      event_of_marks marks m h.kind i (at.lost ∙ went.lost) (at.corrupt ∙ went.corrupt) (at.starved ∙ went.starved) may
 
   pub turns_further : (Stands Stands_then : Machine A → Type 0) (m : Machine A) (i op k : ℕ) (before told : List Happened) → (run : HasTurned Stands m i op k before told)
-      → k < 10000000 → is_answered run.now op ≡ false → Stands_then (turned behaviour run.now i).machine
-      → (h : Happened) → h ≡ happening behaviour run.now (Turned i)
-      → HasTurned Stands_then m i op (k + 1) before (told_behind told h h.replies)
-  turns_further Stands Stands_then m i op k before told run within not_yet stands h same =
-      let then : Machine A = (turned behaviour run.now i).machine in
-      let rest = turns_until behaviour (most_turns - (k + 1)) then i op in
-      let here = one_more k run.now i op within not_yet in
+      → k < 10000000 → is_answered run.now op ≡ false → (h : Happened) → IsPlainOrStarved h.kind → may_stand run.now (event_of h.kind i) ≡ true
+      → Stands_then (step behaviour run.now (event_of h.kind i)).machine → h ≡ happening behaviour run.now (event_of h.kind i)
+      → HasTurned Stands_then m i op (k + 1) before (told_behind told h)
+  turns_further Stands Stands_then m i op k before told run within not_yet h own may stands same =
+      let e : Event = event_of h.kind i in
+      let then : Machine A = (step behaviour run.now e).machine in
+      let counts : then.turns ≡ run.now.turns + 1 = kind_counts run.now h.kind i in
+      let here : h.turn ≡ run.now.turns + 1 = ap (λ (x : Happened). x.turn) same ∙ counts in
+      let hs : List Happened = happenings behaviour m run.made in
       record {
+        made = run.made ++ e ∷ [];
         now = then;
+        now_is = machine_more m run.made e ∙ ap (λ (x : Machine A). (step behaviour x e).machine) run.now_is;
         stands = stands;
-        machine = ap (machine_after behaviour run.now) (sym here) ∙ run.machine;
         told_so =
-            behind_more told h h.replies (replying behaviour then rest)
-            ∙ ap (λ (x : Happened). told ++ told_with x.replies x (replying behaviour then rest)) same
-            ∙ ap (λ es. told ++ replying behaviour run.now es) (sym here)
-            ∙ run.told_so;
+            ap (λ ts. ts ++ filter is_told (h ∷ [])) run.told_so
+            ∙ append_assoc before (filter is_told hs) (filter is_told (h ∷ []))
+            ∙ ap (λ ts. before ++ ts) (
+            sym (filter-append is_told hs (h ∷ []))
+            ∙ ap (λ (x : Happened). filter is_told (hs ++ x ∷ [])) (same ∙ ap (λ (x : Machine A). happening behaviour x e) (sym run.now_is))
+            ∙ ap (filter is_told) (sym (happenings_more m run.made e)));
+        apart = all_more LeavesOthers run.made e run.apart (leaves_others h.kind i own);
+        later = omega (arith, run.later, counts);
+        plain = subst (λ n. IsPlainBehind n (told_behind told h)) (sym counts) (behind_plain told h run.now.turns here run.plain);
+        by_marks = λ marks agree.
+            let agrees : SameWithin m.turns (run.now.turns + 1) marks (marks_of (told_behind told h)) = subst (λ n. SameWithin m.turns n marks (marks_of (told_behind told h))) counts agree in
+            let is = agree_here marks run.now m.turns told h i run.later here run.plain agrees may in
+            run.by_marks marks (agree_before marks m.turns run.now.turns told h here agrees)
+            ∙ ap (λ es. run.made ++ es) (turns_on marks (most_turns - k) (most_turns - (k + 1)) run.now i op e (omega (arith, within, most_is)) not_yet is)
+            ∙ sym (append_assoc run.made (e ∷ []) (turns_until behaviour marks (most_turns - (k + 1)) then i op));
       }
 
   -- no turn is left
-  ended : (Stands : Machine A → Type 0) (m : Machine A) (i op k : ℕ) (before told : List Happened) → (run : HasTurned Stands m i op k before told) → turns_until behaviour (most_turns - k) run.now i op ≡ []
-      → Stands (machine_after behaviour m (turns_until behaviour most_turns m i op)) × (told ≡ before ++ replying behaviour m (turns_until behaviour most_turns m i op))
-  ended Stands m i op k before told run none = (
-    subst Stands (ap (machine_after behaviour run.now) (sym none) ∙ run.machine) run.stands,
-    sym (append-nil told) ∙ ap (λ es. told ++ replying behaviour run.now es) (sym none) ∙ run.told_so,
-  )
+  ended : (h : Hosted A) (m : Machine A) (i op k : ℕ) (before told : List Happened) → (run : HasTurned (IsHosted h) m i op k before told)
+      → ((marks : Marks) → turns_until behaviour marks (most_turns - k) run.now i op ≡ []) → IsTurnedUntil behaviour m i op before told h
+  ended h m i op k before told run none = record {
+    made = run.made;
+    stands = subst (IsHosted h) (sym run.now_is) run.stands;
+    told_so = run.told_so;
+    apart = run.apart;
+    by_marks = λ marks agree.
+        run.by_marks marks (subst (λ n. SameWithin m.turns n marks (marks_of told)) (sym (ap (λ (x : Machine A). x.turns) run.stands.side.parts)) agree)
+        ∙ ap (λ es. run.made ++ es) (none marks)
+        ∙ append-nil run.made;
+  }
 
-  pub turns_answered : (Stands : Machine A → Type 0) (m : Machine A) (i op k : ℕ) (before told : List Happened) → (run : HasTurned Stands m i op k before told) → is_answered run.now op ≡ true
-      → Stands (machine_after behaviour m (turns_until behaviour most_turns m i op)) × (told ≡ before ++ replying behaviour m (turns_until behaviour most_turns m i op))
-  turns_answered Stands m i op k before told run done = ended Stands m i op k before told run (turns_done (most_turns - k) run.now i op done)
+  pub turns_answered : (h : Hosted A) (m : Machine A) (i op k : ℕ) (before told : List Happened) → (run : HasTurned (IsHosted h) m i op k before told) → is_answered run.now op ≡ true
+      → IsTurnedUntil behaviour m i op before told h
+  turns_answered h m i op k before told run done = ended h m i op k before told run (λ marks. turns_done marks (most_turns - k) run.now i op done)
 
-  pub turns_used : (Stands : Machine A → Type 0) (m : Machine A) (i op k : ℕ) (before told : List Happened) → (run : HasTurned Stands m i op k before told) → 10000000 ≤ k
-      → Stands (machine_after behaviour m (turns_until behaviour most_turns m i op)) × (told ≡ before ++ replying behaviour m (turns_until behaviour most_turns m i op))
-  turns_used Stands m i op k before told run all = ended Stands m i op k before told run (turns_none (most_turns - k) run.now i op (omega (arith, all, most_is)))
+  pub turns_used : (h : Hosted A) (m : Machine A) (i op k : ℕ) (before told : List Happened) → (run : HasTurned (IsHosted h) m i op k before told) → 10000000 ≤ k
+      → IsTurnedUntil behaviour m i op before told h
+  turns_used h m i op k before told run all = ended h m i op k before told run (λ marks. turns_none marks (most_turns - k) run.now i op (omega (arith, all, most_is)))
+
+  -- the turns so far are the first under the marks that tell of them
+  pub turns_stopped : (h : Hosted A) (m : Machine A) (i op k : ℕ) (before told : List Happened) → (run : HasTurned (IsHosted h) m i op k before told) → StopsBefore behaviour m i op h
+  turns_stopped h m i op k before told run = record {
+    marks = marks_of told;
+    made = run.made;
+    rest = turns_until behaviour (marks_of told) (most_turns - k) run.now i op;
+    all = run.by_marks (marks_of told) (λ turn above within. record { lost = refl; corrupt = refl; starved = refl });
+    stands = subst (IsHosted h) (sym run.now_is) run.stands;
+    apart = run.apart;
+  }

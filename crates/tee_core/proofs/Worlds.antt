@@ -2,15 +2,20 @@
 use Rattle.app_api.specs.Behaviours.{Behaviour}
 use Rattle.std.proofs.Common.{◌≡◌, ◌++◌, ◌<◌, ◌+◌, ℕ, zero, suc, List, [], ◌∷◌, None, Some, length, get_or, set, refl, sym, subst, ◌∙◌, ap, append_assoc, arith}
 use Rattle.std.specs.Prelude.{slice_get}
+use Rattle.std.specs.List.{AllByRecursion}
 use Rattle.app_api.specs.declared.host.Host.{Host}
 use Rattle.store_api.specs.Stores.{Store}
 use Rattle.alone.specs.Machine.{Machine, start}
 use Rattle.app_api.specs.declared.call.Call.{Call}
+use Rattle.alone.specs.Marks.{Marks}
 use Rattle.alone.specs.Runs.{events_of_call, machine_after}
-use Rattle.alone.specs.Step.{Event, step}
-use Rattle.tee_core.specs.Represents.{AreHosted, IsHosted}
-use Rattle.tee_core.specs.World.{World, called_at, events_at, moved_at, run_events, starts_from, world_after, world_step}
+use Rattle.alone.specs.Step.{Event, Called, Cancelled, Turned, TurnLost, Corrupted, Lost, Starved, Restarted, step}
+use Rattle.app_side.specs.Represents.{turns_of}
+use Rattle.tee_core.specs.Represents.{AreHosted, IsHosted, StopsWithin, turns_in}
+use Rattle.tee_core.specs.Turns.{IsPartRun, LeavesOthers}
+use Rattle.tee_core.specs.World.{World, called_at, events_at, met_by_others, moved_at, run_events, starts_from, world_after, world_step}
 use Rattle.tee_core.specs.declared.hosted.Hosted.{Hosted}
+use Rattle.tee_core.specs.declared.tee.Tee.{Tee}
 
 -- one more of each
 pub hosted_more : {A : Type 0} (hs : List (Hosted A)) (world : World A) (h : Hosted A) (m : Machine A) → AreHosted hs world → IsHosted h m → AreHosted (hs ++ h ∷ []) (world ++ m ∷ [])
@@ -62,33 +67,85 @@ hosted_kept hs world i old new d are lt value keeps =
     let p = hosted_at hs world i are lt in
     subst (AreHosted (set hs i new)) (set_same world i p.0 p.1) (hosted_set hs world i new p.0 are (keeps p.0 (hosted_here hs world i old d p.0 are lt value p.1)))
 
--- events of one application move its machine, and no other
+pub set_there : {X : Type 0} (xs : List X) (i : ℕ) (y : X) → i < length xs → slice_get (set xs i y) i ≡ Some y
+set_there [] i y lt = absurd (omega (arith, lt))
+set_there (x ∷ xs) zero y lt = refl
+set_there (x ∷ xs) (suc i) y lt = set_there xs i y (omega (arith, lt))
+
+pub get_there : {X : Type 0} (xs : List X) (i : ℕ) (d : X) → i < length xs → slice_get xs i ≡ Some (get_or xs i d)
+get_there [] i d lt = absurd (omega (arith, lt))
+get_there (x ∷ xs) zero d lt = refl
+get_there (x ∷ xs) (suc i) d lt = get_there xs i d (omega (arith, lt))
+
+-- the turns of the application at a place, before it is replaced and after
+pub turns_here : {A : Type 0} (hs : List (Hosted A)) (i : ℕ) (old d : Hosted A) → i < length hs → old ≡ get_or hs i d → turns_in (slice_get hs i) ≡ turns_of old.side
+turns_here {A} hs i old d lt value = ap turns_in (get_there hs i d lt) ∙ ap (λ (h : Hosted A). turns_of h.side) (sym value)
+
+pub turns_then : {A : Type 0} (hs : List (Hosted A)) (i : ℕ) (new : Hosted A) → i < length hs → turns_in (slice_get (set hs i new) i) ≡ turns_of new.side
+turns_then hs i new lt = ap turns_in (set_there hs i new lt)
+
+-- events of one application that no other meets move its machine, and no other
 module _ {A : Type 0} (behaviour : Behaviour A) where
-  pub moves_one : (world : World A) (app : ℕ) (m : Machine A) (events : List Event) → slice_get world app ≡ Some m → world_after behaviour world (events_at behaviour app events) ≡ set world app (machine_after behaviour m events)
-  moves_one world app m [] here = sym (set_same world app m here)
-  moves_one world app m (event ∷ events) here =
+  met_by_none : (event : Event) (world : World A) → LeavesOthers event → met_by_others behaviour event world ≡ world
+  met_by_none (Called client call) world leaves = refl
+  met_by_none (Cancelled op) world leaves = refl
+  met_by_none (Turned i) world leaves = refl
+  met_by_none (TurnLost i) world leaves = absurd leaves
+  met_by_none (Corrupted i) world leaves = refl
+  met_by_none Lost world leaves = refl
+  met_by_none (Starved i) world leaves = refl
+  met_by_none (Restarted took) world leaves = refl
+
+  pub moves_one : (world : World A) (app : ℕ) (m : Machine A) (events : List Event) → slice_get world app ≡ Some m → AllByRecursion LeavesOthers events
+      → world_after behaviour world (events_at behaviour app events) ≡ set world app (machine_after behaviour m events)
+  moves_one world app m [] here leaves = sym (set_same world app m here)
+  moves_one world app m (event ∷ events) here leaves =
       let then : Machine A = (step behaviour m event).machine in
       ap (λ o. world_after behaviour (moved_at behaviour world app event o) (events_at behaviour app events)) here
-      ∙ moves_one (set world app then) app then events (get_set world app m then here)
+      ∙ ap (λ (w : World A). world_after behaviour (set w app then) (events_at behaviour app events)) (met_by_none event world leaves.0)
+      ∙ moves_one (set world app then) app then events (get_set world app m then here) leaves.1
       ∙ set_set world app then (machine_after behaviour then events)
 
   -- the application at a place takes a step
   pub event_moves : (hs : List (Hosted A)) (world : World A) (app : ℕ) (old new d : Hosted A) (event : Event) → AreHosted hs world → app < length hs → old ≡ get_or hs app d
-      → ((m : Machine A) → IsHosted old m → IsHosted new (step behaviour m event).machine) → AreHosted (set hs app new) (world_step behaviour world (record { app = app; event = event }))
-  event_moves hs world app old new d event are lt value moves =
+      → LeavesOthers event → ((m : Machine A) → IsHosted old m → IsHosted new (step behaviour m event).machine)
+      → AreHosted (set hs app new) (world_step behaviour world (record { app = app; event = event }))
+  event_moves hs world app old new d event are lt value leaves moves =
       let p = hosted_at hs world app are lt in
+      let then : Machine A = (step behaviour p.0 event).machine in
       subst (λ o. AreHosted (set hs app new) (moved_at behaviour world app event o)) (sym p.1)
-      (hosted_set hs world app new (step behaviour p.0 event).machine are (moves p.0 (hosted_here hs world app old d p.0 are lt value p.1)))
+      (subst (λ (w : World A). AreHosted (set hs app new) (set w app then)) (sym (met_by_none event world leaves))
+      (hosted_set hs world app new then are (moves p.0 (hosted_here hs world app old d p.0 are lt value p.1))))
 
-  -- it is called, and gets turns until it has answered
-  pub run_moves : (hs : List (Hosted A)) (world : World A) (app : ℕ) (old new d : Hosted A) (client : ℕ) (call : Call) → AreHosted hs world → app < length hs → old ≡ get_or hs app d
-      → ((m : Machine A) → IsHosted old m → IsHosted new (machine_after behaviour m (events_of_call behaviour m client call))) → AreHosted (set hs app new) (world_after behaviour world (run_events behaviour world app client call))
-  run_moves hs world app old new d client call are lt value moves =
+  -- it takes several
+  pub events_move : (hs : List (Hosted A)) (world : World A) (app : ℕ) (m : Machine A) (new : Hosted A) (events : List Event) → AreHosted hs world → slice_get world app ≡ Some m
+      → AllByRecursion LeavesOthers events → IsHosted new (machine_after behaviour m events) → AreHosted (set hs app new) (world_after behaviour world (events_at behaviour app events))
+  events_move hs world app m new events are here leaves stands =
+      subst (AreHosted (set hs app new)) (sym (moves_one world app m events here leaves)) (hosted_set hs world app new (machine_after behaviour m events) are stands)
+
+  -- a run of a call, in whole
+  pub run_is : (marks : Marks) (world : World A) (app client : ℕ) (call : Call) (m : Machine A) (events : List Event) → slice_get world app ≡ Some m
+      → events_of_call behaviour marks m client call ≡ events → run_events behaviour marks world app client call ≡ events_at behaviour app events
+  run_is marks world app client call m events here same = ap (called_at behaviour marks app client call) here ∙ ap (events_at behaviour app) same
+
+  events_append : (app : ℕ) (xs ys : List Event) → events_at behaviour app (xs ++ ys) ≡ events_at behaviour app xs ++ events_at behaviour app ys
+  events_append app [] ys = refl
+  events_append app (x ∷ xs) ys = ap (λ es. record { app = app; event = x } ∷ es) (events_append app xs ys)
+
+  -- and in part
+  pub run_stops : (hs : List (Hosted A)) (world : World A) (app client : ℕ) (call : Call) (old new d : Hosted A) (left : Tee A) → AreHosted hs world → app < length hs → old ≡ get_or hs app d
+      → ((m : Machine A) → IsHosted old m → IsPartRun behaviour m client call new) → left.hosted.items ≡ set hs app new → StopsWithin behaviour world app client call left
+  run_stops hs world app client call old new d left are lt value stops items =
       let p = hosted_at hs world app are lt in
-      let events = events_of_call behaviour p.0 client call in
-      subst (λ o. AreHosted (set hs app new) (world_after behaviour world (called_at behaviour app client call o))) (sym p.1)
-      (subst (AreHosted (set hs app new)) (sym (moves_one world app p.0 events p.1))
-      (hosted_set hs world app new (machine_after behaviour p.0 events) are (moves p.0 (hosted_here hs world app old d p.0 are lt value p.1))))
+      let part = stops p.0 (hosted_here hs world app old d p.0 are lt value p.1) in
+      record {
+        marks = part.marks;
+        made = events_at behaviour app part.made;
+        rest = events_at behaviour app part.rest;
+        all = run_is part.marks world app client call p.0 (part.made ++ part.rest) p.1 part.all ∙ events_append app part.made part.rest;
+        stands = subst (λ (xs : List (Hosted A)). AreHosted xs (world_after behaviour world (events_at behaviour app part.made))) (sym items)
+            (events_move hs world app p.0 new part.made are p.1 part.apart part.stands);
+      }
 
 -- the first host's machine, and those of the others behind it
 pub starts_one : {A : Type 0} (front : World A) (n : ℕ) (host : Host A) (hosts : List (Host A)) (seed : List ℕ) (stores : ℕ → Store) → (front ++ start host n seed (stores n) ∷ []) ++ starts_from (n + 1) hosts seed stores ≡ front ++ starts_from n (host ∷ hosts) seed stores

@@ -1,13 +1,27 @@
 -- What is told of events of one application's machine.
 use Rattle.app_api.specs.Behaviours.{Behaviour}
-use Rattle.std.specs.Prelude.{ℕ, List, [], ◌∷◌, ◌++◌}
+use Rattle.std.specs.Prelude.{ℕ, ◌==◌, ◌<◌, Bool, true, false, not, ◌&&◌, ◌||◌, List, [], ◌∷◌, ◌++◌, filter}
+use Rattle.std.specs.List.{list_any}
 use Rattle.app_api.specs.declared.call.Call.{Call}
-use Rattle.alone.specs.declared.turn.TurnKind.TheVariants.{Plain}
+use Rattle.alone.specs.declared.turn.TurnKind.{TurnKind}
+use Rattle.alone.specs.declared.turn.TurnKind.TheVariants as kinds
 use Rattle.alone.specs.declared.reply.Reply.{Reply}
 use Rattle.alone.specs.Machine.{Machine}
+use Rattle.alone.specs.Marks.{Marks, SameAt, no_marks}
 use Rattle.alone.specs.Runs.{turns_of_call}
-use Rattle.alone.specs.Step.{Event, Called, Cancelled, Turned, TurnLost, Corrupted, Lost, Starved, Restarted, Stepped, called, step}
+use Rattle.alone.specs.Step.{Event, Called, Cancelled, Turned, TurnLost, Corrupted, Lost, Starved, Restarted, Stepped, called, is_changing, step}
 use Rattle.tee_core.specs.declared.happened.Happened.{Happened}
+
+-- how an event went that is a turn; any other event is plain
+abbrev pub kind_met : {A : Type 0} → Machine A → Event → TurnKind
+kind_met m (Called client call) = kinds.Plain
+kind_met m (Turned instance) = kinds.Plain
+kind_met m (TurnLost instance) = kinds.Lost (is_changing m instance)
+kind_met m (Corrupted instance) = kinds.Corrupted
+kind_met m Lost = kinds.Plain
+kind_met m (Cancelled op) = kinds.Plain
+kind_met m (Starved instance) = kinds.Starved
+kind_met m (Restarted took) = kinds.Plain
 
 -- the number of the operation that an event calls or cancels, 0 for any other
 abbrev pub op_called : {A : Type 0} → Machine A → Event → ℕ
@@ -31,37 +45,81 @@ instance_met (Cancelled op) s = 0
 instance_met (Starved instance) s = instance
 instance_met (Restarted took) s = 0
 
--- a happening is told where it has a reply
-abbrev pub told_with : List Reply → Happened → List Happened → List Happened
-told_with [] h more = more
-told_with (reply ∷ replies) h more = h ∷ more
+-- what happened in a turn of this kind, after which so many were made
+abbrev pub turn_happened : TurnKind → ℕ → ℕ → List Reply → Happened
+turn_happened kind turn instance replies = record { kind = kind; turn = turn; op = 0; instance = instance; replies = replies }
 
--- what was told before, and then a happening if it has a reply
-abbrev pub told_behind : List Happened → Happened → List Reply → List Happened
-told_behind told h [] = told
-told_behind told h (reply ∷ replies) = told ++ h ∷ []
+-- ---- which happenings are told
 
--- a turn in which the store served, after which so many were made
-abbrev pub plain_turn : ℕ → ℕ → List Reply → Happened
-plain_turn turn instance replies = record { kind = Plain; turn = turn; op = 0; instance = instance; replies = replies }
+abbrev pub is_plain : TurnKind → Bool
+is_plain kinds.Plain = true
+is_plain (kinds.Lost change) = false
+is_plain kinds.Starved = false
+is_plain kinds.Corrupted = false
+
+abbrev pub has_reply : List Reply → Bool
+has_reply [] = false
+has_reply (reply ∷ replies) = true
+
+-- a happening is told where it has a reply, or isn't plain
+abbrev pub is_told : Happened → Bool
+is_told h = not (is_plain h.kind) || has_reply h.replies
+
+-- what was told before, and then a happening if it is told
+abbrev pub told_behind : List Happened → Happened → List Happened
+told_behind told h = told ++ filter is_told (h ∷ [])
+
+-- ---- the marks that are read off what was told
+
+abbrev pub is_lost_turn : TurnKind → Bool
+is_lost_turn kinds.Plain = false
+is_lost_turn (kinds.Lost change) = true
+is_lost_turn kinds.Starved = false
+is_lost_turn kinds.Corrupted = false
+
+abbrev pub is_corrupt_turn : TurnKind → Bool
+is_corrupt_turn kinds.Plain = false
+is_corrupt_turn (kinds.Lost change) = false
+is_corrupt_turn kinds.Starved = false
+is_corrupt_turn kinds.Corrupted = true
+
+abbrev pub is_starved_turn : TurnKind → Bool
+is_starved_turn kinds.Plain = false
+is_starved_turn (kinds.Lost change) = false
+is_starved_turn kinds.Starved = true
+is_starved_turn kinds.Corrupted = false
+
+-- the turn of this number went so, as one of the happenings tells
+abbrev pub tells : (TurnKind → Bool) → List Happened → ℕ → Bool
+tells went told turn = list_any (λ h. went h.kind && h.turn == turn) told
+
+-- how turns went: each that was told as lost, as damaged or as starved is marked so, and no other
+abbrev pub marks_of : List Happened → Marks
+marks_of told = record { lost = tells is_lost_turn told; corrupt = tells is_corrupt_turn told; starved = tells is_starved_turn told }
+
+-- no turn behind this number is told as lost, damaged or starved
+abbrev pub IsPlainBehind : ℕ → List Happened → Type 0
+IsPlainBehind turns told = (turn : ℕ) → turns < turn → SameAt turn (marks_of told) no_marks
 
 -- behaviour has the application's two stated functions
 module _ {A : Type 0} (behaviour : Behaviour A) where
-  -- what is told of an event in which the store served: how many turns were made after it, and its replies
+  -- what happens in an event: how it went, how many turns were made after it, and its replies
   abbrev pub happening : Machine A → Event → Happened
   happening m event = let s = step behaviour m event in record {
-    kind = Plain;
+    kind = kind_met m event;
     turn = s.machine.turns;
     op = op_called m event;
     instance = instance_met event s;
     replies = s.replies;
   }
 
-  -- the happenings of events that have a reply
-  abbrev pub replying : Machine A → List Event → List Happened
-  replying m [] = []
-  replying m (event ∷ events) = let h = happening m event in told_with h.replies h (replying (step behaviour m event).machine events)
+  -- what happens in events, one after the other
+  abbrev pub happenings : Machine A → List Event → List Happened
+  happenings m [] = []
+  happenings m (event ∷ events) = happening m event ∷ happenings (step behaviour m event).machine events
 
-  -- what is told of a call that is run until it is answered: the call, and the turns that have a reply
-  abbrev pub told_of_call : Machine A → ℕ → Call → List Happened
-  told_of_call m client call = happening m (Called client call) ∷ replying (called m client call).machine (turns_of_call behaviour m client call)
+  -- what is told of a call that is run until it is answered, where its turns go as the marks say: the call, and those of the turns
+  -- that are told
+  abbrev pub told_of_call : Marks → Machine A → ℕ → Call → List Happened
+  told_of_call marks m client call =
+      happening m (Called client call) ∷ filter is_told (happenings (called m client call).machine (turns_of_call behaviour marks m client call))

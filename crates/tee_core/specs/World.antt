@@ -6,8 +6,9 @@ use Rattle.app_api.specs.declared.host.Host.{Host}
 use Rattle.store_api.specs.Stores.{Store}
 use Rattle.alone.specs.declared.reply.Reply.{Reply}
 use Rattle.alone.specs.Machine.{Machine, start}
-use Rattle.alone.specs.Runs.{events_of_call}
-use Rattle.alone.specs.Step.{Event, step}
+use Rattle.alone.specs.Marks.{Marks}
+use Rattle.alone.specs.Runs.{events_of_call, turns_of}
+use Rattle.alone.specs.Step.{Event, Called, Cancelled, Turned, TurnLost, Corrupted, Lost, Starved, Restarted, step}
 
 -- the machines of the hosts, in their order
 abbrev pub World : Type 0 → Type 0
@@ -29,16 +30,27 @@ world_of hosts seed stores = starts_from 0 hosts seed stores
 
 -- behaviour has the applications' two stated functions
 module _ {A : Type 0} (behaviour : Behaviour A) where
-  -- the world after its machine of this index has met an event; nothing happens to a machine that there isn't
+  -- what an event of one machine is for the others: where its turn is lost, each of them loses its storage too
+  abbrev pub met_by_others : Event → World A → World A
+  met_by_others (Called client call) world = world
+  met_by_others (Cancelled op) world = world
+  met_by_others (Turned instance) world = world
+  met_by_others (TurnLost instance) world = map (λ m. (step behaviour m Lost).machine) world
+  met_by_others (Corrupted instance) world = world
+  met_by_others Lost world = world
+  met_by_others (Starved instance) world = world
+  met_by_others (Restarted took) world = world
+
+  -- the world after its machine of this index has made an event; nothing happens to a machine that there isn't
   abbrev pub moved_at : World A → ℕ → Event → Option (Machine A) → World A
   moved_at world app event None = world
-  moved_at world app event (Some m) = slice_set world app (step behaviour m event).machine
+  moved_at world app event (Some m) = slice_set (met_by_others event world) app (step behaviour m event).machine
 
   abbrev pub replied_at : Event → Option (Machine A) → List Reply
   replied_at event None = []
   replied_at event (Some m) = (step behaviour m event).replies
 
-  -- an event moves the machine of its application, and no other
+  -- an event moves the machine of its application, and no other but by a loss
   abbrev pub world_step : World A → AppEvent → World A
   world_step world e = moved_at world e.app e.event (slice_get world e.app)
 
@@ -55,10 +67,18 @@ module _ {A : Type 0} (behaviour : Behaviour A) where
   abbrev pub events_at : ℕ → List Event → List AppEvent
   events_at app events = map (λ event. record { app = app; event = event }) events
 
-  abbrev pub called_at : ℕ → ℕ → Call → Option (Machine A) → List AppEvent
-  called_at app client call None = []
-  called_at app client call (Some m) = events_at app (events_of_call behaviour m client call)
+  abbrev pub called_at : Marks → ℕ → ℕ → Call → Option (Machine A) → List AppEvent
+  called_at marks app client call None = []
+  called_at marks app client call (Some m) = events_at app (events_of_call behaviour marks m client call)
 
-  -- a call of an application, and turns of its instance until it is answered
-  abbrev pub run_events : World A → ℕ → ℕ → Call → List AppEvent
-  run_events world app client call = called_at app client call (slice_get world app)
+  -- a call of an application, and turns of its instance until it is answered, which go as these marks of the application say
+  abbrev pub run_events : Marks → World A → ℕ → ℕ → Call → List AppEvent
+  run_events marks world app client call = called_at marks app client call (slice_get world app)
+
+  abbrev pub turned_at : Marks → ℕ → ℕ → ℕ → Option (Machine A) → List AppEvent
+  turned_at marks app instance count None = []
+  turned_at marks app instance count (Some m) = events_at app (turns_of behaviour marks count m instance)
+
+  -- so many turns of an application's instance, which go as these marks of the application say
+  abbrev pub turn_events : Marks → World A → ℕ → ℕ → ℕ → List AppEvent
+  turn_events marks world app instance count = turned_at marks app instance count (slice_get world app)

@@ -20,6 +20,7 @@ pub enum Event {
 /// What is told of an event.
 #[derive(Debug, Drop)]
 pub struct Happened {
+    /// How the turn went; an event that is no turn is plain.
     pub kind: TurnKind,
     /// How many turns the application has made after it.
     pub turn: u64,
@@ -31,7 +32,8 @@ pub struct Happened {
     pub replies: Replies,
 }
 
-/// What is told of a call that was run until it was answered: the call, and then each turn that had a reply, in order.
+/// What is told of a call that was run until it was answered: the call, and then each turn that had a reply or wasn't
+/// plain, in order.
 #[derive(Debug, Drop)]
 pub struct RunReplies {
     items: Vec<Happened>,
@@ -48,7 +50,7 @@ impl Model for RunReplies {
 
 impl RunReplies {
     ghost use Rattle.std.specs.Prelude.{◌≡◌, ◌++◌, [], ◌∷◌, OnOk, OnErr};
-    ghost use Rattle.tee_core.specs.Happenings.{plain_turn, told_behind};
+    ghost use Rattle.tee_core.specs.Happenings.{told_behind, turn_happened};
 
     /// Nothing told yet. It takes no memory.
     pub fn new(alloc: Global) -> RunReplies
@@ -68,24 +70,25 @@ impl RunReplies {
         Ok(())
     }
 
-    /// Tells of a turn in which the store served, if it has a reply, and takes its replies. Want of memory changes nothing
-    /// that is told.
+    /// Tells of a turn, unless it is plain and has no reply, and takes its replies. Want of memory changes nothing that is
+    /// told.
     pub fn tell_turn(
         &mut self,
+        kind: TurnKind,
         turn: u64,
         instance: u8,
         replies: &mut Replies,
     ) -> Result<(), NoMemory>
         ensures ok { OnOk result (self.new
-            ≡ told_behind self.old (plain_turn turn instance replies.old) replies.old) }
+            ≡ told_behind self.old (turn_happened kind turn instance replies.old)) }
         ensures taken { OnOk result (replies.new ≡ []) }
         ensures err { OnErr result (self.new ≡ self.old) }
     {
-        if replies.is_empty() {
+        if matches!(kind, TurnKind::Plain) && replies.is_empty() {
             return Ok(());
         }
         self.push(Happened {
-            kind: TurnKind::Plain,
+            kind,
             turn,
             op: 0,
             instance,

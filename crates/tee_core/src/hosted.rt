@@ -3,15 +3,13 @@
 ghost use Rattle.std.specs.Prelude.{◌≡◌, false};
 ghost use Rattle.app_side.specs.Represents.{is_lost};
 
+use crate::sure_store::SureStore;
 use app_side::AppSide;
-use store_api::MapStore;
 
-/// A running application with its objects.
+/// A running application with its objects. Its storage is never lost.
 #[derive(Drop)]
 pub struct Hosted<A> {
     pub(crate) side: AppSide<A>,
-    pub(crate) store: MapStore,
-    /// A turn of it ended for want of memory, and no more is served.
-    pub(crate) spent: bool,
-    ghost loss: { spent ≡ false → is_lost side ≡ store.lost },
+    pub(crate) store: SureStore,
+    ghost served: { is_lost side ≡ false },
 }

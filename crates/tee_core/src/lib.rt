@@ -4,7 +4,9 @@
 mod events;
 mod happened;
 mod hosted;
+mod keeping;
 mod run;
+mod sure_store;
 mod tee;
 #[cfg(test)]
 mod tests;

@@ -1,3 +1,4 @@
+pub mod BoardLines
 pub mod Isolation
 pub mod Runs
 pub mod Statuses

@@ -4,7 +4,7 @@ ghost use Rattle.std.specs.Prelude.{◌≡◌, ◌<◌, IfOk, OnOk};
 ghost use Rattle.tee_core.specs.Represents.{app_count};
 
 use super::creator::Creator;
-use crate::{Event, Tee};
+use crate::{Event, Tee, TurnKind};
 use alone::{Call, Reply, Shown};
 use app_api::{Host, Param, Params, Properties, hosts_fit};
 use std::alloc::Global;
@@ -15,6 +15,9 @@ use uuid::Uuid;
 
 /// What an object of one application may hold at most: with the block of the object itself it costs the whole quota.
 const FULL: usize = 254 * 1024;
+
+/// How many turns no test makes.
+const FEW: u64 = 1_000_000;
 
 fn host(alloc: Global, name: &[u8], id: u128) -> Result<Host<Creator>, Fail> {
     Ok(Host {
@@ -82,6 +85,7 @@ fn run(
     requires { app < app_count tee.old }
     ensures { OnOk result (app_count tee.new ≡ app_count tee.old) }
 {
+    assert!(rt; tee.turns(app) < FEW);
     let told = tee.run(alloc, app, 0, call)?;
     let told = told.as_slice();
     assert_eq!(rt; told.len(), 2);
@@ -114,12 +118,30 @@ fn a_full_store_is_one_applications_alone(rt: HostRuntime) -> Result<(), Fail> {
     run(&rt, alloc, &mut tee, 1, call, (2, Code::SUCCESS, 4))
 }
 
+/// A first call, which opens a session: it waits for the first instance.
+fn call_open(rt: &impl Abort, tee: &mut Tee<Creator>, app: u8) -> Result<(), Fail>
+    requires { app < app_count tee.old }
+    ensures { OnOk result (app_count tee.new ≡ app_count tee.old) }
+{
+    assert!(rt; tee.turns(app) < FEW);
+    let call = open();
+    let called = tee.event(Event::Call {
+        app,
+        client: 0,
+        call,
+    })?;
+    assert_eq!(rt; (called.turn, called.op, called.instance), (0, 1, 1));
+    Ok(())
+}
+
 /// A turn: how many the application has made, and the number that is answered, 0 for none.
 fn turn(rt: &impl Abort, tee: &mut Tee<Creator>, app: u8, wanted: (u64, u64)) -> Result<(), Fail>
     requires { app < app_count tee.old }
     ensures { OnOk result (app_count tee.new ≡ app_count tee.old) }
 {
+    assert!(rt; tee.turns(app) < FEW);
     let happened = tee.event(Event::Turn { app, instance: 1 })?;
+    assert_eq!(rt; happened.kind, TurnKind::Plain);
     let mut op = 0;
     for reply in happened.replies.as_slice() {
         op = reply.op;
@@ -131,15 +153,8 @@ fn turn(rt: &impl Abort, tee: &mut Tee<Creator>, app: u8, wanted: (u64, u64)) ->
 #[test]
 fn events_move_their_own_application(rt: HostRuntime) -> Result<(), Fail> {
     let mut tee = two(&rt, rt.alloc())?;
-    for app in 0..2u8 {
-        let call = open();
-        let called = tee.event(Event::Call {
-            app,
-            client: 0,
-            call,
-        })?;
-        assert_eq!(rt; (called.turn, called.op, called.instance), (0, 1, 1));
-    }
+    call_open(&rt, &mut tee, 0)?;
+    call_open(&rt, &mut tee, 1)?;
     turn(&rt, &mut tee, 0, (1, 0))?;
     turn(&rt, &mut tee, 0, (2, 0))?;
     turn(&rt, &mut tee, 1, (1, 0))?;
@@ -147,5 +162,32 @@ fn events_move_their_own_application(rt: HostRuntime) -> Result<(), Fail> {
     turn(&rt, &mut tee, 0, (4, 0))?;
     turn(&rt, &mut tee, 0, (5, 1))?;
     turn(&rt, &mut tee, 0, (6, 0))?;
+    turn(&rt, &mut tee, 1, (2, 0))
+}
+
+/// A cancellation of the first operation: whether it is answered.
+fn cancel(rt: &impl Abort, tee: &mut Tee<Creator>, app: u8, answered: bool) -> Result<(), Fail>
+    requires { app < app_count tee.old }
+    ensures { OnOk result (app_count tee.new ≡ app_count tee.old) }
+{
+    assert!(rt; tee.turns(app) < FEW);
+    let happened = tee.event(Event::Cancel { app, op: 1 })?;
+    assert_eq!(rt; (happened.op, happened.instance), (1, 0));
+    assert_eq!(rt; happened.replies.is_empty(), !answered);
+    for reply in happened.replies.as_slice() {
+        assert_eq!(rt; shown(reply), (1, Code::CANCEL, 0));
+    }
+    Ok(())
+}
+
+#[test]
+fn an_operation_is_cancelled_until_it_begins(rt: HostRuntime) -> Result<(), Fail> {
+    let mut tee = two(&rt, rt.alloc())?;
+    call_open(&rt, &mut tee, 0)?;
+    call_open(&rt, &mut tee, 1)?;
+    turn(&rt, &mut tee, 1, (1, 0))?;
+    cancel(&rt, &mut tee, 0, true)?;
+    cancel(&rt, &mut tee, 0, false)?;
+    cancel(&rt, &mut tee, 1, false)?;
     turn(&rt, &mut tee, 1, (2, 0))
 }

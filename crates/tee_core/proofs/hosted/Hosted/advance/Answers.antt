@@ -1,20 +1,34 @@
-use Rattle.std.proofs.Common.{◌≡◌, refl, subst}
-use Rattle.alone.specs.declared.turn.TurnKind.{TurnKind}
-use Rattle.alone.specs.Step.{step}
-use Rattle.app_side.specs.Represents.{Represents, event_of}
+use Rattle.std.proofs.Common.{◌∙◌, ap, sym}
+use Rattle.store_api.specs.Stores.{empty_store}
+use Rattle.alone.specs.Machine.{Machine}
+use Rattle.app_side.specs.Represents.{machine_over}
+use Rattle.tee_core.proofs.Steps.{some_machine}
+use Rattle.tee_core.proofs.Sure.{sure_kind}
+use Rattle.tee_core.proofs.Turns.{kind_counts}
 use Rattle.tee_core.proofs.hosted.Hosted.advance.Goals as goal
 
-pub returns-in-Plain-clause-hosted : goal.returns-in-Plain-clause-hosted
-returns-in-Plain-clause-hosted g c = λ m is.
-    let behaviour = g.A.Application.behaviour in
-    let i = c.args.instance in
-    record {
-      side = subst (λ (k : TurnKind). Represents c.turn_into.new.self (step behaviour m (event_of k i)).machine) c.in-Plain.is (c.turn_into.ensures.turn.step tt m is.side is.store);
-      store = subst (λ (k : TurnKind). (step behaviour m (event_of k i)).machine.store ≡ c.turn_into.new.store.store) c.in-Plain.is (c.turn_into.ensures.turn.store tt m is.side is.store);
-      whole = refl;
-    }
+pub invariant_of-self : goal.invariant_of-self
+invariant_of-self g c = record { served = c.turn_into.ensures.turn.lost }
 
-pub returns-in-Plain-clause-replies : goal.returns-in-Plain-clause-replies
-returns-in-Plain-clause-replies g c = λ m is.
+pub returns-clause-hosted : goal.returns-clause-hosted
+returns-clause-hosted g c = λ m is. record {
+  side = c.turn_into.ensures.turn.step tt m is.side is.store;
+  store = c.turn_into.ensures.turn.store tt m is.side is.store;
+}
+
+pub returns-clause-replies : goal.returns-clause-replies
+returns-clause-replies g c = λ m is. c.turn_into.ensures.turn.told tt m is.side is.store
+
+pub returns-clause-stands : goal.returns-clause-stands
+returns-clause-stands g c = λ m is. c.turn_into.ensures.turn.stands tt m is.side is.store
+
+pub returns-clause-kind : goal.returns-clause-kind
+returns-clause-kind g c = sure_kind c.turn_into.result c.args.self.now.store c.turn_into.new.store c.turn_into.ensures.turn.status (c.turn_into.ensures.turn.honest tt).1
+
+pub returns-clause-turns : goal.returns-clause-turns
+returns-clause-turns g c =
     let behaviour = g.A.Application.behaviour in
-    subst (λ (k : TurnKind). c.turn_into.new.replies ≡ (step behaviour m (event_of k c.args.instance)).replies) c.in-Plain.is (c.turn_into.ensures.turn.told tt m is.side is.store)
+    let old = c.args.self.now in
+    let m : Machine g.row.A.Denot = machine_over old.side old.store.map.store empty_store in
+    let is = some_machine old in
+    sym (ap (λ (x : Machine g.row.A.Denot). x.turns) (c.turn_into.ensures.turn.step tt m is.side is.store).parts) ∙ kind_counts behaviour m c.turn_into.result c.args.instance
