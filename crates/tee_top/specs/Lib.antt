@@ -1,6 +1,6 @@
 pub mod BoardLines
 pub mod Isolation
+pub mod Logs
 pub mod Runs
 pub mod Statuses
-pub mod Told
 pub mod Transcript
