@@ -2,9 +2,11 @@
 use Rattle.std.specs.Prelude.{ℕ, ◌≢◌, ◌<◌, ◌≤◌, ◌⊎◌, List, All, AllPairs, codes, length, slice_index}
 use Rattle.app_api.specs.declared.host.Host.{Host}
 
+-- the character is a lower-case letter
 abbrev pub IsLowercase : ℕ → Type 0
 IsLowercase c = (97 ≤ c) × (c ≤ 122)
 
+-- the character is a digit
 abbrev pub IsDigit : ℕ → Type 0
 IsDigit c = (48 ≤ c) × (c ≤ 57)
 

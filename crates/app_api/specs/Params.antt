@@ -37,5 +37,6 @@ params_of ps = ps.p0 ∷ ps.p1 ∷ ps.p2 ∷ ps.p3 ∷ []
 abbrev pub first_oversized : Params → Option ℕ
 first_oversized ps = position is_oversized (params_of ps)
 
+-- no parameter in any of the four places
 abbrev pub no_params : Params
 no_params = record { p0 = Nothing; p1 = Nothing; p2 = Nothing; p3 = Nothing }

@@ -38,25 +38,33 @@ pub enum Given {
 /// One call of the internal API, or the end of the entry (TEE Internal Core API 1.3, chapters 4 to 6).
 #[derive(Debug, Drop)]
 pub enum Ask {
+    /// The entry returns, with its code and outputs: the end of each `TA_` function.
     Return {
         code: Code,
         outs: Outs,
     },
+    /// `TEE_Panic`.
     Panic {
         code: Code,
     },
+    /// `TEE_GetCancellationFlag`.
     CancelFlag,
+    /// `TEE_MaskCancellation`.
     CancelMask,
+    /// `TEE_UnmaskCancellation`.
     CancelUnmask,
+    /// `TEE_GenerateRandom`.
     Random {
         count: u32,
     },
 
+    /// `TEE_OpenPersistentObject`.
     ObjOpen {
         storage: u32,
         id: Bytes,
         flags: u32,
     },
+    /// `TEE_CreatePersistentObject`.
     ObjCreate {
         storage: u32,
         id: Bytes,
@@ -64,136 +72,171 @@ pub enum Ask {
         attr: u32,
         content: Bytes,
     },
+    /// `TEE_CloseObject` and `TEE_FreeTransientObject`.
     ObjClose {
         object: u32,
     },
+    /// `TEE_CloseAndDeletePersistentObject1`.
     ObjDelete {
         object: u32,
     },
+    /// `TEE_RenamePersistentObject`.
     ObjRename {
         object: u32,
         id: Bytes,
     },
+    /// `TEE_GetObjectInfo1`.
     ObjInfo {
         object: u32,
     },
+    /// `TEE_ReadObjectData`.
     ObjRead {
         object: u32,
         count: u32,
     },
+    /// `TEE_WriteObjectData`.
     ObjWrite {
         object: u32,
         bytes: Bytes,
     },
+    /// `TEE_TruncateObjectData`.
     ObjTruncate {
         object: u32,
         length: u32,
     },
+    /// `TEE_SeekObjectData`.
     ObjSeek {
         object: u32,
         offset: i64,
         whence: u32,
     },
+    /// `TEE_AllocatePersistentObjectEnumerator`.
     EnumNew,
+    /// `TEE_FreePersistentObjectEnumerator`.
     EnumFree {
         list: u32,
     },
+    /// `TEE_ResetPersistentObjectEnumerator`.
     EnumReset {
         list: u32,
     },
+    /// `TEE_StartPersistentObjectEnumerator`.
     EnumStart {
         list: u32,
         storage: u32,
     },
+    /// `TEE_GetNextPersistentObject`.
     EnumNext {
         list: u32,
     },
 
+    /// `TEE_AllocateTransientObject`.
     KeyNew {
         kind: u32,
         max_bits: u32,
     },
+    /// `TEE_PopulateTransientObject`.
     KeyPopulate {
         object: u32,
         secret: Bytes,
     },
+    /// `TEE_ResetTransientObject`.
     KeyReset {
         object: u32,
     },
+    /// `TEE_GetObjectBufferAttribute`.
     KeySecret {
         object: u32,
         room: u32,
     },
+    /// `TEE_CopyObjectAttributes1`.
     KeyCopy {
         to: u32,
         from: u32,
     },
+    /// `TEE_GenerateKey`.
     KeyGenerate {
         object: u32,
         bits: u32,
     },
+    /// `TEE_RestrictObjectUsage1`.
     KeyRestrict {
         object: u32,
         usage: u32,
     },
 
+    /// `TEE_AllocateOperation`.
     OpNew {
         alg: u32,
         mode: u32,
         max_bits: u32,
     },
+    /// `TEE_FreeOperation`.
     OpFree {
         op: u32,
     },
+    /// `TEE_GetOperationInfo`.
     OpInfo {
         op: u32,
     },
+    /// `TEE_ResetOperation`.
     OpReset {
         op: u32,
     },
+    /// `TEE_SetOperationKey`.
     OpSetKey {
         op: u32,
         object: u32,
     },
+    /// `TEE_CopyOperation`.
     OpCopy {
         to: u32,
         from: u32,
     },
+    /// `TEE_CipherInit`.
     CipherInit {
         op: u32,
         iv: Bytes,
     },
+    /// `TEE_CipherUpdate`.
     CipherUpdate {
         op: u32,
         bytes: Bytes,
         room: u32,
     },
+    /// `TEE_CipherDoFinal`.
     CipherFinal {
         op: u32,
         bytes: Bytes,
         room: u32,
     },
+    /// `TEE_MACInit`.
     MacInit {
         op: u32,
     },
+    /// `TEE_MACUpdate`.
     MacUpdate {
         op: u32,
         bytes: Bytes,
     },
+    /// `TEE_MACComputeFinal`.
     MacFinal {
         op: u32,
         bytes: Bytes,
         room: u32,
     },
+    /// `TEE_MACCompareFinal`.
     MacCompare {
         op: u32,
         bytes: Bytes,
         mac: Bytes,
     },
+    /// `TEE_DigestUpdate`.
     DigestUpdate {
         op: u32,
         bytes: Bytes,
     },
+    /// `TEE_DigestDoFinal`.
     DigestFinal {
         op: u32,
         bytes: Bytes,

@@ -93,6 +93,7 @@ pub record Raises (n : ℕ) (old new : Moment) : Type 0 where
   pub counter : new.counter ≡ n
   pub slack : new.slack ≡ 0
 
+-- a counter that is told is settled; where telling it failed, what a crash may leave of it stays
 abbrev pub CounterTold : Result ℕ BoardFailed → Moment → Moment → Type 0
 CounterTold (Ok n) old new = Settles n old new
 CounterTold (Err _) old new = (new.counter ≡ old.counter) × (new.slack ≡ old.slack)
@@ -102,10 +103,12 @@ abbrev pub CounterRaised : Result ℕ BoardFailed → Moment → Moment → Type
 CounterRaised (Ok n) old new = Raises n old new
 CounterRaised (Err _) old new = (new.counter ≡ old.counter) × (new.slack ≤ old.slack + 1)
 
+-- a call that tells the counter: the blocks stay, and the counter is settled or stays
 pub record Counted (result : Result ℕ BoardFailed) (old new : Moment) : Type 0 where
   pub blocks : SameBlocks old new
   pub counter : CounterTold result old new
 
+-- a call that advances the counter: the blocks stay, and the counter is one greater, or is in doubt after a failure
 pub record Advanced (result : Result ℕ BoardFailed) (old new : Moment) : Type 0 where
   pub blocks : SameBlocks old new
   pub counter : CounterRaised result old new

@@ -7,9 +7,11 @@ use Rattle.tee_base.specs.declared.limits.TheConstants.{BLOCK_BYTES}
 use Rattle.board.specs.Moment.{Moment}
 use Rattle.boards.specs.declared.disk.Disk.{Disk}
 
+-- what a read of each block gives
 abbrev pub reads_of : Disk → ℕ → List ℕ
 reads_of d k = slice_index_or d.seen.items k []
 
+-- what is on the disk in each block
 abbrev pub durable_of : Disk → ℕ → List ℕ
 durable_of d k = slice_index_or d.durable.items k []
 
@@ -17,9 +19,11 @@ durable_of d k = slice_index_or d.durable.items k []
 abbrev pub offered_of : Disk → ℕ → List ℕ
 offered_of d k = slice_index_or d.offered.items k []
 
+-- the blocks that are written and not yet durable
 abbrev pub pending_of : Disk → ℕ → Bool
 pending_of d k = slice_index_or d.pending.items k false
 
+-- the disk as a moment of the disk model
 abbrev pub state_of : Disk → Moment
 state_of d = record {
   reads = reads_of d;

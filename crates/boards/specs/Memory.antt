@@ -9,6 +9,7 @@ use Rattle.board.specs.Moment.{View, IsSettled}
 use Rattle.board.specs.Steps.{capped}
 use Rattle.boards.specs.Landing.{digits_of, landed_counter, landed_image}
 
+-- the board in memory: what contracts see of every board, and what decides which of its calls fail and what a crash leaves
 pub record Memory : Type 0 where
   pub view : View
   -- the last bytes that a write offered to each block
@@ -26,6 +27,7 @@ fate_of named Pass = if named then Interrupt else Pass
 fate_of named Interrupt = Interrupt
 fate_of named Refuse = Refuse
 
+-- the call's number is among those that are to fail
 abbrev pub is_named : ℕ → List ℕ → Bool
 is_named call failing = list_any (λ n. n == call) failing
 
@@ -51,6 +53,7 @@ pub record IsOrder (old new : Memory) : Type 0 where
 abbrev pub image_after : ℕ → Memory → ℕ → List ℕ
 image_after pick m = landed_image (digits_of m.unsettled pick) m.view.state.pending m.view.state.durable m.offered
 
+-- the counter that a loss of power leaves, by the number that picks one
 abbrev pub counter_after : ℕ → Memory → ℕ
 counter_after pick m = landed_counter m.unsettled pick m.view.state.counter
 

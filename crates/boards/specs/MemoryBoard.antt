@@ -5,6 +5,7 @@ use Rattle.boards.specs.Disk.{state_of, offered_of}
 use Rattle.boards.specs.Memory.{Memory}
 use Rattle.boards.specs.declared.memory.MemBoard.{MemBoard}
 
+-- what contracts of every board see of a board in memory
 abbrev pub view_of : MemBoard → View
 view_of b = record {
   size = vec_len b.disk.durable;
@@ -16,6 +17,7 @@ view_of b = record {
   past = map state_of b.past;
 }
 
+-- a board in memory as its own contracts see it
 abbrev pub memory_of : MemBoard → Memory
 memory_of b = record {
   view = view_of b;

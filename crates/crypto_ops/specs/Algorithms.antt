@@ -81,16 +81,19 @@ usage_bit (Cipher mode Decrypt) = 4
 usage_bit (Mac hash) = 8
 usage_bit (Digest hash) = 0
 
+-- it is a cipher
 abbrev pub is_cipher : Algorithm → Bool
 is_cipher (Cipher mode way) = true
 is_cipher (Mac hash) = false
 is_cipher (Digest hash) = false
 
+-- it is an authentication code
 abbrev pub is_mac : Algorithm → Bool
 is_mac (Cipher mode way) = false
 is_mac (Mac hash) = true
 is_mac (Digest hash) = false
 
+-- it is a digest
 abbrev pub is_digest : Algorithm → Bool
 is_digest (Cipher mode way) = false
 is_digest (Mac hash) = false

@@ -26,6 +26,7 @@ pub record CryptoOperation : Type 0 where
   pub key : Option (List ℕ)
   pub progress : Progress
 
+-- it is at work on a message
 abbrev pub is_active : Progress → Bool
 is_active Initial = false
 is_active (Active vector message) = true
@@ -45,6 +46,7 @@ abbrev pub key_bytes : Option (List ℕ) → List ℕ
 key_bytes None = []
 key_bytes (Some key) = key
 
+-- how many bits these bytes have
 abbrev pub bits_of : List ℕ → ℕ
 bits_of bytes = 8 * length bytes
 
@@ -82,6 +84,7 @@ allocated_of None max_bits = Err NotSupported
 allocated_of (Some algorithm) max_bits =
     if greatest_fits (key_kind algorithm) max_bits then Ok (fresh algorithm max_bits) else Err NotSupported
 
+-- a new operation of the algorithm and mode of these numbers, or the refusal (section 6.2.1)
 abbrev pub allocated : ℕ → ℕ → ℕ → Result CryptoOperation OpAnswer
 allocated number mode max_bits = allocated_of (algorithm_at number mode) max_bits
 
@@ -107,6 +110,7 @@ set_key_answer op kind usage secret =
     || nat_lt op.max_bits (bits_of secret) || (bit_and usage (usage_bit op.algorithm) == 0)
     then Err Misuse else Ok tt
 
+-- the operation with this key
 abbrev pub keyed : CryptoOperation → List ℕ → CryptoOperation
 keyed op secret = record op { key = Some secret }
 
@@ -114,6 +118,7 @@ keyed op secret = record op { key = Some secret }
 abbrev pub clear_key_answer : CryptoOperation → Result (Unit {0}) OpAnswer
 clear_key_answer op = if is_digest op.algorithm || is_active op.progress then Err Misuse else Ok tt
 
+-- the operation without a key
 abbrev pub unkeyed : CryptoOperation → CryptoOperation
 unkeyed op = record op { key = None }
 
@@ -131,6 +136,7 @@ copy_answer to from =
     if not (is_same_algorithm to.algorithm from.algorithm) || nat_lt to.max_bits (key_bits from.key)
     then Err Misuse else Ok tt
 
+-- the operation with key and state of another
 abbrev pub copied : CryptoOperation → CryptoOperation → CryptoOperation
 copied to from = record to { key = from.key; progress = from.progress }
 
@@ -162,6 +168,7 @@ cipher_init_answer op iv =
     if not (is_cipher op.algorithm) || is_none op.key || not (is_vector (mode_of op.algorithm) iv) then Err Misuse
     else Ok tt
 
+-- the cipher at the start of a message, with the vector that its mode begins with
 abbrev pub cipher_begun : CryptoOperation → List ℕ → CryptoOperation
 cipher_begun op iv = begun op (first_vector (mode_of op.algorithm) iv)
 
@@ -210,6 +217,7 @@ cipher_final_answer op bytes room =
 abbrev pub mac_init_answer : CryptoOperation → Result (Unit {0}) OpAnswer
 mac_init_answer op = if not (is_mac op.algorithm) || is_none op.key then Err Misuse else Ok tt
 
+-- the authentication code at the start of a message
 abbrev pub mac_begun : CryptoOperation → CryptoOperation
 mac_begun op = begun op []
 

@@ -20,6 +20,7 @@ pub record Table : Type 0 where
   pub handles : List Entry
   pub pending : Option Rename
 
+-- the table of an application that has no handles
 abbrev pub no_handles : Table
 no_handles = record { handles = []; pending = None }
 
@@ -30,6 +31,7 @@ abbrev pub share_of : Handle → Option Share
 share_of (Persistent id flags position) = Some (record { id = id; flags = flags })
 share_of Transient = None
 
+-- what a numbered handle shares
 abbrev pub entry_share : Entry → Option Share
 entry_share e = share_of e.handle
 
@@ -42,6 +44,7 @@ abbrev pub is_on : List ℕ → Handle → Bool
 is_on id (Persistent own flags position) = bytes_eq own id
 is_on id Transient = false
 
+-- the numbered handle is on the persistent object of this identifier
 abbrev pub entry_is_on : List ℕ → Entry → Bool
 entry_is_on id e = is_on id e.handle
 
@@ -55,21 +58,27 @@ may_open t id flags = not (conflict (shares_of t.handles) id flags)
 
 -- ---- handles by instance and number
 
+-- the handle is of this instance
 abbrev pub is_of : ℕ → Entry → Bool
 is_of instance e = e.instance == instance
 
+-- the handle is of this instance and has this number
 abbrev pub is_at : ℕ → ℕ → Entry → Bool
 is_at instance number e = (e.instance == instance) && (e.number == number)
 
+-- the instance has as many handles as it may have
 abbrev pub is_full : Table → ℕ → Bool
 is_full t instance = nat_le HANDLES (count_by (is_of instance) t.handles)
 
+-- the instance has a handle of this number
 abbrev pub is_there : Table → ℕ → ℕ → Bool
 is_there t instance number = list_any (is_at instance number) t.handles
 
+-- the instance's handle of this number, where it has one
 abbrev pub handle_at : Table → ℕ → ℕ → Option Handle
 handle_at t instance number = option_map (λ e. e.handle) (find (is_at instance number) t.handles)
 
+-- what the instance's handle of this number shares, where there is such a handle on a persistent object
 abbrev pub share_at : List Entry → ℕ → ℕ → Option Share
 share_at handles instance number = option_and_then entry_share (find (is_at instance number) handles)
 
@@ -88,6 +97,7 @@ free_number handles instance = lowest_free (map (λ e. e.number) (filter (is_of 
 
 -- ---- changes
 
+-- the table with one handle more, at the lowest free number of its instance
 abbrev pub added : Table → ℕ → Handle → Table
 added t instance handle = record t { handles = t.handles ++ record { instance = instance; number = free_number t.handles instance; handle = handle } ∷ [] }
 
@@ -96,13 +106,16 @@ abbrev pub change_first : {X : Type 0} → (X → Bool) → (X → X) → List X
 change_first test change [] = []
 change_first test change (x ∷ xs) = if test x then change x ∷ xs else x ∷ change_first test change xs
 
+-- the handle with this data position; a transient object has none
 abbrev pub sought : ℕ → Handle → Handle
 sought to (Persistent id flags position) = Persistent id flags to
 sought to Transient = Transient
 
+-- the numbered handle with this data position
 abbrev pub entry_sought : ℕ → Entry → Entry
 entry_sought to e = record e { handle = sought to e.handle }
 
+-- the table with this data position at the instance's handle of this number
 abbrev pub sought_at : Table → ℕ → ℕ → ℕ → Table
 sought_at t instance number to = record t { handles = change_first (is_at instance number) (entry_sought to) t.handles }
 
@@ -111,6 +124,7 @@ abbrev pub goes : Closing → Entry → Bool
 goes (One instance number) e = is_at instance number e
 goes (Every instance) e = is_of instance e
 
+-- the table without the instance's handle of this number
 abbrev pub closed : Table → ℕ → ℕ → Table
 closed t instance number = record t { handles = filter (λ e. not (is_at instance number e)) t.handles }
 
@@ -118,13 +132,16 @@ closed t instance number = record t { handles = filter (λ e. not (is_at instanc
 abbrev pub all_closed : Table → ℕ → Table
 all_closed t instance = record t { handles = filter (λ e. not (is_of instance e)) t.handles }
 
+-- the table with this rename pending
 abbrev pub rename_started : Table → ℕ → ℕ → List ℕ → Table
 rename_started t instance number to = record t { pending = Some (record { instance = instance; number = number; to = to }) }
 
+-- the handle on the same object under its new identifier
 abbrev pub moved : List ℕ → Handle → Handle
 moved to (Persistent id flags position) = Persistent to flags position
 moved to Transient = Transient
 
+-- the numbered handle on the same object under its new identifier
 abbrev pub entry_moved : List ℕ → Entry → Entry
 entry_moved to e = record e { handle = moved to e.handle }
 
@@ -132,10 +149,12 @@ entry_moved to e = record e { handle = moved to e.handle }
 abbrev pub renamed : Rename → List Entry → List Entry
 renamed r handles = change_first (is_at r.instance r.number) (entry_moved r.to) handles
 
+-- the handles after a pending rename took or didn't
 abbrev pub ended_by : Option Rename → List Entry → Bool → List Entry
 ended_by None handles took = handles
 ended_by (Some r) handles took = if took then renamed r handles else handles
 
+-- the table once the pending rename took or didn't: no rename is pending
 abbrev pub rename_ended : Table → Bool → Table
 rename_ended t took = record { handles = ended_by t.pending t.handles took; pending = None }
 

@@ -20,6 +20,7 @@ pub record Table : Type 0 where
   pub slots : List Slot
   pub sessions : List Session
 
+-- the table of an application that has no instance and no session yet
 abbrev pub no_instances : Properties → Table
 no_instances properties = record { properties = properties; slots = []; sessions = [] }
 
@@ -27,12 +28,15 @@ no_instances properties = record { properties = properties; slots = []; sessions
 abbrev pub is_known_as : ℕ → ℕ → Session → Bool
 is_known_as client label s = (s.client == client) && (s.label == label)
 
+-- the session that the client knows by this label, where there is one
 abbrev pub session_of : Table → ℕ → ℕ → Option Session
 session_of t client label = find (is_known_as client label) t.sessions
 
+-- what is told of a session
 abbrev pub facts_of : Session → SessionFacts
 facts_of s = record { session = s.number; instance = s.instance; state = s.state }
 
+-- the session is dead: its instance ended while it was open
 abbrev pub is_dead : SessionState → Bool
 is_dead Opening = false
 is_dead Open = false
@@ -43,6 +47,7 @@ is_dead Dead = true
 abbrev pub counts_for : ℕ → Session → Bool
 counts_for instance s = (s.instance == instance) && not (is_dead s.state)
 
+-- the instance has a session that counts
 abbrev pub has_session : Table → ℕ → Bool
 has_session t instance = list_any (counts_for instance) t.sessions
 
@@ -54,18 +59,23 @@ is_kept_alive properties = properties.single && properties.keep
 abbrev pub is_left : Table → ℕ → Bool
 is_left t instance = not (has_session t instance) && not (is_kept_alive t.properties)
 
+-- there is an instance of this number
 abbrev pub slot_exists : Table → ℕ → Bool
 slot_exists t instance = list_any (λ slot. slot.number == instance) t.slots
 
+-- the numbers of all sessions
 abbrev pub session_numbers : Table → List ℕ
 session_numbers t = map (λ s. s.number) t.sessions
 
+-- the numbers of all instances
 abbrev pub instance_numbers : Table → List ℕ
 instance_numbers t = map (λ slot. slot.number) t.slots
 
+-- the refusal of a label that is in use, from the client's own library
 abbrev pub bad_state : Refusal
 bad_state = record { code = BAD_STATE; origin = Api }
 
+-- the refusal where there is no room, from the runtime
 abbrev pub busy : Refusal
 busy = record { code = BUSY; origin = Tee }
 
@@ -98,18 +108,23 @@ entered t client label a = record {
   sessions = t.sessions ++ record { client = client; label = label; number = a.session; instance = a.instance; state = Opening } ∷ [];
 }
 
+-- the session, in this state if it has this number
 abbrev pub with_state : ℕ → SessionState → Session → Session
 with_state number state s = if s.number == number then record s { state = state } else s
 
+-- the table with this state at the session of this number
 abbrev pub state_set : Table → ℕ → SessionState → Table
 state_set t number state = record t { sessions = map (with_state number state) t.sessions }
 
+-- the table without the session of this number
 abbrev pub session_removed : Table → ℕ → Table
 session_removed t number = record t { sessions = filter (λ s. not (s.number == number)) t.sessions }
 
+-- the instance, with its end begun if it has this number
 abbrev pub with_ending : ℕ → Slot → Slot
 with_ending instance slot = if slot.number == instance then record slot { ending = true } else slot
 
+-- the table once the destroy entry of this instance has begun
 abbrev pub destroy_begun : Table → ℕ → Table
 destroy_begun t instance = record t { slots = map (with_ending instance) t.slots }
 
@@ -120,9 +135,11 @@ state_after_end Open = Some Dead
 state_after_end Closing = None
 state_after_end Dead = Some Dead
 
+-- the session is still there once the instance has ended
 abbrev pub stays_after_end : ℕ → Session → Bool
 stays_after_end instance s = not (s.instance == instance) || is_some (state_after_end s.state)
 
+-- the session, dead if it is of this instance
 abbrev pub killed : ℕ → Session → Session
 killed instance s = if s.instance == instance then record s { state = Dead } else s
 

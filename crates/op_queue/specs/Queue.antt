@@ -16,18 +16,22 @@ pub record Queue : Type 0 where
   pub next : ℕ
   pub operations : List Operation
 
+-- no operation yet, and the first call has the number 1
 abbrev pub empty_queue : Queue
 empty_queue = record { next = 1; operations = [] }
 
+-- the call closes a session
 abbrev pub is_close_call : Call → Bool
 is_close_call (Open label params) = false
 is_close_call (Invoke label command params) = false
 is_close_call (Close label) = true
 
+-- the operation, which waits or runs, closes a session
 abbrev pub is_close : Progress → Bool
 is_close (Waiting call) = is_close_call call
 is_close (Running close cancelled masked) = close
 
+-- the operation's entry has begun
 abbrev pub is_running : Progress → Bool
 is_running (Waiting call) = false
 is_running (Running close cancelled masked) = true
@@ -47,6 +51,7 @@ submitted q client instance session call = record {
 abbrev pub skipped : Queue → Queue
 skipped q = record q { next = q.next + 1 }
 
+-- the operation is of this instance and waits
 abbrev pub waits_for : ℕ → Operation → Bool
 waits_for instance o = (o.instance == instance) && not (is_running o.progress)
 
@@ -59,6 +64,7 @@ begun_of o (Running close cancelled masked) = None
 abbrev pub first_waiting : Queue → ℕ → Option Operation
 first_waiting q instance = find (waits_for instance) q.operations
 
+-- the call of the operation, where there is one that waits
 abbrev pub begun_at : Option Operation → Option Begun
 begun_at None = None
 begun_at (Some o) = begun_of o o.progress
@@ -67,13 +73,16 @@ begun_at (Some o) = begun_of o o.progress
 abbrev pub started : ℕ → Operation → Operation
 started op o = if o.number == op then record o { progress = Running (is_close o.progress) false true } else o
 
+-- the queue once this operation, if there is one, runs
 abbrev pub after_begin : Queue → Option Operation → Queue
 after_begin q None = q
 after_begin q (Some o) = record q { operations = map (started o.number) q.operations }
 
+-- the unanswered operation of this number, where there is one
 abbrev pub operation_of : Queue → ℕ → Option Operation
 operation_of q op = find (λ o. o.number == op) q.operations
 
+-- what is told of an operation
 abbrev pub facts_of : Operation → OpFacts
 facts_of o = record { client = o.client; instance = o.instance; session = o.session; running = is_running o.progress; close = is_close o.progress }
 
@@ -86,6 +95,7 @@ abbrev pub cancel_of : Option Operation → Cancelled
 cancel_of None = Nothing
 cancel_of (Some o) = if is_close o.progress then Nothing else if is_running o.progress then Flagged else Dropped
 
+-- the queue without the operation of this number
 abbrev pub without : Queue → ℕ → Queue
 without q op = record q { operations = filter (λ o. not (o.number == op)) q.operations }
 
@@ -97,29 +107,36 @@ cleared q instance = record q { operations = filter (λ o. not (o.instance == in
 abbrev pub forgotten : Queue → Queue
 forgotten q = record q { operations = [] }
 
+-- with cancellation requested, if the operation runs
 abbrev pub with_request : Progress → Progress
 with_request (Waiting call) = Waiting call
 with_request (Running close cancelled masked) = Running close true masked
 
+-- the operation, with cancellation requested if it has this number
 abbrev pub requested : ℕ → Operation → Operation
 requested op o = if o.number == op then record o { progress = with_request o.progress } else o
 
+-- the queue after a request for cancellation that did this to the operation of this number
 abbrev pub after_cancel : Queue → ℕ → Cancelled → Queue
 after_cancel q op Dropped = without q op
 after_cancel q op Flagged = record q { operations = map (requested op) q.operations }
 after_cancel q op Nothing = q
 
+-- cancellation is masked, as it is until the entry unmasks it
 abbrev pub mask_of : Progress → Bool
 mask_of (Waiting call) = true
 mask_of (Running close cancelled masked) = masked
 
+-- with cancellation masked or not, if the operation runs
 abbrev pub with_mask : Bool → Progress → Progress
 with_mask masked (Waiting call) = Waiting call
 with_mask masked (Running close cancelled before) = Running close cancelled masked
 
+-- the operation, masked or not if it has this number
 abbrev pub masked_as : ℕ → Bool → Operation → Operation
 masked_as op masked o = if o.number == op then record o { progress = with_mask masked o.progress } else o
 
+-- the queue with cancellation masked or not at the operation of this number
 abbrev pub mask_set : Queue → ℕ → Bool → Queue
 mask_set q op masked = record q { operations = map (masked_as op masked) q.operations }
 
@@ -128,10 +145,12 @@ abbrev pub reads_flag : Progress → Bool
 reads_flag (Waiting call) = false
 reads_flag (Running close cancelled masked) = cancelled && not masked
 
+-- what is said of an operation, or something else where there is none
 abbrev pub if_operation : {X : Type 0} → Option Operation → X → (Operation → X) → X
 if_operation None otherwise f = otherwise
 if_operation (Some o) otherwise f = f o
 
+-- whether the entry of this operation sees that a cancellation was requested
 abbrev pub flag_of : Queue → ℕ → Bool
 flag_of q op = if_operation (operation_of q op) false (λ o. reads_flag o.progress)
 

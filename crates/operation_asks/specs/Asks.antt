@@ -48,6 +48,7 @@ new_by os i (Err answer) = record { told = told_refusal answer; after = os }
 new_by os i (Ok operation) =
     if is_full os i then refused os BUSY else answered (added os i operation) (answers.Number (free_number os i))
 
+-- OpNew over the numbers that the application gives
 abbrev pub new_effect : List NumberedOperation → ℕ → ℕ → ℕ → ℕ → Effect (List NumberedOperation)
 new_effect os i alg mode max_bits = new_by os i (allocated alg mode max_bits)
 
@@ -56,6 +57,7 @@ abbrev pub free_by : List NumberedOperation → ℕ → ℕ → Option CryptoOpe
 free_by os i op None = panicked os
 free_by os i op (Some operation) = done (freed os i op)
 
+-- OpFree over the number that the application gives
 abbrev pub free_effect : List NumberedOperation → ℕ → ℕ → Effect (List NumberedOperation)
 free_effect os i op = if op == 0 then done os else free_by os i op (operation_at os i op)
 
@@ -66,6 +68,7 @@ abbrev pub on_found : List NumberedOperation → ℕ → ℕ → Ask → Option 
 on_found os i op ask None = panicked os
 on_found os i op ask (Some operation) = effect_in (λ o. changed i op o os) (one_effect operation ask)
 
+-- an ask on one operation, over the number that the application gives; without such an operation it is misuse
 abbrev pub on_operation : List NumberedOperation → ℕ → ℕ → Ask → Effect (List NumberedOperation)
 on_operation os i op ask = on_found os i op ask (operation_at os i op)
 
@@ -79,6 +82,7 @@ copy_between os i to (Some target) None = panicked os
 copy_between os i to (Some target) (Some source) =
     effect_in (λ o. changed i to o os) (done_by (copy_answer target source) target (copied target source))
 
+-- OpCopy over the numbers that the application gives
 abbrev pub copy_effect : List NumberedOperation → ℕ → ℕ → ℕ → Effect (List NumberedOperation)
 copy_effect os i to from = copy_between os i to (operation_at os i to) (operation_at os i from)
 
@@ -93,6 +97,7 @@ set_key_on os i op object (Some o) =
     else if object == 0 then Settled (done (changed i op (unkeyed o) os))
     else WantsKey op object
 
+-- OpSetKey before an object is looked at, over the number that the application gives
 abbrev pub set_key_course : List NumberedOperation → ℕ → ℕ → ℕ → Course (List NumberedOperation)
 set_key_course os i op object = set_key_on os i op object (operation_at os i op)
 
@@ -104,6 +109,7 @@ key_set os i op key None = panicked os
 key_set os i op key (Some o) =
     effect_in (λ o. changed i op o os) (done_by (set_key_answer o key.kind key.usage key.secret) o (keyed o key.secret))
 
+-- OpSetKey over what was found at the object: a key, no key, which is misuse, or a refusal
 abbrev pub set_key_effect : List NumberedOperation → ℕ → ℕ → KeyGiven → Effect (List NumberedOperation)
 set_key_effect os i op (Key key) = key_set os i op key (operation_at os i op)
 set_key_effect os i op NoKey = panicked os
@@ -119,9 +125,11 @@ random_effect stream count =
 
 -- ---- the family
 
+-- how an ask goes that touches operations alone
 abbrev pub of_operations : CryptoState → Effect (List NumberedOperation) → Course CryptoState
 of_operations s effect = Settled (effect_in (with_operations s) effect)
 
+-- how an ask goes that touches the random stream alone
 abbrev pub of_random : CryptoState → Effect ChaCha → Course CryptoState
 of_random s effect = Settled (effect_in (λ random. record s { random = random }) effect)
 

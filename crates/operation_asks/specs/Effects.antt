@@ -15,15 +15,19 @@ pub record Effect (S : Type 0) : Type 0 where
   pub told : Outcome
   pub after : S
 
+-- the application is answered this
 abbrev pub answered : {S : Type 0} → S → Answer → Effect S
 answered s answer = record { told = Answered answer; after = s }
 
+-- the application is answered Done
 abbrev pub done : {S : Type 0} → S → Effect S
 done s = answered s answers.Done
 
+-- the application is refused by this code
 abbrev pub refused : {S : Type 0} → S → Code → Effect S
 refused s code = answered s (answers.Refused code)
 
+-- the instance panics, and nothing is changed
 abbrev pub panicked : {S : Type 0} → S → Effect S
 panicked s = record { told = Panicked; after = s }
 
@@ -44,6 +48,7 @@ abbrev pub told_done : Result (Unit {0}) OpAnswer → Outcome
 told_done (Ok nothing) = Answered answers.Done
 told_done (Err answer) = told_refusal answer
 
+-- how the application is told of a call that gives a content
 abbrev pub told_content : Result (List ℕ) OpAnswer → Outcome
 told_content (Ok content) = Answered (answers.Content content)
 told_content (Err answer) = told_refusal answer
@@ -52,5 +57,6 @@ told_content (Err answer) = told_refusal answer
 abbrev pub done_by : Result (Unit {0}) OpAnswer → CryptoOperation → CryptoOperation → Effect CryptoOperation
 done_by answer old new = record { told = told_done answer; after = after_ok answer old new }
 
+-- the effect of a call that gives a content, and leaves the new operation where it answers Ok, else the old one
 abbrev pub content_by : Result (List ℕ) OpAnswer → CryptoOperation → CryptoOperation → Effect CryptoOperation
 content_by answer old new = record { told = told_content answer; after = after_ok answer old new }

@@ -30,6 +30,7 @@ pub record Represents (value : Crypto) (s : CryptoState) : Type 0 where
 abbrev pub has_number : ℕ → ℕ → Entry → Bool
 has_number instance number value = (value.instance == instance) && (value.number == number)
 
+-- the value is an operation of this instance
 abbrev pub has_instance : ℕ → Entry → Bool
 has_instance instance value = value.instance == instance
 

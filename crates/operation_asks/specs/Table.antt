@@ -10,9 +10,11 @@ pub record NumberedOperation : Type 0 where
   pub number : ℕ
   pub operation : CryptoOperation
 
+-- the operation is of this instance
 abbrev pub is_of : ℕ → NumberedOperation → Bool
 is_of instance o = o.instance == instance
 
+-- the operation is of this instance and has this number
 abbrev pub is_at : ℕ → ℕ → NumberedOperation → Bool
 is_at instance number o = (o.instance == instance) && (o.number == number)
 

@@ -10,18 +10,23 @@ use Rattle.share_rules.specs.declared.uses.Uses.{Uses}
 abbrev pub has : ℕ → Flags → Bool
 has bit flags = not (bit_and flags.0 bit == 0)
 
+-- the flag of reading
 abbrev pub access_read : ℕ
 access_read = 1
 
+-- the flag of writing
 abbrev pub access_write : ℕ
 access_write = 2
 
+-- the flag of renaming and deleting
 abbrev pub access_write_meta : ℕ
 access_write_meta = 4
 
+-- the flag of sharing the object with handles that read
 abbrev pub share_read : ℕ
 share_read = 16
 
+-- the flag of sharing the object with handles that write
 abbrev pub share_write : ℕ
 share_write = 32
 

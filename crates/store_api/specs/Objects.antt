@@ -14,6 +14,7 @@ use Rattle.store_api.specs.Limits.{IsWithinLimits}
 abbrev pub named : List (Vec ℕ × Object) → List (List ℕ × Object)
 named entries = map (λ e. (e.0.items, e.1)) entries
 
+-- the store that these entries are, in ascending order of their identifiers
 abbrev pub store_of : List (Vec ℕ × Object) → Store
 store_of entries = finite.from_sorted (named entries)
 

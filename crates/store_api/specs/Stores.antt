@@ -16,12 +16,15 @@ use Rattle.store_api.specs.declared.change.Change.TheVariants.{Put, Delete, Rena
 abbrev pub Store : Type 0
 Store = map.FinMap (slice_cmp nat_cmp) Object
 
+-- the store that has no objects
 abbrev pub empty_store : Store
 empty_store = map.empty
 
+-- the object of this identifier, where there is one
 abbrev pub object_at : Store → List ℕ → Option Object
 object_at store id = map.get store id
 
+-- there is an object of this identifier
 abbrev pub has : Store → List ℕ → Bool
 has store id = is_some (object_at store id)
 
@@ -33,6 +36,7 @@ blocks_for n = 1 + (n + 1023) / 1024
 abbrev pub cost : Store → ℕ
 cost store = sum_by (λ o. blocks_for (length o.content)) (map.values store)
 
+-- the cost in blocks that the objects of one application may reach
 abbrev pub quota : ℕ
 quota = 255
 
@@ -62,6 +66,7 @@ changed store (Write id at bytes) = with_object (object_at store id) (λ o.
 changed store (Truncate id n) = with_object (object_at store id) (λ o.
     Ok (map.insert store id (record o { content = resized n o.content })))
 
+-- the new store, unless it costs more than the quota allows
 abbrev pub within_quota : Result Store StoreAnswer → Result Store StoreAnswer
 within_quota (Ok store) = if nat_le (cost store) quota then Ok store else Err NoSpace
 within_quota (Err refusal) = Err refusal
@@ -70,6 +75,7 @@ within_quota (Err refusal) = Err refusal
 unfoldable pub change : Store → Change → Result Store StoreAnswer
 change store c = within_quota (changed store c)
 
+-- what is told of an object without reading its secret or its content
 abbrev pub facts_of : Object → Facts
 facts_of o = record { kind = o.kind; usage = o.usage; secret = length o.secret; length = length o.content }
 
@@ -90,6 +96,7 @@ abbrev pub is_after : Option (List ℕ) → List ℕ → Bool
 is_after None id = true
 is_after (Some last) id = is_lt (slice_cmp nat_cmp last id)
 
+-- what a listing tells of an entry, or NotFound where there is none
 abbrev pub listed : Option (List ℕ × Object) → Result Listed StoreAnswer
 listed None = Err NotFound
 listed (Some entry) = Ok (record { id = entry.0; facts = facts_of entry.1 })
@@ -105,5 +112,6 @@ coded_object =
     (λ o. ((o.kind, o.usage), (o.secret, o.content)))
     (λ p. record { kind = p.0.0; usage = p.0.1; secret = p.1.0; content = p.1.1 }) (λ _. refl)
 
+-- a store as numbers and lists
 abbrev pub coded_store : Coded Store
 coded_store = map.code (coded_list coded_ℕ) coded_object

@@ -8,6 +8,7 @@ pub record Plan : Type 0 where
   pub calls : ℕ
   pub faults : ℕ
 
+-- the plan before the first call: these calls are to fail
 abbrev pub opening_plan : List ℕ → Plan
 opening_plan failing = record { failing = failing; calls = 0; faults = 0 }
 
@@ -28,6 +29,7 @@ pub record Feed : Type 0 where
   pub left : List ℕ
   pub plan : Plan
 
+-- the source of these bytes before the first call, of which these calls are to fail
 abbrev pub opening_feed : List ℕ → List ℕ → Feed
 opening_feed bytes failing = record { left = bytes; plan = opening_plan failing }
 
@@ -36,5 +38,6 @@ pub record Tray : Type 0 where
   pub written : List ℕ
   pub plan : Plan
 
+-- the empty sink before the first call, of which these calls are to fail
 abbrev pub opening_tray : List ℕ → Tray
 opening_tray failing = record { written = []; plan = opening_plan failing }

@@ -1,15 +1,19 @@
 -- Kinds of keys, and the sizes in bits that fit them (TEE Internal Core API 1.3, sections 5.6.1 and 6.10.2).
 use Rattle.std.specs.Prelude.{ℕ, ◌%◌, ◌==◌, nat_le, Bool, false, ◌&&◌, ◌||◌, if◌then◌else◌}
 
+-- the kind of AES keys
 abbrev pub aes : ℕ
 aes = 0xA0000010
 
+-- the kind of HMAC SHA-256 keys
 abbrev pub hmac_sha256 : ℕ
 hmac_sha256 = 0xA0000004
 
+-- the kind of HMAC SHA-384 keys
 abbrev pub hmac_sha384 : ℕ
 hmac_sha384 = 0xA0000005
 
+-- the kind of HMAC SHA-512 keys
 abbrev pub hmac_sha512 : ℕ
 hmac_sha512 = 0xA0000006
 

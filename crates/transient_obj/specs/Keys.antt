@@ -16,9 +16,11 @@ pub record Key : Type 0 where
 abbrev pub every_usage : ℕ
 every_usage = 0xFFFFFFFF
 
+-- a key of this kind and greatest size, with all usages and without a secret
 abbrev pub new_key : ℕ → ℕ → Key
 new_key kind max_bits = record { kind = kind; max_bits = max_bits; usage = every_usage; secret = None }
 
+-- how many bits a secret has
 abbrev pub bits_of : List ℕ → ℕ
 bits_of secret = 8 * length secret
 
@@ -34,6 +36,7 @@ populate_answer key secret =
     else if not (size_fits key.kind (bits_of secret)) || nat_lt key.max_bits (bits_of secret) then Err BadParameters
     else Ok tt
 
+-- the key with this secret
 abbrev pub populated : Key → List ℕ → Key
 populated key secret = record key { secret = Some secret }
 
