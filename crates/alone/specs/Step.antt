@@ -275,7 +275,7 @@ answered m inst (Some op) code outputs = record {
   instance = 0;
 }
 
--- the code that says success
+-- the code is SUCCESS
 abbrev pub is_success : Code → Bool
 is_success code = code.0 == 0
 

@@ -176,7 +176,7 @@ abbrev pub read_by : Objects → ℕ → ℕ → ℕ → Result (List ℕ) Store
 read_by o i object position (Err answer) = refused o (code_of answer)
 read_by o i object position (Ok bytes) = Answered (moved_to o i object (position + length bytes)) (answers.Content bytes)
 
--- how ObjRead goes on this handle: it is misuse without ACCESS_READ, and no bytes are read without the store
+-- how ObjRead goes on this handle: it is misuse without ACCESS_READ, and a read of no bytes doesn't come to the store
 abbrev pub read_course : Objects → ℕ → ℕ → ℕ → Option Handle → Course Objects
 read_course o i object count None = Settled Panicked
 read_course o i object count (Some Transient) = Settled Panicked
@@ -190,7 +190,7 @@ abbrev pub written_by : Objects → ℕ → ℕ → ℕ → Result Store StoreAn
 written_by o i object to (Err answer) = refused o (code_of answer)
 written_by o i object to (Ok store) = done (moved_to (over_store o store) i object to)
 
--- how ObjWrite goes on this handle: it is misuse without ACCESS_WRITE, and no bytes are written without the store
+-- how ObjWrite goes on this handle: it is misuse without ACCESS_WRITE, and a write of no bytes doesn't come to the store
 abbrev pub write_course : Objects → ℕ → ℕ → List ℕ → Option Handle → Course Objects
 write_course o i object bytes None = Settled Panicked
 write_course o i object bytes (Some Transient) = Settled Panicked

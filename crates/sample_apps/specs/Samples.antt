@@ -80,7 +80,3 @@ rogue = host_of (codes "rogue") 6 one_instance (Rogue rogues.Idle)
 -- the six hosts, in the order of their indices
 abbrev pub hosts : List (Host Sample)
 hosts = vault ∷ twin ∷ keep ∷ tally ∷ cipher ∷ rogue ∷ []
-
--- vault and keep, each with one instance, which takes all sessions and stays
-abbrev pub one_instance_hosts : List (Host Sample)
-one_instance_hosts = record vault { properties = all_set } ∷ keep ∷ []
