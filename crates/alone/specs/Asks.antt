@@ -41,6 +41,7 @@ abbrev pub mask_for : Queue → Option ℕ → Bool → Bool
 mask_for q None own = own
 mask_for q (Some op) own = mask_at q op
 
+-- the queue with this mask for the entry's operation; as it was where the entry has none
 abbrev pub mask_set_for : Queue → Option ℕ → Bool → Queue
 mask_set_for q None masked = q
 mask_set_for q (Some op) masked = mask_set q op masked
@@ -56,6 +57,7 @@ mask_after masked asked.CancelMask = true
 mask_after masked asked.CancelUnmask = false
 mask_after masked ask = masked
 
+-- the entry that runs, with its own mask as it is after the ask
 abbrev pub mask_noted : Running → Ask → Running
 mask_noted r ask = record { op = r.op; stage = r.stage; waits = r.waits; asks = r.asks; masked = mask_after r.masked ask }
 

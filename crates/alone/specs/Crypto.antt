@@ -52,6 +52,7 @@ abbrev pub operated_by : {A : Type 0} → Machine A → ℕ → operations.Cours
 operated_by m i (operations.Settled effect) = Settled (effected m effect)
 operated_by m i (operations.WantsKey op object) = keyed_by m i op (key_course (objects_of m) i object)
 
+-- how such an ask of this instance goes
 abbrev pub operated : {A : Type 0} → Machine A → ℕ → Ask → Course (Machine A)
 operated m i ask = operated_by m i (operation_course m.crypto i ask)
 

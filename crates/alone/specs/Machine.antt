@@ -51,9 +51,11 @@ start host index seed store = record {
   crypto = no_operations seed index 0;
 }
 
+-- the instance has this number
 abbrev pub is_number : {A : Type 0} → ℕ → Instance A → Bool
 is_number i inst = inst.number == i
 
+-- the machine's instance of this number, if there is one
 abbrev pub instance_at : {A : Type 0} → Machine A → ℕ → Option (Instance A)
 instance_at m i = find (is_number i) m.instances
 
@@ -62,6 +64,7 @@ abbrev pub put_instance : {A : Type 0} → Instance A → List (Instance A) → 
 put_instance new [] = []
 put_instance new (old ∷ more) = if old.number == new.number then new ∷ more else old ∷ put_instance new more
 
+-- the machine with this instance in place of the one of the same number
 abbrev pub with_instance : {A : Type 0} → Machine A → Instance A → Machine A
 with_instance m inst = record m { instances = put_instance inst m.instances }
 
@@ -69,5 +72,6 @@ with_instance m inst = record m { instances = put_instance inst m.instances }
 abbrev pub objects_of : {A : Type 0} → Machine A → Objects
 objects_of m = record { store = m.store; held = m.held }
 
+-- the machine with another store, and with other things held in memory
 abbrev pub with_objects : {A : Type 0} → Machine A → Objects → Machine A
 with_objects m o = record m { store = o.store; held = o.held }

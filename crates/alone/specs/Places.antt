@@ -26,9 +26,11 @@ place_of (params.MemIn bytes) = places.Nothing
 place_of (params.MemOut room) = places.Mem room
 place_of (params.MemInOut bytes) = places.MemInOut bytes
 
+-- the output positions of a call's four parameters
 abbrev pub places_of : Params → Places
 places_of ps = record { p0 = place_of ps.p0; p1 = place_of ps.p1; p2 = place_of ps.p2; p3 = place_of ps.p3 }
 
+-- no parameter is an output
 abbrev pub no_places : Places
 no_places = record { p0 = places.Nothing; p1 = places.Nothing; p2 = places.Nothing; p3 = places.Nothing }
 
@@ -58,6 +60,7 @@ shown_at (places.ValueInOut a b) out = value_shown a b out
 shown_at (places.Mem room) out = memory_shown [] room out
 shown_at (places.MemInOut bytes) out = memory_shown bytes (length bytes) out
 
+-- what is shown of the four outputs
 abbrev pub delivered : Places → Outs → Outputs
 delivered ps os = record { p0 = shown_at ps.p0 os.p0; p1 = shown_at ps.p1 os.p1; p2 = shown_at ps.p2 os.p2; p3 = shown_at ps.p3 os.p3 }
 
@@ -68,6 +71,7 @@ is_small_size room (outs.Value a b) = false
 is_small_size room (outs.Mem bytes) = false
 is_small_size room (outs.Size n) = nat_le n room
 
+-- the output is misuse at this position: a size for which its memory has the room
 abbrev pub is_misused_at : Place → Out → Bool
 is_misused_at places.Nothing out = false
 is_misused_at places.Value out = false

@@ -55,14 +55,17 @@ pub record Stepped (A : Type 0) : Type 0 where
   -- the instance for which a call waits, 0 where none does
   pub instance : ℕ
 
+-- this machine, without a reply and without a call that waits
 abbrev pub quiet : {A : Type 0} → Machine A → Stepped A
 quiet m = record { machine = m; replies = []; instance = 0 }
 
+-- the reply to the operation of this number
 abbrev pub reply_of : ℕ → Code → Origin → Outputs → Reply
 reply_of op code origin outputs = record { op = op; code = code; origin = origin; outputs = outputs }
 
 -- ---- an instance ends
 
+-- the operation is one of this instance
 abbrev pub belongs_to : ℕ → Operation → Bool
 belongs_to i o = o.instance == i
 
@@ -110,12 +113,14 @@ queued m client instance session call = record {
 abbrev pub new_instance : {A : Type 0} → A → ℕ → Instance A
 new_instance template number = record { number = number; state = template; created = false; running = None }
 
+-- the machine with the session that an open was admitted to, and with its instance where that is new
 abbrev pub admitted : {A : Type 0} → Machine A → ℕ → ℕ → Admission → Machine A
 admitted m client label a = record m {
   table = entered m.table client label a;
   instances = if a.new_instance then m.instances ++ new_instance m.template a.instance ∷ [] else m.instances;
 }
 
+-- an open, by whether it is admitted: it waits, or is refused at once
 abbrev pub opened_as : {A : Type 0} → Machine A → ℕ → ℕ → Params → Result Admission Refusal → Stepped A
 opened_as m client label ps (Err refusal) = answered_at_once m refusal.code refusal.origin
 opened_as m client label ps (Ok a) = queued (admitted m client label a) client a.instance a.session (calls.Open label ps)
@@ -128,12 +133,14 @@ called_open m client label ps =
     else if is_full m.queue then answered_at_once m BUSY Tee
     else opened_as m client label ps (admission_of m.table client label)
 
+-- an invoke in a session of this state: it waits where the session is open and the queue has room, and else is refused at once
 abbrev pub invoked_at : {A : Type 0} → Machine A → ℕ → Call → SessionFacts → SessionState → Stepped A
 invoked_at m client call s Opening = answered_at_once m BAD_STATE Api
 invoked_at m client call s Closing = answered_at_once m BAD_STATE Api
 invoked_at m client call s Dead = answered_at_once m TARGET_DEAD Tee
 invoked_at m client call s Open = if is_full m.queue then answered_at_once m BUSY Tee else queued m client s.instance s.session call
 
+-- an invoke in the session that the label stands for, refused where it stands for none
 abbrev pub invoked_in : {A : Type 0} → Machine A → ℕ → Call → Option SessionFacts → Stepped A
 invoked_in m client call None = answered_at_once m BAD_STATE Api
 invoked_in m client call (Some s) = invoked_at m client call s s.state
@@ -144,6 +151,7 @@ called_invoke m client label command ps =
     if is_some (first_oversized ps) then answered_at_once m BAD_PARAMETERS Api
     else invoked_in m client (calls.Invoke label command ps) (known m client label)
 
+-- a close of a session of this state: an open one's waits, a dead one goes at once, and any other is refused at once
 abbrev pub closed_at : {A : Type 0} → Machine A → ℕ → ℕ → SessionFacts → SessionState → Stepped A
 closed_at m client label s Opening = answered_at_once m BAD_STATE Api
 closed_at m client label s Closing = answered_at_once m BAD_STATE Api
@@ -155,6 +163,7 @@ abbrev pub closed_in : {A : Type 0} → Machine A → ℕ → ℕ → Option Ses
 closed_in m client label None = answered_at_once m BAD_STATE Api
 closed_in m client label (Some s) = closed_at m client label s s.state
 
+-- what a client's call does
 unfoldable pub called : {A : Type 0} → Machine A → ℕ → Call → Stepped A
 called m client (calls.Open label ps) = called_open m client label ps
 called m client (calls.Invoke label command ps) = called_invoke m client label command ps
@@ -177,10 +186,12 @@ open_of_call session i (calls.Open label ps) = Some (session, i)
 open_of_call session i (calls.Invoke label command ps) = None
 open_of_call session i (calls.Close label) = None
 
+-- the same of an operation, by how far it is: none where it runs
 abbrev pub open_of_progress : ℕ → ℕ → Progress → Option (ℕ × ℕ)
 open_of_progress session i (progress.Waiting call) = open_of_call session i call
 open_of_progress session i (progress.Running close cancelled masked) = None
 
+-- session and instance of this operation, where it is an open that waits
 abbrev pub waiting_open : Option Operation → Option (ℕ × ℕ)
 waiting_open None = None
 waiting_open (Some o) = open_of_progress o.session o.instance o.progress
@@ -208,6 +219,7 @@ cancelled m op =
 abbrev pub entry_begun : Option ℕ → Stage → Entry → Running
 entry_begun op stage entry = record { op = op; stage = stage; waits = waits.Given (givens.Entry entry); asks = 0; masked = true }
 
+-- the start entry of this session begins
 abbrev pub start_begun : Option ℕ → ℕ → Params → Places → Running
 start_begun op session ps places = entry_begun op (stages.Start session places) (entries.Start session ps)
 
@@ -237,6 +249,7 @@ destroying m inst op reply =
 abbrev pub idle : {A : Type 0} → Machine A → Instance A → Machine A
 idle m inst = if inst.created && is_left m.table inst.number then destroying m inst None None else m
 
+-- the instance begins this operation, and is idle where there is none
 abbrev pub begun_with : {A : Type 0} → Machine A → Instance A → Option Begun → Machine A
 begun_with m inst None = idle m inst
 begun_with m inst (Some b) = with_instance m (record inst { running = Some (first_entry inst.created b.op b.session b.call) })
@@ -262,6 +275,7 @@ answered m inst (Some op) code outputs = record {
   instance = 0;
 }
 
+-- the code is SUCCESS
 abbrev pub is_success : Code → Bool
 is_success code = code.0 == 0
 
@@ -311,14 +325,17 @@ served Damaged m ask (ComesToStore kept plain) = came_of Damaged m.lost (ComesTo
 
 -- ---- a turn
 
+-- the entry goes on: the application is given what waits for it, or its ask is served
 abbrev pub went_on : {A : Type 0} → Behaviour A → Serving → Machine A → Instance A → Running → Waits → Stepped A
 went_on behaviour serving m inst r (waits.Given given) = quiet (thought behaviour m inst r given)
 went_on behaviour serving m inst r (waits.Ask ask) = acted m inst (mask_noted r ask) (served serving m ask (course_after m inst.number r ask))
 
+-- a turn of the instance: the entry that runs goes on, or the next operation begins where none runs
 abbrev pub turned_by : {A : Type 0} → Behaviour A → Serving → Machine A → Instance A → Option Running → Stepped A
 turned_by behaviour serving m inst None = quiet (begun m inst)
 turned_by behaviour serving m inst (Some r) = went_on behaviour serving m inst r r.waits
 
+-- a turn of an instance, where it is there; else nothing happens
 abbrev pub turned_at : {A : Type 0} → Behaviour A → Serving → Machine A → Option (Instance A) → Stepped A
 turned_at behaviour serving m None = quiet m
 turned_at behaviour serving m (Some inst) = turned_by behaviour serving m inst inst.running
@@ -351,10 +368,12 @@ abbrev pub of_waits : (Running → Ask → Bool) → Running → Waits → Bool
 of_waits test r (waits.Given given) = false
 of_waits test r (waits.Ask ask) = test r ask
 
+-- the same of the entry that runs, false where none does
 abbrev pub of_running : (Running → Ask → Bool) → Option Running → Bool
 of_running test None = false
 of_running test (Some r) = of_waits test r r.waits
 
+-- the same of an instance, false where it isn't there
 abbrev pub of_instance : {A : Type 0} → (Running → Ask → Bool) → Option (Instance A) → Bool
 of_instance test None = false
 of_instance test (Some inst) = of_running test inst.running

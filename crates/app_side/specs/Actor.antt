@@ -18,6 +18,7 @@ use Rattle.app_side.specs.Probe.{create_of, first_of, second_of}
 
 -- ---- its state after what is given
 
+-- how much an entry adds to the number
 abbrev pub added_at : Entry → ℕ
 added_at (entries.Invoke session command ps) = if command == 1 then first_of ps.p0 else 0
 added_at entry = 0
@@ -27,11 +28,13 @@ abbrev pub number_after : ℕ → Given → ℕ
 number_after number (givens.Entry entry) = min (number + added_at entry) (2 ^ 32 - 1)
 number_after number (givens.Answer answer) = number
 
+-- how many sessions there are after an entry
 abbrev pub sessions_at : ℕ → Entry → ℕ
 sessions_at sessions (entries.Start session ps) = min (sessions + 1) (2 ^ 32 - 1)
 sessions_at sessions (entries.Stop session) = sessions - 1
 sessions_at sessions entry = sessions
 
+-- how many sessions there are after what is given
 abbrev pub sessions_after : ℕ → Given → ℕ
 sessions_after sessions (givens.Entry entry) = sessions_at sessions entry
 sessions_after sessions (givens.Answer answer) = sessions
@@ -42,6 +45,7 @@ left_at (entries.Start session ps) = first_of ps.p0 - 1
 left_at (entries.Invoke session command ps) = first_of ps.p0 - 1
 left_at entry = 0
 
+-- how often it is to read the flag, after what is given
 abbrev pub left_after : ℕ → Bool → Given → ℕ
 left_after left unmasking (givens.Entry entry) = left_at entry
 left_after left true (givens.Answer answer) = left
@@ -54,12 +58,14 @@ unmasking_at unmasks (entries.Start session ps) = second_of ps.p0 == 1
 unmasking_at unmasks (entries.Invoke session command ps) = command == 4
 unmasking_at unmasks entry = false
 
+-- it waits for the answer to an unmasking, after what is given
 abbrev pub unmasking_after : Bool → Given → Bool
 unmasking_after unmasks (givens.Entry entry) = unmasking_at unmasks entry
 unmasking_after unmasks (givens.Answer answer) = false
 
 -- ---- what it asks for
 
+-- the return of this code, with this as the second output
 abbrev pub return_with : Code → Out → Ask
 return_with code out = asked.Return code (record no_outs { p1 = out })
 
@@ -96,6 +102,7 @@ ask_for_truth left true flag = asked.CancelFlag
 ask_for_truth left false true = return_with CANCEL outs.Nothing
 ask_for_truth left false false = if left == 0 then return_with SUCCESS outs.Nothing else asked.CancelFlag
 
+-- what it asks for after an answer
 abbrev pub ask_for : (left : ℕ) → (unmasking : Bool) → Answer → Ask
 ask_for left unmasking (answers.Truth flag) = ask_for_truth left unmasking flag
 ask_for left unmasking (answers.Number n) = return_with SUCCESS (outs.Value n 0)

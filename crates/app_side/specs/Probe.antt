@@ -19,30 +19,36 @@ use Rattle.app_api.specs.declared.ask.Given.TheVariants as givens
 abbrev pub returns : Code → Out → Ask
 returns code out = asked.Return code (record { p0 = outs.Nothing; p1 = outs.Nothing; p2 = outs.Nothing; p3 = out })
 
+-- the return of success, with this as the last output
 abbrev pub fine : Out → Ask
 fine out = returns (record { 0 = 0 }) out
 
--- the numbers of a value, and the bytes of a memory
+-- the first number of a value, 0 of any other parameter
 abbrev pub first_of : Param → ℕ
 first_of (params.ValueIn a b) = a
 first_of p = 0
 
+-- the second number of a value, 0 of any other parameter
 abbrev pub second_of : Param → ℕ
 second_of (params.ValueIn a b) = b
 second_of p = 0
 
+-- ObjOpen of the identifier that the parameter has; without one it returns
 abbrev pub open_of : ℕ → ℕ → Param → Ask
 open_of flags storage (params.MemIn id) = asked.ObjOpen storage id flags
 open_of flags storage p = fine outs.Nothing
 
+-- ObjCreate of the identifier and the content that the parameters have; without them it returns
 abbrev pub create_of : ℕ → ℕ → Param → Param → Ask
 create_of flags attr (params.MemIn id) (params.MemIn content) = asked.ObjCreate 1 id flags attr content
 create_of flags attr p q = fine outs.Nothing
 
+-- ObjWrite of the bytes that the parameter has; without them it returns
 abbrev pub write_of : ℕ → Param → Ask
 write_of object (params.MemIn bytes) = asked.ObjWrite object bytes
 write_of object p = fine outs.Nothing
 
+-- what a command asks for: 1 opens, 2 creates, 3 closes, 6 describes, 7 reads and 8 writes an object; any other returns
 abbrev pub ask_of : ℕ → Params → Ask
 ask_of command ps =
     if command == 1 then open_of (first_of ps.p0) (second_of ps.p0) ps.p1
@@ -53,16 +59,19 @@ ask_of command ps =
     else if command == 8 then write_of (first_of ps.p0) ps.p1
     else fine outs.Nothing
 
+-- the return of what was answered
 abbrev pub told_by : Answer → Ask
 told_by (answers.Refused code) = returns code outs.Nothing
 told_by (answers.Number n) = fine (outs.Value n 0)
 told_by (answers.Content bytes) = fine (outs.Mem bytes)
 told_by answer = fine outs.Nothing
 
+-- what an entry asks for: a command's ask, or a return
 abbrev pub at_entry : Entry → Ask
 at_entry (entries.Invoke session command ps) = ask_of command ps
 at_entry entry = fine outs.Nothing
 
+-- what is asked for
 unfoldable pub next_ask : Given → Ask
 next_ask (givens.Entry entry) = at_entry entry
 next_ask (givens.Answer answer) = told_by answer

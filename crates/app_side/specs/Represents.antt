@@ -57,10 +57,11 @@ pub record Represents {A : Type 0} (side : AppSide A) (m : Machine A) : Type 0 w
 abbrev pub is_lost : {A : Type 0} → AppSide A → Bool
 is_lost side = side.lost
 
--- how many turns were made, and how often the power was lost
+-- how many turns were made
 abbrev pub turns_of : {A : Type 0} → AppSide A → ℕ
 turns_of side = side.turns
 
+-- how often the power was lost
 abbrev pub boot_of : {A : Type 0} → AppSide A → ℕ
 boot_of side = side.boot
 

@@ -38,6 +38,7 @@ IsEntryOutcome (outcomes.Answered answer) stated before after = stated ≡ Settl
 IsEntryOutcome (outcomes.Returned ending) stated before after = (stated ≡ Settled (Returned ending.code ending.outs)) × (after ≡ before)
 IsEntryOutcome outcomes.Panicked stated before after = (stated ≡ Settled Panicked) × (after ≡ before)
 
+-- an ask about the entry itself was served: the turn is plain, the outcome the stated one, and at most the queue has changed
 pub record IsEntryServed {A : Type 0} (served : Served) (stated : Course (Machine A)) (before after : AppSide A) : Type 0 where
   pub kind : served.kind ≡ store_kinds.Plain
   pub outcome : IsEntryOutcome served.outcome stated before after

@@ -65,6 +65,7 @@ opened_by o i id flags (Err answer) = refused o (code_of answer)
 opened_by o i id flags (Ok facts) =
     if may_open (settled o.held.handles) id flags then numbered o i id flags else refused o ACCESS_CONFLICT
 
+-- how ObjOpen goes: too long an identifier and unknown flags are misuse
 abbrev pub open_course : Objects → ℕ → ℕ → List ℕ → ℕ → Course Objects
 open_course o i storage id flags =
     if is_long_identifier id || has_unknown_bits flags then Settled Panicked
@@ -81,15 +82,18 @@ abbrev pub created_by : Objects → ℕ → List ℕ → Flags → Result Store 
 created_by o i id flags (Err answer) = refused o (code_of answer)
 created_by o i id flags (Ok store) = numbered (over_store o store) i id flags
 
+-- ObjCreate with this key object: no handle is open on the identifier
 abbrev pub created : Objects → ℕ → List ℕ → ℕ → List ℕ → ObjectKey → Outcome Objects
 created o i id flags content key =
     if is_open (settled o.held.handles) id then refused o ACCESS_CONFLICT
     else created_by o i id (kept_flags flags) (change o.store (put_of id key content (overwrites flags)))
 
+-- ObjCreate with the key object that its attributes gave, or with the refusal that they gave
 abbrev pub created_with : Objects → ℕ → List ℕ → ℕ → List ℕ → Result ObjectKey StoreAnswer → Outcome Objects
 created_with o i id flags content (Err answer) = refused o (code_of answer)
 created_with o i id flags content (Ok key) = created o i id flags content key
 
+-- how ObjCreate goes with attributes of this source: too long a content and attributes without a key are misuse
 abbrev pub create_by : Objects → ℕ → ℕ → List ℕ → ℕ → List ℕ → KeySource → Course Objects
 create_by o i storage id flags content source =
     if is_long_identifier id || is_too_much (length content) || has_unknown_bits flags || is_no_key source then Settled Panicked
@@ -97,6 +101,7 @@ create_by o i storage id flags content source =
     else if is_full (settled o.held.handles) i then Settled (refused o BUSY)
     else ComesToStore o (created_with o i id flags content (key_given o.store source))
 
+-- how ObjCreate goes, with the attributes of the instance's object of this number
 abbrev pub create_course : Objects → ℕ → ℕ → List ℕ → ℕ → ℕ → List ℕ → Course Objects
 create_course o i storage id flags attr content = create_by o i storage id flags content (attr_source o.held i attr)
 
@@ -112,6 +117,7 @@ abbrev pub deleted_by : Objects → Result Store StoreAnswer → Outcome Objects
 deleted_by o (Err answer) = refused o (code_of answer)
 deleted_by o (Ok store) = done (over_store o store)
 
+-- how ObjDelete goes on this handle: it is misuse without ACCESS_WRITE_META
 abbrev pub delete_on : Objects → ℕ → ℕ → Option Handle → Course Objects
 delete_on o i object None = Settled Panicked
 delete_on o i object (Some Transient) = Settled Panicked
@@ -119,6 +125,7 @@ delete_on o i object (Some (Persistent id flags position)) =
     if not (has_bit access_write_meta flags) then Settled Panicked
     else let left = holding o (handle_closed o.held i object) in ComesToStore left (deleted_by left (change o.store (Delete id)))
 
+-- how ObjDelete goes: number 0 is no handle, and nothing is done
 abbrev pub delete_course : Objects → ℕ → ℕ → Course Objects
 delete_course o i object =
     if object == 0 then Settled (done o)
@@ -129,11 +136,13 @@ abbrev pub renamed_by : Objects → ℕ → ℕ → List ℕ → Result Store St
 renamed_by o i object to (Err answer) = refused o (code_of answer)
 renamed_by o i object to (Ok store) = done (record { store = store; held = handle_renamed o.held i object to })
 
+-- ObjRename: no handle is open on the new identifier
 abbrev pub renamed : Objects → ℕ → ℕ → List ℕ → List ℕ → Outcome Objects
 renamed o i object id to =
     if is_open (settled o.held.handles) to then refused o ACCESS_CONFLICT
     else renamed_by o i object to (change o.store (Rename id to))
 
+-- how ObjRename goes on this handle: it is misuse without ACCESS_WRITE_META
 abbrev pub rename_course : Objects → ℕ → ℕ → List ℕ → Option Handle → Course Objects
 rename_course o i object to None = Settled Panicked
 rename_course o i object to (Some Transient) = Settled Panicked
@@ -146,11 +155,13 @@ abbrev pub key_info : Objects → Option Key → Outcome Objects
 key_info o None = Panicked
 key_info o (Some key) = Answered o (answers.Object key.kind (secret_bits key.secret) key.max_bits key.usage 0 0 0)
 
+-- what ObjInfo answers of a persistent object
 abbrev pub told_of_object : Objects → Flags → ℕ → Result Facts StoreAnswer → Outcome Objects
 told_of_object o flags position (Err answer) = refused o (code_of answer)
 told_of_object o flags position (Ok facts) =
     Answered o (answers.Object facts.kind (8 * facts.secret) (8 * facts.secret) facts.usage facts.length position flags.0)
 
+-- how ObjInfo goes on this handle
 abbrev pub info_course : Objects → ℕ → ℕ → Option Handle → Course Objects
 info_course o i object None = Settled Panicked
 info_course o i object (Some Transient) = Settled (key_info o (key_at o.held i object))
@@ -165,6 +176,7 @@ abbrev pub read_by : Objects → ℕ → ℕ → ℕ → Result (List ℕ) Store
 read_by o i object position (Err answer) = refused o (code_of answer)
 read_by o i object position (Ok bytes) = Answered (moved_to o i object (position + length bytes)) (answers.Content bytes)
 
+-- how ObjRead goes on this handle: it is misuse without ACCESS_READ, and a read of no bytes doesn't come to the store
 abbrev pub read_course : Objects → ℕ → ℕ → ℕ → Option Handle → Course Objects
 read_course o i object count None = Settled Panicked
 read_course o i object count (Some Transient) = Settled Panicked
@@ -178,6 +190,7 @@ abbrev pub written_by : Objects → ℕ → ℕ → ℕ → Result Store StoreAn
 written_by o i object to (Err answer) = refused o (code_of answer)
 written_by o i object to (Ok store) = done (moved_to (over_store o store) i object to)
 
+-- how ObjWrite goes on this handle: it is misuse without ACCESS_WRITE, and a write of no bytes doesn't come to the store
 abbrev pub write_course : Objects → ℕ → ℕ → List ℕ → Option Handle → Course Objects
 write_course o i object bytes None = Settled Panicked
 write_course o i object bytes (Some Transient) = Settled Panicked
@@ -192,6 +205,7 @@ abbrev pub truncated_by : Objects → Result Store StoreAnswer → Outcome Objec
 truncated_by o (Err answer) = refused o (code_of answer)
 truncated_by o (Ok store) = done (over_store o store)
 
+-- how ObjTruncate goes on this handle: it is misuse without ACCESS_WRITE
 abbrev pub truncate_course : Objects → ℕ → ℕ → ℕ → Option Handle → Course Objects
 truncate_course o i object n None = Settled Panicked
 truncate_course o i object n (Some Transient) = Settled Panicked
@@ -204,17 +218,21 @@ abbrev pub landed : ℤ → Option ℕ
 landed (pos n) = if nat_lt POSITION n then None else Some n
 landed (negsuc n) = Some 0
 
+-- the handle stands where it landed; beyond the greatest position it stays, and the ask is refused
 abbrev pub landed_on : Objects → ℕ → ℕ → Option ℕ → Outcome Objects
 landed_on o i object None = refused o OVERFLOW
 landed_on o i object (Some to) = done (moved_to o i object to)
 
+-- the handle stands at this offset from a base
 abbrev pub moved_by : Objects → ℕ → ℕ → ℕ → ℤ → Outcome Objects
 moved_by o i object base offset = landed_on o i object (landed (pos base +ℤ offset))
 
+-- the handle stands at this offset from the object's end, where the store has the object
 abbrev pub moved_from_end : Objects → ℕ → ℕ → ℤ → Result Facts StoreAnswer → Outcome Objects
 moved_from_end o i object offset (Err answer) = refused o (code_of answer)
 moved_from_end o i object offset (Ok facts) = moved_by o i object facts.length offset
 
+-- how ObjSeek goes on this handle: another base than start, position and end is misuse
 abbrev pub seek_course : Objects → ℕ → ℕ → ℤ → ℕ → Option Handle → Course Objects
 seek_course o i object offset whence None = Settled Panicked
 seek_course o i object offset whence (Some Transient) = Settled Panicked

@@ -25,12 +25,15 @@ pub data Course (S : Type 0) : Type 0 where
   Settled : (outcome : Outcome S) → Course S
   ComesToStore : (refused : S) (plain : Outcome S) → Course S
 
+-- the ask is refused with this code, and leaves this
 abbrev pub refused : {S : Type 0} → S → Code → Outcome S
 refused s code = Answered s (answers.Refused code)
 
+-- the ask is done, and leaves this
 abbrev pub done : {S : Type 0} → S → Outcome S
 done s = Answered s answers.Done
 
+-- the ask comes to the store
 abbrev pub comes_to_store : {S : Type 0} → Course S → Bool
 comes_to_store (Settled outcome) = false
 comes_to_store (ComesToStore refused plain) = true
@@ -41,6 +44,7 @@ outcome_in put (Answered after answer) = Answered (put after) answer
 outcome_in put (Returned code outs) = Returned code outs
 outcome_in put Panicked = Panicked
 
+-- the same of how an ask goes
 abbrev pub course_in : {S W : Type 0} → (S → W) → Course S → Course W
 course_in put (Settled outcome) = Settled (outcome_in put outcome)
 course_in put (ComesToStore refused plain) = ComesToStore (put refused) (outcome_in put plain)
@@ -50,10 +54,11 @@ pub record Objects : Type 0 where
   pub store : Store
   pub held : Held
 
--- the same store with other things held, and the other way round
+-- the same store with other things held
 abbrev pub holding : Objects → Held → Objects
 holding o held = record o { held = held }
 
+-- the same things held over another store
 abbrev pub over_store : Objects → Store → Objects
 over_store o store = record o { store = store }
 
@@ -92,6 +97,7 @@ private_storage = 1
 abbrev pub has_unknown_bits : ℕ → Bool
 has_unknown_bits flags = not (bit_and flags 1079 == flags)
 
+-- OVERWRITE is set
 abbrev pub overwrites : ℕ → Bool
 overwrites flags = has_bit 1024 (record { 0 = flags })
 

@@ -15,9 +15,11 @@ abbrev pub HasIdentifier : Handle → Type 0
 HasIdentifier (Persistent id flags position) = IsIdentifier id
 HasIdentifier Transient = Unit {0}
 
+-- the same as a test
 abbrev pub has_identifier : Handle → Bool
 has_identifier (Persistent id flags position) = nat_le (length id) 64
 has_identifier Transient = true
 
+-- the same of an entry's handle
 abbrev pub entry_has_identifier : Entry → Bool
 entry_has_identifier e = has_identifier e.handle

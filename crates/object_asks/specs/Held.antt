@@ -15,10 +15,11 @@ use Rattle.object_asks.specs.declared.numbered.Walk.{Walk}
 use Rattle.transient_obj.specs.Keys.{Key}
 use Rattle.object_asks.specs.Handles.{entry_has_identifier, settled}
 
--- a key in memory with its instance and the number of its handle; an enumerator with its instance and its number
+-- a key in memory with its instance and the number of its handle
 abbrev pub NumberedKey : Type 0
 NumberedKey = DeclaredKey
 
+-- an enumerator with its instance and its number
 abbrev pub NumberedList : Type 0
 NumberedList = DeclaredList
 
@@ -28,27 +29,33 @@ pub record Held : Type 0 where
   pub keys : List NumberedKey
   pub lists : List NumberedList
 
+-- no handles, no keys and no enumerators
 abbrev pub nothing_held : Held
 nothing_held = record { handles = []; keys = []; lists = [] }
 
 -- ---- keys and enumerators by instance and number
 
+-- the key is the instance's
 abbrev pub is_key_of : ℕ → NumberedKey → Bool
 is_key_of instance k = k.instance == instance
 
+-- the key is the instance's, under this number
 abbrev pub is_key_at : ℕ → ℕ → NumberedKey → Bool
 is_key_at instance number k = (k.instance == instance) && (k.number == number)
 
+-- the enumerator is the instance's
 abbrev pub is_list_of : ℕ → NumberedList → Bool
 is_list_of instance l = l.instance == instance
 
+-- the enumerator is the instance's, under this number
 abbrev pub is_list_at : ℕ → ℕ → NumberedList → Bool
 is_list_at instance number l = (l.instance == instance) && (l.number == number)
 
--- what the instance has under this number
+-- the key that the instance has under this number, if there is one
 abbrev pub key_at : Held → ℕ → ℕ → Option Key
 key_at h instance number = option_map (λ k. k.key) (find (is_key_at instance number) h.keys)
 
+-- how far the instance's enumerator of this number has come, if there is one
 abbrev pub walk_at : Held → ℕ → ℕ → Option Walk
 walk_at h instance number = option_map (λ l. l.walk) (find (is_list_at instance number) h.lists)
 
@@ -63,6 +70,7 @@ transient_on h instance number None = None
 transient_on h instance number (Some (Persistent id flags position)) = None
 transient_on h instance number (Some Transient) = key_at h instance number
 
+-- the key that the instance's handle of this number is on, if there is such a handle and it is on a key
 abbrev pub transient_at : Held → ℕ → ℕ → Option Key
 transient_at h instance number = transient_on h instance number (handle_at (settled h.handles) instance number)
 
@@ -75,6 +83,7 @@ key_added h instance key = record h {
   keys = h.keys ++ record { instance = instance; number = free_number h.handles instance; key = key } ∷ [];
 }
 
+-- the same place with another key
 abbrev pub with_key : Key → NumberedKey → NumberedKey
 with_key key k = record k { key = key }
 
@@ -118,19 +127,23 @@ abbrev pub is_transient : Handle → Bool
 is_transient (Persistent id flags position) = false
 is_transient Transient = true
 
+-- the entry's handle is on an object in memory
 abbrev pub is_in_memory : Entry → Bool
 is_in_memory e = is_transient e.handle
 
--- instances and numbers: of the handles on objects in memory, and of the keys
+-- the place of a handle: its instance and its number
 abbrev pub place_of : Entry → ℕ × ℕ
 place_of e = (e.instance, e.number)
 
+-- the instance and the number of a key
 abbrev pub key_place : NumberedKey → ℕ × ℕ
 key_place k = (k.instance, k.number)
 
+-- the places of the handles on objects in memory, in order
 abbrev pub memory_places : List Entry → List (ℕ × ℕ)
 memory_places handles = map place_of (filter is_in_memory handles)
 
+-- the places of the keys, in order
 abbrev pub key_places : List NumberedKey → List (ℕ × ℕ)
 key_places keys = map key_place keys
 
@@ -139,6 +152,7 @@ abbrev pub writes_meta_on : List ℕ → Handle → Bool
 writes_meta_on id (Persistent own flags position) = bytes_eq own id && has_bit access_write_meta flags
 writes_meta_on id Transient = false
 
+-- the same of a handle that may be there
 abbrev pub is_meta_writer : List ℕ → Option Handle → Bool
 is_meta_writer id None = false
 is_meta_writer id (Some handle) = writes_meta_on id handle
@@ -147,10 +161,11 @@ is_meta_writer id (Some handle) = writes_meta_on id handle
 abbrev pub may_rename : Held → ℕ → ℕ → List ℕ → Bool
 may_rename h instance number id = is_meta_writer id (handle_at (settled h.handles) instance number)
 
--- how many handles are on the object, and how many of them have ACCESS_WRITE_META
+-- how many handles are on the object
 abbrev pub ones_on : List ℕ → List Entry → ℕ
 ones_on id handles = count_by (entry_is_on id) handles
 
+-- how many handles on the object have ACCESS_WRITE_META
 abbrev pub meta_writers : List ℕ → List Entry → ℕ
 meta_writers id handles = count_by (λ e. writes_meta_on id e.handle) handles
 

@@ -35,9 +35,11 @@ key_course_of store NoKey = KeySettled finds.NoKey
 key_course_of store (InMemory key) = KeySettled (finds.Key key)
 key_course_of store (InStore id) = KeyComesToStore (found_by (stored_key store id))
 
+-- how the look goes for the key of the instance's object of this number
 abbrev pub key_course : Objects → ℕ → ℕ → KeyCourse
 key_course o i object = key_course_of o.store (key_source o.held i object)
 
+-- the look comes to the store
 abbrev pub key_comes_to_store : KeyCourse → Bool
 key_comes_to_store (KeySettled found) = false
 key_comes_to_store (KeyComesToStore plain) = true
@@ -49,6 +51,7 @@ key_came_of Serves lost (KeyComesToStore plain) = if lost then finds.Refused STO
 key_came_of Fails lost (KeyComesToStore plain) = finds.Refused STORAGE_NOT_AVAILABLE
 key_came_of Damaged lost (KeyComesToStore plain) = finds.Refused CORRUPT_OBJECT
 
+-- a look in which the store had no part, or served, found this
 abbrev pub key_plainly : KeyFound → KeyServed
 key_plainly found = record { kind = Plain; found = found }
 

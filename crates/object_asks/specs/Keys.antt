@@ -27,6 +27,7 @@ new_key_by h i (Ok key) =
     if is_full (settled h.handles) i then refused h BUSY
     else Answered (key_added h i key) (answers.Number (free_number h.handles i))
 
+-- KeyNew of this kind and this greatest size
 abbrev pub new_key : Held → ℕ → ℕ → ℕ → Outcome Held
 new_key h i kind max_bits = new_key_by h i (allocated kind max_bits)
 
@@ -36,6 +37,7 @@ populated_by h i object after (Ok nothing) = done (key_set h i object after)
 populated_by h i object after (Err refusals.BadParameters) = refused h BAD_PARAMETERS
 populated_by h i object after (Err answer) = Panicked
 
+-- KeyPopulate of the key that is there; it is misuse where there is none
 abbrev pub populate_on : Held → ℕ → ℕ → List ℕ → Option Key → Outcome Held
 populate_on h i object secret None = Panicked
 populate_on h i object secret (Some key) = populated_by h i object (populated key secret) (populate_answer key secret)
@@ -49,6 +51,7 @@ reset_key h i object (Some key) = done (key_set h i object (without_secret key))
 abbrev pub is_extractable : ℕ → Bool
 is_extractable usage = not (bit_and usage USAGE_EXTRACTABLE == 0)
 
+-- what KeySecret answers where there is room for so many bytes
 abbrev pub secret_told : {S : Type 0} → S → ℕ → ObjectKey → Outcome S
 secret_told s room key =
     if key.kind == KIND_DATA then refused s ITEM_NOT_FOUND
@@ -56,15 +59,18 @@ secret_told s room key =
     else if nat_lt room (length key.secret) then Answered s (answers.Short (length key.secret))
     else Answered s (answers.Content key.secret)
 
+-- what KeySecret answers by what the store's answer gives
 abbrev pub secret_by : Objects → ℕ → Result ObjectKey StoreAnswer → Outcome Objects
 secret_by o room (Err answer) = refused o (code_of answer)
 secret_by o room (Ok key) = secret_told o room key
 
+-- how KeySecret goes on an object of this source
 abbrev pub secret_from : Objects → ℕ → KeySource → Course Objects
 secret_from o room NoKey = Settled Panicked
 secret_from o room (InMemory key) = Settled (secret_told o room key)
 secret_from o room (InStore id) = ComesToStore o (secret_by o room (stored_key o.store id))
 
+-- how KeySecret goes: more room than an ask may want is misuse
 abbrev pub secret_course : Objects → ℕ → ℕ → ℕ → Course Objects
 secret_course o i object room =
     if is_too_much room then Settled Panicked else secret_from o room (key_source o.held i object)
@@ -74,22 +80,27 @@ abbrev pub copied_by : Held → ℕ → ℕ → Key → Result (Unit {0}) KeyAns
 copied_by h i to after (Ok nothing) = done (key_set h i to after)
 copied_by h i to after (Err answer) = Panicked
 
+-- KeyCopy: the key has the other's usage and secret
 abbrev pub copied_from : Held → ℕ → ℕ → Key → ObjectKey → Outcome Held
 copied_from h i to key from = copied_by h i to (copied key from.usage from.secret) (copy_answer key from.kind from.secret)
 
+-- KeyCopy by what the store's answer gives
 abbrev pub copied_in : Objects → ℕ → ℕ → Key → Result ObjectKey StoreAnswer → Outcome Objects
 copied_in o i to key (Err answer) = refused o (code_of answer)
 copied_in o i to key (Ok from) = outcome_in (holding o) (copied_from o.held i to key from)
 
+-- how KeyCopy goes from an object of this source
 abbrev pub copy_from : Objects → ℕ → ℕ → Key → KeySource → Course Objects
 copy_from o i to key NoKey = Settled Panicked
 copy_from o i to key (InMemory from) = without_store o (copied_from o.held i to key from)
 copy_from o i to key (InStore id) = ComesToStore o (copied_in o i to key (stored_key o.store id))
 
+-- how KeyCopy goes to the key that is there: it is misuse where there is none, or an initialised one
 abbrev pub copy_to : Objects → ℕ → ℕ → ℕ → Option Key → Course Objects
 copy_to o i to from None = Settled Panicked
 copy_to o i to from (Some key) = if is_some key.secret then Settled Panicked else copy_from o i to key (key_source o.held i from)
 
+-- how KeyCopy goes between the instance's objects of these numbers
 abbrev pub copy_course : Objects → ℕ → ℕ → ℕ → Course Objects
 copy_course o i to from = copy_to o i to from (transient_at o.held i to)
 
@@ -98,6 +109,7 @@ abbrev pub restrict_key : Held → ℕ → ℕ → ℕ → Option Key → Outcom
 restrict_key h i object usage None = Panicked
 restrict_key h i object usage (Some key) = done (key_set h i object (restricted key usage))
 
+-- KeyRestrict on this handle: one on a persistent object is refused
 abbrev pub restrict_on : Held → ℕ → ℕ → ℕ → Option Handle → Outcome Held
 restrict_on h i object usage None = Panicked
 restrict_on h i object usage (Some (Persistent id flags position)) = refused h NOT_SUPPORTED
@@ -107,17 +119,21 @@ restrict_on h i object usage (Some Transient) = restrict_key h i object usage (t
 abbrev pub fits_key : Key → ℕ → Bool
 fits_key key bits = not (is_some key.secret) && size_fits key.kind bits && nat_le bits key.max_bits
 
+-- how many random bytes the key that is there is made of, if it is made
 abbrev pub wanted_by : ℕ → Option Key → Option ℕ
 wanted_by bits None = None
 wanted_by bits (Some key) = if fits_key key bits then Some (bits / 8) else None
 
+-- how many random bytes the instance's key of this number is made of, if it is made
 abbrev pub random_wanted : Held → ℕ → ℕ → ℕ → Option ℕ
 random_wanted h i object bits = wanted_by bits (transient_at h i object)
 
+-- what is held when the key that is there has this secret
 abbrev pub generated_on : Held → ℕ → ℕ → List ℕ → Option Key → Held
 generated_on h i object secret None = h
 generated_on h i object secret (Some key) = key_set h i object (populated key secret)
 
+-- what is held when the instance's key of this number has this secret
 abbrev pub generated : Held → ℕ → ℕ → List ℕ → Held
 generated h i object secret = generated_on h i object secret (transient_at h i object)
 
@@ -126,5 +142,6 @@ abbrev pub generated_of : Objects → ℕ → ℕ → (ℕ → List ℕ) → Opt
 generated_of o i object random None = Settled Panicked
 generated_of o i object random (Some n) = Settled (done (holding o (generated o.held i object (random n))))
 
+-- how KeyGenerate goes
 abbrev pub generate_course : Objects → ℕ → ℕ → ℕ → (ℕ → List ℕ) → Course Objects
 generate_course o i object bits random = generated_of o i object random (random_wanted o.held i object bits)

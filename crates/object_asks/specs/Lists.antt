@@ -20,15 +20,19 @@ use Rattle.object_asks.specs.Held.{Held, NumberedList, is_list_at, is_list_of, w
 abbrev pub free_list : List NumberedList → ℕ → ℕ
 free_list lists instance = lowest_free (map (λ l. l.number) (filter (is_list_of instance) lists))
 
+-- the instance has as many enumerators as it may have
 abbrev pub has_all_lists : List NumberedList → ℕ → Bool
 has_all_lists lists instance = nat_le ENUMERATORS (count_by (is_list_of instance) lists)
 
+-- a new enumerator, not started, under the lowest free number of the instance
 abbrev pub list_added : Held → ℕ → Held
 list_added h instance = record h { lists = h.lists ++ record { instance = instance; number = free_list h.lists instance; walk = Idle } ∷ [] }
 
+-- the instance's enumerator of this number goes
 abbrev pub list_freed : Held → ℕ → ℕ → Held
 list_freed h instance number = record h { lists = filter (λ l. not (is_list_at instance number l)) h.lists }
 
+-- the same place, where the enumerator has come so far
 abbrev pub with_walk : Walk → NumberedList → NumberedList
 with_walk walk l = record l { walk = walk }
 
@@ -49,6 +53,7 @@ abbrev pub free_on : Held → ℕ → ℕ → Option Walk → Outcome Held
 free_on h i list None = Panicked
 free_on h i list (Some walk) = done (list_freed h i list)
 
+-- EnumFree of a number: 0 is no enumerator, and nothing is done
 abbrev pub free_of : Held → ℕ → ℕ → Outcome Held
 free_of h i list = if list == 0 then done h else free_on h i list (walk_at h i list)
 
@@ -62,6 +67,7 @@ abbrev pub started_by : Objects → ℕ → ℕ → Result Listed StoreAnswer �
 started_by o i list (Err answer) = refused o (code_of answer)
 started_by o i list (Ok listed) = done (holding o (walked o.held i list (Started None)))
 
+-- how EnumStart goes: it is misuse where there is no such enumerator
 abbrev pub start_course : Objects → ℕ → ℕ → ℕ → Option Walk → Course Objects
 start_course o i list storage None = Settled Panicked
 start_course o i list storage (Some walk) =
@@ -75,6 +81,7 @@ given_next o i list (Ok listed) =
     Answered (holding o (walked o.held i list (Started (Some listed.id))))
     (answers.Found listed.id listed.facts.kind listed.facts.usage listed.facts.length)
 
+-- how EnumNext goes: one that isn't started finds nothing
 abbrev pub next_course : Objects → ℕ → ℕ → Option Walk → Course Objects
 next_course o i list None = Settled Panicked
 next_course o i list (Some Idle) = Settled (refused o ITEM_NOT_FOUND)

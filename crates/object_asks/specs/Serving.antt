@@ -29,6 +29,7 @@ kind_of changes (Corrupt tags) = Corrupted
 kind_of changes (Garbled leaf) = Corrupted
 kind_of changes answer = Plain
 
+-- how a turn went in which a store answered this
 abbrev pub kind_by : {A : Type 0} → Bool → Result A StoreAnswer → TurnKind
 kind_by changes (Ok done) = Plain
 kind_by changes (Err answer) = kind_of changes answer
@@ -43,6 +44,7 @@ told_of changes (Ok outcome) = Some (plainly outcome)
 told_of changes (Err NoMemory) = None
 told_of changes (Err answer) = Some (record { kind = kind_of changes answer; outcome = outcomes.Answered (Refused (code_of answer)) })
 
+-- what asks about objects touch: what is held, and the store that a keeper has
 abbrev pub objects_in : Held → Contents → Objects
 objects_in held contents = record { store = contents.store; held = held }
 
@@ -92,6 +94,7 @@ ShowsDamage Plain damage = Unit {0}
 ShowsDamage (Lost changes) damage = Unit {0}
 ShowsDamage Corrupted damage = (answer : StoreAnswer) × damage answer
 
+-- a turn of this kind met no damage
 abbrev pub IsUndamaged : TurnKind → Type 0
 IsUndamaged kind = ShowsDamage kind (λ answer. ⊥)
 

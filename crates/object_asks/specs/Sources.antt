@@ -21,6 +21,7 @@ abbrev pub with_secret : Key → Option (List ℕ) → KeySource
 with_secret key None = NoKey
 with_secret key (Some secret) = InMemory (record { kind = key.kind; usage = key.usage; secret = secret })
 
+-- where a key that may be there gives them from
 abbrev pub memory_source : Option Key → KeySource
 memory_source None = NoKey
 memory_source (Some key) = with_secret key key.secret
@@ -31,6 +32,7 @@ source_on h i object None = NoKey
 source_on h i object (Some Transient) = memory_source (key_at h i object)
 source_on h i object (Some (Persistent id flags position)) = InStore id
 
+-- where the instance's object of this number gives them from
 abbrev pub key_source : Held → ℕ → ℕ → KeySource
 key_source h i object = source_on h i object (handle_at (settled h.handles) i object)
 
@@ -40,6 +42,7 @@ attr_source h i attr =
     if attr == 0 then InMemory (record { kind = KIND_DATA; usage = every_usage; secret = [] })
     else key_source h i attr
 
+-- nothing gives them
 abbrev pub is_no_key : KeySource → Bool
 is_no_key NoKey = true
 is_no_key (InMemory key) = false
@@ -55,6 +58,7 @@ HasSource (InStore id) = IsIdentifier id
 abbrev pub stored_key : Store → List ℕ → Result ObjectKey StoreAnswer
 stored_key store id = with_object (object_at store id) (λ o. Ok (record { kind = o.kind; usage = o.usage; secret = o.secret }))
 
+-- what a source gives, or why it gives nothing
 abbrev pub key_given : Store → KeySource → Result ObjectKey StoreAnswer
 key_given store NoKey = Err NotFound
 key_given store (InMemory key) = Ok key

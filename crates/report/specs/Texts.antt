@@ -22,12 +22,14 @@ code_text code = encode_lower (to_be_bytes w32 code.0)
 abbrev pub parameter_text : ℕ → List ℕ
 parameter_text index = codes " p" ++ decimal index ++ codes "="
 
+-- an output as it is shown; nothing where none is
 abbrev pub shown_text : ℕ → Shown → List ℕ
 shown_text index Nothing = []
 shown_text index (Value a b) = parameter_text index ++ decimal a ++ codes "," ++ decimal b
 shown_text index (Mem size bytes) = parameter_text index ++ decimal size ++ codes ":" ++ encode_lower bytes
 shown_text index (Size size) = parameter_text index ++ decimal size ++ codes "!"
 
+-- the four outputs of a reply, in order
 abbrev pub outputs_text : Outputs → List ℕ
 outputs_text outputs = shown_text 0 outputs.p0 ++ shown_text 1 outputs.p1 ++ shown_text 2 outputs.p2 ++ shown_text 3 outputs.p3
 

@@ -5,7 +5,7 @@ use Rattle.std.proofs.lemmas.List.Kept.{AllPairs-cons}
 use Rattle.app_api.specs.declared.host.Host.{Host}
 use Rattle.app_api.specs.Hosts.{HostsFit, IsApart, IsName}
 use Rattle.sample_apps.specs.declared.sample.Sample.{Sample}
-use Rattle.sample_apps.specs.Samples.{cipher, hosts, keep, one_instance_hosts, rogue, tally, twin, vault}
+use Rattle.sample_apps.specs.Samples.{cipher, hosts, keep, rogue, tally, twin, vault}
 
 vault_name : IsName vault.name
 vault_name = search (rules, arith)
@@ -58,6 +58,3 @@ six_fit = record {
   named = All-from_recursion (λ (host : Host Sample). IsName host.name) hosts (vault_name, (twin_name, (keep_name, (tally_name, (cipher_name, (rogue_name, tt))))));
   apart = AllPairs-cons IsApart vault (twin ∷ keep ∷ tally ∷ cipher ∷ rogue ∷ []) vault_apart from_twin;
 }
-
-pub two_fit : HostsFit one_instance_hosts
-two_fit = search rules

@@ -76,6 +76,7 @@ reaction_while c what beginning answer = set_up_while c what beginning answer
 abbrev pub reaction_to_answer : Crypt → Answer → Reaction Crypt
 reaction_to_answer c answer = reaction_while (first.idle c) c.waiting (beginning_while c.op c.class c.waiting) answer
 
+-- what Crypt does with what it is given
 unfoldable pub reaction : Crypt → Given → Reaction Crypt
 reaction c (givens.Entry entry) = reaction_to_entry c entry
 reaction c (givens.Answer answer) = reaction_to_answer c answer

@@ -27,6 +27,7 @@ new_crypt = record { op = 0; class = None; waiting = waiting.Nothing }
 abbrev pub idle : Crypt → Crypt
 idle c = record c { waiting = waiting.Nothing }
 
+-- asks for this, and waits so for the answer
 abbrev pub wait_for : Crypt → Waiting → Ask → Reaction Crypt
 wait_for c what ask = ask_for (record c { waiting = what }) ask
 
@@ -74,6 +75,7 @@ readiness c class = succeed_with (record { op = c.op; class = Some class; waitin
 abbrev pub set_up : Crypt → Plan → Reaction Crypt
 set_up c plan = ask_for (record { op = 0; class = None; waiting = waiting.Freeing plan }) (asked.OpFree c.op)
 
+-- the operation of before is gone: the next is allocated
 unfoldable pub after_op_free : Crypt → Plan → Answer → Reaction Crypt
 after_op_free c plan Done = wait_for c (waiting.Allocating plan) (asked.OpNew plan.alg plan.mode (greatest_size (key_kind plan.alg)))
 after_op_free c plan answer = refusal_of c answer
@@ -83,18 +85,22 @@ abbrev pub key_or_readiness : Crypt → Plan → Option ℕ → Reaction Crypt
 key_or_readiness c plan None = readiness c Digest
 key_or_readiness c plan (Some kind) = wait_for c (waiting.MakingKey plan.key (class_of (Some kind) plan.iv)) (asked.KeyNew kind (bits_of plan.key))
 
+-- the operation is there: an object for its key is next, or it is set up
 unfoldable pub after_op_new : Crypt → Plan → Answer → Reaction Crypt
 after_op_new c plan (Number op) = key_or_readiness (record c { op = op }) plan (key_kind plan.alg)
 after_op_new c plan answer = refusal_of c answer
 
+-- the object for the key is there: it is given the key
 unfoldable pub after_key_new : Crypt → List ℕ → Class → Answer → Reaction Crypt
 after_key_new c key class (Number object) = wait_for c (waiting.FillingKey object class) (asked.KeyPopulate object key)
 after_key_new c key class answer = refusal_of c answer
 
+-- the object has the key: the operation is given it
 unfoldable pub after_key_populate : Crypt → ℕ → Class → Answer → Reaction Crypt
 after_key_populate c object class Done = wait_for c (waiting.SettingKey object class) (asked.OpSetKey c.op object)
 after_key_populate c object class answer = refusal_of c answer
 
+-- the operation has its key: the object is closed
 unfoldable pub after_op_set_key : Crypt → ℕ → Class → Answer → Reaction Crypt
 after_op_set_key c object class Done = wait_for c (waiting.ClosingKey class) (asked.ObjClose object)
 after_op_set_key c object class answer = refusal_of c answer
@@ -104,10 +110,12 @@ abbrev pub first_message : Crypt → Class → Option Ask → Reaction Crypt
 first_message c class None = readiness c class
 first_message c class (Some ask) = wait_for c (waiting.Beginning class) ask
 
+-- the object is closed: a first message is next
 unfoldable pub after_key_close : Crypt → Class → Option Ask → Answer → Reaction Crypt
 after_key_close c class beginning Done = first_message c class beginning
 after_key_close c class beginning answer = refusal_of c answer
 
+-- the first message has begun: the operation is set up
 unfoldable pub after_first_beginning : Crypt → Class → Answer → Reaction Crypt
 after_first_beginning c class Done = readiness c class
 after_first_beginning c class answer = refusal_of c answer

@@ -159,6 +159,7 @@ reaction_to_answer (Creating identifier) answer = after_creation identifier answ
 reaction_to_answer (Closing identifier) answer = after_close identifier answer
 reaction_to_answer Replacing answer = after_replacement answer
 
+-- what Rogue does with what it is given
 unfoldable pub reaction : Rogue → Given → Reaction Rogue
 reaction s (givens.Entry entry) = reaction_to_entry entry
 reaction s (givens.Answer answer) = reaction_to_answer s answer

@@ -53,28 +53,30 @@ one_instance = record { single = true; multi = true; keep = false }
 abbrev pub many_instances : Properties
 many_instances = record { single = false; multi = false; keep = false }
 
+-- the host vault: Store, one session at a time
 abbrev pub vault : Host Sample
 vault = host_of (codes "vault") 1 one_session (Store stores.Idle)
 
+-- the host twin: Store, an instance for each session
 abbrev pub twin : Host Sample
 twin = host_of (codes "twin") 2 many_instances (Store stores.Idle)
 
+-- the host keep: Count, in one instance that stays
 abbrev pub keep : Host Sample
 keep = host_of (codes "keep") 3 all_set (Count count.new_count)
 
+-- the host tally: Count, in one instance that goes with its last session
 abbrev pub tally : Host Sample
 tally = host_of (codes "tally") 4 one_instance (Count count.new_count)
 
+-- the host cipher: Crypt, an instance for each session
 abbrev pub cipher : Host Sample
 cipher = host_of (codes "cipher") 5 many_instances (Crypt set_up.new_crypt)
 
+-- the host rogue: Rogue, in one instance that goes with its last session
 abbrev pub rogue : Host Sample
 rogue = host_of (codes "rogue") 6 one_instance (Rogue rogues.Idle)
 
 -- the six hosts, in the order of their indices
 abbrev pub hosts : List (Host Sample)
 hosts = vault ∷ twin ∷ keep ∷ tally ∷ cipher ∷ rogue ∷ []
-
--- vault and keep, each with one instance, which takes all sessions and stays
-abbrev pub one_instance_hosts : List (Host Sample)
-one_instance_hosts = record vault { properties = all_set } ∷ keep ∷ []

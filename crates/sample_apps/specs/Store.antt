@@ -20,6 +20,7 @@ entered (Start session ps) = succeed_with Idle no_outs
 entered (Stop session) = succeed_with Idle no_outs
 entered (Invoke session number ps) = command number ps
 
+-- what Store does with what it is given
 unfoldable pub reaction : Store → Given → Reaction Store
 reaction s (givens.Entry entry) = entered entry
 reaction s (givens.Answer answer) = answered s answer

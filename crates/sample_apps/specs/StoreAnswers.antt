@@ -19,6 +19,7 @@ use Rattle.sample_apps.specs.StoreCommands.{polls, watches}
 abbrev pub succeeded : Outs → Reaction Store
 succeeded outs = succeed_with Idle outs
 
+-- the command ends with this code
 abbrev pub failed : Code → Reaction Store
 failed code = fail_with Idle code
 

@@ -105,6 +105,7 @@ unfoldable pub draw_random : Param → Param → Param → Param → Reaction St
 draw_random (MemOut room) Nothing Nothing Nothing = ask_for Drawing (asked.Random room)
 draw_random p0 p1 p2 p3 = misfit
 
+-- what the command of this number asks for first, by its four parameters
 abbrev pub command_at : ℕ → Param → Param → Param → Param → Reaction Store
 command_at n p0 p1 p2 p3 =
     if n == 1 then open_object p0 p1 p2 p3

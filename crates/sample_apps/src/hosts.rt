@@ -131,23 +131,3 @@ pub fn sample_hosts(alloc: Global) -> Result<Vec<Host<Sample>>, NoMemory>
 {
     six(alloc)
 }
-
-fn two(alloc: Global) -> Result<Vec<Host<Sample>>, NoMemory>
-    ensures { IfOk result (λ hosts. hosts.items ≡ samples.one_instance_hosts) }
-{
-    let mut hosts = Vec::new(alloc);
-    let mut store = vault(alloc)?;
-    store.properties = ALL_SET;
-    hosts.push(store)?;
-    hosts.push(keep(alloc)?)?;
-    Ok(hosts)
-}
-
-/// `vault` and `keep`, each with one instance, which takes all sessions and stays: what the runtime serves today. It goes once
-/// the runtime serves hosts with other properties.
-pub fn one_instance_hosts(alloc: Global) -> Result<Vec<Host<Sample>>, NoMemory>
-    ensures hosts { IfOk result (λ hosts. hosts.items ≡ samples.one_instance_hosts) }
-    ensures fit { IfOk result (λ hosts. HostsFit hosts.items) }
-{
-    two(alloc)
-}

@@ -13,7 +13,7 @@ mod tests;
 
 pub use count::Count;
 pub use crypt::Crypt;
-pub use hosts::{one_instance_hosts, sample_hosts};
+pub use hosts::sample_hosts;
 pub use rogue::Rogue;
 pub use sample::Sample;
 pub use store::Store;

@@ -2,7 +2,7 @@
 
 mod words;
 
-use crate::{Count, Crypt, Rogue, Sample, Store, one_instance_hosts, sample_hosts};
+use crate::{Count, Crypt, Rogue, Sample, Store, sample_hosts};
 use app_api::{Answer, Application, Given, Properties, hosts_fit};
 use std::alloc::Global;
 use std::process::Abort;
@@ -307,8 +307,5 @@ fn hosts_by_their_table(rt: HostRuntime) -> Result<(), Fail> {
         )?;
         assert_eq!(rt; text.as_str(), *row);
     }
-    let hosts = one_instance_hosts(alloc)?;
-    assert!(rt; hosts_fit(hosts.as_slice()));
-    assert_eq!(rt; hosts.len(), 2);
     Ok(())
 }

@@ -23,6 +23,7 @@ param_word (MemIn bytes) = codes "mi:" ++ encode_lower bytes
 param_word (MemOut size) = codes "mo:" ++ decimal size
 param_word (MemInOut bytes) = codes "mio:" ++ encode_lower bytes
 
+-- the parameter is none
 abbrev pub is_none : Param → Bool
 is_none Nothing = true
 is_none (ValueIn a b) = false
@@ -32,6 +33,7 @@ is_none (MemIn bytes) = false
 is_none (MemOut size) = false
 is_none (MemInOut bytes) = false
 
+-- each of these parameters is none
 abbrev pub are_none : List Param → Bool
 are_none [] = true
 are_none (param ∷ params) = is_none param && are_none params
@@ -41,11 +43,13 @@ abbrev pub params_words : List Param → List (List ℕ)
 params_words [] = []
 params_words (param ∷ params) = if are_none (param ∷ params) then [] else param_word param ∷ params_words params
 
+-- the words of a call
 abbrev pub call_words : Call → List (List ℕ)
 call_words (calls.Open label params) = codes "open" ∷ decimal label ∷ params_words (params_of params)
 call_words (calls.Invoke label command params) = codes "invoke" ∷ decimal label ∷ decimal command ∷ params_words (params_of params)
 call_words (calls.Close label) = codes "close" ∷ decimal label ∷ []
 
+-- the name of the host of this index
 abbrev pub name_at : {A : Type 0} → List (Host A) → ℕ → List ℕ
 name_at hosts app = slice_index_or (names_of hosts) app []
 
@@ -79,5 +83,6 @@ canonical_from hosts before [] = []
 canonical_from hosts before (line ∷ more) =
     client_text before (client_of before line) ++ line_text hosts line ++ codes "\n" ++ canonical_from hosts (client_of before line) more
 
+-- the text of a whole script, which begins with client 0's lines
 abbrev pub canonical : {A : Type 0} → List (Host A) → List Line → List ℕ
 canonical hosts script = canonical_from hosts 0 script

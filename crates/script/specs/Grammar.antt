@@ -70,6 +70,7 @@ Means hosts client line (Client n) fill =
     (¬ IsSilent line) × (number : List ℕ) × AreWords line (codes "client" ∷ number ∷ []) × IsNumber number n × (n < CLIENTS) × (fill ≡ 0)
 Means hosts client line (Script told) fill = (¬ IsSilent line) × (words : List (List ℕ)) × AreWords line words × IsLine hosts client words told fill
 
+-- no line feed stands in the text
 abbrev pub HasNoLineFeed : List ℕ → Type 0
 HasNoLineFeed text = AllByRecursion (λ c. c ≢ 10) text
 

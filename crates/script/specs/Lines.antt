@@ -15,6 +15,7 @@ use Rattle.script.specs.declared.line.ReadMeaning.{ReadMeaning}
 use Rattle.script.specs.Numbers.{number_of, number32_of, within}
 use Rattle.script.specs.Parameters.{◌>>=◌, parameters_of}
 
+-- the word isn't empty
 abbrev pub is_some_word : List ℕ → Bool
 is_some_word word = not (length word == 0)
 
@@ -22,6 +23,7 @@ is_some_word word = not (length word == 0)
 abbrev pub words_of : List ℕ → List (List ℕ)
 words_of text = filter is_some_word (slice_split (λ c. c == 32) text)
 
+-- each byte is ASCII
 abbrev pub all_ascii : List ℕ → Bool
 all_ascii text = list_all (λ c. nat_lt c 128) text
 
@@ -39,6 +41,7 @@ abbrev pub or_else : {X : Type 0} → Option X → Option X → Option X
 or_else (Some x) other = Some x
 or_else None other = other
 
+-- the index of the first host that has this identifier
 abbrev pub id_at : {A : Type 0} → List (Host A) → Option (List ℕ) → Option ℕ
 id_at hosts None = None
 id_at hosts (Some id) = index_from 0 (map (λ host. host.id) hosts) id
@@ -47,12 +50,14 @@ id_at hosts (Some id) = index_from 0 (map (λ host. host.id) hosts) id
 abbrev pub host_at : {A : Type 0} → List (Host A) → List ℕ → Option ℕ
 host_at hosts word = or_else (index_from 0 (map (λ host. host.name) hosts) word) (id_at hosts (id_of word))
 
+-- an open: its parameters stand behind the label
 unfoldable pub opened_by : List ℕ → List (List ℕ) → Option ReadCall
 opened_by label words = do
   l ← number32_of label
   all ← parameters_of words
   Some (record { call = calls.Open l all.params; fills = all.fills })
 
+-- an invoke: its command and its parameters stand behind the label
 unfoldable pub invoked_by : List ℕ → List (List ℕ) → Option ReadCall
 invoked_by label [] = number32_of label >>= λ l. None
 invoked_by label (command ∷ words) = do
@@ -61,6 +66,7 @@ invoked_by label (command ∷ words) = do
   all ← parameters_of words
   Some (record { call = calls.Invoke l c all.params; fills = all.fills })
 
+-- a close: nothing stands behind the label
 unfoldable pub closed_by : List ℕ → List (List ℕ) → Option ReadCall
 closed_by label [] = number32_of label >>= λ l. Some (record { call = calls.Close l; fills = 0 })
 closed_by label (word ∷ words) = None
@@ -79,11 +85,13 @@ call_of (verb ∷ label ∷ words) =
 abbrev pub plain_line : Line → ReadMeaning
 plain_line line = record { meaning = Script line; fills = 0 }
 
+-- a line that calls the application of this index, with the word post or without it
 unfoldable pub call_line : ℕ → ℕ → Bool → List (List ℕ) → Option ReadMeaning
 call_line client app post words = do
   read ← call_of words
   Some (record { meaning = Script (lines.Call app client post read.call); fills = read.fills })
 
+-- a line that gives an instance so many turns
 unfoldable pub turns_line : ℕ → ℕ → List (List ℕ) → Option ReadMeaning
 turns_line client app (number ∷ turns ∷ []) = do
   instance ← within 1 INSTANCES (number_of number)
@@ -91,6 +99,7 @@ turns_line client app (number ∷ turns ∷ []) = do
   Some (plain_line (lines.Turns app client instance count))
 turns_line client app words = None
 
+-- a line that asks to cancel the operation of this number
 unfoldable pub cancel_line : ℕ → ℕ → List (List ℕ) → Option ReadMeaning
 cancel_line client app (number ∷ []) = do
   op ← number_of number
@@ -106,6 +115,7 @@ app_line client app (verb ∷ words) =
     else if bytes_eq verb (codes "post") then call_line client app true words
     else call_line client app false (verb ∷ words)
 
+-- a line about the board: its fuse, or its power
 unfoldable pub board_line : List (List ℕ) → Option ReadMeaning
 board_line (verb ∷ number ∷ []) =
     if bytes_eq verb (codes "fuse") then (within 0 FUSE_CALLS (number_of number) >>= λ count. Some (plain_line (lines.Fuse count)))
@@ -113,6 +123,7 @@ board_line (verb ∷ number ∷ []) =
     else None
 board_line words = None
 
+-- a line that says whose lines come
 unfoldable pub client_line : List (List ℕ) → Option ReadMeaning
 client_line (number ∷ []) = do
   client ← within 0 (CLIENTS - 1) (number_of number)

@@ -31,12 +31,14 @@ plain_parameter param = record { param = param; fill = 0 }
 abbrev pub IsSmall : Parameter → Type 0
 IsSmall p = p.fill ≤ ASK_BYTES
 
+-- a parameter of one part: none, or a value output
 unfoldable pub parameter_of_one : List ℕ → Option Parameter
 parameter_of_one kind =
     if bytes_eq kind (codes "-") then Some (plain_parameter Nothing)
     else if bytes_eq kind (codes "vo") then Some (plain_parameter ValueOut)
     else None
 
+-- a parameter of two parts: memory, by its bytes or by its room
 unfoldable pub parameter_of_two : List ℕ → List ℕ → Option Parameter
 parameter_of_two kind a =
     if bytes_eq kind (codes "mi") then option_map (λ x. plain_parameter (MemIn x)) (hex_of a)
@@ -54,6 +56,7 @@ abbrev pub filled : Option ℕ → Option (List ℕ) → Option Parameter
 filled (Some size) (Some (byte ∷ [])) = if nat_le size ASK_BYTES then Some (record { param = MemIn (replicate size byte); fill = size }) else None
 filled size bytes = None
 
+-- a parameter of three parts: a value's two numbers, or memory that is filled with one byte
 unfoldable pub parameter_of_three : List ℕ → List ℕ → List ℕ → Option Parameter
 parameter_of_three kind a b =
     if bytes_eq kind (codes "vi") then with_numbers ValueIn (number32_of a) (number32_of b)
@@ -73,12 +76,13 @@ parameter_of_parts (kind ∷ a ∷ b ∷ c ∷ more) = None
 abbrev pub parameter_of : List ℕ → Option Parameter
 parameter_of word = parameter_of_parts (slice_split (λ c. c == 58) word)
 
--- one value after another, if each is there
 infixl 10 ◌>>=◌
+-- one value after another, if each is there
 abbrev pub ◌>>=◌ : {X Y : Type 0} → Option X → (X → Option Y) → Option Y
 None >>= f = None
 (Some x) >>= f = f x
 
+-- the parameter that a word says; none where there is no word
 abbrev pub parameter_in : Option (List ℕ) → Option Parameter
 parameter_in None = Some (plain_parameter Nothing)
 parameter_in (Some word) = parameter_of word

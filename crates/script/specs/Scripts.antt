@@ -56,6 +56,7 @@ abbrev pub after_lines : Result Reading ℕ → (Reading → Result (List Line) 
 after_lines (Ok r) more = more r
 after_lines (Err n) more = Err n
 
+-- nothing was read so far, and client 0's lines come
 abbrev pub no_reading : Reading
 no_reading = record { client = 0; filled = 0; lines = [] }
 
@@ -74,5 +75,6 @@ AnswersWith view (Ok x) read = read ≡ Ok (view x)
 AnswersWith view (Err (BadLine n)) read = read ≡ Err n
 AnswersWith view (Err NoMemory) read = Unit {0}
 
+-- what was answered is what the text reads to, unless memory ran out
 abbrev pub Answers : {X : Type 0} → Result X ScriptAnswer → Result X ℕ → Type 0
 Answers result read = AnswersWith (λ x. x) result read
