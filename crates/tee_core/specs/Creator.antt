@@ -22,6 +22,7 @@ counted steps = min (steps + 1) (2 ^ 32 - 1)
 abbrev pub returns : Code → ℕ → Ask
 returns code steps = asked.Return code (record no_outs { p3 = outs.Value steps 0 })
 
+-- the return of success, with the count
 abbrev pub fine : ℕ → Ask
 fine steps = returns (record { 0 = 0 }) steps
 
@@ -30,10 +31,12 @@ abbrev pub create_of : ℕ → Param → Param → Ask
 create_of steps (params.MemIn id) (params.MemIn content) = asked.ObjCreate 1 id 3 0 content
 create_of steps p q = fine steps
 
+-- what it asks for at an entry: an invoke creates an object, any other returns success
 abbrev pub at_entry : ℕ → Entry → Ask
 at_entry steps (entries.Invoke session command ps) = create_of steps ps.p0 ps.p1
 at_entry steps entry = fine steps
 
+-- what it asks for after an answer: it returns a refusal's code, and else success
 abbrev pub told_by : ℕ → Answer → Ask
 told_by steps (answers.Refused code) = returns code steps
 told_by steps answer = fine steps

@@ -51,12 +51,14 @@ turn_happened kind turn instance replies = record { kind = kind; turn = turn; op
 
 -- ---- which happenings are told
 
+-- the turn was plain
 abbrev pub is_plain : TurnKind → Bool
 is_plain kinds.Plain = true
 is_plain (kinds.Lost change) = false
 is_plain kinds.Starved = false
 is_plain kinds.Corrupted = false
 
+-- there is a reply
 abbrev pub has_reply : List Reply → Bool
 has_reply [] = false
 has_reply (reply ∷ replies) = true
@@ -71,18 +73,21 @@ told_behind told h = told ++ filter is_told (h ∷ [])
 
 -- ---- the marks that are read off what was told
 
+-- the turn was lost
 abbrev pub is_lost_turn : TurnKind → Bool
 is_lost_turn kinds.Plain = false
 is_lost_turn (kinds.Lost change) = true
 is_lost_turn kinds.Starved = false
 is_lost_turn kinds.Corrupted = false
 
+-- the turn met damage
 abbrev pub is_corrupt_turn : TurnKind → Bool
 is_corrupt_turn kinds.Plain = false
 is_corrupt_turn (kinds.Lost change) = false
 is_corrupt_turn kinds.Starved = false
 is_corrupt_turn kinds.Corrupted = true
 
+-- the turn found no memory
 abbrev pub is_starved_turn : TurnKind → Bool
 is_starved_turn kinds.Plain = false
 is_starved_turn (kinds.Lost change) = false

@@ -34,6 +34,7 @@ Represents tee world = AreHosted tee.hosted.items world
 abbrev pub app_count : {A : Type 0} → Tee A → ℕ
 app_count tee = length tee.hosted.items
 
+-- how many turns an application has made, 0 where it isn't there
 abbrev pub turns_in : {A : Type 0} → Option (Hosted A) → ℕ
 turns_in None = 0
 turns_in (Some h) = turns_of h.side
@@ -54,6 +55,7 @@ machine_event (events.Call app client call) kind = Called client call
 machine_event (events.Cancel app op) kind = Cancelled op
 machine_event (events.Turn app instance) kind = turn_of kind instance
 
+-- what the event is for the world, where it went so
 abbrev pub event_of : Event → TurnKind → AppEvent
 event_of e kind = record { app = app_of e; event = machine_event e kind }
 

@@ -46,6 +46,7 @@ module _ {A : Type 0} (behaviour : Behaviour A) where
   moved_at world app event None = world
   moved_at world app event (Some m) = slice_set (met_by_others event world) app (step behaviour m event).machine
 
+  -- the replies to an event of a machine; none where there is no such machine
   abbrev pub replied_at : Event → Option (Machine A) → List Reply
   replied_at event None = []
   replied_at event (Some m) = (step behaviour m event).replies
@@ -67,6 +68,7 @@ module _ {A : Type 0} (behaviour : Behaviour A) where
   abbrev pub events_at : ℕ → List Event → List AppEvent
   events_at app events = map (λ event. record { app = app; event = event }) events
 
+  -- a call of the application that has this machine, and turns until it is answered; nothing where there is no machine
   abbrev pub called_at : Marks → ℕ → ℕ → Call → Option (Machine A) → List AppEvent
   called_at marks app client call None = []
   called_at marks app client call (Some m) = events_at app (events_of_call behaviour marks m client call)
@@ -75,6 +77,7 @@ module _ {A : Type 0} (behaviour : Behaviour A) where
   abbrev pub run_events : Marks → World A → ℕ → ℕ → Call → List AppEvent
   run_events marks world app client call = called_at marks app client call (slice_get world app)
 
+  -- so many turns of an instance of the application that has this machine; nothing where there is no machine
   abbrev pub turned_at : Marks → ℕ → ℕ → ℕ → Option (Machine A) → List AppEvent
   turned_at marks app instance count None = []
   turned_at marks app instance count (Some m) = events_at app (turns_of behaviour marks count m instance)
