@@ -1,7 +1,7 @@
 -- What a caller takes of the grammar.
 use Rattle.std.specs.Prelude.{Bool, true, false, not, IsTrue}
 use Rattle.script.specs.declared.dialect.Dialect.{Dialect}
-use Rattle.script.specs.declared.dialect.Dialect.TheVariants.{Whole, WithoutBoard, Calls}
+use Rattle.script.specs.declared.dialect.Dialect.TheVariants.{Whole, WithoutBoard}
 use Rattle.script.specs.declared.line.Line.{Line}
 use Rattle.script.specs.declared.line.Line.TheVariants as lines
 use Rattle.script.specs.declared.line.Meaning.{Meaning}
@@ -15,19 +15,10 @@ is_board (lines.Cancel app client op) = false
 is_board (lines.Fuse calls) = true
 is_board (lines.Power pick) = true
 
--- a call that is run until it is answered
-abbrev pub is_run : Line → Bool
-is_run (lines.Call app client post call) = not post
-is_run (lines.Turns app client instance count) = false
-is_run (lines.Cancel app client op) = false
-is_run (lines.Fuse calls) = false
-is_run (lines.Power pick) = false
-
 -- whether a caller of this dialect takes the line
 abbrev pub takes : Dialect → Line → Bool
 takes Whole line = true
 takes WithoutBoard line = not (is_board line)
-takes Calls line = is_run line
 
 -- each dialect takes lines that say nothing of their own
 abbrev pub Takes : Dialect → Meaning → Type 0

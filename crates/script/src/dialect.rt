@@ -12,8 +12,6 @@ pub enum Dialect {
     Whole,
     /// All but the lines about the board.
     WithoutBoard,
-    /// Of the script's lines only calls that are run until they are answered.
-    Calls,
 }
 
 /// Whether a caller of the dialect takes the line.
@@ -23,6 +21,5 @@ pub fn takes(dialect: Dialect, line: &Line) -> bool
     match dialect {
         Dialect::Whole => true,
         Dialect::WithoutBoard => !matches!(line, Line::Fuse(_) | Line::Power(_)),
-        Dialect::Calls => matches!(line, Line::Call { post: false, .. }),
     }
 }

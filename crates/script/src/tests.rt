@@ -167,10 +167,6 @@ fn the_first_line_outside_is_named(rt: HostRuntime) -> Result<(), Fail> {
         first_bad(alloc, hosts.as_slice(), board, Dialect::WithoutBoard)?,
         Some(4)
     );
-    assert_eq!(rt;
-        first_bad(alloc, hosts.as_slice(), board, Dialect::Calls)?,
-        Some(3)
-    );
     Ok(())
 }
 
