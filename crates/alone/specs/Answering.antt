@@ -1,7 +1,8 @@
 -- What holds of every machine that events can lead to: a client's call is answered (TEE Client API 1.0, sections 4.5.5 to 4.5.7), and
 -- few operations are unanswered.
 use Rattle.app_api.specs.Behaviours.{Behaviour}
-use Rattle.std.specs.Prelude.{ℕ, ◌≡◌, ◌≤◌, true, not, length, count_by}
+use Rattle.std.specs.Prelude.{ℕ, ◌≡◌, ◌≤◌, ◌+◌, true, not, length, count_by}
+use Rattle.tee_base.specs.declared.limits.TheConstants.{OPERATIONS, SESSIONS}
 use Rattle.app_api.specs.declared.call.Call.{Call}
 use Rattle.op_queue.specs.Queue.{is_close}
 use Rattle.alone.specs.Machine.{Machine}
@@ -13,9 +14,9 @@ use Rattle.alone.specs.Runs.{events_of_call, machine_after}
 abbrev pub CallIsAnswered : {A : Type 0} → Behaviour A → Marks → Machine A → ℕ → Call → Type 0
 CallIsAnswered behaviour marks m client call = is_answered (machine_after behaviour m (events_of_call behaviour marks m client call)) m.queue.next ≡ true
 
--- sixteen operations other than closes may be unanswered, and a close for each of eight sessions; so 24 in all, and for one instance
+-- few operations other than closes are unanswered, and at most a close for each session; no more than both in all, and for one instance
 pub record OperationsAreFew {A : Type 0} (m : Machine A) : Type 0 where
-  pub others : count_by (λ o. not (is_close o.progress)) m.queue.operations ≤ 16
-  pub closes : count_by (λ o. is_close o.progress) m.queue.operations ≤ 8
-  pub all : length m.queue.operations ≤ 24
-  pub of_instance : (i : ℕ) → count_by (belongs_to i) m.queue.operations ≤ 24
+  pub others : count_by (λ o. not (is_close o.progress)) m.queue.operations ≤ OPERATIONS
+  pub closes : count_by (λ o. is_close o.progress) m.queue.operations ≤ SESSIONS
+  pub all : length m.queue.operations ≤ OPERATIONS + SESSIONS
+  pub of_instance : (i : ℕ) → count_by (belongs_to i) m.queue.operations ≤ OPERATIONS + SESSIONS
