@@ -1,7 +1,7 @@
 -- One application among others: its machine meets its own events, and what is written of them is under its name.
 use Rattle.app_api.specs.Behaviours.{Behaviour}
 use Rattle.std.proofs.Common.{◌≡◌, ◌≢◌, ◌++◌, ◌+◌, ◌<◌, ◌⊎◌, ℕ, zero, suc, List, [], ◌∷◌, Option, None, Some, Bool, true, false, cond, eqb, map, length, set, refl, sym, ◌∙◌, ap, subst, arith, inl, inr}
-use Rattle.std.specs.Prelude.{codes, slice_get, slice_index_or}
+use Rattle.std.specs.Prelude.{slice_get, slice_index_or}
 use Rattle.std.specs.List.{All, AllByRecursion}
 use Rattle.std.proofs.lemmas.Bool.{eqb-true, eqb-false, eq-eqb, ne_eqb, cases_order}
 use Rattle.std.proofs.lemmas.Grind.{flat_map-append}
@@ -209,8 +209,8 @@ module _ {A : Type 0} (behaviour : Behaviour A) where
         ∙ events_same app a (turns_of behaviour (marks a) turns m i) h
         ∙ ap (λ (k : ℕ). turns_of behaviour (marks k) turns m i) same
     line_same app w m (lines.Cancel a client op) here h = events_same app a (Cancelled op ∷ []) h
-    line_same app w m (lines.Fuse calls) here h = absurd (let never : false ≡ true = h in cc)
-    line_same app w m (lines.Power pick) here h = absurd (let never : false ≡ true = h in cc)
+    line_same app w m (lines.Fuse calls) here h = refl
+    line_same app w m (lines.Power pick) here h = refl
 
     called_none : (app a client : ℕ) (call : Call) (o : Option (Machine A)) → eqb a app ≡ false → OthersLoseNone app marks → events_for app (called_at behaviour (marks a) a client call o) ≡ []
     called_none app a client call None h none = refl
@@ -377,7 +377,7 @@ module _ {A : Type 0} (behaviour : Behaviour A) where
       let names = names_of hosts in
       let many : length world ≡ length names = starts_length 0 hosts seed stores ∙ sym (length-map hosts (λ (h : Host A). h.name)) in
       text_met names app host.name world (start host app seed (stores app)) (events_of behaviour marks world script) (named_by app hosts host fit e) many
-          (script_there marks (length names) world script many) (world_at app hosts host seed stores e)
+      (script_there marks (length names) world script many) (world_at app hosts host seed stores e)
 
   -- they are that of its lines alone
   written_alone : (hosts : List (Host A)) (seed : List ℕ) (stores : ℕ → Store) (script : List Line) (marks : ℕ → Marks) (app : ℕ) (host : Host A) → HostsFit hosts → slice_get hosts app ≡ Some host

@@ -198,7 +198,7 @@ mark_begins word name turn = ap (begins_with (mark_front word name)) (front_put 
 mark_plain : (word name : List ℕ) (turn : ℕ) → Lacks 10 word → Lacks 10 name → Lacks 10 (mark_line word name turn)
 mark_plain word name turn h k =
     both (codes "board " ++ word) (32 ∷ (name ++ 32 ∷ decimal turn)) (both (codes "board ") word (refl, (refl, (refl, (refl, (refl, (refl, tt)))))) h)
-        (refl, both name (32 ∷ decimal turn) k (refl, decimal_plain turn))
+    (refl, both name (32 ∷ decimal turn) k (refl, decimal_plain turn))
 
 -- the line is under the name
 lost_own : (name : List ℕ) (turn : ℕ) → is_under name (mark_line (codes "lost") name turn) ≡ true
