@@ -1,5 +1,5 @@
 -- The line about a turn tells how the turn went, of which application it is and its number. No line of a reply is such a line.
-use Rattle.std.proofs.Common.{◌≡◌, ◌≢◌, ◌<◌, ◌^◌, ◌&&◌, ◌||◌, ℕ, List, [], ◌∷◌, ◌++◌, Bool, true, false, eqb, map, refl, sym, ap, ap₂, subst, ◌∙◌, append_assoc, append-nil}
+use Rattle.std.proofs.Common.{◌≡◌, ◌≢◌, ◌<◌, ◌^◌, ◌&&◌, ℕ, List, [], ◌∷◌, ◌++◌, Bool, true, false, eqb, map, refl, sym, ap, ap₂, ◌∙◌, append_assoc, append-nil}
 use Rattle.std.specs.Prelude.{codes}
 use Rattle.std.specs.Bool.{Decides}
 use Rattle.std.specs.Fmt.{decimal}
@@ -9,7 +9,6 @@ use Rattle.std.proofs.Math.Bool.{or-false}
 use Rattle.std.proofs.lemmas.Bool.{and_left, and_right, eq-eqb, false_from_ne_true, or_from}
 use Rattle.std.proofs.lemmas.Bool.Decides.{Decides-and, Decides-at, Decides-eqb, Decides-like, same_from_decides}
 use Rattle.std.proofs.lemmas.Fmt.{decimal_injective}
-use Rattle.std.proofs.lemmas.List.Folds.{list_any-append}
 use Rattle.std.proofs.lemmas.Slice.Eq.{bytes_eq-Decides}
 use Rattle.alone.specs.declared.reply.Reply.{Reply}
 use Rattle.alone.specs.declared.turn.TurnKind.{TurnKind}
@@ -48,9 +47,9 @@ same_parts b (c ∷ one) (d ∷ other) rest more h k e =
     let next = same_parts b one other rest more h.1 k.1 tails in
     (ap₂ (λ (x : ℕ) (xs : List ℕ). x ∷ xs) head next.0, next.1)
 
--- ---- the line about a turn
+-- ---- lines about turns
 
--- it without its line feed
+-- the line about a turn, without its line feed
 abbrev pub mark_line : List ℕ → List ℕ → ℕ → List ℕ
 mark_line word name turn = codes "board" ++ 32 ∷ (word ++ 32 ∷ (name ++ 32 ∷ decimal turn))
 
@@ -76,7 +75,7 @@ marks_fed name (Lost change) turn = mark_is (codes "lost") name turn
 marks_fed name Starved turn = mark_is (codes "starve") name turn
 marks_fed name Corrupted turn = mark_is (codes "corrupt") name turn
 
--- no line feed is in it
+-- no line feed is in them
 both : (xs ys : List ℕ) → Lacks 10 xs → Lacks 10 ys → Lacks 10 (xs ++ ys)
 both xs ys h k = all_append (λ c. eqb c 10 ≡ false) xs ys h k
 
@@ -97,14 +96,28 @@ marks_plain name Corrupted turn h = (mark_plain (codes "corrupt") name turn (ref
 abbrev pub is_mark : List ℕ → List ℕ → ℕ → List ℕ → Bool
 is_mark word name turn line = bytes_eq (line ++ codes "\n") (mark_text word name turn)
 
+-- the words of these lines have no space
+board_one_word : Lacks 32 (codes "board")
+board_one_word = (refl, (refl, (refl, (refl, (refl, tt)))))
+
+lost_one_word : Lacks 32 (codes "lost")
+lost_one_word = (refl, (refl, (refl, (refl, tt))))
+
+starve_one_word : Lacks 32 (codes "starve")
+starve_one_word = (refl, (refl, (refl, (refl, (refl, (refl, tt))))))
+
+corrupt_one_word : Lacks 32 (codes "corrupt")
+corrupt_one_word = (refl, (refl, (refl, (refl, (refl, (refl, (refl, tt)))))))
+
 -- two lines about turns are alike only where they tell the same
 same_told : (word name said called : List ℕ) (turn number : ℕ) → Lacks 32 word → Lacks 32 name → Lacks 32 said → Lacks 32 called → turn < 2 ^ 64 → number < 2 ^ 64
     → mark_line word name turn ++ codes "\n" ≡ mark_text said called number → (name ≡ called) × ((word ≡ said) × (turn ≡ number))
 same_told word name said called turn number word_space name_space said_space called_space small few e =
-    let board : Lacks 32 (codes "board") = (refl, (refl, (refl, (refl, (refl, tt))))) in
     let lines = sym (fed_parts word name (decimal turn)) ∙ e ∙ mark_parts said called (decimal number) in
-    let words = same_parts 32 (codes "board") (codes "board") (word ++ 32 ∷ (name ++ 32 ∷ (decimal turn ++ 10 ∷ []))) (said ++ 32 ∷ (called ++ 32 ∷ (decimal number ++ 10 ∷ []))) board board lines in
-    let names = same_parts 32 word said (name ++ 32 ∷ (decimal turn ++ 10 ∷ [])) (called ++ 32 ∷ (decimal number ++ 10 ∷ [])) word_space said_space words.1 in
+    let behind = name ++ 32 ∷ (decimal turn ++ 10 ∷ []) in
+    let later = called ++ 32 ∷ (decimal number ++ 10 ∷ []) in
+    let words = same_parts 32 (codes "board") (codes "board") (word ++ 32 ∷ behind) (said ++ 32 ∷ later) board_one_word board_one_word lines in
+    let names = same_parts 32 word said behind later word_space said_space words.1 in
     let numbers = same_parts 32 name called (decimal turn ++ 10 ∷ []) (decimal number ++ 10 ∷ []) name_space called_space names.1 in
     let digits = same_parts 10 (decimal turn) (decimal number) [] [] (decimal_plain turn) (decimal_plain number) numbers.1 in
     (numbers.0, (names.0, decimal_injective turn number small few digits.0))
@@ -132,23 +145,14 @@ pub record IsSaidBy (went : TurnKind → Bool) (word : List ℕ) : Type 0 where
   pub starved : went Starved ≡ bytes_eq (codes "starve") word
   pub corrupted : went Corrupted ≡ bytes_eq (codes "corrupt") word
 
-four_plain : Lacks 32 (codes "lost")
-four_plain = (refl, (refl, (refl, (refl, tt))))
-
-six_plain : Lacks 32 (codes "starve")
-six_plain = (refl, (refl, (refl, (refl, (refl, (refl, tt))))))
-
-seven_plain : Lacks 32 (codes "corrupt")
-seven_plain = (refl, (refl, (refl, (refl, (refl, (refl, (refl, tt)))))))
-
 pub lost_said : IsSaidBy is_lost_turn (codes "lost")
-lost_said = record { no_space = four_plain; plain = refl; lost = λ change. refl; starved = refl; corrupted = refl }
+lost_said = record { no_space = lost_one_word; plain = refl; lost = λ change. refl; starved = refl; corrupted = refl }
 
 pub corrupt_said : IsSaidBy is_corrupt_turn (codes "corrupt")
-corrupt_said = record { no_space = seven_plain; plain = refl; lost = λ change. refl; starved = refl; corrupted = refl }
+corrupt_said = record { no_space = corrupt_one_word; plain = refl; lost = λ change. refl; starved = refl; corrupted = refl }
 
 pub starved_said : IsSaidBy is_starved_turn (codes "starve")
-starved_said = record { no_space = six_plain; plain = refl; lost = λ change. refl; starved = refl; corrupted = refl }
+starved_said = record { no_space = starve_one_word; plain = refl; lost = λ change. refl; starved = refl; corrupted = refl }
 
 module _ (went : TurnKind → Bool) (said : List ℕ) (says : IsSaidBy went said) where
   one_told : (word name called : List ℕ) (same went_so : Bool) (turn number : ℕ) → Lacks 32 word → Lacks 32 name → Lacks 32 called → turn < 2 ^ 64 → number < 2 ^ 64
@@ -165,9 +169,12 @@ module _ (went : TurnKind → Bool) (said : List ℕ) (says : IsSaidBy went said
   pub marks_told : (name called : List ℕ) (same : Bool) (kind : TurnKind) (turn number : ℕ) → Lacks 32 name → Lacks 32 called → turn < 2 ^ 64 → number < 2 ^ 64 → Decides same (name ≡ called)
       → list_any (is_mark said called number) (mark_lines name kind turn) ≡ (same && (went kind && eqb turn number))
   marks_told name called same Plain turn number h k small few names_same = sym (and_right same (went Plain && eqb turn number) (and_left (went Plain) (eqb turn number) says.plain))
-  marks_told name called same (Lost change) turn number h k small few names_same = one_told (codes "lost") name called same (went (Lost change)) turn number four_plain h k small few names_same (says.lost change)
-  marks_told name called same Starved turn number h k small few names_same = one_told (codes "starve") name called same (went Starved) turn number six_plain h k small few names_same says.starved
-  marks_told name called same Corrupted turn number h k small few names_same = one_told (codes "corrupt") name called same (went Corrupted) turn number seven_plain h k small few names_same says.corrupted
+  marks_told name called same (Lost change) turn number h k small few names_same =
+      one_told (codes "lost") name called same (went (Lost change)) turn number lost_one_word h k small few names_same (says.lost change)
+  marks_told name called same Starved turn number h k small few names_same =
+      one_told (codes "starve") name called same (went Starved) turn number starve_one_word h k small few names_same says.starved
+  marks_told name called same Corrupted turn number h k small few names_same =
+      one_told (codes "corrupt") name called same (went Corrupted) turn number corrupt_one_word h k small few names_same says.corrupted
 
 -- ---- lines of replies
 
@@ -181,13 +188,12 @@ pub record IsReplyLine (line : List ℕ) : Type 0 where
 
 reply_other : (said called line : List ℕ) (number : ℕ) → IsReplyLine line → is_mark said called number line ≡ false
 reply_other said called line number h =
-    let board : Lacks 32 (codes "board") = (refl, (refl, (refl, (refl, (refl, tt))))) in
     let more = said ++ 32 ∷ (called ++ 32 ∷ (decimal number ++ 10 ∷ [])) in
     false_from_ne_true (is_mark said called number line) (λ yes.
-      let alike : line ++ codes "\n" ≡ mark_text said called number = (bytes_eq-Decides (line ++ codes "\n") (mark_text said called number)).0 yes in
-      let texts : h.name ++ 32 ∷ (h.behind ++ 10 ∷ []) ≡ codes "board" ++ 32 ∷ more =
-          sym (append_assoc h.name (32 ∷ h.behind) (codes "\n")) ∙ ap (λ (l : List ℕ). l ++ codes "\n") (sym h.here) ∙ alike ∙ mark_parts said called (decimal number) in
-      h.other (same_parts 32 h.name (codes "board") (h.behind ++ 10 ∷ []) more h.no_space board texts).0
+    let alike : line ++ codes "\n" ≡ mark_text said called number = (bytes_eq-Decides (line ++ codes "\n") (mark_text said called number)).0 yes in
+    let texts : h.name ++ 32 ∷ (h.behind ++ 10 ∷ []) ≡ codes "board" ++ 32 ∷ more =
+    sym (append_assoc h.name (32 ∷ h.behind) (codes "\n")) ∙ ap (λ (l : List ℕ). l ++ codes "\n") (sym h.here) ∙ alike ∙ mark_parts said called (decimal number) in
+    h.other (same_parts 32 h.name (codes "board") (h.behind ++ 10 ∷ []) more h.no_space board_one_word texts).0
     )
 
 -- none of them is about a turn

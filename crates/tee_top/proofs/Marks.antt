@@ -1,10 +1,10 @@
 -- The marks of a log are those that are read back from its text, also from one that was cut.
-use Rattle.std.proofs.Common.{◌≡◌, ◌≢◌, ◌≤◌, ◌<◌, ◌+◌, ◌^◌, ◌⊎◌, ◌&&◌, ◌||◌, inl, inr, ℕ, List, [], ◌∷◌, ◌++◌, Bool, true, false, cond, eqb, length, map, refl, sym, ap, ap₂, subst, ◌∙◌, append_assoc, append-nil, arith}
+use Rattle.std.proofs.Common.{◌≡◌, ◌≢◌, ◌≤◌, ◌<◌, ◌^◌, ◌⊎◌, ◌&&◌, ◌||◌, inl, inr, ℕ, List, [], ◌∷◌, ◌++◌, Bool, true, false, cond, eqb, length, map, refl, sym, ap, ap₂, subst, ◌∙◌, append_assoc, append-nil, arith}
 use Rattle.std.specs.Prelude.{All, codes, slice_index_or}
 use Rattle.std.specs.Bool.{Decides}
 use Rattle.std.specs.List.{AllByRecursion, filter, flat_map, list_any}
 use Rattle.std.proofs.Math.Bool.{or-false}
-use Rattle.std.proofs.lemmas.Bool.{cases_order, eq-eqb, eqb-true, ne_eqb}
+use Rattle.std.proofs.lemmas.Bool.{cases_order, ne_eqb}
 use Rattle.std.proofs.lemmas.Bool.Decides.{Decides-eqb, Decides-like}
 use Rattle.std.proofs.lemmas.Grind.{flat_map-append}
 use Rattle.std.proofs.lemmas.List.Elements.{recursion_from_All}
@@ -12,15 +12,15 @@ use Rattle.std.proofs.lemmas.List.Folds.{list_any-append}
 use Rattle.alone.specs.declared.turn.TurnKind.{TurnKind}
 use Rattle.alone.specs.declared.turn.TurnKind.TheVariants.{Plain, Lost, Starved, Corrupted}
 use Rattle.alone.specs.Marks.{SameAt}
-use Rattle.report.specs.Texts.{happened_text}
 use Rattle.script.proofs.Cuts.{Lacks, all_append}
 use Rattle.tee_core.specs.Happenings.{is_corrupt_turn, is_lost_turn, is_starved_turn, tells}
 use Rattle.tee_top.specs.BoardLines.{IsMarkOrNone, marks_in, whole_lines, whole_text}
 use Rattle.tee_top.specs.Logs.{AreKnown, Entry, IsWrittenOf, log_marks, log_text, told_of}
-use Rattle.tee_top.specs.Transcript.{replies_text}
-use Rattle.tee_top.proofs.MarkLines.{IsReplyLine, IsSaidBy, corrupt_said, is_mark, lost_said, mark_lines, marks_fed, marks_plain, marks_told, replies_are, replies_fed, replies_other, replies_plain, reply_line, starved_said}
+use Rattle.tee_top.specs.Transcript.{happened_lines}
+use Rattle.tee_top.proofs.MarkLines.{IsReplyLine, IsSaidBy, is_mark, mark_lines, marks_fed, marks_plain, marks_told, replies_are, replies_fed, replies_other, replies_plain, reply_line}
+use Rattle.tee_top.proofs.MarkLines.{corrupt_said, lost_said, starved_said}
 use Rattle.tee_top.proofs.Names.{CanName}
-use Rattle.tee_top.proofs.WholeLines.{IsFrontOf, all_parts, all_whole, fed, front_of, whole_lines_are}
+use Rattle.tee_top.proofs.WholeLines.{all_parts, all_whole, fed, front_of, whole_lines_are}
 
 -- ---- the lines of a log
 
@@ -40,7 +40,7 @@ log_lines names log = flat_map (entry_lines names) log
 fed_both : (lines more : List (List ℕ)) → fed (lines ++ more) ≡ fed lines ++ fed more
 fed_both lines more = flat_map-append (λ (line : List ℕ). line ++ codes "\n") lines more
 
-entry_fed : (names : List (List ℕ)) (e : Entry) → happened_text (slice_index_or names e.app []) e.told.kind e.told.turn ++ replies_text (slice_index_or names e.app []) e.told.replies ≡ fed (entry_lines names e)
+entry_fed : (names : List (List ℕ)) (e : Entry) → happened_lines (slice_index_or names e.app []) e.told ≡ fed (entry_lines names e)
 entry_fed names e =
     let name = slice_index_or names e.app [] in
     ap₂ (λ (xs ys : List ℕ). xs ++ ys) (marks_fed name e.told.kind e.told.turn) (replies_fed name e.told.replies)
@@ -112,7 +112,8 @@ module _ (names : List (List ℕ)) (can : CanName names) (no_board : All (λ nam
         (replies_other said called turn (reply_lines names e) (entry_replies e inside))
         ∙ or-false (eqb e.app app && (went e.told.kind && eqb e.told.turn turn))
 
-    log_told : (log : List Entry) → AllByRecursion (λ e. e.app < length names) log → AllByRecursion (λ e. e.told.turn < 2 ^ 64) log → list_any says_so (log_lines names log) ≡ tells went (told_of app log) turn
+    log_told : (log : List Entry) → AllByRecursion (λ e. e.app < length names) log → AllByRecursion (λ e. e.told.turn < 2 ^ 64) log
+        → list_any says_so (log_lines names log) ≡ tells went (told_of app log) turn
     log_told [] known counted = refl
     log_told (e ∷ log) known counted =
         list_any-append says_so (entry_lines names e) (log_lines names log)
@@ -181,7 +182,8 @@ module _ (names : List (List ℕ)) (can : CanName names) (no_board : All (λ nam
   IsReadWith log text = (further : List ℕ) × IsMarkOrNone names further
       × ((app turn : ℕ) → app < length names → turn < 2 ^ 64 → SameAt turn (marks_in names (whole_text text ++ further) app) (log_marks log app))
 
-  further_is : (app turn : ℕ) (kind : TurnKind) → app < length names → (lines : List (List ℕ)) → (lines ≡ []) ⊎ (lines ≡ mark_lines (slice_index_or names app []) kind turn) → IsMarkOrNone names (fed lines)
+  further_is : (app turn : ℕ) (kind : TurnKind) → app < length names → (lines : List (List ℕ))
+      → (lines ≡ []) ⊎ (lines ≡ mark_lines (slice_index_or names app []) kind turn) → IsMarkOrNone names (fed lines)
   further_is app turn kind inside lines (inl none) = record { app = app; known = inside; kind = Plain; turn = turn; here = ap fed none }
   further_is app turn kind inside lines (inr one) = record { app = app; known = inside; kind = kind; turn = turn; here = ap fed one ∙ sym (marks_fed (slice_index_or names app []) kind turn) }
 
@@ -191,14 +193,27 @@ module _ (names : List (List ℕ)) (can : CanName names) (no_board : All (λ nam
   marks_few name Starved turn = omega arith
   marks_few name Corrupted turn = omega arith
 
-  four_parts : (done first further unseen : List (List ℕ)) → done ++ ((first ++ further) ++ unseen) ≡ ((done ++ first) ++ further) ++ unseen
-  four_parts done first further unseen = simp append_assoc
+  -- a text of whole lines, of the first of the next ones, and of a piece
+  cut_whole : (done first : List (List ℕ)) (text before cut tail : List ℕ) → AllByRecursion (Lacks 10) (done ++ first) → Lacks 10 tail
+      → before ≡ fed done → cut ≡ fed first ++ tail → text ≡ before ++ cut → whole_lines text ≡ done ++ first
+  cut_whole done first text before cut tail plain tail_plain is_done is_cut here =
+      let joined : text ≡ fed done ++ (fed first ++ tail) = here ∙ ap₂ (λ (xs ys : List ℕ). xs ++ ys) is_done is_cut in
+      let grouped : fed done ++ (fed first ++ tail) ≡ fed (done ++ first) ++ tail = sym (append_assoc (fed done) (fed first) tail) ∙ ap (λ (zs : List ℕ). zs ++ tail) (sym (fed_both done first)) in
+      let is : text ≡ fed (done ++ first) ++ tail = joined ∙ grouped in
+      ap whole_lines is ∙ whole_lines_are (done ++ first) tail plain tail_plain
 
-  cut_text : (done first : List (List ℕ)) (tail : List ℕ) → fed done ++ (fed first ++ tail) ≡ fed (done ++ first) ++ tail
-  cut_text done first tail = sym (append_assoc (fed done) (fed first) tail) ∙ ap (λ (zs : List ℕ). zs ++ tail) (sym (fed_both done first))
+  with_further : (lines further : List (List ℕ)) (text : List ℕ) → whole_lines text ≡ lines → whole_text text ++ fed further ≡ fed (lines ++ further)
+  with_further lines further text whole = ap (λ (ls : List (List ℕ)). fed ls ++ fed further) whole ∙ sym (fed_both lines further)
+
+  four_parts : (lines done next first further unseen : List (List ℕ)) → lines ≡ done ++ next → next ≡ (first ++ further) ++ unseen → lines ≡ ((done ++ first) ++ further) ++ unseen
+  four_parts lines done next first further unseen all parts =
+      let grouped : done ++ ((first ++ further) ++ unseen) ≡ ((done ++ first) ++ further) ++ unseen = simp append_assoc in
+      let joined : lines ≡ done ++ ((first ++ further) ++ unseen) = all ∙ ap (λ (zs : List (List ℕ)). done ++ zs) parts in
+      joined ∙ grouped
 
   -- a text that was cut within the lines of a turn and replies to it
-  cut_within : (log done : List Entry) (text cut rest : List ℕ) (app turn : ℕ) (kind : TurnKind) (replies : List (List ℕ)) → AreKnown names log → app < length names → AllByRecursion IsReplyLine replies
+  cut_within : (log done : List Entry) (text cut rest : List ℕ) (app turn : ℕ) (kind : TurnKind) (replies : List (List ℕ))
+      → AreKnown names log → app < length names → AllByRecursion IsReplyLine replies
       → log_lines names log ≡ log_lines names done ++ (mark_lines (slice_index_or names app []) kind turn ++ replies)
       → text ≡ log_text names done ++ cut → fed (mark_lines (slice_index_or names app []) kind turn ++ replies) ≡ cut ++ rest → IsReadWith log text
   cut_within log done text cut rest app turn kind replies known inside are all here piece =
@@ -209,23 +224,19 @@ module _ (names : List (List ℕ)) (can : CanName names) (no_board : All (λ nam
       let front = front_of (turns ++ replies) cut rest plain.1 piece in
       let first_plain = all_parts (Lacks 10) front.first front.more (subst (AllByRecursion (Lacks 10)) front.all plain.1) in
       let lacking = missing turns replies front.first front.more (marks_few name kind turn) are front.all in
-      let seen = (before ++ front.first) ++ lacking.further in
-      let is : text ≡ fed (before ++ front.first) ++ front.tail =
-          here ∙ ap₂ (λ (xs ys : List ℕ). xs ++ ys) (log_fed names done) front.here ∙ cut_text before front.first front.tail in
-      let whole : whole_lines text ≡ before ++ front.first =
-          ap whole_lines is ∙ whole_lines_are (before ++ front.first) front.tail (all_append (Lacks 10) before front.first plain.0 first_plain.0) front.within in
-      let shown : whole_text text ++ fed lacking.further ≡ fed seen = ap (λ (lines : List (List ℕ)). fed lines ++ fed lacking.further) whole ∙ sym (fed_both (before ++ front.first) lacking.further) in
-      let lines : log_lines names log ≡ seen ++ lacking.unseen =
-          all ∙ ap (λ (zs : List (List ℕ)). before ++ zs) lacking.all ∙ four_parts before front.first lacking.further lacking.unseen in
-      (
+      let both_plain = all_append (Lacks 10) before front.first plain.0 first_plain.0 in
+      let whole = cut_whole before front.first text (log_text names done) cut front.tail both_plain front.within (log_fed names done) front.here here in
+      let shown = with_further (before ++ front.first) lacking.further text whole in
+      let lines = four_parts (log_lines names log) before (turns ++ replies) front.first lacking.further lacking.unseen all lacking.all in (
         fed lacking.further,
         further_is app turn kind inside lacking.further lacking.few,
         λ other number within small.
-          subst (λ (shown_text : List ℕ). SameAt number (marks_in names shown_text other) (log_marks log other)) (sym shown)
-          (seen_marks log known seen lacking.unseen lines lacking.replies other number within small),
+            subst (λ (shown_text : List ℕ). SameAt number (marks_in names shown_text other) (log_marks log other)) (sym shown)
+            (seen_marks log known ((before ++ front.first) ++ lacking.further) lacking.unseen lines lacking.replies other number within small),
       )
 
-  cut_read : (log done last : List Entry) (text cut rest : List ℕ) → 0 < length names → AreKnown names log → length last ≤ 1 → log ≡ done ++ last → log_text names last ≡ cut ++ rest → text ≡ log_text names done ++ cut → IsReadWith log text
+  cut_read : (log done last : List Entry) (text cut rest : List ℕ) → 0 < length names → AreKnown names log → length last ≤ 1
+      → log ≡ done ++ last → log_text names last ≡ cut ++ rest → text ≡ log_text names done ++ cut → IsReadWith log text
   cut_read log done [] text cut rest some known few all piece here =
       cut_within log done text cut rest 0 0 Plain [] known some tt (ap (log_lines names) all ∙ flat_map-append (entry_lines names) done []) here piece
   cut_read log done (e ∷ []) text cut rest some known few all piece here =
