@@ -190,7 +190,7 @@ reply_apart : (said called line : List ℕ) (number : ℕ) → IsReplyLine line 
 reply_apart said called line number h alike =
     let more = said ++ 32 ∷ (called ++ 32 ∷ (decimal number ++ 10 ∷ [])) in
     let regrouped : h.name ++ 32 ∷ (h.behind ++ 10 ∷ []) ≡ line ++ codes "\n" =
-        sym (append_assoc h.name (32 ∷ h.behind) (codes "\n")) ∙ ap (λ (l : List ℕ). l ++ codes "\n") (sym h.here) in
+    sym (append_assoc h.name (32 ∷ h.behind) (codes "\n")) ∙ ap (λ (l : List ℕ). l ++ codes "\n") (sym h.here) in
     let texts : h.name ++ 32 ∷ (h.behind ++ 10 ∷ []) ≡ codes "board" ++ 32 ∷ more = regrouped ∙ alike ∙ mark_parts said called (decimal number) in
     h.other (same_parts 32 h.name (codes "board") (h.behind ++ 10 ∷ []) more h.no_space board_one_word texts).0
 
