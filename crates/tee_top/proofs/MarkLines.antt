@@ -186,15 +186,18 @@ pub record IsReplyLine (line : List ℕ) : Type 0 where
   pub other : name ≢ codes "board"
   pub here : line ≡ name ++ 32 ∷ behind
 
+reply_apart : (said called line : List ℕ) (number : ℕ) → IsReplyLine line → line ++ codes "\n" ≡ mark_text said called number → ⊥
+reply_apart said called line number h alike =
+    let more = said ++ 32 ∷ (called ++ 32 ∷ (decimal number ++ 10 ∷ [])) in
+    let regrouped : h.name ++ 32 ∷ (h.behind ++ 10 ∷ []) ≡ line ++ codes "\n" =
+    sym (append_assoc h.name (32 ∷ h.behind) (codes "\n")) ∙ ap (λ (l : List ℕ). l ++ codes "\n") (sym h.here) in
+    let texts : h.name ++ 32 ∷ (h.behind ++ 10 ∷ []) ≡ codes "board" ++ 32 ∷ more = regrouped ∙ alike ∙ mark_parts said called (decimal number) in
+    h.other (same_parts 32 h.name (codes "board") (h.behind ++ 10 ∷ []) more h.no_space board_one_word texts).0
+
 reply_other : (said called line : List ℕ) (number : ℕ) → IsReplyLine line → is_mark said called number line ≡ false
 reply_other said called line number h =
-    let more = said ++ 32 ∷ (called ++ 32 ∷ (decimal number ++ 10 ∷ [])) in
-    false_from_ne_true (is_mark said called number line) (λ yes.
-    let alike : line ++ codes "\n" ≡ mark_text said called number = (bytes_eq-Decides (line ++ codes "\n") (mark_text said called number)).0 yes in
-    let texts : h.name ++ 32 ∷ (h.behind ++ 10 ∷ []) ≡ codes "board" ++ 32 ∷ more =
-    sym (append_assoc h.name (32 ∷ h.behind) (codes "\n")) ∙ ap (λ (l : List ℕ). l ++ codes "\n") (sym h.here) ∙ alike ∙ mark_parts said called (decimal number) in
-    h.other (same_parts 32 h.name (codes "board") (h.behind ++ 10 ∷ []) more h.no_space board_one_word texts).0
-    )
+    let same = bytes_eq-Decides (line ++ codes "\n") (mark_text said called number) in
+    false_from_ne_true (is_mark said called number line) (λ yes. reply_apart said called line number h (same.0 yes))
 
 -- none of them is about a turn
 pub replies_other : (said called : List ℕ) (number : ℕ) (lines : List (List ℕ)) → AllByRecursion IsReplyLine lines → list_any (is_mark said called number) lines ≡ false
