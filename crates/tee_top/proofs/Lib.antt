@@ -5,3 +5,6 @@ pub mod Ended
 pub mod Events
 pub mod LinesFor
 pub mod Writing
+pub mod WholeLines
+pub mod MarkLines
+pub mod Marks

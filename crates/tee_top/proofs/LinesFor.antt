@@ -74,7 +74,7 @@ onto_plain (suc k) n acc h =
       | false ↦ onto_plain k (n / 10) (digit_glyph false (n % 10) ∷ acc) more
     ]
 
-decimal_plain : (n : ℕ) → Lacks 10 (decimal n)
+pub decimal_plain : (n : ℕ) → Lacks 10 (decimal n)
 unfolding digits
 decimal_plain n = onto_plain 64 n [] tt
 
@@ -111,7 +111,7 @@ outputs_plain outputs =
     both (shown_text 0 outputs.p0 ++ shown_text 1 outputs.p1 ++ shown_text 2 outputs.p2) (shown_text 3 outputs.p3) first_three (shown_plain 3 outputs.p3)
 
 -- what stands behind the name and the space, without the line feed
-behind_name : Reply → List ℕ
+pub behind_name : Reply → List ℕ
 behind_name reply = decimal reply.op ++ 32 ∷ (code_text reply.code ++ 32 ∷ (decimal (number_of reply.origin) ++ outputs_text reply.outputs))
 
 behind_plain : (reply : Reply) → Lacks 10 (behind_name reply)
@@ -127,11 +127,11 @@ behind_plain reply =
 put_together : (name op code origin outputs rest : List ℕ) → (name ++ codes " " ++ op ++ codes " " ++ code ++ codes " " ++ origin ++ outputs ++ codes "\n") ++ rest ≡ (name ++ 32 ∷ (op ++ 32 ∷ (code ++ 32 ∷ (origin ++ outputs)))) ++ 10 ∷ rest
 put_together name op code origin outputs rest = simp append_assoc
 
-reply_is : (name : List ℕ) (reply : Reply) (rest : List ℕ) → reply_text name reply ++ rest ≡ (name ++ 32 ∷ behind_name reply) ++ 10 ∷ rest
+pub reply_is : (name : List ℕ) (reply : Reply) (rest : List ℕ) → reply_text name reply ++ rest ≡ (name ++ 32 ∷ behind_name reply) ++ 10 ∷ rest
 unfolding behind_name
 reply_is name reply rest = put_together name (decimal reply.op) (code_text reply.code) (decimal (number_of reply.origin)) (outputs_text reply.outputs) rest
 
-line_plain : (name : List ℕ) (reply : Reply) → Lacks 10 name → Lacks 10 (name ++ 32 ∷ behind_name reply)
+pub line_plain : (name : List ℕ) (reply : Reply) → Lacks 10 name → Lacks 10 (name ++ 32 ∷ behind_name reply)
 line_plain name reply h = both name (32 ∷ behind_name reply) h (refl, behind_plain reply)
 
 -- ---- the lines of replies
