@@ -27,7 +27,7 @@ use Rattle.tee_core.proofs.Worlds.{get_set, run_is}
 use Rattle.tee_top.specs.Logs.{AreKnown, Entry, IsWrittenOf, log_text}
 use Rattle.tee_top.specs.Parts.{AgreesIn, AgreeWith, IsRunOf, StopsIn, entry_of, log_of, told_text}
 use Rattle.tee_top.specs.Transcript.{happened_lines, line_events, replies_text, text_of}
-use Rattle.tee_top.proofs.Alike.{AgreeOn, turns_begin, turns_bound, turns_same}
+use Rattle.tee_top.proofs.Turns.{AgreeOn, turns_begin, turns_bound, turns_same}
 use Rattle.tee_top.proofs.Parts.{all_first, all_weaker, text_is_log}
 
 most_is : most_turns ≡ 10000000

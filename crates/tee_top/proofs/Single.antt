@@ -25,7 +25,7 @@ use Rattle.tee_core.proofs.Turns.{kind_counts}
 use Rattle.tee_top.specs.Logs.{AreKnown, Entry, IsWrittenOf, log_text}
 use Rattle.tee_top.specs.Parts.{AgreesIn, AgreeWith, IsRunOf, StopsIn, entry_of, log_of, step_events}
 use Rattle.tee_top.specs.Transcript.{happened_lines, text_of}
-use Rattle.tee_top.proofs.Alike.{event_as}
+use Rattle.tee_top.proofs.Turns.{event_as}
 use Rattle.tee_top.proofs.Calls.{there_after}
 use Rattle.tee_top.proofs.Cancels.{cancel_counts_none}
 use Rattle.tee_top.proofs.Parts.{text_is_log}
