@@ -1,5 +1,6 @@
 pub mod Known
 pub mod Names
+pub mod Alike
 pub mod Apart
 pub mod Ended
 pub mod Events

@@ -1,50 +1,92 @@
 -- The lines of a text that are under a name.
 use Rattle.std.proofs.Common.{◌≡◌, ◌≢◌, ◌++◌, ◌+◌, ◌/◌, ◌%◌, ◌⊎◌, ◌&&◌, inl, inr, ℕ, zero, suc, List, [], ◌∷◌, Bool, true, false, cond, eqb, ltb, get_or, refl, sym, ◌∙◌, ap, append_assoc, arith}
-use Rattle.std.specs.Prelude.{codes}
+use Rattle.std.specs.Prelude.{◌||◌, codes}
 use Rattle.std.specs.Fmt.{decimal, digit_glyph, digits, digits_onto}
 use Rattle.std.specs.Int.{w32, to_be_bytes}
 use Rattle.std.specs.List.{filter, flat_map, slice_split}
 use Rattle.std.proofs.lemmas.Bool.{eq-eqb, eqb-true, ne_eqb}
 use Rattle.hex.specs.Hex.{encode_lower, encode_with, lower_digits}
 use Rattle.tee_base.specs.Codes.{number_of}
+use Rattle.alone.specs.declared.turn.TurnKind.{TurnKind}
+use Rattle.alone.specs.declared.turn.TurnKind.TheVariants as kinds
 use Rattle.alone.specs.declared.reply.Outputs.{Outputs}
 use Rattle.alone.specs.declared.reply.Reply.{Reply}
 use Rattle.alone.specs.declared.reply.Shown.{Shown}
 use Rattle.alone.specs.declared.reply.Shown.TheVariants.{Nothing, Value, Mem, Size}
-use Rattle.report.specs.Texts.{code_text, outputs_text, parameter_text, reply_text, shown_text}
+use Rattle.report.specs.Texts.{code_text, happened_text, mark_text, outputs_text, parameter_text, reply_text, shown_text}
 use Rattle.script.proofs.Cuts.{Lacks, all_append, cut_at}
-use Rattle.tee_top.specs.Isolation.{is_under, lines_for}
-use Rattle.tee_top.specs.Transcript.{replies_text}
+use Rattle.tee_core.specs.declared.happened.Happened.{Happened}
+use Rattle.tee_top.specs.Isolation.{begins_with, is_mark_of, is_under, lines_for, mark_front}
+use Rattle.tee_top.specs.Transcript.{happened_lines, replies_text}
 
 -- which way a test went
 pub which : (t : Bool) → (t ≡ true) ⊎ (t ≡ false)
 which true = inl refl
 which false = inr refl
 
--- ---- the first word of a line
+or_yes : (b : Bool) → (b || true) ≡ true
+or_yes true = refl
+or_yes false = refl
 
--- the line begins with the name and a space
-under_own : (name rest : List ℕ) → is_under name (name ++ 32 ∷ rest) ≡ true
-under_own [] rest = refl
-under_own (c ∷ name) rest = rw (eq-eqb c c refl) (under_own name rest)
+-- ---- the first words of a line
 
--- a name without a space doesn't begin a line whose first word is another
-under_other : (name other rest : List ℕ) → Lacks 32 name → Lacks 32 other → other ≢ name → is_under name (other ++ 32 ∷ rest) ≡ false
-under_other [] [] rest h k apart = absurd (apart refl)
-under_other [] (o ∷ other) rest h k apart = rw (flip o k.0) refl
+-- a line begins with its front
+begins_own : (front rest : List ℕ) → begins_with front (front ++ rest) ≡ true
+begins_own [] rest = refl
+begins_own (c ∷ front) rest = rw (eq-eqb c c refl) (begins_own front rest)
+
+-- a word without a space doesn't begin a line whose first word is another
+begins_other : (word other more rest : List ℕ) → Lacks 32 word → Lacks 32 other → other ≢ word → begins_with (word ++ 32 ∷ more) (other ++ 32 ∷ rest) ≡ false
+begins_other [] [] more rest h k apart = absurd (apart refl)
+begins_other [] (o ∷ other) more rest h k apart = rw (flip o k.0) refl
   where
     flip : (o : ℕ) → eqb o 32 ≡ false → eqb 32 o ≡ false
     flip o e = ne_eqb 32 o (λ same. let t : eqb o 32 ≡ true = eq-eqb o 32 (sym same) in cc)
-under_other (c ∷ name) [] rest h k apart = rw h.0 refl
-under_other (c ∷ name) (o ∷ other) rest h k apart =
+begins_other (c ∷ word) [] more rest h k apart = rw h.0 refl
+begins_other (c ∷ word) (o ∷ other) more rest h k apart =
     elim (which (eqb c o)) [
-      | inl e ↦ ap (λ t. t && is_under name (other ++ 32 ∷ rest)) e ∙ under_other name other rest h.1 k.1 (λ same. apart (ap (λ x. x ∷ other) (sym (eqb-true c o e)) ∙ ap (λ xs. c ∷ xs) same))
-      | inr e ↦ ap (λ t. t && is_under name (other ++ 32 ∷ rest)) e
+      | inl e ↦
+          ap (λ t. t && begins_with (word ++ 32 ∷ more) (other ++ 32 ∷ rest)) e
+          ∙ begins_other word other more rest h.1 k.1 (λ same. apart (ap (λ x. x ∷ other) (sym (eqb-true c o e)) ∙ ap (λ xs. c ∷ xs) same))
+      | inr e ↦ ap (λ t. t && begins_with (word ++ 32 ∷ more) (other ++ 32 ∷ rest)) e
     ]
+
+-- the word that begins a line about the board
+abbrev board : List ℕ
+board = codes "board"
+
+board_plain : Lacks 32 board
+board_plain = (refl, (refl, (refl, (refl, (refl, tt)))))
+
+-- a line that begins with none of the three fronts tells of no turn
+none_marked : (name line : List ℕ) → begins_with (mark_front (codes "lost") name) line ≡ false → begins_with (mark_front (codes "corrupt") name) line ≡ false
+    → begins_with (mark_front (codes "starve") name) line ≡ false → is_mark_of name line ≡ false
+none_marked name line e f g =
+    ap (λ t. t || begins_with (mark_front (codes "corrupt") name) line || begins_with (mark_front (codes "starve") name) line) e
+    ∙ ap (λ t. t || begins_with (mark_front (codes "starve") name) line) f
+    ∙ g
+
+-- a line whose first word is another than board tells of no turn
+no_mark : (name other rest : List ℕ) → Lacks 32 other → other ≢ codes "board" → is_mark_of name (other ++ 32 ∷ rest) ≡ false
+no_mark name other rest k apart =
+    let none = λ (more : List ℕ). begins_other board other more rest board_plain k apart in
+    none_marked name (other ++ 32 ∷ rest) (none (codes "lost " ++ name ++ codes " ")) (none (codes "corrupt " ++ name ++ codes " ")) (none (codes "starve " ++ name ++ codes " "))
+
+-- a line is under its first word
+under_own : (name rest : List ℕ) → is_under name (name ++ 32 ∷ rest) ≡ true
+under_own name rest =
+    ap (λ t. t || is_mark_of name (name ++ 32 ∷ rest)) (ap (begins_with (name ++ codes " ")) (sym (append_assoc name (codes " ") rest)) ∙ begins_own (name ++ codes " ") rest)
+
+-- and under no other name
+under_other : (name other rest : List ℕ) → Lacks 32 name → Lacks 32 other → other ≢ name → other ≢ codes "board" → is_under name (other ++ 32 ∷ rest) ≡ false
+under_other name other rest h k apart no_board =
+    ap (λ t. t || is_mark_of name (other ++ 32 ∷ rest)) (begins_other name other [] rest h k apart)
+    ∙ no_mark name other rest k no_board
 
 -- ---- a line of a text
 
-under_one : (name line : List ℕ) (t : Bool) (parts : List (List ℕ)) → flat_map (λ (l : List ℕ). l ++ codes "\n") (cond t (line ∷ parts) parts) ≡ cond t (line ++ 10 ∷ []) [] ++ flat_map (λ (l : List ℕ). l ++ codes "\n") parts
+under_one : (name line : List ℕ) (t : Bool) (parts : List (List ℕ))
+    → flat_map (λ (l : List ℕ). l ++ codes "\n") (cond t (line ∷ parts) parts) ≡ cond t (line ++ 10 ∷ []) [] ++ flat_map (λ (l : List ℕ). l ++ codes "\n") parts
 under_one name line true parts = refl
 under_one name line false parts = refl
 
@@ -124,7 +166,8 @@ behind_plain reply =
           (refl, both (decimal (number_of reply.origin)) (outputs_text reply.outputs) (decimal_plain (number_of reply.origin)) (outputs_plain reply.outputs)),
     )
 
-put_together : (name op code origin outputs rest : List ℕ) → (name ++ codes " " ++ op ++ codes " " ++ code ++ codes " " ++ origin ++ outputs ++ codes "\n") ++ rest ≡ (name ++ 32 ∷ (op ++ 32 ∷ (code ++ 32 ∷ (origin ++ outputs)))) ++ 10 ∷ rest
+put_together : (name op code origin outputs rest : List ℕ)
+    → (name ++ codes " " ++ op ++ codes " " ++ code ++ codes " " ++ origin ++ outputs ++ codes "\n") ++ rest ≡ (name ++ 32 ∷ (op ++ 32 ∷ (code ++ 32 ∷ (origin ++ outputs)))) ++ 10 ∷ rest
 put_together name op code origin outputs rest = simp append_assoc
 
 pub reply_is : (name : List ℕ) (reply : Reply) (rest : List ℕ) → reply_text name reply ++ rest ≡ (name ++ 32 ∷ behind_name reply) ++ 10 ∷ rest
@@ -133,6 +176,128 @@ reply_is name reply rest = put_together name (decimal reply.op) (code_text reply
 
 pub line_plain : (name : List ℕ) (reply : Reply) → Lacks 10 name → Lacks 10 (name ++ 32 ∷ behind_name reply)
 line_plain name reply h = both name (32 ∷ behind_name reply) h (refl, behind_plain reply)
+
+-- ---- the line of a turn that was lost, damaged or starved
+
+-- its text without the line feed
+abbrev mark_line : List ℕ → List ℕ → ℕ → List ℕ
+mark_line word name turn = (codes "board " ++ word) ++ 32 ∷ (name ++ 32 ∷ decimal turn)
+
+mark_put : (front word name number rest : List ℕ) → (front ++ word ++ codes " " ++ name ++ codes " " ++ number ++ codes "\n") ++ rest ≡ ((front ++ word) ++ 32 ∷ (name ++ 32 ∷ number)) ++ 10 ∷ rest
+mark_put front word name number rest = simp append_assoc
+
+mark_is : (word name : List ℕ) (turn : ℕ) (rest : List ℕ) → mark_text word name turn ++ rest ≡ mark_line word name turn ++ 10 ∷ rest
+mark_is word name turn rest = mark_put (codes "board ") word name (decimal turn) rest
+
+front_put : (front word name number : List ℕ) → (front ++ word) ++ 32 ∷ (name ++ 32 ∷ number) ≡ (front ++ word ++ codes " " ++ name ++ codes " ") ++ number
+front_put front word name number = simp append_assoc
+
+mark_begins : (word name : List ℕ) (turn : ℕ) → begins_with (mark_front word name) (mark_line word name turn) ≡ true
+mark_begins word name turn = ap (begins_with (mark_front word name)) (front_put (codes "board ") word name (decimal turn)) ∙ begins_own (mark_front word name) (decimal turn)
+
+mark_plain : (word name : List ℕ) (turn : ℕ) → Lacks 10 word → Lacks 10 name → Lacks 10 (mark_line word name turn)
+mark_plain word name turn h k =
+    both (codes "board " ++ word) (32 ∷ (name ++ 32 ∷ decimal turn)) (both (codes "board ") word (refl, (refl, (refl, (refl, (refl, (refl, tt)))))) h)
+    (refl, both name (32 ∷ decimal turn) k (refl, decimal_plain turn))
+
+-- the line is under the name
+lost_own : (name : List ℕ) (turn : ℕ) → is_under name (mark_line (codes "lost") name turn) ≡ true
+lost_own name turn =
+    let line = mark_line (codes "lost") name turn in
+    let first = begins_with (name ++ codes " ") line in
+    ap (λ t. first || (t || begins_with (mark_front (codes "corrupt") name) line || begins_with (mark_front (codes "starve") name) line)) (mark_begins (codes "lost") name turn)
+    ∙ or_yes first
+
+corrupt_own : (name : List ℕ) (turn : ℕ) → is_under name (mark_line (codes "corrupt") name turn) ≡ true
+corrupt_own name turn =
+    let line = mark_line (codes "corrupt") name turn in
+    let first = begins_with (name ++ codes " ") line in
+    ap (λ t. first || (begins_with (mark_front (codes "lost") name) line || t || begins_with (mark_front (codes "starve") name) line)) (mark_begins (codes "corrupt") name turn)
+    ∙ or_yes first
+
+starve_own : (name : List ℕ) (turn : ℕ) → is_under name (mark_line (codes "starve") name turn) ≡ true
+starve_own name turn =
+    let line = mark_line (codes "starve") name turn in
+    let first = begins_with (name ++ codes " ") line in
+    ap (λ t. first || (begins_with (mark_front (codes "lost") name) line || begins_with (mark_front (codes "corrupt") name) line || t)) (mark_begins (codes "starve") name turn)
+    ∙ or_yes first
+
+-- and under no other name
+module _ (name other : List ℕ) (turn : ℕ) (space : Lacks 32 name) (other_space : Lacks 32 other) (apart : other ≢ name) (no_board : name ≢ codes "board") where
+  board_apart : (rest : List ℕ) → begins_with (name ++ codes " ") (codes "board" ++ 32 ∷ rest) ≡ false
+  board_apart rest = begins_other name board [] rest space board_plain (λ same. no_board (sym same))
+
+  third_apart : begins_with (name ++ codes " ") (other ++ 32 ∷ decimal turn) ≡ false
+  third_apart = begins_other name other [] (decimal turn) space other_space apart
+
+  lost_other : is_under name (mark_line (codes "lost") other turn) ≡ false
+  lost_other =
+      let line = mark_line (codes "lost") other turn in
+      ap (λ t. t || is_mark_of name line) (board_apart (codes "lost " ++ other ++ 32 ∷ decimal turn)) ∙ none_marked name line third_apart refl refl
+
+  corrupt_other : is_under name (mark_line (codes "corrupt") other turn) ≡ false
+  corrupt_other =
+      let line = mark_line (codes "corrupt") other turn in
+      ap (λ t. t || is_mark_of name line) (board_apart (codes "corrupt " ++ other ++ 32 ∷ decimal turn)) ∙ none_marked name line refl third_apart refl
+
+  starve_other : is_under name (mark_line (codes "starve") other turn) ≡ false
+  starve_other =
+      let line = mark_line (codes "starve") other turn in
+      ap (λ t. t || is_mark_of name line) (board_apart (codes "starve " ++ other ++ 32 ∷ decimal turn)) ∙ none_marked name line refl refl third_apart
+
+under_is : (name word : List ℕ) (turn : ℕ) (rest : List ℕ) → Lacks 10 word → Lacks 10 name → is_under name (mark_line word name turn) ≡ true
+    → lines_for name (mark_text word name turn ++ rest) ≡ mark_text word name turn ++ lines_for name rest
+under_is name word turn rest h k under =
+    let line = mark_line word name turn in
+    ap (lines_for name) (mark_is word name turn rest)
+    ∙ first_line name line rest (mark_plain word name turn h k)
+    ∙ ap (λ (t : Bool). cond t (line ++ 10 ∷ []) [] ++ lines_for name rest) under
+    ∙ append_assoc line (10 ∷ []) (lines_for name rest)
+    ∙ sym (mark_is word name turn (lines_for name rest))
+
+under_none : (name other word : List ℕ) (turn : ℕ) (rest : List ℕ) → Lacks 10 word → Lacks 10 other → is_under name (mark_line word other turn) ≡ false
+    → lines_for name (mark_text word other turn ++ rest) ≡ lines_for name rest
+under_none name other word turn rest h k under =
+    let line = mark_line word other turn in
+    ap (lines_for name) (mark_is word other turn rest)
+    ∙ first_line name line rest (mark_plain word other turn h k)
+    ∙ ap (λ (t : Bool). cond t (line ++ 10 ∷ []) [] ++ lines_for name rest) under
+
+lost_plain : Lacks 10 (codes "lost")
+lost_plain = (refl, (refl, (refl, (refl, tt))))
+
+corrupt_plain : Lacks 10 (codes "corrupt")
+corrupt_plain = (refl, (refl, (refl, (refl, (refl, (refl, (refl, tt)))))))
+
+starve_plain : Lacks 10 (codes "starve")
+starve_plain = (refl, (refl, (refl, (refl, (refl, (refl, tt))))))
+
+-- what is written of how a turn went under a name is under it
+own_mark : (name : List ℕ) (kind : TurnKind) (turn : ℕ) (rest : List ℕ) → Lacks 10 name → lines_for name (happened_text name kind turn ++ rest) ≡ happened_text name kind turn ++ lines_for name rest
+own_mark name kinds.Plain turn rest h = refl
+own_mark name (kinds.Lost change) turn rest h = under_is name (codes "lost") turn rest lost_plain h (lost_own name turn)
+own_mark name kinds.Starved turn rest h = under_is name (codes "starve") turn rest starve_plain h (starve_own name turn)
+own_mark name kinds.Corrupted turn rest h = under_is name (codes "corrupt") turn rest corrupt_plain h (corrupt_own name turn)
+
+-- ---- names
+
+-- two names, each of which has neither a space nor a line feed and isn't the word board, and which differ
+pub record AreOther (name other : List ℕ) : Type 0 where
+  pub space : Lacks 32 name
+  pub other_space : Lacks 32 other
+  pub other_feed : Lacks 10 other
+  pub apart : other ≢ name
+  pub no_board : name ≢ codes "board"
+  pub other_no_board : other ≢ codes "board"
+
+other_mark : (name other : List ℕ) (kind : TurnKind) (turn : ℕ) (rest : List ℕ) → AreOther name other → lines_for name (happened_text other kind turn ++ rest) ≡ lines_for name rest
+other_mark name other kinds.Plain turn rest o = refl
+other_mark name other (kinds.Lost change) turn rest o =
+    under_none name other (codes "lost") turn rest lost_plain o.other_feed (lost_other name other turn o.space o.other_space o.apart o.no_board)
+other_mark name other kinds.Starved turn rest o =
+    under_none name other (codes "starve") turn rest starve_plain o.other_feed (starve_other name other turn o.space o.other_space o.apart o.no_board)
+other_mark name other kinds.Corrupted turn rest o =
+    under_none name other (codes "corrupt") turn rest corrupt_plain o.other_feed (corrupt_other name other turn o.space o.other_space o.apart o.no_board)
 
 -- ---- the lines of replies
 
@@ -145,15 +310,15 @@ own_reply name reply rest h =
     ∙ append_assoc line (10 ∷ []) (lines_for name rest)
     ∙ sym (reply_is name reply (lines_for name rest))
 
-other_reply : (name other : List ℕ) (reply : Reply) (rest : List ℕ) → Lacks 32 name → Lacks 10 other → Lacks 32 other → other ≢ name → lines_for name (reply_text other reply ++ rest) ≡ lines_for name rest
-other_reply name other reply rest space h k apart =
+other_reply : (name other : List ℕ) (reply : Reply) (rest : List ℕ) → AreOther name other → lines_for name (reply_text other reply ++ rest) ≡ lines_for name rest
+other_reply name other reply rest o =
     let line = other ++ 32 ∷ behind_name reply in
     ap (lines_for name) (reply_is other reply rest)
-    ∙ first_line name line rest (line_plain other reply h)
-    ∙ ap (λ (t : Bool). cond t (line ++ 10 ∷ []) [] ++ lines_for name rest) (under_other name other (behind_name reply) space k apart)
+    ∙ first_line name line rest (line_plain other reply o.other_feed)
+    ∙ ap (λ (t : Bool). cond t (line ++ 10 ∷ []) [] ++ lines_for name rest) (under_other name other (behind_name reply) o.space o.other_space o.apart o.other_no_board)
 
 -- the lines of replies under a name are under it
-pub own_replies : (name : List ℕ) (replies : List Reply) (rest : List ℕ) → Lacks 10 name → lines_for name (replies_text name replies ++ rest) ≡ replies_text name replies ++ lines_for name rest
+own_replies : (name : List ℕ) (replies : List Reply) (rest : List ℕ) → Lacks 10 name → lines_for name (replies_text name replies ++ rest) ≡ replies_text name replies ++ lines_for name rest
 own_replies name [] rest h = refl
 own_replies name (reply ∷ replies) rest h =
     ap (lines_for name) (append_assoc (reply_text name reply) (replies_text name replies) rest)
@@ -162,9 +327,30 @@ own_replies name (reply ∷ replies) rest h =
     ∙ sym (append_assoc (reply_text name reply) (replies_text name replies) (lines_for name rest))
 
 -- those under another name are not
-pub other_replies : (name other : List ℕ) (replies : List Reply) (rest : List ℕ) → Lacks 32 name → Lacks 10 other → Lacks 32 other → other ≢ name → lines_for name (replies_text other replies ++ rest) ≡ lines_for name rest
-other_replies name other [] rest space h k apart = refl
-other_replies name other (reply ∷ replies) rest space h k apart =
+other_replies : (name other : List ℕ) (replies : List Reply) (rest : List ℕ) → AreOther name other → lines_for name (replies_text other replies ++ rest) ≡ lines_for name rest
+other_replies name other [] rest o = refl
+other_replies name other (reply ∷ replies) rest o =
     ap (lines_for name) (append_assoc (reply_text other reply) (replies_text other replies) rest)
-    ∙ other_reply name other reply (replies_text other replies ++ rest) space h k apart
-    ∙ other_replies name other replies rest space h k apart
+    ∙ other_reply name other reply (replies_text other replies ++ rest) o
+    ∙ other_replies name other replies rest o
+
+-- ---- the lines of a happening
+
+-- those under a name are under it
+pub own_happened : (name : List ℕ) (h : Happened) (rest : List ℕ) → Lacks 10 name → lines_for name (happened_lines name h ++ rest) ≡ happened_lines name h ++ lines_for name rest
+own_happened name h rest feed =
+    let mark = happened_text name h.kind h.turn in
+    let replies = replies_text name h.replies in
+    ap (lines_for name) (append_assoc mark replies rest)
+    ∙ own_mark name h.kind h.turn (replies ++ rest) feed
+    ∙ ap (λ zs. mark ++ zs) (own_replies name h.replies rest feed)
+    ∙ sym (append_assoc mark replies (lines_for name rest))
+
+-- those under another name are not
+pub other_happened : (name other : List ℕ) (h : Happened) (rest : List ℕ) → AreOther name other → lines_for name (happened_lines other h ++ rest) ≡ lines_for name rest
+other_happened name other h rest o =
+    let mark = happened_text other h.kind h.turn in
+    let replies = replies_text other h.replies in
+    ap (lines_for name) (append_assoc mark replies rest)
+    ∙ other_mark name other h.kind h.turn (replies ++ rest) o
+    ∙ other_replies name other h.replies rest o

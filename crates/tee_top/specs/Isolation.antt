@@ -1,25 +1,67 @@
 -- One application among others: its events, its lines of a script and its lines of the text that is written.
 use Rattle.app_api.specs.Behaviours.{Behaviour}
-use Rattle.std.specs.Prelude.{ℕ, ◌==◌, Bool, true, false, List, [], ◌∷◌, ◌++◌, codes, map, replicate}
+use Rattle.std.specs.Prelude.{ℕ, ◌≡◌, ◌≢◌, ◌==◌, ◌||◌, Bool, true, false, List, [], ◌∷◌, ◌++◌, codes, if◌then◌else◌}
 use Rattle.std.specs.List.{filter, flat_map, slice_split, starts_with}
 use Rattle.alone.specs.Machine.{Machine}
-use Rattle.alone.specs.Runs.{events_of_call, machine_after}
-use Rattle.alone.specs.Step.{Event, Called, Cancelled, Turned}
+use Rattle.alone.specs.Marks.{Marks}
+use Rattle.alone.specs.Runs.{events_of_call, machine_after, turns_of}
+use Rattle.alone.specs.Step.{Event, Called, Cancelled, Turned, TurnLost, Corrupted, Lost, Starved, Restarted}
 use Rattle.script.specs.declared.line.Line.{Line}
 use Rattle.script.specs.declared.line.Line.TheVariants as lines
+use Rattle.tee_core.specs.Happenings.{happenings}
 use Rattle.tee_core.specs.World.{AppEvent}
+use Rattle.tee_top.specs.Transcript.{happened_lines}
 
--- whether the first word of a line is this name: the line begins with the name and a space
+-- ---- lines of a text
+
+-- whether a line begins with this text
+abbrev pub begins_with : List ℕ → List ℕ → Bool
+begins_with front line = starts_with (λ a b. a == b) line front
+
+-- what the line of a turn begins with that was lost, damaged or starved, as the word says: board, the word and the application's name
+abbrev pub mark_front : List ℕ → List ℕ → List ℕ
+mark_front word name = codes "board " ++ word ++ codes " " ++ name ++ codes " "
+
+-- whether a line says that a turn of the application of this name was lost, damaged or starved
+abbrev pub is_mark_of : List ℕ → List ℕ → Bool
+is_mark_of name line =
+    begins_with (mark_front (codes "lost") name) line || begins_with (mark_front (codes "corrupt") name) line
+    || begins_with (mark_front (codes "starve") name) line
+
+-- whether a line is under a name: its first word is the name, or it tells of a turn of the application of that name
 abbrev pub is_under : List ℕ → List ℕ → Bool
-is_under name line = starts_with (λ a b. a == b) line (name ++ codes " ")
+is_under name line = begins_with (name ++ codes " ") line || is_mark_of name line
 
 -- the lines of a text under a name, a line feed behind each
 abbrev pub lines_for : List ℕ → List ℕ → List ℕ
 lines_for name text = flat_map (λ line. line ++ codes "\n") (filter (is_under name) (slice_split (λ c. c == 10) text))
 
--- what happens to the application of this index
+-- ---- events
+
+-- what an event of one machine is for another: where a turn is lost, the other loses its storage too
+abbrev pub met_by_another : Event → List Event
+met_by_another (Called client call) = []
+met_by_another (Cancelled op) = []
+met_by_another (Turned instance) = []
+met_by_another (TurnLost instance) = Lost ∷ []
+met_by_another (Corrupted instance) = []
+met_by_another Lost = []
+met_by_another (Starved instance) = []
+met_by_another (Restarted took) = []
+
+-- what an event is for the machine of this index
+abbrev pub met_at : ℕ → AppEvent → List Event
+met_at app e = if e.app == app then e.event ∷ [] else met_by_another e.event
+
+-- what happens to the machine of this index: its own events, and a loss for each lost turn of another
 abbrev pub events_for : ℕ → List AppEvent → List Event
-events_for app events = map (λ e. e.event) (filter (λ e. e.app == app) events)
+events_for app events = flat_map (met_at app) events
+
+-- no turn of another application is marked as lost
+abbrev pub OthersLoseNone : ℕ → (ℕ → Marks) → Type 0
+OthersLoseNone app marks = (other turn : ℕ) → other ≢ app → (marks other).lost turn ≡ false
+
+-- ---- lines of a script
 
 -- whether a line names the application of this index
 abbrev pub is_of : ℕ → Line → Bool
@@ -33,13 +75,22 @@ is_of index (lines.Power pick) = false
 abbrev pub own_lines : ℕ → List Line → List Line
 own_lines app script = filter (is_of app) script
 
+-- ---- one machine alone
+
 -- behaviour has the application's two stated functions
 module _ {A : Type 0} (behaviour : Behaviour A) where
-  -- what a line makes happen in one machine: a call, and then turns until it is answered; a posted one is the call alone; so many turns, or a cancellation; no script that is run has other lines as yet
+  -- the text under a name of what happens to one machine in events
+  abbrev pub own_text : List ℕ → Machine A → List Event → List ℕ
+  own_text name m events = flat_map (happened_lines name) (happenings behaviour m events)
+
+-- marks say how the application's turns go
+module _ {A : Type 0} (behaviour : Behaviour A) (marks : Marks) where
+  -- what a line makes happen in one machine: a call, and then turns until it is answered; a posted one is the call alone; so many
+  -- turns, or a cancellation; no script that is run has other lines as yet
   abbrev pub own_line_events : Machine A → Line → List Event
   own_line_events m (lines.Call app client true call) = Called client call ∷ []
-  own_line_events m (lines.Call app client false call) = events_of_call behaviour m client call
-  own_line_events m (lines.Turns app client instance count) = replicate count (Turned instance)
+  own_line_events m (lines.Call app client false call) = events_of_call behaviour marks m client call
+  own_line_events m (lines.Turns app client instance count) = turns_of behaviour marks count m instance
   own_line_events m (lines.Cancel app client op) = Cancelled op ∷ []
   own_line_events m (lines.Fuse calls) = []
   own_line_events m (lines.Power pick) = []
