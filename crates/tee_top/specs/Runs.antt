@@ -1,17 +1,17 @@
 -- What a run of the program is given, and what it writes.
 use Rattle.app_api.specs.Behaviours.{Behaviour}
-use Rattle.std.specs.Prelude.{ℕ, ◌≡◌, ◌≤◌, ◌<◌, List, Option, Some, IfSome, Result, Ok, Err, codes, length, All, String, string_bytes}
+use Rattle.std.specs.Prelude.{ℕ, ◌≡◌, ◌≤◌, ◌<◌, ◌++◌, List, Option, Some, IfSome, codes, length, All, String, string_bytes}
 use Rattle.std.specs.Global.{Global}
 use Rattle.std.specs.Io.KnownBytes.{Appends}
 use Rattle.tee_base.specs.Faults.{Rose}
 use Rattle.tee_base.specs.declared.limits.TheConstants.{SCRIPT_BYTES}
-use Rattle.tee_base.specs.Transfer.{AppendsFront}
 use Rattle.app_api.specs.declared.host.Host.{Host}
 use Rattle.store_api.specs.Stores.{empty_store}
 use Rattle.script.specs.declared.line.Line.{Line}
 use Rattle.script.specs.declared.line.Line.TheVariants as lines
 use Rattle.script.specs.declared.dialect.Dialect.TheVariants.{WithoutBoard}
-use Rattle.script.specs.Grammar.{FirstBad, Reads}
+use Rattle.script.specs.Grammar.{FirstBad, Reads, names_of}
+use Rattle.tee_top.specs.BoardLines.{IsMarkOrNone, marks_in, whole_text}
 use Rattle.tee_top.specs.Transcript.{transcript}
 use Rattle.tee_top.specs.declared.status.Status.{Status}
 use Rattle.tee_top.specs.declared.status.Status.TheVariants.{Done, BadWords, BadLine, TooLong, NoMemory, ReadFault, WriteFault}
@@ -50,11 +50,6 @@ IsUnrun NoMemory = ⊥
 IsUnrun ReadFault = Unit {0}
 IsUnrun WriteFault = ⊥
 
--- the text was appended, or a front of it where the run stopped
-abbrev pub Writes : {X E : Type 0} → Result X E → List ℕ → Option (List ℕ) → Option (List ℕ) → Type 0
-Writes (Ok x) text old new = Appends old new text
-Writes (Err stop) text old new = AppendsFront text old new
-
 -- the text is a script of these lines, none of which is about the board
 abbrev pub IsText : {A : Type 0} → List (Host A) → List ℕ → List Line → Type 0
 IsText hosts text script = Reads WithoutBoard hosts text script
@@ -89,9 +84,25 @@ pub record IsTooMuch (words : List (String Global)) (left : Option (List ℕ)) (
   pub beyond : SCRIPT_BYTES < length text
   pub unfailed : ¬ Rose before after
 
--- what was written is said of the transcript of the script that the source held, over empty stores
-abbrev pub IsOfTranscript : {A : Type 0} → Behaviour A → List (Host A) → List ℕ → Option (List ℕ) → (List ℕ → Type 0) → Type 0
-IsOfTranscript {A} behaviour hosts seed left IsWritten = (script : List Line) × ReadsTo hosts left script × IsWritten (transcript behaviour hosts seed (λ app. empty_store) script)
+-- a text was appended that is the transcript of the script, over empty stores, where turns go as the text itself says
+pub record WritesAll {A : Type 0} (behaviour : Behaviour A) (hosts : List (Host A)) (seed : List ℕ) (script : List Line) (old new : Option (List ℕ)) : Type 0 where
+  pub text : List ℕ
+  pub appended : Appends old new text
+  pub all : text ≡ transcript behaviour (marks_in (names_of hosts) text) hosts seed (λ app. empty_store) script
+
+-- a text was appended that is a front of the transcript of the script, over empty stores, where turns go as the whole lines of the text
+-- say, and at most one line further
+pub record WritesFront {A : Type 0} (behaviour : Behaviour A) (hosts : List (Host A)) (seed : List ℕ) (script : List Line) (old new : Option (List ℕ)) : Type 0 where
+  pub text : List ℕ
+  pub appended : Appends old new text
+  pub further : List ℕ
+  pub one : IsMarkOrNone (names_of hosts) further
+  pub rest : List ℕ
+  pub all : transcript behaviour (marks_in (names_of hosts) (whole_text text ++ further)) hosts seed (λ app. empty_store) script ≡ text ++ rest
+
+-- this is so of the script that the source held
+abbrev pub IsOfScript : {A : Type 0} → List (Host A) → Option (List ℕ) → (List Line → Type 0) → Type 0
+IsOfScript hosts left IsSo = (script : List Line) × ReadsTo hosts left script × IsSo script
 
 -- the line names one of so many applications, if it names one
 abbrev pub IsKnown : ℕ → Line → Type 0

@@ -1,17 +1,15 @@
 //! The run of a script.
 
 ghost use Rattle.std.specs.Prelude.{◌≡◌, ◌⊎◌, ◌↔◌, ◌≤◌, ◌+◌, ℕ, List, IsTrue, IsErrOf, IfErr, IfOk, IfSome, OnOk, length};
-ghost use Rattle.std.specs.Io.KnownBytes.{Appends, IsAtEnd};
+ghost use Rattle.std.specs.Io.KnownBytes.{IsAtEnd};
 ghost use Rattle.std.specs.List.{AllByRecursion};
 ghost use Rattle.app_api.specs.Hosts.{HostsFit};
-ghost use Rattle.store_api.specs.Stores.{empty_store};
 ghost use Rattle.script.specs.declared.line.Line.{Line};
 ghost use Rattle.script.specs.Grammar.{names_of};
 ghost use Rattle.tee_base.specs.Faults.{Rose};
-ghost use Rattle.tee_base.specs.Transfer.{AppendsFront, ConsumesWithin, HasMoreThan};
+ghost use Rattle.tee_base.specs.Transfer.{ConsumesWithin, HasMoreThan};
 ghost use Rattle.tee_base.specs.declared.limits.TheConstants.{SCRIPT_BYTES};
-ghost use Rattle.tee_top.specs.Runs.{AreRunWords, IsKnown, IsServed, IsUnrun, IsReadStatus, ReadsTo, IsBadAt, IsOfTranscript, IsReadable, IsText, IsBadText, IsTooMuch, IsWithin};
-ghost use Rattle.tee_top.specs.Transcript.{transcript};
+ghost use Rattle.tee_top.specs.Runs.{AreRunWords, IsKnown, IsServed, IsUnrun, IsReadStatus, ReadsTo, IsBadAt, IsOfScript, IsReadable, IsText, IsBadText, IsTooMuch, IsWithin, WritesAll, WritesFront};
 
 use crate::lines::{Stop, run_lines};
 use crate::status::Status;
@@ -88,10 +86,10 @@ fn serve<W: Sink, A: Application>(
     requires fit { HostsFit hosts.items }
     requires known { AllByRecursion (IsKnown (length hosts.items)) lines.items }
     ensures done { result ≡ Status.Done
-        → Appends (W.written sink.old) (W.written sink.new)
-        (transcript A.behaviour hosts.items seed (λ app. empty_store) lines.items) }
-    ensures stopped { AppendsFront
-        (transcript A.behaviour hosts.items seed (λ app. empty_store) lines.items)
+        → WritesAll A.behaviour hosts.items seed lines.items
+        (W.written sink.old) (W.written sink.new) }
+    ensures stopped { ¬ (result ≡ Status.Done)
+        → WritesFront A.behaviour hosts.items seed lines.items
         (W.written sink.old) (W.written sink.new) }
     ensures fault { result ≡ Status.WriteFault → Rose (W.failures sink.old) (W.failures sink.new) }
     ensures later { W.failures sink.old ≤ W.failures sink.new }
@@ -110,9 +108,11 @@ fn serve<W: Sink, A: Application>(
     }
 }
 
-/// Reads a script from the source, runs it for the hosts, and writes the replies to the sink. The words of a run are
-/// `run`. Nothing is run, and nothing is written, unless the whole source was read and each line is in the
-/// grammar, and not about the board: such lines are bad ones as yet.
+/// Reads a script from the source, runs it for the hosts, and writes the replies to the sink, with a line before those of a
+/// turn that was lost, damaged or starved. What is written is the transcript of the script where turns go as the written
+/// text itself says; where the run stopped it is a front of one where turns go as the text says and at most one line more.
+/// The words of a run are `run`. Nothing is run, and nothing is written, unless the whole source was read and each line is
+/// in the grammar, and not about the board: such lines are bad ones as yet.
 pub fn run_tee<S: Source, W: Sink, A: Application>(
     alloc: Global,
     words: &[String],
@@ -123,15 +123,17 @@ pub fn run_tee<S: Source, W: Sink, A: Application>(
 ) -> Status
     requires { HostsFit hosts.items }
     ensures written { result ≡ Status.Done
-        → IsOfTranscript A.behaviour hosts.items seed (S.left source.old)
-        (Appends (W.written sink.old) (W.written sink.new)) }
+        → IsOfScript hosts.items (S.left source.old) (λ script.
+        WritesAll A.behaviour hosts.items seed script (W.written sink.old) (W.written sink.new)) }
     ensures cut_short { result ≡ Status.WriteFault
-        → IsOfTranscript A.behaviour hosts.items seed (S.left source.old) (λ text.
-        AppendsFront text (W.written sink.old) (W.written sink.new)) }
+        → IsOfScript hosts.items (S.left source.old) (λ script.
+        WritesFront A.behaviour hosts.items seed script (W.written sink.old)
+        (W.written sink.new)) }
     ensures no_memory { result ≡ Status.NoMemory
         → (sink.new ≡ sink.old)
-        ⊎ IsOfTranscript A.behaviour hosts.items seed (S.left source.old) (λ text.
-        AppendsFront text (W.written sink.old) (W.written sink.new)) }
+        ⊎ IsOfScript hosts.items (S.left source.old) (λ script.
+        WritesFront A.behaviour hosts.items seed script (W.written sink.old)
+        (W.written sink.new)) }
     ensures bad_words { (result ≡ Status.BadWords) ↔ ¬ AreRunWords words.now }
     ensures bad_line { (n : ℕ) → result ≡ Status.BadLine n
         → IsBadAt hosts.items (S.left source.old) n × IsAtEnd (S.left source.new) }

@@ -1,18 +1,26 @@
-use Rattle.std.proofs.Common.{◌∙◌, List, ap, refl, subst, sym, arith}
+use Rattle.std.proofs.Common.{◌≡◌, ◌∙◌, suc, List, [], ◌∷◌, drop, length, ap, refl, subst, sym, arith}
 use Rattle.std.specs.List.{AllByRecursion}
 use Rattle.script.specs.declared.line.Line.{Line}
-use Rattle.tee_core.specs.Represents.{Represents, app_count}
-use Rattle.tee_top.specs.Runs.{IsKnown}
+use Rattle.tee_core.specs.Represents.{app_count}
 use Rattle.tee_core.specs.World.{world_after}
+use Rattle.tee_core.proofs.Steps.{on_err_known}
+use Rattle.tee_top.specs.Runs.{IsKnown}
 use Rattle.tee_top.specs.Transcript.{events_of, line_events}
-use Rattle.tee_top.proofs.Events.{along_start, along_more, along_stopped, writes_err}
+use Rattle.tee_top.proofs.Along.{along_start, along_more, along_stopped, along_whole}
 use Rattle.tee_top.proofs.lines.run_lines.Goals as goal
+
+-- what has nothing left of it once the first is gone
+none_left : (lines : List Line) → lines ≡ drop 1 lines → lines ≡ []
+none_left [] same = refl
+none_left (line ∷ lines) same = let longer : suc (length lines) ≡ length lines = ap (λ (xs : List Line). length xs) same in absurd (omega (arith, longer))
 
 pub loop-line-init : goal.loop-line-init
 loop-line-init g c =
     let behaviour = g.A.Application.behaviour in
     record {
-      run = λ w stands. along_start behaviour c.args.names.now (Represents c.args.tee.now) w (events_of behaviour w c.args.lines.items) (λ now. events_of behaviour now c.from-rest.result.items) (g.W.Sink.written c.args.sink.now) stands (ap (events_of behaviour w) c.from-rest.ensures.0);
+      run = λ w stands.
+          along_start behaviour c.args.names.now c.args.tee.now w (λ marks. events_of behaviour marks w c.args.lines.items) (λ marks now. events_of behaviour marks now c.from-rest.result.items)
+          (g.W.Sink.written c.args.sink.now) stands (λ marks. ap (events_of behaviour marks w) (sym c.from-rest.ensures.0));
       apps = refl;
       known = subst (λ (lines : List Line). AllByRecursion (IsKnown (app_count c.args.tee.now)) lines) (sym c.from-rest.ensures.0) c.requires.known;
       later = omega arith;
@@ -24,9 +32,10 @@ loop-line-preserved g c =
     record {
       run = λ w stands.
           let run = c.loop-line.invariant.run w stands in
-          let events = line_events behaviour run.now c.in-Some.line in
-          along_more behaviour c.args.names.now (Represents c.loop-line.tee) (Represents c.run_line.new.tee) w (events_of behaviour w c.args.lines.items) (λ now. events_of behaviour now c.loop-line.rest.items) (λ now. events_of behaviour now c.pop_front.new.self.items) _ _ _
-          run events _ (ap (events_of behaviour run.now) c.in-Some.ensures.items) (c.in_ok-run_line.ensures.world run.now run.stands) refl (c.in_ok-run_line.ensures.written run.now run.stands);
+          let now = world_after behaviour w run.made in
+          along_more behaviour c.args.names.now c.loop-line.tee c.run_line.new.tee w (λ marks. events_of behaviour marks w c.args.lines.items)
+          (λ marks x. events_of behaviour marks x c.loop-line.rest.items) (λ marks x. events_of behaviour marks x c.pop_front.new.self.items) _ _ _
+          run (λ marks. line_events behaviour marks now c.in-Some.line) (λ marks. ap (events_of behaviour marks now) c.in-Some.ensures.items) (c.in_ok-run_line.ensures.whole now run.stands);
       apps = c.in_ok-run_line.ensures.apps ∙ c.loop-line.invariant.apps;
       known = (subst (λ (lines : List Line). AllByRecursion (IsKnown (app_count c.args.tee.now)) lines) c.in-Some.ensures.items c.loop-line.invariant.known).1;
       later = omega (arith, c.loop-line.invariant.later, c.in_ok-run_line.ensures.later);
@@ -37,11 +46,20 @@ run_line-requires-clause-known g c =
     subst (λ n. IsKnown n c.in-Some.line) (sym c.loop-line.invariant.apps)
     (subst (λ (lines : List Line). AllByRecursion (IsKnown (app_count c.args.tee.now)) lines) c.in-Some.ensures.items c.loop-line.invariant.known).0
 
-pub returns-in_err-run_line-clause-written : goal.returns-in_err-run_line-clause-written
-returns-in_err-run_line-clause-written g c = λ w stands.
+pub returns-in_err-run_line-clause-stopped : goal.returns-in_err-run_line-clause-stopped
+returns-in_err-run_line-clause-stopped g c =
+    let behaviour = g.A.Application.behaviour in
+    on_err_known c.from_residual.result _
+    (λ w stands.
+    let run = c.loop-line.invariant.run w stands in
+    let now = world_after behaviour w run.made in
+    along_stopped behaviour c.args.names.now c.loop-line.tee w (λ marks. events_of behaviour marks w c.args.lines.items)
+    (λ marks x. events_of behaviour marks x c.loop-line.rest.items) (λ marks x. events_of behaviour marks x c.pop_front.new.self.items) _ _ _
+    run (λ marks. line_events behaviour marks now c.in-Some.line) (λ marks. ap (events_of behaviour marks now) c.in-Some.ensures.items) (c.in_err-run_line.ensures.stopped now run.stands))
+
+pub returns-clause-whole : goal.returns-clause-whole
+returns-clause-whole g c = λ w stands.
     let behaviour = g.A.Application.behaviour in
     let run = c.loop-line.invariant.run w stands in
-    let events = line_events behaviour run.now c.in-Some.line in
-    writes_err c.from_residual.result _ _ _ c.from_residual.ensures.0
-    (along_stopped behaviour c.args.names.now (Represents c.loop-line.tee) w (events_of behaviour w c.args.lines.items) (λ now. events_of behaviour now c.loop-line.rest.items) _ _ _
-    run events (events_of behaviour (world_after behaviour run.now events) c.pop_front.new.self.items) (ap (events_of behaviour run.now) c.in-Some.ensures.items) (c.in_err-run_line.ensures.written run.now run.stands))
+    along_whole behaviour c.args.names.now c.loop-line.tee w (λ marks. events_of behaviour marks w c.args.lines.items) (λ marks x. events_of behaviour marks x c.loop-line.rest.items) _ _
+    run (λ marks. ap (events_of behaviour marks (world_after behaviour w run.made)) (none_left c.loop-line.rest.items (c.in_default.ensures.items ∙ c.in_default.ensures.rest)))
