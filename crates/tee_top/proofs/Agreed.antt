@@ -203,7 +203,7 @@ module _ {A : Type 0} (behaviour : Behaviour A) where
     marked w e m front es is count behind whole known =
         let turn : ℕ = m.turns + 1 in
         let entries : AreKnown names (record { app = e.app; told = happening behaviour m e.event } ∷ log_of behaviour (world_step behaviour w e) es) =
-            subst (λ (o : Option (Machine A)). AreKnown names (entry_of behaviour e.app e.event o ++ log_of behaviour (world_step behaviour w e) es)) is known in
+        subst (λ (o : Option (Machine A)). AreKnown names (entry_of behaviour e.app e.event o ++ log_of behaviour (world_step behaviour w e) es)) is known in
         let at = same e.app turn entries.known.0 (omega (arith, entries.counted.0, count)) in
         record {
           lost = at.lost ∙ ap (λ es. says is_lost_turn refl e.app es turn) whole ∙ says_here is_lost_turn refl w e m front es is count behind.lost;
@@ -238,11 +238,11 @@ module _ {A : Type 0} (behaviour : Behaviour A) where
         let then : World A = world_step behaviour w e in (
           agrees_in (marks e.app) e.event (slice_get w e.app) (slice_get w e.app) refl (λ m is count. marked w e m front es is count behind whole known),
           goes_from then es (front ++ here) (whole ∙ sym (append_assoc front here (log_of behaviour then es))) (known_rest here (log_of behaviour then es) known)
-          (record {
-            lost = behind_more is_lost_turn refl w e front behind.lost;
-            corrupt = behind_more is_corrupt_turn refl w e front behind.corrupt;
-            starved = behind_more is_starved_turn refl w e front behind.starved;
-          }),
+              (record {
+                lost = behind_more is_lost_turn refl w e front behind.lost;
+                corrupt = behind_more is_corrupt_turn refl w e front behind.corrupt;
+                starved = behind_more is_starved_turn refl w e front behind.starved;
+              }),
         )
 
   -- marks that are alike with a log's agree with the events of that log

@@ -78,8 +78,8 @@ module _ {A : Type 0} (behaviour : Behaviour A) (names : List (List ℕ)) where
             let behind : List AppEvent = rest_then marks (world_after behaviour now (events marks)) in (
               begins.0 ++ behind,
               run.by_marks marks (agree_first behaviour marks w run.made part.made agree)
-              ∙ ap (λ zs. run.made ++ zs) (splits marks ∙ ap (λ es. es ++ behind) begins.1 ∙ append_assoc part.made begins.0 behind)
-              ∙ sym (append_assoc run.made part.made (begins.0 ++ behind)),
+                  ∙ ap (λ zs. run.made ++ zs) (splits marks ∙ ap (λ es. es ++ behind) begins.1 ∙ append_assoc part.made begins.0 behind)
+                  ∙ sym (append_assoc run.made part.made (begins.0 ++ behind)),
             );
       }
 

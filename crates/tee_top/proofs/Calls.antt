@@ -183,7 +183,15 @@ cut_either name h hs front behind later (inr s) =
 
 pub cut_within : (name : List ℕ) (hs : List Happened) (front behind : List ℕ) → told_text name hs ≡ front ++ behind → CutWithin name hs front
 cut_within name [] front behind e = record {
-  done = []; last = []; more = []; few = omega arith; all = refl; cut = []; rest = []; piece = refl; here = front_of_none front behind e;
+  done = [];
+  last = [];
+  more = [];
+  few = omega arith;
+  all = refl;
+  cut = [];
+  rest = [];
+  piece = refl;
+  here = front_of_none front behind e;
 }
 cut_within name (h ∷ hs) front behind e =
     cut_either name h hs front behind (λ middle same. cut_within name hs middle behind same) (split_at (happened_lines name h) (told_text name hs) front behind e)
@@ -234,8 +242,8 @@ module _ {A : Type 0} (behaviour : Behaviour A) where
         let same = call_counts_none m client call in (
           omega (arith, room, same),
           all_weaker (λ (h : Happened). h.turn ≤ 2 ^ 63) (λ (h : Happened). h.turn < 2 ^ 64) (happenings behaviour s.machine (turns_of_call behaviour told_marks m client call))
-          (λ h few. omega (arith, few))
-          (turns_bound behaviour told_marks most_turns s.machine s.instance m.queue.next (2 ^ 63) (omega (arith, room, same, most_is))),
+              (λ h few. omega (arith, few))
+              (turns_bound behaviour told_marks most_turns s.machine s.instance m.queue.next (2 ^ 63) (omega (arith, room, same, most_is))),
         )
 
     pub call_whole : (told : List Happened) (tee : Tee A) (old new : Option (List ℕ)) → slice_get w app ≡ Some m → app < length names → m.turns + 10000000 ≤ 2 ^ 63

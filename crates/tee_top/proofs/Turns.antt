@@ -104,7 +104,7 @@ module _ {A : Type 0} (behaviour : Behaviour A) where
       (λ here behind.
       let same : event_then ≡ x = event_alike marks others m i (subst (λ (y : Event). AgreesAt others m y) (sym here) agree.0) ∙ here in
       let next = turns_begin k marks others then i op made rest
-          (ap (λ (y : Event). turns_until behaviour marks k (step behaviour m y).machine i op) (sym here) ∙ behind) agree.1 in (
+      (ap (λ (y : Event). turns_until behaviour marks k (step behaviour m y).machine i op) (sym here) ∙ behind) agree.1 in (
         next.0,
         ap (λ (y : Event). y ∷ turns_until behaviour others k (step behaviour m y).machine i op) same ∙ ap (λ es. x ∷ es) next.1,
       ))

@@ -46,8 +46,8 @@ module _ {A : Type 0} (behaviour : Behaviour A) (hosts : List (Host A)) (fit : H
       let text : List ℕ = text_of behaviour names begin run.made in
       let marks : ℕ → Marks = marks_in names text in
       let same : (app turn : ℕ) → app < length names → turn < 2 ^ 64 → SameAt turn (marks app) (log_marks log app) = λ app turn within few.
-          subst (λ zs. SameAt turn (marks_in names zs app) (log_marks log app)) (sym (text_is_log behaviour names begin run.made))
-          (marks_read_back names log (hosts_can_name hosts fit) (not_board hosts fit) run.known app turn within few) in
+      subst (λ zs. SameAt turn (marks_in names zs app) (log_marks log app)) (sym (text_is_log behaviour names begin run.made))
+      (marks_read_back names log (hosts_can_name hosts fit) (not_board hosts fit) run.known app turn within few) in
       record {
         text = text;
         appended = run.written;

@@ -101,8 +101,8 @@ fn write_happened<W: Sink>(
         → Rose (W.failures sink.old) (W.failures sink.new) }
     ensures later { W.failures sink.old ≤ W.failures sink.new }
 {
-    let line = happened_line(alloc, name, happened.kind, happened.turn)?;
-    write_bytes(sink, line.as_slice())?;
+    let mark = happened_line(alloc, name, happened.kind, happened.turn)?;
+    write_bytes(sink, mark.as_slice())?;
     write_replies(alloc, name, happened.replies.as_slice(), sink)
 }
 

@@ -31,7 +31,7 @@ returns-clause-whole g c =
     let own : app_of e < length names = omega (arith, c.requires.names, there) in
     let within : c.args.app < length names = omega (arith, c.requires.names, c.requires.known) in
     let named : c.as_slice.result.now ≡ get_or names (app_of e) [] =
-        c.as_slice.ensures ∙ get_or_read names c.args.app c.index-names-app.result within c.index-names-app.is [] ∙ ap (λ i. get_or names i []) (sym c.requires.own) in
+    c.as_slice.ensures ∙ get_or_read names c.args.app c.index-names-app.result within c.index-names-app.is [] ∙ ap (λ i. get_or names i []) (sym c.requires.own) in
     let fits : turns_made c.args.tee.now c.args.app + 1 ≤ 2 ^ 63 = c.has_room.ensures.0 c.if-not-has_room.false in
     let room : turns_made c.args.tee.now (app_of e) < 2 ^ 63 = subst (λ i. turns_made c.args.tee.now i < 2 ^ 63) (sym c.requires.own) (omega (arith, fits)) in
     on_ok_weaker c.write_happened.result
@@ -52,7 +52,7 @@ returns-clause-stopped g c =
     let own : app_of e < length names = omega (arith, c.requires.names, there) in
     let within : c.args.app < length names = omega (arith, c.requires.names, c.requires.known) in
     let named : c.as_slice.result.now ≡ get_or names (app_of e) [] =
-        c.as_slice.ensures ∙ get_or_read names c.args.app c.index-names-app.result within c.index-names-app.is [] ∙ ap (λ i. get_or names i []) (sym c.requires.own) in
+    c.as_slice.ensures ∙ get_or_read names c.args.app c.index-names-app.result within c.index-names-app.is [] ∙ ap (λ i. get_or names i []) (sym c.requires.own) in
     let fits : turns_made c.args.tee.now c.args.app + 1 ≤ 2 ^ 63 = c.has_room.ensures.0 c.if-not-has_room.false in
     let room : turns_made c.args.tee.now (app_of e) < 2 ^ 63 = subst (λ i. turns_made c.args.tee.now i < 2 ^ 63) (sym c.requires.own) (omega (arith, fits)) in
     on_err_weaker c.write_happened.result

@@ -9,19 +9,19 @@ use Rattle.tee_top.specs.Transcript.{happened_lines, replies_text}
 use Rattle.tee_top.proofs.Writing.{front_after, front_longer, front_none}
 use Rattle.tee_top.proofs.lines.write_happened.Goals as goal
 
-pub returns-in_err-line-clause-err : goal.returns-in_err-line-clause-err
-returns-in_err-line-clause-err g c = on_err_known c.from_residual.result _ (front_none _ _)
+pub returns-in_err-mark-clause-err : goal.returns-in_err-mark-clause-err
+returns-in_err-mark-clause-err g c = on_err_known c.from_residual.result _ (front_none _ _)
 
 pub returns-in_err-write_bytes-clause-err : goal.returns-in_err-write_bytes-clause-err
 returns-in_err-write_bytes-clause-err g c =
     let replies = replies_text c.args.name.now c.args.happened.now.replies in
-    let line : c.as_slice.result.now ≡ happened_text c.args.name.now c.args.happened.now.kind c.args.happened.now.turn = c.as_slice.ensures ∙ c.in_ok-line.ensures in
+    let line : c.as_slice.result.now ≡ happened_text c.args.name.now c.args.happened.now.kind c.args.happened.now.turn = c.as_slice.ensures ∙ c.in_ok-mark.ensures in
     on_err_known c.from_residual-in_err-write_bytes.result _
     (subst (λ zs. AppendsFront (zs ++ replies) (g.W.Sink.written c.args.sink.now) (g.W.Sink.written c.write_bytes.new.sink)) line (front_longer _ replies _ _ c.in_err-write_bytes.ensures.err))
 
 pub returns-clause-ok : goal.returns-clause-ok
 returns-clause-ok g c =
-    let line : c.as_slice.result.now ≡ happened_text c.args.name.now c.args.happened.now.kind c.args.happened.now.turn = c.as_slice.ensures ∙ c.in_ok-line.ensures in
+    let line : c.as_slice.result.now ≡ happened_text c.args.name.now c.args.happened.now.kind c.args.happened.now.turn = c.as_slice.ensures ∙ c.in_ok-mark.ensures in
     on_ok_weaker c.write_replies.result
     (λ h. subst (λ zs. Appends (g.W.Sink.written c.args.sink.now) (g.W.Sink.written c.write_replies.new.sink) zs)
     (ap (λ zs. zs ++ replies_text c.args.name.now c.as_slice-2.result.now) line ∙ ap (λ rs. happened_text c.args.name.now c.args.happened.now.kind c.args.happened.now.turn ++ replies_text c.args.name.now rs) c.as_slice-2.ensures)
@@ -30,7 +30,7 @@ returns-clause-ok g c =
 
 pub returns-clause-err : goal.returns-clause-err
 returns-clause-err g c =
-    let line : c.as_slice.result.now ≡ happened_text c.args.name.now c.args.happened.now.kind c.args.happened.now.turn = c.as_slice.ensures ∙ c.in_ok-line.ensures in
+    let line : c.as_slice.result.now ≡ happened_text c.args.name.now c.args.happened.now.kind c.args.happened.now.turn = c.as_slice.ensures ∙ c.in_ok-mark.ensures in
     on_err_weaker c.write_replies.result
     (λ h. subst (λ zs. AppendsFront zs (g.W.Sink.written c.args.sink.now) (g.W.Sink.written c.write_replies.new.sink))
     (ap (λ zs. zs ++ replies_text c.args.name.now c.as_slice-2.result.now) line ∙ ap (λ rs. happened_text c.args.name.now c.args.happened.now.kind c.args.happened.now.turn ++ replies_text c.args.name.now rs) c.as_slice-2.ensures)
