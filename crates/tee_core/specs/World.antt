@@ -4,7 +4,6 @@ use Rattle.std.specs.Prelude.{ℕ, ◌+◌, List, [], ◌∷◌, Option, None, S
 use Rattle.app_api.specs.declared.call.Call.{Call}
 use Rattle.app_api.specs.declared.host.Host.{Host}
 use Rattle.store_api.specs.Stores.{Store}
-use Rattle.alone.specs.declared.reply.Reply.{Reply}
 use Rattle.alone.specs.Machine.{Machine, start}
 use Rattle.alone.specs.Marks.{Marks}
 use Rattle.alone.specs.Runs.{events_of_call, turns_of}
@@ -46,18 +45,9 @@ module _ {A : Type 0} (behaviour : Behaviour A) where
   moved_at world app event None = world
   moved_at world app event (Some m) = slice_set (met_by_others event world) app (step behaviour m event).machine
 
-  -- the replies to an event of a machine; none where there is no such machine
-  abbrev pub replied_at : Event → Option (Machine A) → List Reply
-  replied_at event None = []
-  replied_at event (Some m) = (step behaviour m event).replies
-
   -- an event moves the machine of its application, and no other but by a loss
   abbrev pub world_step : World A → AppEvent → World A
   world_step world e = moved_at world e.app e.event (slice_get world e.app)
-
-  -- its replies
-  abbrev pub world_replies : World A → AppEvent → List Reply
-  world_replies world e = replied_at e.event (slice_get world e.app)
 
   -- the world after events
   abbrev pub world_after : World A → List AppEvent → World A
