@@ -22,7 +22,8 @@ pub fn applications_are_apart<A: Application>()
         (script : List Line) (marks : ℕ → Marks) (app : ℕ) (host : Host A)
         → slice_get hosts app ≡ Some host → OthersLoseNone app marks
         → events_for app (events_of A.behaviour marks (world_of hosts seed stores) script)
-        ≡ own_events A.behaviour (marks app) (start host app seed (stores app)) (own_lines app script) }
+        ≡ own_events A.behaviour (marks app) (start host app seed (stores app))
+        (own_lines app script) }
     ensures lines { (hosts : List (Host A)) (seed : List ℕ) (stores : ℕ → Store)
         (script : List Line) (marks : ℕ → Marks) (app : ℕ) (host : Host A)
         → HostsFit hosts → slice_get hosts app ≡ Some host
@@ -37,5 +38,6 @@ pub fn applications_are_apart<A: Application>()
         → OthersLoseNone app marks → OthersLoseNone app marks_then
         → ((turn : ℕ) → SameAt turn (marks app) (marks_then app))
         → lines_for host.name (transcript A.behaviour marks hosts seed stores script)
-        ≡ lines_for host.name (transcript A.behaviour marks_then others seed stores_then script_then) }
+        ≡ lines_for host.name
+        (transcript A.behaviour marks_then others seed stores_then script_then) }
 {}
