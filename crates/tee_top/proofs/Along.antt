@@ -1,13 +1,13 @@
 -- Runs of events, one part after another.
 use Rattle.app_api.specs.Behaviours.{Behaviour}
-use Rattle.std.proofs.Common.{ℕ, ◌≡◌, List, [], ◌∷◌, ◌++◌, Option, refl, sym, subst, ◌∙◌, ap, append_assoc, append-nil, arith}
+use Rattle.std.proofs.Common.{ℕ, ◌≡◌, List, [], ◌++◌, Option, refl, sym, subst, ◌∙◌, ap, append_assoc, append-nil, arith}
 use Rattle.std.specs.Io.KnownBytes.{Appends}
 use Rattle.std.proofs.KnownBytes.{Appends-nil, Appends-trans}
 use Rattle.alone.specs.Marks.{Marks}
 use Rattle.tee_core.specs.Represents.{Represents}
 use Rattle.tee_core.specs.World.{World, AppEvent, world_after}
 use Rattle.tee_core.specs.declared.tee.Tee.{Tee}
-use Rattle.tee_top.specs.Logs.{AreKnown, Entry, IsWrittenOf, log_text}
+use Rattle.tee_top.specs.Logs.{AreKnown, Entry, IsWrittenOf}
 use Rattle.tee_top.specs.Parts.{AgreeWith, IsRunOf, StopsIn, log_of}
 use Rattle.tee_top.specs.Transcript.{text_of}
 use Rattle.tee_top.proofs.Parts.{agree_behind, agree_first, known_parts, log_of_both, text_is_log, text_of_both, world_after_both, written_behind}

@@ -1,10 +1,9 @@
 -- A call and its turns, and what is written of them.
 use Rattle.app_api.specs.Behaviours.{Behaviour}
-use Rattle.std.proofs.Common.{ℕ, zero, suc, ◌≡◌, ◌<◌, ◌≤◌, ◌+◌, ◌^◌, Bool, true, false, not, cond, filter, List, [], ◌∷◌, ◌++◌, Option, None, Some, length, map, refl, sym, subst, ◌∙◌, ap, append_assoc, append-nil, ◌⊎◌, inl, inr, arith}
+use Rattle.std.proofs.Common.{ℕ, zero, suc, ◌≡◌, ◌<◌, ◌≤◌, ◌+◌, ◌^◌, true, false, not, filter, List, [], ◌∷◌, ◌++◌, Option, None, Some, length, map, refl, sym, subst, ◌∙◌, ap, append_assoc, append-nil, ◌⊎◌, inl, inr, arith}
 use Rattle.std.specs.Prelude.{◌||◌, slice_get, slice_index_or}
-use Rattle.std.specs.List.{AllByRecursion, flat_map}
+use Rattle.std.specs.List.{AllByRecursion}
 use Rattle.std.proofs.lemmas.Bool.{cond_both}
-use Rattle.std.proofs.lemmas.Grind.{flat_map-append}
 use Rattle.std.specs.Io.KnownBytes.{Appends}
 use Rattle.tee_base.specs.Transfer.{AppendsFront}
 use Rattle.app_api.specs.declared.call.Call.{Call}
@@ -22,11 +21,11 @@ use Rattle.tee_core.specs.declared.happened.Happened.{Happened}
 use Rattle.tee_core.specs.declared.tee.Tee.{Tee}
 use Rattle.tee_core.specs.Happenings.{happening, happenings, has_reply, is_plain, is_told, told_of_call}
 use Rattle.tee_core.specs.Represents.{Represents}
-use Rattle.tee_core.specs.World.{World, AppEvent, events_at, met_by_others, moved_at, run_events, world_after, world_step}
+use Rattle.tee_core.specs.World.{World, events_at, met_by_others, moved_at, run_events, world_after, world_step}
 use Rattle.tee_core.proofs.Worlds.{get_set, run_is}
-use Rattle.tee_top.specs.Logs.{AreKnown, Entry, IsWrittenOf, log_text}
+use Rattle.tee_top.specs.Logs.{AreKnown, Entry, log_text}
 use Rattle.tee_top.specs.Parts.{AgreesIn, AgreeWith, IsRunOf, StopsIn, entry_of, log_of, told_text}
-use Rattle.tee_top.specs.Transcript.{happened_lines, line_events, replies_text, text_of}
+use Rattle.tee_top.specs.Transcript.{happened_lines, line_events, replies_text}
 use Rattle.tee_top.proofs.Turns.{AgreeOn, turns_begin, turns_bound, turns_same}
 use Rattle.tee_top.proofs.Parts.{all_first, all_weaker, text_is_log}
 

@@ -5,10 +5,8 @@ use Rattle.std.specs.Prelude.{slice_get, slice_index_or}
 use Rattle.std.specs.Io.KnownBytes.{Appends}
 use Rattle.tee_base.specs.Transfer.{AppendsFront}
 use Rattle.alone.specs.declared.turn.TurnKind.{TurnKind}
-use Rattle.alone.specs.declared.turn.TurnKind.TheVariants as kinds
 use Rattle.alone.specs.Machine.{Machine}
 use Rattle.alone.specs.Marks.{Marks, event_at}
-use Rattle.alone.specs.Runs.{turns_of}
 use Rattle.alone.specs.Step.{Event, may_stand, step}
 use Rattle.alone.proofs.Counted.{call_counts_none}
 use Rattle.app_side.specs.Represents.{event_of as turn_of}
@@ -19,11 +17,11 @@ use Rattle.tee_core.specs.declared.hosted.Hosted.{Hosted}
 use Rattle.tee_core.specs.declared.tee.Tee.{Tee}
 use Rattle.tee_core.specs.Happenings.{happening}
 use Rattle.tee_core.specs.Represents.{AreHosted, IsHosted, Represents, app_of, event_of, machine_event, turns_in, turns_made}
-use Rattle.tee_core.specs.World.{World, AppEvent, events_at, turn_events, turned_at, world_after, world_step}
+use Rattle.tee_core.specs.World.{World, turn_events, turned_at, world_after, world_step}
 use Rattle.tee_core.proofs.Steps.{hosted_turns}
 use Rattle.tee_core.proofs.Turns.{kind_counts}
-use Rattle.tee_top.specs.Logs.{AreKnown, Entry, IsWrittenOf, log_text}
-use Rattle.tee_top.specs.Parts.{AgreesIn, AgreeWith, IsRunOf, StopsIn, entry_of, log_of, step_events}
+use Rattle.tee_top.specs.Logs.{AreKnown, Entry, log_text}
+use Rattle.tee_top.specs.Parts.{AgreesIn, IsRunOf, StopsIn, entry_of, log_of, step_events}
 use Rattle.tee_top.specs.Transcript.{happened_lines, text_of}
 use Rattle.tee_top.proofs.Turns.{event_as}
 use Rattle.tee_top.proofs.Calls.{there_after}

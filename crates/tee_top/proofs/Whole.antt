@@ -1,6 +1,6 @@
 -- The text of a run is the transcript under the marks that are read back from it.
 use Rattle.app_api.specs.Behaviours.{Behaviour}
-use Rattle.std.proofs.Common.{ℕ, ◌≡◌, ◌≢◌, ◌<◌, ◌^◌, List, [], ◌∷◌, ◌++◌, Option, length, codes, refl, sym, subst, ◌∙◌, ap, append_assoc}
+use Rattle.std.proofs.Common.{ℕ, ◌≢◌, ◌<◌, ◌^◌, List, [], ◌++◌, Option, length, codes, refl, sym, subst, ◌∙◌, ap, append_assoc}
 use Rattle.std.specs.Prelude.{All}
 use Rattle.std.proofs.KnownBytes.{Appends-nil}
 use Rattle.std.proofs.lemmas.List.{length-map}
@@ -13,9 +13,9 @@ use Rattle.alone.specs.Marks.{Marks, SameAt}
 use Rattle.script.specs.declared.line.Line.{Line}
 use Rattle.script.specs.Grammar.{names_of}
 use Rattle.tee_core.specs.declared.tee.Tee.{Tee}
-use Rattle.tee_core.specs.World.{World, AppEvent, world_after, world_of}
-use Rattle.tee_top.specs.BoardLines.{IsMarkOrNone, marks_in, whole_text}
-use Rattle.tee_top.specs.Logs.{Entry, log_marks, log_text}
+use Rattle.tee_core.specs.World.{World, world_after, world_of}
+use Rattle.tee_top.specs.BoardLines.{marks_in, whole_text}
+use Rattle.tee_top.specs.Logs.{Entry, log_marks}
 use Rattle.tee_top.specs.Parts.{IsRunOf, StopsIn, log_of}
 use Rattle.tee_top.specs.Runs.{WritesAll, WritesFront}
 use Rattle.tee_top.specs.Transcript.{events_of, text_of, transcript}

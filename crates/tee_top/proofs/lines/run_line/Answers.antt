@@ -1,4 +1,4 @@
-use Rattle.std.proofs.Common.{ℕ, ◌≡◌, ◌⊎◌, List, [], ap, subst, inl, inr}
+use Rattle.std.proofs.Common.{ℕ, ◌≡◌, ◌⊎◌, [], ap, subst, inl, inr}
 use Rattle.app_api.specs.Behaviours.{Behaviour}
 use Rattle.alone.specs.Marks.{Marks}
 use Rattle.script.specs.declared.line.Line.{Line}

@@ -1,11 +1,11 @@
-use Rattle.std.proofs.Common.{List, ◌≡◌, ◌∙◌, ◌++◌, ap, subst}
+use Rattle.std.proofs.Common.{◌≡◌, ◌∙◌, ◌++◌, ap, subst}
 use Rattle.std.specs.Io.KnownBytes.{Appends}
 use Rattle.std.proofs.KnownBytes.{Appends-trans}
 use Rattle.std.proofs.lemmas.Result.{on_err_weaker, on_ok_weaker}
 use Rattle.tee_base.specs.Transfer.{AppendsFront}
 use Rattle.report.specs.Texts.{happened_text}
 use Rattle.tee_core.proofs.Steps.{on_err_known}
-use Rattle.tee_top.specs.Transcript.{happened_lines, replies_text}
+use Rattle.tee_top.specs.Transcript.{replies_text}
 use Rattle.tee_top.proofs.Writing.{front_after, front_longer, front_none}
 use Rattle.tee_top.proofs.lines.write_happened.Goals as goal
 
