@@ -89,7 +89,8 @@ module _ {A : Type 0} (behaviour : Behaviour A) where
       ∙ ap (λ zs. log_text names here ++ zs) (text_is_log names then es)
       ∙ sym (log_text_both names here (log_of behaviour then es))
 
-  pub text_of_both : (names : List (List ℕ)) (w : World A) (xs ys : List AppEvent) → text_of behaviour names w (xs ++ ys) ≡ text_of behaviour names w xs ++ text_of behaviour names (world_after behaviour w xs) ys
+  pub text_of_both : (names : List (List ℕ)) (w : World A) (xs ys : List AppEvent)
+      → text_of behaviour names w (xs ++ ys) ≡ text_of behaviour names w xs ++ text_of behaviour names (world_after behaviour w xs) ys
   text_of_both names w xs ys =
       let then : World A = world_after behaviour w xs in
       text_is_log names w (xs ++ ys)

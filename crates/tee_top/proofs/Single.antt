@@ -58,7 +58,8 @@ module _ {A : Type 0} (behaviour : Behaviour A) where
       ∙ ap (λ (x : Event). record { app = app; event = x } ∷ [])
       (event_as (marks app) m kind instance may (subst (λ (o : Option (Machine A)). AgreesIn (marks app) o (turn_of kind instance)) here agree))
 
-  module _ (names : List (List ℕ)) (w : World A) (e : TeeEvent) (h : Happened) (m : Machine A) (here : slice_get w (app_of e) ≡ Some m) (same : h ≡ happening behaviour m (machine_event e h.kind)) where
+  module _ (names : List (List ℕ)) (w : World A) (e : TeeEvent) (h : Happened) (m : Machine A) (here : slice_get w (app_of e) ≡ Some m)
+      (same : h ≡ happening behaviour m (machine_event e h.kind)) where
     one_log : log_of behaviour w (event_of e h.kind ∷ []) ≡ record { app = app_of e; told = h } ∷ []
     one_log =
         ap (λ o. entry_of behaviour (app_of e) (machine_event e h.kind) o ++ []) here

@@ -40,7 +40,8 @@ module _ {A : Type 0} (behaviour : Behaviour A) (hosts : List (Host A)) (fit : H
   some_name : 0 < length names
   some_name = subst (λ n. 0 < n) (sym (length-map hosts (λ (host : Host A). host.name))) fit.some
 
-  pub all_written : (tee : Tee A) (old new : Option (List ℕ)) → IsRunOf behaviour names (λ marks. events_of behaviour marks begin script) begin tee old new → WritesAll behaviour hosts seed script old new
+  pub all_written : (tee : Tee A) (old new : Option (List ℕ)) → IsRunOf behaviour names (λ marks. events_of behaviour marks begin script) begin tee old new
+      → WritesAll behaviour hosts seed script old new
   all_written tee old new run =
       let log : List Entry = log_of behaviour begin run.made in
       let text : List ℕ = text_of behaviour names begin run.made in

@@ -1,5 +1,5 @@
-//! Lines, one after the other: what happens in each event is written before the next line is run, and what happens in each turn
-//! of a line of turns before the next turn is made. What happens in the turns of a call line is written when the call is answered.
+//! Lines, one after the other: what happens in a line is written before the next line is run, and what happens in each turn of
+//! a line of turns before the next turn is made. What happens in the turns of a call line is written when it is answered.
 
 ghost use Rattle.std.specs.Prelude.{◌≡◌, ◌≤◌, ◌<◌, ◌+◌, ◌^◌, ◌↔◌, IsErrOf, IsTrue, OnErr, OnOk, length};
 ghost use Rattle.std.specs.Io.KnownBytes.{Appends};

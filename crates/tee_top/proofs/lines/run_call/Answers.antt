@@ -21,7 +21,8 @@ returns-then-post-clause-whole g c =
     let behaviour = g.A.Application.behaviour in
     on_ok_weaker c.run_event.result
     (λ h w stands. subst
-    (λ (b : Bool). IsRunOf behaviour c.args.names.now (λ marks. line_events behaviour marks w (lines.Call c.args.app c.args.client b c.args.call)) w c.run_event.new.tee (g.W.Sink.written c.args.sink.now) (g.W.Sink.written c.run_event.new.sink))
+    (λ (b : Bool). IsRunOf behaviour c.args.names.now (λ marks. line_events behaviour marks w (lines.Call c.args.app c.args.client b c.args.call)) w c.run_event.new.tee
+    (g.W.Sink.written c.args.sink.now) (g.W.Sink.written c.run_event.new.sink))
     (sym c.if-post.true) (h w stands))
     c.run_event.ensures.whole
 
@@ -30,7 +31,8 @@ returns-then-post-clause-stopped g c =
     let behaviour = g.A.Application.behaviour in
     on_err_weaker c.run_event.result
     (λ h w stands. subst
-    (λ (b : Bool). StopsIn behaviour c.args.names.now (λ marks. line_events behaviour marks w (lines.Call c.args.app c.args.client b c.args.call)) w (g.W.Sink.written c.args.sink.now) (g.W.Sink.written c.run_event.new.sink))
+    (λ (b : Bool). StopsIn behaviour c.args.names.now (λ marks. line_events behaviour marks w (lines.Call c.args.app c.args.client b c.args.call)) w
+    (g.W.Sink.written c.args.sink.now) (g.W.Sink.written c.run_event.new.sink))
     (sym c.if-post.true) (h w stands))
     c.run_event.ensures.stopped
 
@@ -63,7 +65,8 @@ returns-clause-whole g c =
     let p = hosted_at c.args.tee.now.hosted.items w app stands c.requires.known in
     let agree : SameWithin p.0.turns (turns_made c.run.new.self app) (marks_of told) (marks_of told) = alike (marks_of told) p.0.turns (turns_made c.run.new.self app) in
     subst
-    (λ (b : Bool). IsRunOf behaviour names (λ marks. line_events behaviour marks w (lines.Call app c.args.client b c.args.call)) w c.run.new.self (g.W.Sink.written c.args.sink.now) (g.W.Sink.written c.write_told.new.sink))
+    (λ (b : Bool). IsRunOf behaviour names (λ marks. line_events behaviour marks w (lines.Call app c.args.client b c.args.call)) w c.run.new.self
+    (g.W.Sink.written c.args.sink.now) (g.W.Sink.written c.write_told.new.sink))
     (sym c.if-post.false)
     (call_whole behaviour names w p.0 app c.args.client c.args.call (marks_of told) told c.run.new.self _ _ p.1 within (omega (arith, room, turns_are c.args.tee.now w app p.0 stands p.1))
     (c.in_ok-told.ensures.told w p.0 (marks_of told) stands p.1 agree) (c.in_ok-told.ensures.world w p.0 (marks_of told) stands p.1 agree)
@@ -85,7 +88,8 @@ returns-clause-stopped g c =
     let p = hosted_at c.args.tee.now.hosted.items w app stands c.requires.known in
     let agree : SameWithin p.0.turns (turns_made c.run.new.self app) (marks_of told) (marks_of told) = alike (marks_of told) p.0.turns (turns_made c.run.new.self app) in
     subst
-    (λ (b : Bool). StopsIn behaviour names (λ marks. line_events behaviour marks w (lines.Call app c.args.client b c.args.call)) w (g.W.Sink.written c.args.sink.now) (g.W.Sink.written c.write_told.new.sink))
+    (λ (b : Bool). StopsIn behaviour names (λ marks. line_events behaviour marks w (lines.Call app c.args.client b c.args.call)) w
+    (g.W.Sink.written c.args.sink.now) (g.W.Sink.written c.write_told.new.sink))
     (sym c.if-post.false)
     (call_stops behaviour names w p.0 app c.args.client c.args.call (marks_of told) told _ _ p.1 within (omega (arith, room, turns_are c.args.tee.now w app p.0 stands p.1))
     (c.in_ok-told.ensures.told w p.0 (marks_of told) stands p.1 agree)

@@ -12,7 +12,9 @@ abbrev pub invariant-loop-line : goal.invariant-loop-line
 invariant-loop-line g l =
     let behaviour = g.A.Application.behaviour in
     record {
-      run : (world : World g.row.A.Denot) → Represents l.fn.tee world → Along behaviour l.names l.tee world (λ marks. events_of behaviour marks world l.fn.lines.items) (λ marks now. events_of behaviour marks now l.rest.items) (g.W.Sink.written l.fn.sink) (g.W.Sink.written l.sink);
+      run : (world : World g.row.A.Denot) → Represents l.fn.tee world
+          → Along behaviour l.names l.tee world (λ marks. events_of behaviour marks world l.fn.lines.items) (λ marks now. events_of behaviour marks now l.rest.items)
+          (g.W.Sink.written l.fn.sink) (g.W.Sink.written l.sink);
       apps : app_count l.tee ≡ app_count l.fn.tee;
       known : AllByRecursion (IsKnown (app_count l.fn.tee)) l.rest.items;
       later : g.W.Sink.failures l.fn.sink ≤ g.W.Sink.failures l.sink;

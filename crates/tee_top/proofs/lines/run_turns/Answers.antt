@@ -15,7 +15,8 @@ loop-init g c =
     let count = c.args.count in
     record {
       run = λ w stands.
-          along_start behaviour c.args.names.now c.args.tee.now w (λ marks. turn_events behaviour (marks app) w app instance count) (λ marks now. turn_events behaviour (marks app) now app instance (count - 0))
+          along_start behaviour c.args.names.now c.args.tee.now w (λ marks. turn_events behaviour (marks app) w app instance count)
+          (λ marks now. turn_events behaviour (marks app) now app instance (count - 0))
           (g.W.Sink.written c.args.sink.now) stands (λ marks. turns_all behaviour marks w app instance count);
       apps = refl;
       later = omega arith;

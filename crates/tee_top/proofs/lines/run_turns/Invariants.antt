@@ -9,7 +9,10 @@ abbrev pub invariant-loop : goal.invariant-loop
 invariant-loop g l =
     let behaviour = g.A.Application.behaviour in
     record {
-      run : (world : World g.row.A.Denot) → Represents l.fn.tee world → Along behaviour l.names l.tee world (λ marks. turn_events behaviour (marks l.app) world l.app l.instance l.count) (λ marks now. turn_events behaviour (marks l.app) now l.app l.instance (l.count - l.counter)) (g.W.Sink.written l.fn.sink) (g.W.Sink.written l.sink);
+      run : (world : World g.row.A.Denot) → Represents l.fn.tee world
+          → Along behaviour l.names l.tee world (λ marks. turn_events behaviour (marks l.app) world l.app l.instance l.count)
+          (λ marks now. turn_events behaviour (marks l.app) now l.app l.instance (l.count - l.counter))
+          (g.W.Sink.written l.fn.sink) (g.W.Sink.written l.sink);
       apps : app_count l.tee ≡ app_count l.fn.tee;
       later : g.W.Sink.failures l.fn.sink ≤ g.W.Sink.failures l.sink;
     }

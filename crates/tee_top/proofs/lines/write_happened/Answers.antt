@@ -24,7 +24,8 @@ returns-clause-ok g c =
     let line : c.as_slice.result.now ≡ happened_text c.args.name.now c.args.happened.now.kind c.args.happened.now.turn = c.as_slice.ensures ∙ c.in_ok-mark.ensures in
     on_ok_weaker c.write_replies.result
     (λ h. subst (λ zs. Appends (g.W.Sink.written c.args.sink.now) (g.W.Sink.written c.write_replies.new.sink) zs)
-    (ap (λ zs. zs ++ replies_text c.args.name.now c.as_slice-2.result.now) line ∙ ap (λ rs. happened_text c.args.name.now c.args.happened.now.kind c.args.happened.now.turn ++ replies_text c.args.name.now rs) c.as_slice-2.ensures)
+    (ap (λ zs. zs ++ replies_text c.args.name.now c.as_slice-2.result.now) line
+    ∙ ap (λ rs. happened_text c.args.name.now c.args.happened.now.kind c.args.happened.now.turn ++ replies_text c.args.name.now rs) c.as_slice-2.ensures)
     (Appends-trans _ _ _ _ _ c.in_ok-write_bytes.ensures.ok h))
     c.write_replies.ensures.ok
 
@@ -33,6 +34,7 @@ returns-clause-err g c =
     let line : c.as_slice.result.now ≡ happened_text c.args.name.now c.args.happened.now.kind c.args.happened.now.turn = c.as_slice.ensures ∙ c.in_ok-mark.ensures in
     on_err_weaker c.write_replies.result
     (λ h. subst (λ zs. AppendsFront zs (g.W.Sink.written c.args.sink.now) (g.W.Sink.written c.write_replies.new.sink))
-    (ap (λ zs. zs ++ replies_text c.args.name.now c.as_slice-2.result.now) line ∙ ap (λ rs. happened_text c.args.name.now c.args.happened.now.kind c.args.happened.now.turn ++ replies_text c.args.name.now rs) c.as_slice-2.ensures)
+    (ap (λ zs. zs ++ replies_text c.args.name.now c.as_slice-2.result.now) line
+    ∙ ap (λ rs. happened_text c.args.name.now c.args.happened.now.kind c.args.happened.now.turn ++ replies_text c.args.name.now rs) c.as_slice-2.ensures)
     (front_after _ _ _ _ _ c.in_ok-write_bytes.ensures.ok h))
     c.write_replies.ensures.err

@@ -24,7 +24,8 @@ returns-in-Ok-run_lines-clause-done g c = λ same.
     let world = world_of c.args.hosts.items c.args.seed (λ app. empty_store) in
     let names : c.as_slice-2.result.now ≡ names_of c.args.hosts.items = c.as_slice-2.ensures.value ∙ c.in-Ok.ensures ∙ ap names_of c.as_slice.ensures.value in
     all_written behaviour c.args.hosts.items c.requires.fit c.args.seed c.args.lines.items c.run_lines.new.tee _ _
-    (subst (λ ns. IsRunOf behaviour ns (λ marks. events_of behaviour marks world c.args.lines.items) world c.run_lines.new.tee (g.W.Sink.written c.args.sink.now) (g.W.Sink.written c.run_lines.new.sink)) names
+    (subst (λ ns. IsRunOf behaviour ns (λ marks. events_of behaviour marks world c.args.lines.items) world c.run_lines.new.tee
+    (g.W.Sink.written c.args.sink.now) (g.W.Sink.written c.run_lines.new.sink)) names
     (c.in-Ok-run_lines.ensures.whole world c.in-Ok-new.ensures.world))
 
 pub returns-in-Err-NoMemory-clause-stopped : goal.returns-in-Err-NoMemory-clause-stopped
