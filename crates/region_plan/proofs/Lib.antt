@@ -3,6 +3,7 @@ pub mod BlankLemmas
 pub mod BlockLemmas
 pub mod ChangedLemmas
 pub mod CheckLemmas
+pub mod CompleteLemmas
 pub mod ContentLemmas
 pub mod CostLemmas
 pub mod EditLemmas

@@ -1,3 +1,4 @@
+pub mod Checks
 pub mod Edits
 pub mod Entries
 pub mod Inodes

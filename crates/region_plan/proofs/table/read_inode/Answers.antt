@@ -24,4 +24,4 @@ returns-then-not-has_data-clause-garbled g c h first inode before =
     let number = number_is leaves c.args.leaf c.read.new.into c.in_ok-inode.inode (c.in_ok-read.ensures.leaf h) c.in_ok-inode.ensures.inode in
     let long = length_is leaves c.args.leaf c.read.new.into c.in_ok-inode.inode (c.in_ok-read.ensures.leaf h) c.in_ok-inode.ensures.inode in
     index_breaks version_one leaves c.args.leaf inode
-    (subst (λ (n : ℕ). has_data version_one leaves n ≡ false) number (c.has_data.ensures leaves first long c.if-not-has_data.true))
+    (subst (λ (n : ℕ). has_data version_one leaves n ≡ false) number (sym (c.has_data.ensures leaves first long) ∙ c.if-not-has_data.true))
