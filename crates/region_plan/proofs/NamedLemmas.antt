@@ -1,0 +1,81 @@
+-- Leaves that are named one after another.
+use Rattle.std.proofs.Common.{◌≡◌, ◌≤◌, ◌<◌, ◌+◌, ◌++◌, ◌∙◌, ℕ, suc, true, false, List, [], ◌∷◌, length, length-append, nat_lt, refl, sym, ap, subst, arith}
+use Rattle.std.specs.Prelude.{◌==◌, if◌then◌else◌}
+use Rattle.std.specs.List.{range_with_len, count_by}
+use Rattle.std.proofs.lemmas.Bool.{eqb-true, eqb-false, ne_eqb, ltb-true, lt-ltb, and_from}
+use Rattle.store_api.specs.declared.leaves.Leaf.{Leaf}
+use Rattle.store_api.specs.Ascending.{is_above_all}
+use Rattle.store_api.specs.Volumes.{leaf_after}
+use Rattle.region_plan.specs.Plans.{with_leaves, changing, may_change}
+use Rattle.region_plan.specs.declared.edit.Edit.{Edit}
+use Rattle.region_plan.proofs.SoundLemmas.{and_both}
+use Rattle.region_plan.proofs.Totals.{counted, mark, rank_more}
+
+-- one more leaf named
+after_pushed : (named : List Leaf) (last : Leaf) (i : ℕ) (old : List ℕ) → leaf_after (named ++ last ∷ []) i old ≡ leaf_after named i (if last.number == i then last.bytes else old)
+after_pushed [] last i old = refl
+after_pushed (leaf ∷ named) last i old = ap (λ (r : List ℕ). if leaf.number == i then leaf.bytes else r) (after_pushed named last i old)
+
+-- a leaf at or behind a number that is above all isn't named
+after_above : (named : List Leaf) (m i : ℕ) (old : List ℕ) → is_above_all named m ≡ true → m ≤ i → leaf_after named i old ≡ old
+after_above [] m i old above past = refl
+after_above (leaf ∷ named) m i old above past =
+    let parts = and_both (nat_lt leaf.number m) (is_above_all named m) above in
+    let less : leaf.number < m = ltb-true leaf.number m parts.0 in
+    ap (λ b. if b then leaf.bytes else leaf_after named i old) (ne_eqb leaf.number i (λ same. omega (arith, same, less, past))) ∙ after_above named m i old parts.1 past
+
+pub above_more : (named : List Leaf) (m : ℕ) → is_above_all named m ≡ true → is_above_all named (m + 1) ≡ true
+above_more [] m above = refl
+above_more (leaf ∷ named) m above =
+    let parts = and_both (nat_lt leaf.number m) (is_above_all named m) above in
+    let less : leaf.number < m = ltb-true leaf.number m parts.0 in
+    and_from (nat_lt leaf.number (m + 1)) (is_above_all named (m + 1)) (lt-ltb leaf.number (m + 1) (omega (arith, less))) (above_more named m parts.1)
+
+pub above_pushed : (named : List Leaf) (last : Leaf) (m : ℕ) → is_above_all named m ≡ true → last.number ≡ m → is_above_all (named ++ last ∷ []) (m + 1) ≡ true
+above_pushed [] last m above is = and_from (nat_lt last.number (m + 1)) true (lt-ltb last.number (m + 1) (omega (arith, is))) refl
+above_pushed (leaf ∷ named) last m above is =
+    let parts = and_both (nat_lt leaf.number m) (is_above_all named m) above in
+    let less : leaf.number < m = ltb-true leaf.number m parts.0 in
+    and_from (nat_lt leaf.number (m + 1)) (is_above_all (named ++ last ∷ []) (m + 1)) (lt-ltb leaf.number (m + 1) (omega (arith, less))) (above_pushed named last m parts.1 is)
+
+module _ (P : ℕ → List ℕ → Type 0) (leaves : ℕ → List ℕ) (named : List Leaf) (m : ℕ) (above : is_above_all named m ≡ true) (done : (i : ℕ) → i < m → P i (with_leaves named leaves i)) where
+  -- the next leaf is named
+  pub named_more : (last : Leaf) → last.number ≡ m → P m last.bytes → (i : ℕ) → i < m + 1 → P i (with_leaves (named ++ last ∷ []) leaves i)
+  named_more last is here i less =
+      elim (last.number == i) as (λ b. (last.number == i) ≡ b → P i (with_leaves (named ++ last ∷ []) leaves i)) [
+        | true ↦ λ e.
+            let same : last.number ≡ i = eqb-true last.number i e in
+            let at : m ≡ i = sym is ∙ same in
+            let bytes : with_leaves (named ++ last ∷ []) leaves i ≡ last.bytes =
+            after_pushed named last i (leaves i) ∙ ap (λ b. leaf_after named i (if b then last.bytes else leaves i)) e ∙ after_above named m i last.bytes above (omega (arith, at)) in
+            subst (λ (x : List ℕ). P i x) (sym bytes) (subst (λ (k : ℕ). P k last.bytes) at here)
+        | false ↦ λ e.
+            let other = eqb-false last.number i e in
+            subst (λ (x : List ℕ). P i x) (sym (after_pushed named last i (leaves i) ∙ ap (λ b. leaf_after named i (if b then last.bytes else leaves i)) e)) (done i (omega (arith, less, other, is)))
+      ] refl
+
+  -- the next leaf isn't
+  pub unnamed_more : P m (leaves m) → (i : ℕ) → i < m + 1 → P i (with_leaves named leaves i)
+  unnamed_more here i less =
+      elim (m == i) as (λ b. (m == i) ≡ b → P i (with_leaves named leaves i)) [
+        | true ↦ λ e. (let at : m ≡ i = eqb-true m i e in
+            subst (λ (x : List ℕ). P i x) (sym (after_above named m i (leaves i) above (omega (arith, at)))) (subst (λ (k : ℕ). P k (leaves k)) at here))
+        | false ↦ λ e. (let other = eqb-false m i e in done i (omega (arith, less, other)))
+      ] refl
+
+pub changing_more : (map : List ℕ) (inode : ℕ) (edit : Edit) (n : ℕ) → changing map inode edit (n + 1) ≡ changing map inode edit n + mark (may_change map inode edit n)
+unfolding changing
+changing_more map inode edit n =
+    ap (λ (k : ℕ). count_by (λ i. may_change map inode edit i) (range_with_len 0 k)) (let e : n + 1 ≡ suc n = omega arith in e)
+    ∙ counted (λ i. may_change map inode edit i) 0 (suc n) ∙ rank_more (λ i. may_change map inode edit i) n
+    ∙ ap (λ (k : ℕ). k + mark (may_change map inode edit n)) (sym (counted (λ i. may_change map inode edit i) 0 n))
+
+pub few_named : (map : List ℕ) (inode : ℕ) (edit : Edit) (named : List Leaf) (last : Leaf) (n : ℕ) → length named ≤ changing map inode edit n → may_change map inode edit n ≡ true → length (named ++ last ∷ []) ≤ changing map inode edit (n + 1)
+few_named map inode edit named last n few is =
+    let more = changing_more map inode edit n in
+    let one : mark (may_change map inode edit n) ≡ 1 = ap mark is in
+    let long = length-append named (last ∷ []) in
+    omega (arith, more, one, long, few)
+
+pub few_unnamed : (map : List ℕ) (inode : ℕ) (edit : Edit) (named : List Leaf) (n : ℕ) → length named ≤ changing map inode edit n → length named ≤ changing map inode edit (n + 1)
+few_unnamed map inode edit named n few = (let more = changing_more map inode edit n in omega (arith, more, few))

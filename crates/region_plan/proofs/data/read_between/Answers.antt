@@ -1,0 +1,23 @@
+use Rattle.std.proofs.Common.{◌+◌, None, ℕ, List, sym, subst, arith}
+use Rattle.region_plan.specs.Layout.{version_one}
+use Rattle.region_plan.specs.Reading.{leaves_of}
+use Rattle.region_plan.specs.Tables.{IsInode}
+use Rattle.region_plan.proofs.ContentLemmas.{part_joined}
+use Rattle.region_plan.proofs.ReadLemmas.{reads_joined, leaves_stay}
+use Rattle.region_plan.proofs.data.read_between.Goals as goal
+
+pub loop-at-preserved : goal.loop-at-preserved
+loop-at-preserved g c =
+    let K = g.L.LeafSource.keeper in
+    let R = g.L.LeafSource.region in
+    let kept = c.loop-at.invariant in
+    record {
+      reads = reads_joined K R None c.args.from.now c.loop-at.from c.read_part.new.from kept.reads c.in_ok-read_part.ensures.reads;
+      from_start = omega (arith, kept.from_start);
+      to_end = omega (arith, c.min.ensures, c.loop-at-test.true);
+      count = omega (arith, kept.count, kept.from_start, c.in_ok-read_part.ensures.count);
+      bytes = λ h is.
+          let same = leaves_stay K R c.args.from.now c.loop-at.from kept.reads h in
+          part_joined (leaves_of K R c.args.from.now) (leaves_of K R c.loop-at.from) c.args.inode c.args.start c.loop-at.at (c.loop-at.at + c.min.result) c.loop-at.bytes.items c.read_part.new.bytes.items same kept.from_start (omega arith) (kept.bytes h is)
+          (c.in_ok-read_part.ensures.bytes (kept.reads.honest h).0 (subst (λ (l : ℕ → List ℕ). IsInode version_one l c.args.map.now c.args.inode c.args.length) (sym same) is));
+    }

@@ -1,0 +1,15 @@
+use Rattle.std.proofs.Common.{refl, ◌∙◌, arith}
+use Rattle.region_plan.proofs.StepLemmas.{started, stepped, marked, byte_mark}
+use Rattle.region_plan.proofs.place.with_data.Goals as goal
+
+pub overflow_add-index : goal.overflow_add-index
+overflow_add-index c = (let was = c.loop-leaf.invariant.counted in let few = c.loop-leaf.invariant.few in let one = marked c.is_free-free.result in let byte = byte_mark c.is_free-free.result in
+    omega (arith, was, few, one, byte, c.from-index.ensures, c.requires.kept, c.requires.blocks, c.loop-leaf-test.true))
+
+pub loop-leaf-init : goal.loop-leaf-init
+loop-leaf-init c = started c.args.map.now c.args.inode c.args.kept c.args.blocks
+
+pub loop-leaf-preserved : goal.loop-leaf-preserved
+loop-leaf-preserved c =
+    stepped c.args.map.now c.loop-leaf.after c.set_entry.new.map c.args.inode c.args.kept c.args.blocks c.loop-leaf.index c.loop-leaf.leaf c.entry_in-entry.result c.placed_entry.result
+    c.is_free-free.result c.from-index.result c.loop-leaf.invariant c.loop-leaf-test.true (c.entry_in-entry.ensures.entry _ refl) c.is_free-free.ensures c.placed_entry.ensures c.set_entry.ensures (c.from-index.ensures ∙ byte_mark c.is_free-free.result)

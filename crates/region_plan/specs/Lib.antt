@@ -1,0 +1,14 @@
+pub mod Checks
+pub mod Edits
+pub mod Entries
+pub mod Inodes
+pub mod Laws
+pub mod Layout
+pub mod Locating
+pub mod Parts
+pub mod Planning
+pub mod Plans
+pub mod Reading
+pub mod Places
+pub mod Regions
+pub mod Tables

@@ -1,0 +1,52 @@
+-- A change of the objects as a change of leaves.
+use Rattle.std.specs.Prelude.{ℕ, ◌≡◌, ◌+◌, ◌-◌, ◌/◌, ◌≤◌, ◌==◌, min, List, Option, None, Some, Result, Ok, Err, IsTrue, if◌then◌else◌, length}
+use Rattle.tee_base.specs.declared.limits.TheConstants.{BLOCK_BYTES}
+use Rattle.store_api.specs.declared.answer.StoreAnswer.{StoreAnswer}
+use Rattle.store_api.specs.declared.change.Change.{Change}
+use Rattle.store_api.specs.declared.change.Change.TheVariants.{Put, Delete, Rename, Write, Truncate}
+use Rattle.store_api.specs.declared.leaves.Leaf.{Leaf}
+use Rattle.store_api.specs.declared.object.Object.{Object}
+use Rattle.store_api.specs.Keeping.{Answers}
+use Rattle.store_api.specs.Stores.{Store, object_at, change}
+use Rattle.store_api.specs.Volumes.{VolumeKeeper}
+use Rattle.region_plan.specs.Layout.{Layout}
+use Rattle.region_plan.specs.Plans.{with_leaves}
+use Rattle.region_plan.specs.Reading.{ReadsOnly, IfGarbled, refusal_of, leaves_of}
+use Rattle.region_plan.specs.Regions.{breaks, data_leaves, region_of}
+
+-- how long a content is, if there is one
+abbrev pub content_length : Option Object → ℕ
+content_length None = 0
+content_length (Some o) = length o.content
+
+-- how many leaves are written from a place of an object's content to another one, besides the map and its inode
+abbrev pub leaves_from : Store → List ℕ → ℕ → ℕ → ℕ
+leaves_from store id at end = data_leaves end - min at (content_length (object_at store id)) / BLOCK_BYTES
+
+-- how many leaves a change needs at most: the map, the inode, and the data that it writes
+abbrev pub most_leaves : Store → Change → ℕ
+most_leaves store (Put id kind usage secret content overwrite) = 2 + data_leaves (length content)
+most_leaves store (Delete id) = 1
+most_leaves store (Rename id to) = 1
+most_leaves store (Write id at bytes) = if length bytes == 0 then 0 else 2 + leaves_from store id at (at + length bytes)
+most_leaves store (Truncate id n) = 2 + leaves_from store id n n
+
+-- leaves after which a region stands for the changed store
+pub record IsPlanOf (L : Layout) (leaves : ℕ → List ℕ) (store : Store) (c : Change) (named : List Leaf) : Type 0 where
+  pub after : Store
+  pub changes : change store c ≡ Ok after
+  pub stands : region_of L (with_leaves named leaves) ≡ Ok after
+  pub few : length named ≤ most_leaves store c
+
+-- a plan of a change, or the change's own refusal; what keeps it from an answer may come instead
+abbrev pub Plans : Layout → (ℕ → List ℕ) → Store → Change → Result (List Leaf) StoreAnswer → Type 0
+Plans L leaves store c (Ok named) = IsPlanOf L leaves store c named
+Plans L leaves store c (Err refusal) = Answers {A = Store} (Err refusal) (change store c)
+
+module _ {S : Type 0} (K : VolumeKeeper S) (region : S → ℕ) (L : Layout) where
+  -- a call that plans a change, and changes nothing itself
+  pub record PlansChange (c : Change) (result : Result (List Leaf) StoreAnswer) (old new : S) : Type 0 where
+    pub plans : K.honest old → (store : Store) → region_of L (leaves_of K region old) ≡ Ok store → Plans L (leaves_of K region old) store c result
+    -- a leaf that is told breaks a rule
+    pub garbled : K.honest old → IfGarbled (refusal_of result) (λ leaf. IsTrue (breaks L (leaves_of K region old) leaf))
+    pub reads : ReadsOnly K region (refusal_of result) old new

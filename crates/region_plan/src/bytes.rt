@@ -1,0 +1,31 @@
+//! Pieces of a leaf.
+
+ghost use Rattle.std.specs.Prelude.{◌≡◌, ◌≤◌, ◌+◌, ◌==◌, length};
+ghost use Rattle.std.specs.Int.{w32, from_le_bytes};
+ghost use Rattle.std.specs.List.{list_all};
+ghost use Rattle.region_plan.specs.Parts.{part, patched, are_zero};
+
+/// The number that four bytes from a place on are.
+pub(crate) fn number_at(bytes: &[u8], at: usize) -> u32
+    requires { at + 4 ≤ length bytes.now }
+    ensures { result ≡ from_le_bytes w32 (part at 4 bytes.now) }
+{
+    let mut piece = [0; 4];
+    piece.copy_from_slice(&bytes[at..at + 4]);
+    u32::from_le_bytes(piece)
+}
+
+/// Whether all bytes are zero.
+pub(crate) fn all_zero(bytes: &[u8]) -> bool
+    ensures { result ≡ are_zero bytes.now }
+{
+    bytes.iter().all(|byte| *byte == 0)
+}
+
+/// Puts bytes into a leaf at a place.
+pub(crate) fn put(into: &mut [u8], at: usize, bytes: &[u8])
+    requires { at + length bytes.now ≤ length into.old }
+    ensures { into.new ≡ patched at bytes.now into.old }
+{
+    into[at..at + bytes.len()].copy_from_slice(bytes);
+}

@@ -1,0 +1,140 @@
+//! What is told of the objects of a region.
+
+ghost use Rattle.std.specs.Prelude.{◌≡◌, ◌≤◌, ℕ, length, IfSome, option_copied};
+ghost use Rattle.std.specs.List.{All};
+ghost use Rattle.std.specs.Ordering.{nat_cmp, is_lt};
+ghost use Rattle.std.specs.Cmp.Lexicographic.{slice_cmp};
+ghost use Rattle.store_api.specs.Limits.{AreFacts, IsIdentifier, IsListed, IsSecret};
+ghost use Rattle.store_api.specs.Stores.{found, secret_at, next_after as next_of, is_after as is_after_of};
+ghost use Rattle.region_plan.specs.Layout.{version_one};
+ghost use Rattle.region_plan.specs.Locating.{LocatesInode};
+ghost use Rattle.region_plan.specs.Reading.{ReadsRegion};
+ghost use Rattle.region_plan.specs.Tables.{IsWithin, best_after, inode_facts, is_better as is_better_of};
+
+use crate::inode::Inode;
+use crate::source::LeafSource;
+use crate::table::{find, load};
+use std::alloc::Global;
+use store_api::{Facts, Listed, StoreAnswer};
+use tee_base::Bytes;
+use tee_base::limits::BLOCK_BYTES;
+
+/// What is told of an object.
+fn facts_of(inode: &Inode) -> Facts
+    requires { IsWithin inode.now }
+    ensures { result ≡ inode_facts inode.now }
+{
+    Facts {
+        kind: inode.kind,
+        usage: inode.usage,
+        secret: inode.secret.len() as u8,
+        length: inode.length,
+    }
+}
+
+/// The inode leaf of the object of an identifier. `NotFound` exactly where there is no such object.
+pub fn locate<L: LeafSource>(alloc: Global, from: &mut L, id: &[u8]) -> Result<u8, StoreAnswer>
+    requires { IsIdentifier id.now }
+    ensures { LocatesInode L.keeper L.region version_one id.now result from.old from.new }
+{
+    let mut map = [0; BLOCK_BYTES];
+    let inodes = load(alloc, from, &mut map)?;
+    let Some(inode) = find(inodes.as_slice(), id) else {
+        return Err(StoreAnswer::NotFound);
+    };
+    Ok(inode.number)
+}
+
+/// An object's facts. `NotFound` exactly where there is no such object.
+pub fn facts<L: LeafSource>(alloc: Global, from: &mut L, id: &[u8]) -> Result<Facts, StoreAnswer>
+    requires { IsIdentifier id.now }
+    ensures { ReadsRegion L.keeper L.region version_one (λ store. found store id.now) AreFacts result
+        from.old from.new }
+{
+    let mut map = [0; BLOCK_BYTES];
+    let inodes = load(alloc, from, &mut map)?;
+    let Some(inode) = find(inodes.as_slice(), id) else {
+        return Err(StoreAnswer::NotFound);
+    };
+    Ok(facts_of(inode))
+}
+
+/// An object's secret. `NotFound` exactly where there is no such object.
+pub fn secret<L: LeafSource>(alloc: Global, from: &mut L, id: &[u8]) -> Result<Bytes, StoreAnswer>
+    requires { IsIdentifier id.now }
+    ensures { ReadsRegion L.keeper L.region version_one (λ store. secret_at store id.now) IsSecret
+        result from.old from.new }
+{
+    let mut map = [0; BLOCK_BYTES];
+    let inodes = load(alloc, from, &mut map)?;
+    let Some(inode) = find(inodes.as_slice(), id) else {
+        return Err(StoreAnswer::NotFound);
+    };
+    Ok(inode.secret.copy(alloc)?)
+}
+
+/// Whether an identifier is less than another one.
+fn is_less(id: &[u8], other: &[u8]) -> bool
+    ensures { result ≡ is_lt (slice_cmp nat_cmp id.now other.now) }
+{
+    id.cmp(&other).is_lt()
+}
+
+/// Whether an identifier is greater than the last one.
+fn is_after(last: Option<&[u8]>, id: &[u8]) -> bool
+    ensures { result ≡ is_after_of (option_copied last.entry) id.now }
+{
+    match last {
+        Some(last) => is_less(last, id),
+        None => true,
+    }
+}
+
+/// Whether there is no better inode so far, or one whose identifier isn't less.
+fn is_better(best: Option<&Inode>, inode: &Inode) -> bool
+    ensures { result ≡ is_better_of (option_copied best.entry) inode.now }
+{
+    match best {
+        Some(best) => !is_less(best.id.as_slice(), inode.id.as_slice()),
+        None => true,
+    }
+}
+
+/// The inode of the least identifier greater than the last one.
+fn least_after<'i>(inodes: &'i [Inode], last: Option<&[u8]>) -> Option<&'i Inode>
+    requires { All IsWithin inodes.now }
+    ensures inode { option_copied result ≡ best_after (option_copied last.entry) inodes.now }
+    ensures within { IfSome result (λ inode. IsWithin inode.now) }
+{
+    let mut best = None;
+    let mut place = inodes.len();
+    while place > 0 {
+        place -= 1;
+        let inode = &inodes[place];
+        if is_after(last, inode.id.as_slice()) && is_better(best, inode) {
+            best = Some(inode);
+        }
+    }
+    best
+}
+
+/// The least identifier greater than the last one, or the least of all, with its object's facts. `NotFound` exactly where
+/// there is none.
+pub fn next_after<L: LeafSource>(
+    alloc: Global,
+    from: &mut L,
+    last: Option<&[u8]>,
+) -> Result<Listed, StoreAnswer>
+    ensures { ReadsRegion L.keeper L.region version_one
+        (λ store. next_of store (option_copied last.entry)) IsListed result from.old from.new }
+{
+    let mut map = [0; BLOCK_BYTES];
+    let inodes = load(alloc, from, &mut map)?;
+    let Some(inode) = least_after(inodes.as_slice(), last) else {
+        return Err(StoreAnswer::NotFound);
+    };
+    Ok(Listed {
+        id: inode.id.copy(alloc)?,
+        facts: facts_of(inode),
+    })
+}

@@ -1,0 +1,143 @@
+//! The content of an object.
+
+ghost use Rattle.std.specs.Prelude.{◌≡◌, ◌≤◌, ◌<◌, ◌+◌, ◌-◌, ◌*◌, ◌/◌, ◌==◌, ◌&&◌, ◌++◌, ℕ, List, map as map_of, IfOk, OnOk, IsTrue, false, length as length_of, vec_len};
+ghost use Rattle.std.specs.List.{range_with_len};
+ghost use Rattle.store_api.specs.Limits.{IsIdentifier, IsPart};
+ghost use Rattle.store_api.specs.Stores.{read_at};
+ghost use Rattle.tee_base.specs.declared.limits.TheConstants.{ASK_BYTES};
+ghost use Rattle.region_plan.specs.Layout.{version_one};
+ghost use Rattle.region_plan.specs.Entries.{is_inode};
+ghost use Rattle.region_plan.specs.Inodes.{length_in};
+ghost use Rattle.region_plan.specs.Reading.{IfGarbled, IsUnread, ReadsOnly, ReadsRegion, leaves_of, refusal_of};
+ghost use Rattle.region_plan.specs.Regions.{breaks, byte_at, leaf_of};
+ghost use Rattle.region_plan.specs.Tables.{IsInode};
+
+use crate::bytes::all_zero;
+use crate::entry::{DATA, Entry, entry_in};
+use crate::source::{LeafSource, read};
+use crate::table::{find, load};
+use std::alloc::Global;
+use store_api::StoreAnswer;
+use tee_base::Bytes;
+use tee_base::limits::{BLOCK_BYTES, LEAVES};
+
+/// Whether a leaf is the data of an inode at an index.
+fn is_data_at(entry: Entry, inode: u8, index: u32) -> bool
+    ensures { result ≡ ((entry.kind == DATA) && (entry.inode == inode) && (entry.index == index)) }
+{
+    entry.kind == DATA && entry.inode == u32::from(inode) && entry.index == index
+}
+
+/// The leaf that holds the data of an inode at an index.
+pub(crate) fn data_leaf(map: &[u8; BLOCK_BYTES], inode: u8, index: u32) -> Option<u8>
+    ensures { (leaves : ℕ → List ℕ) → leaves 0 ≡ map.now
+        → result ≡ leaf_of version_one leaves inode index }
+{
+    for leaf in 0..LEAVES {
+        if is_data_at(entry_in(map, leaf), inode, index) {
+            return Some(leaf as u8);
+        }
+    }
+    None
+}
+
+/// Adds the bytes of a data leaf, from a place of the content up to an end within the leaf.
+fn read_part<L: LeafSource>(
+    from: &mut L,
+    map: &[u8; BLOCK_BYTES],
+    inode: u8,
+    length: u32,
+    at: u32,
+    end: u32,
+    bytes: &mut Vec<u8>,
+) -> Result<(), StoreAnswer>
+    requires works { (L.keeper.condition from.old).lost ≡ false }
+    requires some { at < end }
+    requires inside { end ≤ length }
+    requires leaf { end ≤ 1024 * (at / 1024) + 1024 }
+    ensures bytes { L.keeper.honest from.old
+        → IsInode version_one (leaves_of L.keeper L.region from.old) map.now inode length
+        → OnOk result (bytes.new.items ≡ bytes.old.items
+        ++ map_of (λ n. byte_at version_one (leaves_of L.keeper L.region from.old) inode n)
+        (range_with_len at (end - at))) }
+    ensures count { OnOk result (vec_len bytes.new ≡ vec_len bytes.old + (end - at)) }
+    ensures garbled { L.keeper.honest from.old
+        → IsInode version_one (leaves_of L.keeper L.region from.old) map.now inode length
+        → IfGarbled (refusal_of result)
+        (λ n. IsTrue (breaks version_one (leaves_of L.keeper L.region from.old) n)) }
+    ensures unread { IsUnread (refusal_of result) }
+    ensures reads { ReadsOnly L.keeper L.region (refusal_of result) from.old from.new }
+{
+    let index = at / 1024;
+    let Some(leaf) = data_leaf(map, inode, index) else {
+        return Err(StoreAnswer::Garbled(inode));
+    };
+    let mut block = [0; BLOCK_BYTES];
+    read(from, leaf, &mut block)?;
+    let used = (length - 1024 * index) as usize;
+    if used < BLOCK_BYTES && !all_zero(&block[used..]) {
+        return Err(StoreAnswer::Garbled(leaf));
+    }
+    bytes.extend_from_slice(&block[(at - 1024 * index) as usize..(end - 1024 * index) as usize])?;
+    Ok(())
+}
+
+/// The bytes of a content from one place up to another.
+fn read_between<L: LeafSource>(
+    alloc: Global,
+    from: &mut L,
+    map: &[u8; BLOCK_BYTES],
+    inode: u8,
+    length: u32,
+    start: u32,
+    end: u32,
+) -> Result<Bytes, StoreAnswer>
+    requires works { (L.keeper.condition from.old).lost ≡ false }
+    requires order { start ≤ end }
+    requires inside { end ≤ length }
+    ensures bytes { L.keeper.honest from.old
+        → IsInode version_one (leaves_of L.keeper L.region from.old) map.now inode length
+        → IfOk result (λ bytes. bytes
+        ≡ map_of (λ n. byte_at version_one (leaves_of L.keeper L.region from.old) inode n)
+        (range_with_len start (end - start))) }
+    ensures count { IfOk result (λ bytes. length_of bytes ≡ end - start) }
+    ensures garbled { L.keeper.honest from.old
+        → IsInode version_one (leaves_of L.keeper L.region from.old) map.now inode length
+        → IfGarbled (refusal_of result)
+        (λ n. IsTrue (breaks version_one (leaves_of L.keeper L.region from.old) n)) }
+    ensures unread { IsUnread (refusal_of result) }
+    ensures reads { ReadsOnly L.keeper L.region (refusal_of result) from.old from.new }
+{
+    let mut bytes = Vec::new(alloc);
+    let mut at = start;
+    while at < end {
+        let room = 1024 - at % 1024;
+        let stop = at + room.min(end - at);
+        read_part(from, map, inode, length, at, stop, &mut bytes)?;
+        at = stop;
+    }
+    Ok(Bytes::from_vec(bytes))
+}
+
+/// At most so many bytes of an object's content, from a place on. `NotFound` exactly where there is no such object.
+pub fn content<L: LeafSource>(
+    alloc: Global,
+    from: &mut L,
+    id: &[u8],
+    start: u32,
+    count: u32,
+) -> Result<Bytes, StoreAnswer>
+    requires id { IsIdentifier id.now }
+    requires count { count ≤ ASK_BYTES }
+    ensures { ReadsRegion L.keeper L.region version_one (λ store. read_at store id.now start count)
+        (IsPart count) result from.old from.new }
+{
+    let mut map = [0; BLOCK_BYTES];
+    let inodes = load(alloc, from, &mut map)?;
+    let Some(inode) = find(inodes.as_slice(), id) else {
+        return Err(StoreAnswer::NotFound);
+    };
+    let start = start.min(inode.length);
+    let end = start + count.min(inode.length - start);
+    read_between(alloc, from, &map, inode.number, inode.length, start, end)
+}

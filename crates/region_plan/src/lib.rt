@@ -1,0 +1,23 @@
+//! The objects of one region of a volume: which leaves hold them, and how they are read.
+#![tactic(auto)]
+
+mod bytes;
+mod calls;
+mod check;
+mod data;
+mod edit;
+mod entry;
+mod inode;
+mod laws;
+mod place;
+mod planning;
+mod source;
+mod table;
+#[cfg(test)]
+mod tests;
+
+pub use calls::{facts, locate, next_after, secret};
+pub use data::content;
+pub use laws::region_laws;
+pub use planning::{cost, plan};
+pub use source::LeafSource;

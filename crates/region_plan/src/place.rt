@@ -1,0 +1,89 @@
+//! Where the data of an object is placed: which leaves it gives up, and which free ones it takes.
+
+ghost use Rattle.std.specs.Prelude.{◌≡◌, ◌≤◌, ◌<◌, ◌+◌, ◌==◌, ◌&&◌, ℕ, true, false, not, min, None, IfSome};
+ghost use Rattle.region_plan.specs.Places.{entries_in, free_before, is_free as may_be_taken, is_of, placed as placed_at, placed_entry as placed_by};
+
+use crate::entry::{DATA, Entry, FREE, entry_in, set_entry};
+use tee_base::limits::{BLOCK_BYTES, LEAVES};
+
+/// The entry of a free leaf.
+pub(crate) const FREE_ENTRY: Entry = Entry {
+    kind: FREE,
+    inode: 0,
+    index: 0,
+};
+
+/// Whether a leaf may be taken: it is free, and not the map.
+fn is_free(entry: Entry, leaf: usize) -> bool
+    ensures { result ≡ (not (leaf == 0) && (entry.kind == FREE)) }
+{
+    leaf != 0 && entry.kind == FREE
+}
+
+/// Whether an entry is of an inode's data.
+pub(crate) fn is_data_of(entry: Entry, inode: u8) -> bool
+    ensures { result ≡ is_of inode entry }
+{
+    entry.kind == DATA && entry.inode == u32::from(inode)
+}
+
+/// An entry after an inode's data got so many leaves, where a free leaf is to have this index.
+fn placed_entry(free: bool, entry: Entry, inode: u8, index: u32, blocks: u32) -> Entry
+    ensures { result ≡ placed_by free entry inode index blocks }
+{
+    if free && index < blocks {
+        return Entry {
+            kind: DATA,
+            inode: u32::from(inode),
+            index,
+        };
+    }
+    if is_data_of(entry, inode) && entry.index >= blocks {
+        return FREE_ENTRY;
+    }
+    entry
+}
+
+/// The map after an inode's data got so many leaves, of which it has the first ones. None where there are too few free leaves.
+pub(crate) fn with_data(
+    map: &[u8; BLOCK_BYTES],
+    inode: u8,
+    kept: u32,
+    blocks: u32,
+) -> Option<[u8; BLOCK_BYTES]>
+    requires kept { kept ≤ blocks }
+    requires blocks { blocks < 256 }
+    ensures map { IfSome result (λ after. (i : ℕ) → i < 256
+        → entries_in after i ≡ placed_at (entries_in map.now) inode kept blocks i) }
+    ensures enough { IfSome result
+        (λ after. blocks ≤ kept + free_before (entries_in map.now) 256) }
+    ensures lacks { result ≡ None
+        → kept + free_before (entries_in map.now) 256 < blocks }
+{
+    let mut after = *map;
+    let mut index = kept;
+    for leaf in 0..LEAVES {
+        let entry = entry_in(map, leaf);
+        let free = is_free(entry, leaf);
+        set_entry(
+            &mut after,
+            leaf,
+            placed_entry(free, entry, inode, index, blocks),
+        );
+        index += u32::from(free);
+    }
+    if index < blocks { None } else { Some(after) }
+}
+
+/// The first leaf that may be taken.
+pub(crate) fn first_free(map: &[u8; BLOCK_BYTES]) -> Option<u8>
+    ensures free { IfSome result (λ leaf. (leaf < 256) × (may_be_taken (entries_in map.now) leaf ≡ true)) }
+    ensures none { result ≡ None → free_before (entries_in map.now) 256 ≡ 0 }
+{
+    for leaf in 0..LEAVES {
+        if is_free(entry_in(map, leaf), leaf) {
+            return Some(leaf as u8);
+        }
+    }
+    None
+}

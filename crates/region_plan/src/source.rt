@@ -1,0 +1,67 @@
+//! What gives the leaves of one region.
+
+ghost use Rattle.std.specs.Prelude.{◌≡◌, ◌≤◌, ◌<◌, ℕ, false, OnOk};
+ghost use Rattle.store_api.specs.Volumes.{VolumeKeeper, RestsAt};
+ghost use Rattle.region_plan.specs.Reading.{ReadsNumber, ReadsOnly, IfGarbled, IsUnread, leaves_of, refusal_of, store_answer};
+
+use store_api::{LeafAnswer, StoreAnswer};
+use tee_base::limits::BLOCK_BYTES;
+
+/// The leaves of one region of a volume. It answers `Lost` once a call failed, before every other answer.
+pub trait LeafSource {
+    /// What contracts see of the volume.
+    ghost keeper: { VolumeKeeper Self };
+
+    /// The number of the region.
+    ghost region: { Self → ℕ };
+
+    /// Reads a leaf.
+    ///
+    /// # Errors
+    ///
+    /// As a volume's `read_leaf` has them. Each leaves what the volume holds.
+    fn leaf(&mut self, number: u8, into: &mut [u8; BLOCK_BYTES]) -> Result<(), LeafAnswer>
+        ensures { ReadsNumber keeper region number into.new result self.old self.new };
+
+    /// How often what it stands on failed, as far as its type goes.
+    fn faults(&self) -> u64
+        ensures { result ≡ (keeper.condition self.now).faults };
+
+    /// Whether a call failed, and nothing is answered any more.
+    fn is_lost(&self) -> bool
+        ensures { result ≡ (keeper.condition self.now).lost };
+
+    /// A crash of an honest volume that isn't lost leaves what it holds.
+    ghost rests: { (s : Self) → keeper.honest s → (keeper.condition s).lost ≡ false
+        → RestsAt keeper s (keeper.held s) };
+}
+
+/// What a store answers where a leaf of it wasn't read.
+fn answer_of(answer: LeafAnswer) -> StoreAnswer
+    ensures { result ≡ store_answer answer }
+{
+    match answer {
+        LeafAnswer::Lost => StoreAnswer::Lost,
+        LeafAnswer::Failed => StoreAnswer::Failed,
+        LeafAnswer::Mismatch(tags) => StoreAnswer::Corrupt(tags),
+        LeafAnswer::NoMemory => StoreAnswer::NoMemory,
+    }
+}
+
+/// Reads a leaf, and answers as a store does.
+pub(crate) fn read<L: LeafSource>(
+    from: &mut L,
+    number: u8,
+    into: &mut [u8; BLOCK_BYTES],
+) -> Result<(), StoreAnswer>
+    ensures leaf { L.keeper.honest from.old
+        → OnOk result (into.new ≡ leaves_of L.keeper L.region from.old number) }
+    ensures garbled { IfGarbled (refusal_of result) (λ leaf. ⊥) }
+    ensures unread { IsUnread (refusal_of result) }
+    ensures reads { ReadsOnly L.keeper L.region (refusal_of result) from.old from.new }
+{
+    match from.leaf(number, into) {
+        Ok(()) => Ok(()),
+        Err(answer) => Err(answer_of(answer)),
+    }
+}
