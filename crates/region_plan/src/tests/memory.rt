@@ -11,6 +11,10 @@ use tee_base::limits::{BLOCK_BYTES, LEAVES};
 pub struct Memory {
     leaves: Vec<[u8; BLOCK_BYTES]>,
     pub lost: bool,
+    /// Which leaves were read since a call began.
+    read: [bool; LEAVES],
+    /// Whether a leaf was read again in a call.
+    pub twice: bool,
     ghost whole: { vec_len leaves ≡ 256 },
 }
 
@@ -33,7 +37,12 @@ impl LeafSource for Memory {
         if self.lost {
             return Err(LeafAnswer::Lost);
         }
-        *into = self.leaves[number as usize];
+        let index = number as usize;
+        if self.read[index] {
+            self.twice = true;
+        }
+        self.read[index] = true;
+        *into = self.leaves[index];
         Ok(())
     }
 
@@ -56,7 +65,14 @@ pub fn blank(alloc: Global) -> Result<Memory, Fail> {
     Ok(Memory {
         leaves,
         lost: false,
+        read: [false; LEAVES],
+        twice: false,
     })
+}
+
+/// A call of the region begins.
+pub fn begin_call(memory: &mut Memory) {
+    memory.read = [false; LEAVES];
 }
 
 /// Sets bytes of leaves.
