@@ -15,10 +15,11 @@ four_at at bytes = from_le_bytes w32 (part at 4 bytes)
 unfoldable pub length_in : List ℕ → ℕ
 length_in bytes = four_at LENGTH_AT bytes
 
--- its identifier and its secret, each as long as its length says
+-- its identifier, as long as its length says
 unfoldable pub identifier_in : List ℕ → List ℕ
 identifier_in bytes = part IDENTIFIER_AT (slice_index bytes IDENTIFIER_LENGTH_AT) bytes
 
+-- its secret, as long as its length says
 unfoldable pub secret_in : List ℕ → List ℕ
 secret_in bytes = part SECRET_AT (slice_index bytes SECRET_LENGTH_AT) bytes
 

@@ -1,6 +1,7 @@
 -- The numbers of one version of the format of a region.
 use Rattle.std.specs.Prelude.{ℕ}
 
+-- how many leaves a region has, and how its map is laid out
 pub record Layout : Type 0 where
   -- leaves of a region
   pub leaves : ℕ

@@ -95,6 +95,7 @@ pub record LacksData (map : List ℕ) (edit : Edit) : Type 0 where
   pub new : IsNewInode map base leaf
   pub lacks : LacksSpace base edit
 
+-- there is no free leaf for a new inode, or too few for its data
 abbrev pub LacksNew : List ℕ → Edit → Type 0
 LacksNew map edit = (free_before (entries_in map) 256 ≡ 0) ⊎ LacksData map edit
 

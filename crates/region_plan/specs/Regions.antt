@@ -62,6 +62,7 @@ module _ (L : Layout) (leaves : ℕ → List ℕ) where
   unfoldable pub leaf_of : ℕ → ℕ → Option ℕ
   leaf_of inode index = find (λ i. is_data_at L leaves inode index i) (numbers L)
 
+  -- the byte of a leaf at a place, 0 where there is no leaf
   abbrev pub byte_in : Option ℕ → ℕ → ℕ
   byte_in None at = 0
   byte_in (Some i) at = slice_index (leaves i) at
@@ -99,6 +100,7 @@ module _ (L : Layout) (leaves : ℕ → List ℕ) where
   unfoldable pub first_broken : Option ℕ
   first_broken = find (λ i. breaks i) (numbers L)
 
+  -- the store, unless a leaf breaks a rule: that leaf then
   abbrev pub unless_broken : Option ℕ → Result Store ℕ
   unless_broken None = Ok store_of
   unless_broken (Some i) = Err i

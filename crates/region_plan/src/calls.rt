@@ -48,8 +48,8 @@ pub fn locate<L: LeafSource>(alloc: Global, from: &mut L, id: &[u8]) -> Result<u
 /// An object's facts. `NotFound` exactly where there is no such object.
 pub fn facts<L: LeafSource>(alloc: Global, from: &mut L, id: &[u8]) -> Result<Facts, StoreAnswer>
     requires { IsIdentifier id.now }
-    ensures { ReadsRegion L.keeper L.region version_one (λ store. found store id.now) AreFacts result
-        from.old from.new }
+    ensures { ReadsRegion L.keeper L.region version_one (λ store. found store id.now) AreFacts
+        result from.old from.new }
 {
     let mut map = [0; BLOCK_BYTES];
     let inodes = load(alloc, from, &mut map)?;

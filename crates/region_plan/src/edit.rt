@@ -57,7 +57,8 @@ fn is_touched(edit: Edit<'_>, index: u32) -> bool
 /// Changes a leaf of the content.
 fn write_leaf(edit: Edit<'_>, index: u32, block: &mut [u8; BLOCK_BYTES])
     ensures { (k : ℕ) → k < 1024
-        → slice_index block.new k ≡ byte_of edit.entry (1024 * index + k) (slice_index block.old k) }
+        → slice_index block.new k
+        ≡ byte_of edit.entry (1024 * index + k) (slice_index block.old k) }
 {
     let start = BLOCK_BYTES * index as usize;
     for place in 0..BLOCK_BYTES {

@@ -77,7 +77,8 @@ pub(crate) fn with_data(
 
 /// The first leaf that may be taken.
 pub(crate) fn first_free(map: &[u8; BLOCK_BYTES]) -> Option<u8>
-    ensures free { IfSome result (λ leaf. (leaf < 256) × (may_be_taken (entries_in map.now) leaf ≡ true)) }
+    ensures free { IfSome result (λ leaf.
+        (leaf < 256) × (may_be_taken (entries_in map.now) leaf ≡ true)) }
     ensures none { result ≡ None → free_before (entries_in map.now) 256 ≡ 0 }
 {
     for leaf in 0..LEAVES {

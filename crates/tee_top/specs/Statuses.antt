@@ -4,6 +4,7 @@ use Rattle.std.specs.Fmt.{decimal}
 use Rattle.tee_top.specs.declared.status.Status.{Status}
 use Rattle.tee_top.specs.declared.status.Status.TheVariants.{Done, BadWords, BadLine, TooLong, NoMemory, ReadFault, WriteFault}
 
+-- the exit status
 abbrev pub number_of : Status → ℕ
 number_of Done = 0
 number_of BadWords = 64
@@ -13,6 +14,7 @@ number_of NoMemory = 71
 number_of ReadFault = 73
 number_of WriteFault = 74
 
+-- the line that main writes to standard error; none under Done
 abbrev pub status_text : Status → List ℕ
 status_text Done = []
 status_text BadWords = codes "teectl: usage: teectl run [IMAGE] | race | gen N\n"
