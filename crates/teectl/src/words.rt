@@ -1,9 +1,8 @@
 //! The words of the command line.
 
 use std::alloc::Global;
-use std::env;
-use std::io;
 use std::rt::Env;
+use std::{env, io};
 use tee_top::Status;
 
 /// The words behind the program's name. A word that isn't UTF-8 makes the command line faulty.
