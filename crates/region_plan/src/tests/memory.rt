@@ -7,14 +7,30 @@ use std::test::Fail;
 use store_api::{LeafAnswer, Leaves};
 use tee_base::limits::{BLOCK_BYTES, LEAVES};
 
+/// What was read.
+#[derive(Clone, Copy)]
+pub struct Reads {
+    /// Which leaves, since a call began.
+    read: [bool; LEAVES],
+    /// Whether a leaf was read again in a call.
+    pub twice: bool,
+}
+
+impl Reads {
+    fn note(&mut self, number: u8) {
+        let index = number as usize;
+        if self.read[index] {
+            self.twice = true;
+        }
+        self.read[index] = true;
+    }
+}
+
 #[derive(Drop)]
 pub struct Memory {
     leaves: Vec<[u8; BLOCK_BYTES]>,
     pub lost: bool,
-    /// Which leaves were read since a call began.
-    read: [bool; LEAVES],
-    /// Whether a leaf was read again in a call.
-    pub twice: bool,
+    pub reads: Reads,
     ghost whole: { vec_len leaves ≡ 256 },
 }
 
@@ -37,12 +53,8 @@ impl LeafSource for Memory {
         if self.lost {
             return Err(LeafAnswer::Lost);
         }
-        let index = number as usize;
-        if self.read[index] {
-            self.twice = true;
-        }
-        self.read[index] = true;
-        *into = self.leaves[index];
+        self.reads.note(number);
+        *into = self.leaves[number as usize];
         Ok(())
     }
 
@@ -65,14 +77,16 @@ pub fn blank(alloc: Global) -> Result<Memory, Fail> {
     Ok(Memory {
         leaves,
         lost: false,
-        read: [false; LEAVES],
-        twice: false,
+        reads: Reads {
+            read: [false; LEAVES],
+            twice: false,
+        },
     })
 }
 
 /// A call of the region begins.
 pub fn begin_call(memory: &mut Memory) {
-    memory.read = [false; LEAVES];
+    memory.reads.read = [false; LEAVES];
 }
 
 /// Sets bytes of leaves.

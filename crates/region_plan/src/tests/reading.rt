@@ -39,7 +39,7 @@ fn two_objects(rt: HostRuntime) -> Result<(), Fail> {
     begin_call(&mut memory);
     let content = content(alloc, &mut memory, b"a", 1022, 9)?;
     assert_eq!(rt; content.as_slice(), [21, 22, 23, 24].as_slice());
-    assert!(rt; !memory.twice);
+    assert!(rt; !memory.reads.twice);
     Ok(())
 }
 
@@ -50,7 +50,7 @@ fn in_order(rt: HostRuntime) -> Result<(), Fail> {
     let first = next_after(alloc, &mut memory, None)?;
     assert_eq!(rt; first.id.as_slice(), b"a".as_slice());
     assert_eq!(rt; first.facts, FACTS_OF_A);
-    assert!(rt; !memory.twice);
+    assert!(rt; !memory.reads.twice);
     let second = next_after(alloc, &mut memory, Some(b"a"))?;
     assert_eq!(rt; second.id.as_slice(), b"b".as_slice());
     assert!(rt; next_after(alloc, &mut memory, Some(b"b")).is_err());

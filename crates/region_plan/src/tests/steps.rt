@@ -123,7 +123,7 @@ fn is_planned(alloc: Global, memory: &mut Memory, change: &Change, wanted: Told)
 {
     begin_call(memory);
     let planned = plan(alloc, memory, change);
-    if memory.twice {
+    if memory.reads.twice {
         return false;
     }
     match planned {
