@@ -7,30 +7,10 @@ use std::test::Fail;
 use store_api::{LeafAnswer, Leaves};
 use tee_base::limits::{BLOCK_BYTES, LEAVES};
 
-/// What was read.
-#[derive(Clone, Copy)]
-pub struct Reads {
-    /// Which leaves, since a call began.
-    read: [bool; LEAVES],
-    /// Whether a leaf was read again in a call.
-    pub twice: bool,
-}
-
-impl Reads {
-    fn note(&mut self, number: u8) {
-        let index = number as usize;
-        if self.read[index] {
-            self.twice = true;
-        }
-        self.read[index] = true;
-    }
-}
-
 #[derive(Drop)]
 pub struct Memory {
     leaves: Vec<[u8; BLOCK_BYTES]>,
     pub lost: bool,
-    pub reads: Reads,
     ghost whole: { vec_len leaves ≡ 256 },
 }
 
@@ -53,7 +33,6 @@ impl LeafSource for Memory {
         if self.lost {
             return Err(LeafAnswer::Lost);
         }
-        self.reads.note(number);
         *into = self.leaves[number as usize];
         Ok(())
     }
@@ -77,16 +56,7 @@ pub fn blank(alloc: Global) -> Result<Memory, Fail> {
     Ok(Memory {
         leaves,
         lost: false,
-        reads: Reads {
-            read: [false; LEAVES],
-            twice: false,
-        },
     })
-}
-
-/// A call of the region begins.
-pub fn begin_call(memory: &mut Memory) {
-    memory.reads.read = [false; LEAVES];
 }
 
 /// Sets bytes of leaves.

@@ -1,6 +1,6 @@
 //! What is told of no object, and of two.
 
-use super::memory::{begin_call, blank, objects};
+use super::memory::{blank, objects};
 use crate::{content, facts, locate, next_after, secret};
 use std::test::Fail;
 use store_api::{Facts, StoreAnswer};
@@ -31,15 +31,11 @@ fn two_objects(rt: HostRuntime) -> Result<(), Fail> {
     let alloc = rt.alloc();
     let mut memory = objects(alloc)?;
     assert_eq!(rt; locate(alloc, &mut memory, b"a"), Ok(5));
-    begin_call(&mut memory);
     assert_eq!(rt; facts(alloc, &mut memory, b"a"), Ok(FACTS_OF_A));
-    begin_call(&mut memory);
     let secret = secret(alloc, &mut memory, b"a")?;
     assert_eq!(rt; secret.as_slice(), b"12".as_slice());
-    begin_call(&mut memory);
     let content = content(alloc, &mut memory, b"a", 1022, 9)?;
     assert_eq!(rt; content.as_slice(), [21, 22, 23, 24].as_slice());
-    assert!(rt; !memory.reads.twice);
     Ok(())
 }
 
@@ -50,7 +46,6 @@ fn in_order(rt: HostRuntime) -> Result<(), Fail> {
     let first = next_after(alloc, &mut memory, None)?;
     assert_eq!(rt; first.id.as_slice(), b"a".as_slice());
     assert_eq!(rt; first.facts, FACTS_OF_A);
-    assert!(rt; !memory.reads.twice);
     let second = next_after(alloc, &mut memory, Some(b"a"))?;
     assert_eq!(rt; second.id.as_slice(), b"b".as_slice());
     assert!(rt; next_after(alloc, &mut memory, Some(b"b")).is_err());

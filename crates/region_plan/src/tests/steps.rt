@@ -2,7 +2,7 @@
 ghost use Rattle.std.specs.Prelude.{◌≡◌, ◌≤◌, IfOk, length};
 ghost use Rattle.store_api.specs.Limits.{IsChange, IsIdentifier, IsSecret};
 
-use super::memory::{Memory, begin_call, blank, commit};
+use super::memory::{Memory, blank, commit};
 use crate::{content, next_after, plan, secret};
 use std::alloc::Global;
 use std::process::Abort;
@@ -117,16 +117,11 @@ fn is_wanted(refusal: &StoreAnswer, wanted: Told) -> bool {
     }
 }
 
-/// Plans a change and commits its leaves, and says whether that came which is wanted, and no leaf was read twice.
+/// Plans a change and commits its leaves, and says whether that came which is wanted.
 fn is_planned(alloc: Global, memory: &mut Memory, change: &Change, wanted: Told) -> bool
     requires { IsChange change.now }
 {
-    begin_call(memory);
-    let planned = plan(alloc, memory, change);
-    if memory.reads.twice {
-        return false;
-    }
-    match planned {
+    match plan(alloc, memory, change) {
         Ok(leaves) => {
             commit(memory, &leaves);
             matches!(wanted, Told::Done(most) if leaves.as_slice().len() <= most)
@@ -154,7 +149,6 @@ fn is_same_secret(
 ) -> Result<bool, StoreAnswer>
     requires { IsIdentifier id.now }
 {
-    begin_call(memory);
     let one = secret(alloc, memory, id)?;
     let other = store.secret(id)?;
     Ok(one.as_slice() == other.as_slice())
@@ -169,7 +163,6 @@ fn is_same_content(
 ) -> Result<bool, StoreAnswer>
     requires { IsIdentifier id.now }
 {
-    begin_call(memory);
     let one = content(alloc, memory, id, 0, ASK_BYTES)?;
     let other = store.read(id, 0, ASK_BYTES)?;
     Ok(one.as_slice() == other.as_slice())
@@ -190,7 +183,6 @@ fn is_same_listed(one: &Result<Listed, StoreAnswer>, other: &Result<Listed, Stor
 fn are_same(alloc: Global, memory: &mut Memory, store: &mut MapStore) -> Result<bool, Fail> {
     let mut last = Bytes::from_slice(alloc, &[])?;
     for _ in 0..9 {
-        begin_call(memory);
         let one = next_after(alloc, memory, Some(last.as_slice()));
         let other = store.next_after(Some(last.as_slice()));
         if !is_same_listed(&one, &other) {
