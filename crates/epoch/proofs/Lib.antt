@@ -1,5 +1,7 @@
+pub mod CommitLemmas
 pub mod FindLemmas
 pub mod HeaderLemmas
+pub mod PastLemmas
 pub mod RuleLemmas
 pub mod RunLemmas
 pub mod StageLemmas

@@ -1,8 +1,11 @@
+pub mod Commits
 pub mod Finding
+pub mod Forms
 pub mod Gates
 pub mod Header
 pub mod Laws
 pub mod Opening
 pub mod Parts
+pub mod Past
 pub mod Slots
 pub mod Steps

@@ -5,6 +5,7 @@
 
 mod answer;
 mod bytes;
+mod commits;
 mod find;
 mod gates;
 mod header;
@@ -16,6 +17,7 @@ mod steps;
 mod tests;
 
 pub use answer::{OpenAnswer, Unopened};
+pub use commits::{Change, commit};
 pub use find::{FLAT_VERSION, VOLUME_BLOCKS, find_header, find_version};
 pub use header::{Header, TreeEntry, entry_at, entry_bytes};
 pub use laws::opening_laws;

@@ -1,0 +1,4 @@
+pub mod FlatLemmas
+pub mod LeafLemmas
+pub mod ReadLemmas
+pub mod TableLemmas
