@@ -1,5 +1,5 @@
 -- What an image holds within a commit, over the form of the leaves.
-use Rattle.std.proofs.Common.{◌≡◌, ◌≢◌, ◌≤◌, ◌<◌, ◌+◌, ◌*◌, ◌^◌, ◌%◌, ◌⊎◌, ◌==◌, ◌&&◌, ◌||◌, ◌∙◌, if◌then◌else◌, ℕ, zero, suc, Bool, true, false, not, List, [], Option, Some, None, Result, Ok, Err, nat_lt, is_none, replicate, refl, sym, ap, subst, inl, inr, ⊎_elim, arith}
+use Rattle.std.proofs.Common.{◌≡◌, ◌≢◌, ◌≤◌, ◌<◌, ◌+◌, ◌*◌, ◌^◌, ◌%◌, ◌⊎◌, ◌==◌, ◌&&◌, ◌||◌, ◌∙◌, if◌then◌else◌, ℕ, zero, suc, Bool, true, false, not, List, [], Option, Some, None, Result, Ok, Err, OnErr, nat_lt, is_none, replicate, refl, sym, ap, subst, inl, inr, ⊎_elim, arith}
 use Rattle.std.proofs.lemmas.Bool.{cases_lt, false≢true}
 use Rattle.std.proofs.lemmas.Bool.Decides.{nat_tests}
 use Rattle.tee_base.specs.Crash.{LeavesOnly}
@@ -467,3 +467,8 @@ unfolding is_sealed
 sealed_each f key root image sealed r l hr hl =
     none_is (f.damage key image root r l)
     (all_below_each LEAVES (λ l. is_none (f.damage key image root r l)) (all_below_each HOSTS (λ r. all_below LEAVES (λ l. is_none (f.damage key image root r l))) sealed r hr) l hl)
+
+-- a fact that holds whatever is answered
+pub on_err : {A E : Type 0} (r : Result A E) (P : Type 0) → P → OnErr r P
+on_err (Ok a) P p = tt
+on_err (Err e) P p = p

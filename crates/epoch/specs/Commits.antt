@@ -18,7 +18,8 @@ OpensTo sequence root (Ok (Some found)) =
 OpensTo sequence root (Err answer) = ⊥
 
 -- a board at rest with a sound image: under this root it holds this, and the counter is the sequence
-pub record IsMounted (f : Form) (key : List ℕ) (root : TreeEntry) (held : Held) (m : Moment) : Type 0 where
+pub record IsMounted (f : Form) (key : List ℕ) (root : TreeEntry) (held : Held) (m : Moment)
+    : Type 0 where
   pub rests : Rests held.sequence m
   pub opens : OpensTo held.sequence root (opening_of f.version key m.reads held.sequence)
   pub sealed : is_sealed f key m.reads root ≡ true
@@ -41,4 +42,5 @@ next_held leaves sequence = record { leaves = leaves; sequence = sequence + 1 }
 
 -- a crash left what was held before, or after
 abbrev pub BeforeOrAfter : Form → List ℕ → Held → Held → Outcome → Type 0
-BeforeOrAfter f key before after c = (held_of f key c ≡ Some before) ⊎ (held_of f key c ≡ Some after)
+BeforeOrAfter f key before after c =
+    (held_of f key c ≡ Some before) ⊎ (held_of f key c ≡ Some after)

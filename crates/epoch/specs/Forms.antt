@@ -33,7 +33,8 @@ is_leaf region leaf = nat_lt region HOSTS && nat_lt leaf LEAVES
 -- no two tags on the way to any leaf differ: the root seals its leaves
 unfoldable pub is_sealed : Form → List ℕ → (ℕ → List ℕ) → TreeEntry → Bool
 is_sealed f key image root =
-    all_below HOSTS (λ region. all_below LEAVES (λ leaf. is_none (f.damage key image root region leaf)))
+    all_below HOSTS (λ region.
+    all_below LEAVES (λ leaf. is_none (f.damage key image root region leaf)))
 
 -- the leaves under a root; there is nothing where there is no leaf
 unfoldable pub leaves_of : Form → List ℕ → (ℕ → List ℕ) → TreeEntry → ℕ → ℕ → List ℕ
@@ -50,7 +51,10 @@ abbrev pub held_by : Form → List ℕ → (ℕ → List ℕ) → Result (Option
 held_by f key image (Ok None) = Some (record { leaves = blank_leaves; sequence = 0 })
 held_by f key image (Ok (Some found)) =
     if (found.slot == found.header.sequence % 2) && is_sealed f key image found.header.root
-    then Some (record { leaves = leaves_of f key image found.header.root; sequence = found.header.sequence })
+    then Some (record {
+      leaves = leaves_of f key image found.header.root;
+      sequence = found.header.sequence;
+    })
     else None
 held_by f key image (Err answer) = None
 

@@ -1,5 +1,5 @@
 //! The commit that every volume makes: its copies and a header in the spare slot, and then the gate and the counter.
-ghost use Rattle.std.specs.Prelude.{◌≡◌, ◌≤◌, ◌<◌, ◌+◌, ◌^◌, ℕ, true, List, IfOk, OnOk, OnErr, is_ok};
+ghost use Rattle.std.specs.Prelude.{◌≡◌, ◌≤◌, ◌<◌, ◌+◌, ◌%◌, ◌^◌, ℕ, true, List, IfOk, OnOk, OnErr, is_ok};
 ghost use Rattle.tee_base.specs.Crash.{LeavesOnly};
 ghost use Rattle.store_api.specs.Volumes.{Held};
 ghost use Rattle.board.specs.Moment.{View, moment, left_since};
@@ -53,15 +53,19 @@ pub trait Change {
         ensures past { B.honest board.old → KeepsPast (B.view board.old) (B.view board.new) }
         ensures run { B.honest board.old → (slot low high : ℕ) (first : View)
             → fits self.old (B.view board.old).key (B.view board.old).state.reads
-            → RunsOver (spare form (B.view board.old).key (B.view board.old).state.reads (root self.old) slot)
+            → RunsOver (spare form (B.view board.old).key (B.view board.old).state.reads
+            (root self.old) slot)
             (B.view board.old).state.reads low high first (B.view board.old)
-            → RunsOver (spare form (B.view board.old).key (B.view board.old).state.reads (root self.old) slot)
+            → RunsOver (spare form (B.view board.old).key (B.view board.old).state.reads
+            (root self.old) slot)
             (B.view board.old).state.reads low high first (B.view board.new) }
         ensures written { B.honest board.old
             → fits self.old (B.view board.old).key (B.view board.old).state.reads
-            → is_sealed form (B.view board.old).key (B.view board.old).state.reads (root self.old) ≡ true
+            → is_sealed form (B.view board.old).key (B.view board.old).state.reads (root self.old)
+            ≡ true
             → IfOk result (λ new_root. IsWritten form (B.view board.old).key new_root
-            (after self.old (leaves_of form (B.view board.old).key (B.view board.old).state.reads (root self.old)))
+            (after self.old (leaves_of form (B.view board.old).key (B.view board.old).state.reads
+            (root self.old)))
             (B.view board.new).state.reads) }
         ensures fits { B.honest board.old
             → fits self.old (B.view board.old).key (B.view board.old).state.reads
@@ -98,20 +102,23 @@ pub fn commit<B: Board, C: Change>(
     ensures past { B.honest board.old → KeepsPast (B.view board.old) (B.view board.new) }
     // at every moment since the start all that a crash leaves holds what was held before, or after
     ensures crash { B.honest board.old → (before : Held) → before.sequence ≡ sequence
-        → IsMounted C.form (B.view board.old).key (C.root change.old) before (B.view board.old).state
+        → IsMounted C.form (B.view board.old).key (C.root change.old) before
+        (B.view board.old).state
         → C.fits change.old (B.view board.old).key (B.view board.old).state.reads
         → LeavesOnly moment left_since (B.view board.old) (B.view board.new)
         (BeforeOrAfter C.form (B.view board.old).key before
         (next_held (C.after change.old before.leaves) before.sequence)) }
     // at Ok it is what is held after, and the counter is its sequence
     ensures done { B.honest board.old → (before : Held) → before.sequence ≡ sequence
-        → IsMounted C.form (B.view board.old).key (C.root change.old) before (B.view board.old).state
+        → IsMounted C.form (B.view board.old).key (C.root change.old) before
+        (B.view board.old).state
         → C.fits change.old (B.view board.old).key (B.view board.old).state.reads
         → IfOk result (λ root. IsMounted C.form (B.view board.old).key root
         (next_held (C.after change.old before.leaves) before.sequence) (B.view board.new).state
         × C.fits change.new (B.view board.old).key (B.view board.new).state.reads) }
     ensures kept { B.honest board.old → (before : Held) → before.sequence ≡ sequence
-        → IsMounted C.form (B.view board.old).key (C.root change.old) before (B.view board.old).state
+        → IsMounted C.form (B.view board.old).key (C.root change.old) before
+        (B.view board.old).state
         → C.fits change.old (B.view board.old).key (B.view board.old).state.reads
         → OnErr result (leaves_of C.form (B.view board.old).key (B.view board.new).state.reads
         (C.root change.old) ≡ before.leaves) }

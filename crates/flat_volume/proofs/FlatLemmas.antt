@@ -80,7 +80,7 @@ leaves_are_by key reads root = λ i r l. same r l i where
   same r l = refl
 
 -- equal tags don't differ
-no_difference : (tag : List ℕ) → differing tag tag ≡ None
+pub no_difference : (tag : List ℕ) → differing tag tag ≡ None
 unfolding differing
 no_difference tag = let e : bytes_eq tag tag ≡ true = (bytes_eq-Decides tag tag).1 refl in rw e refl
 

@@ -1,7 +1,8 @@
 -- How the leaves change when one of them is written into its spare copy.
-use Rattle.std.proofs.Common.{◌≡◌, ◌≢◌, ◌≤◌, ◌<◌, ◌+◌, ◌-◌, ◌*◌, ◌⊎◌, ◌==◌, ◌&&◌, ◌∙◌, if◌then◌else◌, ℕ, Bool, true, false, List, [], ◌∷◌, Option, None, nat_lt, refl, sym, ap, subst, ⊎_elim, inl, inr, arith}
+use Rattle.std.proofs.Common.{◌≡◌, ◌≢◌, ◌≤◌, ◌<◌, ◌+◌, ◌-◌, ◌*◌, ◌⊎◌, ◌==◌, ◌&&◌, ◌∙◌, if◌then◌else◌, ℕ, Bool, true, false, List, [], ◌∷◌, Option, None, nat_lt, length, get_or, drop, refl, sym, ap, subst, ⊎_elim, inl, inr, arith}
 use Rattle.std.specs.List.{list_all}
 use Rattle.std.proofs.lemmas.Bool.{cases_eq, cases_lt}
+use Rattle.std.proofs.lemmas.List.{drop_more}
 use Rattle.std.proofs.lemmas.Bool.Decides.{nat_tests}
 use Rattle.tee_base.specs.declared.limits.TheConstants.{HOSTS, LEAVES}
 use Rattle.store_api.specs.declared.leaves.Leaf.{Leaf}
@@ -17,7 +18,7 @@ use Rattle.flat_volume.specs.Writing.{AreSealed, AreSpare, leaves_by, spare_bloc
 
 -- a block of another place is another block
 pub other_block : (p q a b : ℕ) → p ≢ q → block_at p a ≢ block_at q b
-other_block p q a b ne same = absurd (numbers p q (copy_of a) (copy_of b) (copy_below a) (copy_below b) ne same) where
+other_block p q a b ne = λ same. numbers p q (copy_of a) (copy_of b) (copy_below a) (copy_below b) ne same where
   numbers : (p q x y : ℕ) → x < 2 → y < 2 → p ≢ q → 4 + 2 * p + x ≡ 4 + 2 * q + y → ⊥
   numbers p q x y one two ne same = absurd (omega arith)
 
@@ -135,6 +136,43 @@ spare_step open_at told tnew region number (leaf ∷ rest) others above spare =
     let two : list_all (λ later. nat_lt number later.number) rest ≡ true = second_true (nat_lt number leaf.number) (list_all (λ (later : Leaf). nat_lt number later.number) rest) above in
     let less : number < leaf.number = grind (arith, nat_tests) in
     let n = number_of region leaf.number in
-    let same : entry_of tnew n ≡ entry_of told n = others n (λ e. absurd (omega arith)) in
-    (subst (λ (e : TreeEntry). open_at (block_at (FIRST_LEAF + n) (1 - copy_of e.copy)) ≡ true) (sym same) spare.0,
-    spare_step open_at told tnew region number rest others two spare.1)
+    let same : entry_of tnew n ≡ entry_of told n = others n (λ e. absurd (omega arith)) in (
+      subst (λ (e : TreeEntry). open_at (block_at (FIRST_LEAF + n) (1 - copy_of e.copy)) ≡ true) (sym same) spare.0,
+      spare_step open_at told tnew region number rest others two spare.1,
+    )
+
+-- the leaves that are left, by the next of them
+pub rest_step : (xs : List Leaf) (i : ℕ) (leaf : Leaf) → i < length xs → leaf ≡ get_or xs i leaf → drop i xs ≡ leaf ∷ drop (i + 1) xs
+rest_step xs i leaf within is = drop_more xs i leaf within ∙ ap (λ (x : Leaf). x ∷ drop (i + 1) xs) (sym is)
+
+pub above_rest : (leaf : Leaf) (rest : List Leaf) → is_ascending (leaf ∷ rest) ≡ true → list_all (λ later. nat_lt leaf.number later.number) rest ≡ true
+above_rest leaf rest e = first_true (list_all (λ (later : Leaf). nat_lt leaf.number later.number) rest) (is_ascending rest) e
+
+pub rest_ascends : (leaf : Leaf) (rest : List Leaf) → is_ascending (leaf ∷ rest) ≡ true → is_ascending rest ≡ true
+rest_ascends leaf rest e = second_true (list_all (λ (later : Leaf). nat_lt leaf.number later.number) rest) (is_ascending rest) e
+
+-- one leaf more: all that the loop over the leaves keeps
+module _ (told tnew : List ℕ) (region : ℕ) (leaf : Leaf) (rest : List Leaf) (number : ℕ)
+    (region_in : region < HOSTS) (leaf_in : leaf.number < LEAVES) (is_number : number ≡ number_of region leaf.number)
+    (others : (n : ℕ) → n ≢ number → entry_of tnew n ≡ entry_of told n) (ascending : is_ascending (leaf ∷ rest) ≡ true) where
+  others_of : (n : ℕ) → n ≢ number_of region leaf.number → entry_of tnew n ≡ entry_of told n
+  others_of n ne = others n (λ e. ne (e ∙ is_number))
+
+  pub spare_more : (open_at : ℕ → Bool) → AreSpare open_at told region (leaf ∷ rest) → AreSpare open_at tnew region rest
+  spare_more open_at spare = spare_step open_at told tnew region leaf.number rest others_of (above_rest leaf rest ascending) spare.1
+
+  pub spare_here : (open_at : ℕ → Bool) → AreSpare open_at told region (leaf ∷ rest) → open_at (spare_block told number) ≡ true
+  spare_here open_at spare = ap (λ (n : ℕ). open_at (spare_block told n)) is_number ∙ spare.0
+
+  module _ (key : List ℕ) (old new : ℕ → List ℕ) (elsewhere : (k : ℕ) → k ≢ spare_block told number → new k ≡ old k) where
+    pub sealed_more : AreSealed key told old → leaf_damage key new (FIRST_LEAF + number) (entry_of tnew number) ≡ None → AreSealed key tnew new
+    sealed_more sealed here = sealed_step key told tnew old new number elsewhere others sealed here
+
+    elsewhere_of : (k : ℕ) → k ≢ spare_block told (number_of region leaf.number) → new k ≡ old k
+    elsewhere_of k ne = elsewhere k (λ e. ne (e ∙ ap (spare_block told) is_number))
+
+    pub leaves_more : leaf_text key new (FIRST_LEAF + number) (entry_of tnew number) ≡ leaf.bytes
+        → replaced region rest (leaves_by key tnew new) ≡ replaced region (leaf ∷ rest) (leaves_by key told old)
+    leaves_more text =
+        sym (leaves_step key told tnew old new region leaf rest region_in leaf_in elsewhere_of others_of
+        (ap (λ (n : ℕ). leaf_text key new (FIRST_LEAF + n) (entry_of tnew n)) (sym is_number) ∙ text) (above_rest leaf rest ascending))

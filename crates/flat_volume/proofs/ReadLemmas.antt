@@ -1,6 +1,8 @@
 -- Runs of calls, one call more.
-use Rattle.std.proofs.Common.{◌≡◌, ◌≢◌, ◌≤◌, ◌*◌, ◌<◌, ◌+◌, ◌-◌, ◌^◌, ◌⊎◌, ◌==◌, ◌∙◌, ℕ, Bool, true, false, List, None, refl, sym, ap, subst, inl, inr, ⊎_elim, arith}
+use Rattle.std.proofs.Common.{◌≡◌, ◌≢◌, ◌≤◌, ◌*◌, ◌<◌, ◌+◌, ◌-◌, ◌^◌, ◌⊎◌, ◌==◌, ◌∙◌, ℕ, Bool, true, false, List, Option, None, Some, if◌then◌else◌, bytes_eq, refl, sym, ap, subst, inl, inr, ⊎_elim, arith}
 use Rattle.std.proofs.lemmas.Bool.{cases_lt}
+use Rattle.std.proofs.lemmas.Slice.Eq.{bytes_eq-Decides}
+use Rattle.store_api.specs.declared.answer.Mismatch.{Mismatch}
 use Rattle.tee_base.specs.Faults.{Rose}
 use Rattle.board.specs.Moment.{View}
 use Rattle.board.specs.Steps.{Answered, Called, CallRun, Unchanged}
@@ -10,10 +12,10 @@ use Rattle.epoch.specs.Parts.{part}
 use Rattle.epoch.proofs.PastLemmas.{followed, itself, once}
 use Rattle.epoch.proofs.RunLemmas.{over_read}
 use Rattle.epoch.specs.declared.header.TreeEntry.{TreeEntry}
-use Rattle.flat_volume.specs.Flat.{block_at, copy_of, differing, entry_of, leaf_damage, leaf_text}
+use Rattle.flat_volume.specs.Flat.{block_at, copy_of, differing, entry_of, leaf_damage, leaf_text, table_damage, table_tag}
 use Rattle.flat_volume.specs.Reading.{OnlyReads}
 use Rattle.flat_volume.specs.Writing.{spare_block}
-use Rattle.flat_volume.proofs.FlatLemmas.{no_difference}
+use Rattle.flat_volume.proofs.FlatLemmas.{no_difference, tagged}
 use Rattle.flat_volume.proofs.LeafLemmas.{other_block}
 
 -- a fault that rose later rose
@@ -110,3 +112,43 @@ placed_step old new copy i table block here elsewhere is before k below =
 -- the block that a leaf is written to is the spare one
 pub spare_is : (table : List ℕ) (number copy block : ℕ) → block ≡ block_at (273 + number) copy → copy ≡ 1 - copy_of (entry_of table number).copy → block ≡ spare_block table number
 spare_is table number copy block is other = is ∙ ap (block_at (273 + number)) other
+
+-- tags that aren't equal differ
+differs : (found kept : List ℕ) → found ≢ kept → differing found kept ≡ Some (record { found = found; kept = kept })
+unfolding differing
+differs found kept ne =
+    elim (bytes_eq found kept) as (λ b. bytes_eq found kept ≡ b → 
+    (let none : Option Mismatch = None in if b then none else Some (record { found = found; kept = kept })) ≡ Some (record { found = found; kept = kept })) [
+      | true ↦ λ e. absurd (ne ((bytes_eq-Decides found kept).0 e))
+      | false ↦ λ e. refl
+    ] refl
+
+pub table_differs : (key table : List ℕ) (root : TreeEntry) (found : List ℕ) → root.sequence ≢ 0 → found ≡ table_tag key root.sequence table → found ≢ root.tag
+    → table_damage key table root ≡ Some (record { found = found; kept = root.tag })
+unfolding table_damage
+table_differs key table root found positive is ne =
+    let some : (root.sequence == 0) ≡ false = grind arith in
+    rw (some, sym is) (differs found root.tag ne)
+
+pub table_agrees : (key table : List ℕ) (root : TreeEntry) (found : List ℕ) → found ≡ table_tag key root.sequence table → found ≡ root.tag → table_damage key table root ≡ None
+table_agrees key table root found is same = tagged key table root (sym same ∙ is)
+
+-- the same of the block of an entry
+module _ (key : List ℕ) (reads : ℕ → List ℕ) (place : ℕ) (e : TreeEntry) (cipher : List ℕ) (positive : e.sequence ≢ 0) (here : cipher ≡ reads (block_at place e.copy)) where
+  pub leaf_differs : (found : List ℕ) → found ≡ seal_tag key place e.sequence e.iv cipher → found ≢ e.tag → leaf_damage key reads place e ≡ Some (record { found = found; kept = e.tag })
+  unfolding leaf_damage
+  leaf_differs found is ne =
+      let some : (e.sequence == 0) ≡ false = grind arith in
+      rw (some, sym here, sym is) (differs found e.tag ne)
+
+  pub leaf_agrees : seal_tag key place e.sequence e.iv cipher ≡ e.tag → leaf_damage key reads place e ≡ None
+  unfolding leaf_damage
+  leaf_agrees is =
+      let some : (e.sequence == 0) ≡ false = grind arith in
+      rw (some, sym here, is) (no_difference e.tag)
+
+  pub leaf_opened : (into : List ℕ) → into ≡ plaintext key e.iv cipher → into ≡ leaf_text key reads place e
+  unfolding leaf_text
+  leaf_opened into is =
+      let some : (e.sequence == 0) ≡ false = grind arith in
+      rw (some, sym here) is

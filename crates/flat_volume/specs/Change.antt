@@ -1,6 +1,7 @@
 -- What a commit keeps of a flat volume fits the board.
-use Rattle.std.specs.Prelude.{◌≡◌, ℕ, List, None}
-use Rattle.std.proofs.Common.{◌∙◌, sym}
+use Rattle.std.specs.Prelude.{◌≡◌, ◌≤◌, ℕ, List, None}
+use Rattle.std.proofs.Common.{◌∙◌, sym, arith}
+use Rattle.tee_base.specs.declared.limits.TheConstants.{BOARD_BLOCKS}
 use Rattle.seal.specs.Keys.{AreKeysOf}
 use Rattle.seal.specs.declared.keys.Keys.{Keys}
 use Rattle.epoch.specs.Forms.{SameUsed}
@@ -10,7 +11,8 @@ use Rattle.flat_volume.specs.Frame.{table_same}
 use Rattle.flat_volume.specs.declared.table.Table.{Table}
 
 -- the keys are those of the board's key, and the table is the one that stands under the root
-pub record FitsFlat (keys : Keys) (table : Table) (root : TreeEntry) (key : List ℕ) (reads : ℕ → List ℕ) : Type 0 where
+pub record FitsFlat (keys : Keys) (table : Table) (root : TreeEntry) (key : List ℕ)
+    (reads : ℕ → List ℕ) : Type 0 where
   pub keyed : AreKeysOf keys key
   pub stands : table.bytes.items ≡ table_in reads root
 
@@ -25,3 +27,7 @@ table_still_fits keys table root key base image same fits = record {
   keyed = fits.keyed;
   stands = fits.stands ∙ sym (table_same key root base image same);
 }
+
+-- a volume has the blocks of both slots
+pub four_blocks : 4 ≤ BOARD_BLOCKS
+four_blocks = omega arith

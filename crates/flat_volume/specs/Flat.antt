@@ -26,9 +26,13 @@ unfoldable pub joined_below : ℕ → (ℕ → List ℕ) → List ℕ
 joined_below zero blocks = []
 joined_below (suc n) blocks = joined_below n blocks ++ blocks n
 
+-- so many zeros
+unfoldable pub zeros_of : ℕ → List ℕ
+zeros_of count = replicate count 0
+
 -- a table whose entries are all zeros
-unfoldable pub zero_table : List ℕ
-zero_table = replicate TABLE_BYTES 0
+abbrev pub zero_table : List ℕ
+zero_table = zeros_of TABLE_BYTES
 
 -- the table under a root: all entries in the order of the leaves
 unfoldable pub table_in : (ℕ → List ℕ) → TreeEntry → List ℕ
@@ -42,7 +46,8 @@ entry_of table number = entry_at (ENTRY_BYTES * number) table
 
 -- a tag that was computed and the one that is kept, where they differ
 unfoldable pub differing : List ℕ → List ℕ → Option Mismatch
-differing found kept = if bytes_eq found kept then None else Some (record { found = found; kept = kept })
+differing found kept =
+    if bytes_eq found kept then None else Some (record { found = found; kept = kept })
 
 -- the tag of a table, as a commit with this sequence writes it: that of a sealed block at place 0, with a vector of zeros
 unfoldable pub table_tag : List ℕ → ℕ → List ℕ → List ℕ
@@ -57,7 +62,8 @@ table_damage key table root =
 unfoldable pub leaf_damage : List ℕ → (ℕ → List ℕ) → ℕ → TreeEntry → Option Mismatch
 leaf_damage key image place entry =
     if entry.sequence == 0 then None
-    else differing (seal_tag key place entry.sequence entry.iv (image (block_at place entry.copy))) entry.tag
+    else differing
+        (seal_tag key place entry.sequence entry.iv (image (block_at place entry.copy))) entry.tag
 
 -- the first of two damages
 abbrev pub first_damage : Option Mismatch → Option Mismatch → Option Mismatch
@@ -93,7 +99,8 @@ flat_uses key image root k =
 abbrev pub flat : Form
 flat = record {
   version = FLAT_VERSION;
-  damage = λ key image root region leaf. path_damage key (table_in image root) image root (number_of region leaf);
+  damage = λ key image root region leaf.
+      path_damage key (table_in image root) image root (number_of region leaf);
   leaf = λ key image root region leaf. leaf_text key image (FIRST_LEAF + number_of region leaf)
       (entry_of (table_in image root) (number_of region leaf));
   uses = flat_uses;

@@ -10,7 +10,7 @@ use Rattle.epoch.specs.Forms.{IsFramed, SameUsed}
 use Rattle.epoch.specs.Parts.{part}
 use Rattle.epoch.specs.declared.header.TreeEntry.{TreeEntry}
 use Rattle.flat_volume.specs.declared.places.TheConstants.{FIRST_LEAF, FIRST_TABLE, SLOT_BLOCKS, TABLE_BLOCKS, TABLE_BYTES, ENTRY_BYTES, ALL_LEAVES}
-use Rattle.flat_volume.specs.Flat.{block_at, copy_of, differing, entry_of, first_damage, flat, flat_uses, joined_below, leaf_damage, leaf_text, needs_copy, number_of, path_damage, table_damage, table_in, zero_table}
+use Rattle.flat_volume.specs.Flat.{block_at, copy_of, differing, entry_of, first_damage, flat, flat_uses, joined_below, leaf_damage, leaf_text, needs_copy, number_of, path_damage, table_damage, table_in, zero_table, zeros_of}
 
 -- a copy is 0 or 1
 pub copy_below : (copy : ℕ) → copy_of copy < 2
@@ -118,12 +118,12 @@ flat_behind key root image k low =
     rw t refl
 
 -- a piece of zeros
-pub part_zeros : (at n total : ℕ) → at + n ≤ total → part at n (replicate total 0) ≡ replicate n 0
+pub part_zeros : (at n total : ℕ) → at + n ≤ total → part at n (zeros_of total) ≡ replicate n 0
+unfolding zeros_of
 part_zeros at n total fits = ap (take n) (drop-replicate at total 0) ∙ take-replicate n (total - at) 0 (omega arith)
 
 -- an entry of a table of zeros has the sequence 0
 pub zero_entry : (n : ℕ) → n < ALL_LEAVES → (entry_of zero_table n).sequence ≡ 0
-unfolding zero_table
 zero_entry n below = ap (from_le_bytes w64) (part_zeros (ENTRY_BYTES * n + 8) 8 TABLE_BYTES (omega arith))
 
 -- a leaf's number is below that of all

@@ -26,14 +26,19 @@ IsKept table reads root = IfSome table (λ t. t.bytes.items ≡ table_in reads r
 unfoldable pub damage_now : Option Table → View → TreeEntry → ℕ → ℕ → Option Mismatch
 damage_now table view root region leaf =
     if is_leaf region leaf
-    then path_damage view.key (table_now table view.state.reads root) view.state.reads root (number_of region leaf)
+    then path_damage view.key (table_now table view.state.reads root) view.state.reads root
+        (number_of region leaf)
     else None
 
 -- what is held under a root, with the sequence
 abbrev pub held_now : View → TreeEntry → ℕ → Held
-held_now view root sequence = record { leaves = leaves_of flat view.key view.state.reads root; sequence = sequence }
+held_now view root sequence = record {
+  leaves = leaves_of flat view.key view.state.reads root;
+  sequence = sequence;
+}
 
 -- the board is at rest with a sound image that holds this under the root, and a table that is kept is its table
-pub record IsOpen (view : View) (root : TreeEntry) (sequence : ℕ) (table : Option Table) : Type 0 where
+pub record IsOpen (view : View) (root : TreeEntry) (sequence : ℕ) (table : Option Table)
+    : Type 0 where
   pub mounted : IsMounted flat view.key root (held_now view root sequence) view.state
   pub kept : IsKept table view.state.reads root

@@ -13,7 +13,8 @@ spare_block table number = block_at (FIRST_LEAF + number) (1 - copy_of (entry_of
 abbrev pub AreSpare : (ℕ → Bool) → List ℕ → ℕ → List Leaf → Type 0
 AreSpare open_at table region [] = Unit {0}
 AreSpare open_at table region (leaf ∷ leaves) =
-    (open_at (spare_block table (number_of region leaf.number)) ≡ true) × AreSpare open_at table region leaves
+    (open_at (spare_block table (number_of region leaf.number)) ≡ true)
+    × AreSpare open_at table region leaves
 
 -- no entry of the table has a damage
 abbrev pub AreSealed : List ℕ → List ℕ → (ℕ → List ℕ) → Type 0
@@ -25,5 +26,6 @@ AreSealed key table reads =
 unfoldable pub leaves_by : List ℕ → List ℕ → (ℕ → List ℕ) → ℕ → ℕ → List ℕ
 leaves_by key table reads region leaf =
     if is_leaf region leaf
-    then leaf_text key reads (FIRST_LEAF + number_of region leaf) (entry_of table (number_of region leaf))
+    then leaf_text key reads (FIRST_LEAF + number_of region leaf)
+        (entry_of table (number_of region leaf))
     else []

@@ -80,7 +80,8 @@ pub fn load_table<B: Board>(
 fn verified(table: Table, keys: &Keys, root: &TreeEntry) -> Result<Table, LeafAnswer>
     requires { root.now.sequence ≢ 0 }
     ensures same { IfOk result (λ t. t.bytes.items ≡ table.bytes.items) }
-    ensures tags { IfErr result (λ e. e ≢ answers.Failed × e ≢ answers.Lost × e ≢ answers.NoMemory) }
+    ensures tags { IfErr result (λ e.
+        (e ≢ answers.Failed) × (e ≢ answers.Lost) × (e ≢ answers.NoMemory)) }
     ensures differ { IfMismatch result (λ tags. tags.found ≢ tags.kept) }
     ensures damage { (key : List ℕ) → AreKeysOf keys.now key
         → ShowsLeaf result (table_damage key table.bytes.items root.now) }
@@ -139,8 +140,7 @@ fn opened(
     entry: &TreeEntry,
     cipher: &[u8; 1024],
     into: &mut [u8; 1024],
-) -> Result<(), LeafAnswer>
-{
+) -> Result<(), LeafAnswer> {
     let tags = Tags {
         iv: entry.iv,
         tag: entry.tag,
@@ -215,7 +215,8 @@ pub fn find_leaf<B: Board>(
     ensures damage { IsTrue B.tells_reads
         → IsVerified (B.view board.old).key table.old root.now
         → let reads = (B.view board.old).state.reads in ShowsLeaf result
-        (path_damage (B.view board.old).key (table_now table.old reads root.now) reads root.now number) }
+        (path_damage (B.view board.old).key (table_now table.old reads root.now) reads root.now
+        number) }
     ensures kept { IsTrue B.tells_reads → let reads = (B.view board.old).state.reads in
         table_now table.new reads root.now ≡ table_now table.old reads root.now }
     ensures honest { B.honest board.old

@@ -1,5 +1,6 @@
 //! Where the table and the leaves stand.
 ghost use Rattle.std.specs.Prelude.{◌≡◌, ◌<◌, ◌+◌, ◌*◌, ◌-◌};
+ghost use Rattle.tee_base.specs.declared.limits.TheConstants.{BOARD_BLOCKS, HOSTS};
 ghost use Rattle.flat_volume.specs.Flat.{block_at as block_of_copy, copy_of, number_of};
 
 use tee_base::limits;
@@ -47,14 +48,14 @@ pub fn other_copy(copy: u64) -> u64
 pub fn block_at(place: u64, copy: u64) -> u64
     requires { place < PLACES }
     ensures block { result ≡ block_of_copy place copy }
-    ensures below { result < limits.BOARD_BLOCKS }
+    ensures below { result < BOARD_BLOCKS }
 {
     SLOT_BLOCKS + 2 * place + named_copy(copy)
 }
 
 /// The number of a leaf among those of all regions.
 pub fn number_in_all(region: u8, leaf: u8) -> usize
-    requires { region < limits.HOSTS }
+    requires { region < HOSTS }
     ensures number { result ≡ number_of region leaf }
     ensures below { result < ALL_LEAVES }
 {

@@ -2,7 +2,7 @@
 ghost use Rattle.std.specs.Prelude.{◌≡◌, ◌≢◌, ◌≤◌, ◌<◌, ◌+◌, ◌*◌, ◌^◌, ℕ, List, IfOk, length, vec_len};
 ghost use Rattle.epoch.specs.Parts.{part, patched};
 ghost use Rattle.seal.specs.Keys.{AreKeysOf};
-ghost use Rattle.flat_volume.specs.Flat.{entry_of, table_tag, zero_table};
+ghost use Rattle.flat_volume.specs.Flat.{entry_of, table_tag, zero_table, zeros_of};
 ghost use Rattle.flat_volume.specs.declared.places.TheConstants.{TABLE_BYTES};
 
 use crate::places::{ALL_LEAVES, ENTRY_BYTES, TABLE_BLOCKS, TABLE_BYTES};
@@ -24,9 +24,8 @@ impl Table {
     pub fn blank(alloc: Global) -> Result<Table, NoMemory>
         ensures { IfOk result (λ t. t.bytes.items ≡ zero_table) }
     {
-        Ok(Table {
-            bytes: vec![in alloc; 0; TABLE_BYTES]?,
-        })
+        let bytes = zeros(alloc, TABLE_BYTES)?;
+        Ok(Table { bytes })
     }
 
     /// A block of it.
@@ -45,7 +44,8 @@ impl Table {
         requires { number < TABLE_BLOCKS }
         ensures here { part (BLOCK * number) BLOCK self.new.bytes.items ≡ block.now }
         ensures others { (n : ℕ) → n ≢ number
-            → part (BLOCK * n) BLOCK self.new.bytes.items ≡ part (BLOCK * n) BLOCK self.old.bytes.items }
+            → part (BLOCK * n) BLOCK self.new.bytes.items
+            ≡ part (BLOCK * n) BLOCK self.old.bytes.items }
     {
         let at = BLOCK * number;
         patch(self.bytes.as_mut_slice(), at, block);
@@ -71,18 +71,27 @@ impl Table {
     }
 
     /// Its tag, as a commit with this sequence writes it.
-    #[tactic(auto, unfolding(crate::specs::Flat::table_tag))]
+    #[tactic(auto, unfolding(crate::specs::Flat::table_tag, seal::specs::Sealing::seal_tag))]
     pub fn tag(&self, keys: &Keys, sequence: u64) -> [u8; 32]
         ensures { (key : List ℕ) → AreKeysOf keys.now key
             → result ≡ table_tag key sequence self.now.bytes.items }
     {
         let mut mac = keys.tagger();
-        mac.update(&[0; 8]);
+        mac.update(&0u64.to_le_bytes());
         mac.update(&sequence.to_le_bytes());
         mac.update(&[0; 16]);
         mac.update(&self.bytes);
         tag_of(&mut mac)
     }
+}
+
+/// So many zeros.
+#[tactic(auto, unfolding(crate::specs::Flat::zeros_of))]
+fn zeros(alloc: Global, count: usize) -> Result<Vec<u8>, NoMemory>
+    ensures bytes { IfOk result (λ v. v.items ≡ zeros_of count) }
+    ensures count { IfOk result (λ v. vec_len v ≡ count) }
+{
+    Ok(vec![in alloc; 0; count]?)
 }
 
 /// Writes bytes into others, from a place on.

@@ -75,12 +75,7 @@ fn image_of_two(rt: &impl Abort, alloc: Global) -> Result<Bytes, Fail> {
 }
 
 /// A board with this image.
-fn board_of(
-    rt: &impl Abort,
-    alloc: Global,
-    image: &Bytes,
-    counter: u64,
-) -> Result<MemBoard, Fail> {
+fn board_of(rt: &impl Abort, alloc: Global, image: &Bytes, counter: u64) -> Result<MemBoard, Fail> {
     let image = image.copy(alloc)?;
     assert!(rt; image.as_slice().len() % 1024 == 0);
     Ok(MemBoard::of_image(alloc, image, counter, KEY)?)
@@ -126,10 +121,7 @@ fn interrupt(
     let mut board = board_of(rt, alloc, image, 2)?;
     board.failing(&[CALLS_OF_OPENING + call])?;
     let mut volume = opened(alloc, board)?;
-    assert_eq!(rt;
-        replace(alloc, &mut volume, 0x22)?,
-        Err(LeafAnswer::Failed)
-    );
+    assert_eq!(rt; replace(alloc, &mut volume, 0x22)?, Err(LeafAnswer::Failed));
     assert!(rt; volume.is_lost());
     assert_eq!(rt; replace(alloc, &mut volume, 0x22)?, Err(LeafAnswer::Lost));
     assert_eq!(rt; volume.sequence(), 2);

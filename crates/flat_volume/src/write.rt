@@ -1,5 +1,6 @@
 //! What a commit of a flat volume writes: the copies of its leaves, and the whole table.
 ghost use Rattle.std.specs.Prelude.{◌≡◌, ◌≢◌, ◌≤◌, ◌<◌, ◌+◌, ◌-◌, ◌*◌, ◌^◌, ℕ, Bool, true, List, None, IfOk, OnOk, is_ok};
+ghost use Rattle.tee_base.specs.declared.limits.TheConstants.{BOARD_BLOCKS, HOSTS};
 ghost use Rattle.store_api.specs.Ascending.{is_ascending};
 ghost use Rattle.store_api.specs.Volumes.{replaced};
 ghost use Rattle.board.specs.Moment.{View};
@@ -11,9 +12,7 @@ ghost use Rattle.epoch.specs.Past.{KeepsPast};
 ghost use Rattle.flat_volume.specs.Flat.{block_at as block_of_copy, copy_of, entry_of, flat, leaf_damage, leaf_text, number_of, table_in};
 ghost use Rattle.flat_volume.specs.Frame.{flat_framed};
 ghost use Rattle.flat_volume.specs.Writing.{AreSealed, AreSpare, leaves_by, spare_block};
-ghost use Rattle.flat_volume.specs.Change.{ChecksFlat, FitsFlat, table_still_fits};
-ghost use Rattle.flat_volume.specs.declared.places.TheConstants.{FIRST_LEAF as LEAF_PLACES, FIRST_TABLE as TABLE_PLACES, TABLE_BLOCKS as BLOCKS_OF_TABLE};
-ghost use Rattle.epoch.specs.declared.find.TheConstants.{VOLUME_BLOCKS as BLOCKS_OF_VOLUME};
+ghost use Rattle.flat_volume.specs.Change.{ChecksFlat, FitsFlat, four_blocks, table_still_fits};
 
 use crate::places::{
     ALL_LEAVES, FIRST_LEAF, FIRST_TABLE, TABLE_BLOCKS, block_at, number_in_all, other_copy,
@@ -23,7 +22,6 @@ use board::{BLOCK, Board, BoardFailed};
 use epoch::{Change, FLAT_VERSION, TreeEntry, VOLUME_BLOCKS};
 use seal::{Keys, Tags, seal_leaf};
 use store_api::Leaf;
-use tee_base::limits;
 
 /// Leaves of a region that a commit replaces, over the root and the table in use.
 #[derive(Drop)]
@@ -56,13 +54,13 @@ impl Change for FlatChange<'_> {
 
     ghost checks = { λ c key. ChecksFlat c.keys.now c.table c.root key };
 
-    ghost blocks = { BLOCKS_OF_VOLUME };
+    ghost blocks = { BOARD_BLOCKS };
 
     ghost framed = { flat_framed };
 
     ghost still_fits = { λ c key base image same fits. table_still_fits c.keys.now c.table c.root key base image same fits };
 
-    ghost enough = { Prim.omega arith };
+    ghost enough = { four_blocks };
 
     fn version(&self) -> u32 {
         FLAT_VERSION
@@ -99,7 +97,7 @@ fn write_leaves<B: Board>(
     sequence: u64,
 ) -> Result<(), BoardFailed>
     requires size { VOLUME_BLOCKS ≤ (B.view board.old).size }
-    requires region { region < limits.HOSTS }
+    requires region { region < HOSTS }
     requires ascending { is_ascending leaves.now ≡ true }
     requires sequence { 0 < sequence }
     ensures calls { CallRun (is_ok result) (B.view board.old) (B.view board.new) }
@@ -195,10 +193,7 @@ fn write_table<B: Board>(board: &mut B, table: &Table, copy: u64) -> Result<(), 
         ≡ part (BLOCK * i) BLOCK table.now.bytes.items) }
 {
     for i in 0..TABLE_BLOCKS {
-        board.write(
-            block_at(FIRST_TABLE + i as u64, copy),
-            &table.block(i),
-        )?;
+        board.write(block_at(FIRST_TABLE + i as u64, copy), &table.block(i))?;
     }
     Ok(())
 }

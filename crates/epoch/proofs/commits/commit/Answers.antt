@@ -35,7 +35,7 @@ returns-in_err-shut-clause-kept g c h before e mounted fits =
     let is : slot ≡ (n + 1) % 2 = c.other_slot-slot.ensures.slot ∙ ap (λ (s : ℕ). (s + 1) % 2) (sym e) in
     let small : n < 2 ^ 64 = omega (arith, e, c.requires.sequence) in
     let writes = shut_writes slot v.state.reads in
-    stage.kept_shut f framed v.key root before slot is v.state _ mounted (c.in_err-shut.ensures.elsewhere h)
+    stage.on_err _ _ (stage.kept_shut f framed v.key root before slot is v.state (g.B.Board.view c.shut.new.board).state mounted (c.in_err-shut.ensures.elsewhere h))
 
 pub returns-in_err-root-clause-crash : goal.returns-in_err-root-clause-crash
 returns-in_err-root-clause-crash g c h before e mounted fits =
@@ -77,7 +77,7 @@ returns-in_err-root-clause-kept g c h before e mounted fits =
     let fits1 = stage.under_key (g.C.Change.fits c.args.change.now) v.key _ _ c.in_ok-shut.ensures.calls.key
     (g.met.C.Change.still_fits c.args.change.now v.key v.state.reads _ (stage.used_shut f framed v.key root before slot is _ _ shut1.0) fits) in
     let run2 = stage.spare_run f framed v.key root before slot is _ _ _ c.in_ok-shut.ensures.calls.key m1 (c.in_err-root.ensures.run hon1 slot n n _ fits1) in
-    stage.kept_spare f framed v.key root before slot is _ _ m1 run2
+    stage.on_err _ _ (stage.kept_spare f framed v.key root before slot is _ _ m1 run2)
 
 pub returns-in_err-lay-clause-crash : goal.returns-in_err-lay-clause-crash
 returns-in_err-lay-clause-crash g c h before e mounted fits =
@@ -124,7 +124,7 @@ returns-in_err-lay-clause-kept g c h before e mounted fits =
     let run2 = stage.spare_run f framed v.key root before slot is _ _ _ c.in_ok-shut.ensures.calls.key m1 (c.in_ok-root.ensures.run hon1 slot n n _ fits1) in
     let hon2 = c.in_ok-root.ensures.honest hon1 in
     let run3 = stage.lay_run f framed v.key root before slot is _ _ _ _ run2 (ap header_at (sym c.other_slot-slot.ensures.slot)) (c.in_err-lay.ensures.run hon2) in
-    stage.kept_spare f framed v.key root before slot is _ _ m1 run3
+    stage.on_err _ _ (stage.kept_spare f framed v.key root before slot is _ _ m1 run3)
 
 pub returns-in_err-_counter-clause-crash : goal.returns-in_err-_counter-clause-crash
 returns-in_err-_counter-clause-crash g c h before e mounted fits =
@@ -153,9 +153,9 @@ returns-in_err-_counter-clause-crash g c h before e mounted fits =
     let synced3 = stage.synced_at f framed v.key root before slot is _ _ _ (sym c.other_slot-slot.ensures.slot) (c.in_ok-lay.ensures.laid hon2).0 in
     let m3 = stage.mounted_laid f framed v.key root before slot is _ _ _ m1 shut1.1 run2 run3 synced3 in
     let key2 = c.in_ok-root.ensures.calls.key ∙ c.in_ok-shut.ensures.calls.key in
-    let good3 = stage.good_at f framed v.key root before slot is _ _ _ _ (sym c.other_slot-slot.ensures.slot) key2 (c.in_ok-lay.ensures.good hon2) in
-    let is3 = stage.is_laid f framed v.key root before slot is _ _ _ m3 shut1.1 run3 good3 c.version.ensures (ap (λ (s : ℕ). s + 1) (sym e)) in
-    let written2 = stage.written_mid f framed v.key root before slot is (g.C.Change.after c.args.change.now) _ _ _ _ c.in_ok-shut.ensures.calls.key m1
+    let good3 = stage.good_at f framed v.key root before slot is _ _ (g.B.Board.view c.lay.new.board).state.reads _ (sym c.other_slot-slot.ensures.slot) key2 (c.in_ok-lay.ensures.good hon2) in
+    let is3 = stage.is_laid f framed v.key root before slot is _ _ _ m3 shut1.1 run3 good3 c.version-version.ensures (ap (λ (s : ℕ). s + 1) (sym e)) in
+    let written2 = stage.written_mid f framed v.key root before slot is (g.C.Change.after c.args.change.now) _ _ (g.B.Board.view c.write.new.board).state _ c.in_ok-shut.ensures.calls.key m1
     (c.in_ok-root.ensures.written hon1 fits1) in
     let written3 = stage.written_laid f framed v.key root before slot is _ _ _ _ written2 synced3 in
     stage.crash_flip f framed v.key root before slot is (g.C.Change.after c.args.change.now before.leaves) v _ _ _ crash2 m3 is3 written3
@@ -184,7 +184,7 @@ returns-in_err-_counter-clause-kept g c h before e mounted fits =
     let hon3 = c.in_ok-lay.ensures.honest hon2 in
     let synced3 = stage.synced_at f framed v.key root before slot is _ _ _ (sym c.other_slot-slot.ensures.slot) (c.in_ok-lay.ensures.laid hon2).0 in
     let m3 = stage.mounted_laid f framed v.key root before slot is _ _ _ m1 shut1.1 run2 run3 synced3 in
-    stage.kept_flip f framed v.key root before slot is _ _ m3 (c.in_err-_counter.ensures.elsewhere hon3)
+    stage.on_err _ _ (stage.kept_flip f framed v.key root before slot is _ (g.B.Board.view c.flip.new.board).state m3 (c.in_err-_counter.ensures.elsewhere hon3))
 
 pub returns-clause-crash : goal.returns-clause-crash
 returns-clause-crash g c h before e mounted fits =
@@ -213,9 +213,9 @@ returns-clause-crash g c h before e mounted fits =
     let synced3 = stage.synced_at f framed v.key root before slot is _ _ _ (sym c.other_slot-slot.ensures.slot) (c.in_ok-lay.ensures.laid hon2).0 in
     let m3 = stage.mounted_laid f framed v.key root before slot is _ _ _ m1 shut1.1 run2 run3 synced3 in
     let key2 = c.in_ok-root.ensures.calls.key ∙ c.in_ok-shut.ensures.calls.key in
-    let good3 = stage.good_at f framed v.key root before slot is _ _ _ _ (sym c.other_slot-slot.ensures.slot) key2 (c.in_ok-lay.ensures.good hon2) in
-    let is3 = stage.is_laid f framed v.key root before slot is _ _ _ m3 shut1.1 run3 good3 c.version.ensures (ap (λ (s : ℕ). s + 1) (sym e)) in
-    let written2 = stage.written_mid f framed v.key root before slot is (g.C.Change.after c.args.change.now) _ _ _ _ c.in_ok-shut.ensures.calls.key m1
+    let good3 = stage.good_at f framed v.key root before slot is _ _ (g.B.Board.view c.lay.new.board).state.reads _ (sym c.other_slot-slot.ensures.slot) key2 (c.in_ok-lay.ensures.good hon2) in
+    let is3 = stage.is_laid f framed v.key root before slot is _ _ _ m3 shut1.1 run3 good3 c.version-version.ensures (ap (λ (s : ℕ). s + 1) (sym e)) in
+    let written2 = stage.written_mid f framed v.key root before slot is (g.C.Change.after c.args.change.now) _ _ (g.B.Board.view c.write.new.board).state _ c.in_ok-shut.ensures.calls.key m1
     (c.in_ok-root.ensures.written hon1 fits1) in
     let written3 = stage.written_laid f framed v.key root before slot is _ _ _ _ written2 synced3 in
     stage.crash_flip f framed v.key root before slot is (g.C.Change.after c.args.change.now before.leaves) v _ _ _ crash2 m3 is3 written3
@@ -245,14 +245,14 @@ returns-clause-done g c h before e mounted fits =
     let synced3 = stage.synced_at f framed v.key root before slot is _ _ _ (sym c.other_slot-slot.ensures.slot) (c.in_ok-lay.ensures.laid hon2).0 in
     let m3 = stage.mounted_laid f framed v.key root before slot is _ _ _ m1 shut1.1 run2 run3 synced3 in
     let key2 = c.in_ok-root.ensures.calls.key ∙ c.in_ok-shut.ensures.calls.key in
-    let good3 = stage.good_at f framed v.key root before slot is _ _ _ _ (sym c.other_slot-slot.ensures.slot) key2 (c.in_ok-lay.ensures.good hon2) in
-    let is3 = stage.is_laid f framed v.key root before slot is _ _ _ m3 shut1.1 run3 good3 c.version.ensures (ap (λ (s : ℕ). s + 1) (sym e)) in
-    let written2 = stage.written_mid f framed v.key root before slot is (g.C.Change.after c.args.change.now) _ _ _ _ c.in_ok-shut.ensures.calls.key m1
+    let good3 = stage.good_at f framed v.key root before slot is _ _ (g.B.Board.view c.lay.new.board).state.reads _ (sym c.other_slot-slot.ensures.slot) key2 (c.in_ok-lay.ensures.good hon2) in
+    let is3 = stage.is_laid f framed v.key root before slot is _ _ _ m3 shut1.1 run3 good3 c.version-version.ensures (ap (λ (s : ℕ). s + 1) (sym e)) in
+    let written2 = stage.written_mid f framed v.key root before slot is (g.C.Change.after c.args.change.now) _ _ (g.B.Board.view c.write.new.board).state _ c.in_ok-shut.ensures.calls.key m1
     (c.in_ok-root.ensures.written hon1 fits1) in
     let written3 = stage.written_laid f framed v.key root before slot is _ _ _ _ written2 synced3 in
     let flipped = c.in_ok-_counter.ensures.flipped hon3 in
     let key3 = c.in_ok-lay.ensures.calls.key ∙ key2 in
-    let opened = stage.opened_under f framed v.key root before slot is _ _ _ _ _ key3 is3 (c.in_ok-_counter.ensures.opened hon3) in
+    let opened = stage.opened_under f framed v.key root before slot is _ _ _ (g.B.Board.view c.flip.new.board).state _ key3 is3 (c.in_ok-_counter.ensures.opened hon3) in
     let fits2 = c.in_ok-root.ensures.fits hon1 fits1 in (
       stage.mounted_flipped f framed v.key root before slot is _ _ _ _ _ is3 written3 flipped opened,
       g.met.C.Change.still_fits _ v.key _ _ (stage.used_done f framed v.key root before slot is _ _ _ _ _ synced3 flipped)
