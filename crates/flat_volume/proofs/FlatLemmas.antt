@@ -32,11 +32,11 @@ spare_if : (key : List ℕ) (reads : ℕ → List ℕ) (root : TreeEntry) (slot 
     → spare flat key reads root slot (block_at place copy) ≡ true
 spare_if key reads root slot place copy unused =
     or_true (block_at place copy == header_at slot) (nat_lt 3 (block_at place copy) && not (flat_uses key reads root (block_at place copy))) (both place (copy_of copy) _ unused)
-    where
-      both : (place b : ℕ) (u : Bool) → u ≡ false → (nat_lt 3 (4 + 2 * place + b) && not u) ≡ true
-      both place b u e =
-          let behind : nat_lt 3 (4 + 2 * place + b) ≡ true = grind (arith, nat_tests) in
-          rw (behind, e) refl
+  where
+    both : (place b : ℕ) (u : Bool) → u ≡ false → (nat_lt 3 (4 + 2 * place + b) && not u) ≡ true
+    both place b u e =
+        let behind : nat_lt 3 (4 + 2 * place + b) ≡ true = grind (arith, nat_tests) in
+        rw (behind, e) refl
 
 -- the copies that a commit writes are spare
 pub leaf_spare : (key : List ℕ) (reads : ℕ → List ℕ) (root : TreeEntry) (slot : ℕ) (table : List ℕ) (n : ℕ) → table ≡ table_in reads root
@@ -72,12 +72,13 @@ entries_sealed key reads root sealed n below =
     subst (λ (m : ℕ). leaf_damage key reads (FIRST_LEAF + m) (entry_of (table_in reads root) m) ≡ None) same
     (second_none (table_damage key (table_in reads root) root) _ (sealed_each flat key root reads sealed (n / 256) (n % 256) region leaf))
 
+same_by : (key : List ℕ) (reads : ℕ → List ℕ) (root : TreeEntry) (r l : ℕ) → leaves_of flat key reads root r l ≡ leaves_by key (table_in reads root) reads r l
+unfolding leaves_of leaves_by
+same_by key reads root r l = refl
+
 -- the leaves under a root are those by the entries of its table
 pub leaves_are_by : (key : List ℕ) (reads : ℕ → List ℕ) (root : TreeEntry) → leaves_of flat key reads root ≡ leaves_by key (table_in reads root) reads
-leaves_are_by key reads root = λ i r l. same r l i where
-  same : (r l : ℕ) → leaves_of flat key reads root r l ≡ leaves_by key (table_in reads root) reads r l
-  unfolding leaves_of leaves_by
-  same r l = refl
+leaves_are_by key reads root = λ i r l. same_by key reads root r l i
 
 -- equal tags don't differ
 pub no_difference : (tag : List ℕ) → differing tag tag ≡ None

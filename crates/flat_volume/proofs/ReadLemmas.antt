@@ -117,7 +117,7 @@ spare_is table number copy block is other = is ∙ ap (block_at (273 + number)) 
 differs : (found kept : List ℕ) → found ≢ kept → differing found kept ≡ Some (record { found = found; kept = kept })
 unfolding differing
 differs found kept ne =
-    elim (bytes_eq found kept) as (λ b. bytes_eq found kept ≡ b → 
+    elim (bytes_eq found kept) as (λ b. bytes_eq found kept ≡ b →
     (let none : Option Mismatch = None in if b then none else Some (record { found = found; kept = kept })) ≡ Some (record { found = found; kept = kept })) [
       | true ↦ λ e. absurd (ne ((bytes_eq-Decides found kept).0 e))
       | false ↦ λ e. refl

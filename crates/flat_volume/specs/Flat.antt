@@ -63,7 +63,7 @@ unfoldable pub leaf_damage : List ℕ → (ℕ → List ℕ) → ℕ → TreeEnt
 leaf_damage key image place entry =
     if entry.sequence == 0 then None
     else differing
-        (seal_tag key place entry.sequence entry.iv (image (block_at place entry.copy))) entry.tag
+    (seal_tag key place entry.sequence entry.iv (image (block_at place entry.copy))) entry.tag
 
 -- the first of two damages
 abbrev pub first_damage : Option Mismatch → Option Mismatch → Option Mismatch

@@ -27,7 +27,7 @@ unfoldable pub damage_now : Option Table → View → TreeEntry → ℕ → ℕ 
 damage_now table view root region leaf =
     if is_leaf region leaf
     then path_damage view.key (table_now table view.state.reads root) view.state.reads root
-        (number_of region leaf)
+    (number_of region leaf)
     else None
 
 -- what is held under a root, with the sequence

@@ -27,5 +27,5 @@ unfoldable pub leaves_by : List ℕ → List ℕ → (ℕ → List ℕ) → ℕ 
 leaves_by key table reads region leaf =
     if is_leaf region leaf
     then leaf_text key reads (FIRST_LEAF + number_of region leaf)
-        (entry_of table (number_of region leaf))
+    (entry_of table (number_of region leaf))
     else []
