@@ -1,0 +1,8 @@
+//! The objects of one region of a volume, as a store.
+#![tactic(auto)]
+
+mod changing;
+mod directory;
+mod region;
+
+pub use directory::ObjectDir;
