@@ -107,7 +107,7 @@ left_before (Err (Corrupt tags)) old stated o is = is
 left_before (Err (Garbled leaf)) old stated o is = is
 left_before (Err NoMemory) old stated o is = is
 
-not_both : {A : Type 0} (b : Bool) → b ≡ true → b ≡ false → A
+pub not_both : {A : Type 0} (b : Bool) → b ≡ true → b ≡ false → A
 not_both b yes' no' = absurd (let e : true ≡ false = sym yes' ∙ no' in cc)
 
 rose_later : (a b c : ℕ) → a ≤ b → Rose b c → Rose a c

@@ -53,7 +53,7 @@ module _ {V : Type 0} (K : VolumeKeeper V) where
     pub reads_stand : HasStore K old → HasStore K new
     reads_stand has = record {
       honest = (run.honest has.honest).0;
-      stands = still_stands old.number new.number (K.held new.volume.now) (K.held old.volume.now) run.same_region (run.same has.honest) has.stands;
+      stands = still_stands new.number old.number (K.held new.volume.now) (K.held old.volume.now) run.same_region (run.same has.honest) has.stands;
     }
 
   module _ {A : Type 0} (result : Result A StoreAnswer) (tried : ℕ) (old new : ObjectDir V) (call : IsRegionCall K (refusal_of result) old.region new.region) where

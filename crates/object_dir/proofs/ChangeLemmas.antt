@@ -1,5 +1,5 @@
 -- How a change of the objects of a region ends: refused, without a leaf that changes, or with one commit.
-use Rattle.std.proofs.Common.{◌≡◌, ◌≤◌, ◌+◌, ℕ, true, false, Bool, List, [], Option, None, Some, Result, Ok, Err, refl, sym, ap, ◌∙◌, subst, arith}
+use Rattle.std.proofs.Common.{◌≡◌, ◌≤◌, ◌+◌, ℕ, true, false, Bool, List, [], ◌∷◌, length, Option, None, Some, Result, Ok, Err, refl, sym, ap, ◌∙◌, subst, arith}
 use Rattle.std.specs.Prelude.{IsTrue}
 use Rattle.tee_base.specs.Crash.{LeavesOnly}
 use Rattle.tee_base.proofs.Crash.{joined, weaker}
@@ -54,11 +54,14 @@ module _ {V : Type 0} (K : VolumeKeeper V) (c : Change) where
       ends_with_plan (Err why) (Err why) old new refl plan
       (λ has. (plan.plans has.honest (store_in old.number (K.held old.volume.now)) has.stands, plan_same (Err why) (Err why) old new refl plan has))
 
+  pub change_refused_as : (why : StoreAnswer) (result : Result (Unit {0}) StoreAnswer) (old new : Region V) → result ≡ Err why → PlansChange (region_keeper K) number_of version_one c (Err why) old new → ChangesRegion K c result old new
+  change_refused_as why result old new is plan = subst (λ (r : Result (Unit {0}) StoreAnswer). ChangesRegion K c r old new) (sym is) (change_refused why old new plan)
+
   -- a plan of no leaf is one of a change that leaves the store as it was
   same_store : (n : ℕ) (h : Held) → region_in n h ≡ Ok (store_in n h) → IsPlanOf version_one (h.leaves n) (store_in n h) c [] → change (store_in n h) c ≡ Ok (store_in n h)
   same_store n h is plan =
-      let after : Ok (store_in n h) ≡ Ok plan.after = sym is ∙ plan.stands in
-      plan.changes ∙ sym after
+      let same : store_in n h ≡ plan.after = ap (λ (r : Result Store ℕ). store_or_empty r) (sym is ∙ plan.stands) in
+      plan.changes ∙ ap (λ (s : Store). Ok s) (sym same)
 
   pub nothing_changes : (old new : Region V) → PlansChange (region_keeper K) number_of version_one c (Ok []) old new → ChangesRegion K c (Ok tt) old new
   nothing_changes old new plan =
@@ -67,6 +70,16 @@ module _ {V : Type 0} (K : VolumeKeeper V) (c : Change) where
       let same : kept_in K new ≡ kept_in K old = plan_same (Ok []) (Ok tt) old new refl plan has in
       let changes = same_store old.number (K.held old.volume.now) has.stands (plan.plans has.honest (store_in old.number (K.held old.volume.now)) has.stands) in
       (changes ∙ ap (λ (x : Contents). Ok x.store) (sym same), ap (λ (x : Contents). x.rest) same, let e : (kept_in K new).number ≡ (kept_in K old).number = ap (λ (x : Contents). x.number) same in omega arith))
+
+  no_leaf : (seen : List Leaf) → length seen ≡ 0 → seen ≡ []
+  no_leaf [] none = refl
+  no_leaf (leaf ∷ leaves) none = absurd (omega arith)
+
+  -- the same, by what is seen of the plan
+  pub no_leaf_changes : (named seen : List Leaf) (old new : Region V) → seen ≡ named → length seen ≡ 0 → PlansChange (region_keeper K) number_of version_one c (Ok named) old new → ChangesRegion K c (Ok tt) old new
+  no_leaf_changes named seen old new same none plan =
+      let empty : named ≡ [] = sym same ∙ no_leaf seen none in
+      nothing_changes old new (subst (λ (l : List Leaf). PlansChange (region_keeper K) number_of version_one c (Ok l) old new) empty plan)
 
   -- planned leaves, and one commit of them
   module _ (named : List Leaf) (answer : Result ℕ LeafAnswer) (old mid new : Region V) (plan : PlansChange (region_keeper K) number_of version_one c (Ok named) old mid) (commit : CommitsLeaves K mid.number named answer mid.volume.now new.volume.now) (same : new.number ≡ mid.number) where

@@ -114,3 +114,18 @@ module _ {V : Type 0} (K : VolumeKeeper V) where
       call = store_call K result 1 old new made.call made.stands few reports attempts;
       crash = made_crash;
     }
+
+  -- the same where a refusal was noted
+  pub reads_noted : (earlier : (v : V) (t u : ℕ) (o : Option Held) → t ≤ u → K.left_since v u o → K.left_since v t o) {A : Type 0} (stated : Store → Result A StoreAnswer) (Bounds : A → Type 0) (result : Result A StoreAnswer) (old new : ObjectDir V) (why : Option StoreAnswer)
+      → why ≡ refusal_of result → IfGarbled why (λ leaf. leaf < LEAVES) → new.damage_reports ≡ old.damage_reports + damage_told why → new.change_attempts ≡ old.change_attempts
+      → ReadsRegion (region_keeper K) number_of version_one stated Bounds result old.region new.region → Reads (dir_keeper K) stated Bounds result old new
+  reads_noted earlier stated Bounds result old new why is few reports attempts read =
+      store_reads earlier stated Bounds result old new (subst (λ (w : Option StoreAnswer). IfGarbled w (λ leaf. leaf < LEAVES)) is few)
+      (reports ∙ ap (λ (w : Option StoreAnswer). old.damage_reports + damage_told w) is) attempts read
+
+  pub applies_noted : (rests : (v : V) → K.honest v → (K.condition v).lost ≡ false → RestsAt K v (K.held v)) (c : Change) (result : Result (Unit {0}) StoreAnswer) (old new : ObjectDir V) (why : Option StoreAnswer)
+      → why ≡ refusal_of result → IfGarbled why (λ leaf. leaf < LEAVES) → new.damage_reports ≡ old.damage_reports + damage_told why → new.change_attempts ≡ old.change_attempts + 1
+      → ChangesRegion K c result old.region new.region → Applies (dir_keeper K) c result old new
+  applies_noted rests c result old new why is few reports attempts made =
+      store_applies rests c result old new (subst (λ (w : Option StoreAnswer). IfGarbled w (λ leaf. leaf < LEAVES)) is few)
+      (reports ∙ ap (λ (w : Option StoreAnswer). old.damage_reports + damage_told w) is) attempts made

@@ -4,5 +4,7 @@
 mod changing;
 mod directory;
 mod region;
+#[cfg(test)]
+mod tests;
 
 pub use directory::ObjectDir;
