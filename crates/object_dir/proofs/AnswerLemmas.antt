@@ -1,16 +1,15 @@
 -- What is told of an answer, by cases on it.
-use Rattle.std.proofs.Common.{◌≡◌, ◌≤◌, ◌<◌, ◌+◌, ℕ, true, false, Bool, Option, None, Some, Result, Ok, Err, refl, sym, ap, ◌∙◌, inl, inr, ⊎_elim, arith}
+use Rattle.std.proofs.Common.{◌≡◌, ◌≤◌, ◌<◌, ◌+◌, ℕ, true, false, Bool, Option, None, Some, Result, Ok, Err, refl, sym, ◌∙◌, inl, inr, ⊎_elim, arith}
 use Rattle.std.specs.Prelude.{IsTrue}
 use Rattle.tee_base.specs.Faults.{Rose}
-use Rattle.tee_base.specs.declared.limits.TheConstants.{LEAVES}
 use Rattle.store_api.specs.declared.answer.Mismatch.{Mismatch}
 use Rattle.store_api.specs.declared.answer.StoreAnswer.{StoreAnswer}
 use Rattle.store_api.specs.declared.answer.StoreAnswer.TheVariants.{NotFound, Exists, NoSpace, Lost, Failed, Corrupt, Garbled, NoMemory}
 use Rattle.store_api.specs.declared.leaves.LeafAnswer.{LeafAnswer}
 use Rattle.store_api.specs.declared.leaves.LeafAnswer.TheVariants as leaf_answers
-use Rattle.store_api.specs.Keeping.{Cause, Contents, IsBeforeOrAfter, IsIntact, LeftByChange, Remains, Status, TellsDamage, damage_in}
+use Rattle.store_api.specs.Keeping.{Cause, Contents, IsIntact, LeftByChange, Remains, TellsDamage, damage_in}
 use Rattle.store_api.specs.Stores.{Store}
-use Rattle.store_api.specs.Volumes.{Condition, IfMismatch, IsNumbered, IsUndamaged, LeafCause}
+use Rattle.store_api.specs.Volumes.{Condition, IfMismatch, IsNumbered, LeafCause}
 use Rattle.region_plan.specs.Reading.{IfCorrupt, IfGarbled, ReadCause, refusal_of}
 use Rattle.object_dir.specs.Changing.{done_of}
 use Rattle.object_dir.specs.Directories.{damage_told, status_with}

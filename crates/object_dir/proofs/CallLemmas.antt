@@ -1,20 +1,18 @@
 -- What a call on a region promises as a call of a store.
-use Rattle.std.proofs.Common.{◌≡◌, ◌≤◌, ◌<◌, ◌+◌, ℕ, true, false, Bool, Option, None, Some, Result, Ok, Err, refl, sym, ap, ◌∙◌, subst, inl, arith}
+use Rattle.std.proofs.Common.{◌≡◌, ◌≤◌, ◌<◌, ◌+◌, ℕ, true, false, Option, Some, Result, refl, sym, ap, ◌∙◌, subst, inl, arith}
 use Rattle.std.specs.Prelude.{IsTrue}
 use Rattle.tee_base.specs.Crash.{LeavesOnly}
 use Rattle.tee_base.specs.declared.limits.TheConstants.{LEAVES}
-use Rattle.tee_base.proofs.Crash.{mapped, weaker}
-use Rattle.store_api.specs.declared.answer.Mismatch.{Mismatch}
+use Rattle.tee_base.proofs.Crash.{mapped}
 use Rattle.store_api.specs.declared.answer.StoreAnswer.{StoreAnswer}
-use Rattle.store_api.specs.declared.answer.StoreAnswer.TheVariants.{Corrupt, Garbled}
 use Rattle.store_api.specs.Keeping.{Contents, IsCall, LeavesJust, Remains}
 use Rattle.store_api.specs.Volumes.{Held, VolumeKeeper}
 use Rattle.region_plan.specs.Layout.{version_one}
-use Rattle.region_plan.specs.Reading.{IfCorrupt, IfGarbled, ReadsOnly, refusal_of}
+use Rattle.region_plan.specs.Reading.{IfGarbled, ReadsOnly, refusal_of}
 use Rattle.region_plan.specs.Regions.{breaks}
 use Rattle.object_dir.specs.Changing.{IsRegionCall}
 use Rattle.object_dir.specs.Directories.{damage_of, damage_told, dir_keeper}
-use Rattle.object_dir.specs.Regions.{HasStore, kept_in, number_of, region_keeper, remains_in, store_in}
+use Rattle.object_dir.specs.Regions.{HasStore, number_of, region_keeper, remains_in, store_in}
 use Rattle.object_dir.specs.declared.directory.ObjectDir.{ObjectDir}
 use Rattle.object_dir.specs.declared.region.Region.{Region}
 use Rattle.object_dir.proofs.AnswerLemmas.{cause_of, corrupt_has, corrupt_under, garbled_never, intact_of, reports_of, tells_of}
@@ -75,11 +73,12 @@ module _ {V : Type 0} (K : VolumeKeeper V) where
       };
       attempts = attempts;
       damage = tells_of result (damage_of K new.region) (corrupt_under (refusal_of result) K.tells_reads (λ tags. (leaf : ℕ) × (K.damage new.region.volume.now new.region.number leaf ≡ Some tags)) call.shows) few;
-      honest = λ has.
-          (stands has,
-          intact_of result (call.honest has.honest).1
-          (garbled_never (refusal_of result) (λ leaf. leaf < LEAVES) (λ leaf. IsTrue (breaks version_one ((K.held old.region.volume.now).leaves old.region.number) leaf))
-          (λ leaf below broken. never_breaks ((K.held old.region.volume.now).leaves old.region.number) (store_in old.region.number (K.held old.region.volume.now)) has.stands leaf below broken) few (call.garbled has.honest)));
+      honest = λ has. (
+        stands has,
+        intact_of result (call.honest has.honest).1
+            (garbled_never (refusal_of result) (λ leaf. leaf < LEAVES) (λ leaf. IsTrue (breaks version_one ((K.held old.region.volume.now).leaves old.region.number) leaf))
+            (λ leaf below broken. never_breaks ((K.held old.region.volume.now).leaves old.region.number) (store_in old.region.number (K.held old.region.volume.now)) has.stands leaf below broken) few (call.garbled has.honest)),
+      );
       quiet = λ lost. record { same = (call.quiet lost).same; none = λ t o left. (left.0, (call.quiet lost).none t left.0 left.1, left.2 ∙ same_outcome left.0) };
       past = λ has. record { later = call.goes_on has.honest; past = λ t o le left. (left.0, call.past has.honest t left.0 le left.1, left.2 ∙ sym (same_outcome left.0)) };
     }

@@ -1,20 +1,17 @@
 -- How a change of the objects of a region ends: refused, without a leaf that changes, or with one commit.
-use Rattle.std.proofs.Common.{◌≡◌, ◌≤◌, ◌+◌, ℕ, true, false, Bool, List, [], ◌∷◌, length, Option, None, Some, Result, Ok, Err, refl, sym, ap, ◌∙◌, subst, arith}
-use Rattle.std.specs.Prelude.{IsTrue}
+use Rattle.std.proofs.Common.{◌≡◌, ◌≤◌, ℕ, false, List, [], ◌∷◌, length, Option, None, Some, Result, Ok, Err, refl, sym, ap, ◌∙◌, subst, arith}
 use Rattle.tee_base.specs.Crash.{LeavesOnly}
 use Rattle.tee_base.proofs.Crash.{joined, weaker}
-use Rattle.store_api.specs.declared.answer.Mismatch.{Mismatch}
 use Rattle.store_api.specs.declared.answer.StoreAnswer.{StoreAnswer}
 use Rattle.store_api.specs.declared.change.Change.{Change}
 use Rattle.store_api.specs.declared.leaves.Leaf.{Leaf}
 use Rattle.store_api.specs.declared.leaves.LeafAnswer.{LeafAnswer}
-use Rattle.store_api.specs.Keeping.{Applied, Contents, LeftByChange, Remains}
+use Rattle.store_api.specs.Keeping.{Applied, Contents, LeftByChange}
 use Rattle.store_api.specs.Stores.{Store, change}
 use Rattle.store_api.specs.Volumes.{Commits, CommitsLeaves, Held, LeftByCommit, VolumeKeeper, after_commit}
 use Rattle.region_plan.specs.Layout.{version_one}
 use Rattle.region_plan.specs.Planning.{IsPlanOf, PlansChange}
 use Rattle.region_plan.specs.Reading.{refusal_of}
-use Rattle.region_plan.specs.Regions.{region_of}
 use Rattle.object_dir.specs.Changing.{ChangesRegion, CommitsRegion, IsRegionCall, done_of}
 use Rattle.object_dir.specs.Regions.{HasStore, contents_in, kept_in, number_of, region_in, region_keeper, remains_in, store_in, store_or_empty}
 use Rattle.object_dir.specs.declared.region.Region.{Region}
@@ -123,7 +120,7 @@ module _ {V : Type 0} (K : VolumeKeeper V) (c : Change) where
       commit_has = record {
         honest = (commit.call.honest (plan.reads.honest has.honest).0).0;
         stands = subst (λ (k : ℕ). region_in k (K.held new.volume.now) ≡ Ok (store_in k (K.held new.volume.now))) (sym number)
-        (commit_stands c named old.number (K.held old.volume.now) has.stands plan_of answer (K.held new.volume.now) made);
+            (commit_stands c named old.number (K.held old.volume.now) has.stands plan_of answer (K.held new.volume.now) made);
       }
 
       commit_applies : Applied (done_of answer) (change (kept_in K old).store c) (kept_in K old) (kept_in K new)
@@ -135,9 +132,9 @@ module _ {V : Type 0} (K : VolumeKeeper V) (c : Change) where
           → LeftByChange (done_of answer) (kept_in K old) (change (kept_in K old).store c) (remains_in new.number o)
       commit_remains o left =
           let here : LeftByCommit answer (K.held mid.volume.now) (after_commit old.number named (K.held mid.volume.now)) o =
-              subst (λ (k : ℕ). LeftByCommit answer (K.held mid.volume.now) (after_commit k named (K.held mid.volume.now)) o) plan.reads.same_region left in
+          subst (λ (k : ℕ). LeftByCommit answer (K.held mid.volume.now) (after_commit k named (K.held mid.volume.now)) o) plan.reads.same_region left in
           let there : LeftByCommit answer (K.held old.volume.now) (after_commit old.number named (K.held old.volume.now)) o =
-              subst (λ (x : Held). LeftByCommit answer x (after_commit old.number named x) o) (plan.reads.same has.honest) here in
+          subst (λ (x : Held). LeftByCommit answer x (after_commit old.number named x) o) (plan.reads.same has.honest) here in
           subst (λ (k : ℕ). LeftByChange (done_of answer) (kept_in K old) (change (kept_in K old).store c) (remains_in k o)) (sym number)
           (commit_left c named old.number (K.held old.volume.now) has.stands plan_of answer o there)
 

@@ -1,12 +1,11 @@
 -- What a commit of planned leaves makes of a region, by what the volume answers.
-use Rattle.std.proofs.Common.{◌≡◌, ◌≤◌, ◌+◌, ◌⊎◌, ℕ, List, Option, Some, Result, Ok, Err, refl, sym, ap, ◌∙◌, subst, inl, inr, ⊎_elim, arith}
-use Rattle.store_api.specs.declared.answer.StoreAnswer.{StoreAnswer}
+use Rattle.std.proofs.Common.{◌≡◌, ◌+◌, ◌⊎◌, ℕ, List, Option, Some, Result, Ok, Err, sym, ap, ◌∙◌, subst, inl, ⊎_elim, arith}
 use Rattle.store_api.specs.declared.change.Change.{Change}
 use Rattle.store_api.specs.declared.leaves.Leaf.{Leaf}
 use Rattle.store_api.specs.declared.leaves.LeafAnswer.{LeafAnswer}
 use Rattle.store_api.specs.declared.leaves.LeafAnswer.TheVariants as leaf_answers
 use Rattle.store_api.specs.Keeping.{Applied, IsBeforeOrAfter, LeftByChange}
-use Rattle.store_api.specs.Stores.{Store, change}
+use Rattle.store_api.specs.Stores.{change}
 use Rattle.store_api.specs.Volumes.{Commits, Held, LeftByCommit, after_commit}
 use Rattle.region_plan.specs.Layout.{version_one}
 use Rattle.region_plan.specs.Planning.{IsPlanOf}
@@ -20,10 +19,11 @@ module _ (c : Change) (named : List Leaf) (n : ℕ) (h : Held) (is : region_in n
   commit_stands (Err answer) g made = subst (λ (x : Held). region_in n x ≡ Ok (store_in n x)) (sym made) is
 
   pub commit_applied : (answer : Result ℕ LeafAnswer) (g : Held) → Commits answer n named h g → Applied (done_of answer) (change (store_in n h) c) (contents_in n h) (contents_in n g)
-  commit_applied (Ok sequence) g made =
-      (after_changes c named n h is plan ∙ ap (λ (x : Held). Ok (store_in n x)) (sym made.0),
-      ap (λ (x : Held). rest_of n x) made.0 ∙ after_rest c named n h is plan,
-      let e : g.sequence ≡ h.sequence + 1 = ap (λ (x : Held). x.sequence) made.0 in omega arith)
+  commit_applied (Ok sequence) g made = (
+    after_changes c named n h is plan ∙ ap (λ (x : Held). Ok (store_in n x)) (sym made.0),
+    ap (λ (x : Held). rest_of n x) made.0 ∙ after_rest c named n h is plan,
+    let e : g.sequence ≡ h.sequence + 1 = ap (λ (x : Held). x.sequence) made.0 in omega arith,
+  )
   commit_applied (Err leaf_answers.Lost) g made = (tt, ap (λ (x : Held). contents_in n x) made)
   commit_applied (Err leaf_answers.Failed) g made = (tt, ap (λ (x : Held). contents_in n x) made)
   commit_applied (Err (leaf_answers.Mismatch tags)) g made = (tt, ap (λ (x : Held). contents_in n x) made)

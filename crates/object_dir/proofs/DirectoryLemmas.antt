@@ -1,13 +1,12 @@
 -- What the calls of the objects of a region promise as a store.
-use Rattle.std.proofs.Common.{◌≡◌, ◌≤◌, ◌<◌, ◌+◌, ℕ, true, false, Bool, Option, None, Some, Result, Ok, Err, refl, sym, ap, ◌∙◌, subst, arith}
-use Rattle.std.specs.Prelude.{IsTrue}
+use Rattle.std.proofs.Common.{◌≡◌, ◌≤◌, ◌<◌, ◌+◌, ℕ, true, false, Option, Some, Result, Ok, Err, refl, sym, ap, ◌∙◌, subst, arith}
 use Rattle.tee_base.specs.Crash.{LeavesOnly}
 use Rattle.tee_base.specs.declared.limits.TheConstants.{LEAVES}
 use Rattle.tee_base.proofs.Crash.{weaker}
 use Rattle.store_api.specs.declared.answer.StoreAnswer.{StoreAnswer}
 use Rattle.store_api.specs.declared.answer.StoreAnswer.TheVariants.{NotFound, Exists, NoSpace, Lost, Failed, Corrupt, Garbled, NoMemory}
 use Rattle.store_api.specs.declared.change.Change.{Change}
-use Rattle.store_api.specs.Keeping.{Applied, Applies, Contents, CrashChanges, CrashLeaves, LeavesJust, LeftByChange, Reads, Remains, UnlessFailed}
+use Rattle.store_api.specs.Keeping.{Applied, Applies, Contents, CrashChanges, CrashLeaves, LeavesJust, LeftByChange, Reads, UnlessFailed}
 use Rattle.store_api.specs.Stores.{Store, change}
 use Rattle.store_api.specs.Volumes.{Condition, Held, RestsAt, VolumeKeeper}
 use Rattle.region_plan.specs.Layout.{version_one}
@@ -16,7 +15,6 @@ use Rattle.object_dir.specs.Changing.{ChangesRegion, IsRegionCall}
 use Rattle.object_dir.specs.Directories.{damage_told, dir_keeper}
 use Rattle.object_dir.specs.Regions.{HasStore, kept_in, number_of, region_keeper, remains_in, store_in}
 use Rattle.object_dir.specs.declared.directory.ObjectDir.{ObjectDir}
-use Rattle.object_dir.specs.declared.region.Region.{Region}
 use Rattle.object_dir.proofs.AnswerLemmas.{left_before, not_both}
 use Rattle.object_dir.proofs.CallLemmas.{from_reads, lost_just, lost_leaves, of_store, of_volume, reads_stand, store_call}
 use Rattle.object_dir.proofs.HeldLemmas.{reads_back, same_contents}
@@ -67,9 +65,9 @@ module _ {V : Type 0} (K : VolumeKeeper V) where
         elim ((K.condition old.region.volume.now).lost) as (λ b. (K.condition old.region.volume.now).lost ≡ b → CrashLeaves (dir_keeper K) (kept_in K old.region) old new) [
           | true ↦ λ e. record { any_moment = lost_leaves K result 0 old new read_call e (kept_in K old.region) just; afterwards = lost_just K result 0 old new read_call e (kept_in K old.region) just }
           | false ↦ λ e. record {
-              any_moment = read_leaves has e;
-              afterwards = record { only = λ o left. (read_leaves has e).each o (left.0, earlier new.region.volume.now (K.moment old.region.volume.now) (K.moment new.region.volume.now) left.0 (read_leaves has e).later left.1, left.2) };
-            }
+            any_moment = read_leaves has e;
+            afterwards = record { only = λ o left. (read_leaves has e).each o (left.0, earlier new.region.volume.now (K.moment old.region.volume.now) (K.moment new.region.volume.now) left.0 (read_leaves has e).later left.1, left.2) };
+          }
         ] refl
 
     pub store_reads : Reads (dir_keeper K) stated Bounds result old new
@@ -96,16 +94,16 @@ module _ {V : Type 0} (K : VolumeKeeper V) where
     made_crash has just =
         elim ((K.condition old.region.volume.now).lost) as (λ b. (K.condition old.region.volume.now).lost ≡ b → CrashChanges (dir_keeper K) result (change (kept_in K old.region).store c) old new) [
           | true ↦ λ e. record {
-              any_moment = weaker (dir_keeper K).moment (dir_keeper K).left_since old new (λ o. o ≡ Some (kept_in K old.region)) (LeftByChange result (kept_in K old.region) (change (kept_in K old.region).store c)) (λ o is. left_before result (kept_in K old.region) (change (kept_in K old.region).store c) o is)
-              (lost_leaves K result 1 old new made.call e (kept_in K old.region) just);
-              afterwards = always_unless result (LeavesJust (dir_keeper K) new (kept_in K new.region))
-              (subst (λ (x : Contents). LeavesJust (dir_keeper K) new x) (sym (same_when_lost result (K.condition old.region.volume.now) (K.condition new.region.volume.now) (change (kept_in K old.region).store c) (kept_in K old.region) (kept_in K new.region) e made.call.cause (made.applied has)))
-              (lost_just K result 1 old new made.call e (kept_in K old.region) just));
-            }
+            any_moment = weaker (dir_keeper K).moment (dir_keeper K).left_since old new (λ o. o ≡ Some (kept_in K old.region)) (LeftByChange result (kept_in K old.region) (change (kept_in K old.region).store c)) (λ o is. left_before result (kept_in K old.region) (change (kept_in K old.region).store c) o is)
+                (lost_leaves K result 1 old new made.call e (kept_in K old.region) just);
+            afterwards = always_unless result (LeavesJust (dir_keeper K) new (kept_in K new.region))
+                (subst (λ (x : Contents). LeavesJust (dir_keeper K) new x) (sym (same_when_lost result (K.condition old.region.volume.now) (K.condition new.region.volume.now) (change (kept_in K old.region).store c) (kept_in K old.region) (kept_in K new.region) e made.call.cause (made.applied has)))
+                (lost_just K result 1 old new made.call e (kept_in K old.region) just));
+          }
           | false ↦ λ e. record {
-              any_moment = of_store K result 1 old new made.call (LeftByChange result (kept_in K old.region) (change (kept_in K old.region).store c)) (made.crash has e);
-              afterwards = when_it_works result (K.condition old.region.volume.now) (K.condition new.region.volume.now) (LeavesJust (dir_keeper K) new (kept_in K new.region)) e made.call.cause (made_just (made.stands has));
-            }
+            any_moment = of_store K result 1 old new made.call (LeftByChange result (kept_in K old.region) (change (kept_in K old.region).store c)) (made.crash has e);
+            afterwards = when_it_works result (K.condition old.region.volume.now) (K.condition new.region.volume.now) (LeavesJust (dir_keeper K) new (kept_in K new.region)) e made.call.cause (made_just (made.stands has));
+          }
         ] refl
 
     pub store_applies : Applies (dir_keeper K) c result old new

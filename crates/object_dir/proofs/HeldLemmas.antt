@@ -1,11 +1,10 @@
 -- The store of a region, by what its volume holds.
-use Rattle.std.proofs.Common.{◌≡◌, ◌<◌, ◌+◌, ℕ, Bool, true, false, List, [], ◌∷◌, Some, Result, Ok, Err, refl, sym, ap, ◌∙◌, subst, inl, inr, ⊎_elim, arith}
+use Rattle.std.proofs.Common.{◌≡◌, ◌<◌, ◌+◌, ℕ, Bool, true, false, List, [], Some, Result, Ok, refl, sym, ap, ◌∙◌, subst, inr, arith}
 use Rattle.std.specs.Prelude.{◌==◌, if◌then◌else◌, IsTrue}
 use Rattle.std.proofs.lemmas.Bool.{eq-eqb}
-use Rattle.store_api.specs.declared.answer.StoreAnswer.{StoreAnswer}
 use Rattle.store_api.specs.declared.change.Change.{Change}
 use Rattle.store_api.specs.declared.leaves.Leaf.{Leaf}
-use Rattle.store_api.specs.Keeping.{Contents, IsBeforeOrAfter, Remains, Rest}
+use Rattle.store_api.specs.Keeping.{IsBeforeOrAfter, Remains, Rest}
 use Rattle.store_api.specs.Limits.{IsWithinLimits}
 use Rattle.store_api.specs.Stores.{Store, change}
 use Rattle.store_api.specs.Volumes.{Held, VolumeKeeper, leaf_after, replaced, after_commit}
@@ -15,7 +14,7 @@ use Rattle.region_plan.specs.Plans.{with_leaves}
 use Rattle.region_plan.specs.Regions.{breaks, region_of}
 use Rattle.region_plan.proofs.LimitLemmas.{within_limits}
 use Rattle.region_plan.proofs.SoundLemmas.{region_sound, unbroken_of}
-use Rattle.object_dir.specs.Regions.{HasStore, beside, contents_in, kept_in, opened, others, region_in, remains_in, rest_of, store_in, store_or_empty}
+use Rattle.object_dir.specs.Regions.{HasStore, contents_in, kept_in, opened, others, region_in, remains_in, rest_of, store_in, store_or_empty}
 use Rattle.object_dir.specs.declared.region.Region.{Region}
 
 -- equal numbers and equal contents of the volume

@@ -1,5 +1,5 @@
 -- The objects of a region as a store.
-use Rattle.std.specs.Prelude.{ℕ, ◌≡◌, ◌+◌, ◌<◌, ◌≤◌, Option, None, Some, IsTrue}
+use Rattle.std.specs.Prelude.{ℕ, ◌≡◌, ◌+◌, ◌<◌, ◌≤◌, Option, Some, IsTrue}
 use Rattle.tee_base.specs.Crash.{read_as}
 use Rattle.tee_base.specs.declared.limits.TheConstants.{LEAVES}
 use Rattle.store_api.specs.declared.answer.StoreAnswer.{StoreAnswer}

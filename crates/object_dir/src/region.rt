@@ -3,8 +3,8 @@
 ghost use Rattle.std.specs.Prelude.{◌<◌};
 ghost use Rattle.tee_base.specs.declared.limits.TheConstants.{HOSTS};
 
-use region_plan::LeafSource;
 use crate::changing::answer_of;
+use region_plan::LeafSource;
 use store_api::{LeafAnswer, Leaves, StoreAnswer, Volume};
 use tee_base::limits::BLOCK_BYTES;
 

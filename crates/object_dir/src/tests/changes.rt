@@ -117,7 +117,10 @@ fn as_in_memory(rt: HostRuntime) -> Result<(), Fail> {
     ObjectDir::of(alloc, &mut volume, 4).apply(&kept)?;
     other.apply(&kept)?;
     for (place, step) in STEPS.iter().enumerate() {
-        assert!(rt; is_alike(alloc, &mut volume, &mut store, *step)?, "row {place}");
+        assert!(rt;
+            is_alike(alloc, &mut volume, &mut store, *step)?,
+            "row {place}"
+        );
     }
     let mut objects = ObjectDir::of(alloc, &mut volume, 4);
     assert!(rt; are_same(alloc, &mut objects, &mut other)?);
