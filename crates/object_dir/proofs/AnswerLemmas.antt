@@ -48,7 +48,8 @@ intact_of (Err (Corrupt tags)) corrupt garbled = corrupt
 intact_of (Err (Garbled leaf)) corrupt garbled = garbled
 intact_of (Err NoMemory) corrupt garbled = tt
 
-pub tells_of : {A : Type 0} (result : Result A StoreAnswer) (damage : StoreAnswer → Type 0) → IfCorrupt (refusal_of result) (λ tags. damage (Corrupt tags)) → IfGarbled (refusal_of result) (λ leaf. damage (Garbled leaf)) → TellsDamage result damage
+pub tells_of : {A : Type 0} (result : Result A StoreAnswer) (damage : StoreAnswer → Type 0) → IfCorrupt (refusal_of result) (λ tags. damage (Corrupt tags))
+    → IfGarbled (refusal_of result) (λ leaf. damage (Garbled leaf)) → TellsDamage result damage
 tells_of (Ok a) damage corrupt garbled = tt
 tells_of (Err NotFound) damage corrupt garbled = tt
 tells_of (Err Exists) damage corrupt garbled = tt
@@ -113,7 +114,8 @@ rose_later : (a b c : ℕ) → a ≤ b → Rose b c → Rose a c
 rose_later a b c le rose = ⊎_elim (λ (l : b < c). inl (omega arith)) (λ top. inr top) rose
 
 -- why a commit ends as it does, behind reads of a volume that worked
-pub commit_cause : (answer : Result ℕ LeafAnswer) (old mid new : Condition) → ReadCause None old mid → old.faults ≤ mid.faults → LeafCause answer mid new → ReadCause (refusal_of (done_of answer)) old new
+pub commit_cause : (answer : Result ℕ LeafAnswer) (old mid new : Condition) → ReadCause None old mid → old.faults ≤ mid.faults → LeafCause answer mid new
+    → ReadCause (refusal_of (done_of answer)) old new
 commit_cause (Ok sequence) old mid new reads later cause = (reads.0, cause.1)
 commit_cause (Err leaf_answers.Lost) old mid new reads later cause = not_both mid.lost cause.0 reads.1
 commit_cause (Err leaf_answers.Failed) old mid new reads later cause = (reads.0, cause.1, rose_later old.faults mid.faults new.faults later cause.2)

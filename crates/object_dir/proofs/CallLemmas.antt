@@ -20,7 +20,8 @@ use Rattle.object_dir.proofs.HeldLemmas.{kept_limits, never_breaks, still_stands
 
 module _ {V : Type 0} (K : VolumeKeeper V) where
   -- a run of reads of a region, as a run of the volume
-  pub of_volume : (old new : Region V) (P : Option Held → Type 0) → LeavesOnly (region_keeper K).moment (region_keeper K).left_since old new P → LeavesOnly K.moment K.left_since old.volume.now new.volume.now P
+  pub of_volume : (old new : Region V) (P : Option Held → Type 0) → LeavesOnly (region_keeper K).moment (region_keeper K).left_since old new P
+      → LeavesOnly K.moment K.left_since old.volume.now new.volume.now P
   of_volume old new P run = record { later = run.later; each = run.each; before = run.before }
 
   module _ (why : Option StoreAnswer) (old new : Region V) (run : ReadsOnly (region_keeper K) number_of why old new) where
@@ -40,7 +41,8 @@ module _ {V : Type 0} (K : VolumeKeeper V) where
       ordered = run.ordered;
       same_region = run.same_region;
       honest = run.honest;
-      shows = λ t. corrupt_has why (λ tags. (number : ℕ) × (number < LEAVES) × (K.damage new.volume.now new.number number ≡ Some tags)) (λ tags. (leaf : ℕ) × (K.damage new.volume.now new.number leaf ≡ Some tags)) (λ tags met. (met.0, met.2)) (run.shows t);
+      shows = λ t. corrupt_has why (λ tags. (number : ℕ) × (number < LEAVES) × (K.damage new.volume.now new.number number ≡ Some tags))
+          (λ tags. (leaf : ℕ) × (K.damage new.volume.now new.number leaf ≡ Some tags)) (λ tags met. (met.0, met.2)) (run.shows t);
       garbled = garbled;
       quiet = λ lost. record { same = (run.quiet lost).same; none = (run.quiet lost).none };
       past = run.past;
@@ -60,7 +62,8 @@ module _ {V : Type 0} (K : VolumeKeeper V) where
     same_outcome o = ap (λ (k : ℕ). remains_in k o) call.same_region
 
     -- a call on a region is a call of its store
-    pub store_call : (HasStore K old.region → HasStore K new.region) → IfGarbled (refusal_of result) (λ leaf. leaf < LEAVES) → new.damage_reports ≡ old.damage_reports + damage_told (refusal_of result) → new.change_attempts ≡ old.change_attempts + tried → IsCall (dir_keeper K) tried result old new
+    pub store_call : (HasStore K old.region → HasStore K new.region) → IfGarbled (refusal_of result) (λ leaf. leaf < LEAVES)
+        → new.damage_reports ≡ old.damage_reports + damage_told (refusal_of result) → new.change_attempts ≡ old.change_attempts + tried → IsCall (dir_keeper K) tried result old new
     store_call stands few reports attempts = record {
       model = stands;
       limits = λ has. (kept_limits K old.region has, kept_limits K new.region (stands has));
@@ -72,12 +75,14 @@ module _ {V : Type 0} (K : VolumeKeeper V) where
         reports = reports ∙ ap (λ (k : ℕ). old.damage_reports + k) (reports_of result);
       };
       attempts = attempts;
-      damage = tells_of result (damage_of K new.region) (corrupt_under (refusal_of result) K.tells_reads (λ tags. (leaf : ℕ) × (K.damage new.region.volume.now new.region.number leaf ≡ Some tags)) call.shows) few;
+      damage = tells_of result (damage_of K new.region)
+          (corrupt_under (refusal_of result) K.tells_reads (λ tags. (leaf : ℕ) × (K.damage new.region.volume.now new.region.number leaf ≡ Some tags)) call.shows) few;
       honest = λ has. (
         stands has,
         intact_of result (call.honest has.honest).1
             (garbled_never (refusal_of result) (λ leaf. leaf < LEAVES) (λ leaf. IsTrue (breaks version_one ((K.held old.region.volume.now).leaves old.region.number) leaf))
-            (λ leaf below broken. never_breaks ((K.held old.region.volume.now).leaves old.region.number) (store_in old.region.number (K.held old.region.volume.now)) has.stands leaf below broken) few (call.garbled has.honest)),
+            (λ leaf below broken. never_breaks ((K.held old.region.volume.now).leaves old.region.number) (store_in old.region.number (K.held old.region.volume.now)) has.stands leaf below broken)
+            few (call.garbled has.honest)),
       );
       quiet = λ lost. record { same = (call.quiet lost).same; none = λ t o left. (left.0, (call.quiet lost).none t left.0 left.1, left.2 ∙ same_outcome left.0) };
       past = λ has. record { later = call.goes_on has.honest; past = λ t o le left. (left.0, call.past has.honest t left.0 le left.1, left.2 ∙ sym (same_outcome left.0)) };
@@ -99,5 +104,6 @@ module _ {V : Type 0} (K : VolumeKeeper V) where
       lost_just = record { only = λ o left. just.only o (subst (λ (t : ℕ). (dir_keeper K).left_since old t o) (call.quiet lost).same (none_new (K.moment new.region.volume.now) o left)) }
 
     -- a run of the volume, as a run of the store
-    pub of_store : (P : Remains → Type 0) → LeavesOnly K.moment K.left_since old.region.volume.now new.region.volume.now (λ o. P (remains_in new.region.number o)) → LeavesOnly (dir_keeper K).moment (dir_keeper K).left_since old new P
+    pub of_store : (P : Remains → Type 0) → LeavesOnly K.moment K.left_since old.region.volume.now new.region.volume.now (λ o. P (remains_in new.region.number o))
+        → LeavesOnly (dir_keeper K).moment (dir_keeper K).left_since old new P
     of_store P run = mapped K.moment K.left_since (λ (d : ObjectDir V). d.region.volume.now) (λ (d : ObjectDir V) (o : Option Held). remains_in d.region.number o) old new P same_outcome run

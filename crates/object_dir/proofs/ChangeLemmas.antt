@@ -22,7 +22,8 @@ use Rattle.object_dir.proofs.HeldLemmas.{reads_back, same_contents}
 
 module _ {V : Type 0} (K : VolumeKeeper V) (c : Change) where
   -- a change that a plan refuses, or that has no leaf to change
-  module _ (planned : Result (List Leaf) StoreAnswer) (result : Result (Unit {0}) StoreAnswer) (old new : Region V) (why : refusal_of result ≡ refusal_of planned) (plan : PlansChange (region_keeper K) number_of version_one c planned old new) where
+  module _ (planned : Result (List Leaf) StoreAnswer) (result : Result (Unit {0}) StoreAnswer) (old new : Region V) (why : refusal_of result ≡ refusal_of planned)
+      (plan : PlansChange (region_keeper K) number_of version_one c planned old new) where
     plan_call : IsRegionCall K (refusal_of result) old new
     plan_call = subst (λ (r : Option StoreAnswer). IsRegionCall K r old new) (sym why) (from_reads K (refusal_of planned) old new plan.reads plan.garbled)
 
@@ -32,7 +33,8 @@ module _ {V : Type 0} (K : VolumeKeeper V) (c : Change) where
     plan_leaves : HasStore K old → (K.condition old.volume.now).lost ≡ false
         → LeavesOnly K.moment K.left_since old.volume.now new.volume.now (λ o. LeftByChange result (kept_in K old) (change (kept_in K old).store c) (remains_in new.number o))
     plan_leaves has works =
-        weaker K.moment K.left_since old.volume.now new.volume.now (λ o. o ≡ Some (K.held old.volume.now)) (λ o. LeftByChange result (kept_in K old) (change (kept_in K old).store c) (remains_in new.number o))
+        weaker K.moment K.left_since old.volume.now new.volume.now (λ o. o ≡ Some (K.held old.volume.now))
+        (λ o. LeftByChange result (kept_in K old) (change (kept_in K old).store c) (remains_in new.number o))
         (λ o is. left_before result (kept_in K old) (change (kept_in K old).store c) (remains_in new.number o)
         (ap (λ (k : ℕ). remains_in k o) plan.reads.same_region ∙ (ap (λ (x : Option Held). remains_in old.number x) is ∙ reads_back old.number (K.held old.volume.now) has.stands)))
         (of_volume K old new (λ o. o ≡ Some (K.held old.volume.now)) (plan.reads.crash has.honest works))
@@ -51,7 +53,8 @@ module _ {V : Type 0} (K : VolumeKeeper V) (c : Change) where
       ends_with_plan (Err why) (Err why) old new refl plan
       (λ has. (plan.plans has.honest (store_in old.number (K.held old.volume.now)) has.stands, plan_same (Err why) (Err why) old new refl plan has))
 
-  pub change_refused_as : (why : StoreAnswer) (result : Result (Unit {0}) StoreAnswer) (old new : Region V) → result ≡ Err why → PlansChange (region_keeper K) number_of version_one c (Err why) old new → ChangesRegion K c result old new
+  pub change_refused_as : (why : StoreAnswer) (result : Result (Unit {0}) StoreAnswer) (old new : Region V) → result ≡ Err why → PlansChange (region_keeper K) number_of version_one c (Err why)
+      old new → ChangesRegion K c result old new
   change_refused_as why result old new is plan = subst (λ (r : Result (Unit {0}) StoreAnswer). ChangesRegion K c r old new) (sym is) (change_refused why old new plan)
 
   -- a plan of no leaf is one of a change that leaves the store as it was
@@ -65,21 +68,27 @@ module _ {V : Type 0} (K : VolumeKeeper V) (c : Change) where
       ends_with_plan (Ok []) (Ok tt) old new refl plan
       (λ has.
       let same : kept_in K new ≡ kept_in K old = plan_same (Ok []) (Ok tt) old new refl plan has in
-      let changes = same_store old.number (K.held old.volume.now) has.stands (plan.plans has.honest (store_in old.number (K.held old.volume.now)) has.stands) in
-      (changes ∙ ap (λ (x : Contents). Ok x.store) (sym same), ap (λ (x : Contents). x.rest) same, let e : (kept_in K new).number ≡ (kept_in K old).number = ap (λ (x : Contents). x.number) same in omega arith))
+      let changes = same_store old.number (K.held old.volume.now) has.stands (plan.plans has.honest (store_in old.number (K.held old.volume.now)) has.stands) in (
+        changes ∙ ap (λ (x : Contents). Ok x.store) (sym same),
+        ap (λ (x : Contents). x.rest) same,
+        let e : (kept_in K new).number ≡ (kept_in K old).number = ap (λ (x : Contents). x.number) same
+            in omega arith,
+      ))
 
   no_leaf : (seen : List Leaf) → length seen ≡ 0 → seen ≡ []
   no_leaf [] none = refl
   no_leaf (leaf ∷ leaves) none = absurd (omega arith)
 
   -- the same, by what is seen of the plan
-  pub no_leaf_changes : (named seen : List Leaf) (old new : Region V) → seen ≡ named → length seen ≡ 0 → PlansChange (region_keeper K) number_of version_one c (Ok named) old new → ChangesRegion K c (Ok tt) old new
+  pub no_leaf_changes : (named seen : List Leaf) (old new : Region V) → seen ≡ named → length seen ≡ 0 → PlansChange (region_keeper K) number_of version_one c (Ok named) old new
+      → ChangesRegion K c (Ok tt) old new
   no_leaf_changes named seen old new same none plan =
       let empty : named ≡ [] = sym same ∙ no_leaf seen none in
       nothing_changes old new (subst (λ (l : List Leaf). PlansChange (region_keeper K) number_of version_one c (Ok l) old new) empty plan)
 
   -- planned leaves, and one commit of them
-  module _ (named : List Leaf) (answer : Result ℕ LeafAnswer) (old mid new : Region V) (plan : PlansChange (region_keeper K) number_of version_one c (Ok named) old mid) (commit : CommitsLeaves K mid.number named answer mid.volume.now new.volume.now) (same : new.number ≡ mid.number) where
+  module _ (named : List Leaf) (answer : Result ℕ LeafAnswer) (old mid new : Region V) (plan : PlansChange (region_keeper K) number_of version_one c (Ok named) old mid)
+      (commit : CommitsLeaves K mid.number named answer mid.volume.now new.volume.now) (same : new.number ≡ mid.number) where
     works_then : (K.condition mid.volume.now).lost ≡ false
     works_then = plan.reads.cause.1
 
@@ -89,12 +98,14 @@ module _ {V : Type 0} (K : VolumeKeeper V) (c : Change) where
     commit_call : IsRegionCall K (refusal_of (done_of answer)) old new
     commit_call = record {
       cause = commit_cause answer (K.condition old.volume.now) (K.condition mid.volume.now) (K.condition new.volume.now) plan.reads.cause plan.reads.later commit.call.cause.cause;
-      later = let one : (K.condition old.volume.now).faults ≤ (K.condition mid.volume.now).faults = plan.reads.later in let two : (K.condition mid.volume.now).faults ≤ (K.condition new.volume.now).faults = commit.call.cause.later in omega arith;
+      later = let one : (K.condition old.volume.now).faults ≤ (K.condition mid.volume.now).faults = plan.reads.later in let two : (K.condition mid.volume.now).faults ≤
+          (K.condition new.volume.now).faults = commit.call.cause.later in omega arith;
       orders = commit.call.cause.orders ∙ plan.reads.orders;
       ordered = commit.call.cause.ordered ∙ plan.reads.ordered;
       same_region = number;
       honest = λ h. ((commit.call.honest (plan.reads.honest h).0).0, commit_corrupt answer (λ tags. ⊥) (λ tags. ⊥) (λ tags never. never) (commit.call.honest (plan.reads.honest h).0).1);
-      shows = λ t. commit_corrupt answer (λ tags. (leaf : ℕ) × (K.damage new.volume.now mid.number leaf ≡ Some tags)) (λ tags. (leaf : ℕ) × (K.damage new.volume.now new.number leaf ≡ Some tags)) (λ tags met. (met.0, ap (λ (k : ℕ). K.damage new.volume.now k met.0) same ∙ met.1)) (commit.shows t);
+      shows = λ t. commit_corrupt answer (λ tags. (leaf : ℕ) × (K.damage new.volume.now mid.number leaf ≡ Some tags)) (λ tags. (leaf : ℕ) × (K.damage new.volume.now new.number leaf ≡ Some tags))
+          (λ tags met. (met.0, ap (λ (k : ℕ). K.damage new.volume.now k met.0) same ∙ met.1)) (commit.shows t);
       garbled = λ h. commit_garbled answer _;
       quiet = λ lost. not_both (K.condition old.volume.now).lost lost plan.reads.cause.0;
       past = λ h t o le left.
@@ -142,11 +153,13 @@ module _ {V : Type 0} (K : VolumeKeeper V) (c : Change) where
           → LeavesOnly K.moment K.left_since old.volume.now new.volume.now (λ o. LeftByChange (done_of answer) (kept_in K old) (change (kept_in K old).store c) (remains_in new.number o))
       commit_leaves works =
           joined K.moment K.left_since old.volume.now mid.volume.now new.volume.now (λ o. LeftByChange (done_of answer) (kept_in K old) (change (kept_in K old).store c) (remains_in new.number o))
-          (weaker K.moment K.left_since old.volume.now mid.volume.now (λ o. o ≡ Some (K.held old.volume.now)) (λ o. LeftByChange (done_of answer) (kept_in K old) (change (kept_in K old).store c) (remains_in new.number o))
+          (weaker K.moment K.left_since old.volume.now mid.volume.now (λ o. o ≡ Some (K.held old.volume.now))
+          (λ o. LeftByChange (done_of answer) (kept_in K old) (change (kept_in K old).store c) (remains_in new.number o))
           (λ o is. left_before (done_of answer) (kept_in K old) (change (kept_in K old).store c) (remains_in new.number o)
           (ap (λ (k : ℕ). remains_in k o) number ∙ (ap (λ (x : Option Held). remains_in old.number x) is ∙ reads_back old.number (K.held old.volume.now) has.stands)))
           (of_volume K old mid (λ o. o ≡ Some (K.held old.volume.now)) (plan.reads.crash has.honest works)))
-          (weaker K.moment K.left_since mid.volume.now new.volume.now (LeftByCommit answer (K.held mid.volume.now) (after_commit mid.number named (K.held mid.volume.now))) (λ o. LeftByChange (done_of answer) (kept_in K old) (change (kept_in K old).store c) (remains_in new.number o))
+          (weaker K.moment K.left_since mid.volume.now new.volume.now (LeftByCommit answer (K.held mid.volume.now) (after_commit mid.number named (K.held mid.volume.now)))
+          (λ o. LeftByChange (done_of answer) (kept_in K old) (change (kept_in K old).store c) (remains_in new.number o))
           commit_remains (commit.crash (plan.reads.honest has.honest).0 works_then))
 
     by_answer : ChangesRegion K c (done_of answer) old new
@@ -154,12 +167,14 @@ module _ {V : Type 0} (K : VolumeKeeper V) (c : Change) where
       call = commit_call;
       stands = commit_has;
       applied = commit_applies;
-      one = let same : (K.held mid.volume.now).sequence ≡ (K.held old.volume.now).sequence = plan.reads.sequence in let rises = commit_one answer (K.held mid.volume.now).sequence (K.held new.volume.now).sequence commit.sequence in omega arith;
+      one = let same : (K.held mid.volume.now).sequence ≡ (K.held old.volume.now).sequence = plan.reads.sequence in let rises = commit_one answer (K.held mid.volume.now).sequence
+          (K.held new.volume.now).sequence commit.sequence in omega arith;
       crash = commit_leaves;
     }
 
   -- a change that is committed
-  pub change_committed : (named : List Leaf) (result : Result (Unit {0}) StoreAnswer) (old mid new : Region V) → PlansChange (region_keeper K) number_of version_one c (Ok named) old mid → CommitsRegion K named result mid new → ChangesRegion K c result old new
+  pub change_committed : (named : List Leaf) (result : Result (Unit {0}) StoreAnswer) (old mid new : Region V) → PlansChange (region_keeper K) number_of version_one c (Ok named) old mid
+      → CommitsRegion K named result mid new → ChangesRegion K c result old new
   change_committed named result old mid new plan commit =
       subst (λ (r : Result (Unit {0}) StoreAnswer). ChangesRegion K c r old new) (sym commit.told)
       (by_answer named commit.answer old mid new plan commit.commits commit.same_region)

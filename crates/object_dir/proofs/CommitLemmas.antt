@@ -36,9 +36,11 @@ module _ (c : Change) (named : List Leaf) (n : ℕ) (h : Held) (is : region_in n
   either_remains : (o : Option Held) → (o ≡ Some h) ⊎ (o ≡ Some (after_commit n named h)) → IsBeforeOrAfter (contents_in n h) (change (store_in n h) c) (remains_in n o)
   either_remains o left =
       ⊎_elim (λ (e : o ≡ Some h). inl (before_remains o e))
-      (λ (e : o ≡ Some (after_commit n named h)). subst (λ (x : Option Held). IsBeforeOrAfter (contents_in n h) (change (store_in n h) c) (remains_in n x)) (sym e) (after_remains c named n h is plan)) left
+      (λ (e : o ≡ Some (after_commit n named h)). subst (λ (x : Option Held). IsBeforeOrAfter (contents_in n h) (change (store_in n h) c) (remains_in n x)) (sym e)
+      (after_remains c named n h is plan)) left
 
-  pub commit_left : (answer : Result ℕ LeafAnswer) (o : Option Held) → LeftByCommit answer h (after_commit n named h) o → LeftByChange (done_of answer) (contents_in n h) (change (store_in n h) c) (remains_in n o)
+  pub commit_left : (answer : Result ℕ LeafAnswer) (o : Option Held) → LeftByCommit answer h (after_commit n named h) o → LeftByChange (done_of answer) (contents_in n h) (change (store_in n h) c)
+      (remains_in n o)
   commit_left (Ok sequence) o left = either_remains o left
   commit_left (Err leaf_answers.Lost) o left = before_remains o left
   commit_left (Err leaf_answers.Failed) o left = either_remains o left

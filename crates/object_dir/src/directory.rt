@@ -73,14 +73,17 @@ impl<V: Volume> AppStore for ObjectDir<'_, V> {
 
     ghost honest_model = { λ d honest. honest };
 
-    ghost since_earlier = { λ d t u o le left. (left.0, V.since_earlier d.region.volume.now t u left.0 le left.1, left.2) };
+    ghost since_earlier = { λ d t u o le left.
+        (left.0, V.since_earlier d.region.volume.now t u left.0 le left.1, left.2) };
 
-    /// Besides, over an honest volume `Garbled` tells of a leaf that breaks a rule. So it does in the others.
+    /// Besides, over an honest volume `Garbled` tells of a leaf that breaks a rule, and it stays the same region. So it is
+    /// with the others.
     fn find(&mut self, id: &[u8]) -> Result<Facts, StoreAnswer>
         requires { IsIdentifier id.now }
         ensures reads { Reads (dir_keeper V.keeper) (λ store. found store id.now) AreFacts result
             self.old self.new }
         ensures garbled { BreaksRule V.keeper (refusal_of result) self.old }
+        ensures same_region { self.new.region.number ≡ self.old.region.number }
     {
         let answer = facts(self.alloc, &mut self.region, id);
         note(&mut self.damage_reports, refusal(&answer));
@@ -92,6 +95,7 @@ impl<V: Volume> AppStore for ObjectDir<'_, V> {
         ensures reads { Reads (dir_keeper V.keeper) (λ store. secret_at store id.now) IsSecret
             result self.old self.new }
         ensures garbled { BreaksRule V.keeper (refusal_of result) self.old }
+        ensures same_region { self.new.region.number ≡ self.old.region.number }
     {
         let answer = secret(self.alloc, &mut self.region, id);
         note(&mut self.damage_reports, refusal(&answer));
@@ -104,6 +108,7 @@ impl<V: Volume> AppStore for ObjectDir<'_, V> {
         ensures reads { Reads (dir_keeper V.keeper) (λ store. read_at store id.now from count)
             (IsPart count) result self.old self.new }
         ensures garbled { BreaksRule V.keeper (refusal_of result) self.old }
+        ensures same_region { self.new.region.number ≡ self.old.region.number }
     {
         let answer = content(self.alloc, &mut self.region, id, from, count);
         note(&mut self.damage_reports, refusal(&answer));
@@ -114,6 +119,7 @@ impl<V: Volume> AppStore for ObjectDir<'_, V> {
         ensures reads { Reads (dir_keeper V.keeper)
             (λ store. next_of store (option_copied last.entry)) IsListed result self.old self.new }
         ensures garbled { BreaksRule V.keeper (refusal_of result) self.old }
+        ensures same_region { self.new.region.number ≡ self.old.region.number }
     {
         let answer = next_after(self.alloc, &mut self.region, last);
         note(&mut self.damage_reports, refusal(&answer));
@@ -125,6 +131,7 @@ impl<V: Volume> AppStore for ObjectDir<'_, V> {
         requires { IsChange change.now }
         ensures applies { Applies (dir_keeper V.keeper) change.now result self.old self.new }
         ensures garbled { BreaksRule V.keeper (refusal_of result) self.old }
+        ensures same_region { self.new.region.number ≡ self.old.region.number }
         ensures one { IsOneCommit V.keeper self.old self.new }
     {
         self.change_attempts = self.change_attempts.one_more();
