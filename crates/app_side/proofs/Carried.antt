@@ -214,7 +214,7 @@ module _ {D : Type 0} (K : Keeper D) where
   plain_turn comes changes lost left old same = record {
     stands = λ t. tt;
     change = tt;
-    status = record { cause = refl; later = omega arith; orders = refl; ordered = refl; reports = omega arith };
+    status = record { cause = refl; later = omega arith; foundation = refl; reports = omega arith };
     damage = tt;
     honest = λ h. (h, tt);
     keeps = idle_keeps K old;

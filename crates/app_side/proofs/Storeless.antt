@@ -42,7 +42,7 @@ refused_call : {X : Type 0} (b : Bool) (r : Result X StoreAnswer) (n : ℕ) (old
 refused_call {X} true r n old new lost is same = rw (is, same) (record {
   model = λ h. h;
   limits = λ _. (empty_within, empty_within);
-  cause = record { cause = (lost, lost); later = omega arith; orders = refl; ordered = refl; reports = omega arith };
+  cause = record { cause = (lost, lost); later = omega arith; foundation = refl; reports = omega arith };
   attempts = refl;
   damage = tt;
   honest = λ h. absurd h;
@@ -52,7 +52,7 @@ refused_call {X} true r n old new lost is same = rw (is, same) (record {
 refused_call {X} false r n old new lost is same = rw (is, same) (record {
   model = λ h. h;
   limits = λ _. (empty_within, empty_within);
-  cause = record { cause = (lost, lost); later = omega arith; orders = refl; ordered = refl; reports = omega arith };
+  cause = record { cause = (lost, lost); later = omega arith; foundation = refl; reports = omega arith };
   attempts = refl;
   damage = tt;
   honest = λ h. absurd h;

@@ -12,11 +12,12 @@ pub(crate) struct NoStore {
 }
 
 impl Model for NoStore {
+    ghost use Rattle.store_api.specs.Foundations.{no_foundation};
     ghost use Rattle.store_api.specs.Keeping.{Status};
 
     ghost Value = { Status };
 
-    ghost view = { λ s. record { lost = s.lost; faults = 0; orders = 0; ordered = 0; damage_reports = 0; change_attempts = s.change_attempts } };
+    ghost view = { λ s. record { lost = s.lost; faults = 0; foundation = no_foundation; damage_reports = 0; change_attempts = s.change_attempts } };
 }
 
 impl NoStore {

@@ -7,7 +7,8 @@ ghost use Rattle.crypto_ops.specs.Operations.{bits_of};
 
 use arrayvec::ArrayVec;
 use std::marker::Model;
-use tee_base::{keys, limits};
+use tee_base::keys;
+use tee_base::limits::SECRET_BYTES;
 
 /// Whether the size in bits fits the kind of key (TEE Internal Core API 1.3, section 5.6.1).
 #[tactic(auto, unfolding(tee_base::specs::KeySizes::size_fits))]
@@ -33,15 +34,15 @@ fn are_bytes_in(least: u32, most: u32, bits: u32) -> bool
 #[tactic(auto, unfolding(tee_base::specs::KeySizes::size_fits))]
 pub fn secret_fits(kind: u32, secret: &[u8]) -> bool
     ensures table { result ≡ sizes.size_fits kind (bits_of secret.now) }
-    ensures small { OnTrue result (length secret.now ≤ 128) }
+    ensures small { OnTrue result (length secret.now ≤ SECRET_BYTES) }
 {
-    secret.len() <= limits::SECRET_BYTES && size_fits(kind, 8 * secret.len() as u32)
+    secret.len() <= SECRET_BYTES && size_fits(kind, 8 * secret.len() as u32)
 }
 
-/// A secret of at most 128 bytes.
+/// A secret of at most `SECRET_BYTES` bytes.
 #[derive(Drop)]
 pub struct Secret {
-    bytes: ArrayVec<u8, 128>,
+    bytes: ArrayVec<u8, SECRET_BYTES>,
 }
 
 impl Model for Secret {
@@ -57,7 +58,7 @@ impl Secret {
 
     /// A copy of the bytes.
     pub fn from_slice(from: &[u8]) -> Secret
-        requires { length from.now ≤ 128 }
+        requires { length from.now ≤ SECRET_BYTES }
         ensures { result ≡ from.now }
     {
         let mut bytes = ArrayVec::new();
@@ -75,7 +76,7 @@ impl Secret {
     /// The bytes.
     pub fn as_slice(&self) -> &[u8]
         ensures bytes { result.now ≡ self.now }
-        ensures fits { length result.now ≤ 128 }
+        ensures fits { length result.now ≤ SECRET_BYTES }
     {
         self.bytes.as_slice()
     }

@@ -2,6 +2,7 @@
 
 ghost use Rattle.std.specs.Prelude.{◌≡◌, ◌≤◌, length};
 ghost use Rattle.std.specs.Bool.{OnTrue};
+ghost use Rattle.tee_base.specs.declared.limits.TheConstants.{SECRET_BYTES};
 ghost use Rattle.crypto_ops.specs.Operations.{CryptoOperation, allocated, about_of, key_bits, lacks_key, reset_answer, restarted, set_key_answer, keyed, clear_key_answer, unkeyed, may_change_key, is_same_algorithm, copy_answer, copied, after_ok, is_too_much, is_active, bits_of};
 ghost use Rattle.crypto_ops.specs.Represents.{Represents, IsAllocated};
 ghost use Rattle.crypto_ops.specs.Algorithms as table;
@@ -216,7 +217,7 @@ fn greatest_fits(algorithm: Algorithm, max_bits: u32) -> bool
 /// Whether a key of this kind and secret serves the algorithm.
 fn key_fits(algorithm: Algorithm, kind: u32, secret: &[u8]) -> bool
     ensures table { result ≡ table.key_fits (table.key_kind algorithm) kind (bits_of secret.now) }
-    ensures small { OnTrue result (length secret.now ≤ 128) }
+    ensures small { OnTrue result (length secret.now ≤ SECRET_BYTES) }
 {
     match algorithm.key_kind() {
         Some(own) => kind == own && secret_fits(own, secret),

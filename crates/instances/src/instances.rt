@@ -5,7 +5,8 @@ use crate::tables;
 use app_api::Properties;
 use arrayvec::ArrayVec;
 use std::marker::Model;
-use tee_base::{Code, Origin, limits};
+use tee_base::limits::{INSTANCES, SESSIONS};
+use tee_base::{Code, Origin};
 
 /// Where an open is admitted to.
 #[derive(Clone, Copy, Debug, PartialEq, Eq)]
@@ -52,8 +53,8 @@ impl Refusal {
 #[derive(Debug, Drop)]
 pub struct Instances {
     properties: Properties,
-    slots: ArrayVec<Slot, 4>,
-    sessions: ArrayVec<Session, 8>,
+    slots: ArrayVec<Slot, INSTANCES>,
+    sessions: ArrayVec<Session, SESSIONS>,
 }
 
 impl Model for Instances {
@@ -96,7 +97,7 @@ impl Instances {
         if self.find(client, label).is_some() {
             return Err(Refusal::label_in_use());
         }
-        if self.sessions.len() >= limits::SESSIONS {
+        if self.sessions.len() >= SESSIONS {
             return Err(Refusal::busy());
         }
         if !self.properties.single {
@@ -109,7 +110,7 @@ impl Instances {
     fn admit_to_own(&self) -> Result<Admission, Refusal>
         ensures { result ≡ own_instance self.now }
     {
-        if self.slots.len() >= limits::INSTANCES {
+        if self.slots.len() >= INSTANCES {
             return Err(Refusal::busy());
         }
         Ok(Admission {

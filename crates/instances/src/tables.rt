@@ -9,13 +9,14 @@ use crate::instances::Admission;
 use crate::session::{Session, SessionFacts, SessionState, Slot};
 use arrayvec::ArrayVec;
 use tee_base::find_lowest_free;
+use tee_base::limits::{INSTANCES, SESSIONS};
 
 /// The lowest session number that is free.
 pub fn free_session(sessions: &[Session]) -> u8
     requires { length sessions.now ≤ SESSIONS }
     ensures { result ≡ lowest_free (map (λ s. s.number) sessions.now) }
 {
-    let mut taken = ArrayVec::<u8, 8>::new();
+    let mut taken = ArrayVec::<u8, SESSIONS>::new();
     for session in sessions {
         taken.push(session.number);
     }
@@ -27,7 +28,7 @@ pub fn free_instance(slots: &[Slot]) -> u8
     requires { length slots.now ≤ INSTANCES }
     ensures { result ≡ lowest_free (map (λ slot. slot.number) slots.now) }
 {
-    let mut taken = ArrayVec::<u8, 4>::new();
+    let mut taken = ArrayVec::<u8, INSTANCES>::new();
     for slot in slots {
         taken.push(slot.number);
     }
@@ -35,7 +36,7 @@ pub fn free_instance(slots: &[Slot]) -> u8
 }
 
 /// Adds the instance that an open was admitted to, where it is new.
-pub fn add_instance(slots: &mut ArrayVec<Slot, 4>, admission: Admission)
+pub fn add_instance(slots: &mut ArrayVec<Slot, INSTANCES>, admission: Admission)
     requires { admission.new_instance ≡ true → length slots.old.items < INSTANCES }
     ensures { slots.new.items
         ≡ (if admission.new_instance
@@ -61,11 +62,15 @@ pub fn known_as(sessions: &[Session], client: u8, label: u32) -> Option<SessionF
 }
 
 /// The sessions, with the one of this number in this state.
-pub fn with_state(sessions: &[Session], number: u8, state: SessionState) -> ArrayVec<Session, 8>
+pub fn with_state(
+    sessions: &[Session],
+    number: u8,
+    state: SessionState,
+) -> ArrayVec<Session, SESSIONS>
     requires { length sessions.now ≤ SESSIONS }
     ensures { result.items ≡ map (with_state number state) sessions.now }
 {
-    let mut after = ArrayVec::<Session, 8>::new();
+    let mut after = ArrayVec::<Session, SESSIONS>::new();
     for session in sessions {
         after.push(session.with_state(number, state));
     }
@@ -73,11 +78,11 @@ pub fn with_state(sessions: &[Session], number: u8, state: SessionState) -> Arra
 }
 
 /// The sessions but the one of this number.
-pub fn without_session(sessions: &[Session], number: u8) -> ArrayVec<Session, 8>
+pub fn without_session(sessions: &[Session], number: u8) -> ArrayVec<Session, SESSIONS>
     requires { length sessions.now ≤ SESSIONS }
     ensures { result.items ≡ filter (λ s. not (s.number == number)) sessions.now }
 {
-    let mut after = ArrayVec::<Session, 8>::new();
+    let mut after = ArrayVec::<Session, SESSIONS>::new();
     for session in sessions {
         if session.number != number {
             after.push(*session);
@@ -87,11 +92,11 @@ pub fn without_session(sessions: &[Session], number: u8) -> ArrayVec<Session, 8>
 }
 
 /// The slots, with the destroy entry of this instance begun.
-pub fn with_ending(slots: &[Slot], instance: u8) -> ArrayVec<Slot, 4>
+pub fn with_ending(slots: &[Slot], instance: u8) -> ArrayVec<Slot, INSTANCES>
     requires { length slots.now ≤ INSTANCES }
     ensures { result.items ≡ map (with_ending instance) slots.now }
 {
-    let mut after = ArrayVec::<Slot, 4>::new();
+    let mut after = ArrayVec::<Slot, INSTANCES>::new();
     for slot in slots {
         after.push(slot.with_ending(instance));
     }
@@ -99,11 +104,11 @@ pub fn with_ending(slots: &[Slot], instance: u8) -> ArrayVec<Slot, 4>
 }
 
 /// The slots but the one of this instance.
-pub fn without_slot(slots: &[Slot], instance: u8) -> ArrayVec<Slot, 4>
+pub fn without_slot(slots: &[Slot], instance: u8) -> ArrayVec<Slot, INSTANCES>
     requires { length slots.now ≤ INSTANCES }
     ensures { result.items ≡ filter (λ slot. not (slot.number == instance)) slots.now }
 {
-    let mut after = ArrayVec::<Slot, 4>::new();
+    let mut after = ArrayVec::<Slot, INSTANCES>::new();
     for slot in slots {
         if slot.number != instance {
             after.push(*slot);
@@ -113,12 +118,12 @@ pub fn without_slot(slots: &[Slot], instance: u8) -> ArrayVec<Slot, 4>
 }
 
 /// The sessions once the instance has ended.
-pub fn after_end(sessions: &[Session], instance: u8) -> ArrayVec<Session, 8>
+pub fn after_end(sessions: &[Session], instance: u8) -> ArrayVec<Session, SESSIONS>
     requires { length sessions.now ≤ SESSIONS }
     ensures { result.items
         ≡ map (killed instance) (filter (stays_after_end instance) sessions.now) }
 {
-    let mut after = ArrayVec::<Session, 8>::new();
+    let mut after = ArrayVec::<Session, SESSIONS>::new();
     for session in sessions {
         let mut session = *session;
         if session.instance == instance {

@@ -82,7 +82,7 @@ module _ {D : Type 0} (K : Keeper D) where
 
     -- the standing after a look that served, or found the store lost
     plain_status : (given : Result ObjectKey StoreAnswer) (lost : Bool) → (K.status old).lost ≡ lost → (K.status new).lost ≡ lost → (K.status new).damage_reports ≡ (K.status old).damage_reports + 0 → looks given → HasStatus Plain (K.status old) (K.status new)
-    plain_status given lost before after reports read = record { cause = after ∙ sym before; later = read.call.cause.later; orders = read.call.cause.orders; ordered = read.call.cause.ordered; reports = reports }
+    plain_status given lost before after reports read = record { cause = after ∙ sym before; later = read.call.cause.later; foundation = read.call.cause.foundation; reports = reports }
 
     -- the store refuses
     refused_key : (e : StoreAnswer) → (K.has_model old → stored ≡ Err e) → (K.status old).lost ≡ false → HasStatus Plain (K.status old) (K.status new) → looks (Err e) → IsKeyServed K (key_plainly (finds.Refused (code_of e))) course old new
@@ -133,7 +133,7 @@ module _ {D : Type 0} (K : Keeper D) where
       refuses = (code_of stores.Failed, refl);
       reaches = λ t. refl;
       change = refl;
-      status = record { cause = read.call.cause.cause; later = read.call.cause.later; orders = read.call.cause.orders; ordered = read.call.cause.ordered; reports = read.call.cause.reports };
+      status = record { cause = read.call.cause.cause; later = read.call.cause.later; foundation = read.call.cause.foundation; reports = read.call.cause.reports };
       damage = tt;
       honest = λ h. ((read.call.honest h).0, tt);
       keeps = kept_by (Err stores.Failed) read;
@@ -145,7 +145,7 @@ module _ {D : Type 0} (K : Keeper D) where
       refuses = (code_of (stores.Corrupt tags), refl);
       reaches = λ t. refl;
       change = tt;
-      status = record { cause = (read.call.cause.cause.0, read.call.cause.cause.1); later = read.call.cause.later; orders = read.call.cause.orders; ordered = read.call.cause.ordered; reports = read.call.cause.reports };
+      status = record { cause = (read.call.cause.cause.0, read.call.cause.cause.1); later = read.call.cause.later; foundation = read.call.cause.foundation; reports = read.call.cause.reports };
       damage = (stores.Corrupt tags, read.call.damage);
       honest = λ h. absurd (read.call.honest h).1;
       keeps = kept_by (Err (stores.Corrupt tags)) read;
@@ -157,7 +157,7 @@ module _ {D : Type 0} (K : Keeper D) where
       refuses = (code_of (stores.Garbled leaf), refl);
       reaches = λ t. refl;
       change = tt;
-      status = record { cause = read.call.cause.cause; later = read.call.cause.later; orders = read.call.cause.orders; ordered = read.call.cause.ordered; reports = read.call.cause.reports };
+      status = record { cause = read.call.cause.cause; later = read.call.cause.later; foundation = read.call.cause.foundation; reports = read.call.cause.reports };
       damage = (stores.Garbled leaf, read.call.damage);
       honest = λ h. absurd (read.call.honest h).1;
       keeps = kept_by (Err (stores.Garbled leaf)) read;

@@ -100,8 +100,7 @@ module _ {D : Type 0} (K : Keeper D) where
     pub works : (K.status old).lost ≡ false
     pub worked : (K.status mid).lost ≡ false
     pub later : (K.status old).faults ≤ (K.status mid).faults
-    pub orders : (K.status mid).orders ≡ (K.status old).orders
-    pub ordered : (K.status mid).ordered ≡ (K.status old).ordered
+    pub foundation : (K.status mid).foundation ≡ (K.status old).foundation
     pub reports : (K.status mid).damage_reports ≡ (K.status old).damage_reports
     pub attempts : (K.status mid).change_attempts ≡ (K.status old).change_attempts
     pub model : K.has_model old → K.has_model mid
@@ -115,8 +114,7 @@ module _ {D : Type 0} (K : Keeper D) where
     works = read.call.cause.cause.0;
     worked = read.call.cause.cause.1;
     later = read.call.cause.later;
-    orders = read.call.cause.orders;
-    ordered = read.call.cause.ordered;
+    foundation = read.call.cause.foundation;
     reports = omega (arith, read.call.cause.reports);
     attempts = omega (arith, read.call.attempts);
     model = read.call.model;
@@ -130,8 +128,7 @@ module _ {D : Type 0} (K : Keeper D) where
   has_cause_after result old mid new one two = record {
     cause = later_cause result (K.status old) (K.status mid) (K.status new) one.works one.worked one.later two.cause;
     later = omega (arith, one.later, two.later);
-    orders = two.orders ∙ one.orders;
-    ordered = two.ordered ∙ one.ordered;
+    foundation = two.foundation ∙ one.foundation;
     reports = omega (arith, two.reports, one.reports);
   }
 
@@ -169,8 +166,7 @@ module _ {D : Type 0} (K : Keeper D) where
       status = record {
         cause = two.status.cause ∙ one.worked ∙ sym one.works;
         later = omega (arith, one.later, two.status.later);
-        orders = two.status.orders ∙ one.orders;
-        ordered = two.status.ordered ∙ one.ordered;
+        foundation = two.status.foundation ∙ one.foundation;
         reports = omega (arith, two.status.reports, one.reports);
       };
       honest = λ h. two.honest (one.honest h);
@@ -247,7 +243,7 @@ module _ {D : Type 0} (K : Keeper D) where
     answer = λ t. agree (K.contents old).store (read.answer t);
     same = read.same;
     bounds = bounds;
-    call = record { model = read.call.model; limits = read.call.limits; cause = record { cause = read.call.cause.cause; later = read.call.cause.later; orders = read.call.cause.orders; ordered = read.call.cause.ordered; reports = read.call.cause.reports }; attempts = read.call.attempts; damage = tt; honest = λ h. ((read.call.honest h).0, tt); quiet = read.call.quiet; past = read.call.past };
+    call = record { model = read.call.model; limits = read.call.limits; cause = record { cause = read.call.cause.cause; later = read.call.cause.later; foundation = read.call.cause.foundation; reports = read.call.cause.reports }; attempts = read.call.attempts; damage = tt; honest = λ h. ((read.call.honest h).0, tt); quiet = read.call.quiet; past = read.call.past };
     crash = read.crash;
   }
 
@@ -261,7 +257,7 @@ module _ {D : Type 0} (K : Keeper D) where
     call = record {
       model = read.call.model;
       limits = read.call.limits;
-      cause = record { cause = cause_of A B e (K.status old) (K.status new) read.call.cause.cause; later = read.call.cause.later; orders = read.call.cause.orders; ordered = read.call.cause.ordered; reports = read.call.cause.reports ∙ ap (λ n. (K.status old).damage_reports + n) (reports_of A B e) };
+      cause = record { cause = cause_of A B e (K.status old) (K.status new) read.call.cause.cause; later = read.call.cause.later; foundation = read.call.cause.foundation; reports = read.call.cause.reports ∙ ap (λ n. (K.status old).damage_reports + n) (reports_of A B e) };
       attempts = read.call.attempts;
       damage = damage_of A B e (K.damage new) read.call.damage;
       honest = λ h. ((read.call.honest h).0, damage_of A B e (λ answer. ⊥) (read.call.honest h).1);

@@ -27,7 +27,7 @@ keeps : (lost : Bool) (s : Objects) (plain : Outcome Objects) → lost ≡ true 
 keeps lost s plain e = rw e refl
 
 pub stays : (s : Status) → HasStatus Plain s s
-stays s = record { cause = refl; later = omega arith; orders = refl; ordered = refl; reports = omega arith }
+stays s = record { cause = refl; later = omega arith; foundation = refl; reports = omega arith }
 
 abbrev told_as : Bool → StoreAnswer → Served
 told_as changes answer = record { kind = kind_of changes answer; outcome = outcomes.Answered (Refused (code_of answer)) }
@@ -87,7 +87,7 @@ module _ {D : Type 0} (K : Keeper D) where
         ends = given.ends;
         reaches = λ t. tt;
         change = tt;
-        status = record { cause = met.cause.1 ∙ sym met.cause.0; later = met.later; orders = met.orders; ordered = met.ordered; reports = met.reports };
+        status = record { cause = met.cause.1 ∙ sym met.cause.0; later = met.later; foundation = met.foundation; reports = met.reports };
         damage = tt;
         honest = λ h. ((given.honest h).0, tt);
         keeps = given.keeps;
@@ -95,13 +95,13 @@ module _ {D : Type 0} (K : Keeper D) where
       }
   told_served (Err stores.NotFound) plain changes held kept left old new given =
       let met : HasCause (Err stores.NotFound) (K.status old) (K.status new) = given.cause (λ e. let f : (Err stores.NotFound) ≡ Err stores.NoMemory = e in cc) in
-      declined stores.NotFound plain changes held kept left old new refl given.gives met.cause.0 (record { cause = met.cause.1 ∙ sym met.cause.0; later = met.later; orders = met.orders; ordered = met.ordered; reports = met.reports }) (λ h. (given.honest h).0) given.keeps given.crash
+      declined stores.NotFound plain changes held kept left old new refl given.gives met.cause.0 (record { cause = met.cause.1 ∙ sym met.cause.0; later = met.later; foundation = met.foundation; reports = met.reports }) (λ h. (given.honest h).0) given.keeps given.crash
   told_served (Err stores.Exists) plain changes held kept left old new given =
       let met : HasCause (Err stores.Exists) (K.status old) (K.status new) = given.cause (λ e. let f : (Err stores.Exists) ≡ Err stores.NoMemory = e in cc) in
-      declined stores.Exists plain changes held kept left old new refl given.gives met.cause.0 (record { cause = met.cause.1 ∙ sym met.cause.0; later = met.later; orders = met.orders; ordered = met.ordered; reports = met.reports }) (λ h. (given.honest h).0) given.keeps given.crash
+      declined stores.Exists plain changes held kept left old new refl given.gives met.cause.0 (record { cause = met.cause.1 ∙ sym met.cause.0; later = met.later; foundation = met.foundation; reports = met.reports }) (λ h. (given.honest h).0) given.keeps given.crash
   told_served (Err stores.NoSpace) plain changes held kept left old new given =
       let met : HasCause (Err stores.NoSpace) (K.status old) (K.status new) = given.cause (λ e. let f : (Err stores.NoSpace) ≡ Err stores.NoMemory = e in cc) in
-      declined stores.NoSpace plain changes held kept left old new refl given.gives met.cause.0 (record { cause = met.cause.1 ∙ sym met.cause.0; later = met.later; orders = met.orders; ordered = met.ordered; reports = met.reports }) (λ h. (given.honest h).0) given.keeps given.crash
+      declined stores.NoSpace plain changes held kept left old new refl given.gives met.cause.0 (record { cause = met.cause.1 ∙ sym met.cause.0; later = met.later; foundation = met.foundation; reports = met.reports }) (λ h. (given.honest h).0) given.keeps given.crash
   told_served (Err stores.Lost) plain changes held kept left old new given =
       let met : HasCause (Err stores.Lost) (K.status old) (K.status new) = given.cause (λ e. let f : (Err stores.Lost) ≡ Err stores.NoMemory = e in cc) in
       record {
@@ -109,7 +109,7 @@ module _ {D : Type 0} (K : Keeper D) where
         ends = tt;
         reaches = λ t. tt;
         change = tt;
-        status = record { cause = met.cause.1 ∙ sym met.cause.0; later = met.later; orders = met.orders; ordered = met.ordered; reports = met.reports };
+        status = record { cause = met.cause.1 ∙ sym met.cause.0; later = met.later; foundation = met.foundation; reports = met.reports };
         damage = tt;
         honest = λ h. ((given.honest h).0, tt);
         keeps = given.keeps;
@@ -122,7 +122,7 @@ module _ {D : Type 0} (K : Keeper D) where
         ends = tt;
         reaches = λ t. refl;
         change = refl;
-        status = record { cause = met.cause; later = met.later; orders = met.orders; ordered = met.ordered; reports = met.reports };
+        status = record { cause = met.cause; later = met.later; foundation = met.foundation; reports = met.reports };
         damage = tt;
         honest = λ h. ((given.honest h).0, tt);
         keeps = given.keeps;
@@ -135,7 +135,7 @@ module _ {D : Type 0} (K : Keeper D) where
         ends = tt;
         reaches = λ t. refl;
         change = tt;
-        status = record { cause = (met.cause.0, met.cause.1); later = met.later; orders = met.orders; ordered = met.ordered; reports = met.reports };
+        status = record { cause = (met.cause.0, met.cause.1); later = met.later; foundation = met.foundation; reports = met.reports };
         damage = (stores.Corrupt tags, given.damage);
         honest = λ h. absurd (given.honest h).1;
         keeps = given.keeps;
@@ -148,7 +148,7 @@ module _ {D : Type 0} (K : Keeper D) where
         ends = tt;
         reaches = λ t. refl;
         change = tt;
-        status = record { cause = met.cause; later = met.later; orders = met.orders; ordered = met.ordered; reports = met.reports };
+        status = record { cause = met.cause; later = met.later; foundation = met.foundation; reports = met.reports };
         damage = (stores.Garbled leaf, given.damage);
         honest = λ h. absurd (given.honest h).1;
         keeps = given.keeps;

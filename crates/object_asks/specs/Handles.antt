@@ -1,5 +1,6 @@
 -- What holds of an application's handles between two events.
 use Rattle.std.specs.Prelude.{Bool, true, nat_le, List, None, length}
+use Rattle.tee_base.specs.declared.limits.TheConstants.{IDENTIFIER_BYTES}
 use Rattle.handle_table.specs.declared.handle.Entry.{Entry}
 use Rattle.handle_table.specs.declared.handle.Handle.{Handle}
 use Rattle.handle_table.specs.declared.handle.Handle.TheVariants.{Persistent, Transient}
@@ -17,7 +18,7 @@ HasIdentifier Transient = Unit {0}
 
 -- the same as a test
 abbrev pub has_identifier : Handle → Bool
-has_identifier (Persistent id flags position) = nat_le (length id) 64
+has_identifier (Persistent id flags position) = nat_le (length id) IDENTIFIER_BYTES
 has_identifier Transient = true
 
 -- the same of an entry's handle

@@ -109,8 +109,7 @@ reports_in Corrupted = 1
 pub record HasStatus (kind : TurnKind) (old new : Status) : Type 0 where
   pub cause : IsKind kind old new
   pub later : old.faults ≤ new.faults
-  pub orders : new.orders ≡ old.orders
-  pub ordered : new.ordered ≡ old.ordered
+  pub foundation : new.foundation ≡ old.foundation
   pub reports : new.damage_reports ≡ old.damage_reports + reports_in kind
 
 -- at most one change was tried, and none where the ask isn't to change the store

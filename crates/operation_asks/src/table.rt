@@ -13,7 +13,7 @@ use app_api::{Answer, Ask};
 use arrayvec::ArrayVec;
 use crypto_ops::Operation;
 use std::alloc::Global;
-use tee_base::{Code, NoMemory, find_lowest_free, limits};
+use tee_base::{CRYPTO_OPERATIONS, Code, NoMemory, find_lowest_free};
 use transient_obj::ObjectKey;
 
 /// An operation with its instance and its number.
@@ -56,7 +56,7 @@ fn free_number(entries: &[Entry], instance: u8) -> u8
     ensures { result ≡ lowest_free
         (map (λ e. e.number) (filter (has_instance instance) entries.now)) }
 {
-    let mut taken = ArrayVec::<u8, 8>::new();
+    let mut taken = ArrayVec::<u8, CRYPTO_OPERATIONS>::new();
     for entry in entries {
         if entry.instance == instance {
             taken.push(entry.number);
@@ -82,7 +82,7 @@ pub fn create(
         Ok(operation) => operation,
         Err(answer) => return Ok(told_refusal(answer)),
     };
-    if count_of(entries.as_slice(), instance) >= limits::CRYPTO_OPERATIONS {
+    if count_of(entries.as_slice(), instance) >= CRYPTO_OPERATIONS {
         return Ok(refused(Code::BUSY));
     }
     let number = free_number(entries.as_slice(), instance);

@@ -1,9 +1,9 @@
 -- Data that is in place, with no index missing, is all that an inode should have.
-use Rattle.std.proofs.Common.{◌≡◌, ℕ, zero, suc, ◌+◌, ◌<◌, ◌≤◌, Bool, true, false, cond, List, Option, None, Some, refl, sym, ◌∙◌, ap, subst, arith, nat_le}
+use Rattle.std.proofs.Common.{◌≡◌, ℕ, zero, suc, ◌+◌, ◌<◌, ◌≤◌, Bool, true, false, List, Option, None, Some, refl, sym, ◌∙◌, ap, subst, arith, nat_le}
 use Rattle.std.specs.List.{range_with_len, list_all, list_any}
 use Rattle.std.specs.Prelude.{is_some, ◌&&◌, ◌||◌, ◌==◌}
 use Rattle.std.proofs.lemmas.Bool.{eqb-true, eqb-false, eq-eqb, leb-true, leb-false, and_from, not_from_false}
-use Rattle.region_plan.specs.Checks.{IsInPlace, IfDataInPlace}
+use Rattle.region_plan.specs.Checks.{IfDataInPlace}
 use Rattle.region_plan.specs.Layout.{Layout}
 use Rattle.region_plan.specs.Entries.{entry_at, is_data_of, is_data_at}
 use Rattle.region_plan.specs.Inodes.{length_in}

@@ -44,8 +44,7 @@ module _ {S : Type 0} (K : VolumeKeeper S) (region : S → ℕ) where
   reads_joined why old mid new one two = record {
     cause = cause_joined why (K.condition old) (K.condition mid) (K.condition new) one.cause one.later two.cause;
     later = omega (arith, one.later, two.later);
-    orders = two.orders ∙ one.orders;
-    ordered = two.ordered ∙ one.ordered;
+    foundation = two.foundation ∙ one.foundation;
     same_region = two.same_region ∙ one.same_region;
     sequence = two.sequence ∙ one.sequence;
     same = λ h. two.same (one.honest h).0 ∙ one.same h;
@@ -66,8 +65,7 @@ module _ {S : Type 0} (K : VolumeKeeper S) (region : S → ℕ) where
   reads_started s works rests = record {
     cause = (works, works);
     later = omega arith;
-    orders = refl;
-    ordered = refl;
+    foundation = refl;
     same_region = refl;
     sequence = refl;
     same = λ h. refl;
@@ -85,8 +83,7 @@ module _ {S : Type 0} (K : VolumeKeeper S) (region : S → ℕ) where
   reads_refused why old new cause intact run = record {
     cause = cause run.cause;
     later = run.later;
-    orders = run.orders;
-    ordered = run.ordered;
+    foundation = run.foundation;
     same_region = run.same_region;
     sequence = run.sequence;
     same = run.same;

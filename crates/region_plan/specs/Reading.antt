@@ -14,13 +14,6 @@ use Rattle.store_api.specs.Volumes.{Held, Condition, VolumeKeeper, AddsNothing, 
 use Rattle.region_plan.specs.Layout.{Layout}
 use Rattle.region_plan.specs.Regions.{breaks, region_of}
 
--- what a store answers where a leaf wasn't read
-abbrev pub store_answer : LeafAnswer → StoreAnswer
-store_answer leaf_answers.Lost = answers.Lost
-store_answer leaf_answers.Failed = answers.Failed
-store_answer (leaf_answers.Mismatch tags) = answers.Corrupt tags
-store_answer leaf_answers.NoMemory = answers.NoMemory
-
 -- the refusal of an answer, if it is one
 abbrev pub refusal_of : {A : Type 0} → Result A StoreAnswer → Option StoreAnswer
 refusal_of (Ok a) = None
@@ -64,8 +57,7 @@ module _ {S : Type 0} (K : VolumeKeeper S) (region : S → ℕ) where
   pub record ReadsOnly (why : Option StoreAnswer) (old new : S) : Type 0 where
     pub cause : ReadCause why (K.condition old) (K.condition new)
     pub later : (K.condition old).faults ≤ (K.condition new).faults
-    pub orders : (K.condition new).orders ≡ (K.condition old).orders
-    pub ordered : (K.condition new).ordered ≡ (K.condition old).ordered
+    pub foundation : (K.condition new).foundation ≡ (K.condition old).foundation
     pub same_region : region new ≡ region old
     pub sequence : (K.held new).sequence ≡ (K.held old).sequence
     pub same : K.honest old → K.held new ≡ K.held old

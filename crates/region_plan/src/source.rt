@@ -2,7 +2,7 @@
 
 ghost use Rattle.std.specs.Prelude.{◌≡◌, ◌≤◌, ◌<◌, ℕ, false, OnOk};
 ghost use Rattle.store_api.specs.Volumes.{VolumeKeeper, RestsAt};
-ghost use Rattle.region_plan.specs.Reading.{ReadsNumber, ReadsOnly, IfGarbled, IsUnread, leaves_of, refusal_of, store_answer};
+ghost use Rattle.region_plan.specs.Reading.{ReadsNumber, ReadsOnly, IfGarbled, IsUnread, leaves_of, refusal_of};
 
 use store_api::{LeafAnswer, StoreAnswer};
 use tee_base::limits::BLOCK_BYTES;
@@ -36,18 +36,6 @@ pub trait LeafSource {
         → RestsAt keeper s (keeper.held s) };
 }
 
-/// What a store answers where a leaf of it wasn't read.
-fn answer_of(answer: LeafAnswer) -> StoreAnswer
-    ensures { result ≡ store_answer answer }
-{
-    match answer {
-        LeafAnswer::Lost => StoreAnswer::Lost,
-        LeafAnswer::Failed => StoreAnswer::Failed,
-        LeafAnswer::Mismatch(tags) => StoreAnswer::Corrupt(tags),
-        LeafAnswer::NoMemory => StoreAnswer::NoMemory,
-    }
-}
-
 /// Reads a leaf, and answers as a store does.
 pub(crate) fn read<L: LeafSource>(
     from: &mut L,
@@ -62,6 +50,6 @@ pub(crate) fn read<L: LeafSource>(
 {
     match from.leaf(number, into) {
         Ok(()) => Ok(()),
-        Err(answer) => Err(answer_of(answer)),
+        Err(answer) => Err(StoreAnswer::from(answer)),
     }
 }

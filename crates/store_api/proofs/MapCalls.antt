@@ -86,7 +86,7 @@ module _ {A : Type 0} (result : Result A StoreAnswer) (tried : ℕ) (old new : M
   unchanged_call cause later attempts = record {
     model = λ _. tt;
     limits = λ _. (limits, subst IsWithinLimits (sym store) limits);
-    cause = record { cause = cause; later = later; orders = refl; ordered = refl; reports = omega (arith, intact_reports result intact) };
+    cause = record { cause = cause; later = later; foundation = refl; reports = omega (arith, intact_reports result intact) };
     attempts = attempts;
     damage = intact;
     honest = λ _. (tt, intact);
@@ -208,7 +208,7 @@ module _ (c : Change) (old new : MapState) (limits : IsWithinLimits old.store) w
         call = record {
           model = λ _. tt;
           limits = λ _. (limits, subst (λ (r : Result Store StoreAnswer). IfOk r (λ after. IsWithinLimits after)) made (keeps_limits old.store c limits is));
-          cause = record { cause = (works, still); later = later; orders = refl; ordered = refl; reports = omega arith };
+          cause = record { cause = (works, still); later = later; foundation = refl; reports = omega arith };
           attempts = attempts;
           damage = tt;
           honest = λ _. (tt, tt);

@@ -5,6 +5,7 @@ use Rattle.tee_base.specs.Faults.{Rose}
 use Rattle.store_api.specs.declared.answer.StoreAnswer.{StoreAnswer}
 use Rattle.store_api.specs.declared.answer.StoreAnswer.TheVariants.{NotFound, Exists, NoSpace, Lost, Failed, Corrupt, Garbled}
 use Rattle.store_api.specs.declared.change.Change.{Change}
+use Rattle.store_api.specs.Foundations.{Foundation}
 use Rattle.store_api.specs.Limits.{IsWithinLimits}
 use Rattle.store_api.specs.Stores.{Store, change}
 
@@ -16,13 +17,12 @@ Answers (Err Exists) stated = stated ≡ Err Exists
 Answers (Err NoSpace) stated = stated ≡ Err NoSpace
 Answers (Err _) stated = Unit {0}
 
--- what is known of a keeper, whether its contents are known or not: whether it is lost, how often what it stands on failed, how
--- many orders were made to that and the sum of their numbers, how often it told of damage, and how many changes it was asked for
+-- what is known of a keeper, whether its contents are known or not: whether it is lost, how often what it stands on failed, that
+-- thing, how often it told of damage, and how many changes it was asked for
 pub record Status : Type 0 where
   pub lost : Bool
   pub faults : ℕ
-  pub orders : ℕ
-  pub ordered : ℕ
+  pub foundation : Foundation
   pub damage_reports : ℕ
   pub change_attempts : ℕ
 
@@ -39,12 +39,11 @@ Cause (Err Failed) old new = (old.lost ≡ false) × (new.lost ≡ true) × Rose
 Cause (Err (Corrupt tags)) old new = (old.lost ≡ false) × (new.lost ≡ false) × (tags.found ≢ tags.kept)
 Cause _ old new = (old.lost ≡ false) × (new.lost ≡ false)
 
--- the counts of faults and of damage go with the answer, and no order is made
+-- the counts of faults and of damage go with the answer, and the keeper stands where it stood, with no order made
 pub record HasCause {A : Type 0} (result : Result A StoreAnswer) (old new : Status) : Type 0 where
   pub cause : Cause result old new
   pub later : old.faults ≤ new.faults
-  pub orders : new.orders ≡ old.orders
-  pub ordered : new.ordered ≡ old.ordered
+  pub foundation : new.foundation ≡ old.foundation
   pub reports : new.damage_reports ≡ old.damage_reports + damage_in result
 
 -- a call is asked for so many changes

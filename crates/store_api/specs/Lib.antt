@@ -1,4 +1,5 @@
 pub mod Ascending
+pub mod Foundations
 pub mod Keeping
 pub mod Laws
 pub mod Limits
@@ -6,6 +7,7 @@ pub mod MapStores
 pub mod Moments
 pub mod Objects
 pub mod Past
+pub mod Refusals
 pub mod Stores
 pub mod Tallies
 pub mod Volumes

@@ -4,6 +4,7 @@ use Rattle.std.specs.Coded.{Coded, code_by, coded×, coded_ℕ, coded_list, code
 use Rattle.tee_base.specs.Fakes.{Plan, opening_plan, called}
 use Rattle.store_api.specs.declared.answer.StoreAnswer.{StoreAnswer}
 use Rattle.store_api.specs.declared.answer.StoreAnswer.TheVariants.{Lost, Failed, Corrupt, Garbled}
+use Rattle.store_api.specs.Foundations.{no_foundation}
 use Rattle.store_api.specs.Stores.{Store, empty_store, coded_store}
 use Rattle.store_api.specs.Keeping.{Status, Rest, Contents, Remains, Keeper}
 
@@ -34,7 +35,7 @@ opening_state failing = record { store = empty_store; past = []; plan = opening_
 
 -- memory takes no orders and has no damage
 abbrev pub status_of : MapState → Status
-status_of s = record { lost = s.lost; faults = s.plan.faults; orders = 0; ordered = 0; damage_reports = 0; change_attempts = s.change_attempts }
+status_of s = record { lost = s.lost; faults = s.plan.faults; foundation = no_foundation; damage_reports = 0; change_attempts = s.change_attempts }
 
 -- memory keeps nothing beside the store
 abbrev pub nothing_else : Rest

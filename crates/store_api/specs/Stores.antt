@@ -4,6 +4,7 @@ use Rattle.std.specs.Ordering.{nat_cmp, is_lt}
 use Rattle.std.specs.Cmp.Lexicographic.{slice_cmp}
 use Rattle.std.specs.Coded.{Coded, code_by, coded×, coded_ℕ, coded_list}
 use Rattle.std.specs.FinMap as map
+use Rattle.tee_base.specs.declared.limits.TheConstants.{QUOTA}
 use Rattle.store_api.specs.declared.object.Object.{Object}
 use Rattle.store_api.specs.declared.object.Facts.{Facts}
 use Rattle.store_api.specs.declared.object.Listed.{Listed}
@@ -38,7 +39,7 @@ cost store = sum_by (λ o. blocks_for (length o.content)) (map.values store)
 
 -- the cost in blocks that the objects of one application may reach
 abbrev pub quota : ℕ
-quota = 255
+quota = QUOTA
 
 -- the first n bytes, filled by zeros
 abbrev pub resized : ℕ → List ℕ → List ℕ

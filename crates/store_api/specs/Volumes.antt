@@ -6,19 +6,19 @@ use Rattle.store_api.specs.declared.answer.Mismatch.{Mismatch}
 use Rattle.store_api.specs.declared.leaves.Leaf.{Leaf}
 use Rattle.store_api.specs.declared.leaves.LeafAnswer.{LeafAnswer}
 use Rattle.store_api.specs.declared.leaves.LeafAnswer.TheVariants as answers
+use Rattle.store_api.specs.Foundations.{Foundation}
+use Rattle.tee_base.specs.declared.limits.TheConstants.{LEAVES}
 
 -- what a volume holds: the bytes of each leaf by region and leaf number, and the sequence of the last acknowledged commit
 pub record Held : Type 0 where
   pub leaves : ℕ → ℕ → List ℕ
   pub sequence : ℕ
 
--- what is known of a volume whatever it stands on: whether it is lost, how often what it stands on failed, how many orders were
--- made to that and the sum of their numbers
+-- what is known of a volume whatever it stands on: whether it is lost, how often what it stands on failed, and that thing
 pub record Condition : Type 0 where
   pub lost : Bool
   pub faults : ℕ
-  pub orders : ℕ
-  pub ordered : ℕ
+  pub foundation : Foundation
 
 -- what contracts see of a volume
 pub record VolumeKeeper (V : Type 0) : Type 1 where
@@ -42,12 +42,11 @@ LeafCause (Err answers.Failed) old new = (old.lost ≡ false) × (new.lost ≡ t
 LeafCause (Err (answers.Mismatch tags)) old new = (old.lost ≡ false) × (new.lost ≡ false) × (tags.found ≢ tags.kept)
 LeafCause _ old new = (old.lost ≡ false) × (new.lost ≡ false)
 
--- the count of faults doesn't fall, and no order is made
+-- the count of faults doesn't fall, and the volume stands where it stood, with no order made
 pub record HasLeafCause {A : Type 0} (result : Result A LeafAnswer) (old new : Condition) : Type 0 where
   pub cause : LeafCause result old new
   pub later : old.faults ≤ new.faults
-  pub orders : new.orders ≡ old.orders
-  pub ordered : new.ordered ≡ old.ordered
+  pub foundation : new.foundation ≡ old.foundation
 
 -- an answer of damage, if it is one, is of tags that meet this
 abbrev pub IfMismatch : {A : Type 0} → Result A LeafAnswer → (Mismatch → Type 0) → Type 0
@@ -128,7 +127,7 @@ module _ {V : Type 0} (K : VolumeKeeper V) where
     pub committed : K.honest old → Commits result region named (K.held old) (K.held new)
     pub sequence : IsNumbered result (K.held old).sequence (K.held new).sequence
     -- Mismatch tells of the damage of some leaf of the region
-    pub shows : IsTrue K.tells_reads → IfMismatch result (λ tags. (number : ℕ) × (K.damage new region number ≡ Some tags))
+    pub shows : IsTrue K.tells_reads → IfMismatch result (λ tags. (number : ℕ) × (number < LEAVES) × (K.damage new region number ≡ Some tags))
     pub call : IsVolumeCall result old new
     -- a crash leaves what was held before, or that with the leaves replaced
     pub crash : K.honest old → (K.condition old).lost ≡ false → LeavesOnly K.moment K.left_since old new (LeftByCommit result (K.held old) (after_commit region named (K.held old)))

@@ -1,6 +1,6 @@
 //! Leaves of a region, and what a volume answers when it doesn't do what it was asked.
 
-use crate::answer::Mismatch;
+use crate::answer::{Mismatch, StoreAnswer};
 use std::alloc::Global;
 use std::marker::Model;
 use tee_base::NoMemory;
@@ -32,6 +32,22 @@ impl From<NoMemory> for LeafAnswer {
 
     fn from(_error: NoMemory) -> LeafAnswer {
         LeafAnswer::NoMemory
+    }
+}
+
+impl From<LeafAnswer> for StoreAnswer {
+    ghost use Rattle.std.specs.Prelude.{◌≡◌};
+    ghost use Rattle.store_api.specs.Refusals.{store_answer};
+
+    ghost from_gives = { λ leaf answer. answer ≡ store_answer leaf };
+
+    fn from(answer: LeafAnswer) -> StoreAnswer {
+        match answer {
+            LeafAnswer::Lost => StoreAnswer::Lost,
+            LeafAnswer::Failed => StoreAnswer::Failed,
+            LeafAnswer::Mismatch(tags) => StoreAnswer::Corrupt(tags),
+            LeafAnswer::NoMemory => StoreAnswer::NoMemory,
+        }
     }
 }
 

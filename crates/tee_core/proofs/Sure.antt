@@ -43,15 +43,15 @@ never_fails result s none there fails failed =
 
 causes : {X : Type 0} (result : Result X StoreAnswer) (old new : SureStore) → HasCause result (status_of old.map) (status_of new.map) → FailsAsPlanned result old.map → IsIntact result
     → HasCause result (sure_status old) (sure_status new)
-causes (Ok x) old new cause fails whole = record { cause = (refl, refl); later = omega arith; orders = refl; ordered = refl; reports = refl }
-causes (Err NotFound) old new cause fails whole = record { cause = (refl, refl); later = omega arith; orders = refl; ordered = refl; reports = refl }
-causes (Err Exists) old new cause fails whole = record { cause = (refl, refl); later = omega arith; orders = refl; ordered = refl; reports = refl }
-causes (Err NoSpace) old new cause fails whole = record { cause = (refl, refl); later = omega arith; orders = refl; ordered = refl; reports = refl }
+causes (Ok x) old new cause fails whole = record { cause = (refl, refl); later = omega arith; foundation = refl; reports = refl }
+causes (Err NotFound) old new cause fails whole = record { cause = (refl, refl); later = omega arith; foundation = refl; reports = refl }
+causes (Err Exists) old new cause fails whole = record { cause = (refl, refl); later = omega arith; foundation = refl; reports = refl }
+causes (Err NoSpace) old new cause fails whole = record { cause = (refl, refl); later = omega arith; foundation = refl; reports = refl }
 causes (Err Lost) old new cause fails whole = absurd (both_ways old.map.lost old.there cause.cause.0)
 causes {X} (Err Failed) old new cause fails whole = absurd (never_fails {X = X} (Err Failed) old.map old.unfailing old.there fails refl)
 causes (Err (Corrupt tags)) old new cause fails whole = absurd whole
 causes (Err (Garbled leaf)) old new cause fails whole = absurd whole
-causes (Err NoMemory) old new cause fails whole = record { cause = (refl, refl); later = omega arith; orders = refl; ordered = refl; reports = refl }
+causes (Err NoMemory) old new cause fails whole = record { cause = (refl, refl); later = omega arith; foundation = refl; reports = refl }
 
 -- it isn't lost afterwards
 pub stays_there : {X : Type 0} (result : Result X StoreAnswer) (old : SureStore) (new : MapState) → HasCause result (status_of old.map) (status_of new) → FailsAsPlanned result old.map → IsIntact result

@@ -20,11 +20,12 @@ struct Damaged {
 
 impl Model for Damaged {
     ghost use Rattle.std.specs.Prelude.{false};
+    ghost use Rattle.store_api.specs.Foundations.{no_foundation};
     ghost use Rattle.store_api.specs.Keeping.{Status};
 
     ghost Value = { Status };
 
-    ghost view = { λ d. record { lost = false; faults = d.faults; orders = 0; ordered = 0; damage_reports = d.damage_reports; change_attempts = d.change_attempts } };
+    ghost view = { λ d. record { lost = false; faults = d.faults; foundation = no_foundation; damage_reports = d.damage_reports; change_attempts = d.change_attempts } };
 }
 
 impl Damaged {

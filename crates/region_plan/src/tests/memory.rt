@@ -1,5 +1,6 @@
 //! The leaves of a region in memory.
 ghost use Rattle.std.specs.Prelude.{◌≡◌, [], None, Some, true, slice_index_or, vec_len};
+ghost use Rattle.store_api.specs.Foundations.{no_foundation};
 
 use crate::LeafSource;
 use std::alloc::Global;
@@ -18,7 +19,7 @@ impl LeafSource for Memory {
     ghost keeper = { record {
       tells_reads = true;
       held = λ m. record { leaves = λ r l. slice_index_or m.leaves.items l []; sequence = 0 };
-      condition = λ m. record { lost = m.lost; faults = 0; orders = 0; ordered = 0 };
+      condition = λ m. record { lost = m.lost; faults = 0; foundation = no_foundation };
       honest = λ m. Unit {0};
       damage = λ m r l. None;
       moment = λ m. 0;

@@ -1,4 +1,4 @@
-use Rattle.std.proofs.Common.{◌≡◌, ℕ, refl, arith}
+use Rattle.std.proofs.Common.{ℕ, refl, arith}
 use Rattle.region_plan.specs.Checks.{IfDataInPlace}
 use Rattle.region_plan.specs.Layout.{version_one}
 use Rattle.region_plan.proofs.CompleteLemmas.{each_more}
