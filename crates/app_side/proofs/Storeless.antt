@@ -41,6 +41,7 @@ empty_within = let none = are_none [] refl in subst IsWithinLimits none.store no
 refused_call : {X : Type 0} (b : Bool) (r : Result X StoreAnswer) (n : ℕ) (old new : Status) → old.lost ≡ b → IsRefusalOf b r → new ≡ record old { change_attempts = old.change_attempts + n } → IsCall no_keeper n r old new
 refused_call {X} true r n old new lost is same = rw (is, same) (record {
   model = λ h. h;
+  still = λ _ _. refl;
   limits = λ _. (empty_within, empty_within);
   cause = record { cause = (lost, lost); later = omega arith; foundation = refl; reports = omega arith };
   attempts = refl;
@@ -51,6 +52,7 @@ refused_call {X} true r n old new lost is same = rw (is, same) (record {
 })
 refused_call {X} false r n old new lost is same = rw (is, same) (record {
   model = λ h. h;
+  still = λ _ _. refl;
   limits = λ _. (empty_within, empty_within);
   cause = record { cause = (lost, lost); later = omega arith; foundation = refl; reports = omega arith };
   attempts = refl;

@@ -41,6 +41,7 @@ module _ {D : Type 0} (K : Keeper D) where
   pub idle_keeps : (old : D) → IsKept K old old
   idle_keeps old = record {
     model = λ there. there;
+    still = λ there lost. refl;
     beside = λ there. record { rest = refl; number = omega arith };
     quiet = λ lost. record { same = refl; none = λ t o left. left };
     past = λ honest. record { later = omega arith; past = λ t o le left. left };

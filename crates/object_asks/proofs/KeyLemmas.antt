@@ -75,6 +75,7 @@ module _ {D : Type 0} (K : Keeper D) where
     kept_by : (given : Result ObjectKey StoreAnswer) → looks given → IsKept K old new
     kept_by given read = record {
       model = read.call.model;
+      still = read.call.still;
       beside = λ t. subst (λ c. StaysBeside (K.contents old) c) (sym (read.same t)) (record { rest = refl; number = omega arith });
       quiet = read.call.quiet;
       past = read.call.past;

@@ -153,6 +153,7 @@ module _ {D : Type 0} (K : Keeper D) where
   kept_after : (old mid new : D) → Looked old mid → IsKept K mid new → IsKept K old new
   kept_after old mid new one two = record {
     model = λ t. two.model (one.model t);
+    still = λ t lost. two.still (one.model t) lost ∙ one.same t;
     beside = λ t. subst (λ c. StaysBeside c (K.contents new)) (one.same t) (two.beside (one.model t));
     quiet = λ lost. absurd (both_ways _ one.works lost);
     past = λ h. past_after old mid new (one.past h) (two.past (one.honest h));
@@ -214,6 +215,7 @@ module _ {D : Type 0} (K : Keeper D) where
     pub call_after : {A : Type 0} (result : Result A StoreAnswer) (old mid new : D) → Looked old mid → (K.has_model old → K.contents mid ≡ K.contents old) → IsCall K 0 result mid new → IsCall K 0 result old new
     call_after result old mid new one same two = record {
       model = λ t. two.model (one.model t);
+      still = λ t lost. two.still (one.model t) lost ∙ same t;
       limits = λ t. (subst (λ (c : Contents). IsWithinLimits c.store) (same t) (two.limits (one.model t)).0, (two.limits (one.model t)).1);
       cause = has_cause_after result old mid new one two.cause;
       attempts = omega (arith, one.attempts, two.attempts);
@@ -243,7 +245,7 @@ module _ {D : Type 0} (K : Keeper D) where
     answer = λ t. agree (K.contents old).store (read.answer t);
     same = read.same;
     bounds = bounds;
-    call = record { model = read.call.model; limits = read.call.limits; cause = record { cause = read.call.cause.cause; later = read.call.cause.later; foundation = read.call.cause.foundation; reports = read.call.cause.reports }; attempts = read.call.attempts; damage = tt; honest = λ h. ((read.call.honest h).0, tt); quiet = read.call.quiet; past = read.call.past };
+    call = record { model = read.call.model; still = read.call.still; limits = read.call.limits; cause = record { cause = read.call.cause.cause; later = read.call.cause.later; foundation = read.call.cause.foundation; reports = read.call.cause.reports }; attempts = read.call.attempts; damage = tt; honest = λ h. ((read.call.honest h).0, tt); quiet = read.call.quiet; past = read.call.past };
     crash = read.crash;
   }
 
@@ -256,6 +258,7 @@ module _ {D : Type 0} (K : Keeper D) where
     bounds = tt;
     call = record {
       model = read.call.model;
+      still = read.call.still;
       limits = read.call.limits;
       cause = record { cause = cause_of A B e (K.status old) (K.status new) read.call.cause.cause; later = read.call.cause.later; foundation = read.call.cause.foundation; reports = read.call.cause.reports ∙ ap (λ n. (K.status old).damage_reports + n) (reports_of A B e) };
       attempts = read.call.attempts;

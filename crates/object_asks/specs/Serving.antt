@@ -160,9 +160,10 @@ module _ {D : Type 0} (K : Keeper D) where
     pub any_moment : LeavesOnly K.moment K.left_since old new (LeftByTurn kind in_doubt (K.contents old) (K.contents new))
     pub afterwards : UnlessInDoubt kind (LeavesJust K new (K.contents new))
 
-  -- what every ask promises of the keeper, however it ends
+  -- what every ask promises of the keeper, however it ends: one that is lost afterwards keeps what was kept
   pub record IsKept (old new : D) : Type 0 where
     pub model : K.has_model old → K.has_model new
+    pub still : K.has_model old → IsTrue (K.status new).lost → K.contents new ≡ K.contents old
     pub beside : K.has_model old → StaysBeside (K.contents old) (K.contents new)
     pub quiet : IsTrue (K.status old).lost → LeavesNothingNew K old new
     pub past : K.honest old → KeepsPast K old new

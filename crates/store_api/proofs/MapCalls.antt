@@ -85,6 +85,7 @@ module _ {A : Type 0} (result : Result A StoreAnswer) (tried : ℕ) (old new : M
   unchanged_call : Cause result (status_of old) (status_of new) → old.plan.faults ≤ new.plan.faults → new.change_attempts ≡ old.change_attempts + tried → IsCall map_keeper tried result old new
   unchanged_call cause later attempts = record {
     model = λ _. tt;
+    still = λ _ _. same_contents old new store past;
     limits = λ _. (limits, subst IsWithinLimits (sym store) limits);
     cause = record { cause = cause; later = later; foundation = refl; reports = omega (arith, intact_reports result intact) };
     attempts = attempts;
@@ -207,6 +208,7 @@ module _ (c : Change) (old new : MapState) (limits : IsWithinLimits old.store) w
         applied = λ _. (made, refl, omega (arith, longer));
         call = record {
           model = λ _. tt;
+          still = λ _ lost. absurd (let yes_lost : true ≡ false = sym lost ∙ still in cc);
           limits = λ _. (limits, subst (λ (r : Result Store StoreAnswer). IfOk r (λ after. IsWithinLimits after)) made (keeps_limits old.store c limits is));
           cause = record { cause = (works, still); later = later; foundation = refl; reports = omega arith };
           attempts = attempts;

@@ -139,8 +139,9 @@ module _ {D : Type 0} (K : Keeper D) where
 
   -- what every call of a keeper promises, which was asked for so many changes
   pub record IsCall {A : Type 0} (tried : ℕ) (result : Result A StoreAnswer) (old new : D) : Type 0 where
-    -- there is a store as before, within its limits
+    -- there is a store as before, within its limits; who is lost afterwards keeps what was kept
     pub model : K.has_model old → K.has_model new
+    pub still : K.has_model old → IsTrue (K.status new).lost → K.contents new ≡ K.contents old
     pub limits : K.has_model old → IsWithinLimits (K.contents old).store × IsWithinLimits (K.contents new).store
     pub cause : HasCause result (K.status old) (K.status new)
     pub attempts : Attempts tried (K.status old) (K.status new)
