@@ -19,6 +19,16 @@ pub fn turns_are_counted<A: Application>()
         → (called m client call).machine.turns ≡ m.turns }
 {}
 
+/// Only the power's return is a restart: it alone counts as one.
+pub fn boots_stay<A: Application>()
+    ensures made { (serving : Serving) (m : Machine A) (i : ℕ)
+        → (turned_as A.behaviour serving m i).machine.boot ≡ m.boot }
+    ensures starved { (m : Machine A) (i : ℕ) → (starved m i).machine.boot ≡ m.boot }
+    ensures called { (m : Machine A) (client : ℕ) (call : Call)
+        → (called m client call).machine.boot ≡ m.boot }
+    ensures cancelled { (m : Machine A) (op : ℕ) → (cancelled m op).machine.boot ≡ m.boot }
+{}
+
 /// Only a call brings operations and instances to life: an operation, and an instance for it.
 pub fn few_are_born<A: Application>()
     ensures { (m : Machine A) (event : Event)

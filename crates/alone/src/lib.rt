@@ -21,7 +21,7 @@ pub use delivery::{deliver, is_misuse, places_of};
 pub use entries::{destroy_entry, first_entry, returned, start_entry};
 pub use family::{Family, family_of};
 pub use laws::{
-    calls_leave_the_storage, few_are_born, turns_are_counted, turns_leave_the_doubt,
+    boots_stay, calls_leave_the_storage, few_are_born, turns_are_counted, turns_leave_the_doubt,
     turns_without_the_store,
 };
 pub use object_asks::Ending;

@@ -3,6 +3,7 @@ pub mod Carried
 pub mod Crashed
 pub mod CryptoLemmas
 pub mod Lengths
+pub mod Numbered
 pub mod Placed
 pub mod Starving
 pub mod Stored

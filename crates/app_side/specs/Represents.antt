@@ -65,6 +65,10 @@ turns_of side = side.turns
 abbrev pub boot_of : {A : Type 0} → AppSide A → ℕ
 boot_of side = side.boot
 
+-- a change is in doubt
+abbrev pub has_doubt : {A : Type 0} → AppSide A → Bool
+has_doubt side = side.in_doubt
+
 -- the event that a turn of this kind is
 abbrev pub event_of : TurnKind → ℕ → Event
 event_of kinds.Plain instance = Turned instance

@@ -1,12 +1,12 @@
 //! The calls of a running application, each of them a step of every machine that the value represents.
 
-ghost use Rattle.std.specs.Prelude.{◌≡◌, ◌<◌, ◌^◌, ◌-◌, [], IfOk, OnErr, false, true};
+ghost use Rattle.std.specs.Prelude.{◌≡◌, ◌<◌, ◌^◌, ◌+◌, ◌-◌, [], IfOk, OnErr, false, is_some, true};
 ghost use Rattle.store_api.specs.Stores.{Store};
 ghost use Rattle.object_asks.specs.Serving.{TriesOnce};
 ghost use Rattle.alone.specs.Laws.{live};
 ghost use Rattle.alone.specs.Machine.{Machine, start};
 ghost use Rattle.alone.specs.Step.{called, cancelled, is_answered, is_changing, step, torn_down, Cancelled, Lost, Restarted, Starved};
-ghost use Rattle.app_side.specs.Represents.{boot_of, event_of, is_lost, turns_of, Represents};
+ghost use Rattle.app_side.specs.Represents.{boot_of, event_of, has_doubt, is_lost, turns_of, Represents};
 ghost use Rattle.app_side.specs.Serving.{IsTurn};
 ghost use Rattle.app_side.specs.Storeless.{IsStoreless, wants_store};
 
@@ -127,6 +127,32 @@ impl<A: Application> AppSide<A> {
         ensures tried { (m : Machine A) → Represents self.old m
             → TriesOnce (is_changing m instance) (T.keeper.status store.old)
             (T.keeper.status store.new) }
+        ensures turns { turns_of self.new ≡ turns_of self.old + 1 }
+        ensures boot { boot_of self.new ≡ boot_of self.old }
+    {
+        let turns = self.turns + 1;
+        let boot = self.boot;
+        let kind = self.take_turn(instance, store, replies);
+        self.turns = turns;
+        self.boot = boot;
+        kind
+    }
+
+    /// The same turn: whether it was made, how it went, and what it left.
+    fn take_turn<T: AppStore>(
+        &mut self,
+        instance: u8,
+        store: &mut T,
+        replies: &mut Replies,
+    ) -> TurnKind
+        requires few { turns_of self.old < 2 ^ 63 }
+        requires loss { is_lost self.old ≡ (T.keeper.status store.old).lost }
+        requires none { replies.old ≡ [] }
+        ensures turn { IsTurn T.keeper A.behaviour instance result replies.new
+            self.old self.new store.old store.new }
+        ensures tried { (m : Machine A) → Represents self.old m
+            → TriesOnce (is_changing m instance) (T.keeper.status store.old)
+            (T.keeper.status store.new) }
     {
         match self.advance(store, instance, replies) {
             Ok(kind) => TurnKind::of(kind),
@@ -230,6 +256,14 @@ impl<A: Application> AppSide<A> {
         ensures { result ≡ is_lost self.now }
     {
         self.lost
+    }
+
+    /// Whether a change is in doubt.
+    pub fn is_in_doubt(&self) -> bool
+        ensures machine { (m : Machine A) → Represents self.now m → result ≡ is_some m.in_doubt }
+        ensures own { result ≡ has_doubt self.now }
+    {
+        self.in_doubt
     }
 
     /// How many operations are unanswered, and how many instances there are, in all.
