@@ -13,7 +13,8 @@ use app_api::{Answer, Ask};
 use arrayvec::ArrayVec;
 use crypto_ops::Operation;
 use std::alloc::Global;
-use tee_base::{CRYPTO_OPERATIONS, Code, NoMemory, find_lowest_free};
+use tee_base::limits::CRYPTO_OPERATIONS;
+use tee_base::{Code, NoMemory, find_lowest_free};
 use transient_obj::ObjectKey;
 
 /// An operation with its instance and its number.
