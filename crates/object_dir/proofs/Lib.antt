@@ -1,0 +1,9 @@
+pub mod AnswerLemmas
+pub mod CallLemmas
+pub mod ChangeLemmas
+pub mod CommitLemmas
+pub mod DirectoryLemmas
+pub mod HeldLemmas
+pub mod IdleLemmas
+pub mod PlaceLemmas
+pub mod PlannedLemmas

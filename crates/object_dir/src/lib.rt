@@ -1,0 +1,11 @@
+//! The objects of one region of a volume, as a store.
+#![tactic(auto)]
+
+mod changing;
+mod directory;
+mod planned;
+mod region;
+#[cfg(test)]
+mod tests;
+
+pub use directory::ObjectDir;
