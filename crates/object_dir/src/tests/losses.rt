@@ -11,14 +11,14 @@ use std::alloc::Global;
 use std::test::Fail;
 use store_api::{AppStore, Change, MapStore, StoreAnswer, Volume};
 
-const REGION: u8 = 15;
+pub const REGION: u8 = 15;
 
-const FIRST: Step = Step::New(b'a', 1500);
+pub const FIRST: Step = Step::New(b'a', 1500);
 
-const SECOND: Step = Step::Overwrite(b'a', 10);
+pub const SECOND: Step = Step::Overwrite(b'a', 10);
 
 /// Makes a change of the objects of a volume.
-fn make<V: Volume>(alloc: Global, volume: &mut V, step: Step) -> Result<(), Fail> {
+pub fn make<V: Volume>(alloc: Global, volume: &mut V, step: Step) -> Result<(), Fail> {
     let change = change_of(alloc, step)?;
     change_over(alloc, volume, REGION, &change)?;
     Ok(())
@@ -41,7 +41,7 @@ fn is_lost_by<V: Volume>(alloc: Global, volume: &mut V, change: &Change) -> bool
 }
 
 /// Whether a volume has the objects behind the first change, or behind both.
-fn has_objects<V: Volume>(alloc: Global, volume: &mut V, both: bool) -> Result<bool, Fail> {
+pub fn has_objects<V: Volume>(alloc: Global, volume: &mut V, both: bool) -> Result<bool, Fail> {
     let mut store = MapStore::new(alloc, &[])?;
     store.apply(&change_of(alloc, FIRST)?)?;
     if both {
