@@ -44,6 +44,7 @@ rest_of region held = record { leaves = others region held.leaves }
 abbrev pub region_in : ℕ → Held → Result Store ℕ
 region_in region held = region_of version_one (held.leaves region)
 
+-- a store, and an empty one where there is none
 abbrev pub store_or_empty : Result Store ℕ → Store
 store_or_empty (Ok store) = store
 store_or_empty (Err leaf) = empty_store
@@ -60,6 +61,7 @@ beside region held store = record { store = store; rest = rest_of region held; n
 abbrev pub contents_in : ℕ → Held → Contents
 contents_in region held = beside region held (store_in region held)
 
+-- what is left of a region that stands for this: its store with what is beside it, or nothing
 abbrev pub opened : ℕ → Held → Result Store ℕ → Remains
 opened region held (Ok store) = Some (beside region held store)
 opened region held (Err leaf) = None
