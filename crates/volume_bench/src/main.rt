@@ -16,7 +16,7 @@ use std::env;
 use std::process::ExitCode;
 use store_api::{Leaf, Leaves, Volume};
 
-/// The status of a faulty command line, and of files that can't be used.
+/// The status of a command line that lacks a word, and of files that can't be used.
 const USAGE: u8 = 64;
 
 const FAILED: u8 = 75;
