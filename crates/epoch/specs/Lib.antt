@@ -1,8 +1,13 @@
+pub mod Commits
 pub mod Finding
+pub mod Forms
 pub mod Gates
 pub mod Header
 pub mod Laws
+pub mod Mounting
+pub mod Mounts
 pub mod Opening
 pub mod Parts
+pub mod Past
 pub mod Slots
 pub mod Steps

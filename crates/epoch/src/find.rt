@@ -1,5 +1,5 @@
 //! Which header of a board counts.
-ghost use Rattle.std.specs.Prelude.{◌≡◌, ◌≢◌, ◌≤◌, ◌<◌, ◌+◌, ℕ, Bool, true, List, IsTrue, Some, Err, IfOk, is_ok};
+ghost use Rattle.std.specs.Prelude.{◌≡◌, ◌≢◌, ◌≤◌, ◌<◌, ◌+◌, ℕ, Bool, true, List, IsTrue, Some, Err, IfOk, OnOk, is_ok};
 ghost use Rattle.tee_base.specs.Crash.{LeavesOnly};
 ghost use Rattle.tee_base.specs.Faults.{Rose};
 ghost use Rattle.board.specs.Moment.{View, IsCounter, moment, left_since};
@@ -7,6 +7,7 @@ ghost use Rattle.board.specs.Runs.{Rests, RunsOver};
 ghost use Rattle.board.specs.Steps.{CallRun, SameBlocks};
 ghost use Rattle.epoch.specs.Finding.{Finds, OpensBelow, IsSettledAt, RefusesOlder, sequence_of};
 ghost use Rattle.epoch.specs.Opening.{IsRuled, opening_of, opens_as};
+ghost use Rattle.epoch.specs.Past.{KeepsPast};
 ghost use Rattle.epoch.specs.Steps.{outcome_opening};
 ghost use Rattle.epoch.specs.declared.answer.OpenAnswer.TheVariants as answers;
 
@@ -37,8 +38,10 @@ pub fn find_header<B: Board>(board: &mut B) -> Result<Option<Header>, OpenAnswer
     ensures cause { result ≡ Err answers.Failed
         → Rose (B.view board.old).state.faults (B.view board.new).state.faults }
     ensures memory { result ≢ Err answers.NoMemory }
+    ensures size { OnOk result (VOLUME_BLOCKS ≤ (B.view board.old).size) }
     ensures writes { (B.view board.new).writes ≡ (B.view board.old).writes }
     ensures honest { B.honest board.old → B.honest board.new }
+    ensures past { B.honest board.old → KeepsPast (B.view board.old) (B.view board.new) }
     ensures blocks { B.honest board.old
         → SameBlocks (B.view board.old).state (B.view board.new).state }
     // whatever the board: by the rule over what it tells, at some counter
@@ -73,8 +76,10 @@ pub fn find_version<B: Board>(board: &mut B, version: u32) -> Result<Option<Head
     ensures cause { result ≡ Err answers.Failed
         → Rose (B.view board.old).state.faults (B.view board.new).state.faults }
     ensures memory { result ≢ Err answers.NoMemory }
+    ensures size { OnOk result (VOLUME_BLOCKS ≤ (B.view board.old).size) }
     ensures writes { (B.view board.new).writes ≡ (B.view board.old).writes }
     ensures honest { B.honest board.old → B.honest board.new }
+    ensures past { B.honest board.old → KeepsPast (B.view board.old) (B.view board.new) }
     ensures blocks { B.honest board.old
         → SameBlocks (B.view board.old).state (B.view board.new).state }
     // whatever the board: by the rule over what it tells, at some counter
@@ -124,6 +129,7 @@ fn raise<B: Board>(
     ensures memory { result ≢ Err answers.NoMemory }
     ensures writes { (B.view board.new).writes ≡ (B.view board.old).writes }
     ensures honest { B.honest board.old → B.honest board.new }
+    ensures past { B.honest board.old → KeepsPast (B.view board.old) (B.view board.new) }
     ensures blocks { B.honest board.old
         → SameBlocks (B.view board.old).state (B.view board.new).state }
     ensures counter { B.honest board.old → IsSettledAt counter (B.view board.old).state

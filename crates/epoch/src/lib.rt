@@ -5,10 +5,13 @@
 
 mod answer;
 mod bytes;
+mod commits;
 mod find;
 mod gates;
 mod header;
 mod laws;
+mod mounting;
+mod mounts;
 mod rule;
 mod slots;
 mod steps;
@@ -16,7 +19,10 @@ mod steps;
 mod tests;
 
 pub use answer::{OpenAnswer, Unopened};
+pub use commits::{Change, commit};
 pub use find::{FLAT_VERSION, VOLUME_BLOCKS, find_header, find_version};
 pub use header::{Header, TreeEntry, entry_at, entry_bytes};
 pub use laws::opening_laws;
+pub use mounting::{mount, mount_after_power, mount_again};
+pub use mounts::BoardVolume;
 pub use steps::{flip, lay, shut};

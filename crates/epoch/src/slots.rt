@@ -4,6 +4,7 @@ ghost use Rattle.board.specs.Moment.{View};
 ghost use Rattle.board.specs.Runs.{RunsOver};
 ghost use Rattle.board.specs.Steps.{CallRun, SameBlocks, Settles, Unchanged};
 ghost use Rattle.seal.specs.Keys.{AreKeysOf};
+ghost use Rattle.epoch.specs.Past.{KeepsPast};
 ghost use Rattle.epoch.specs.Slots.{header_slot, slot_of};
 
 use crate::gates::{gate_block, header_block, is_open};
@@ -59,6 +60,7 @@ fn look<B: Board>(board: &mut B, keys: &Keys, slot: u8) -> Result<Slot, BoardFai
     ensures same { IsTrue B.tells_reads
         → (B.view board.new).state.reads ≡ (B.view board.old).state.reads }
     ensures honest { B.honest board.old → B.honest board.new }
+    ensures past { B.honest board.old → KeepsPast (B.view board.old) (B.view board.new) }
     ensures state { B.honest board.old
         → Unchanged (B.view board.old).state (B.view board.new).state }
     ensures run { B.honest board.old
@@ -84,6 +86,7 @@ pub fn gather<B: Board>(board: &mut B, keys: &Keys) -> Result<Seen, BoardFailed>
         → IfOk result (λ seen. (seen.first ≡ slot_of key (B.view board.old).state.reads 0)
         × (seen.second ≡ slot_of key (B.view board.old).state.reads 1)) }
     ensures honest { B.honest board.old → B.honest board.new }
+    ensures past { B.honest board.old → KeepsPast (B.view board.old) (B.view board.new) }
     ensures blocks { B.honest board.old
         → SameBlocks (B.view board.old).state (B.view board.new).state }
     ensures counter { B.honest board.old

@@ -7,6 +7,7 @@ ghost use Rattle.board.specs.Steps.{capped, CallRun};
 ghost use Rattle.epoch.specs.Gates.{gate_at, header_at, gate_open, shut_gate};
 ghost use Rattle.epoch.specs.Header.{IsHeaderBlock};
 ghost use Rattle.epoch.specs.Opening.{opening_of};
+ghost use Rattle.epoch.specs.Past.{KeepsPast};
 ghost use Rattle.epoch.specs.Slots.{header_slot};
 ghost use Rattle.epoch.specs.Steps.{CountsElsewhere, IsFlipped, IsLaid, LeavesFlip, SyncedBut, outcome_opening};
 ghost use Rattle.epoch.specs.declared.header.Header.{Header as HeaderValue};
@@ -34,6 +35,7 @@ pub fn shut<B: Board>(board: &mut B, slot: u8) -> Result<(), BoardFailed>
         → gate_open ((B.view board.old).state.reads (gate_at slot)) ≡ false
         → (B.view board.new).writes ≡ (B.view board.old).writes }
     ensures honest { B.honest board.old → B.honest board.new }
+    ensures past { B.honest board.old → KeepsPast (B.view board.old) (B.view board.new) }
     ensures elsewhere { B.honest board.old → (k : ℕ) → k ≢ gate_at slot
         → (B.view board.new).state.reads k ≡ (B.view board.old).state.reads k }
     ensures shut { B.honest board.old
@@ -75,6 +77,7 @@ pub fn lay<B: Board>(board: &mut B, header: &Header) -> Result<(), BoardFailed>
     ensures calls { CallRun (is_ok result) (B.view board.old) (B.view board.new) }
     ensures writes { (B.view board.new).writes ≡ capped ((B.view board.old).writes + 1) }
     ensures honest { B.honest board.old → B.honest board.new }
+    ensures past { B.honest board.old → KeepsPast (B.view board.old) (B.view board.new) }
     ensures elsewhere { B.honest board.old → (k : ℕ) → k ≢ header_at (header.now.sequence % 2)
         → (B.view board.new).state.reads k ≡ (B.view board.old).state.reads k }
     ensures laid { B.honest board.old → let slot = header.now.sequence % 2 in
@@ -115,6 +118,7 @@ pub fn flip<B: Board>(board: &mut B, slot: u8) -> Result<u64, BoardFailed>
     ensures calls { CallRun (is_ok result) (B.view board.old) (B.view board.new) }
     ensures writes { (B.view board.new).writes ≡ capped ((B.view board.old).writes + 1) }
     ensures honest { B.honest board.old → B.honest board.new }
+    ensures past { B.honest board.old → KeepsPast (B.view board.old) (B.view board.new) }
     ensures elsewhere { B.honest board.old → (k : ℕ) → k ≢ gate_at slot
         → (B.view board.new).state.reads k ≡ (B.view board.old).state.reads k }
     ensures flipped { B.honest board.old

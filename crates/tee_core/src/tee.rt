@@ -1,9 +1,28 @@
-//! All applications side by side.
+//! All applications side by side, over one volume.
 
-use crate::hosted::Hosted;
+ghost use Rattle.std.specs.Prelude.{◌≤◌, vec_len};
+ghost use Rattle.tee_base.specs.declared.limits.TheConstants.{HOSTS};
+ghost use Rattle.tee_core.specs.Sides.{AreBooted, AreLost};
 
-/// The running applications, in the order of their hosts.
+use app_side::AppSide;
+use flat_volume::FlatVolume;
+use std::alloc::Global;
+use std::marker::PhantomData;
+use store_api::Volume;
+
+/// The running applications, in the order of their hosts, each with its objects in the region of its index.
 #[derive(Drop)]
-pub struct Tee<A> {
-    pub(crate) hosted: Vec<Hosted<A>>,
+pub struct TeeOver<B, V: Volume, A> {
+    pub(crate) alloc: Global,
+    pub(crate) volume: V,
+    pub(crate) sides: Vec<AppSide<A>>,
+    /// How often the power was lost.
+    pub(crate) boots: u32,
+    pub(crate) board: PhantomData<B>,
+    ghost few: { vec_len sides ≤ HOSTS },
+    ghost served: { AreLost (V.keeper.condition volume).lost sides.items },
+    ghost booted: { AreBooted boots sides.items },
 }
+
+/// The running applications over the kind of volume that is in use, which no other line names.
+pub type Tee<B, A> = TeeOver<B, FlatVolume<B>, A>;

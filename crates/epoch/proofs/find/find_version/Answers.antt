@@ -1,3 +1,4 @@
+use Rattle.epoch.proofs.PastLemmas.{itself, followed}
 use Rattle.std.proofs.Common.{◌≡◌, ◌≢◌, ◌≤◌, ◌∙◌, ℕ, List, false, Some, None, Ok, Err, refl, sym, subst, arith}
 use Rattle.std.proofs.lemmas.Bool.{ltb-false}
 use Rattle.seal.specs.Keys.{AreKeysOf}
@@ -93,4 +94,16 @@ returns-clause-counter g c h =
           let settled = w.raise.ensures.counter (c.in_ok-seen.ensures.honest h) (record { counter = counted.counter; slack = counted.slack })
           (ltb-false _ _ two.least) (ltb-false _ _ two.most) in
           rw (w.result-is, w.board-is) (settled_answer w.raise.result w.in-Ok-Some.found.header _ w.raise.ensures.answer settled)
+    ]
+
+pub returns-then-blocks-lt-VOLUME_BLOCKS-clause-past : goal.returns-then-blocks-lt-VOLUME_BLOCKS-clause-past
+returns-then-blocks-lt-VOLUME_BLOCKS-clause-past g c h = itself _
+
+pub returns-clause-past : goal.returns-clause-past
+returns-clause-past g c h =
+    let one = c.in_ok-seen.ensures.past h in
+    elim c.match-judge.branch [
+      | in-Err w ↦ rw w.board-is one
+      | in-Ok-None w ↦ rw w.board-is one
+      | in-Ok-Some w ↦ rw w.board-is (followed _ _ _ one (w.raise.ensures.past (c.in_ok-seen.ensures.honest h)))
     ]

@@ -1,3 +1,4 @@
+use Rattle.epoch.proofs.PastLemmas.{once, followed}
 use Rattle.epoch.proofs.RunLemmas.{flip_wrote, flip_before, flip_advanced, flip_answers, opened_answers, flip_crash, over_sync}
 use Rattle.epoch.proofs.steps.flip.Goals as goal
 
@@ -40,3 +41,19 @@ returns-clause-crash g c h version n header laid =
 
 pub returns-clause-opened : goal.returns-clause-opened
 returns-clause-opened g c h = opened_answers _ c.args.slot _ _ c.advance.result c.requires.slot (returns-clause-flipped g c h)
+
+pub returns-in_err-write-clause-past : goal.returns-in_err-write-clause-past
+returns-in_err-write-clause-past g c h = once _ _ (c.in_err-write.ensures.honest h).1
+
+pub returns-in_err-sync-clause-past : goal.returns-in_err-sync-clause-past
+returns-in_err-sync-clause-past g c h =
+    let w = c.in_ok-write.ensures.honest h in
+    let s = c.in_err-sync.ensures.honest w.0 in
+    followed _ _ _ (once _ _ w.1) (once _ _ s.1)
+
+pub returns-clause-past : goal.returns-clause-past
+returns-clause-past g c h =
+    let w = c.in_ok-write.ensures.honest h in
+    let s = c.in_ok-sync.ensures.honest w.0 in
+    let a = c.advance.ensures.honest s.0 in
+    followed _ _ _ (once _ _ w.1) (followed _ _ _ (once _ _ s.1) (once _ _ a.1))

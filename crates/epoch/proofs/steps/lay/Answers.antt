@@ -1,3 +1,4 @@
+use Rattle.epoch.proofs.PastLemmas.{once, followed}
 use Rattle.std.proofs.Common.{◌∙◌, ◌==◌, ◌<◌, ◌%◌, ℕ, List, ap, subst}
 use Rattle.epoch.specs.Gates.{header_at}
 use Rattle.epoch.specs.Header.{IsHeaderBlock}
@@ -35,3 +36,12 @@ returns-clause-crash g c h version n rests shut =
     lay_crash version n (c.args.header.now.sequence % 2) _ _ (subst (λ s. s < 2) c.slot_for-slot.ensures.slot c.slot_for-slot.ensures.below) shut
     (returns-clause-run g c h (λ k. k == header_at (c.args.header.now.sequence % 2)) _ n n _ (is_itself (header_at (c.args.header.now.sequence % 2)))
     (rest_starts n _ rests (λ k. k == header_at (c.args.header.now.sequence % 2))))
+
+pub returns-in_err-write-clause-past : goal.returns-in_err-write-clause-past
+returns-in_err-write-clause-past g c h = once _ _ (c.in_err-write.ensures.honest h).1
+
+pub returns-clause-past : goal.returns-clause-past
+returns-clause-past g c h =
+    let w = c.in_ok-write.ensures.honest h in
+    let s = c.sync.ensures.honest w.0 in
+    followed _ _ _ (once _ _ w.1) (once _ _ s.1)

@@ -1,3 +1,4 @@
+use Rattle.epoch.proofs.PastLemmas.{once, followed}
 use Rattle.std.proofs.Common.{◌≡◌, true, false, rules}
 use Rattle.epoch.specs.Steps.{shut_writes}
 use Rattle.epoch.proofs.RunLemmas.{rest_starts, over_read, over_sync, over_write, shut_crash, shut_answers, zeros_answers, still_answers, shut_itself, gate_was}
@@ -70,3 +71,25 @@ pub returns-clause-crash : goal.returns-clause-crash
 returns-clause-crash g c h version n rests other =
     shut_crash version n c.args.slot _ _ c.requires.slot other (returns-clause-run g c h _ _ n n _ (shut_itself c.args.slot (g.B.Board.view c.args.board.now).state.reads)
     (rest_starts n _ rests (shut_writes c.args.slot (g.B.Board.view c.args.board.now).state.reads)))
+
+pub returns-in_err-read-clause-past : goal.returns-in_err-read-clause-past
+returns-in_err-read-clause-past g c h = once _ _ (c.in_err-read.ensures.honest h).1
+
+pub returns-then-not-is_open-clause-past : goal.returns-then-not-is_open-clause-past
+returns-then-not-is_open-clause-past g c h =
+    let r = c.in_ok-read.ensures.honest h in
+    let s = c.sync.ensures.honest r.0 in
+    followed _ _ _ (once _ _ r.1) (once _ _ s.1)
+
+pub returns-in_err-write-clause-past : goal.returns-in_err-write-clause-past
+returns-in_err-write-clause-past g c h =
+    let r = c.in_ok-read.ensures.honest h in
+    let w = c.in_err-write.ensures.honest r.0 in
+    followed _ _ _ (once _ _ r.1) (once _ _ w.1)
+
+pub returns-clause-past : goal.returns-clause-past
+returns-clause-past g c h =
+    let r = c.in_ok-read.ensures.honest h in
+    let w = c.in_ok-write.ensures.honest r.0 in
+    let s = c.sync-2.ensures.honest w.0 in
+    followed _ _ _ (once _ _ r.1) (followed _ _ _ (once _ _ w.1) (once _ _ s.1))

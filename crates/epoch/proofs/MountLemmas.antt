@@ -1,0 +1,510 @@
+-- What a board holds that is opened, over the form of the leaves.
+use Rattle.std.proofs.Common.{◌≡◌, ◌≢◌, ◌≤◌, ◌<◌, ◌+◌, ◌^◌, ◌%◌, ◌==◌, ◌&&◌, ◌∙◌, if◌then◌else◌, ℕ, Bool, true, false, List, [], ◌∷◌, length, Option, Some, None, Result, Ok, Err, IfOk, IfErr, nat_lt, refl, sym, ap, subst, inl, inr, ⊎_elim, arith}
+use Rattle.std.proofs.lemmas.Bool.{cases_lt}
+use Rattle.std.proofs.lemmas.Bool.Decides.{nat_tests}
+use Rattle.tee_base.specs.Crash.{LeavesOnly}
+use Rattle.tee_base.proofs.Crash.{joined, weaker}
+use Rattle.tee_base.specs.declared.limits.TheConstants.{BOARD_BLOCKS}
+use Rattle.store_api.specs.Volumes.{Held}
+use Rattle.board.specs.Moment.{IsConsistent, IsCounter, IsLeft, Moment, Outcome, View, WasLeft, left_since, moment}
+use Rattle.board.specs.Runs.{IsBase, LeavesBase, Rests, RunsOver}
+use Rattle.board.specs.Steps.{Answered, Passes, Powered, SameBlocks, Synced}
+use Rattle.board.proofs.Runs.{goes_on, run_starts, starts}
+use Rattle.epoch.specs.Commits.{OpensTo}
+use Rattle.epoch.specs.Finding.{Finds, IsSettledAt, OpensBelow, sequence_of}
+use Rattle.epoch.specs.Forms.{Form, IsFramed, blank_leaves, held, held_by, held_of, is_sealed, leaves_of}
+use Rattle.epoch.specs.Mounting.{AreInUse, IsHolding, MightBe, Mounts, MountsAfterPower, MountsAgain, MountsTo, after_found}
+use Rattle.epoch.specs.Mounts.{IsInUse, IsRefusal, after_opening, opened_by}
+use Rattle.epoch.specs.Opening.{answer_at, header_answer, opening_by, opening_of, opens_as}
+use Rattle.epoch.specs.Slots.{slot_of}
+use Rattle.epoch.specs.declared.answer.OpenAnswer.{OpenAnswer}
+use Rattle.epoch.specs.declared.answer.OpenAnswer.TheVariants.{Ahead, BadHeader, Failed, NoMemory, NoVolume, Rollback, TooSmall, UnknownVersion}
+use Rattle.epoch.specs.declared.find.TheConstants.{VOLUME_BLOCKS}
+use Rattle.epoch.specs.declared.header.Header.{Header}
+use Rattle.epoch.specs.declared.rule.Found.{Found}
+use Rattle.epoch.specs.declared.slots.Slot.TheVariants.{Shut}
+use Rattle.epoch.proofs.CommitLemmas.{first_true, second_true, zero_leaves, zero_sealed}
+use Rattle.epoch.proofs.FindLemmas.{blank_counter}
+use Rattle.epoch.proofs.RuleLemmas.{asked, counts, opens_at_two}
+use Rattle.epoch.proofs.StageLemmas.{blank_first}
+
+-- of one image, two headers that count at two counters are one
+pub same_found : (version : ℕ) (key : List ℕ) (image : ℕ → List ℕ) (n m : ℕ) (a b : Found)
+    → opening_of version key image n ≡ Ok (Some a) → opening_of version key image m ≡ Ok (Some b) → b ≡ a
+unfolding opening_of
+same_found version key image n m a b one two =
+    let x = asked version (slot_of key image 0) (slot_of key image 1) n a one in
+    let y : answer_at version a.slot a.header m ≡ Ok (Some b) = sym (x.same m) ∙ two in
+    (counts version a.slot a.header m b y).is
+
+no_slot : (b : Bool) (n : ℕ) (found : Found) → (let none : Result (Option Found) OpenAnswer = Ok None in if b then none else Err (NoVolume n)) ≡ Ok (Some found) → ⊥
+no_slot true n found e = cc
+no_slot false n found e = cc
+
+-- where it is blank at one counter, no header counts at another
+pub never_found : (version : ℕ) (key : List ℕ) (image : ℕ → List ℕ) (n m : ℕ) (b : Found)
+    → (let none : Result (Option Found) OpenAnswer = Ok None in opening_of version key image n ≡ none) → opening_of version key image m ≡ Ok (Some b) → ⊥
+unfolding opening_of
+never_found version key image n m b blank found =
+    let shut = blank_first version (slot_of key image 0) (slot_of key image 1) n blank in
+    let one : opening_by version Shut (slot_of key image 1) m ≡ Ok (Some b) = rw shut.0 at found in
+    let both : opening_by version Shut Shut m ≡ Ok (Some b) = rw shut.1 at one in
+    no_slot (m == 0) m b both
+
+-- and the counter is 0
+pub blank_at : (version : ℕ) (key : List ℕ) (image : ℕ → List ℕ) (n : ℕ)
+    → (let none : Result (Option Found) OpenAnswer = Ok None in opening_of version key image n ≡ none) → n ≡ 0
+unfolding opening_of
+blank_at version key image n e = blank_counter version (slot_of key image 0) (slot_of key image 1) n e
+
+-- a choice that is something is its first
+if_some : {A : Type 0} (b : Bool) (x h : A) → (let none : Option A = None in if b then Some x else none) ≡ Some h → (b ≡ true) × (x ≡ h)
+if_some true x h e = (refl, (cc))
+if_some false x h e = absurd (cc)
+
+-- what is held, by how the image opens
+abbrev pub HeldAs : Form → List ℕ → (ℕ → List ℕ) → Held → Result (Option Found) OpenAnswer → Type 0
+HeldAs f key image h (Ok None) = (h.leaves ≡ blank_leaves) × (h.sequence ≡ 0)
+HeldAs f key image h (Ok (Some found)) =
+    (found.slot ≡ found.header.sequence % 2) × (is_sealed f key image found.header.root ≡ true)
+    × (h.leaves ≡ leaves_of f key image found.header.root) × (h.sequence ≡ found.header.sequence)
+HeldAs f key image h (Err answer) = ⊥
+
+held_as : (f : Form) (key : List ℕ) (image : ℕ → List ℕ) (h : Held) (o : Result (Option Found) OpenAnswer) → held_by f key image o ≡ Some h → HeldAs f key image h o
+held_as f key image h (Ok None) e =
+    let same : record { leaves = blank_leaves; sequence = 0 } ≡ h = cc in
+    (ap (λ (x : Held). x.leaves) (sym same), ap (λ (x : Held). x.sequence) (sym same))
+held_as f key image h (Ok (Some found)) e =
+    let two = if_some ((found.slot == found.header.sequence % 2) && is_sealed f key image found.header.root) _ h e in
+    let slot : (found.slot == found.header.sequence % 2) ≡ true = first_true (found.slot == found.header.sequence % 2) (is_sealed f key image found.header.root) two.0 in (
+      grind (arith, nat_tests, slot),
+      second_true (found.slot == found.header.sequence % 2) (is_sealed f key image found.header.root) two.0,
+      ap (λ (x : Held). x.leaves) (sym two.1),
+      ap (λ (x : Held). x.sequence) (sym two.1),
+    )
+held_as f key image h (Err answer) e = absurd (cc)
+
+pub holds_as : (f : Form) (key : List ℕ) (image : ℕ → List ℕ) (n : ℕ) (h : Held) → held f key image n ≡ Some h → HeldAs f key image h (opening_of f.version key image n)
+unfolding held
+holds_as f key image n h e = held_as f key image h (opening_of f.version key image n) e
+
+-- what an opening gives is what is held
+pub held_opening : (f : Form) (key : List ℕ) (image : ℕ → List ℕ) (n m : ℕ) → opening_of f.version key image n ≡ opening_of f.version key image m → held f key image n ≡ held f key image m
+unfolding held
+held_opening f key image n m e = ap (held_by f key image) e
+
+-- a volume in use isn't blank: a header counts
+in_use_by : (f : Form) (key : List ℕ) (image : ℕ → List ℕ) (h : Held) (o : Result (Option Found) OpenAnswer) → HeldAs f key image h o → 0 < h.sequence → (found : Found) × (o ≡ Ok (Some found))
+in_use_by f key image h (Ok None) is used = absurd (let zero = is.1 in omega arith)
+in_use_by f key image h (Ok (Some found)) is used = (found, refl)
+in_use_by f key image h (Err answer) is used = absurd is
+
+-- what a board in use holds is the same at each counter
+pub one_held : (f : Form) (key : List ℕ) (image : ℕ → List ℕ) (n m : ℕ) (a b : Held) → held f key image n ≡ Some a → 0 < a.sequence → held f key image m ≡ Some b → 0 < b.sequence
+    → held f key image m ≡ held f key image n
+one_held f key image n m a b one used two used' =
+    let x = in_use_by f key image a (opening_of f.version key image n) (holds_as f key image n a one) used in
+    let y = in_use_by f key image b (opening_of f.version key image m) (holds_as f key image m b two) used' in
+    let same : y.0 ≡ x.0 = same_found f.version key image n m x.0 y.0 x.1 y.1 in
+    held_opening f key image m n (y.1 ∙ ap (λ (w : Found). let r : Result (Option Found) OpenAnswer = Ok (Some w) in r) same ∙ sym x.1)
+
+-- what a crash left has a counter that fits
+was_fits : (past : List Moment) (t : ℕ) (c : Outcome) → WasLeft past t c → c.counter < 2 ^ 64
+was_fits [] t c was = absurd was
+was_fits (m ∷ past) t c was = ⊎_elim (λ (h : (t ≤ length past) × IsLeft m c). h.1.counter.fits) (λ (w : WasLeft past t c). was_fits past t c w) was
+
+left_fits : (v : View) (t : ℕ) (c : Outcome) → left_since v t c → c.counter < 2 ^ 64
+left_fits v t c left = ⊎_elim (λ (h : IsLeft v.state c). h.counter.fits) (λ (w : WasLeft v.past t c). was_fits v.past t c w) left
+
+fitted : (old new : View) (P : Outcome → Type 0) → LeavesOnly moment left_since old new P → LeavesOnly moment left_since old new (λ c. P c × (c.counter < 2 ^ 64))
+fitted old new P run = record {
+  later = run.later;
+  each = λ c left. (run.each c left, left_fits new (moment old) c left);
+  before = λ t c le left. ⊎_elim (λ (l : left_since old t c). inl l) (λ (p : P c). inr (p, left_fits new t c left)) (run.before t c le left);
+}
+
+-- how far a counter may rise within a search, of a board that opens so
+abbrev BoundsBy : Form → List ℕ → Moment → ℕ → Type 0
+BoundsBy f key m high = (found : Found) → opening_of f.version key m.reads m.counter ≡ Ok (Some found) → found.header.sequence ≤ high
+
+module _ (f : Form) (key : List ℕ) (h : Held) (m : Moment) (holding : IsHolding f key h m) (fits : m.counter < 2 ^ 64) where
+  least_counter : IsCounter m m.counter
+  least_counter = record { least = omega arith; greatest = omega arith; fits = fits }
+
+  -- what is held at the least counter
+  pub held_least : held f key m.reads m.counter ≡ Some h
+  held_least = holding.each m.counter least_counter
+
+  pub opens_least : HeldAs f key m.reads h (opening_of f.version key m.reads m.counter)
+  opens_least = holds_as f key m.reads m.counter h held_least
+
+  below_by : (o : Result (Option Found) OpenAnswer) → opening_of f.version key m.reads m.counter ≡ o → HeldAs f key m.reads h o
+      → (high n : ℕ) (found : Found) → BoundsBy f key m high → opening_of f.version key m.reads n ≡ Ok (Some found) → found.header.sequence ≤ high
+  below_by (Ok None) e is high n found bounds opens = absurd (never_found f.version key m.reads m.counter n found e opens)
+  below_by (Ok (Some other)) e is high n found bounds opens =
+      let same : found ≡ other = same_found f.version key m.reads m.counter n other found e opens in
+      let at : found.header.sequence ≡ other.header.sequence = ap (λ (w : Found). w.header.sequence) same in
+      let top : other.header.sequence ≤ high = bounds other e in
+      omega (arith, at, top)
+  below_by (Err answer) e is high n found bounds opens = absurd is
+
+  opens_under : (high : ℕ) → BoundsBy f key m high → OpensBelow f.version key m.reads m.counter high
+  opens_under high bounds n found low up opens =
+      below_by (opening_of f.version key m.reads m.counter) refl opens_least high n found bounds opens
+
+-- a search over a board that holds this leaves nothing else
+module _ (f : Form) (h : Held) (old new : View) (holding : IsHolding f old.key h old.state) (fits : old.state.counter < 2 ^ 64)
+    (goes : (open_at : ℕ → Bool) (base : ℕ → List ℕ) (low high : ℕ) (first : View) → OpensBelow f.version old.key old.state.reads low high
+    → RunsOver open_at base low high first old → RunsOver open_at base low high first new) where
+  base_high : (high : ℕ) → old.state.counter + old.state.slack ≤ high → IsBase (λ k. false) old.state.reads old.state.counter high old.state
+  base_high high room = record {
+    reads = λ k shut. refl;
+    durable = λ k shut. sym (holding.as_read k);
+    pending = λ k shut. holding.pending k;
+    least = omega arith;
+    greatest = room;
+  }
+
+  leaves_high : (high : ℕ) → old.state.counter + old.state.slack ≤ high → BoundsBy f old.key old.state high
+      → ((n : ℕ) → old.state.counter ≤ n → n ≤ high → n < 2 ^ 64 → held f old.key old.state.reads n ≡ Some h)
+      → LeavesOnly moment left_since old new (λ c. held_of f old.key c ≡ Some h)
+  leaves_high high room bounds each =
+      let run = goes (λ k. false) old.state.reads old.state.counter high old (opens_under f old.key h old.state holding fits high bounds)
+      (run_starts (λ k. false) old.state.reads old.state.counter high old (base_high high room)) in
+      weaker moment left_since old new (λ c. LeavesBase (λ k. false) old.state.reads old.state.counter high c × (c.counter < 2 ^ 64)) (λ c. held_of f old.key c ≡ Some h)
+      (λ c both.
+      let same : c.image ≡ old.state.reads = λ i k. both.0.image k refl i in
+      ap (λ (image : ℕ → List ℕ). held f old.key image c.counter) same ∙ each c.counter both.0.least both.0.greatest both.1)
+      (fitted old new (LeavesBase (λ k. false) old.state.reads old.state.counter high) run.leaves)
+
+  -- within what a crash may leave of the counter
+  within : (n : ℕ) → old.state.counter ≤ n → n ≤ old.state.counter + old.state.slack → n < 2 ^ 64 → held f old.key old.state.reads n ≡ Some h
+  within n low high fit = holding.each n (record { least = low; greatest = high; fits = fit })
+
+  leaves_by : (o : Result (Option Found) OpenAnswer) → opening_of f.version old.key old.state.reads old.state.counter ≡ o → HeldAs f old.key old.state.reads h o
+      → LeavesOnly moment left_since old new (λ c. held_of f old.key c ≡ Some h)
+  leaves_by (Ok None) e is =
+      leaves_high (old.state.counter + old.state.slack) (omega arith) (λ found opens. absurd (never_found f.version old.key old.state.reads old.state.counter old.state.counter found e opens)) within
+  leaves_by (Ok (Some found)) e is =
+      let two = opens_at_two f.version old.key old.state.reads old.state.counter found e in
+      let bounds : (high : ℕ) → found.header.sequence ≤ high → BoundsBy f old.key old.state high
+      = λ high le other opens. (let same : other.header.sequence ≡ found.header.sequence = ap (λ (w : Found). w.header.sequence) (same_found f.version old.key old.state.reads old.state.counter old.state.counter found other e opens) in omega (arith, same, le)) in
+      ⊎_elim
+      (λ (under : found.header.sequence < old.state.counter + old.state.slack).
+      leaves_high (old.state.counter + old.state.slack) (omega arith) (bounds (old.state.counter + old.state.slack) (omega (arith, under))) within)
+      (λ (over : old.state.counter + old.state.slack ≤ found.header.sequence).
+      leaves_high found.header.sequence over (bounds found.header.sequence (omega arith))
+      (λ n low high fit.
+      held_opening f old.key old.state.reads n old.state.counter (two.2 n high (omega (arith, two.1, low)) ∙ sym e) ∙ held_least f old.key h old.state holding fits))
+      (cases_lt found.header.sequence (old.state.counter + old.state.slack))
+  leaves_by (Err answer) e is = absurd is
+
+  pub leaves_held : LeavesOnly moment left_since old new (λ c. held_of f old.key c ≡ Some h)
+  leaves_held = leaves_by (opening_of f.version old.key old.state.reads old.state.counter) refl (opens_least f old.key h old.state holding fits)
+
+-- and the board is mounted then
+module _ (f : Form) (framed : IsFramed f) (key : List ℕ) (h : Held) (old new : Moment) (as_read : (k : ℕ) → old.reads k ≡ old.durable k) (pending : (k : ℕ) → old.pending k ≡ false)
+    (blocks : SameBlocks old new) where
+  rests_then : (n : ℕ) → IsSettledAt n new → Rests n new
+  rests_then n settled = record {
+    as_read = λ k. ap (λ (g : ℕ → List ℕ). g k) blocks.reads ∙ as_read k ∙ sym (ap (λ (g : ℕ → List ℕ). g k) blocks.durable);
+    pending = λ k. ap (λ (g : ℕ → Bool). g k) blocks.pending ∙ pending k;
+    counter = settled.counter;
+    slack = settled.slack;
+  }
+
+  opens_then : (n : ℕ) (o : Result (Option Found) OpenAnswer) → opening_of f.version key old.reads n ≡ o → opening_of f.version key new.reads n ≡ o
+  opens_then n o e = ap (λ (image : ℕ → List ℕ). opening_of f.version key image n) blocks.reads ∙ e
+
+  mounts_by : (n : ℕ) (o : Result (Option Found) OpenAnswer) → opening_of f.version key old.reads n ≡ o → HeldAs f key old.reads h o
+      → (found : Option Header) → Ok found ≡ header_answer o → IsSettledAt (sequence_of found) new → MountsTo f key h new found
+  mounts_by n (Ok None) e is found answers settled =
+      let none : found ≡ None = cc in
+      let zero : n ≡ 0 = blank_at f.version key old.reads n e in
+      let at : opening_of f.version key new.reads h.sequence ≡ opening_of f.version key old.reads n
+      = ap (opening_of f.version key new.reads) (is.1 ∙ sym zero) ∙ ap (λ (image : ℕ → List ℕ). opening_of f.version key image n) blocks.reads in
+      let settled' : IsSettledAt h.sequence new = subst (λ (s : ℕ). IsSettledAt s new) (ap sequence_of none ∙ sym is.1) settled in
+      subst (MountsTo f key h new) (sym none) (
+        is.1,
+        λ root zeros. record {
+          rests = rests_then h.sequence settled';
+          opens = subst (OpensTo h.sequence root) (sym (at ∙ e)) (is.1, zeros);
+          sealed = zero_sealed f framed key root new.reads zeros;
+          leaves = is.0 ∙ sym (zero_leaves f framed key root new.reads zeros);
+        },
+      )
+  mounts_by n (Ok (Some w)) e is found answers settled =
+      let some : found ≡ Some w.header = cc in
+      let same : h.sequence ≡ w.header.sequence = is.3 in
+      let two = opens_at_two f.version key old.reads n w e in
+      let at : opening_of f.version key new.reads h.sequence ≡ Ok (Some w)
+      = ap (opening_of f.version key new.reads) same ∙ opens_then w.header.sequence (Ok (Some w)) (two.2 w.header.sequence (omega arith) (omega arith)) in
+      let settled' : IsSettledAt h.sequence new = subst (λ (q : ℕ). IsSettledAt q new) (ap sequence_of some ∙ sym same) settled in
+      subst (MountsTo f key h new) (sym some) (
+        same,
+        record {
+          rests = rests_then h.sequence settled';
+          opens = subst (OpensTo h.sequence w.header.root) (sym at) (sym same, is.0 ∙ ap (λ (q : ℕ). q % 2) (sym same), refl);
+          sealed = ap (λ (image : ℕ → List ℕ). is_sealed f key image w.header.root) blocks.reads ∙ is.1;
+          leaves = is.2 ∙ ap (λ (image : ℕ → List ℕ). leaves_of f key image w.header.root) (sym blocks.reads);
+        },
+      )
+  mounts_by n (Err answer) e is found answers settled = absurd is
+
+-- an answer that isn't the rule's is a failure
+is_failure : (answer : OpenAnswer) → ((let none : Result (Option Header) OpenAnswer = Err answer in none ≢ Err Failed) → ⊥) → answer ≡ Failed
+is_failure (TooSmall n) not_other = absurd (not_other (λ w. cc))
+is_failure (NoVolume n) not_other = absurd (not_other (λ w. cc))
+is_failure (BadHeader slot found kept) not_other = absurd (not_other (λ w. cc))
+is_failure (UnknownVersion n) not_other = absurd (not_other (λ w. cc))
+is_failure (Rollback s c) not_other = absurd (not_other (λ w. cc))
+is_failure (Ahead s c) not_other = absurd (not_other (λ w. cc))
+is_failure Failed not_other = refl
+is_failure NoMemory not_other = absurd (not_other (λ w. cc))
+
+never_refused : (f : Form) (key : List ℕ) (image : ℕ → List ℕ) (h : Held) (o : Result (Option Found) OpenAnswer) → HeldAs f key image h o → (answer : OpenAnswer)
+    → (let refused : Result (Option Header) OpenAnswer = Err answer in refused ≡ header_answer o) → ⊥
+never_refused f key image h (Ok found) is answer e = cc
+never_refused f key image h (Err other) is answer e = is
+
+module _ (f : Form) (framed : IsFramed f) (version : ℕ) (same : f.version ≡ version) (h : Held) (old new : View) (holding : IsHolding f old.key h old.state) (fits : old.state.counter < 2 ^ 64)
+    (large : VOLUME_BLOCKS ≤ old.size) where
+  -- on a board that is large enough the answer is that of what the image opens to
+  opens_large : (counter : ℕ) → opens_as version VOLUME_BLOCKS old.size old.key old.state.reads counter ≡ opening_of f.version old.key old.state.reads counter
+  opens_large counter =
+      let enough : nat_lt old.size VOLUME_BLOCKS ≡ false = grind arith in
+      rw (enough, same) refl
+
+  after_least : (o : Result (Option Found) OpenAnswer) → opening_of f.version old.key old.state.reads old.state.counter ≡ o → HeldAs f old.key old.state.reads h o
+      → (n : ℕ) (found : Found) → opening_of f.version old.key old.state.reads n ≡ Ok (Some found) → opened_by o h ≡ h
+  after_least (Ok None) e is n found opens = absurd (never_found f.version old.key old.state.reads old.state.counter n found e opens)
+  after_least (Ok (Some other)) e is n found opens = refl
+  after_least (Err answer) e is n found opens = absurd is
+
+  after_by : (n : ℕ) → IsCounter old.state n → (o : Result (Option Found) OpenAnswer) → opening_of f.version old.key old.state.reads n ≡ o → HeldAs f old.key old.state.reads h o
+      → (found : Option Header) → Ok found ≡ header_answer o → after_found found h ≡ after_opening f old h
+  after_by n among (Ok None) e is found answers =
+      let none : found ≡ None = cc in
+      let zero : n ≡ 0 = blank_at f.version old.key old.state.reads n e in
+      let least : old.state.counter ≡ n = omega (arith, zero, among.least) in
+      let at : opening_of f.version old.key old.state.reads old.state.counter ≡ Ok None = ap (opening_of f.version old.key old.state.reads) least ∙ e in
+      ap (λ (w : Option Header). after_found w h) none ∙ sym (ap (λ (o : Result (Option Found) OpenAnswer). opened_by o h) at)
+  after_by n among (Ok (Some v)) e is found answers =
+      let some : found ≡ Some v.header = cc in
+      ap (λ (w : Option Header). after_found w h) some
+      ∙ sym (after_least (opening_of f.version old.key old.state.reads old.state.counter) refl (opens_least f old.key h old.state holding fits) n v e)
+  after_by n among (Err answer) e is found answers = absurd is
+
+  found_by : (result : Result (Option Header) OpenAnswer) → Finds version VOLUME_BLOCKS old.size old.key old.state result → SameBlocks old.state new.state
+      → IfOk result (λ found. IsSettledAt (sequence_of found) new.state)
+      → IfOk result (λ found. MountsTo f old.key h new.state found × (after_found found h ≡ after_opening f old h)) × IfErr result (λ why. why ≡ Failed)
+  found_by (Ok found) finds blocks settled =
+      let opening = opening_of f.version old.key old.state.reads finds.counter in
+      let answers : Ok found ≡ header_answer (opening_of f.version old.key old.state.reads finds.counter) = finds.ruled (λ w. cc) ∙ ap header_answer (opens_large finds.counter) in
+      let is = holds_as f old.key old.state.reads finds.counter h (holding.each finds.counter finds.among) in (
+        (
+          mounts_by f framed old.key h old.state new.state holding.as_read holding.pending blocks finds.counter (opening_of f.version old.key old.state.reads finds.counter) refl is found answers settled,
+          after_by finds.counter finds.among (opening_of f.version old.key old.state.reads finds.counter) refl is found answers,
+        ),
+        tt,
+      )
+  found_by (Err answer) finds blocks settled =
+      let is = holds_as f old.key old.state.reads finds.counter h (holding.each finds.counter finds.among) in (
+        tt,
+        is_failure answer (λ other.
+            never_refused f old.key old.state.reads h (opening_of f.version old.key old.state.reads finds.counter) is answer (finds.ruled other ∙ ap header_answer (opens_large finds.counter))),
+      )
+
+  pub mounts_found : (result : Result (Option Header) OpenAnswer) → Finds version VOLUME_BLOCKS old.size old.key old.state result → SameBlocks old.state new.state
+      → IfOk result (λ found. IsSettledAt (sequence_of found) new.state)
+      → ((open_at : ℕ → Bool) (base : ℕ → List ℕ) (low high : ℕ) (first : View) → OpensBelow version old.key old.state.reads low high
+      → RunsOver open_at base low high first old → RunsOver open_at base low high first new)
+      → Mounts f h result old new
+  mounts_found result finds blocks settled goes =
+      let both = found_by result finds blocks settled in
+      record {
+        mounted = both.0;
+        failed = both.1;
+        leaves = leaves_held f h old new holding fits (λ open_at base low high first below.
+            goes open_at base low high first (subst (λ (v : ℕ). OpensBelow v old.key old.state.reads low high) same below));
+      }
+
+-- a board as it reads is among what a crash may leave
+outcome_as_read : Moment → ℕ → Outcome
+outcome_as_read m n = record { image = m.reads; counter = n; faults = m.faults; orders = m.orders }
+
+left_as_read : (v : View) → IsConsistent v → (n : ℕ) → IsCounter v.state n → IsLeft v.state (outcome_as_read v.state n)
+unfolding outcome_as_read
+left_as_read v is n among = record {
+  kept = λ k shut. is.as_read k shut;
+  any = λ k pending. is.whole k (is.within k pending);
+  counter = among;
+  faults = refl;
+  orders = refl;
+}
+
+-- what is in use is something
+in_use_now : (o : Option Held) → IsInUse o → (h : Held) × (o ≡ Some h) × (0 < h.sequence)
+in_use_now (Some h) used = (h, refl, used)
+in_use_now None used = absurd used
+
+module _ (f : Form) (old : View) (is : IsConsistent old) where
+  counter_now : IsCounter old.state old.state.counter
+  counter_now = record { least = omega arith; greatest = omega arith; fits = is.counter }
+
+  -- what a crash leaves after a sync, or after one that failed
+  synced_left : (ok : Bool) (mid : View) → Synced ok old.state mid.state → (c : Outcome) → IsLeft mid.state c → MightBe f old.key old.state c
+  unfolding outcome_as_read
+  synced_left true mid synced c left =
+      let among : IsCounter old.state c.counter = record {
+        least = omega (arith, left.counter.least, synced.counter);
+        greatest = omega (arith, left.counter.greatest, synced.counter, synced.slack);
+        fits = left.counter.fits;
+      } in
+      let image : c.image ≡ old.state.reads = λ i k. (left.kept k (synced.settled refl k) ∙ synced.durable refl k) i in
+      (outcome_as_read old.state c.counter, left_as_read old is c.counter among, ap (λ (g : ℕ → List ℕ). held f old.key g c.counter) image)
+  synced_left false mid synced c left =
+      let among : IsCounter old.state c.counter = record {
+        least = omega (arith, left.counter.least, synced.counter);
+        greatest = omega (arith, left.counter.greatest, synced.counter, synced.slack);
+        fits = left.counter.fits;
+      } in
+      let pending : (k : ℕ) → mid.state.pending k ≡ old.state.pending k = λ k. ap (λ (g : ℕ → Bool). g k) (synced.failed_pending refl) in
+      let d : Outcome = record { image = c.image; counter = c.counter; faults = old.state.faults; orders = old.state.orders } in (
+        record { image = c.image; counter = c.counter; faults = old.state.faults; orders = old.state.orders },
+        record {
+          kept = λ k shut. left.kept k (pending k ∙ shut) ∙ ap (λ (g : ℕ → List ℕ). g k) (synced.failed_durable refl);
+          any = λ k shut. left.any k (pending k ∙ shut);
+          counter = among;
+          faults = refl;
+          orders = refl;
+        },
+        refl,
+      )
+
+  after_sync : (ok : Bool) (mid : View) → Answered old mid → Synced ok old.state mid.state → LeavesOnly moment left_since old mid (MightBe f old.key old.state)
+  after_sync ok mid answered synced =
+      goes_on old old mid (MightBe f old.key old.state) (starts old (MightBe f old.key old.state) (λ c left. (c, left, refl))) answered.time (synced_left ok mid synced)
+
+  module _ (used : AreInUse f old) where
+    -- what reads give now
+    unfoldable now_held : (h : Held) × (held f old.key old.state.reads old.state.counter ≡ Some h) × (0 < h.sequence)
+    unfolding outcome_as_read
+    now_held = in_use_now (held f old.key old.state.reads old.state.counter) (used (outcome_as_read old.state old.state.counter) (left_as_read old is old.state.counter counter_now))
+
+    each_held : (n : ℕ) → IsCounter old.state n → held f old.key old.state.reads n ≡ Some now_held.0
+    unfolding outcome_as_read
+    each_held n among =
+        let x = in_use_now (held f old.key old.state.reads n) (used (outcome_as_read old.state n) (left_as_read old is n among)) in
+        one_held f old.key old.state.reads old.state.counter n now_held.0 x.0 now_held.1 now_held.2 x.1 x.2 ∙ now_held.1
+
+    -- after the sync whichever counter is told, this is held
+    synced_holds : (mid : View) → mid.key ≡ old.key → Synced true old.state mid.state → IsHolding f mid.key now_held.0 mid.state
+    synced_holds mid key synced = record {
+      as_read = λ k. ap (λ (g : ℕ → List ℕ). g k) synced.reads ∙ sym (synced.durable refl k);
+      pending = λ k. synced.settled refl k;
+      each = λ n among.
+          let among' : IsCounter old.state n = record {
+            least = omega (arith, among.least, synced.counter);
+            greatest = omega (arith, among.greatest, synced.counter, synced.slack);
+            fits = among.fits;
+          } in
+          rw (key, synced.reads) (each_held n among');
+    }
+
+    among_now : (c : Outcome) × IsLeft old.state c × (held_of f old.key c ≡ Some now_held.0)
+    unfolding outcome_as_read
+    among_now = (outcome_as_read old.state old.state.counter, left_as_read old is old.state.counter counter_now, now_held.1)
+
+    -- a reopening whose sync failed
+    pub again_failed : (mid : View) → Answered old mid → Synced false old.state mid.state → (let failed : Result (Option Header) OpenAnswer = Err Failed in MountsAgain f failed old mid)
+    again_failed mid answered synced = record {
+      chosen = now_held.0;
+      among = among_now;
+      in_use = now_held.2;
+      mounted = tt;
+      failed = refl;
+      leaves = after_sync false mid answered synced;
+    }
+
+    mounted_under : (key : List ℕ) (m : Moment) (result : Result (Option Header) OpenAnswer) (E : Option Header → Type 0) → key ≡ old.key → IfOk result (λ found. MountsTo f key now_held.0 m found × E found)
+        → IfOk result (λ found. MountsTo f old.key now_held.0 m found)
+    mounted_under key m (Ok found) E same mounted = subst (λ (k : List ℕ). MountsTo f k now_held.0 m found) same mounted.0
+    mounted_under key m (Err answer) E same mounted = tt
+
+    -- one whose search came to its end
+    pub again_found : (mid new : View) (result : Result (Option Header) OpenAnswer) → mid.key ≡ old.key → Answered old mid → Synced true old.state mid.state
+        → ((h : Held) → IsHolding f mid.key h mid.state → Mounts f h result mid new) → MountsAgain f result old new
+    again_found mid new result key answered synced search =
+        let found = search now_held.0 (synced_holds mid key synced) in
+        record {
+          chosen = now_held.0;
+          among = among_now;
+          in_use = now_held.2;
+          mounted = mounted_under mid.key new.state result (λ header. after_found header now_held.0 ≡ after_opening f mid now_held.0) key found.mounted;
+          failed = found.failed;
+          leaves = joined moment left_since old mid new (MightBe f old.key old.state) (after_sync true mid answered synced)
+              (weaker moment left_since mid new (λ c. held_of f mid.key c ≡ Some now_held.0) (MightBe f old.key old.state)
+              (λ c e. (among_now.0, among_now.1, ap (λ (k : List ℕ). held_of f k c) (sym key) ∙ e ∙ sym among_now.2)) found.leaves);
+        }
+
+-- after a loss of power: what a crash leaves holds what was chosen
+module _ (f : Form) (old mid : View) (key : mid.key ≡ old.key) (time : Passes old mid) (powered : Powered old.state mid.state) where
+  power_left : (c : Outcome) → IsLeft mid.state c → held_of f mid.key c ≡ held_of f old.key powered.left
+  power_left c left =
+      let counter : c.counter ≡ powered.left.counter = omega (arith, left.counter.least, left.counter.greatest, powered.counter, powered.slack) in
+      let image : c.image ≡ powered.left.image = λ i k. (left.kept k (powered.pending k) ∙ powered.durable k) i in
+      rw (key, counter, image) refl
+
+  might_be : (c : Outcome) → MightBe f mid.key mid.state c → MightBe f old.key old.state c
+  might_be c might = (powered.left, powered.may, ap (λ (k : List ℕ). held_of f k c) (sym key) ∙ might.2 ∙ power_left might.0 might.1)
+
+  pub power_in_use : AreInUse f old → AreInUse f mid
+  power_in_use used c left = subst IsInUse (sym (power_left c left)) (used powered.left powered.may)
+
+  mounted_back : (h : Held) (m : Moment) (result : Result (Option Header) OpenAnswer) → IfOk result (λ found. MountsTo f mid.key h m found) → IfOk result (λ found. MountsTo f old.key h m found)
+  mounted_back h m (Ok found) mounted = subst (λ (k : List ℕ). MountsTo f k h m found) key mounted
+  mounted_back h m (Err answer) mounted = tt
+
+  pub after_power : (new : View) (result : Result (Option Header) OpenAnswer) → MountsAgain f result mid new → MountsAfterPower f result old new
+  after_power new result again =
+      let chosen : held_of f old.key powered.left ≡ Some again.chosen = sym (power_left again.among.0 again.among.1) ∙ again.among.2 in
+      record {
+        again = record {
+          chosen = again.chosen;
+          among = (powered.left, powered.may, chosen);
+          in_use = again.in_use;
+          mounted = mounted_back again.chosen new.state result again.mounted;
+          failed = again.failed;
+          leaves = joined moment left_since old mid new (MightBe f old.key old.state)
+              (goes_on old old mid (MightBe f old.key old.state) (starts old (MightBe f old.key old.state) (λ c left. (c, left, refl))) time
+              (λ c left. (powered.left, powered.may, ap (λ (k : List ℕ). held_of f k c) (sym key) ∙ power_left c left)))
+              (weaker moment left_since mid new (MightBe f mid.key mid.state) (MightBe f old.key old.state) might_be again.leaves);
+        };
+        rests = λ c left.
+            let might = again.leaves.each c (inl left) in
+            ap (λ (k : List ℕ). held_of f k c) (sym key) ∙ might.2 ∙ power_left might.0 might.1 ∙ chosen;
+      }
+
+-- a refusal over a board that has the same size and key, and reads so
+module _ (f : Form) (old mid : View) (size : mid.size ≡ old.size) (key : mid.key ≡ old.key) (image base : ℕ → List ℕ) (counter n : ℕ) (reads : image ≡ base) (count : counter ≡ n) where
+  same_rule : (why : OpenAnswer) → opens_as f.version BOARD_BLOCKS mid.size mid.key image counter ≡ Err why → opens_as f.version BOARD_BLOCKS old.size old.key base n ≡ Err why
+  same_rule why e = rw (sym size, sym key, sym reads, sym count) e
+
+  refusal_moved : (why : OpenAnswer) → IsRefusal f mid image counter why → IsRefusal f old base n why
+  refusal_moved (TooSmall m) e = same_rule (TooSmall m) e
+  refusal_moved (NoVolume m) e = same_rule (NoVolume m) e
+  refusal_moved (BadHeader slot found kept) e = same_rule (BadHeader slot found kept) e
+  refusal_moved (UnknownVersion m) e = same_rule (UnknownVersion m) e
+  refusal_moved (Rollback s m) e = same_rule (Rollback s m) e
+  refusal_moved (Ahead s m) e = same_rule (Ahead s m) e
+  refusal_moved Failed e = tt
+  refusal_moved NoMemory e = tt
+
+  pub refused_so : {A : Type 0} (result : Result A OpenAnswer) → IfErr result (λ why. IsRefusal f mid image counter why) → IfErr result (λ why. IsRefusal f old base n why)
+  refused_so (Ok done) refused = tt
+  refused_so (Err why) refused = refusal_moved why refused
+
+-- a reopening that ends before its sync is done
+pub stopped : {f : Form} {result failed : Result (Option Header) OpenAnswer} {old new : View} → result ≡ failed → MountsAgain f failed old new → MountsAgain f result old new
+stopped {f} {result} {failed} {old} {new} same again = subst (λ (r : Result (Option Header) OpenAnswer). MountsAgain f r old new) (sym same) again

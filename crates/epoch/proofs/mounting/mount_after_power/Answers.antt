@@ -1,0 +1,25 @@
+use Rattle.std.proofs.Common.{◌≡◌, arith}
+use Rattle.epoch.proofs.MountLemmas.{after_power, power_in_use, refused_so}
+use Rattle.epoch.proofs.mounting.mount_after_power.Goals as goal
+
+pub returns-clause-exact : goal.returns-clause-exact
+returns-clause-exact g c h =
+    let step = c.power.ensures.honest h in
+    let powered = step.2 in
+    let told = c.mount_again.ensures.exact step.0 in
+    let call = c.power.ensures.ordered in
+    let image : (g.B.Board.view c.power.new.self).state.reads ≡ powered.left.image = λ i k. powered.reads k i in
+    let counter : told.0 ≡ powered.left.counter = omega (arith, told.1.least, told.1.greatest, powered.counter, powered.slack) in (
+      powered.left,
+      powered.may,
+      λ f same.
+          refused_so f (g.B.Board.view c.args.board.now) (g.B.Board.view c.power.new.self) call.size call.key _ _ _ _ image counter c.mount_again.result (told.2 f same),
+    )
+
+pub returns-clause-again : goal.returns-clause-again
+returns-clause-again g c h f framed same large used =
+    let step = c.power.ensures.honest h in
+    let call = c.power.ensures.ordered in
+    after_power f (g.B.Board.view c.args.board.now) (g.B.Board.view c.power.new.self) call.key step.1 step.2 (g.B.Board.view c.mount_again.new.board) c.mount_again.result
+    (c.mount_again.ensures.again step.0 f framed same (omega (arith, large, call.size))
+    (power_in_use f (g.B.Board.view c.args.board.now) (g.B.Board.view c.power.new.self) call.key step.1 step.2 used))

@@ -1,0 +1,46 @@
+-- What a commit finds and leaves, over the form of the leaves.
+use Rattle.std.specs.Prelude.{◌≡◌, ◌⊎◌, ℕ, ◌+◌, ◌%◌, ◌==◌, ◌&&◌, ◌||◌, not, nat_lt, Bool, true, List, Option, Some, None, Result, Ok, Err}
+use Rattle.store_api.specs.Volumes.{Held}
+use Rattle.board.specs.Moment.{Outcome, Moment}
+use Rattle.board.specs.Runs.{Rests}
+use Rattle.epoch.specs.Forms.{Form, held_of, is_sealed, leaves_of}
+use Rattle.epoch.specs.Gates.{header_at}
+use Rattle.epoch.specs.Opening.{opening_of}
+use Rattle.epoch.specs.declared.answer.OpenAnswer.{OpenAnswer}
+use Rattle.epoch.specs.declared.header.TreeEntry.{TreeEntry}
+use Rattle.epoch.specs.declared.rule.Found.{Found}
+
+-- a header of this sequence counts, in its slot, with this root; or the board is blank, as is a root of sequence 0
+abbrev pub OpensTo : ℕ → TreeEntry → Result (Option Found) OpenAnswer → Type 0
+OpensTo sequence root (Ok None) = (sequence ≡ 0) × (root.sequence ≡ 0)
+OpensTo sequence root (Ok (Some found)) =
+    (found.header.sequence ≡ sequence) × (found.slot ≡ sequence % 2) × (found.header.root ≡ root)
+OpensTo sequence root (Err answer) = ⊥
+
+-- a board at rest with a sound image: under this root it holds this, and the counter is the sequence
+pub record IsMounted (f : Form) (key : List ℕ) (root : TreeEntry) (held : Held) (m : Moment)
+    : Type 0 where
+  pub rests : Rests held.sequence m
+  pub opens : OpensTo held.sequence root (opening_of f.version key m.reads held.sequence)
+  pub sealed : is_sealed f key m.reads root ≡ true
+  pub leaves : held.leaves ≡ leaves_of f key m.reads root
+
+-- the blocks that a commit to this slot may write: the slot's header, and behind the slots those that the root in use
+-- doesn't
+abbrev pub spare : Form → List ℕ → (ℕ → List ℕ) → TreeEntry → ℕ → ℕ → Bool
+spare f key base root slot k = (k == header_at slot) || (nat_lt 3 k && not (f.uses key base root k))
+
+-- what a commit's copies hold once they are written: under the new root these leaves, sealed
+pub record IsWritten (f : Form) (key : List ℕ) (root : TreeEntry) (leaves : ℕ → ℕ → List ℕ)
+    (reads : ℕ → List ℕ) : Type 0 where
+  pub sealed : is_sealed f key reads root ≡ true
+  pub leaves_are : leaves_of f key reads root ≡ leaves
+
+-- these leaves with the next sequence
+abbrev pub next_held : (ℕ → ℕ → List ℕ) → ℕ → Held
+next_held leaves sequence = record { leaves = leaves; sequence = sequence + 1 }
+
+-- a crash left what was held before, or after
+abbrev pub BeforeOrAfter : Form → List ℕ → Held → Held → Outcome → Type 0
+BeforeOrAfter f key before after c =
+    (held_of f key c ≡ Some before) ⊎ (held_of f key c ≡ Some after)

@@ -1,0 +1,64 @@
+-- What is found by a search for the header that counts, over the form of the leaves: on a board that holds this, after a
+-- sync, and after a loss of power.
+use Rattle.std.specs.Prelude.{◌≡◌, ◌<◌, ℕ, false, List, Option, Some, None, Result, IfErr, IfOk}
+use Rattle.tee_base.specs.Crash.{LeavesOnly}
+use Rattle.store_api.specs.Volumes.{Held}
+use Rattle.board.specs.Moment.{IsCounter, IsLeft, Moment, Outcome, View, left_since, moment}
+use Rattle.epoch.specs.Commits.{IsMounted}
+use Rattle.epoch.specs.Forms.{Form, held, held_of}
+use Rattle.epoch.specs.Mounts.{IsInUse, after_opening}
+use Rattle.epoch.specs.declared.answer.OpenAnswer.{OpenAnswer}
+use Rattle.epoch.specs.declared.answer.OpenAnswer.TheVariants as answers
+use Rattle.epoch.specs.declared.header.Header.{Header}
+use Rattle.epoch.specs.declared.header.TreeEntry.{TreeEntry}
+
+-- nothing is pending, and whichever counter is told, the board holds this
+pub record IsHolding (f : Form) (key : List ℕ) (h : Held) (m : Moment) : Type 0 where
+  pub as_read : (k : ℕ) → m.reads k ≡ m.durable k
+  pub pending : (k : ℕ) → m.pending k ≡ false
+  pub each : (n : ℕ) → IsCounter m n → held f key m.reads n ≡ Some h
+
+-- what is held once a header was found, or where none was, the board was formatted
+abbrev pub after_found : Option Header → Held → Held
+after_found None h = record { leaves = h.leaves; sequence = 1 }
+after_found (Some header) h = h
+
+-- the board is mounted with this under the root of the header, and where there is none, under each root of sequence 0
+abbrev pub MountsTo : Form → List ℕ → Held → Moment → Option Header → Type 0
+MountsTo f key h m None =
+    (h.sequence ≡ 0) × ((root : TreeEntry) → root.sequence ≡ 0 → IsMounted f key root h m)
+MountsTo f key h m (Some header) =
+    (h.sequence ≡ header.sequence) × IsMounted f key header.root h m
+
+-- a board that holds this was searched: it is mounted, or a call failed, and a crash leaves nothing else
+pub record Mounts (f : Form) (h : Held) (result : Result (Option Header) OpenAnswer)
+    (old new : View) : Type 0 where
+  pub mounted : IfOk result (λ found. MountsTo f old.key h new.state found
+      × (after_found found h ≡ after_opening f old h))
+  pub failed : IfErr result (λ why. why ≡ answers.Failed)
+  pub leaves : LeavesOnly moment left_since old new (λ c. held_of f old.key c ≡ Some h)
+
+-- all that a crash may leave now was formatted
+abbrev pub AreInUse : Form → View → Type 0
+AreInUse f view = (c : Outcome) → IsLeft view.state c → IsInUse (held_of f view.key c)
+
+-- a crash left what holds the same as something that it might have left then
+abbrev pub MightBe : Form → List ℕ → Moment → Outcome → Type 0
+MightBe f key m c = (d : Outcome) × IsLeft m d × (held_of f key c ≡ held_of f key d)
+
+-- a board was opened again: it is mounted with what a crash might have left, or a call failed
+pub record MountsAgain (f : Form) (result : Result (Option Header) OpenAnswer)
+    (old new : View) : Type 0 where
+  pub chosen : Held
+  pub among : (c : Outcome) × IsLeft old.state c × (held_of f old.key c ≡ Some chosen)
+  pub in_use : 0 < chosen.sequence
+  pub mounted : IfOk result (λ found. MountsTo f old.key chosen new.state found)
+  pub failed : IfErr result (λ why. why ≡ answers.Failed)
+  pub leaves : LeavesOnly moment left_since old new (MightBe f old.key old.state)
+
+-- the same after a loss of power: a crash now leaves what was chosen alone
+pub record MountsAfterPower (f : Form) (result : Result (Option Header) OpenAnswer)
+    (old new : View) : Type 0 where
+  pub again : MountsAgain f result old new
+  pub rests : (c : Outcome) → IsLeft new.state c
+      → held_of f old.key c ≡ Some again.chosen

@@ -1,0 +1,104 @@
+-- What the opening of a volume on a board promises, and its reopening, a loss of power and a fuse, over the form of the
+-- leaves.
+use Rattle.std.specs.Prelude.{◌≡◌, ◌≤◌, ◌<◌, ◌⊎◌, ◌+◌, ◌%◌, ◌^◌, ℕ, List, [], false, true, Option, Some, None, Result, Ok, Err, IfErr, IfOk, OnErr}
+use Rattle.tee_base.specs.Crash.{LeavesOnly, read_as}
+use Rattle.tee_base.specs.declared.limits.TheConstants.{BOARD_BLOCKS}
+use Rattle.store_api.specs.Volumes.{Held, RestsAt, VolumeKeeper}
+use Rattle.board.specs.Moment.{Outcome, View, left_since, moment}
+use Rattle.epoch.specs.Forms.{Form, held_of}
+use Rattle.epoch.specs.Opening.{opening_of, opens_as}
+use Rattle.epoch.specs.declared.answer.OpenAnswer.{OpenAnswer}
+use Rattle.epoch.specs.declared.answer.OpenAnswer.TheVariants as answers
+use Rattle.epoch.specs.declared.rule.Found.{Found}
+
+-- what is held once a board that opens so was opened: one that was blank was formatted, to the sequence 1
+abbrev pub opened_by : Result (Option Found) OpenAnswer → Held → Held
+opened_by (Ok None) held = record { leaves = held.leaves; sequence = 1 }
+opened_by (Ok (Some found)) held = held
+opened_by (Err answer) held = held
+
+-- the same of a board that holds this
+abbrev pub after_opening : Form → View → Held → Held
+after_opening f view held =
+    opened_by (opening_of f.version view.key view.state.reads view.state.counter) held
+
+-- a crash left a volume that was formatted
+abbrev pub IsInUse : Option Held → Type 0
+IsInUse (Some held) = 0 < held.sequence
+IsInUse None = ⊥
+
+-- a refusal is the opening rule's, of a board over this image and this counter; a failure and want of memory are no such
+-- refusals
+abbrev pub IsRefusal : Form → View → (ℕ → List ℕ) → ℕ → OpenAnswer → Type 0
+IsRefusal f view image counter answers.Failed = Unit {0}
+IsRefusal f view image counter answers.NoMemory = Unit {0}
+IsRefusal f view image counter why =
+    opens_as f.version BOARD_BLOCKS view.size view.key image counter ≡ Err why
+
+-- a call of the board failed, or there was no memory
+abbrev pub IsKeptFromOpening : OpenAnswer → Type 0
+IsKeptFromOpening why = (why ≡ answers.Failed) ⊎ (why ≡ answers.NoMemory)
+
+-- a run of calls with one order among them, of this number
+pub record OrderRun (number : ℕ) (old new : View) : Type 0 where
+  pub size : new.size ≡ old.size
+  pub key : new.key ≡ old.key
+  pub orders : new.state.orders ≡ (old.state.orders + 1) % 2 ^ 64
+  pub ordered : new.ordered ≡ (old.ordered + number) % 2 ^ 64
+  pub faults : old.state.faults ≤ new.state.faults
+
+-- within an opening a crash leaves what the board held, or that once it is formatted
+abbrev pub LeavesOpening : Form → Held → View → View → Type 0
+LeavesOpening f held old new = LeavesOnly moment left_since old new
+    (λ c. (held_of f old.key c ≡ Some held)
+    ⊎ (held_of f old.key c ≡ Some (after_opening f old held)))
+
+module _ {V : Type 0} (K : VolumeKeeper V) where
+  -- how a volume is seen on its board
+  pub record IsSeenOn (f : Form) (volume : V) (view : View) : Type 0 where
+    pub faults : (K.condition volume).faults ≡ view.state.faults
+    pub foundation : (K.condition volume).foundation
+        ≡ record { place = []; orders = view.state.orders; ordered = view.ordered }
+    pub moment : K.moment volume ≡ moment view
+    pub left : (t : ℕ) (o : Option Held) → K.left_since volume t o
+        → read_as (held_of f view.key) (left_since view) t o
+    pub left_back : (t : ℕ) (c : Outcome) → left_since view t c
+        → K.left_since volume t (held_of f view.key c)
+
+  -- all that a crash may leave now was formatted
+  abbrev pub IsAlwaysInUse : V → Type 0
+  IsAlwaysInUse volume =
+      (o : Option Held) → K.left_since volume (K.moment volume) o → IsInUse o
+
+  -- a crash leaves nothing that it might not have left before, and nothing of the past is forgotten
+  pub record LeavesAsBefore (old new : V) : Type 0 where
+    pub crash : LeavesOnly K.moment K.left_since old new
+        (λ o. K.left_since old (K.moment old) o)
+    pub past : (t : ℕ) (o : Option Held) → t ≤ K.moment old
+        → K.left_since old t o → K.left_since new t o
+
+  -- a volume was opened again: it holds what a crash might have left, or is lost, since a call of the board failed
+  pub record OpensAgain (result : Result ℕ OpenAnswer) (old new : V) : Type 0 where
+    pub opened : IfOk result (λ sequence. K.left_since old (K.moment old) (Some (K.held new)))
+    pub failed : IfErr result (λ why. why ≡ answers.Failed)
+    pub honest : K.honest new
+    pub leaves : LeavesAsBefore old new
+
+  -- the same after a loss of power, which chose one of all that a crash might have left
+  pub record OpensAfterPower (result : Result ℕ OpenAnswer) (old new : V) : Type 0 where
+    pub again : OpensAgain result old new
+    pub chosen : Held
+    pub among : K.left_since old (K.moment old) (Some chosen)
+    pub rests : RestsAt K new chosen
+
+  -- an order that leaves the volume as it is
+  pub record IsOrdered (old new : V) : Type 0 where
+    pub honest : K.honest new
+    pub same : K.held new ≡ K.held old
+    pub leaves : LeavesAsBefore old new
+
+  -- a volume is in use again where the call went well, with this sequence, and lost otherwise
+  pub record IsBack (result : Result ℕ OpenAnswer) (new : V) : Type 0 where
+    pub works : IfOk result (λ sequence. (K.condition new).lost ≡ false)
+    pub lost : OnErr result ((K.condition new).lost ≡ true)
+    pub sequence : IfOk result (λ sequence. (K.held new).sequence ≡ sequence)

@@ -1,0 +1,147 @@
+//! The commit that every volume makes: its copies and a header in the spare slot, and then the gate and the counter.
+ghost use Rattle.std.specs.Prelude.{◌≡◌, ◌≤◌, ◌<◌, ◌+◌, ◌%◌, ◌^◌, ℕ, true, List, IfOk, OnOk, OnErr, is_ok};
+ghost use Rattle.tee_base.specs.Crash.{LeavesOnly};
+ghost use Rattle.store_api.specs.Volumes.{Held};
+ghost use Rattle.board.specs.Moment.{View, moment, left_since};
+ghost use Rattle.board.specs.Runs.{RunsOver};
+ghost use Rattle.board.specs.Steps.{CallRun};
+ghost use Rattle.epoch.specs.Commits.{BeforeOrAfter, IsMounted, IsWritten, next_held, spare};
+ghost use Rattle.epoch.specs.Forms.{Form, IsFramed, SameUsed, is_sealed, leaves_of};
+ghost use Rattle.epoch.specs.Past.{KeepsPast};
+ghost use Rattle.epoch.specs.declared.header.TreeEntry.{TreeEntry as Entry};
+
+use crate::header::{Header, TreeEntry};
+use crate::steps::{flip, lay, shut};
+use board::{Board, BoardFailed};
+
+/// What a commit writes beside the slots, for a form of the leaves.
+pub trait Change {
+    ghost form: { Form };
+
+    /// The entry of the root in use.
+    ghost root: { Self → Entry };
+
+    /// The leaves after it, of those before.
+    ghost after: { Self → (ℕ → ℕ → List ℕ) → ℕ → ℕ → List ℕ };
+
+    /// Its keys are those of the board's key, and what it keeps of the blocks in use is what they read as.
+    ghost fits: { Self → List ℕ → (ℕ → List ℕ) → Type 0 };
+
+    /// Whatever the board holds: under this key what it keeps of the blocks in use has no damage.
+    ghost checks: { Self → List ℕ → Type 0 };
+
+    /// How many blocks a volume of the form has.
+    ghost blocks: { ℕ };
+
+    /// The version of the form.
+    fn version(&self) -> u32
+        ensures { result ≡ form.version };
+
+    /// Writes the copies that a commit of this sequence makes, and gives the entry of their root, which is then the one in
+    /// use. No block is written that the root in use needs.
+    ///
+    /// # Errors
+    ///
+    /// A call of the board failed.
+    fn write<B: Board>(&mut self, board: &mut B, sequence: u64) -> Result<TreeEntry, BoardFailed>
+        requires size { blocks ≤ (B.view board.old).size }
+        requires sequence { 0 < sequence }
+        ensures calls { CallRun (is_ok result) (B.view board.old) (B.view board.new) }
+        ensures root { IfOk result (λ new_root. root self.new ≡ new_root) }
+        ensures checked { (key : List ℕ) → checks self.old key → OnOk result (checks self.new key) }
+        ensures honest { B.honest board.old → B.honest board.new }
+        ensures past { B.honest board.old → KeepsPast (B.view board.old) (B.view board.new) }
+        ensures run { B.honest board.old → (slot low high : ℕ) (first : View)
+            → fits self.old (B.view board.old).key (B.view board.old).state.reads
+            → RunsOver (spare form (B.view board.old).key (B.view board.old).state.reads
+            (root self.old) slot)
+            (B.view board.old).state.reads low high first (B.view board.old)
+            → RunsOver (spare form (B.view board.old).key (B.view board.old).state.reads
+            (root self.old) slot)
+            (B.view board.old).state.reads low high first (B.view board.new) }
+        ensures written { B.honest board.old
+            → fits self.old (B.view board.old).key (B.view board.old).state.reads
+            → is_sealed form (B.view board.old).key (B.view board.old).state.reads (root self.old)
+            ≡ true
+            → IfOk result (λ new_root. IsWritten form (B.view board.old).key new_root
+            (after self.old (leaves_of form (B.view board.old).key (B.view board.old).state.reads
+            (root self.old)))
+            (B.view board.new).state.reads) }
+        ensures fits { B.honest board.old
+            → fits self.old (B.view board.old).key (B.view board.old).state.reads
+            → OnOk result (fits self.new (B.view board.old).key (B.view board.new).state.reads) };
+
+    ghost framed: { IsFramed form };
+
+    ghost still_fits: { (c : Self) (key : List ℕ) (base image : ℕ → List ℕ)
+        → SameUsed form key (root c) base image → fits c key base → fits c key image };
+
+    ghost enough: { 4 ≤ blocks };
+}
+
+/// Makes a commit to the sequence after this one, and gives the entry of the new root.
+///
+/// It shuts the gate of the spare slot, writes the copies and the header, and then opens the gate and advances the
+/// counter. It takes no memory but for what the change takes.
+///
+/// # Errors
+///
+/// A call of the board failed. The leaves under the root in use read as before.
+pub fn commit<B: Board, C: Change>(
+    board: &mut B,
+    change: &mut C,
+    sequence: u64,
+) -> Result<TreeEntry, BoardFailed>
+    requires size { C.blocks ≤ (B.view board.old).size }
+    requires sequence { sequence + 1 < 2 ^ 64 }
+    ensures calls { CallRun (is_ok result) (B.view board.old) (B.view board.new) }
+    ensures root { IfOk result (λ root. C.root change.new ≡ root) }
+    ensures checked { (key : List ℕ) → C.checks change.old key
+        → OnOk result (C.checks change.new key) }
+    ensures honest { B.honest board.old → B.honest board.new }
+    ensures past { B.honest board.old → KeepsPast (B.view board.old) (B.view board.new) }
+    // at every moment since the start all that a crash leaves holds what was held before, or after
+    ensures crash { B.honest board.old → (before : Held) → before.sequence ≡ sequence
+        → IsMounted C.form (B.view board.old).key (C.root change.old) before
+        (B.view board.old).state
+        → C.fits change.old (B.view board.old).key (B.view board.old).state.reads
+        → LeavesOnly moment left_since (B.view board.old) (B.view board.new)
+        (BeforeOrAfter C.form (B.view board.old).key before
+        (next_held (C.after change.old before.leaves) before.sequence)) }
+    // at Ok it is what is held after, and the counter is its sequence
+    ensures done { B.honest board.old → (before : Held) → before.sequence ≡ sequence
+        → IsMounted C.form (B.view board.old).key (C.root change.old) before
+        (B.view board.old).state
+        → C.fits change.old (B.view board.old).key (B.view board.old).state.reads
+        → IfOk result (λ root. IsMounted C.form (B.view board.old).key root
+        (next_held (C.after change.old before.leaves) before.sequence) (B.view board.new).state
+        × C.fits change.new (B.view board.old).key (B.view board.new).state.reads) }
+    ensures kept { B.honest board.old → (before : Held) → before.sequence ≡ sequence
+        → IsMounted C.form (B.view board.old).key (C.root change.old) before
+        (B.view board.old).state
+        → C.fits change.old (B.view board.old).key (B.view board.old).state.reads
+        → OnErr result (leaves_of C.form (B.view board.old).key (B.view board.new).state.reads
+        (C.root change.old) ≡ before.leaves) }
+{
+    let slot = other_slot(sequence);
+    let version = change.version();
+    shut(board, slot)?;
+    let root = change.write(board, sequence + 1)?;
+    let header = Header {
+        version,
+        sequence: sequence + 1,
+        root,
+    };
+    lay(board, &header)?;
+    let _counter = flip(board, slot)?;
+    Ok(root)
+}
+
+/// The slot of the sequence after this one.
+fn other_slot(sequence: u64) -> u8
+    requires { sequence + 1 < 2 ^ 64 }
+    ensures slot { result ≡ (sequence + 1) % 2 }
+    ensures below { result < 2 }
+{
+    ((sequence + 1) % 2) as u8
+}

@@ -1,0 +1,98 @@
+//! What a board holds that is opened, over the form of the leaves: found at first, after a sync, after a loss of power.
+ghost use Rattle.std.specs.Prelude.{◌≡◌, ◌≢◌, ◌≤◌, ℕ, true, Err, IsTrue, IfErr, OnOk};
+ghost use Rattle.tee_base.specs.Faults.{Rose};
+ghost use Rattle.store_api.specs.Volumes.{Held};
+ghost use Rattle.board.specs.Moment.{IsCounter, IsLeft, Outcome};
+ghost use Rattle.board.specs.Steps.{CallRun};
+ghost use Rattle.epoch.specs.Forms.{Form, IsFramed};
+ghost use Rattle.epoch.specs.Mounting.{AreInUse, IsHolding, Mounts, MountsAfterPower, MountsAgain};
+ghost use Rattle.epoch.specs.Mounts.{IsRefusal, OrderRun};
+ghost use Rattle.epoch.specs.Past.{KeepsPast};
+ghost use Rattle.epoch.specs.declared.answer.OpenAnswer.TheVariants as answers;
+
+use crate::answer::OpenAnswer;
+use crate::find::{VOLUME_BLOCKS, find_version};
+use crate::header::Header;
+use board::Board;
+
+/// The header that counts, of a volume of this version; none where the board is blank and its counter 0.
+///
+/// # Errors
+///
+/// As `find_version`.
+pub fn mount<B: Board>(board: &mut B, version: u32) -> Result<Option<Header>, OpenAnswer>
+    ensures calls { CallRun true (B.view board.old) (B.view board.new) }
+    ensures cause { result ≡ Err answers.Failed
+        → Rose (B.view board.old).state.faults (B.view board.new).state.faults }
+    ensures memory { result ≢ Err answers.NoMemory }
+    ensures size { OnOk result (VOLUME_BLOCKS ≤ (B.view board.old).size) }
+    ensures honest { B.honest board.old → B.honest board.new }
+    ensures past { B.honest board.old → KeepsPast (B.view board.old) (B.view board.new) }
+    // whatever the board: refused by the rule over what it tells, at some counter
+    ensures rule { IsTrue B.tells_reads → (counter : ℕ) × ((f : Form) → f.version ≡ version
+        → IfErr result (λ why. IsRefusal f (B.view board.old) (B.view board.old).state.reads
+        counter why)) }
+    ensures exact { B.honest board.old → (counter : ℕ)
+        × IsCounter (B.view board.old).state counter × ((f : Form) → f.version ≡ version
+        → IfErr result (λ why. IsRefusal f (B.view board.old) (B.view board.old).state.reads
+        counter why)) }
+    ensures holds { B.honest board.old → (f : Form) (h : Held) → IsFramed f
+        → f.version ≡ version → VOLUME_BLOCKS ≤ (B.view board.old).size
+        → IsHolding f (B.view board.old).key h (B.view board.old).state
+        → Mounts f h result (B.view board.old) (B.view board.new) }
+{
+    find_version(board, version)
+}
+
+/// The header that counts, once what may be pending is made durable.
+///
+/// # Errors
+///
+/// As `find_version`, and `Failed` where the sync failed.
+pub fn mount_again<B: Board>(board: &mut B, version: u32) -> Result<Option<Header>, OpenAnswer>
+    ensures calls { CallRun true (B.view board.old) (B.view board.new) }
+    ensures cause { result ≡ Err answers.Failed
+        → Rose (B.view board.old).state.faults (B.view board.new).state.faults }
+    ensures memory { result ≢ Err answers.NoMemory }
+    ensures honest { B.honest board.old → B.honest board.new }
+    ensures past { B.honest board.old → KeepsPast (B.view board.old) (B.view board.new) }
+    ensures exact { B.honest board.old → (counter : ℕ)
+        × IsCounter (B.view board.old).state counter × ((f : Form) → f.version ≡ version
+        → IfErr result (λ why. IsRefusal f (B.view board.old) (B.view board.old).state.reads
+        counter why)) }
+    ensures again { B.honest board.old → (f : Form) → IsFramed f
+        → f.version ≡ version → VOLUME_BLOCKS ≤ (B.view board.old).size
+        → AreInUse f (B.view board.old)
+        → MountsAgain f result (B.view board.old) (B.view board.new) }
+{
+    board.sync()?;
+    mount(board, version)
+}
+
+/// The header that counts after a loss of power.
+///
+/// # Errors
+///
+/// As `mount_again`.
+pub fn mount_after_power<B: Board>(
+    board: &mut B,
+    pick: u64,
+    version: u32,
+) -> Result<Option<Header>, OpenAnswer>
+    ensures ordered { OrderRun pick (B.view board.old) (B.view board.new) }
+    ensures cause { result ≡ Err answers.Failed
+        → Rose (B.view board.old).state.faults (B.view board.new).state.faults }
+    ensures memory { result ≢ Err answers.NoMemory }
+    ensures honest { B.honest board.old → B.honest board.new }
+    ensures past { B.honest board.old → KeepsPast (B.view board.old) (B.view board.new) }
+    ensures exact { B.honest board.old → (c : Outcome) × IsLeft (B.view board.old).state c
+        × ((f : Form) → f.version ≡ version
+        → IfErr result (λ why. IsRefusal f (B.view board.old) c.image c.counter why)) }
+    ensures again { B.honest board.old → (f : Form) → IsFramed f
+        → f.version ≡ version → VOLUME_BLOCKS ≤ (B.view board.old).size
+        → AreInUse f (B.view board.old)
+        → MountsAfterPower f result (B.view board.old) (B.view board.new) }
+{
+    board.power(pick);
+    mount_again(board, version)
+}

@@ -1,0 +1,115 @@
+//! A volume on a board: how it is opened, and what happens to its board beside the leaves.
+ghost use Rattle.std.specs.Prelude.{◌≡◌, ◌≤◌, ℕ, true, false, Some, Err, IsTrue, IfOk, IfErr};
+ghost use Rattle.tee_base.specs.Faults.{Rose};
+ghost use Rattle.tee_base.specs.declared.limits.TheConstants.{BOARD_BLOCKS};
+ghost use Rattle.store_api.specs.Volumes.{Held};
+ghost use Rattle.board.specs.Moment.{IsCounter, IsLeft, Outcome};
+ghost use Rattle.board.specs.Runs.{Rests};
+ghost use Rattle.board.specs.Steps.{CallRun};
+ghost use Rattle.epoch.specs.Forms.{Form, held};
+ghost use Rattle.epoch.specs.Mounts.{IsAlwaysInUse, IsBack, IsKeptFromOpening, IsOrdered, IsRefusal, IsSeenOn, LeavesOpening, OpensAfterPower, OpensAgain, OrderRun, after_opening};
+ghost use Rattle.epoch.specs.declared.answer.OpenAnswer.TheVariants as answers;
+
+use crate::answer::{OpenAnswer, Unopened};
+use board::Board;
+use std::alloc::Global;
+use store_api::Volume;
+
+/// A volume that stands on a board.
+pub trait BoardVolume<B: Board>: Volume + Sized {
+    /// How its leaves lie on the board.
+    ghost form: { Form };
+
+    /// The board that it stands on.
+    ghost board_of: { Self → B };
+
+    /// Opens a board; one that is blank is formatted.
+    ///
+    /// # Errors
+    ///
+    /// As the opening rule refuses; `Failed` where a call of the board failed; `NoMemory`. The board is handed back.
+    fn open(alloc: Global, board: B) -> Result<Self, Unopened<B>>
+        ensures fresh { IfOk result (λ v. (Self.keeper.condition v).lost ≡ false) }
+        ensures calls { IfOk result (λ v. CallRun true (B.view board) (B.view (board_of v))) }
+        ensures back { IfErr result (λ u. CallRun true (B.view board) (B.view u.board)) }
+        ensures cause { IfErr result (λ u. u.why ≡ answers.Failed
+            → Rose (B.view board).state.faults (B.view u.board).state.faults) }
+        // whatever the board: refused by the rule over what it tells, at some counter
+        ensures rule { IsTrue B.tells_reads → (counter : ℕ)
+            × IfErr result (λ u. IsRefusal form (B.view board)
+            (B.view board).state.reads counter u.why) }
+        ensures exact { B.honest board → (counter : ℕ) × IsCounter (B.view board).state counter
+            × IfErr result (λ u. IsRefusal form (B.view board)
+            (B.view board).state.reads counter u.why) }
+        ensures honest { B.honest board → IfErr result (λ u. B.honest u.board) }
+        // a board at rest with a sound image is opened, unless a call failed or there was no memory
+        ensures opened { B.honest board → (n : ℕ) (h : Held) → Rests n (B.view board).state
+            → BOARD_BLOCKS ≤ (B.view board).size
+            → held form (B.view board).key (B.view board).state.reads n ≡ Some h
+            → IfOk result (λ v. Self.keeper.honest v
+            × (Self.keeper.held v ≡ after_opening form (B.view board) h)
+            × LeavesOpening form h (B.view board) (B.view (board_of v))) }
+        ensures unopened { B.honest board → (n : ℕ) (h : Held) → Rests n (B.view board).state
+            → BOARD_BLOCKS ≤ (B.view board).size
+            → held form (B.view board).key (B.view board).state.reads n ≡ Some h
+            → IfErr result (λ u. IsKeptFromOpening u.why
+            × LeavesOpening form h (B.view board) (B.view u.board)) };
+
+    /// Opens the board again, after what a failed commit may have left pending is made durable, and answers the
+    /// sequence.
+    ///
+    /// # Errors
+    ///
+    /// As `open`. The volume is lost then.
+    fn reopen(&mut self) -> Result<u64, OpenAnswer>
+        ensures calls { CallRun true (B.view (board_of self.old)) (B.view (board_of self.new)) }
+        ensures cause { result ≡ Err answers.Failed
+            → Rose (B.view (board_of self.old)).state.faults
+            (B.view (board_of self.new)).state.faults }
+        ensures back { IsBack Self.keeper result self.new }
+        ensures exact { B.honest (board_of self.old) → (counter : ℕ)
+            × IsCounter (B.view (board_of self.old)).state counter
+            × IfErr result (λ why. IsRefusal form (B.view (board_of self.old))
+            (B.view (board_of self.old)).state.reads counter why) }
+        ensures opened { B.honest (board_of self.old) → IsAlwaysInUse Self.keeper self.old
+            → OpensAgain Self.keeper result self.old self.new };
+
+    /// A loss of power of the board, which is then opened again, as `reopen` does.
+    ///
+    /// # Errors
+    ///
+    /// As `reopen`.
+    fn power(&mut self, pick: u64) -> Result<u64, OpenAnswer>
+        ensures ordered { OrderRun pick (B.view (board_of self.old))
+            (B.view (board_of self.new)) }
+        ensures cause { result ≡ Err answers.Failed
+            → Rose (B.view (board_of self.old)).state.faults
+            (B.view (board_of self.new)).state.faults }
+        ensures back { IsBack Self.keeper result self.new }
+        ensures exact { B.honest (board_of self.old) → (c : Outcome)
+            × IsLeft (B.view (board_of self.old)).state c
+            × IfErr result (λ why. IsRefusal form (B.view (board_of self.old)) c.image c.counter
+            why) }
+        ensures opened { B.honest (board_of self.old) → IsAlwaysInUse Self.keeper self.old
+            → OpensAfterPower Self.keeper result self.old self.new };
+
+    /// Lets so many calls of the board pass, as the board's `fuse` does.
+    fn fuse(&mut self, calls: u32)
+        ensures ordered { OrderRun calls (B.view (board_of self.old))
+            (B.view (board_of self.new)) }
+        ensures lost { (Self.keeper.condition self.new).lost
+            ≡ (Self.keeper.condition self.old).lost }
+        ensures sequence { (Self.keeper.held self.new).sequence
+            ≡ (Self.keeper.held self.old).sequence }
+        ensures same { Self.keeper.honest self.old → IsOrdered Self.keeper self.old self.new };
+
+    /// The board.
+    fn into_board(self) -> B
+        ensures { result ≡ board_of self };
+
+    /// How it is seen on its board.
+    ghost seen: { (v : Self) → IsSeenOn Self.keeper form v (B.view (board_of v)) };
+
+    /// An honest volume stands on an honest board.
+    ghost honest_board: { (v : Self) → Self.keeper.honest v → B.honest (board_of v) };
+}

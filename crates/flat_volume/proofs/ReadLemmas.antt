@@ -1,0 +1,202 @@
+-- Runs of calls, one call more.
+use Rattle.std.proofs.Common.{◌≡◌, ◌≢◌, ◌≤◌, ◌*◌, ◌<◌, ◌+◌, ◌-◌, ◌^◌, ◌⊎◌, ◌==◌, ◌∙◌, ℕ, Bool, true, false, List, Option, None, Some, Result, Ok, Err, IfOk, if◌then◌else◌, bytes_eq, refl, sym, ap, subst, inl, inr, ⊎_elim, arith}
+use Rattle.std.proofs.lemmas.Bool.{cases_lt}
+use Rattle.std.proofs.lemmas.Slice.Eq.{bytes_eq-Decides}
+use Rattle.store_api.specs.declared.answer.Mismatch.{Mismatch}
+use Rattle.store_api.specs.declared.leaves.LeafAnswer.{LeafAnswer}
+use Rattle.store_api.specs.declared.leaves.LeafAnswer.TheVariants as answers
+use Rattle.store_api.specs.Volumes.{ShowsLeaf}
+use Rattle.tee_base.specs.Faults.{Rose}
+use Rattle.board.specs.Moment.{View}
+use Rattle.board.specs.Steps.{Answered, Called, CallRun, Unchanged}
+use Rattle.seal.specs.Sealing.{SealsBlock, ciphertext, plaintext, seal_tag}
+use Rattle.seal.proofs.SealLemmas.{reopened}
+use Rattle.epoch.specs.Parts.{part}
+use Rattle.epoch.proofs.PastLemmas.{followed, itself, once}
+use Rattle.epoch.proofs.RunLemmas.{over_read}
+use Rattle.epoch.specs.declared.header.TreeEntry.{TreeEntry}
+use Rattle.flat_volume.specs.declared.places.TheConstants.{FIRST_TABLE, TABLE_BLOCKS}
+use Rattle.flat_volume.specs.declared.table.Table.{Table}
+use Rattle.flat_volume.specs.Flat.{block_at, copy_of, differing, entry_of, first_damage, joined_below, leaf_damage, leaf_text, table_damage, table_in, table_tag}
+use Rattle.flat_volume.specs.Reading.{OnlyReads}
+use Rattle.flat_volume.specs.Writing.{spare_block}
+use Rattle.flat_volume.proofs.FlatLemmas.{no_difference, tagged}
+use Rattle.flat_volume.proofs.LeafLemmas.{other_block}
+
+-- a fault that rose later rose
+rose_later : (a b c : ℕ) → a ≤ b → Rose b c → Rose a c
+rose_later a b c le rose = ⊎_elim (λ (h : b < c). inl (omega arith)) (λ (h : c ≡ 2 ^ 64 - 1). inr h) rose
+
+pub call_more : (ok : Bool) (first old new : View) → CallRun true first old → Called ok old new → CallRun ok first new
+call_more ok first old new run called = record {
+  size = called.size ∙ run.size;
+  key = called.key ∙ run.key;
+  orders = called.orders ∙ run.orders;
+  ordered = called.ordered ∙ run.ordered;
+  faults = omega (arith, called.faults, run.faults);
+  cause = λ e. rose_later first.state.faults old.state.faults new.state.faults run.faults (called.cause e);
+}
+
+pub run_more : (ok : Bool) (first old new : View) → CallRun true first old → CallRun ok old new → CallRun ok first new
+run_more ok first old new run more = record {
+  size = more.size ∙ run.size;
+  key = more.key ∙ run.key;
+  orders = more.orders ∙ run.orders;
+  ordered = more.ordered ∙ run.ordered;
+  faults = omega (arith, more.faults, run.faults);
+  cause = λ e. rose_later first.state.faults old.state.faults new.state.faults run.faults (more.cause e);
+}
+
+pub only_itself : (v : View) → OnlyReads v v
+only_itself v = record {
+  state = record { reads = refl; durable = refl; pending = refl; counter = refl; slack = refl };
+  past = itself v;
+  run = λ open_at base low high first run. run;
+}
+
+pub only_once : (old new : View) → Answered old new → Unchanged old.state new.state → OnlyReads old new
+only_once old new answered same = record {
+  state = same;
+  past = once old new answered;
+  run = λ open_at base low high first run. over_read open_at base low high first old new run answered same;
+}
+
+pub only_more : (first old new : View) → OnlyReads first old → OnlyReads old new → OnlyReads first new
+only_more first old new one two = record {
+  state = record {
+    reads = two.state.reads ∙ one.state.reads;
+    durable = two.state.durable ∙ one.state.durable;
+    pending = two.state.pending ∙ one.state.pending;
+    counter = two.state.counter ∙ one.state.counter;
+    slack = two.state.slack ∙ one.state.slack;
+  };
+  past = followed first old new one.past two.past;
+  run = λ open_at base low high start run. two.run open_at base low high start (one.run open_at base low high start run);
+}
+
+-- an entry of a block that was sealed, and read where the entry says
+module _ (key : List ℕ) (reads : ℕ → List ℕ) (place : ℕ) (e : TreeEntry) (plain cipher : List ℕ) (positive : 0 < e.sequence) (here : reads (block_at place e.copy) ≡ cipher) where
+  pub sealed_damage : e.tag ≡ seal_tag key place e.sequence e.iv cipher → leaf_damage key reads place e ≡ None
+  unfolding leaf_damage
+  sealed_damage tag =
+      let some : (e.sequence == 0) ≡ false = grind arith in
+      rw (some, here, tag) (no_difference (seal_tag key place e.sequence e.iv cipher))
+
+  pub sealed_text : cipher ≡ ciphertext key e.iv plain → leaf_text key reads place e ≡ plain
+  unfolding leaf_text plaintext
+  sealed_text text =
+      let some : (e.sequence == 0) ≡ false = grind arith in
+      rw (some, here) (reopened key e.iv plain cipher text)
+
+-- the blocks that were read, one more
+pub filled_step : (reads : ℕ → List ℕ) (copy i : ℕ) (told tnew block : List ℕ) → part (1024 * i) 1024 tnew ≡ block
+    → ((n : ℕ) → n ≢ i → part (1024 * n) 1024 tnew ≡ part (1024 * n) 1024 told)
+    → ((k : ℕ) → k < i → reads (block_at (17 + k) copy) ≡ part (1024 * k) 1024 told) → block ≡ reads (block_at (17 + i) copy)
+    → (k : ℕ) → k < i + 1 → reads (block_at (17 + k) copy) ≡ part (1024 * k) 1024 tnew
+filled_step reads copy i told tnew block here others before read k below =
+    ⊎_elim
+    (λ (h : k < i). before k h ∙ sym (others k (λ e. absurd (omega arith))))
+    (λ (h : i ≤ k).
+    let e : i ≡ k = omega arith in
+    subst (λ (n : ℕ). reads (block_at (17 + n) copy) ≡ part (1024 * n) 1024 tnew) e (sym (here ∙ read)))
+    (cases_lt k i)
+
+-- and the blocks that were written
+pub placed_step : (old new : ℕ → List ℕ) (copy i : ℕ) (table block : List ℕ) → new (block_at (17 + i) copy) ≡ block
+    → ((k : ℕ) → k ≢ block_at (17 + i) copy → new k ≡ old k) → block ≡ part (1024 * i) 1024 table
+    → ((k : ℕ) → k < i → old (block_at (17 + k) copy) ≡ part (1024 * k) 1024 table)
+    → (k : ℕ) → k < i + 1 → new (block_at (17 + k) copy) ≡ part (1024 * k) 1024 table
+placed_step old new copy i table block here elsewhere is before k below =
+    ⊎_elim
+    (λ (h : k < i). elsewhere (block_at (17 + k) copy) (other_block (17 + k) (17 + i) copy copy (λ e. absurd (omega arith))) ∙ before k h)
+    (λ (h : i ≤ k).
+    let e : i ≡ k = omega arith in
+    subst (λ (n : ℕ). new (block_at (17 + n) copy) ≡ part (1024 * n) 1024 table) e (here ∙ is))
+    (cases_lt k i)
+
+-- the block that a leaf is written to is the spare one
+pub spare_is : (table : List ℕ) (number copy block : ℕ) → block ≡ block_at (273 + number) copy → copy ≡ 1 - copy_of (entry_of table number).copy → block ≡ spare_block table number
+spare_is table number copy block is other = is ∙ ap (block_at (273 + number)) other
+
+-- tags that aren't equal differ
+differs : (found kept : List ℕ) → found ≢ kept → differing found kept ≡ Some (record { found = found; kept = kept })
+unfolding differing
+differs found kept ne =
+    elim (bytes_eq found kept) as (λ b. bytes_eq found kept ≡ b →
+    (let none : Option Mismatch = None in if b then none else Some (record { found = found; kept = kept })) ≡ Some (record { found = found; kept = kept })) [
+      | true ↦ λ e. absurd (ne ((bytes_eq-Decides found kept).0 e))
+      | false ↦ λ e. refl
+    ] refl
+
+pub table_differs : (key table : List ℕ) (root : TreeEntry) (found : List ℕ) → root.sequence ≢ 0 → found ≡ table_tag key root.sequence table → found ≢ root.tag
+    → table_damage key table root ≡ Some (record { found = found; kept = root.tag })
+unfolding table_damage
+table_differs key table root found positive is ne =
+    let some : (root.sequence == 0) ≡ false = grind arith in
+    rw (some, sym is) (differs found root.tag ne)
+
+pub table_agrees : (key table : List ℕ) (root : TreeEntry) (found : List ℕ) → found ≡ table_tag key root.sequence table → found ≡ root.tag → table_damage key table root ≡ None
+table_agrees key table root found is same = tagged key table root (sym same ∙ is)
+
+-- the same of the block of an entry
+module _ (key : List ℕ) (reads : ℕ → List ℕ) (place : ℕ) (e : TreeEntry) (cipher : List ℕ) (positive : e.sequence ≢ 0) (here : cipher ≡ reads (block_at place e.copy)) where
+  pub leaf_differs : (found : List ℕ) → found ≡ seal_tag key place e.sequence e.iv cipher → found ≢ e.tag → leaf_damage key reads place e ≡ Some (record { found = found; kept = e.tag })
+  unfolding leaf_damage
+  leaf_differs found is ne =
+      let some : (e.sequence == 0) ≡ false = grind arith in
+      rw (some, sym here, sym is) (differs found e.tag ne)
+
+  pub leaf_agrees : seal_tag key place e.sequence e.iv cipher ≡ e.tag → leaf_damage key reads place e ≡ None
+  unfolding leaf_damage
+  leaf_agrees is =
+      let some : (e.sequence == 0) ≡ false = grind arith in
+      rw (some, sym here, is) (no_difference e.tag)
+
+  pub leaf_opened : (into : List ℕ) → into ≡ plaintext key e.iv cipher → into ≡ leaf_text key reads place e
+  unfolding leaf_text
+  leaf_opened into is =
+      let some : (e.sequence == 0) ≡ false = grind arith in
+      rw (some, sym here) is
+
+-- the table under a root that isn't of sequence 0
+pub table_read : (image : ℕ → List ℕ) (root : TreeEntry) → root.sequence ≢ 0
+    → joined_below TABLE_BLOCKS (λ i. image (block_at (FIRST_TABLE + i) root.copy)) ≡ table_in image root
+unfolding table_in
+table_read image root positive =
+    let some : (root.sequence == 0) ≡ false = grind arith in
+    rw some refl
+
+-- a call alone, as a run that may go on
+pub run_once : (ok : Bool) (old new : View) → Called ok old new → CallRun ok old new
+run_once ok old new called = record {
+  size = called.size;
+  key = called.key;
+  orders = called.orders;
+  ordered = called.ordered;
+  faults = called.faults;
+  cause = called.cause;
+}
+
+-- a run that failed is a run
+pub run_so_far : (ok : Bool) (old new : View) → CallRun ok old new → CallRun true old new
+run_so_far ok old new run = record {
+  size = run.size;
+  key = run.key;
+  orders = run.orders;
+  ordered = run.ordered;
+  faults = run.faults;
+  cause = λ e. absurd (let f : true ≡ false = e in cc);
+}
+
+-- a table that was found undamaged
+pub table_kept : (key bytes : List ℕ) (root : TreeEntry) (r : Result Table LeafAnswer) → IfOk r (λ t. t.bytes.items ≡ bytes)
+    → ShowsLeaf r (table_damage key bytes root) → IfOk r (λ t. table_damage key t.bytes.items root ≡ None)
+table_kept key bytes root (Ok t) same shows = ap (λ (b : List ℕ). table_damage key b root) same ∙ shows
+table_kept key bytes root (Err e) same shows = tt
+
+-- what is found first is found on the way
+pub shows_first : (A B : Type 0) (e : LeafAnswer) (first rest : Option Mismatch) → ShowsLeaf {A = A} (Err e) first → ShowsLeaf {A = B} (Err e) (first_damage first rest)
+shows_first A B (answers.Mismatch tags) first rest shows = ap (λ (d : Option Mismatch). first_damage d rest) shows
+shows_first A B answers.Lost first rest shows = tt
+shows_first A B answers.Failed first rest shows = tt
+shows_first A B answers.NoMemory first rest shows = tt

@@ -1,0 +1,254 @@
+-- What a volume that is open keeps while its board is read, and what its calls answer.
+use Rattle.std.proofs.Common.{◌≡◌, ◌≢◌, ◌≤◌, ◌<◌, ◌+◌, ◌-◌, ◌^◌, ◌⊎◌, ◌∙◌, if◌then◌else◌, ℕ, Bool, true, false, List, [], Option, Some, None, Result, Ok, Err, IfOk, OnOk, nat_lt, refl, sym, ap, subst, inl, inr, ⊎_elim, arith}
+use Rattle.std.proofs.lemmas.Bool.Decides.{nat_tests}
+use Rattle.tee_base.specs.Crash.{LeavesOnly, read_as}
+use Rattle.tee_base.specs.Faults.{Rose}
+use Rattle.tee_base.specs.declared.limits.TheConstants.{HOSTS, LEAVES}
+use Rattle.tee_base.proofs.Crash.{joined, weaker}
+use Rattle.store_api.specs.declared.answer.Mismatch.{Mismatch}
+use Rattle.store_api.specs.declared.leaves.Leaf.{Leaf}
+use Rattle.store_api.specs.declared.leaves.LeafAnswer.{LeafAnswer}
+use Rattle.store_api.specs.declared.leaves.LeafAnswer.TheVariants as answers
+use Rattle.store_api.specs.Volumes.{Condition, Held, IfMismatch, IsUndamaged, IsVolumeCall, LeafCause, LeftByCommit, ShowsLeaf, VolumeKeeper, after_commit}
+use Rattle.board.specs.Moment.{Outcome, Moment, View, IsLeft, moment, left_since}
+use Rattle.board.specs.declared.BoardFailed.{BoardFailed}
+use Rattle.board.specs.Runs.{LeavesBase, RunsOver, Rests}
+use Rattle.board.specs.Steps.{Advanced, Passes, SameBlocks, Unchanged}
+use Rattle.board.proofs.Runs.{goes_on, starts}
+use Rattle.epoch.specs.Commits.{BeforeOrAfter, IsMounted}
+use Rattle.epoch.specs.Forms.{held_of, is_leaf, is_sealed, leaves_of}
+use Rattle.epoch.specs.Opening.{opening_of}
+use Rattle.epoch.specs.Past.{KeepsPast}
+use Rattle.epoch.specs.declared.header.TreeEntry.{TreeEntry}
+use Rattle.epoch.proofs.CommitLemmas.{held_before, sealed_each}
+use Rattle.epoch.proofs.RunLemmas.{rest_starts}
+use Rattle.flat_volume.specs.Flat.{entry_of, first_damage, flat, leaf_damage, leaf_text, number_of, path_damage, table_damage, table_in}
+use Rattle.flat_volume.specs.Frame.{flat_framed}
+use Rattle.flat_volume.specs.Keeping.{Exhausts, IsKept, IsOpen, StaysOpen, damage_now, held_now, is_failure, table_now}
+use Rattle.flat_volume.specs.Laws.{kept_table}
+use Rattle.flat_volume.specs.Reading.{OnlyReads}
+use Rattle.flat_volume.specs.declared.places.TheConstants.{FIRST_LEAF}
+use Rattle.flat_volume.specs.declared.table.Table.{Table}
+use Rattle.flat_volume.specs.declared.volume.Opened.{Opened}
+
+at : {A : Type 0} {f g : ℕ → A} → f ≡ g → (k : ℕ) → f k ≡ g k
+at {A} same k = ap (λ (h : ℕ → A). h k) same
+
+-- a table that counts as the one that reads give is kept as such
+pub kept_by : (table : Option Table) (reads : ℕ → List ℕ) (root : TreeEntry) → table_now table reads root ≡ table_in reads root → IsKept table reads root
+kept_by (Some t) reads root same = same
+kept_by None reads root same = tt
+
+-- the same key and the same reads hold the same
+pub held_same : (old new : View) (root : TreeEntry) (sequence : ℕ) → new.key ≡ old.key → new.state.reads ≡ old.state.reads
+    → held_now new root sequence ≡ held_now old root sequence
+held_same old new root sequence key reads =
+    let leaves : leaves_of flat new.key new.state.reads root ≡ leaves_of flat old.key old.state.reads root = rw (key, reads) refl in
+    λ i. record { leaves = leaves i; sequence = sequence }
+
+-- and show the same damage
+pub damage_same : (old new : View) (table table' : Option Table) (root : TreeEntry) → new.key ≡ old.key → new.state.reads ≡ old.state.reads
+    → table_now table' new.state.reads root ≡ table_now table old.state.reads root → damage_now table' new root ≡ damage_now table old root
+unfolding damage_now
+damage_same old new table table' root key reads same = λ i region leaf.
+    if is_leaf region leaf then path_damage (key i) (same i) (reads i) root (number_of region leaf) else None
+
+-- a volume stays open while its board is only read
+pub open_same : (old new : View) (root : TreeEntry) (sequence : ℕ) (table table' : Option Table) → new.key ≡ old.key → Unchanged old.state new.state
+    → table_now table' new.state.reads root ≡ table_now table old.state.reads root → IsOpen old root sequence table → IsOpen new root sequence table'
+open_same old new root sequence table table' key same tables is =
+    let rests = is.mounted.rests in
+    let reads = same.reads in
+    record {
+      mounted = record {
+        rests = record {
+          as_read = λ k. at reads k ∙ rests.as_read k ∙ sym (at same.durable k);
+          pending = λ k. at same.pending k ∙ rests.pending k;
+          counter = same.counter ∙ rests.counter;
+          slack = same.slack ∙ rests.slack;
+        };
+        opens = rw (key, reads) is.mounted.opens;
+        sealed = rw (key, reads) is.mounted.sealed;
+        leaves = refl;
+      };
+      kept = kept_by table' new.state.reads root
+          (tables ∙ kept_table table old.state.reads root is.kept ∙ ap (λ (f : ℕ → List ℕ). table_in f root) (sym reads));
+    }
+
+-- what a crash leaves while the board is only read
+pub reads_crash : (old new : View) (root : TreeEntry) (sequence : ℕ) (table : Option Table) → IsOpen old root sequence table → OnlyReads old new
+    → LeavesOnly moment left_since old new (λ c. held_of flat old.key c ≡ Some (held_now old root sequence))
+reads_crash old new root sequence table is only =
+    let rests = is.mounted.rests in
+    let run = only.run (λ k. false) old.state.reads sequence sequence old (rest_starts sequence old rests (λ k. false)) in
+    weaker moment left_since old new (LeavesBase (λ k. false) old.state.reads sequence sequence) (λ c. held_of flat old.key c ≡ Some (held_now old root sequence))
+    (λ c left.
+    let image : c.image ≡ old.state.reads = λ i k. left.image k refl i in
+    let counter : c.counter ≡ sequence = omega (arith, left.least, left.greatest) in
+    held_before flat flat_framed old.key root (held_now old root sequence) old.state c.image c.counter is.mounted
+    (ap (opening_of flat.version old.key c.image) counter ∙ ap (λ (f : ℕ → List ℕ). opening_of flat.version old.key f sequence) image)
+    (λ k used. left.image k refl))
+    run.leaves
+
+-- and with no table that is kept
+pub open_read : (old new : View) (root : TreeEntry) (sequence : ℕ) (table : Option Table) → new.key ≡ old.key → Unchanged old.state new.state
+    → IsOpen old root sequence table → IsOpen new root sequence None
+open_read old new root sequence table key same is =
+    open_same old new root sequence table None key same
+    (ap (λ (f : ℕ → List ℕ). table_in f root) same.reads ∙ sym (kept_table table old.state.reads root is.kept)) is
+
+-- a board that is mounted with the table of its root is open, and holds this
+pub mounted_open : (view : View) (key : List ℕ) (root : TreeEntry) (h : Held) (table : Table) → view.key ≡ key → IsMounted flat key root h view.state
+    → table.bytes.items ≡ table_in view.state.reads root → IsOpen view root h.sequence (Some table)
+mounted_open view key root h table same mounted stands = record {
+  mounted = record {
+    rests = mounted.rests;
+    opens = rw same mounted.opens;
+    sealed = rw same mounted.sealed;
+    leaves = refl;
+  };
+  kept = stands;
+}
+
+pub mounted_held : (view : View) (key : List ℕ) (root : TreeEntry) (h : Held) → view.key ≡ key → IsMounted flat key root h view.state → held_now view root h.sequence ≡ h
+mounted_held view key root h same mounted =
+    let leaves : leaves_of flat view.key view.state.reads root ≡ h.leaves = rw same (sym mounted.leaves) in
+    λ i. record { leaves = leaves i; sequence = h.sequence }
+
+-- what a crash leaves whose blocks are those of an open volume, and whose counter is its sequence
+left_holds : (view : View) (m : Moment) (root : TreeEntry) (sequence : ℕ) (table : Option Table) (c : Outcome) → IsOpen view root sequence table → SameBlocks view.state m
+    → IsLeft m c → c.counter ≡ sequence → held_of flat view.key c ≡ Some (held_now view root sequence)
+left_holds view m root sequence table c is same left counter =
+    let rests = is.mounted.rests in
+    let each : (k : ℕ) → c.image k ≡ view.state.reads k
+    = λ k. left.kept k (at same.pending k ∙ rests.pending k) ∙ at same.durable k ∙ sym (rests.as_read k) in
+    let image : c.image ≡ view.state.reads = λ i k. each k i in
+    held_before flat flat_framed view.key root (held_now view root sequence) view.state c.image c.counter is.mounted
+    (ap (opening_of flat.version view.key c.image) counter ∙ ap (λ (f : ℕ → List ℕ). opening_of flat.version view.key f sequence) image)
+    (λ k used. each k)
+
+-- an advance past the last sequence: no counter is its answer
+pub no_counter : (n : ℕ) (old new : Moment) → Rests (2 ^ 64 - 1) old → Advanced (Ok n) old new → n < 2 ^ 64 → ⊥
+no_counter n old new rests advanced fits =
+    let raised = advanced.counter in
+    absurd (omega (arith, raised.positive, raised.among.least, rests.counter, fits))
+
+-- it fails, and nothing else may be left
+pub exhausted : (old new : View) (root : TreeEntry) (table : Option Table) (e : BoardFailed) → IsOpen old root (2 ^ 64 - 1) table → new.key ≡ old.key → Passes old new
+    → Advanced (Err e) old.state new.state → Exhausts root answers.Failed old new
+exhausted old new root table e is key time advanced =
+    let rests = is.mounted.rests in
+    let failed = advanced.counter in
+    record {
+      failed = refl;
+      held = held_same old new root (2 ^ 64 - 1) key advanced.blocks.reads;
+      crash = goes_on old old new (λ c. held_of flat old.key c ≡ Some (held_now old root (2 ^ 64 - 1)))
+          (starts old (λ c. held_of flat old.key c ≡ Some (held_now old root (2 ^ 64 - 1)))
+          (λ c left. left_holds old old.state root (2 ^ 64 - 1) table c is (record { reads = refl; durable = refl; pending = refl }) left
+          (omega (arith, left.counter.least, left.counter.greatest, rests.counter, rests.slack))))
+          time
+          (λ c left. left_holds old new.state root (2 ^ 64 - 1) table c is advanced.blocks left
+          (omega (arith, left.counter.least, left.counter.fits, rests.counter, failed.0)));
+    }
+
+-- an answer of a call that only read leaves the volume open
+pub stays_read : (e : LeafAnswer) (before : Opened) (view : View) → IsOpen view before.root before.sequence None → StaysOpen (Err e) before view
+stays_read answers.Lost before view is = is
+stays_read answers.Failed before view is = tt
+stays_read (answers.Mismatch tags) before view is = is
+stays_read answers.NoMemory before view is = is
+
+-- the reading of the table, and then a commit
+pub commit_crash : (old mid new : View) (root : TreeEntry) (sequence : ℕ) (table : Option Table) (region : ℕ) (named : List Leaf) → IsOpen old root sequence table
+    → mid.key ≡ old.key → OnlyReads old mid
+    → LeavesOnly moment left_since mid new (BeforeOrAfter flat mid.key (held_now mid root sequence) (after_commit region named (held_now mid root sequence)))
+    → LeavesOnly moment left_since old new (BeforeOrAfter flat old.key (held_now old root sequence) (after_commit region named (held_now old root sequence)))
+commit_crash old mid new root sequence table region named is key only run =
+    let before : Held = held_now old root sequence in
+    let after : Held = after_commit region named before in
+    let held : held_now mid root sequence ≡ before = held_same old mid root sequence key only.state.reads in
+    joined moment left_since old mid new (BeforeOrAfter flat old.key before after)
+    (weaker moment left_since old mid (λ c. held_of flat old.key c ≡ Some before) (BeforeOrAfter flat old.key before after) (λ c e. inl e)
+    (reads_crash old mid root sequence table is only))
+    (subst (λ (h : Held). LeavesOnly moment left_since mid new (BeforeOrAfter flat old.key h (after_commit region named h))) held
+    (subst (λ (k : List ℕ). LeavesOnly moment left_since mid new (BeforeOrAfter flat k (held_now mid root sequence) (after_commit region named (held_now mid root sequence)))) key run))
+
+-- what a crash since some moment might have left, as the volume reads it
+pub past_read : (old new : View) → new.key ≡ old.key → KeepsPast old new → (t : ℕ) (o : Option Held) → t ≤ moment old
+    → read_as (held_of flat old.key) (left_since old) t o → read_as (held_of flat new.key) (left_since new) t o
+past_read old new key keeps t o le left =
+    (left.0, keeps.past t left.0 le left.1, left.2 ∙ ap (λ (k : List ℕ). held_of flat k left.0) (sym key))
+
+-- a first damage that is none
+first_none : (first rest : Option Mismatch) → first_damage first rest ≡ None → first ≡ None
+first_none (Some tags) rest e = e
+first_none None rest e = refl
+
+-- the table under a root that seals its leaves has no damage
+pub sealed_table : (key : List ℕ) (reads : ℕ → List ℕ) (root : TreeEntry) → is_sealed flat key reads root ≡ true → table_damage key (table_in reads root) root ≡ None
+sealed_table key reads root sealed =
+    first_none (table_damage key (table_in reads root) root) (leaf_damage key reads (FIRST_LEAF + number_of 0 0) (entry_of (table_in reads root) (number_of 0 0)))
+    (sealed_each flat key root reads sealed 0 0 (omega arith) (omega arith))
+
+-- an answer that shows what is no damage is none of damage
+pub err_undamaged : (A B : Type 0) (e : LeafAnswer) (damage : Option Mismatch) → ShowsLeaf {A = A} (Err e) damage → damage ≡ None → IsUndamaged {A = B} (Err e)
+err_undamaged A B (answers.Mismatch tags) damage shows none = absurd (let e : Some tags ≡ None = sym shows ∙ none in cc)
+err_undamaged A B answers.Lost damage shows none = tt
+err_undamaged A B answers.Failed damage shows none = tt
+err_undamaged A B answers.NoMemory damage shows none = tt
+
+-- there is a leaf of these numbers
+pub leaf_is : (region leaf : ℕ) → region < HOSTS → leaf < LEAVES → is_leaf region leaf ≡ true
+leaf_is region leaf r l =
+    let one : nat_lt region HOSTS ≡ true = grind (arith, nat_tests) in
+    let two : nat_lt leaf LEAVES ≡ true = grind (arith, nat_tests) in
+    rw (one, two) refl
+
+-- the bytes of a leaf, and its damage, by its number among all
+pub text_of : (view : View) (root : TreeEntry) (region leaf number : ℕ) → region < HOSTS → leaf < LEAVES → number ≡ number_of region leaf
+    → leaf_text view.key view.state.reads (FIRST_LEAF + number) (entry_of (table_in view.state.reads root) number)
+    ≡ leaves_of flat view.key view.state.reads root region leaf
+unfolding leaves_of
+text_of view root region leaf number r l is =
+    let there : is_leaf region leaf ≡ true = leaf_is region leaf r l in
+    rw (there, is) refl
+
+pub damage_of : (table : Option Table) (view : View) (root : TreeEntry) (region leaf number : ℕ) → region < HOSTS → leaf < LEAVES → number ≡ number_of region leaf
+    → path_damage view.key (table_now table view.state.reads root) view.state.reads root number ≡ damage_now table view root region leaf
+unfolding damage_now
+damage_of table view root region leaf number r l is =
+    let there : is_leaf region leaf ≡ true = leaf_is region leaf r l in
+    rw (there, is) refl
+
+-- a damage of the table is one of each leaf
+pub table_shows : (table : Option Table) (view : View) (root : TreeEntry) (region : ℕ) (tags : Mismatch) → region < HOSTS
+    → table_damage view.key (table_now table view.state.reads root) root ≡ Some tags → damage_now table view root region 0 ≡ Some tags
+table_shows table view root region tags r shows =
+    sym (damage_of table view root region 0 (number_of region 0) r (omega arith) refl)
+    ∙ ap (λ (d : Option Mismatch). first_damage d (leaf_damage view.key view.state.reads (FIRST_LEAF + number_of region 0)
+    (entry_of (table_now table view.state.reads root) (number_of region 0)))) shows
+
+-- what was held before is what each commit may leave
+pub left_before : (r : Result ℕ LeafAnswer) (before after : Held) (o : Option Held) → o ≡ Some before → LeftByCommit r before after o
+left_before (Ok n) before after o e = inl e
+left_before (Err answers.Failed) before after o e = inl e
+left_before (Err answers.Lost) before after o e = e
+left_before (Err (answers.Mismatch tags)) before after o e = e
+left_before (Err answers.NoMemory) before after o e = e
+
+-- when an answer other than Ok comes
+pub err_cause : (A : Type 0) (e : LeafAnswer) (old new : Condition) → old.lost ≡ false → new.lost ≡ is_failure e → (e ≡ answers.Failed → Rose old.faults new.faults) → e ≢ answers.Lost
+    → IfMismatch {A = A} (Err e) (λ tags. tags.found ≢ tags.kept) → LeafCause {A = A} (Err e) old new
+err_cause A answers.Lost old new live lost rose other tags = absurd (other refl)
+err_cause A answers.Failed old new live lost rose other tags = (live, lost, rose refl)
+err_cause A (answers.Mismatch m) old new live lost rose other tags = (live, lost, tags)
+err_cause A answers.NoMemory old new live lost rose other tags = (live, lost)
+
+-- a call of a lost volume, which does nothing
+pub lost_call : (V A : Type 0) (K : VolumeKeeper V) (v : V) → (K.condition v).lost ≡ true → IsVolumeCall K {A = A} (Err answers.Lost) v v
+lost_call V A K v lost = record {
+  cause = record { cause = (lost, lost); later = omega arith; foundation = refl };
+  honest = λ h. (h, tt);
+  quiet = λ told. record { same = refl; none = λ t o left. left };
+  past = λ h t o le left. left;
+}

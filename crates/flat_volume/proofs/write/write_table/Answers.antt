@@ -1,0 +1,34 @@
+use Rattle.std.proofs.Common.{◌≡◌, ◌≢◌, ◌<◌, ◌≤◌, ◌+◌, ◌∙◌, ℕ, List, true, refl, sym, ap, subst, arith}
+use Rattle.epoch.proofs.PastLemmas.{followed, itself, once}
+use Rattle.epoch.proofs.RunLemmas.{over_write}
+use Rattle.flat_volume.specs.Flat.{block_at}
+use Rattle.flat_volume.proofs.ReadLemmas.{call_more, placed_step}
+use Rattle.flat_volume.proofs.write.write_table.Goals as goal
+
+pub loop-i-init : goal.loop-i-init
+loop-i-init g c = record {
+  calls = search rules;
+  honest = λ h. h;
+  past = λ h. itself _;
+  run = λ h open_at base low high first opens run. run;
+  elsewhere = λ h k ne. refl;
+  placed = λ h k below. absurd (omega arith);
+}
+
+pub loop-i-preserved : goal.loop-i-preserved
+loop-i-preserved g c = record {
+  calls = call_more true _ _ _ c.loop-i.invariant.calls c.in_ok-write.ensures.call;
+  honest = λ h. (c.in_ok-write.ensures.honest (c.loop-i.invariant.honest h)).0;
+  past = λ h. followed _ _ _ (c.loop-i.invariant.past h) (once _ _ (c.in_ok-write.ensures.honest (c.loop-i.invariant.honest h)).1);
+  run = λ h open_at base low high first opens run.
+      let w = c.in_ok-write.ensures.honest (c.loop-i.invariant.honest h) in
+      over_write open_at base low high first _ _ (c.loop-i.invariant.run h open_at base low high first opens run) w.1 _ _ _
+      (ap open_at c.block_at.ensures.block ∙ opens c.loop-i.i (omega arith)) w.2;
+  elsewhere = λ h k ne.
+      let w = c.in_ok-write.ensures.honest (c.loop-i.invariant.honest h) in
+      w.2.elsewhere k (λ e. ne c.loop-i.i (omega arith) (e ∙ c.block_at.ensures.block)) ∙ c.loop-i.invariant.elsewhere h k ne;
+  placed = λ h.
+      let w = c.in_ok-write.ensures.honest (c.loop-i.invariant.honest h) in
+      placed_step _ _ c.args.copy c.loop-i.i c.args.table.now.bytes.items _
+      (ap _ (sym c.block_at.ensures.block) ∙ w.2.here refl) (λ k ne. w.2.elsewhere k (λ e. ne (e ∙ c.block_at.ensures.block))) c.block.ensures (c.loop-i.invariant.placed h);
+}

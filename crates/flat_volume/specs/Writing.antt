@@ -1,0 +1,31 @@
+-- What the writing of leaves and of the table does to a board.
+use Rattle.std.specs.Prelude.{◌≡◌, ◌<◌, ℕ, ◌+◌, ◌-◌, Bool, true, List, [], ◌∷◌, None, if◌then◌else◌}
+use Rattle.store_api.specs.declared.leaves.Leaf.{Leaf}
+use Rattle.epoch.specs.Forms.{is_leaf}
+use Rattle.flat_volume.specs.declared.places.TheConstants.{ALL_LEAVES, FIRST_LEAF}
+use Rattle.flat_volume.specs.Flat.{block_at, copy_of, entry_of, leaf_damage, leaf_text, number_of}
+
+-- the block of a leaf's copy that its entry doesn't name
+abbrev pub spare_block : List ℕ → ℕ → ℕ
+spare_block table number = block_at (FIRST_LEAF + number) (1 - copy_of (entry_of table number).copy)
+
+-- the copies that these leaves of a region aren't read from are among the open blocks
+abbrev pub AreSpare : (ℕ → Bool) → List ℕ → ℕ → List Leaf → Type 0
+AreSpare open_at table region [] = Unit {0}
+AreSpare open_at table region (leaf ∷ leaves) =
+    (open_at (spare_block table (number_of region leaf.number)) ≡ true)
+    × AreSpare open_at table region leaves
+
+-- no entry of the table has a damage
+abbrev pub AreSealed : List ℕ → List ℕ → (ℕ → List ℕ) → Type 0
+AreSealed key table reads =
+    (number : ℕ) → number < ALL_LEAVES
+    → leaf_damage key reads (FIRST_LEAF + number) (entry_of table number) ≡ None
+
+-- the leaves by the entries of a table
+unfoldable pub leaves_by : List ℕ → List ℕ → (ℕ → List ℕ) → ℕ → ℕ → List ℕ
+leaves_by key table reads region leaf =
+    if is_leaf region leaf
+    then leaf_text key reads (FIRST_LEAF + number_of region leaf)
+    (entry_of table (number_of region leaf))
+    else []

@@ -1,0 +1,144 @@
+-- What is told of an answer, by cases on it.
+use Rattle.std.proofs.Common.{◌≡◌, ◌≤◌, ◌<◌, ◌+◌, ℕ, true, false, Bool, Option, None, Some, Result, Ok, Err, refl, sym, ◌∙◌, inl, inr, ⊎_elim, arith}
+use Rattle.std.specs.Prelude.{IsTrue}
+use Rattle.tee_base.specs.Faults.{Rose}
+use Rattle.store_api.specs.declared.answer.Mismatch.{Mismatch}
+use Rattle.store_api.specs.declared.answer.StoreAnswer.{StoreAnswer}
+use Rattle.store_api.specs.declared.answer.StoreAnswer.TheVariants.{NotFound, Exists, NoSpace, Lost, Failed, Corrupt, Garbled, NoMemory}
+use Rattle.store_api.specs.declared.leaves.LeafAnswer.{LeafAnswer}
+use Rattle.store_api.specs.declared.leaves.LeafAnswer.TheVariants as leaf_answers
+use Rattle.store_api.specs.Keeping.{Cause, Contents, IsIntact, LeftByChange, Remains, TellsDamage, damage_in}
+use Rattle.store_api.specs.Stores.{Store}
+use Rattle.store_api.specs.Volumes.{Condition, IfMismatch, IsNumbered, LeafCause}
+use Rattle.region_plan.specs.Reading.{IfCorrupt, IfGarbled, ReadCause, refusal_of}
+use Rattle.object_dir.specs.Changing.{done_of}
+use Rattle.object_dir.specs.Directories.{damage_told, status_with}
+
+-- damage is told of by the same refusals
+pub reports_of : {A : Type 0} (result : Result A StoreAnswer) → damage_told (refusal_of result) ≡ damage_in result
+reports_of (Ok a) = refl
+reports_of (Err NotFound) = refl
+reports_of (Err Exists) = refl
+reports_of (Err NoSpace) = refl
+reports_of (Err Lost) = refl
+reports_of (Err Failed) = refl
+reports_of (Err (Corrupt tags)) = refl
+reports_of (Err (Garbled leaf)) = refl
+reports_of (Err NoMemory) = refl
+
+pub cause_of : {A : Type 0} (result : Result A StoreAnswer) (old new : Condition) (a b x y : ℕ) → ReadCause (refusal_of result) old new → Cause result (status_with old a b) (status_with new x y)
+cause_of (Ok a) old new p q x y cause = cause
+cause_of (Err NotFound) old new p q x y cause = cause
+cause_of (Err Exists) old new p q x y cause = cause
+cause_of (Err NoSpace) old new p q x y cause = cause
+cause_of (Err Lost) old new p q x y cause = cause
+cause_of (Err Failed) old new p q x y cause = cause
+cause_of (Err (Corrupt tags)) old new p q x y cause = cause
+cause_of (Err (Garbled leaf)) old new p q x y cause = cause
+cause_of (Err NoMemory) old new p q x y cause = cause
+
+pub intact_of : {A : Type 0} (result : Result A StoreAnswer) → IfCorrupt (refusal_of result) (λ tags. ⊥) → IfGarbled (refusal_of result) (λ leaf. ⊥) → IsIntact result
+intact_of (Ok a) corrupt garbled = tt
+intact_of (Err NotFound) corrupt garbled = tt
+intact_of (Err Exists) corrupt garbled = tt
+intact_of (Err NoSpace) corrupt garbled = tt
+intact_of (Err Lost) corrupt garbled = tt
+intact_of (Err Failed) corrupt garbled = tt
+intact_of (Err (Corrupt tags)) corrupt garbled = corrupt
+intact_of (Err (Garbled leaf)) corrupt garbled = garbled
+intact_of (Err NoMemory) corrupt garbled = tt
+
+pub tells_of : {A : Type 0} (result : Result A StoreAnswer) (damage : StoreAnswer → Type 0) → IfCorrupt (refusal_of result) (λ tags. damage (Corrupt tags))
+    → IfGarbled (refusal_of result) (λ leaf. damage (Garbled leaf)) → TellsDamage result damage
+tells_of (Ok a) damage corrupt garbled = tt
+tells_of (Err NotFound) damage corrupt garbled = tt
+tells_of (Err Exists) damage corrupt garbled = tt
+tells_of (Err NoSpace) damage corrupt garbled = tt
+tells_of (Err Lost) damage corrupt garbled = tt
+tells_of (Err Failed) damage corrupt garbled = tt
+tells_of (Err (Corrupt tags)) damage corrupt garbled = corrupt
+tells_of (Err (Garbled leaf)) damage corrupt garbled = garbled
+tells_of (Err NoMemory) damage corrupt garbled = tt
+
+-- a premise goes into the case
+pub corrupt_under : (why : Option StoreAnswer) (told : Bool) (P : Mismatch → Type 0) → (IsTrue told → IfCorrupt why P) → IfCorrupt why (λ tags. IsTrue told → P tags)
+corrupt_under None told P is = tt
+corrupt_under (Some NotFound) told P is = tt
+corrupt_under (Some Exists) told P is = tt
+corrupt_under (Some NoSpace) told P is = tt
+corrupt_under (Some Lost) told P is = tt
+corrupt_under (Some Failed) told P is = tt
+corrupt_under (Some (Corrupt tags)) told P is = is
+corrupt_under (Some (Garbled leaf)) told P is = tt
+corrupt_under (Some NoMemory) told P is = tt
+
+pub corrupt_has : (why : Option StoreAnswer) (P Q : Mismatch → Type 0) → ((tags : Mismatch) → P tags → Q tags) → IfCorrupt why P → IfCorrupt why Q
+corrupt_has None P Q implies is = tt
+corrupt_has (Some NotFound) P Q implies is = tt
+corrupt_has (Some Exists) P Q implies is = tt
+corrupt_has (Some NoSpace) P Q implies is = tt
+corrupt_has (Some Lost) P Q implies is = tt
+corrupt_has (Some Failed) P Q implies is = tt
+corrupt_has (Some (Corrupt tags)) P Q implies is = implies tags is
+corrupt_has (Some (Garbled leaf)) P Q implies is = tt
+corrupt_has (Some NoMemory) P Q implies is = tt
+
+-- a leaf of a region that is told and breaks no rule: that never is
+pub garbled_never : (why : Option StoreAnswer) (P Q : ℕ → Type 0) → ((leaf : ℕ) → P leaf → Q leaf → ⊥) → IfGarbled why P → IfGarbled why Q → IfGarbled why (λ leaf. ⊥)
+garbled_never None P Q never one two = tt
+garbled_never (Some NotFound) P Q never one two = tt
+garbled_never (Some Exists) P Q never one two = tt
+garbled_never (Some NoSpace) P Q never one two = tt
+garbled_never (Some Lost) P Q never one two = tt
+garbled_never (Some Failed) P Q never one two = tt
+garbled_never (Some (Corrupt tags)) P Q never one two = tt
+garbled_never (Some (Garbled leaf)) P Q never one two = never leaf one two
+garbled_never (Some NoMemory) P Q never one two = tt
+
+-- a crash that leaves what was there leaves what a change may leave
+pub left_before : {A : Type 0} (result : Result A StoreAnswer) (old : Contents) (stated : Result Store StoreAnswer) (o : Remains) → o ≡ Some old → LeftByChange result old stated o
+left_before (Ok done) old stated o is = inl is
+left_before (Err NotFound) old stated o is = is
+left_before (Err Exists) old stated o is = is
+left_before (Err NoSpace) old stated o is = is
+left_before (Err Lost) old stated o is = is
+left_before (Err Failed) old stated o is = inl is
+left_before (Err (Corrupt tags)) old stated o is = is
+left_before (Err (Garbled leaf)) old stated o is = is
+left_before (Err NoMemory) old stated o is = is
+
+pub not_both : {A : Type 0} (b : Bool) → b ≡ true → b ≡ false → A
+not_both b yes' no' = absurd (let e : true ≡ false = sym yes' ∙ no' in cc)
+
+rose_later : (a b c : ℕ) → a ≤ b → Rose b c → Rose a c
+rose_later a b c le rose = ⊎_elim (λ (l : b < c). inl (omega arith)) (λ top. inr top) rose
+
+-- why a commit ends as it does, behind reads of a volume that worked
+pub commit_cause : (answer : Result ℕ LeafAnswer) (old mid new : Condition) → ReadCause None old mid → old.faults ≤ mid.faults → LeafCause answer mid new
+    → ReadCause (refusal_of (done_of answer)) old new
+commit_cause (Ok sequence) old mid new reads later cause = (reads.0, cause.1)
+commit_cause (Err leaf_answers.Lost) old mid new reads later cause = not_both mid.lost cause.0 reads.1
+commit_cause (Err leaf_answers.Failed) old mid new reads later cause = (reads.0, cause.1, rose_later old.faults mid.faults new.faults later cause.2)
+commit_cause (Err (leaf_answers.Mismatch tags)) old mid new reads later cause = (reads.0, cause.1, cause.2)
+commit_cause (Err leaf_answers.NoMemory) old mid new reads later cause = (reads.0, cause.1)
+
+-- damage that a commit tells
+pub commit_corrupt : (answer : Result ℕ LeafAnswer) (P Q : Mismatch → Type 0) → ((tags : Mismatch) → P tags → Q tags) → IfMismatch answer P → IfCorrupt (refusal_of (done_of answer)) Q
+commit_corrupt (Ok sequence) P Q implies is = tt
+commit_corrupt (Err leaf_answers.Lost) P Q implies is = tt
+commit_corrupt (Err leaf_answers.Failed) P Q implies is = tt
+commit_corrupt (Err (leaf_answers.Mismatch tags)) P Q implies is = implies tags is
+commit_corrupt (Err leaf_answers.NoMemory) P Q implies is = tt
+
+-- a commit tells of no broken rule
+pub commit_garbled : (answer : Result ℕ LeafAnswer) (P : ℕ → Type 0) → IfGarbled (refusal_of (done_of answer)) P
+commit_garbled (Ok sequence) P = tt
+commit_garbled (Err leaf_answers.Lost) P = tt
+commit_garbled (Err leaf_answers.Failed) P = tt
+commit_garbled (Err (leaf_answers.Mismatch tags)) P = tt
+commit_garbled (Err leaf_answers.NoMemory) P = tt
+
+-- the sequence rises by one at most
+pub commit_one : (answer : Result ℕ LeafAnswer) (old new : ℕ) → IsNumbered answer old new → new ≤ old + 1
+commit_one (Ok sequence) old new numbered = let e : new ≡ old + 1 = numbered.1 in omega arith
+commit_one (Err answer) old new numbered = let e : new ≡ old = numbered in omega arith

@@ -1,0 +1,109 @@
+-- What a call on a region promises as a call of a store.
+use Rattle.std.proofs.Common.{◌≡◌, ◌≤◌, ◌<◌, ◌+◌, ℕ, true, false, Option, Some, Result, refl, sym, ap, ◌∙◌, subst, inl, arith}
+use Rattle.std.specs.Prelude.{IsTrue}
+use Rattle.tee_base.specs.Crash.{LeavesOnly}
+use Rattle.tee_base.specs.declared.limits.TheConstants.{LEAVES}
+use Rattle.tee_base.proofs.Crash.{mapped}
+use Rattle.store_api.specs.declared.answer.StoreAnswer.{StoreAnswer}
+use Rattle.store_api.specs.Keeping.{Contents, IsCall, LeavesJust, Remains}
+use Rattle.store_api.specs.Volumes.{Held, VolumeKeeper}
+use Rattle.region_plan.specs.Layout.{version_one}
+use Rattle.region_plan.specs.Reading.{IfGarbled, ReadsOnly, refusal_of}
+use Rattle.region_plan.specs.Regions.{breaks}
+use Rattle.object_dir.specs.Changing.{IsRegionCall}
+use Rattle.object_dir.specs.Directories.{damage_of, damage_told, dir_keeper}
+use Rattle.object_dir.specs.Regions.{HasStore, number_of, region_keeper, remains_in, store_in}
+use Rattle.object_dir.specs.declared.directory.ObjectDir.{ObjectDir}
+use Rattle.object_dir.specs.declared.region.Region.{Region}
+use Rattle.object_dir.proofs.AnswerLemmas.{cause_of, corrupt_has, corrupt_under, garbled_never, intact_of, reports_of, tells_of}
+use Rattle.object_dir.proofs.HeldLemmas.{kept_limits, never_breaks, still_stands}
+
+module _ {V : Type 0} (K : VolumeKeeper V) where
+  -- a run of reads of a region, as a run of the volume
+  pub of_volume : (old new : Region V) (P : Option Held → Type 0) → LeavesOnly (region_keeper K).moment (region_keeper K).left_since old new P
+      → LeavesOnly K.moment K.left_since old.volume.now new.volume.now P
+  of_volume old new P run = record { later = run.later; each = run.each; before = run.before }
+
+  module _ (why : Option StoreAnswer) (old new : Region V) (run : ReadsOnly (region_keeper K) number_of why old new) where
+    pub reads_go_on : K.honest old.volume.now → K.moment old.volume.now ≤ K.moment new.volume.now
+    reads_go_on h =
+        elim ((K.condition old.volume.now).lost) as (λ b. (K.condition old.volume.now).lost ≡ b → K.moment old.volume.now ≤ K.moment new.volume.now) [
+          | true ↦ λ e. (let same : K.moment new.volume.now ≡ K.moment old.volume.now = (run.quiet e).same in omega arith)
+          | false ↦ λ e. (run.crash h e).later
+        ] refl
+
+    -- reads are a call on a region
+    pub from_reads : (K.honest old.volume.now → IfGarbled why (λ leaf. IsTrue (breaks version_one ((K.held old.volume.now).leaves old.number) leaf))) → IsRegionCall K why old new
+    from_reads garbled = record {
+      cause = run.cause;
+      later = run.later;
+      orders = run.orders;
+      ordered = run.ordered;
+      same_region = run.same_region;
+      honest = run.honest;
+      shows = λ t. corrupt_has why (λ tags. (number : ℕ) × (number < LEAVES) × (K.damage new.volume.now new.number number ≡ Some tags))
+          (λ tags. (leaf : ℕ) × (K.damage new.volume.now new.number leaf ≡ Some tags)) (λ tags met. (met.0, met.2)) (run.shows t);
+      garbled = garbled;
+      quiet = λ lost. record { same = (run.quiet lost).same; none = (run.quiet lost).none };
+      past = run.past;
+      goes_on = reads_go_on;
+    }
+
+    -- and leave the store
+    pub reads_stand : HasStore K old → HasStore K new
+    reads_stand has = record {
+      honest = (run.honest has.honest).0;
+      stands = still_stands new.number old.number (K.held new.volume.now) (K.held old.volume.now) run.same_region (run.same has.honest) has.stands;
+    }
+
+  module _ {A : Type 0} (result : Result A StoreAnswer) (tried : ℕ) (old new : ObjectDir V) (call : IsRegionCall K (refusal_of result) old.region new.region) where
+    -- what a crash might have left is read alike before and after
+    same_outcome : (o : Option Held) → remains_in new.region.number o ≡ remains_in old.region.number o
+    same_outcome o = ap (λ (k : ℕ). remains_in k o) call.same_region
+
+    -- a call on a region is a call of its store
+    pub store_call : (HasStore K old.region → HasStore K new.region) → IfGarbled (refusal_of result) (λ leaf. leaf < LEAVES)
+        → new.damage_reports ≡ old.damage_reports + damage_told (refusal_of result) → new.change_attempts ≡ old.change_attempts + tried → IsCall (dir_keeper K) tried result old new
+    store_call stands few reports attempts = record {
+      model = stands;
+      limits = λ has. (kept_limits K old.region has, kept_limits K new.region (stands has));
+      cause = record {
+        cause = cause_of result (K.condition old.region.volume.now) (K.condition new.region.volume.now) old.damage_reports old.change_attempts new.damage_reports new.change_attempts call.cause;
+        later = call.later;
+        orders = call.orders;
+        ordered = call.ordered;
+        reports = reports ∙ ap (λ (k : ℕ). old.damage_reports + k) (reports_of result);
+      };
+      attempts = attempts;
+      damage = tells_of result (damage_of K new.region)
+          (corrupt_under (refusal_of result) K.tells_reads (λ tags. (leaf : ℕ) × (K.damage new.region.volume.now new.region.number leaf ≡ Some tags)) call.shows) few;
+      honest = λ has. (
+        stands has,
+        intact_of result (call.honest has.honest).1
+            (garbled_never (refusal_of result) (λ leaf. leaf < LEAVES) (λ leaf. IsTrue (breaks version_one ((K.held old.region.volume.now).leaves old.region.number) leaf))
+            (λ leaf below broken. never_breaks ((K.held old.region.volume.now).leaves old.region.number) (store_in old.region.number (K.held old.region.volume.now)) has.stands leaf below broken)
+            few (call.garbled has.honest)),
+      );
+      quiet = λ lost. record { same = (call.quiet lost).same; none = λ t o left. (left.0, (call.quiet lost).none t left.0 left.1, left.2 ∙ same_outcome left.0) };
+      past = λ has. record { later = call.goes_on has.honest; past = λ t o le left. (left.0, call.past has.honest t left.0 le left.1, left.2 ∙ sym (same_outcome left.0)) };
+    }
+
+    -- over a lost volume a crash leaves what it would have left before
+    module _ (lost : IsTrue (K.condition old.region.volume.now).lost) (kept : Contents) (just : LeavesJust (dir_keeper K) old kept) where
+      none_new : (t : ℕ) (o : Remains) → (dir_keeper K).left_since new t o → (dir_keeper K).left_since old t o
+      none_new t o left = (left.0, (call.quiet lost).none t left.0 left.1, left.2 ∙ same_outcome left.0)
+
+      pub lost_leaves : LeavesOnly (dir_keeper K).moment (dir_keeper K).left_since old new (λ o. o ≡ Some kept)
+      lost_leaves = record {
+        later = let same : K.moment new.region.volume.now ≡ K.moment old.region.volume.now = (call.quiet lost).same in omega arith;
+        each = λ o left. just.only o (none_new (K.moment old.region.volume.now) o left);
+        before = λ t o le left. inl (none_new t o left);
+      }
+
+      pub lost_just : LeavesJust (dir_keeper K) new kept
+      lost_just = record { only = λ o left. just.only o (subst (λ (t : ℕ). (dir_keeper K).left_since old t o) (call.quiet lost).same (none_new (K.moment new.region.volume.now) o left)) }
+
+    -- a run of the volume, as a run of the store
+    pub of_store : (P : Remains → Type 0) → LeavesOnly K.moment K.left_since old.region.volume.now new.region.volume.now (λ o. P (remains_in new.region.number o))
+        → LeavesOnly (dir_keeper K).moment (dir_keeper K).left_since old new P
+    of_store P run = mapped K.moment K.left_since (λ (d : ObjectDir V). d.region.volume.now) (λ (d : ObjectDir V) (o : Option Held). remains_in d.region.number o) old new P same_outcome run

@@ -1,0 +1,180 @@
+-- How a change of the objects of a region ends: refused, without a leaf that changes, or with one commit.
+use Rattle.std.proofs.Common.{◌≡◌, ◌≤◌, ℕ, false, List, [], ◌∷◌, length, Option, None, Some, Result, Ok, Err, refl, sym, ap, ◌∙◌, subst, arith}
+use Rattle.tee_base.specs.Crash.{LeavesOnly}
+use Rattle.tee_base.proofs.Crash.{joined, weaker}
+use Rattle.store_api.specs.declared.answer.StoreAnswer.{StoreAnswer}
+use Rattle.store_api.specs.declared.change.Change.{Change}
+use Rattle.store_api.specs.declared.leaves.Leaf.{Leaf}
+use Rattle.store_api.specs.declared.leaves.LeafAnswer.{LeafAnswer}
+use Rattle.store_api.specs.Keeping.{Applied, Contents, LeftByChange}
+use Rattle.store_api.specs.Stores.{Store, change}
+use Rattle.store_api.specs.Volumes.{Commits, CommitsLeaves, Held, LeftByCommit, VolumeKeeper, after_commit}
+use Rattle.region_plan.specs.Layout.{version_one}
+use Rattle.region_plan.specs.Planning.{IsPlanOf, PlansChange}
+use Rattle.region_plan.specs.Reading.{refusal_of}
+use Rattle.object_dir.specs.Changing.{ChangesRegion, CommitsRegion, IsRegionCall, done_of}
+use Rattle.object_dir.specs.Regions.{HasStore, contents_in, kept_in, number_of, region_in, region_keeper, remains_in, store_in, store_or_empty}
+use Rattle.object_dir.specs.declared.region.Region.{Region}
+use Rattle.object_dir.proofs.AnswerLemmas.{commit_cause, commit_corrupt, commit_garbled, commit_one, left_before, not_both}
+use Rattle.object_dir.proofs.CallLemmas.{from_reads, of_volume, reads_go_on, reads_stand}
+use Rattle.object_dir.proofs.CommitLemmas.{commit_applied, commit_left, commit_stands}
+use Rattle.object_dir.proofs.HeldLemmas.{reads_back, same_contents}
+
+module _ {V : Type 0} (K : VolumeKeeper V) (c : Change) where
+  -- a change that a plan refuses, or that has no leaf to change
+  module _ (planned : Result (List Leaf) StoreAnswer) (result : Result (Unit {0}) StoreAnswer) (old new : Region V) (why : refusal_of result ≡ refusal_of planned)
+      (plan : PlansChange (region_keeper K) number_of version_one c planned old new) where
+    plan_call : IsRegionCall K (refusal_of result) old new
+    plan_call = subst (λ (r : Option StoreAnswer). IsRegionCall K r old new) (sym why) (from_reads K (refusal_of planned) old new plan.reads plan.garbled)
+
+    pub plan_same : HasStore K old → kept_in K new ≡ kept_in K old
+    plan_same has = same_contents new.number old.number (K.held new.volume.now) (K.held old.volume.now) plan.reads.same_region (plan.reads.same has.honest)
+
+    plan_leaves : HasStore K old → (K.condition old.volume.now).lost ≡ false
+        → LeavesOnly K.moment K.left_since old.volume.now new.volume.now (λ o. LeftByChange result (kept_in K old) (change (kept_in K old).store c) (remains_in new.number o))
+    plan_leaves has works =
+        weaker K.moment K.left_since old.volume.now new.volume.now (λ o. o ≡ Some (K.held old.volume.now))
+        (λ o. LeftByChange result (kept_in K old) (change (kept_in K old).store c) (remains_in new.number o))
+        (λ o is. left_before result (kept_in K old) (change (kept_in K old).store c) (remains_in new.number o)
+        (ap (λ (k : ℕ). remains_in k o) plan.reads.same_region ∙ (ap (λ (x : Option Held). remains_in old.number x) is ∙ reads_back old.number (K.held old.volume.now) has.stands)))
+        (of_volume K old new (λ o. o ≡ Some (K.held old.volume.now)) (plan.reads.crash has.honest works))
+
+    pub ends_with_plan : (HasStore K old → Applied result (change (kept_in K old).store c) (kept_in K old) (kept_in K new)) → ChangesRegion K c result old new
+    ends_with_plan applied = record {
+      call = plan_call;
+      stands = reads_stand K (refusal_of planned) old new plan.reads;
+      applied = applied;
+      one = let same : (K.held new.volume.now).sequence ≡ (K.held old.volume.now).sequence = plan.reads.sequence in omega arith;
+      crash = plan_leaves;
+    }
+
+  pub change_refused : (why : StoreAnswer) (old new : Region V) → PlansChange (region_keeper K) number_of version_one c (Err why) old new → ChangesRegion K c (Err why) old new
+  change_refused why old new plan =
+      ends_with_plan (Err why) (Err why) old new refl plan
+      (λ has. (plan.plans has.honest (store_in old.number (K.held old.volume.now)) has.stands, plan_same (Err why) (Err why) old new refl plan has))
+
+  pub change_refused_as : (why : StoreAnswer) (result : Result (Unit {0}) StoreAnswer) (old new : Region V) → result ≡ Err why → PlansChange (region_keeper K) number_of version_one c (Err why)
+      old new → ChangesRegion K c result old new
+  change_refused_as why result old new is plan = subst (λ (r : Result (Unit {0}) StoreAnswer). ChangesRegion K c r old new) (sym is) (change_refused why old new plan)
+
+  -- a plan of no leaf is one of a change that leaves the store as it was
+  same_store : (n : ℕ) (h : Held) → region_in n h ≡ Ok (store_in n h) → IsPlanOf version_one (h.leaves n) (store_in n h) c [] → change (store_in n h) c ≡ Ok (store_in n h)
+  same_store n h is plan =
+      let same : store_in n h ≡ plan.after = ap (λ (r : Result Store ℕ). store_or_empty r) (sym is ∙ plan.stands) in
+      plan.changes ∙ ap (λ (s : Store). Ok s) (sym same)
+
+  pub nothing_changes : (old new : Region V) → PlansChange (region_keeper K) number_of version_one c (Ok []) old new → ChangesRegion K c (Ok tt) old new
+  nothing_changes old new plan =
+      ends_with_plan (Ok []) (Ok tt) old new refl plan
+      (λ has.
+      let same : kept_in K new ≡ kept_in K old = plan_same (Ok []) (Ok tt) old new refl plan has in
+      let changes = same_store old.number (K.held old.volume.now) has.stands (plan.plans has.honest (store_in old.number (K.held old.volume.now)) has.stands) in (
+        changes ∙ ap (λ (x : Contents). Ok x.store) (sym same),
+        ap (λ (x : Contents). x.rest) same,
+        let e : (kept_in K new).number ≡ (kept_in K old).number = ap (λ (x : Contents). x.number) same
+            in omega arith,
+      ))
+
+  no_leaf : (seen : List Leaf) → length seen ≡ 0 → seen ≡ []
+  no_leaf [] none = refl
+  no_leaf (leaf ∷ leaves) none = absurd (omega arith)
+
+  -- the same, by what is seen of the plan
+  pub no_leaf_changes : (named seen : List Leaf) (old new : Region V) → seen ≡ named → length seen ≡ 0 → PlansChange (region_keeper K) number_of version_one c (Ok named) old new
+      → ChangesRegion K c (Ok tt) old new
+  no_leaf_changes named seen old new same none plan =
+      let empty : named ≡ [] = sym same ∙ no_leaf seen none in
+      nothing_changes old new (subst (λ (l : List Leaf). PlansChange (region_keeper K) number_of version_one c (Ok l) old new) empty plan)
+
+  -- planned leaves, and one commit of them
+  module _ (named : List Leaf) (answer : Result ℕ LeafAnswer) (old mid new : Region V) (plan : PlansChange (region_keeper K) number_of version_one c (Ok named) old mid)
+      (commit : CommitsLeaves K mid.number named answer mid.volume.now new.volume.now) (same : new.number ≡ mid.number) where
+    works_then : (K.condition mid.volume.now).lost ≡ false
+    works_then = plan.reads.cause.1
+
+    number : new.number ≡ old.number
+    number = same ∙ plan.reads.same_region
+
+    commit_call : IsRegionCall K (refusal_of (done_of answer)) old new
+    commit_call = record {
+      cause = commit_cause answer (K.condition old.volume.now) (K.condition mid.volume.now) (K.condition new.volume.now) plan.reads.cause plan.reads.later commit.call.cause.cause;
+      later = let one : (K.condition old.volume.now).faults ≤ (K.condition mid.volume.now).faults = plan.reads.later in let two : (K.condition mid.volume.now).faults ≤
+          (K.condition new.volume.now).faults = commit.call.cause.later in omega arith;
+      orders = commit.call.cause.orders ∙ plan.reads.orders;
+      ordered = commit.call.cause.ordered ∙ plan.reads.ordered;
+      same_region = number;
+      honest = λ h. ((commit.call.honest (plan.reads.honest h).0).0, commit_corrupt answer (λ tags. ⊥) (λ tags. ⊥) (λ tags never. never) (commit.call.honest (plan.reads.honest h).0).1);
+      shows = λ t. commit_corrupt answer (λ tags. (leaf : ℕ) × (K.damage new.volume.now mid.number leaf ≡ Some tags)) (λ tags. (leaf : ℕ) × (K.damage new.volume.now new.number leaf ≡ Some tags))
+          (λ tags met. (met.0, ap (λ (k : ℕ). K.damage new.volume.now k met.0) same ∙ met.1)) (commit.shows t);
+      garbled = λ h. commit_garbled answer _;
+      quiet = λ lost. not_both (K.condition old.volume.now).lost lost plan.reads.cause.0;
+      past = λ h t o le left.
+          let first : K.moment old.volume.now ≤ K.moment mid.volume.now = reads_go_on K None old mid plan.reads h in
+          commit.call.past (plan.reads.honest h).0 t o (omega arith) (plan.reads.past h t o le left);
+      goes_on = λ h.
+          let first : K.moment old.volume.now ≤ K.moment mid.volume.now = reads_go_on K None old mid plan.reads h in
+          let second : K.moment mid.volume.now ≤ K.moment new.volume.now = (commit.crash (plan.reads.honest h).0 works_then).later in
+          omega arith;
+    }
+
+    -- the commit, from what was held before the plan
+    module _ (has : HasStore K old) where
+      plan_of : IsPlanOf version_one ((K.held old.volume.now).leaves old.number) (store_in old.number (K.held old.volume.now)) c named
+      plan_of = plan.plans has.honest (store_in old.number (K.held old.volume.now)) has.stands
+
+      made : Commits answer old.number named (K.held old.volume.now) (K.held new.volume.now)
+      made =
+          subst (λ (x : Held). Commits answer old.number named x (K.held new.volume.now)) (plan.reads.same has.honest)
+          (subst (λ (k : ℕ). Commits answer k named (K.held mid.volume.now) (K.held new.volume.now)) plan.reads.same_region (commit.committed (plan.reads.honest has.honest).0))
+
+      commit_has : HasStore K new
+      commit_has = record {
+        honest = (commit.call.honest (plan.reads.honest has.honest).0).0;
+        stands = subst (λ (k : ℕ). region_in k (K.held new.volume.now) ≡ Ok (store_in k (K.held new.volume.now))) (sym number)
+            (commit_stands c named old.number (K.held old.volume.now) has.stands plan_of answer (K.held new.volume.now) made);
+      }
+
+      commit_applies : Applied (done_of answer) (change (kept_in K old).store c) (kept_in K old) (kept_in K new)
+      commit_applies =
+          subst (λ (k : ℕ). Applied (done_of answer) (change (kept_in K old).store c) (kept_in K old) (contents_in k (K.held new.volume.now))) (sym number)
+          (commit_applied c named old.number (K.held old.volume.now) has.stands plan_of answer (K.held new.volume.now) made)
+
+      commit_remains : (o : Option Held) → LeftByCommit answer (K.held mid.volume.now) (after_commit mid.number named (K.held mid.volume.now)) o
+          → LeftByChange (done_of answer) (kept_in K old) (change (kept_in K old).store c) (remains_in new.number o)
+      commit_remains o left =
+          let here : LeftByCommit answer (K.held mid.volume.now) (after_commit old.number named (K.held mid.volume.now)) o =
+          subst (λ (k : ℕ). LeftByCommit answer (K.held mid.volume.now) (after_commit k named (K.held mid.volume.now)) o) plan.reads.same_region left in
+          let there : LeftByCommit answer (K.held old.volume.now) (after_commit old.number named (K.held old.volume.now)) o =
+          subst (λ (x : Held). LeftByCommit answer x (after_commit old.number named x) o) (plan.reads.same has.honest) here in
+          subst (λ (k : ℕ). LeftByChange (done_of answer) (kept_in K old) (change (kept_in K old).store c) (remains_in k o)) (sym number)
+          (commit_left c named old.number (K.held old.volume.now) has.stands plan_of answer o there)
+
+      commit_leaves : (K.condition old.volume.now).lost ≡ false
+          → LeavesOnly K.moment K.left_since old.volume.now new.volume.now (λ o. LeftByChange (done_of answer) (kept_in K old) (change (kept_in K old).store c) (remains_in new.number o))
+      commit_leaves works =
+          joined K.moment K.left_since old.volume.now mid.volume.now new.volume.now (λ o. LeftByChange (done_of answer) (kept_in K old) (change (kept_in K old).store c) (remains_in new.number o))
+          (weaker K.moment K.left_since old.volume.now mid.volume.now (λ o. o ≡ Some (K.held old.volume.now))
+          (λ o. LeftByChange (done_of answer) (kept_in K old) (change (kept_in K old).store c) (remains_in new.number o))
+          (λ o is. left_before (done_of answer) (kept_in K old) (change (kept_in K old).store c) (remains_in new.number o)
+          (ap (λ (k : ℕ). remains_in k o) number ∙ (ap (λ (x : Option Held). remains_in old.number x) is ∙ reads_back old.number (K.held old.volume.now) has.stands)))
+          (of_volume K old mid (λ o. o ≡ Some (K.held old.volume.now)) (plan.reads.crash has.honest works)))
+          (weaker K.moment K.left_since mid.volume.now new.volume.now (LeftByCommit answer (K.held mid.volume.now) (after_commit mid.number named (K.held mid.volume.now)))
+          (λ o. LeftByChange (done_of answer) (kept_in K old) (change (kept_in K old).store c) (remains_in new.number o))
+          commit_remains (commit.crash (plan.reads.honest has.honest).0 works_then))
+
+    by_answer : ChangesRegion K c (done_of answer) old new
+    by_answer = record {
+      call = commit_call;
+      stands = commit_has;
+      applied = commit_applies;
+      one = let same : (K.held mid.volume.now).sequence ≡ (K.held old.volume.now).sequence = plan.reads.sequence in let rises = commit_one answer (K.held mid.volume.now).sequence
+          (K.held new.volume.now).sequence commit.sequence in omega arith;
+      crash = commit_leaves;
+    }
+
+  -- a change that is committed
+  pub change_committed : (named : List Leaf) (result : Result (Unit {0}) StoreAnswer) (old mid new : Region V) → PlansChange (region_keeper K) number_of version_one c (Ok named) old mid
+      → CommitsRegion K named result mid new → ChangesRegion K c result old new
+  change_committed named result old mid new plan commit =
+      subst (λ (r : Result (Unit {0}) StoreAnswer). ChangesRegion K c r old new) (sym commit.told)
+      (by_answer named commit.answer old mid new plan commit.commits commit.same_region)

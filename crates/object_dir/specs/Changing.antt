@@ -1,0 +1,56 @@
+-- What a call on a region promises, and what a change of its objects comes to.
+use Rattle.std.specs.Prelude.{ℕ, ◌≡◌, ◌+◌, ◌≤◌, false, List, Option, Some, Result, Ok, Err, IsTrue}
+use Rattle.tee_base.specs.Crash.{LeavesOnly}
+use Rattle.store_api.specs.declared.answer.StoreAnswer.{StoreAnswer}
+use Rattle.store_api.specs.declared.change.Change.{Change}
+use Rattle.store_api.specs.declared.leaves.Leaf.{Leaf}
+use Rattle.store_api.specs.declared.leaves.LeafAnswer.{LeafAnswer}
+use Rattle.store_api.specs.Keeping.{Applied, LeftByChange}
+use Rattle.store_api.specs.Stores.{change}
+use Rattle.store_api.specs.Volumes.{Held, VolumeKeeper, AddsNothing, CommitsLeaves}
+use Rattle.region_plan.specs.Layout.{version_one}
+use Rattle.region_plan.specs.Reading.{ReadCause, IfCorrupt, IfGarbled, refusal_of, store_answer}
+use Rattle.region_plan.specs.Regions.{breaks}
+use Rattle.object_dir.specs.Regions.{HasStore, kept_in, remains_in}
+use Rattle.object_dir.specs.declared.region.Region.{Region}
+
+-- what a store answers where a commit answers this
+abbrev pub done_of : Result ℕ LeafAnswer → Result (Unit {0}) StoreAnswer
+done_of (Ok sequence) = Ok tt
+done_of (Err answer) = Err (store_answer answer)
+
+module _ {V : Type 0} (K : VolumeKeeper V) where
+  -- these leaves of a region are replaced by one commit of the volume
+  pub record CommitsRegion (named : List Leaf) (result : Result (Unit {0}) StoreAnswer) (old new : Region V) : Type 0 where
+    pub answer : Result ℕ LeafAnswer
+    pub told : result ≡ done_of answer
+    pub commits : CommitsLeaves K old.number named answer old.volume.now new.volume.now
+    pub same_region : new.number ≡ old.number
+
+  -- what every call on a region promises that is refused for this reason, or isn't refused
+  pub record IsRegionCall (why : Option StoreAnswer) (old new : Region V) : Type 0 where
+    pub cause : ReadCause why (K.condition old.volume.now) (K.condition new.volume.now)
+    pub later : (K.condition old.volume.now).faults ≤ (K.condition new.volume.now).faults
+    pub orders : (K.condition new.volume.now).orders ≡ (K.condition old.volume.now).orders
+    pub ordered : (K.condition new.volume.now).ordered ≡ (K.condition old.volume.now).ordered
+    pub same_region : new.number ≡ old.number
+    pub honest : K.honest old.volume.now → K.honest new.volume.now × IfCorrupt why (λ tags. ⊥)
+    -- damage that is told is that of a leaf of the region, or a leaf that breaks a rule
+    pub shows : IsTrue K.tells_reads → IfCorrupt why (λ tags. (leaf : ℕ) × (K.damage new.volume.now new.number leaf ≡ Some tags))
+    pub garbled : K.honest old.volume.now → IfGarbled why (λ leaf. IsTrue (breaks version_one ((K.held old.volume.now).leaves old.number) leaf))
+    -- of a crash: over a lost volume nothing new may be left, and nothing of the past is forgotten
+    pub quiet : IsTrue (K.condition old.volume.now).lost → AddsNothing K old.volume.now new.volume.now
+    pub past : K.honest old.volume.now → (t : ℕ) (o : Option Held) → t ≤ K.moment old.volume.now → K.left_since old.volume.now t o → K.left_since new.volume.now t o
+    pub goes_on : K.honest old.volume.now → K.moment old.volume.now ≤ K.moment new.volume.now
+
+  -- the objects of a region are changed, all at once or not at all
+  pub record ChangesRegion (c : Change) (result : Result (Unit {0}) StoreAnswer) (old new : Region V) : Type 0 where
+    pub call : IsRegionCall (refusal_of result) old new
+    pub stands : HasStore K old → HasStore K new
+    pub applied : HasStore K old → Applied result (change (kept_in K old).store c) (kept_in K old) (kept_in K new)
+    -- one commit at most
+    pub one : (K.held new.volume.now).sequence ≤ (K.held old.volume.now).sequence + 1
+    -- a crash leaves the objects before the change or after it
+    pub crash : HasStore K old → (K.condition old.volume.now).lost ≡ false
+        → LeavesOnly K.moment K.left_since old.volume.now new.volume.now
+        (λ o. LeftByChange result (kept_in K old) (change (kept_in K old).store c) (remains_in new.number o))

@@ -1,0 +1,54 @@
+-- The objects of a region as a store.
+use Rattle.std.specs.Prelude.{ℕ, ◌≡◌, ◌+◌, ◌<◌, ◌≤◌, Option, Some, IsTrue}
+use Rattle.tee_base.specs.Crash.{read_as}
+use Rattle.tee_base.specs.declared.limits.TheConstants.{LEAVES}
+use Rattle.store_api.specs.declared.answer.StoreAnswer.{StoreAnswer}
+use Rattle.store_api.specs.declared.answer.StoreAnswer.TheVariants.{Corrupt, Garbled}
+use Rattle.store_api.specs.Keeping.{Keeper, Status}
+use Rattle.store_api.specs.Volumes.{Condition, VolumeKeeper}
+use Rattle.region_plan.specs.Layout.{version_one}
+use Rattle.region_plan.specs.Reading.{IfGarbled}
+use Rattle.region_plan.specs.Regions.{breaks}
+use Rattle.object_dir.specs.Regions.{HasStore, kept_in, remains_in}
+use Rattle.object_dir.specs.declared.region.Region.{Region}
+use Rattle.object_dir.specs.declared.directory.ObjectDir.{ObjectDir}
+
+-- how often a refusal tells of damage
+abbrev pub damage_told : Option StoreAnswer → ℕ
+damage_told (Some (Corrupt tags)) = 1
+damage_told (Some (Garbled leaf)) = 1
+damage_told _ = 0
+
+-- what is known of a store over a volume of this condition
+abbrev pub status_with : Condition → ℕ → ℕ → Status
+status_with c reports attempts =
+    record { lost = c.lost; faults = c.faults; orders = c.orders; ordered = c.ordered; damage_reports = reports; change_attempts = attempts }
+
+module _ {V : Type 0} (K : VolumeKeeper V) where
+  -- what there is for an answer of damage to tell: two tags that differ on the way to a leaf of the region
+  abbrev pub damage_of : Region V → StoreAnswer → Type 0
+  damage_of r (Corrupt tags) = IsTrue K.tells_reads → (leaf : ℕ) × (K.damage r.volume.now r.number leaf ≡ Some tags)
+  damage_of r (Garbled leaf) = leaf < LEAVES
+  damage_of r _ = Unit {0}
+
+  -- the objects of a region as a store: there is one where the volume is honest and the region stands for one, its rest is all other
+  -- regions, its counts are the volume's, and it is lost where the volume is
+  abbrev pub dir_keeper : Keeper (ObjectDir V)
+  dir_keeper = record {
+    has_model = λ d. HasStore K d.region;
+    contents = λ d. kept_in K d.region;
+    status = λ d. status_with (K.condition d.region.volume.now) d.damage_reports d.change_attempts;
+    honest = λ d. HasStore K d.region;
+    damage = λ d. damage_of d.region;
+    moment = λ d. K.moment d.region.volume.now;
+    left_since = λ d. read_as (remains_in d.region.number) (K.left_since d.region.volume.now);
+  }
+
+  -- a leaf that is told, of an honest volume, breaks a rule
+  abbrev pub BreaksRule : Option StoreAnswer → ObjectDir V → Type 0
+  BreaksRule why old = K.honest old.region.volume.now
+      → IfGarbled why (λ leaf. IsTrue (breaks version_one ((K.held old.region.volume.now).leaves old.region.number) leaf))
+
+  -- the volume made one commit at most
+  abbrev pub IsOneCommit : ObjectDir V → ObjectDir V → Type 0
+  IsOneCommit old new = (K.held new.region.volume.now).sequence ≤ (K.held old.region.volume.now).sequence + 1

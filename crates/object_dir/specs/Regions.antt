@@ -1,0 +1,71 @@
+-- One region of a volume: what is seen of its leaves, and the store that they stand for.
+use Rattle.std.specs.Prelude.{ℕ, ◌≡◌, ◌==◌, List, [], Option, None, Some, Result, Ok, Err, if◌then◌else◌}
+use Rattle.store_api.specs.Keeping.{Contents, Remains, Rest}
+use Rattle.store_api.specs.Stores.{Store, empty_store}
+use Rattle.store_api.specs.Volumes.{Held, VolumeKeeper}
+use Rattle.region_plan.specs.Layout.{version_one}
+use Rattle.region_plan.specs.Regions.{region_of}
+use Rattle.object_dir.specs.declared.region.Region.{Region}
+
+-- the volume of a region, as contracts see it
+abbrev pub region_keeper : {V : Type 0} → VolumeKeeper V → VolumeKeeper (Region V)
+region_keeper K = record {
+  tells_reads = K.tells_reads;
+  held = λ r. K.held r.volume.now;
+  condition = λ r. K.condition r.volume.now;
+  honest = λ r. K.honest r.volume.now;
+  damage = λ r. K.damage r.volume.now;
+  moment = λ r. K.moment r.volume.now;
+  left_since = λ r. K.left_since r.volume.now;
+}
+
+-- the number of a region
+abbrev pub number_of : {V : Type 0} → Region V → ℕ
+number_of r = r.number
+
+-- the leaves of all regions but this one
+abbrev pub others : ℕ → (ℕ → ℕ → List ℕ) → ℕ → ℕ → List ℕ
+others region leaves r l = if r == region then [] else leaves r l
+
+-- what is kept beside a region
+abbrev pub rest_of : ℕ → Held → Rest
+rest_of region held = record { leaves = others region held.leaves }
+
+-- what the leaves of a region stand for
+abbrev pub region_in : ℕ → Held → Result Store ℕ
+region_in region held = region_of version_one (held.leaves region)
+
+abbrev pub store_or_empty : Result Store ℕ → Store
+store_or_empty (Ok store) = store
+store_or_empty (Err leaf) = empty_store
+
+-- the store of a region, and an empty one where it stands for none
+abbrev pub store_in : ℕ → Held → Store
+store_in region held = store_or_empty (region_in region held)
+
+-- this store, the other regions and the sequence
+abbrev pub beside : ℕ → Held → Store → Contents
+beside region held store = record { store = store; rest = rest_of region held; number = held.sequence }
+
+-- what a volume holds, as the store of one region and what is beside it
+abbrev pub contents_in : ℕ → Held → Contents
+contents_in region held = beside region held (store_in region held)
+
+abbrev pub opened : ℕ → Held → Result Store ℕ → Remains
+opened region held (Ok store) = Some (beside region held store)
+opened region held (Err leaf) = None
+
+-- what a crash leaves of a volume, as the store of one region and what is beside it: nothing where the region stands for no store
+abbrev pub remains_in : ℕ → Option Held → Remains
+remains_in region None = None
+remains_in region (Some held) = opened region held (region_in region held)
+
+module _ {V : Type 0} (K : VolumeKeeper V) where
+  -- what the region and the volume keep
+  abbrev pub kept_in : Region V → Contents
+  kept_in r = contents_in r.number (K.held r.volume.now)
+
+  -- the volume is honest, and the region stands for a store
+  pub record HasStore (r : Region V) : Type 0 where
+    pub honest : K.honest r.volume.now
+    pub stands : region_in r.number (K.held r.volume.now) ≡ Ok (store_in r.number (K.held r.volume.now))

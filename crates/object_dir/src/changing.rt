@@ -1,0 +1,39 @@
+//! A change of the objects of a region: planned, and committed at once.
+
+ghost use Rattle.std.specs.Prelude.{◌≡◌};
+ghost use Rattle.region_plan.specs.Reading.{store_answer};
+ghost use Rattle.store_api.specs.Limits.{IsChange};
+ghost use Rattle.object_dir.specs.Changing.{ChangesRegion};
+
+use crate::region::Region;
+use region_plan::plan;
+use std::alloc::Global;
+use store_api::{Change, LeafAnswer, StoreAnswer, Volume};
+
+/// What a store answers where leaves of it weren't replaced.
+pub(crate) fn answer_of(answer: LeafAnswer) -> StoreAnswer
+    ensures { result ≡ store_answer answer }
+{
+    match answer {
+        LeafAnswer::Lost => StoreAnswer::Lost,
+        LeafAnswer::Failed => StoreAnswer::Failed,
+        LeafAnswer::Mismatch(tags) => StoreAnswer::Corrupt(tags),
+        LeafAnswer::NoMemory => StoreAnswer::NoMemory,
+    }
+}
+
+/// Makes a change, whole or not at all. Where no leaf changes, nothing is committed.
+pub(crate) fn change_region<V: Volume>(
+    alloc: Global,
+    region: &mut Region<'_, V>,
+    change: &Change,
+) -> Result<(), StoreAnswer>
+    requires { IsChange change.now }
+    ensures { ChangesRegion V.keeper change.now result region.old region.new }
+{
+    let leaves = plan(alloc, region, change)?;
+    if leaves.as_slice().is_empty() {
+        return Ok(());
+    }
+    region.commit(&leaves)
+}

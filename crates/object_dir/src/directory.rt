@@ -1,0 +1,146 @@
+//! The objects of one region of a volume, as a store.
+
+ghost use Rattle.std.specs.Prelude.{◌≡◌, ◌≤◌, ◌<◌, ◌+◌, option_copied};
+ghost use Rattle.store_api.specs.Keeping.{Reads, Applies, damage_in};
+ghost use Rattle.store_api.specs.Limits.{IsIdentifier, IsChange, AreFacts, IsSecret, IsPart, IsListed};
+ghost use Rattle.store_api.specs.Stores.{found, secret_at, read_at, next_after as next_of};
+ghost use Rattle.tee_base.specs.declared.limits.TheConstants.{ASK_BYTES, HOSTS, LEAVES};
+ghost use Rattle.region_plan.specs.Reading.{refusal_of, IfGarbled};
+ghost use Rattle.object_dir.specs.Directories.{dir_keeper, damage_told, BreaksRule, IsOneCommit};
+
+use crate::changing::change_region;
+use crate::region::Region;
+use region_plan::{content, facts, next_after, secret};
+use std::alloc::Global;
+use store_api::{AppStore, Change, Facts, Listed, StoreAnswer, Tally, Volume};
+use tee_base::Bytes;
+
+/// Why a call is refused, if it is.
+fn refusal<A>(answer: &Result<A, StoreAnswer>) -> Option<StoreAnswer>
+    ensures { result ≡ refusal_of answer.now }
+{
+    match answer {
+        Ok(_) => None,
+        Err(why) => Some(*why),
+    }
+}
+
+/// Counts a refusal that tells of damage.
+fn note(reports: &mut Tally, why: Option<StoreAnswer>)
+    ensures count { reports.new ≡ reports.old + damage_told why }
+    ensures leaf { IfGarbled why (λ leaf. leaf < LEAVES) }
+{
+    match why {
+        Some(StoreAnswer::Corrupt(_tags)) => *reports = reports.one_more(),
+        Some(StoreAnswer::Garbled(_leaf)) => *reports = reports.one_more(),
+        _ => {}
+    }
+}
+
+/// The objects of one region of a volume. It keeps nothing itself, and the other regions stay as they are.
+#[derive(Drop)]
+pub struct ObjectDir<'v, V> {
+    region: Region<'v, V>,
+    damage_reports: Tally,
+    change_attempts: Tally,
+    alloc: Global,
+}
+
+impl<'v, V: Volume> ObjectDir<'v, V> {
+    /// The objects of a region of a volume. It takes no memory; its calls take theirs from this allocator.
+    pub fn of(alloc: Global, volume: &'v mut V, region: u8) -> ObjectDir<'v, V>
+        requires { region < HOSTS }
+        ensures volume { result.region.volume.now ≡ volume.old }
+        ensures same_reference { result.region.volume.ghost_name ≡ volume.entry.ghost_name }
+        ensures region { result.region.number ≡ region }
+        ensures reports { result.damage_reports ≡ 0 }
+        ensures attempts { result.change_attempts ≡ 0 }
+    {
+        ObjectDir {
+            region: Region {
+                volume,
+                number: region,
+            },
+            damage_reports: Tally::none(),
+            change_attempts: Tally::none(),
+            alloc,
+        }
+    }
+}
+
+impl<V: Volume> AppStore for ObjectDir<'_, V> {
+    ghost keeper = { dir_keeper V.keeper };
+
+    ghost honest_model = { λ d honest. honest };
+
+    ghost since_earlier = { λ d t u o le left.
+        (left.0, V.since_earlier d.region.volume.now t u left.0 le left.1, left.2) };
+
+    /// Besides, over an honest volume `Garbled` tells of a leaf that breaks a rule, and it stays the same region. So it is
+    /// with the others.
+    fn find(&mut self, id: &[u8]) -> Result<Facts, StoreAnswer>
+        requires { IsIdentifier id.now }
+        ensures reads { Reads (dir_keeper V.keeper) (λ store. found store id.now) AreFacts result
+            self.old self.new }
+        ensures garbled { BreaksRule V.keeper (refusal_of result) self.old }
+        ensures same_region { self.new.region.number ≡ self.old.region.number }
+    {
+        let answer = facts(self.alloc, &mut self.region, id);
+        note(&mut self.damage_reports, refusal(&answer));
+        answer
+    }
+
+    fn secret(&mut self, id: &[u8]) -> Result<Bytes, StoreAnswer>
+        requires { IsIdentifier id.now }
+        ensures reads { Reads (dir_keeper V.keeper) (λ store. secret_at store id.now) IsSecret
+            result self.old self.new }
+        ensures garbled { BreaksRule V.keeper (refusal_of result) self.old }
+        ensures same_region { self.new.region.number ≡ self.old.region.number }
+    {
+        let answer = secret(self.alloc, &mut self.region, id);
+        note(&mut self.damage_reports, refusal(&answer));
+        answer
+    }
+
+    fn read(&mut self, id: &[u8], from: u32, count: u32) -> Result<Bytes, StoreAnswer>
+        requires id { IsIdentifier id.now }
+        requires count { count ≤ ASK_BYTES }
+        ensures reads { Reads (dir_keeper V.keeper) (λ store. read_at store id.now from count)
+            (IsPart count) result self.old self.new }
+        ensures garbled { BreaksRule V.keeper (refusal_of result) self.old }
+        ensures same_region { self.new.region.number ≡ self.old.region.number }
+    {
+        let answer = content(self.alloc, &mut self.region, id, from, count);
+        note(&mut self.damage_reports, refusal(&answer));
+        answer
+    }
+
+    fn next_after(&mut self, last: Option<&[u8]>) -> Result<Listed, StoreAnswer>
+        ensures reads { Reads (dir_keeper V.keeper)
+            (λ store. next_of store (option_copied last.entry)) IsListed result self.old self.new }
+        ensures garbled { BreaksRule V.keeper (refusal_of result) self.old }
+        ensures same_region { self.new.region.number ≡ self.old.region.number }
+    {
+        let answer = next_after(self.alloc, &mut self.region, last);
+        note(&mut self.damage_reports, refusal(&answer));
+        answer
+    }
+
+    /// Besides, it makes one commit at most.
+    fn apply(&mut self, change: &Change) -> Result<(), StoreAnswer>
+        requires { IsChange change.now }
+        ensures applies { Applies (dir_keeper V.keeper) change.now result self.old self.new }
+        ensures garbled { BreaksRule V.keeper (refusal_of result) self.old }
+        ensures same_region { self.new.region.number ≡ self.old.region.number }
+        ensures one { IsOneCommit V.keeper self.old self.new }
+    {
+        self.change_attempts = self.change_attempts.one_more();
+        let answer = change_region(self.alloc, &mut self.region, change);
+        note(&mut self.damage_reports, refusal(&answer));
+        answer
+    }
+
+    fn faults(&self) -> u64 {
+        self.region.volume.faults()
+    }
+}

@@ -1,0 +1,10 @@
+//! The objects of one region of a volume, as a store.
+#![tactic(auto)]
+
+mod changing;
+mod directory;
+mod region;
+#[cfg(test)]
+mod tests;
+
+pub use directory::ObjectDir;

@@ -1,0 +1,55 @@
+//! One region of a volume.
+
+ghost use Rattle.std.specs.Prelude.{◌<◌};
+ghost use Rattle.tee_base.specs.declared.limits.TheConstants.{HOSTS};
+
+use crate::changing::answer_of;
+use region_plan::LeafSource;
+use store_api::{LeafAnswer, Leaves, StoreAnswer, Volume};
+use tee_base::limits::BLOCK_BYTES;
+
+/// One region of a volume.
+#[derive(Drop)]
+pub(crate) struct Region<'v, V> {
+    pub volume: &'v mut V,
+    pub number: u8,
+    ghost fits: { number < HOSTS },
+}
+
+impl<V: Volume> LeafSource for Region<'_, V> {
+    ghost use Rattle.object_dir.specs.Regions.{region_keeper};
+
+    ghost keeper = { region_keeper V.keeper };
+
+    ghost region = { λ r. r.number };
+
+    ghost rests = { λ r honest works. record { only = (V.rests r.volume.now honest works).only } };
+
+    fn leaf(&mut self, number: u8, into: &mut [u8; BLOCK_BYTES]) -> Result<(), LeafAnswer> {
+        self.volume.read_leaf(self.number, number, into)
+    }
+
+    fn faults(&self) -> u64 {
+        self.volume.faults()
+    }
+
+    fn is_lost(&self) -> bool {
+        self.volume.is_lost()
+    }
+}
+
+impl<V: Volume> Region<'_, V> {
+    ghost use Rattle.std.specs.Prelude.{◌≡◌};
+    ghost use Rattle.region_plan.specs.Reading.{store_answer};
+    ghost use Rattle.object_dir.specs.Changing.{CommitsRegion};
+
+    /// Replaces these leaves, all or none, and answers as a store does.
+    pub fn commit(&mut self, leaves: &Leaves) -> Result<(), StoreAnswer>
+        ensures { CommitsRegion V.keeper leaves.now result self.old self.new }
+    {
+        match self.volume.commit(self.number, leaves) {
+            Ok(_sequence) => Ok(()),
+            Err(answer) => Err(answer_of(answer)),
+        }
+    }
+}

@@ -1,0 +1,6 @@
+//! Objects in the regions of a volume in memory.
+
+mod changes;
+mod losses;
+mod memory;
+mod same;

@@ -1,0 +1,124 @@
+//! A volume in memory.
+
+ghost use Rattle.std.specs.Prelude.{◌≡◌, ◌<◌, None, false, vec_len};
+ghost use Rattle.tee_base.specs.declared.limits.TheConstants.{HOSTS};
+
+use std::alloc::Global;
+use std::test::Fail;
+use store_api::{Leaf, LeafAnswer, Leaves, Volume};
+use tee_base::limits::{BLOCK_BYTES, HOSTS, LEAVES};
+
+/// How the next commit ends.
+#[derive(Clone, Copy)]
+pub enum Ending {
+    Works,
+    /// It fails, and nothing is written.
+    FailsBefore,
+    /// It fails, and all is written.
+    FailsBehind,
+}
+
+#[derive(Drop)]
+pub struct Memory {
+    leaves: Vec<[u8; BLOCK_BYTES]>,
+    sequence: u64,
+    faults: u64,
+    pub lost: bool,
+    pub ending: Ending,
+    ghost whole: { vec_len leaves ≡ 4096 },
+}
+
+/// A volume of zeros.
+pub fn blank(alloc: Global) -> Result<Memory, Fail> {
+    let mut leaves = Vec::new(alloc);
+    leaves.resize(HOSTS * LEAVES, [0; BLOCK_BYTES])?;
+    Ok(Memory {
+        leaves,
+        sequence: 0,
+        faults: 0,
+        lost: false,
+        ending: Ending::Works,
+    })
+}
+
+/// Replaces leaves of a region.
+fn replace(leaves: &mut Vec<[u8; BLOCK_BYTES]>, region: u8, named: &[Leaf])
+    requires whole { vec_len leaves.old ≡ 4096 }
+    requires region { region < HOSTS }
+    ensures { vec_len leaves.new ≡ 4096 }
+{
+    for leaf in named {
+        leaves[LEAVES * region as usize + leaf.number as usize] = leaf.bytes;
+    }
+}
+
+impl Memory {
+    ghost use Rattle.std.specs.Prelude.{◌≡◌, ◌<◌};
+
+    /// Fails, and is lost.
+    fn fail(&mut self) -> LeafAnswer {
+        self.faults = self.faults.saturating_add(1);
+        self.lost = true;
+        LeafAnswer::Failed
+    }
+}
+
+impl Volume for Memory {
+    ghost keeper = { record {
+      tells_reads = false;
+      held = λ m. record { leaves = λ r l. []; sequence = m.sequence };
+      condition = λ m. record { lost = m.lost; faults = m.faults; orders = 0; ordered = 0 };
+      honest = λ m. ⊥;
+      damage = λ m r l. None;
+      moment = λ m. 0;
+      left_since = λ m t o. ⊥;
+    } };
+
+    ghost rests = { λ v h works. absurd h };
+
+    ghost sound = { λ v h works r l few below. absurd h };
+
+    ghost honest_tells = { λ v h. absurd h };
+
+    ghost since_earlier = { λ v t u o le left. left };
+
+    fn read_leaf(
+        &mut self,
+        region: u8,
+        leaf: u8,
+        into: &mut [u8; BLOCK_BYTES],
+    ) -> Result<(), LeafAnswer> {
+        if self.lost {
+            return Err(LeafAnswer::Lost);
+        }
+        *into = self.leaves[LEAVES * region as usize + leaf as usize];
+        Ok(())
+    }
+
+    fn commit(&mut self, region: u8, leaves: &Leaves) -> Result<u64, LeafAnswer> {
+        if self.lost {
+            return Err(LeafAnswer::Lost);
+        }
+        if matches!(self.ending, Ending::FailsBefore) || self.sequence == u64::MAX {
+            return Err(self.fail());
+        }
+        replace(&mut self.leaves, region, leaves.as_slice());
+        if matches!(self.ending, Ending::FailsBehind) {
+            return Err(self.fail());
+        }
+        self.sequence += 1;
+        Ok(self.sequence)
+    }
+
+    fn faults(&self) -> u64 {
+        self.faults
+    }
+
+    fn is_lost(&self) -> bool {
+        self.lost
+    }
+
+    fn sequence(&self) -> u64 {
+        self.sequence
+    }
+}

@@ -1,0 +1,32 @@
+-- Applications side by side, without what keeps their objects.
+use Rattle.std.specs.Prelude.{ℕ, ◌≡◌, Bool, false, List, [], ◌∷◌, Option, None, Some}
+use Rattle.app_side.specs.Represents.{Represents as Runs_as, boot_of, has_doubt, is_lost, turns_of}
+use Rattle.app_side.specs.declared.side.AppSide.{AppSide}
+use Rattle.tee_core.specs.World.{World}
+
+-- each of them stands for the machine at its place, and there are no more
+abbrev pub AreSides : {A : Type 0} → List (AppSide A) → World A → Type 0
+AreSides [] [] = Unit {0}
+AreSides [] (m ∷ world) = ⊥
+AreSides (side ∷ sides) [] = ⊥
+AreSides (side ∷ sides) (m ∷ world) = Runs_as side m × AreSides sides world
+
+-- the storage of each of them is lost, or isn't
+abbrev pub AreLost : {A : Type 0} → Bool → List (AppSide A) → Type 0
+AreLost lost [] = Unit {0}
+AreLost lost (side ∷ sides) = (is_lost side ≡ lost) × AreLost lost sides
+
+-- each counts so many losses of the power
+abbrev pub AreBooted : {A : Type 0} → ℕ → List (AppSide A) → Type 0
+AreBooted boots [] = Unit {0}
+AreBooted boots (side ∷ sides) = (boot_of side ≡ boots) × AreBooted boots sides
+
+-- how many turns an application has made, 0 where it isn't there
+abbrev pub turns_in : {A : Type 0} → Option (AppSide A) → ℕ
+turns_in None = 0
+turns_in (Some side) = turns_of side
+
+-- none of them has a change in doubt
+abbrev pub IsNoneInDoubt : {A : Type 0} → List (AppSide A) → Type 0
+IsNoneInDoubt [] = Unit {0}
+IsNoneInDoubt (side ∷ sides) = (has_doubt side ≡ false) × IsNoneInDoubt sides

@@ -1,0 +1,83 @@
+//! Applications side by side: turns over their regions, losses and restarts of all of them.
+
+ghost use Rattle.std.specs.Prelude.{◌≡◌, ◌≤◌, ◌<◌, ◌+◌, ◌-◌, ◌^◌, [], false, true, IfNone, IfSome, length, map, slice_get, Some};
+ghost use Rattle.tee_base.specs.declared.limits.TheConstants.{HOSTS};
+ghost use Rattle.app_side.specs.Represents.{boot_of, has_doubt, is_lost, turns_of};
+ghost use Rattle.app_side.specs.declared.side.AppSide.{AppSide as Side};
+ghost use Rattle.tee_core.specs.Powers.{all_lost, kept_one, restarts_from};
+ghost use Rattle.tee_core.specs.Sides.{AreBooted, AreLost, AreSides, IsNoneInDoubt};
+ghost use Rattle.tee_core.specs.Turning.{TurnsOver};
+ghost use Rattle.tee_core.specs.World.{World};
+
+use alone::{Replies, TurnKind};
+use app_api::Application;
+use app_side::AppSide;
+use object_dir::ObjectDir;
+use std::alloc::Global;
+use store_api::Volume;
+
+/// A turn of an instance, over the region of its application.
+pub(crate) fn turn_over<V: Volume, A: Application>(
+    alloc: Global,
+    side: &mut AppSide<A>,
+    volume: &mut V,
+    region: u8,
+    instance: u8,
+    replies: &mut Replies,
+) -> TurnKind
+    requires few { turns_of side.old < 2 ^ 63 }
+    requires region { region < HOSTS }
+    requires loss { is_lost side.old ≡ (V.keeper.condition volume.old).lost }
+    requires none { replies.old ≡ [] }
+    ensures turn { TurnsOver V.keeper A.behaviour region instance result replies.new
+        side.old side.new volume.old volume.new }
+    ensures turns { turns_of side.new ≡ turns_of side.old + 1 }
+    ensures boot { boot_of side.new ≡ boot_of side.old }
+{
+    let mut dir = ObjectDir::of(alloc, volume, region);
+    side.turn_into(instance, &mut dir, replies)
+}
+
+/// The storage of all of them is lost.
+pub(crate) fn lose_all<A: Application>(sides: &mut Vec<AppSide<A>>)
+    ensures sides { (world : World A) → AreSides sides.old.items world
+        → AreSides sides.new.items (all_lost world) }
+    ensures lost { AreLost true sides.new.items }
+    ensures turns { map (λ s. turns_of s) sides.new.items ≡ map (λ s. turns_of s) sides.old.items }
+    ensures boots { (boots : ℕ) → AreBooted boots sides.old.items
+        → AreBooted boots sides.new.items }
+{
+    for index in 0..sides.len() {
+        if !sides[index].is_lost() {
+            sides[index].lose();
+        }
+    }
+}
+
+/// The power of all of them came back, of which one may keep its change in doubt.
+pub(crate) fn restart_all<A: Application>(sides: &mut Vec<AppSide<A>>, kept: Option<u8>, boots: u32)
+    requires few { length sides.old.items ≤ HOSTS }
+    requires booted { AreBooted boots sides.old.items }
+    requires room { boots < 2 ^ 32 - 1 }
+    ensures sides { (world : World A) → AreSides sides.old.items world
+        → AreSides sides.new.items (restarts_from A.behaviour (kept_one kept) 0 world) }
+    ensures lost { AreLost false sides.new.items }
+    ensures turns { map (λ s. turns_of s) sides.new.items ≡ map (λ s. turns_of s) sides.old.items }
+    ensures booted { AreBooted (boots + 1) sides.new.items }
+{
+    for index in 0..sides.len() {
+        let took = kept == Some(index as u8);
+        sides[index].restart(took);
+    }
+}
+
+/// The application whose change is in doubt, if there is one.
+pub(crate) fn owner_of_doubt<A: Application>(sides: &[AppSide<A>]) -> Option<u8>
+    requires { length sides.now ≤ HOSTS }
+    ensures none { IfNone result (IsNoneInDoubt sides.now) }
+    ensures some { IfSome result (λ owner. (side : Side A) × (slice_get sides.now owner ≡ Some side)
+        × (has_doubt side ≡ true)) }
+{
+    let place = sides.iter().position(|side| side.is_in_doubt())?;
+    Some(place as u8)
+}
