@@ -81,6 +81,8 @@ module _ {V : Type 0} (K : VolumeKeeper V) where
   pub record OpensAgain (result : Result ℕ OpenAnswer) (old new : V) : Type 0 where
     pub opened : IfOk result (λ sequence. K.left_since old (K.moment old) (Some (K.held new)))
     pub failed : IfErr result (λ why. why ≡ answers.Failed)
+    -- what isn't opened again keeps what it kept
+    pub same : OnErr result (K.held new ≡ K.held old)
     pub honest : K.honest new
     pub leaves : LeavesAsBefore old new
 

@@ -72,17 +72,6 @@ corrupt_under (Some (Corrupt tags)) told P is = is
 corrupt_under (Some (Garbled leaf)) told P is = tt
 corrupt_under (Some NoMemory) told P is = tt
 
-pub corrupt_has : (why : Option StoreAnswer) (P Q : Mismatch → Type 0) → ((tags : Mismatch) → P tags → Q tags) → IfCorrupt why P → IfCorrupt why Q
-corrupt_has None P Q implies is = tt
-corrupt_has (Some NotFound) P Q implies is = tt
-corrupt_has (Some Exists) P Q implies is = tt
-corrupt_has (Some NoSpace) P Q implies is = tt
-corrupt_has (Some Lost) P Q implies is = tt
-corrupt_has (Some Failed) P Q implies is = tt
-corrupt_has (Some (Corrupt tags)) P Q implies is = implies tags is
-corrupt_has (Some (Garbled leaf)) P Q implies is = tt
-corrupt_has (Some NoMemory) P Q implies is = tt
-
 -- a leaf of a region that is told and breaks no rule: that never is
 pub garbled_never : (why : Option StoreAnswer) (P Q : ℕ → Type 0) → ((leaf : ℕ) → P leaf → Q leaf → ⊥) → IfGarbled why P → IfGarbled why Q → IfGarbled why (λ leaf. ⊥)
 garbled_never None P Q never one two = tt

@@ -15,15 +15,11 @@ use Rattle.object_dir.specs.Directories.{damage_of, damage_told, dir_keeper}
 use Rattle.object_dir.specs.Regions.{HasStore, number_of, region_keeper, remains_in, store_in}
 use Rattle.object_dir.specs.declared.directory.ObjectDir.{ObjectDir}
 use Rattle.object_dir.specs.declared.region.Region.{Region}
-use Rattle.object_dir.proofs.AnswerLemmas.{cause_of, corrupt_has, corrupt_under, garbled_never, intact_of, reports_of, tells_of}
+use Rattle.object_dir.proofs.AnswerLemmas.{cause_of, corrupt_under, garbled_never, intact_of, reports_of, tells_of}
 use Rattle.object_dir.proofs.HeldLemmas.{kept_limits, never_breaks, still_stands}
+use Rattle.object_dir.proofs.PlaceLemmas.{same_number}
 
 module _ {V : Type 0} (K : VolumeKeeper V) where
-  -- a run of reads of a region, as a run of the volume
-  pub of_volume : (old new : Region V) (P : Option Held → Type 0) → LeavesOnly (region_keeper K).moment (region_keeper K).left_since old new P
-      → LeavesOnly K.moment K.left_since old.volume.now new.volume.now P
-  of_volume old new P run = record { later = run.later; each = run.each; before = run.before }
-
   module _ (why : Option StoreAnswer) (old new : Region V) (run : ReadsOnly (region_keeper K) number_of why old new) where
     pub reads_go_on : K.honest old.volume.now → K.moment old.volume.now ≤ K.moment new.volume.now
     reads_go_on h =
@@ -37,14 +33,11 @@ module _ {V : Type 0} (K : VolumeKeeper V) where
     from_reads garbled = record {
       cause = run.cause;
       later = run.later;
-      orders = run.orders;
-      ordered = run.ordered;
-      same_region = run.same_region;
+      foundation = run.foundation;
       honest = run.honest;
-      shows = λ t. corrupt_has why (λ tags. (number : ℕ) × (number < LEAVES) × (K.damage new.volume.now new.number number ≡ Some tags))
-          (λ tags. (leaf : ℕ) × (K.damage new.volume.now new.number leaf ≡ Some tags)) (λ tags met. (met.0, met.2)) (run.shows t);
+      shows = run.shows;
       garbled = garbled;
-      quiet = λ lost. record { same = (run.quiet lost).same; none = (run.quiet lost).none };
+      quiet = run.quiet;
       past = run.past;
       goes_on = reads_go_on;
     }
@@ -59,7 +52,7 @@ module _ {V : Type 0} (K : VolumeKeeper V) where
   module _ {A : Type 0} (result : Result A StoreAnswer) (tried : ℕ) (old new : ObjectDir V) (call : IsRegionCall K (refusal_of result) old.region new.region) where
     -- what a crash might have left is read alike before and after
     same_outcome : (o : Option Held) → remains_in new.region.number o ≡ remains_in old.region.number o
-    same_outcome o = ap (λ (k : ℕ). remains_in k o) call.same_region
+    same_outcome o = ap (λ (k : ℕ). remains_in k o) (same_number K old.region new.region call.foundation)
 
     -- a call on a region is a call of its store
     pub store_call : (HasStore K old.region → HasStore K new.region) → IfGarbled (refusal_of result) (λ leaf. leaf < LEAVES)
@@ -68,15 +61,14 @@ module _ {V : Type 0} (K : VolumeKeeper V) where
       model = stands;
       limits = λ has. (kept_limits K old.region has, kept_limits K new.region (stands has));
       cause = record {
-        cause = cause_of result (K.condition old.region.volume.now) (K.condition new.region.volume.now) old.damage_reports old.change_attempts new.damage_reports new.change_attempts call.cause;
+        cause = cause_of result ((region_keeper K).condition old.region) ((region_keeper K).condition new.region) old.damage_reports old.change_attempts new.damage_reports new.change_attempts call.cause;
         later = call.later;
-        orders = call.orders;
-        ordered = call.ordered;
+        foundation = call.foundation;
         reports = reports ∙ ap (λ (k : ℕ). old.damage_reports + k) (reports_of result);
       };
       attempts = attempts;
       damage = tells_of result (damage_of K new.region)
-          (corrupt_under (refusal_of result) K.tells_reads (λ tags. (leaf : ℕ) × (K.damage new.region.volume.now new.region.number leaf ≡ Some tags)) call.shows) few;
+          (corrupt_under (refusal_of result) K.tells_reads (λ tags. (leaf : ℕ) × (leaf < LEAVES) × (K.damage new.region.volume.now new.region.number leaf ≡ Some tags)) call.shows) few;
       honest = λ has. (
         stands has,
         intact_of result (call.honest has.honest).1
@@ -104,6 +96,6 @@ module _ {V : Type 0} (K : VolumeKeeper V) where
       lost_just = record { only = λ o left. just.only o (subst (λ (t : ℕ). (dir_keeper K).left_since old t o) (call.quiet lost).same (none_new (K.moment new.region.volume.now) o left)) }
 
     -- a run of the volume, as a run of the store
-    pub of_store : (P : Remains → Type 0) → LeavesOnly K.moment K.left_since old.region.volume.now new.region.volume.now (λ o. P (remains_in new.region.number o))
+    pub of_store : (P : Remains → Type 0) → LeavesOnly (region_keeper K).moment (region_keeper K).left_since old.region new.region (λ o. P (remains_in new.region.number o))
         → LeavesOnly (dir_keeper K).moment (dir_keeper K).left_since old new P
-    of_store P run = mapped K.moment K.left_since (λ (d : ObjectDir V). d.region.volume.now) (λ (d : ObjectDir V) (o : Option Held). remains_in d.region.number o) old new P same_outcome run
+    of_store P run = mapped (region_keeper K).moment (region_keeper K).left_since (λ (d : ObjectDir V). d.region) (λ (d : ObjectDir V) (o : Option Held). remains_in d.region.number o) old new P same_outcome run

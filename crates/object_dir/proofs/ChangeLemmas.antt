@@ -1,6 +1,7 @@
 -- How a change of the objects of a region ends: refused, without a leaf that changes, or with one commit.
-use Rattle.std.proofs.Common.{◌≡◌, ◌≤◌, ℕ, false, List, [], ◌∷◌, length, Option, None, Some, Result, Ok, Err, refl, sym, ap, ◌∙◌, subst, arith}
+use Rattle.std.proofs.Common.{◌≡◌, ◌≤◌, ◌<◌, ℕ, false, List, [], ◌∷◌, length, Option, None, Some, Result, Ok, Err, refl, sym, ap, ◌∙◌, subst, arith}
 use Rattle.tee_base.specs.Crash.{LeavesOnly}
+use Rattle.tee_base.specs.declared.limits.TheConstants.{LEAVES}
 use Rattle.tee_base.proofs.Crash.{joined, weaker}
 use Rattle.store_api.specs.declared.answer.StoreAnswer.{StoreAnswer}
 use Rattle.store_api.specs.declared.change.Change.{Change}
@@ -16,9 +17,10 @@ use Rattle.object_dir.specs.Changing.{ChangesRegion, CommitsRegion, IsRegionCall
 use Rattle.object_dir.specs.Regions.{HasStore, contents_in, kept_in, number_of, region_in, region_keeper, remains_in, store_in, store_or_empty}
 use Rattle.object_dir.specs.declared.region.Region.{Region}
 use Rattle.object_dir.proofs.AnswerLemmas.{commit_cause, commit_corrupt, commit_garbled, commit_one, left_before, not_both}
-use Rattle.object_dir.proofs.CallLemmas.{from_reads, of_volume, reads_go_on, reads_stand}
+use Rattle.object_dir.proofs.CallLemmas.{from_reads, reads_go_on, reads_stand}
 use Rattle.object_dir.proofs.CommitLemmas.{commit_applied, commit_left, commit_stands}
 use Rattle.object_dir.proofs.HeldLemmas.{reads_back, same_contents}
+use Rattle.object_dir.proofs.PlaceLemmas.{same_number}
 
 module _ {V : Type 0} (K : VolumeKeeper V) (c : Change) where
   -- a change that a plan refuses, or that has no leaf to change
@@ -31,13 +33,13 @@ module _ {V : Type 0} (K : VolumeKeeper V) (c : Change) where
     plan_same has = same_contents new.number old.number (K.held new.volume.now) (K.held old.volume.now) plan.reads.same_region (plan.reads.same has.honest)
 
     plan_leaves : HasStore K old → (K.condition old.volume.now).lost ≡ false
-        → LeavesOnly K.moment K.left_since old.volume.now new.volume.now (λ o. LeftByChange result (kept_in K old) (change (kept_in K old).store c) (remains_in new.number o))
+        → LeavesOnly (region_keeper K).moment (region_keeper K).left_since old new (λ o. LeftByChange result (kept_in K old) (change (kept_in K old).store c) (remains_in new.number o))
     plan_leaves has works =
-        weaker K.moment K.left_since old.volume.now new.volume.now (λ o. o ≡ Some (K.held old.volume.now))
+        weaker (region_keeper K).moment (region_keeper K).left_since old new (λ o. o ≡ Some (K.held old.volume.now))
         (λ o. LeftByChange result (kept_in K old) (change (kept_in K old).store c) (remains_in new.number o))
         (λ o is. left_before result (kept_in K old) (change (kept_in K old).store c) (remains_in new.number o)
         (ap (λ (k : ℕ). remains_in k o) plan.reads.same_region ∙ (ap (λ (x : Option Held). remains_in old.number x) is ∙ reads_back old.number (K.held old.volume.now) has.stands)))
-        (of_volume K old new (λ o. o ≡ Some (K.held old.volume.now)) (plan.reads.crash has.honest works))
+        (plan.reads.crash has.honest works)
 
     pub ends_with_plan : (HasStore K old → Applied result (change (kept_in K old).store c) (kept_in K old) (kept_in K new)) → ChangesRegion K c result old new
     ends_with_plan applied = record {
@@ -88,24 +90,23 @@ module _ {V : Type 0} (K : VolumeKeeper V) (c : Change) where
 
   -- planned leaves, and one commit of them
   module _ (named : List Leaf) (answer : Result ℕ LeafAnswer) (old mid new : Region V) (plan : PlansChange (region_keeper K) number_of version_one c (Ok named) old mid)
-      (commit : CommitsLeaves K mid.number named answer mid.volume.now new.volume.now) (same : new.number ≡ mid.number) where
+      (commit : CommitsLeaves (region_keeper K) mid.number named answer mid new) where
     works_then : (K.condition mid.volume.now).lost ≡ false
     works_then = plan.reads.cause.1
 
     number : new.number ≡ old.number
-    number = same ∙ plan.reads.same_region
+    number = same_number K mid new commit.call.cause.foundation ∙ plan.reads.same_region
 
     commit_call : IsRegionCall K (refusal_of (done_of answer)) old new
     commit_call = record {
-      cause = commit_cause answer (K.condition old.volume.now) (K.condition mid.volume.now) (K.condition new.volume.now) plan.reads.cause plan.reads.later commit.call.cause.cause;
+      cause = commit_cause answer ((region_keeper K).condition old) ((region_keeper K).condition mid) ((region_keeper K).condition new) plan.reads.cause plan.reads.later commit.call.cause.cause;
       later = let one : (K.condition old.volume.now).faults ≤ (K.condition mid.volume.now).faults = plan.reads.later in let two : (K.condition mid.volume.now).faults ≤
           (K.condition new.volume.now).faults = commit.call.cause.later in omega arith;
-      orders = commit.call.cause.orders ∙ plan.reads.orders;
-      ordered = commit.call.cause.ordered ∙ plan.reads.ordered;
-      same_region = number;
+      foundation = commit.call.cause.foundation ∙ plan.reads.foundation;
       honest = λ h. ((commit.call.honest (plan.reads.honest h).0).0, commit_corrupt answer (λ tags. ⊥) (λ tags. ⊥) (λ tags never. never) (commit.call.honest (plan.reads.honest h).0).1);
-      shows = λ t. commit_corrupt answer (λ tags. (leaf : ℕ) × (K.damage new.volume.now mid.number leaf ≡ Some tags)) (λ tags. (leaf : ℕ) × (K.damage new.volume.now new.number leaf ≡ Some tags))
-          (λ tags met. (met.0, ap (λ (k : ℕ). K.damage new.volume.now k met.0) same ∙ met.1)) (commit.shows t);
+      shows = λ t. commit_corrupt answer (λ tags. (leaf : ℕ) × (leaf < LEAVES) × (K.damage new.volume.now mid.number leaf ≡ Some tags))
+          (λ tags. (leaf : ℕ) × (leaf < LEAVES) × (K.damage new.volume.now new.number leaf ≡ Some tags))
+          (λ tags met. (met.0, met.1, ap (λ (k : ℕ). K.damage new.volume.now k met.0) (same_number K mid new commit.call.cause.foundation) ∙ met.2)) (commit.shows t);
       garbled = λ h. commit_garbled answer _;
       quiet = λ lost. not_both (K.condition old.volume.now).lost lost plan.reads.cause.0;
       past = λ h t o le left.
@@ -150,15 +151,15 @@ module _ {V : Type 0} (K : VolumeKeeper V) (c : Change) where
           (commit_left c named old.number (K.held old.volume.now) has.stands plan_of answer o there)
 
       commit_leaves : (K.condition old.volume.now).lost ≡ false
-          → LeavesOnly K.moment K.left_since old.volume.now new.volume.now (λ o. LeftByChange (done_of answer) (kept_in K old) (change (kept_in K old).store c) (remains_in new.number o))
+          → LeavesOnly (region_keeper K).moment (region_keeper K).left_since old new (λ o. LeftByChange (done_of answer) (kept_in K old) (change (kept_in K old).store c) (remains_in new.number o))
       commit_leaves works =
-          joined K.moment K.left_since old.volume.now mid.volume.now new.volume.now (λ o. LeftByChange (done_of answer) (kept_in K old) (change (kept_in K old).store c) (remains_in new.number o))
-          (weaker K.moment K.left_since old.volume.now mid.volume.now (λ o. o ≡ Some (K.held old.volume.now))
+          joined (region_keeper K).moment (region_keeper K).left_since old mid new (λ o. LeftByChange (done_of answer) (kept_in K old) (change (kept_in K old).store c) (remains_in new.number o))
+          (weaker (region_keeper K).moment (region_keeper K).left_since old mid (λ o. o ≡ Some (K.held old.volume.now))
           (λ o. LeftByChange (done_of answer) (kept_in K old) (change (kept_in K old).store c) (remains_in new.number o))
           (λ o is. left_before (done_of answer) (kept_in K old) (change (kept_in K old).store c) (remains_in new.number o)
           (ap (λ (k : ℕ). remains_in k o) number ∙ (ap (λ (x : Option Held). remains_in old.number x) is ∙ reads_back old.number (K.held old.volume.now) has.stands)))
-          (of_volume K old mid (λ o. o ≡ Some (K.held old.volume.now)) (plan.reads.crash has.honest works)))
-          (weaker K.moment K.left_since mid.volume.now new.volume.now (LeftByCommit answer (K.held mid.volume.now) (after_commit mid.number named (K.held mid.volume.now)))
+          (plan.reads.crash has.honest works))
+          (weaker (region_keeper K).moment (region_keeper K).left_since mid new (LeftByCommit answer (K.held mid.volume.now) (after_commit mid.number named (K.held mid.volume.now)))
           (λ o. LeftByChange (done_of answer) (kept_in K old) (change (kept_in K old).store c) (remains_in new.number o))
           commit_remains (commit.crash (plan.reads.honest has.honest).0 works_then))
 
@@ -177,4 +178,4 @@ module _ {V : Type 0} (K : VolumeKeeper V) (c : Change) where
       → CommitsRegion K named result mid new → ChangesRegion K c result old new
   change_committed named result old mid new plan commit =
       subst (λ (r : Result (Unit {0}) StoreAnswer). ChangesRegion K c r old new) (sym commit.told)
-      (by_answer named commit.answer old mid new plan commit.commits commit.same_region)
+      (by_answer named commit.answer old mid new plan commit.commits)

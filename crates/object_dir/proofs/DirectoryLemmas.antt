@@ -16,7 +16,7 @@ use Rattle.object_dir.specs.Directories.{damage_told, dir_keeper}
 use Rattle.object_dir.specs.Regions.{HasStore, kept_in, number_of, region_keeper, remains_in, store_in}
 use Rattle.object_dir.specs.declared.directory.ObjectDir.{ObjectDir}
 use Rattle.object_dir.proofs.AnswerLemmas.{left_before, not_both}
-use Rattle.object_dir.proofs.CallLemmas.{from_reads, lost_just, lost_leaves, of_store, of_volume, reads_stand, store_call}
+use Rattle.object_dir.proofs.CallLemmas.{from_reads, lost_just, lost_leaves, of_store, reads_stand, store_call}
 use Rattle.object_dir.proofs.HeldLemmas.{reads_back, same_contents}
 
 -- a change over a volume that is lost: nothing is changed
@@ -61,10 +61,10 @@ module _ {V : Type 0} (K : VolumeKeeper V) where
     read_leaves : HasStore K old.region → (K.condition old.region.volume.now).lost ≡ false → LeavesOnly (dir_keeper K).moment (dir_keeper K).left_since old new (λ o. o ≡ Some (kept_in K old.region))
     read_leaves has works =
         of_store K result 0 old new read_call (λ o. o ≡ Some (kept_in K old.region))
-        (weaker K.moment K.left_since old.region.volume.now new.region.volume.now (λ o. o ≡ Some (K.held old.region.volume.now)) (λ o. remains_in new.region.number o ≡ Some (kept_in K old.region))
-        (λ o is. ap (λ (k : ℕ). remains_in k o) read_call.same_region
+        (weaker (region_keeper K).moment (region_keeper K).left_since old.region new.region (λ o. o ≡ Some (K.held old.region.volume.now)) (λ o. remains_in new.region.number o ≡ Some (kept_in K old.region))
+        (λ o is. ap (λ (k : ℕ). remains_in k o) read.reads.same_region
         ∙ (ap (λ (x : Option Held). remains_in old.region.number x) is ∙ reads_back old.region.number (K.held old.region.volume.now) has.stands))
-        (of_volume K old.region new.region (λ o. o ≡ Some (K.held old.region.volume.now)) (read.reads.crash has.honest works)))
+        (read.reads.crash has.honest works))
 
     read_crash : HasStore K old.region → LeavesJust (dir_keeper K) old (kept_in K old.region) → CrashLeaves (dir_keeper K) (kept_in K old.region) old new
     read_crash has just =
@@ -114,13 +114,13 @@ module _ {V : Type 0} (K : VolumeKeeper V) where
                 (lost_leaves K result 1 old new made.call e (kept_in K old.region) just);
             afterwards = always_unless result (LeavesJust (dir_keeper K) new (kept_in K new.region))
                 (subst (λ (x : Contents). LeavesJust (dir_keeper K) new x)
-                (sym (same_when_lost result (K.condition old.region.volume.now) (K.condition new.region.volume.now) (change (kept_in K old.region).store c) (kept_in K old.region)
+                (sym (same_when_lost result ((region_keeper K).condition old.region) ((region_keeper K).condition new.region) (change (kept_in K old.region).store c) (kept_in K old.region)
                 (kept_in K new.region) e made.call.cause (made.applied has)))
                 (lost_just K result 1 old new made.call e (kept_in K old.region) just));
           }
           | false ↦ λ e. record {
             any_moment = of_store K result 1 old new made.call (LeftByChange result (kept_in K old.region) (change (kept_in K old.region).store c)) (made.crash has e);
-            afterwards = when_it_works result (K.condition old.region.volume.now) (K.condition new.region.volume.now) (LeavesJust (dir_keeper K) new (kept_in K new.region)) e made.call.cause
+            afterwards = when_it_works result ((region_keeper K).condition old.region) ((region_keeper K).condition new.region) (LeavesJust (dir_keeper K) new (kept_in K new.region)) e made.call.cause
                 (made_just (made.stands has));
           }
         ] refl

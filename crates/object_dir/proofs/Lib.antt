@@ -4,3 +4,4 @@ pub mod ChangeLemmas
 pub mod CommitLemmas
 pub mod DirectoryLemmas
 pub mod HeldLemmas
+pub mod PlaceLemmas

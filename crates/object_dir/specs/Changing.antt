@@ -1,6 +1,7 @@
 -- What a call on a region promises, and what a change of its objects comes to.
-use Rattle.std.specs.Prelude.{ℕ, ◌≡◌, ◌+◌, ◌≤◌, false, List, Option, Some, Result, Ok, Err, IsTrue}
+use Rattle.std.specs.Prelude.{ℕ, ◌≡◌, ◌+◌, ◌≤◌, ◌<◌, false, List, Option, Some, Result, Ok, Err, IsTrue}
 use Rattle.tee_base.specs.Crash.{LeavesOnly}
+use Rattle.tee_base.specs.declared.limits.TheConstants.{LEAVES}
 use Rattle.store_api.specs.declared.answer.StoreAnswer.{StoreAnswer}
 use Rattle.store_api.specs.declared.change.Change.{Change}
 use Rattle.store_api.specs.declared.leaves.Leaf.{Leaf}
@@ -9,9 +10,10 @@ use Rattle.store_api.specs.Keeping.{Applied, LeftByChange}
 use Rattle.store_api.specs.Stores.{change}
 use Rattle.store_api.specs.Volumes.{Held, VolumeKeeper, AddsNothing, CommitsLeaves}
 use Rattle.region_plan.specs.Layout.{version_one}
-use Rattle.region_plan.specs.Reading.{ReadCause, IfCorrupt, IfGarbled, refusal_of, store_answer}
+use Rattle.store_api.specs.Refusals.{store_answer}
+use Rattle.region_plan.specs.Reading.{ReadCause, IfCorrupt, IfGarbled, refusal_of}
 use Rattle.region_plan.specs.Regions.{breaks}
-use Rattle.object_dir.specs.Regions.{HasStore, kept_in, remains_in}
+use Rattle.object_dir.specs.Regions.{HasStore, kept_in, region_keeper, remains_in}
 use Rattle.object_dir.specs.declared.region.Region.{Region}
 
 -- what a store answers where a commit answers this
@@ -24,22 +26,20 @@ module _ {V : Type 0} (K : VolumeKeeper V) where
   pub record CommitsRegion (named : List Leaf) (result : Result (Unit {0}) StoreAnswer) (old new : Region V) : Type 0 where
     pub answer : Result ℕ LeafAnswer
     pub told : result ≡ done_of answer
-    pub commits : CommitsLeaves K old.number named answer old.volume.now new.volume.now
-    pub same_region : new.number ≡ old.number
+    pub commits : CommitsLeaves (region_keeper K) old.number named answer old new
 
   -- what every call on a region promises that is refused for this reason, or isn't refused
   pub record IsRegionCall (why : Option StoreAnswer) (old new : Region V) : Type 0 where
-    pub cause : ReadCause why (K.condition old.volume.now) (K.condition new.volume.now)
+    pub cause : ReadCause why ((region_keeper K).condition old) ((region_keeper K).condition new)
     pub later : (K.condition old.volume.now).faults ≤ (K.condition new.volume.now).faults
-    pub orders : (K.condition new.volume.now).orders ≡ (K.condition old.volume.now).orders
-    pub ordered : (K.condition new.volume.now).ordered ≡ (K.condition old.volume.now).ordered
-    pub same_region : new.number ≡ old.number
+    -- it is the same region of the volume behind the same reference
+    pub foundation : ((region_keeper K).condition new).foundation ≡ ((region_keeper K).condition old).foundation
     pub honest : K.honest old.volume.now → K.honest new.volume.now × IfCorrupt why (λ tags. ⊥)
     -- damage that is told is that of a leaf of the region, or a leaf that breaks a rule
-    pub shows : IsTrue K.tells_reads → IfCorrupt why (λ tags. (leaf : ℕ) × (K.damage new.volume.now new.number leaf ≡ Some tags))
+    pub shows : IsTrue K.tells_reads → IfCorrupt why (λ tags. (leaf : ℕ) × (leaf < LEAVES) × (K.damage new.volume.now new.number leaf ≡ Some tags))
     pub garbled : K.honest old.volume.now → IfGarbled why (λ leaf. IsTrue (breaks version_one ((K.held old.volume.now).leaves old.number) leaf))
     -- of a crash: over a lost volume nothing new may be left, and nothing of the past is forgotten
-    pub quiet : IsTrue (K.condition old.volume.now).lost → AddsNothing K old.volume.now new.volume.now
+    pub quiet : IsTrue (K.condition old.volume.now).lost → AddsNothing (region_keeper K) old new
     pub past : K.honest old.volume.now → (t : ℕ) (o : Option Held) → t ≤ K.moment old.volume.now → K.left_since old.volume.now t o → K.left_since new.volume.now t o
     pub goes_on : K.honest old.volume.now → K.moment old.volume.now ≤ K.moment new.volume.now
 
@@ -52,5 +52,5 @@ module _ {V : Type 0} (K : VolumeKeeper V) where
     pub one : (K.held new.volume.now).sequence ≤ (K.held old.volume.now).sequence + 1
     -- a crash leaves the objects before the change or after it
     pub crash : HasStore K old → (K.condition old.volume.now).lost ≡ false
-        → LeavesOnly K.moment K.left_since old.volume.now new.volume.now
+        → LeavesOnly (region_keeper K).moment (region_keeper K).left_since old new
         (λ o. LeftByChange result (kept_in K old) (change (kept_in K old).store c) (remains_in new.number o))

@@ -9,7 +9,7 @@ use Rattle.store_api.specs.Volumes.{Condition, VolumeKeeper}
 use Rattle.region_plan.specs.Layout.{version_one}
 use Rattle.region_plan.specs.Reading.{IfGarbled}
 use Rattle.region_plan.specs.Regions.{breaks}
-use Rattle.object_dir.specs.Regions.{HasStore, kept_in, remains_in}
+use Rattle.object_dir.specs.Regions.{HasStore, kept_in, region_keeper, remains_in}
 use Rattle.object_dir.specs.declared.region.Region.{Region}
 use Rattle.object_dir.specs.declared.directory.ObjectDir.{ObjectDir}
 
@@ -19,25 +19,25 @@ damage_told (Some (Corrupt tags)) = 1
 damage_told (Some (Garbled leaf)) = 1
 damage_told _ = 0
 
--- what is known of a store over a volume of this condition
+-- what is known of a store over a region of this condition
 abbrev pub status_with : Condition → ℕ → ℕ → Status
 status_with c reports attempts =
-    record { lost = c.lost; faults = c.faults; orders = c.orders; ordered = c.ordered; damage_reports = reports; change_attempts = attempts }
+    record { lost = c.lost; faults = c.faults; foundation = c.foundation; damage_reports = reports; change_attempts = attempts }
 
 module _ {V : Type 0} (K : VolumeKeeper V) where
   -- what there is for an answer of damage to tell: two tags that differ on the way to a leaf of the region
   abbrev pub damage_of : Region V → StoreAnswer → Type 0
-  damage_of r (Corrupt tags) = IsTrue K.tells_reads → (leaf : ℕ) × (K.damage r.volume.now r.number leaf ≡ Some tags)
+  damage_of r (Corrupt tags) = IsTrue K.tells_reads → (leaf : ℕ) × (leaf < LEAVES) × (K.damage r.volume.now r.number leaf ≡ Some tags)
   damage_of r (Garbled leaf) = leaf < LEAVES
   damage_of r _ = Unit {0}
 
   -- the objects of a region as a store: there is one where the volume is honest and the region stands for one, its rest is all other
-  -- regions, its counts are the volume's, and it is lost where the volume is
+  -- regions, its counts are the volume's, it is lost where the volume is, and it stands where the region stands
   abbrev pub dir_keeper : Keeper (ObjectDir V)
   dir_keeper = record {
     has_model = λ d. HasStore K d.region;
     contents = λ d. kept_in K d.region;
-    status = λ d. status_with (K.condition d.region.volume.now) d.damage_reports d.change_attempts;
+    status = λ d. status_with ((region_keeper K).condition d.region) d.damage_reports d.change_attempts;
     honest = λ d. HasStore K d.region;
     damage = λ d. damage_of d.region;
     moment = λ d. K.moment d.region.volume.now;
@@ -52,3 +52,8 @@ module _ {V : Type 0} (K : VolumeKeeper V) where
   -- the volume made one commit at most
   abbrev pub IsOneCommit : ObjectDir V → ObjectDir V → Type 0
   IsOneCommit old new = (K.held new.region.volume.now).sequence ≤ (K.held old.region.volume.now).sequence + 1
+
+-- the store of a region of a volume that is this
+pub record IsOver {V : Type 0} (region : ℕ) (volume : V) (dir : ObjectDir V) : Type 0 where
+  pub same_volume : dir.region.volume.now ≡ volume
+  pub same_region : dir.region.number ≡ region

@@ -1,18 +1,27 @@
 -- One region of a volume: what is seen of its leaves, and the store that they stand for.
-use Rattle.std.specs.Prelude.{ℕ, ◌≡◌, ◌==◌, List, [], Option, None, Some, Result, Ok, Err, if◌then◌else◌}
+use Rattle.std.specs.Prelude.{ℕ, ◌≡◌, ◌==◌, List, [], ◌∷◌, Option, None, Some, Result, Ok, Err, if◌then◌else◌}
 use Rattle.store_api.specs.Keeping.{Contents, Remains, Rest}
 use Rattle.store_api.specs.Stores.{Store, empty_store}
-use Rattle.store_api.specs.Volumes.{Held, VolumeKeeper}
+use Rattle.store_api.specs.Foundations.{Foundation}
+use Rattle.store_api.specs.Volumes.{Condition, Held, VolumeKeeper}
 use Rattle.region_plan.specs.Layout.{version_one}
 use Rattle.region_plan.specs.Regions.{region_of}
 use Rattle.object_dir.specs.declared.region.Region.{Region}
+
+-- what a region stands on: the name of the reference to its volume and its number are the place, before that of the volume
+abbrev pub region_foundation : ℕ → ℕ → Foundation → Foundation
+region_foundation name number f = record { place = name ∷ number ∷ f.place; orders = f.orders; ordered = f.ordered }
+
+-- what is known of a region over a volume of this condition
+abbrev pub region_condition : ℕ → ℕ → Condition → Condition
+region_condition name number c = record { lost = c.lost; faults = c.faults; foundation = region_foundation name number c.foundation }
 
 -- the volume of a region, as contracts see it
 abbrev pub region_keeper : {V : Type 0} → VolumeKeeper V → VolumeKeeper (Region V)
 region_keeper K = record {
   tells_reads = K.tells_reads;
   held = λ r. K.held r.volume.now;
-  condition = λ r. K.condition r.volume.now;
+  condition = λ r. region_condition r.volume.ghost_name r.number (K.condition r.volume.now);
   honest = λ r. K.honest r.volume.now;
   damage = λ r. K.damage r.volume.now;
   moment = λ r. K.moment r.volume.now;
@@ -65,7 +74,11 @@ module _ {V : Type 0} (K : VolumeKeeper V) where
   abbrev pub kept_in : Region V → Contents
   kept_in r = contents_in r.number (K.held r.volume.now)
 
-  -- the volume is honest, and the region stands for a store
-  pub record HasStore (r : Region V) : Type 0 where
-    pub honest : K.honest r.volume.now
-    pub stands : region_in r.number (K.held r.volume.now) ≡ Ok (store_in r.number (K.held r.volume.now))
+  -- a volume is honest, and the region of this number stands for a store
+  pub record KeepsStore (number : ℕ) (volume : V) : Type 0 where
+    pub honest : K.honest volume
+    pub stands : region_in number (K.held volume) ≡ Ok (store_in number (K.held volume))
+
+  -- so it is with the volume of a region
+  abbrev pub HasStore : Region V → Type 0
+  HasStore r = KeepsStore r.number r.volume.now

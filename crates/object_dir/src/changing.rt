@@ -1,26 +1,12 @@
 //! A change of the objects of a region: planned, and committed at once.
 
-ghost use Rattle.std.specs.Prelude.{◌≡◌};
-ghost use Rattle.region_plan.specs.Reading.{store_answer};
 ghost use Rattle.store_api.specs.Limits.{IsChange};
 ghost use Rattle.object_dir.specs.Changing.{ChangesRegion};
 
 use crate::region::Region;
 use region_plan::plan;
 use std::alloc::Global;
-use store_api::{Change, LeafAnswer, StoreAnswer, Volume};
-
-/// What a store answers where leaves of it weren't replaced.
-pub(crate) fn answer_of(answer: LeafAnswer) -> StoreAnswer
-    ensures { result ≡ store_answer answer }
-{
-    match answer {
-        LeafAnswer::Lost => StoreAnswer::Lost,
-        LeafAnswer::Failed => StoreAnswer::Failed,
-        LeafAnswer::Mismatch(tags) => StoreAnswer::Corrupt(tags),
-        LeafAnswer::NoMemory => StoreAnswer::NoMemory,
-    }
-}
+use store_api::{Change, StoreAnswer, Volume};
 
 /// Makes a change, whole or not at all. Where no leaf changes, nothing is committed.
 pub(crate) fn change_region<V: Volume>(

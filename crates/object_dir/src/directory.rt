@@ -66,6 +66,16 @@ impl<'v, V: Volume> ObjectDir<'v, V> {
             alloc,
         }
     }
+
+    /// The volume that it was made of. Who ends it so knows that the volume holds what it held at the last call.
+    pub fn into_volume(self) -> &'v mut V
+        ensures volume { result.now ≡ self.entry.region.volume.now }
+        ensures same_reference { result.ghost_name ≡ self.entry.region.volume.ghost_name }
+    {
+        let ObjectDir { region, .. } = self;
+        let Region { volume, .. } = region;
+        volume
+    }
 }
 
 impl<V: Volume> AppStore for ObjectDir<'_, V> {
@@ -76,14 +86,12 @@ impl<V: Volume> AppStore for ObjectDir<'_, V> {
     ghost since_earlier = { λ d t u o le left.
         (left.0, V.since_earlier d.region.volume.now t u left.0 le left.1, left.2) };
 
-    /// Besides, over an honest volume `Garbled` tells of a leaf that breaks a rule, and it stays the same region. So it is
-    /// with the others.
+    /// Besides, over an honest volume `Garbled` tells of a leaf that breaks a rule. So it is with the others.
     fn find(&mut self, id: &[u8]) -> Result<Facts, StoreAnswer>
         requires { IsIdentifier id.now }
         ensures reads { Reads (dir_keeper V.keeper) (λ store. found store id.now) AreFacts result
             self.old self.new }
         ensures garbled { BreaksRule V.keeper (refusal_of result) self.old }
-        ensures same_region { self.new.region.number ≡ self.old.region.number }
     {
         let answer = facts(self.alloc, &mut self.region, id);
         note(&mut self.damage_reports, refusal(&answer));
@@ -95,7 +103,6 @@ impl<V: Volume> AppStore for ObjectDir<'_, V> {
         ensures reads { Reads (dir_keeper V.keeper) (λ store. secret_at store id.now) IsSecret
             result self.old self.new }
         ensures garbled { BreaksRule V.keeper (refusal_of result) self.old }
-        ensures same_region { self.new.region.number ≡ self.old.region.number }
     {
         let answer = secret(self.alloc, &mut self.region, id);
         note(&mut self.damage_reports, refusal(&answer));
@@ -108,7 +115,6 @@ impl<V: Volume> AppStore for ObjectDir<'_, V> {
         ensures reads { Reads (dir_keeper V.keeper) (λ store. read_at store id.now from count)
             (IsPart count) result self.old self.new }
         ensures garbled { BreaksRule V.keeper (refusal_of result) self.old }
-        ensures same_region { self.new.region.number ≡ self.old.region.number }
     {
         let answer = content(self.alloc, &mut self.region, id, from, count);
         note(&mut self.damage_reports, refusal(&answer));
@@ -119,7 +125,6 @@ impl<V: Volume> AppStore for ObjectDir<'_, V> {
         ensures reads { Reads (dir_keeper V.keeper)
             (λ store. next_of store (option_copied last.entry)) IsListed result self.old self.new }
         ensures garbled { BreaksRule V.keeper (refusal_of result) self.old }
-        ensures same_region { self.new.region.number ≡ self.old.region.number }
     {
         let answer = next_after(self.alloc, &mut self.region, last);
         note(&mut self.damage_reports, refusal(&answer));
@@ -131,7 +136,6 @@ impl<V: Volume> AppStore for ObjectDir<'_, V> {
         requires { IsChange change.now }
         ensures applies { Applies (dir_keeper V.keeper) change.now result self.old self.new }
         ensures garbled { BreaksRule V.keeper (refusal_of result) self.old }
-        ensures same_region { self.new.region.number ≡ self.old.region.number }
         ensures one { IsOneCommit V.keeper self.old self.new }
     {
         self.change_attempts = self.change_attempts.one_more();

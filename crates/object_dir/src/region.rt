@@ -3,7 +3,6 @@
 ghost use Rattle.std.specs.Prelude.{◌<◌};
 ghost use Rattle.tee_base.specs.declared.limits.TheConstants.{HOSTS};
 
-use crate::changing::answer_of;
 use region_plan::LeafSource;
 use store_api::{LeafAnswer, Leaves, StoreAnswer, Volume};
 use tee_base::limits::BLOCK_BYTES;
@@ -39,8 +38,6 @@ impl<V: Volume> LeafSource for Region<'_, V> {
 }
 
 impl<V: Volume> Region<'_, V> {
-    ghost use Rattle.std.specs.Prelude.{◌≡◌};
-    ghost use Rattle.region_plan.specs.Reading.{store_answer};
     ghost use Rattle.object_dir.specs.Changing.{CommitsRegion};
 
     /// Replaces these leaves, all or none, and answers as a store does.
@@ -49,7 +46,7 @@ impl<V: Volume> Region<'_, V> {
     {
         match self.volume.commit(self.number, leaves) {
             Ok(_sequence) => Ok(()),
-            Err(answer) => Err(answer_of(answer)),
+            Err(answer) => Err(StoreAnswer::from(answer)),
         }
     }
 }

@@ -3,4 +3,6 @@
 mod changes;
 mod losses;
 mod memory;
+mod over;
 mod same;
+mod steps;

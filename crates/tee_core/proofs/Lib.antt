@@ -1,6 +1,9 @@
+pub mod Events
+pub mod Powers
 pub mod Runs
+pub mod Sides
 pub mod Steps
-pub mod Sure
+pub mod Stores
 pub mod Told
+pub mod Turning
 pub mod Turns
-pub mod Worlds

@@ -1,7 +1,6 @@
 -- What a crash leaves within an event, and what an event leaves of the board's counts.
 use Rattle.std.specs.Prelude.{ℕ, ◌≡◌, ◌≤◌, ◌⊎◌, Bool, true, false, List, Option}
 use Rattle.std.specs.List.{list_any}
-use Rattle.tee_base.specs.Crash.{LeavesOnly}
 use Rattle.tee_base.specs.Faults.{Rose}
 use Rattle.alone.specs.declared.turn.TurnKind.{TurnKind}
 use Rattle.alone.specs.declared.turn.TurnKind.TheVariants as kinds
@@ -43,8 +42,7 @@ abbrev pub HasRunBehind : List Happened → List Happened → Condition → Cond
 HasRunBehind before told old new = tells_loss before ≡ false → tells_loss told ≡ true → Rose old.faults new.faults
 
 module _ {V : Type 0} (K : VolumeKeeper V) where
-  -- a crash at any moment since the old value leaves the stores of one world or of the other, each with its change in doubt or without
-  -- it; and nothing of the past is forgotten
+  -- a crash at any moment since the old value leaves the stores of one world or of the other, each with its change in doubt or without it
   pub record IsWithin {A : Type 0} (before after : World A) (old new : V) : Type 0 where
-    pub crash : LeavesOnly K.moment K.left_since old new (λ o. HasStoresOf before o ⊎ HasStoresOf after o)
-    pub past : (t : ℕ) (o : Option Held) → t ≤ K.moment old → K.left_since old t o → K.left_since new t o
+    pub later : K.moment old ≤ K.moment new
+    pub each : (o : Option Held) → K.left_since new (K.moment old) o → HasStoresOf before o ⊎ HasStoresOf after o

@@ -1,76 +1,15 @@
-//! One table of changes, over objects in a volume and over a store in memory.
+//! One table of changes, over the objects in a volume and over a store in memory.
 
-ghost use Rattle.std.specs.Prelude.{◌≡◌, ◌≤◌, IfOk, length};
-ghost use Rattle.store_api.specs.Limits.{IsChange, IsIdentifier};
+ghost use Rattle.std.specs.Prelude.{◌<◌};
+ghost use Rattle.tee_base.specs.declared.limits.TheConstants.{HOSTS};
 
-use super::memory::{Memory, blank};
+use super::memory::blank;
 use super::same::are_same;
+use super::steps::{Step, change_of};
 use crate::ObjectDir;
 use std::alloc::Global;
-use std::process::Abort;
 use std::test::Fail;
-use store_api::{AppStore, Change, MapStore, StoreAnswer};
-use tee_base::Bytes;
-
-/// A change of an object whose identifier is one letter.
-#[derive(Clone, Copy)]
-pub enum Step {
-    /// An object of so many bytes.
-    New(u8, u16),
-    Overwrite(u8, u16),
-    Delete(u8),
-    Rename(u8, u8),
-    /// At a place, so many bytes.
-    Write(u8, u16, u16),
-    Truncate(u8, u32),
-}
-
-/// So many bytes of one kind.
-fn painted(alloc: Global, byte: u8, count: u16) -> Result<Bytes, Fail>
-    ensures { IfOk result (λ bytes. length bytes ≡ count) }
-{
-    let mut bytes = Vec::new(alloc);
-    bytes.resize(count as usize, byte)?;
-    Ok(Bytes::from_vec(bytes))
-}
-
-fn put(alloc: Global, letter: u8, count: u16, overwrite: bool) -> Result<Change, Fail>
-    ensures { IfOk result (λ change. IsChange change) }
-{
-    Ok(Change::Put {
-        id: painted(alloc, letter, 1)?,
-        kind: u32::from(count),
-        usage: u32::from(letter),
-        secret: painted(alloc, letter, 3)?,
-        content: painted(alloc, letter, count)?,
-        overwrite,
-    })
-}
-
-pub fn change_of(alloc: Global, step: Step) -> Result<Change, Fail>
-    ensures { IfOk result (λ change. IsChange change) }
-{
-    match step {
-        Step::New(letter, count) => put(alloc, letter, count, false),
-        Step::Overwrite(letter, count) => put(alloc, letter, count, true),
-        Step::Delete(letter) => Ok(Change::Delete {
-            id: painted(alloc, letter, 1)?,
-        }),
-        Step::Rename(letter, to) => Ok(Change::Rename {
-            id: painted(alloc, letter, 1)?,
-            to: painted(alloc, to, 1)?,
-        }),
-        Step::Write(letter, at, count) => Ok(Change::Write {
-            id: painted(alloc, letter, 1)?,
-            at: u32::from(at),
-            bytes: painted(alloc, 100, count)?,
-        }),
-        Step::Truncate(letter, length) => Ok(Change::Truncate {
-            id: painted(alloc, letter, 1)?,
-            length,
-        }),
-    }
-}
+use store_api::{AppStore, MapStore, Volume};
 
 const STEPS: &[Step] = &[
     Step::Delete(b'a'),
@@ -90,20 +29,58 @@ const STEPS: &[Step] = &[
     Step::Delete(b'c'),
 ];
 
-/// Makes a change in a region of a volume and in a store in memory, and says whether they answer alike.
-pub fn is_alike(
+/// Makes a change in a region of a volume and in another store, and says whether they answer alike and have the same objects then.
+fn is_alike<V: Volume, S: AppStore>(
     alloc: Global,
-    volume: &mut Memory,
-    store: &mut MapStore,
+    volume: &mut V,
+    region: u8,
+    store: &mut S,
     step: Step,
-) -> Result<bool, Fail> {
+) -> Result<bool, Fail>
+    requires { region < HOSTS }
+{
     let change = change_of(alloc, step)?;
-    let mut objects = ObjectDir::of(alloc, volume, 3);
-    let answer = objects.apply(&change);
-    if answer != store.apply(&change) {
+    let mut objects = ObjectDir::of(alloc, volume, region);
+    if objects.apply(&change) != store.apply(&change) {
         return Ok(false);
     }
     are_same(alloc, &mut objects, store)
+}
+
+/// The first row where they differ, if there is one.
+pub fn first_unlike<V: Volume, S: AppStore>(
+    alloc: Global,
+    volume: &mut V,
+    region: u8,
+    store: &mut S,
+) -> Result<Option<usize>, Fail>
+    requires { region < HOSTS }
+{
+    for (place, step) in STEPS.iter().enumerate() {
+        if !is_alike(alloc, volume, region, store, *step)? {
+            return Ok(Some(place));
+        }
+    }
+    Ok(None)
+}
+
+/// Makes an object in a region of a volume.
+fn make_one<V: Volume>(alloc: Global, volume: &mut V, region: u8) -> Result<(), Fail>
+    requires { region < HOSTS }
+{
+    let change = change_of(alloc, Step::New(b'k', 2000))?;
+    ObjectDir::of(alloc, volume, region).apply(&change)?;
+    Ok(())
+}
+
+/// Whether that object is still the one in the region.
+fn is_that_one<V: Volume>(alloc: Global, volume: &mut V, region: u8) -> Result<bool, Fail>
+    requires { region < HOSTS }
+{
+    let mut store = MapStore::new(alloc, &[])?;
+    store.apply(&change_of(alloc, Step::New(b'k', 2000))?)?;
+    let mut objects = ObjectDir::of(alloc, volume, region);
+    are_same(alloc, &mut objects, &mut store)
 }
 
 /// Each change answers alike and leaves the same objects, and no region but its own changes.
@@ -111,18 +88,9 @@ pub fn is_alike(
 fn as_in_memory(rt: HostRuntime) -> Result<(), Fail> {
     let alloc = rt.alloc();
     let mut volume = blank(alloc)?;
-    let mut other = MapStore::new(alloc, &[])?;
+    make_one(alloc, &mut volume, 4)?;
     let mut store = MapStore::new(alloc, &[])?;
-    let kept = change_of(alloc, Step::New(b'k', 2000))?;
-    ObjectDir::of(alloc, &mut volume, 4).apply(&kept)?;
-    other.apply(&kept)?;
-    for (place, step) in STEPS.iter().enumerate() {
-        assert!(rt;
-            is_alike(alloc, &mut volume, &mut store, *step)?,
-            "row {place}"
-        );
-    }
-    let mut objects = ObjectDir::of(alloc, &mut volume, 4);
-    assert!(rt; are_same(alloc, &mut objects, &mut other)?);
+    assert_eq!(rt; first_unlike(alloc, &mut volume, 3, &mut store)?, None);
+    assert!(rt; is_that_one(alloc, &mut volume, 4)?);
     Ok(())
 }

@@ -1,69 +1,87 @@
 //! A commit that fails, and what is there when the volume works again.
 
-use super::changes::{Step, change_of};
+ghost use Rattle.store_api.specs.Limits.{IsChange};
+
 use super::memory::{Ending, Memory, blank};
+use super::over::change_over;
 use super::same::are_same;
+use super::steps::{Step, change_of};
 use crate::ObjectDir;
 use std::alloc::Global;
 use std::test::Fail;
-use store_api::{AppStore, MapStore, StoreAnswer, Volume};
+use store_api::{AppStore, Change, MapStore, StoreAnswer, Volume};
 
 const REGION: u8 = 15;
+
+const FIRST: Step = Step::New(b'a', 1500);
+
+const SECOND: Step = Step::Overwrite(b'a', 10);
+
+/// Makes a change of the objects of a volume.
+fn make<V: Volume>(alloc: Global, volume: &mut V, step: Step) -> Result<(), Fail> {
+    let change = change_of(alloc, step)?;
+    change_over(alloc, volume, REGION, &change)?;
+    Ok(())
+}
 
 /// A volume with one object.
 fn with_one(alloc: Global) -> Result<Memory, Fail> {
     let mut volume = blank(alloc)?;
-    let first = change_of(alloc, Step::New(b'a', 1500))?;
-    ObjectDir::of(alloc, &mut volume, REGION).apply(&first)?;
+    make(alloc, &mut volume, FIRST)?;
     Ok(volume)
 }
 
-/// A store in memory with one object, and then with what overwrote it.
-fn wanted(alloc: Global, overwritten: bool) -> Result<MapStore, Fail> {
-    let mut store = MapStore::new(alloc, &[])?;
-    store.apply(&change_of(alloc, Step::New(b'a', 1500))?)?;
-    if overwritten {
-        store.apply(&change_of(alloc, Step::Overwrite(b'a', 10))?)?;
-    }
-    Ok(store)
+/// Whether a change fails, and all is lost then.
+fn is_lost_by<V: Volume>(alloc: Global, volume: &mut V, change: &Change) -> bool
+    requires { IsChange change.now }
+{
+    let mut objects = ObjectDir::of(alloc, volume, REGION);
+    objects.apply(change) == Err(StoreAnswer::Failed)
+        && objects.find(b"a") == Err(StoreAnswer::Lost)
 }
 
-/// An overwrite whose commit ends so, and whether it is there when the volume works again.
-fn overwrites(alloc: Global, ending: Ending) -> Result<(bool, bool), Fail> {
+/// Whether a volume has the objects behind the first change, or behind both.
+fn has_objects<V: Volume>(alloc: Global, volume: &mut V, both: bool) -> Result<bool, Fail> {
+    let mut store = MapStore::new(alloc, &[])?;
+    store.apply(&change_of(alloc, FIRST)?)?;
+    if both {
+        store.apply(&change_of(alloc, SECOND)?)?;
+    }
+    let mut objects = ObjectDir::of(alloc, volume, REGION);
+    are_same(alloc, &mut objects, &mut store)
+}
+
+/// Whether an overwrite whose commit ends so fails, and is there behind it, or isn't.
+fn fails(alloc: Global, ending: Ending, is_there: bool) -> Result<bool, Fail> {
     let mut volume = with_one(alloc)?;
     volume.ending = ending;
-    let second = change_of(alloc, Step::Overwrite(b'a', 10))?;
-    let failed = {
-        let mut objects = ObjectDir::of(alloc, &mut volume, REGION);
-        let answer = objects.apply(&second);
-        answer == Err(StoreAnswer::Failed) && objects.find(b"a") == Err(StoreAnswer::Lost)
-    };
+    let second = change_of(alloc, SECOND)?;
+    let lost = is_lost_by(alloc, &mut volume, &second);
     volume.lost = false;
-    let behind = matches!(ending, Ending::FailsBehind);
-    let mut store = wanted(alloc, behind)?;
-    let mut objects = ObjectDir::of(alloc, &mut volume, REGION);
-    Ok((failed, are_same(alloc, &mut objects, &mut store)?))
+    Ok(lost && has_objects(alloc, &mut volume, is_there)?)
 }
 
 #[test]
 fn failed_commits(rt: HostRuntime) -> Result<(), Fail> {
     let alloc = rt.alloc();
-    assert_eq!(rt; overwrites(alloc, Ending::FailsBefore)?, (true, true));
-    assert_eq!(rt; overwrites(alloc, Ending::FailsBehind)?, (true, true));
+    assert!(rt; fails(alloc, Ending::FailsBefore, false)?);
+    assert!(rt; fails(alloc, Ending::FailsBehind, true)?);
     Ok(())
+}
+
+/// How many commits there were behind a change of a volume with one object.
+fn commits(alloc: Global, step: Step) -> Result<u64, Fail> {
+    let mut volume = with_one(alloc)?;
+    make(alloc, &mut volume, step)?;
+    Ok(volume.sequence())
 }
 
 /// A change that leaves all leaves as they were commits nothing.
 #[test]
 fn no_commit(rt: HostRuntime) -> Result<(), Fail> {
     let alloc = rt.alloc();
-    let mut volume = with_one(alloc)?;
-    assert_eq!(rt; volume.sequence(), 1);
-    let same = change_of(alloc, Step::Truncate(b'a', 1500))?;
-    ObjectDir::of(alloc, &mut volume, REGION).apply(&same)?;
-    assert_eq!(rt; volume.sequence(), 1);
-    let nothing = change_of(alloc, Step::Write(b'a', 9, 0))?;
-    ObjectDir::of(alloc, &mut volume, REGION).apply(&nothing)?;
-    assert_eq!(rt; volume.sequence(), 1);
+    assert_eq!(rt; commits(alloc, Step::Truncate(b'a', 1500))?, 1);
+    assert_eq!(rt; commits(alloc, Step::Write(b'a', 9, 0))?, 1);
+    assert_eq!(rt; commits(alloc, Step::Write(b'a', 9, 1))?, 2);
     Ok(())
 }

@@ -1,6 +1,7 @@
 //! A volume in memory.
 
-ghost use Rattle.std.specs.Prelude.{◌≡◌, ◌<◌, None, false, vec_len};
+ghost use Rattle.std.specs.Prelude.{◌≡◌, ◌<◌, [], None, false, vec_len};
+ghost use Rattle.store_api.specs.Foundations.{no_foundation};
 ghost use Rattle.tee_base.specs.declared.limits.TheConstants.{HOSTS};
 
 use std::alloc::Global;
@@ -67,7 +68,7 @@ impl Volume for Memory {
     ghost keeper = { record {
       tells_reads = false;
       held = λ m. record { leaves = λ r l. []; sequence = m.sequence };
-      condition = λ m. record { lost = m.lost; faults = m.faults; orders = 0; ordered = 0 };
+      condition = λ m. record { lost = m.lost; faults = m.faults; foundation = no_foundation };
       honest = λ m. ⊥;
       damage = λ m r l. None;
       moment = λ m. 0;

@@ -10,6 +10,3 @@ returns-clause-garbled g c = c.change_region-answer.ensures.call.garbled
 
 pub returns-clause-one : goal.returns-clause-one
 returns-clause-one g c = c.change_region-answer.ensures.one
-
-pub returns-clause-same_region : goal.returns-clause-same_region
-returns-clause-same_region g c = c.change_region-answer.ensures.call.same_region

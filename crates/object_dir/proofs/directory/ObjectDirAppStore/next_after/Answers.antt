@@ -10,6 +10,3 @@ returns-clause-reads g c = reads_noted g.V.Volume.keeper g.met.V.Volume.since_ea
 
 pub returns-clause-garbled : goal.returns-clause-garbled
 returns-clause-garbled g c = c.next_after-answer.ensures.garbled
-
-pub returns-clause-same_region : goal.returns-clause-same_region
-returns-clause-same_region g c = c.next_after-answer.ensures.reads.same_region
