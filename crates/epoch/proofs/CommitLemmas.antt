@@ -8,7 +8,7 @@ use Rattle.tee_base.proofs.Crash.{joined, weaker}
 use Rattle.store_api.specs.Volumes.{Held}
 use Rattle.board.specs.Moment.{Outcome, Moment, View, IsLeft, moment, left_since}
 use Rattle.board.specs.Runs.{LeavesBase, RunsOver, Rests}
-use Rattle.epoch.specs.Commits.{BeforeOrAfter, IsMounted, IsWritten, OpensTo, next_held, spare}
+use Rattle.epoch.specs.Commits.{BeforeOrAfter, IsMounted, IsSteady, IsWritten, OpensTo, next_held, spare}
 use Rattle.epoch.specs.Forms.{Form, IsFramed, SameUsed, all_below, blank_leaves, held, held_by, held_of, is_leaf, is_sealed, leaves_of}
 use Rattle.epoch.specs.Gates.{gate_at, header_at, gate_open}
 use Rattle.epoch.specs.Opening.{opening_of}
@@ -412,6 +412,31 @@ module _ (f : Form) (framed : IsFramed f) (key : List ℕ) where
 
     pub kept_flip : (laid new : Moment) → IsMounted f key root h laid → ((k : ℕ) → k ≢ gate_at slot → new.reads k ≡ laid.reads k) → leaves_of f key new.reads root ≡ h.leaves
     kept_flip laid new mounted same = kept_shut laid new mounted same
+
+    -- the blocks of the root in use, while what it doesn't use changes
+    pub steady_shut : (old new : View) → RunsOver (shut_writes slot old.state.reads) old.state.reads h.sequence h.sequence old new → IsSteady f key root new.state
+    steady_shut old new run = record {
+      base = old.state.reads;
+      same = λ k used. run.now.reads k (no_gate old.state.reads old.state.reads k used);
+      pending = λ k used. run.now.pending k (no_gate old.state.reads old.state.reads k used);
+    }
+
+    pub steady_spare : (mid new : View) → RunsOver (spare f key mid.state.reads root slot) mid.state.reads h.sequence h.sequence mid new → IsSteady f key root new.state
+    steady_spare mid new run = record {
+      base = mid.state.reads;
+      same = λ k used. run.now.reads k (not_spare mid.state.reads k used);
+      pending = λ k used. run.now.pending k (not_spare mid.state.reads k used);
+    }
+
+    pub steady_flip : (laid new : Moment) → IsMounted f key root h laid → ((k : ℕ) → k ≢ gate_at slot → new.reads k ≡ laid.reads k)
+        → ((k : ℕ) → k ≢ gate_at slot → laid.pending k ≡ false → new.pending k ≡ false) → IsSteady f key root new
+    steady_flip laid new mounted same settled =
+        let low : gate_at slot < 4 = (let b : slot < 2 = below_two in omega arith) in
+        record {
+          base = laid.reads;
+          same = used_other root laid.reads new.reads (gate_at slot) low same;
+          pending = λ k used. settled k (λ e. absurd (let far : 4 ≤ k = used_behind root laid.reads k used in omega arith)) (mounted.rests.pending k);
+        }
 
     -- the run of the laying
     pub lay_run : (mid wrote laid : View) (at : ℕ) → RunsOver (spare f key mid.state.reads root slot) mid.state.reads h.sequence h.sequence mid wrote → at ≡ header_at slot

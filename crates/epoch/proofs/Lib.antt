@@ -5,4 +5,5 @@ pub mod MountLemmas
 pub mod PastLemmas
 pub mod RuleLemmas
 pub mod RunLemmas
+pub mod SettledLemmas
 pub mod StageLemmas

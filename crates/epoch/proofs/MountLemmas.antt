@@ -2,28 +2,30 @@
 use Rattle.std.proofs.Common.{◌≡◌, ◌≢◌, ◌≤◌, ◌<◌, ◌+◌, ◌^◌, ◌%◌, ◌==◌, ◌&&◌, ◌∙◌, if◌then◌else◌, ℕ, Bool, true, false, List, [], ◌∷◌, length, Option, Some, None, Result, Ok, Err, IfOk, IfErr, nat_lt, refl, sym, ap, subst, inl, inr, ⊎_elim, arith}
 use Rattle.std.proofs.lemmas.Bool.{cases_lt}
 use Rattle.std.proofs.lemmas.Bool.Decides.{nat_tests}
-use Rattle.tee_base.specs.Crash.{LeavesOnly}
-use Rattle.tee_base.proofs.Crash.{joined, weaker}
+use Rattle.tee_base.specs.Crash.{LeavesOnly, read_as}
+use Rattle.tee_base.proofs.Crash.{joined, mapped, weaker}
 use Rattle.tee_base.specs.declared.limits.TheConstants.{BOARD_BLOCKS}
 use Rattle.store_api.specs.Volumes.{Held}
 use Rattle.board.specs.Moment.{IsConsistent, IsCounter, IsLeft, Moment, Outcome, View, WasLeft, left_since, moment}
 use Rattle.board.specs.Runs.{IsBase, LeavesBase, Rests, RunsOver}
-use Rattle.board.specs.Steps.{Answered, Passes, Powered, SameBlocks, Synced}
+use Rattle.board.specs.Steps.{Answered, Passes, Powered, SameBlocks, Synced, Unchanged}
 use Rattle.board.proofs.Runs.{goes_on, run_starts, starts}
-use Rattle.epoch.specs.Commits.{OpensTo}
+use Rattle.epoch.specs.Commits.{IsMounted, OpensTo}
 use Rattle.epoch.specs.Finding.{Finds, IsSettledAt, OpensBelow, sequence_of}
 use Rattle.epoch.specs.Forms.{Form, IsFramed, blank_leaves, held, held_by, held_of, is_sealed, leaves_of}
 use Rattle.epoch.specs.Mounting.{AreInUse, IsHolding, MightBe, Mounts, MountsAfterPower, MountsAgain, MountsTo, after_found}
 use Rattle.epoch.specs.Mounts.{IsInUse, IsRefusal, after_opening, opened_by}
 use Rattle.epoch.specs.Opening.{answer_at, header_answer, opening_by, opening_of, opens_as}
+use Rattle.epoch.specs.Past.{KeepsPast}
 use Rattle.epoch.specs.Slots.{slot_of}
 use Rattle.epoch.specs.declared.answer.OpenAnswer.{OpenAnswer}
 use Rattle.epoch.specs.declared.answer.OpenAnswer.TheVariants.{Ahead, BadHeader, Failed, NoMemory, NoVolume, Rollback, TooSmall, UnknownVersion}
 use Rattle.epoch.specs.declared.find.TheConstants.{VOLUME_BLOCKS}
 use Rattle.epoch.specs.declared.header.Header.{Header}
+use Rattle.epoch.specs.declared.header.TreeEntry.{TreeEntry}
 use Rattle.epoch.specs.declared.rule.Found.{Found}
 use Rattle.epoch.specs.declared.slots.Slot.TheVariants.{Shut}
-use Rattle.epoch.proofs.CommitLemmas.{first_true, second_true, zero_leaves, zero_sealed}
+use Rattle.epoch.proofs.CommitLemmas.{first_true, held_before, second_true, zero_leaves, zero_sealed}
 use Rattle.epoch.proofs.FindLemmas.{blank_counter}
 use Rattle.epoch.proofs.RuleLemmas.{asked, counts, opens_at_two}
 use Rattle.epoch.proofs.StageLemmas.{blank_first}
@@ -508,3 +510,80 @@ module _ (f : Form) (old mid : View) (size : mid.size ≡ old.size) (key : mid.k
 -- a reopening that ends before its sync is done
 pub stopped : {f : Form} {result failed : Result (Option Header) OpenAnswer} {old new : View} → result ≡ failed → MountsAgain f failed old new → MountsAgain f result old new
 stopped {f} {result} {failed} {old} {new} same again = subst (λ (r : Result (Option Header) OpenAnswer). MountsAgain f r old new) (sym same) again
+
+-- a board that is mounted with this leaves it
+pub mounted_left : (f : Form) (framed : IsFramed f) (root : TreeEntry) (h : Held) (view : View) → IsMounted f view.key root h view.state → (c : Outcome) → IsLeft view.state c
+    → held_of f view.key c ≡ Some h
+mounted_left f framed root h view mounted c left =
+    let rests = mounted.rests in
+    let image : (k : ℕ) → c.image k ≡ view.state.reads k = λ k. left.kept k (rests.pending k) ∙ sym (rests.as_read k) in
+    let whole : c.image ≡ view.state.reads = λ i k. image k i in
+    let counter : c.counter ≡ h.sequence = omega (arith, left.counter.least, left.counter.greatest, rests.counter, rests.slack) in
+    held_before f framed view.key root h view.state c.image c.counter mounted
+    (ap (opening_of f.version view.key c.image) counter ∙ ap (λ (g : ℕ → List ℕ). opening_of f.version view.key g h.sequence) whole)
+    (λ k used. image k)
+
+-- a board at rest holds what it reads
+pub rests_holding : (f : Form) (key : List ℕ) (h : Held) (n : ℕ) (m : Moment) → Rests n m → held f key m.reads n ≡ Some h → IsHolding f key h m
+rests_holding f key h n m rests is = record {
+  as_read = rests.as_read;
+  pending = rests.pending;
+  each = λ k among.
+      let same : k ≡ n = omega (arith, among.least, among.greatest, rests.counter, rests.slack) in
+      ap (held f key m.reads) same ∙ is;
+}
+
+-- an order that changes nothing
+pub after_order : (f : Form) (old new : View) → Passes old new → Unchanged old.state new.state → LeavesOnly moment left_since old new (MightBe f old.key old.state)
+after_order f old new time same =
+    goes_on old old new (MightBe f old.key old.state) (starts old (MightBe f old.key old.state) (λ c left. (c, left, refl))) time
+    (λ c left.
+    let pending : (k : ℕ) → new.state.pending k ≡ old.state.pending k = λ k. ap (λ (g : ℕ → Bool). g k) same.pending in (
+      record { image = c.image; counter = c.counter; faults = old.state.faults; orders = old.state.orders },
+      record {
+        kept = λ k shut. left.kept k (pending k ∙ shut) ∙ ap (λ (g : ℕ → List ℕ). g k) same.durable;
+        any = λ k shut. left.any k (pending k ∙ shut);
+        counter = record {
+          least = omega (arith, left.counter.least, same.counter);
+          greatest = omega (arith, left.counter.greatest, same.counter, same.slack);
+          fits = left.counter.fits;
+        };
+        faults = refl;
+        orders = refl;
+      },
+      refl,
+    ))
+
+-- up to a volume that stands on the board
+module _ (f : Form) {V : Type 0} (view : V → View) (old new : V) (key : (view new).key ≡ (view old).key) where
+  pub before_above : LeavesOnly moment left_since (view old) (view new) (MightBe f (view old).key (view old).state)
+      → LeavesOnly (λ v. moment (view v)) (λ v. read_as (held_of f (view v).key) (left_since (view v))) old new
+      (λ o. read_as (held_of f (view old).key) (left_since (view old)) (moment (view old)) o)
+  before_above run =
+      mapped moment left_since view (λ v. held_of f (view v).key) old new
+      (λ o. read_as (held_of f (view old).key) (left_since (view old)) (moment (view old)) o)
+      (λ c. ap (λ (k : List ℕ). held_of f k c) key)
+      (weaker moment left_since (view old) (view new) (MightBe f (view old).key (view old).state)
+      (λ c. read_as (held_of f (view old).key) (left_since (view old)) (moment (view old)) (held_of f (view new).key c))
+      (λ c might. (might.0, inl might.1, ap (λ (k : List ℕ). held_of f k c) key ∙ might.2)) run)
+
+pub past_above : (f : Form) (old new : View) → new.key ≡ old.key → KeepsPast old new → (t : ℕ) (o : Option Held) → t ≤ moment old
+    → read_as (held_of f old.key) (left_since old) t o → read_as (held_of f new.key) (left_since new) t o
+past_above f old new key kept t o le left = (left.0, kept.past t left.0 le left.1, left.2 ∙ ap (λ (k : List ℕ). held_of f k left.0) (sym key))
+
+-- what a volume's crash may leave now, on its board
+pub board_in_use : (f : Form) (view : View) → ((o : Option Held) → read_as (held_of f view.key) (left_since view) (moment view) o → IsInUse o) → AreInUse f view
+board_in_use f view used c left = used (held_of f view.key c) (c, inl left, refl)
+
+-- no crash before now was at this moment or later
+none_now : (past : List Moment) (t : ℕ) (c : Outcome) → length past ≤ t → WasLeft past t c → ⊥
+none_now [] t c late was = was
+none_now (m ∷ past) t c late was =
+    ⊎_elim (λ (h : (t ≤ length past) × IsLeft m c). absurd (let x = h.0 in omega arith)) (λ (w : WasLeft past t c). none_now past t c (omega arith) w) was
+
+-- what is known of all that a crash may leave now, one layer up
+pub rests_above : (f : Form) (key : List ℕ) (view : View) (h : Held) → view.key ≡ key → ((c : Outcome) → IsLeft view.state c → held_of f key c ≡ Some h)
+    → (o : Option Held) → read_as (held_of f view.key) (left_since view) (moment view) o → o ≡ Some h
+rests_above f key view h same each o left =
+    let now : IsLeft view.state left.0 = ⊎_elim (λ (x : IsLeft view.state left.0). x) (λ (was : WasLeft view.past (moment view) left.0). absurd (none_now view.past (moment view) left.0 (omega arith) was)) left.1 in
+    left.2 ∙ ap (λ (k : List ℕ). held_of f k left.0) same ∙ each left.0 now

@@ -1,9 +1,9 @@
 -- What a commit finds and leaves, over the form of the leaves.
-use Rattle.std.specs.Prelude.{◌≡◌, ◌⊎◌, ℕ, ◌+◌, ◌%◌, ◌==◌, ◌&&◌, ◌||◌, not, nat_lt, Bool, true, List, Option, Some, None, Result, Ok, Err}
+use Rattle.std.specs.Prelude.{◌≡◌, ◌⊎◌, ℕ, ◌+◌, ◌%◌, ◌==◌, ◌&&◌, ◌||◌, not, nat_lt, Bool, true, false, List, Option, Some, None, Result, Ok, Err}
 use Rattle.store_api.specs.Volumes.{Held}
 use Rattle.board.specs.Moment.{Outcome, Moment}
 use Rattle.board.specs.Runs.{Rests}
-use Rattle.epoch.specs.Forms.{Form, held_of, is_sealed, leaves_of}
+use Rattle.epoch.specs.Forms.{Form, SameUsed, held_of, is_sealed, leaves_of}
 use Rattle.epoch.specs.Gates.{header_at}
 use Rattle.epoch.specs.Opening.{opening_of}
 use Rattle.epoch.specs.declared.answer.OpenAnswer.{OpenAnswer}
@@ -44,3 +44,14 @@ next_held leaves sequence = record { leaves = leaves; sequence = sequence + 1 }
 abbrev pub BeforeOrAfter : Form → List ℕ → Held → Held → Outcome → Type 0
 BeforeOrAfter f key before after c =
     (held_of f key c ≡ Some before) ⊎ (held_of f key c ≡ Some after)
+
+-- the blocks on the ways to the leaves of a root read as in a base, and no crash may change them
+pub record IsSteady (f : Form) (key : List ℕ) (root : TreeEntry) (m : Moment) : Type 0 where
+  pub base : ℕ → List ℕ
+  pub same : SameUsed f key root base m.reads
+  pub pending : (k : ℕ) → f.uses key base root k ≡ true → m.pending k ≡ false
+
+-- what no crash could change reads as before, and no crash may change it
+abbrev pub StaysSettled : Moment → Moment → Type 0
+StaysSettled old new = (k : ℕ) → old.pending k ≡ false
+    → (new.reads k ≡ old.reads k) × (new.pending k ≡ false)

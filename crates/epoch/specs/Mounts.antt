@@ -81,9 +81,11 @@ module _ {V : Type 0} (K : VolumeKeeper V) where
   pub record OpensAgain (result : Result ℕ OpenAnswer) (old new : V) : Type 0 where
     pub opened : IfOk result (λ sequence. K.left_since old (K.moment old) (Some (K.held new)))
     pub failed : IfErr result (λ why. why ≡ answers.Failed)
+    -- one that is opened is honest, and what was honest stays so
+    pub fresh : IfOk result (λ sequence. K.honest new)
+    pub honest : K.honest old → K.honest new
     -- what isn't opened again keeps what it kept
-    pub same : OnErr result (K.held new ≡ K.held old)
-    pub honest : K.honest new
+    pub same : K.honest old → OnErr result (K.held new ≡ K.held old)
     pub leaves : LeavesAsBefore old new
 
   -- the same after a loss of power, which chose one of all that a crash might have left

@@ -5,7 +5,7 @@ ghost use Rattle.store_api.specs.Volumes.{Held};
 ghost use Rattle.board.specs.Moment.{View, moment, left_since};
 ghost use Rattle.board.specs.Runs.{RunsOver};
 ghost use Rattle.board.specs.Steps.{CallRun};
-ghost use Rattle.epoch.specs.Commits.{BeforeOrAfter, IsMounted, IsWritten, next_held, spare};
+ghost use Rattle.epoch.specs.Commits.{BeforeOrAfter, IsMounted, IsSteady, IsWritten, next_held, spare};
 ghost use Rattle.epoch.specs.Forms.{Form, IsFramed, SameUsed, is_sealed, leaves_of};
 ghost use Rattle.epoch.specs.Past.{KeepsPast};
 ghost use Rattle.epoch.specs.declared.header.TreeEntry.{TreeEntry as Entry};
@@ -86,7 +86,7 @@ pub trait Change {
 ///
 /// # Errors
 ///
-/// A call of the board failed. The leaves under the root in use read as before.
+/// A call of the board failed. The leaves under the root in use read as before, and no crash may change them.
 pub fn commit<B: Board, C: Change>(
     board: &mut B,
     change: &mut C,
@@ -122,6 +122,12 @@ pub fn commit<B: Board, C: Change>(
         → C.fits change.old (B.view board.old).key (B.view board.old).state.reads
         → OnErr result (leaves_of C.form (B.view board.old).key (B.view board.new).state.reads
         (C.root change.old) ≡ before.leaves) }
+    ensures steady { B.honest board.old → (before : Held) → before.sequence ≡ sequence
+        → IsMounted C.form (B.view board.old).key (C.root change.old) before
+        (B.view board.old).state
+        → C.fits change.old (B.view board.old).key (B.view board.old).state.reads
+        → OnErr result (IsSteady C.form (B.view board.old).key (C.root change.old)
+        (B.view board.new).state) }
 {
     let slot = other_slot(sequence);
     let version = change.version();

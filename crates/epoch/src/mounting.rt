@@ -4,6 +4,7 @@ ghost use Rattle.tee_base.specs.Faults.{Rose};
 ghost use Rattle.store_api.specs.Volumes.{Held};
 ghost use Rattle.board.specs.Moment.{IsCounter, IsLeft, Outcome};
 ghost use Rattle.board.specs.Steps.{CallRun};
+ghost use Rattle.epoch.specs.Commits.{StaysSettled};
 ghost use Rattle.epoch.specs.Forms.{Form, IsFramed};
 ghost use Rattle.epoch.specs.Mounting.{AreInUse, IsHolding, Mounts, MountsAfterPower, MountsAgain};
 ghost use Rattle.epoch.specs.Mounts.{IsRefusal, OrderRun};
@@ -28,6 +29,8 @@ pub fn mount<B: Board>(board: &mut B, version: u32) -> Result<Option<Header>, Op
     ensures size { OnOk result (VOLUME_BLOCKS ≤ (B.view board.old).size) }
     ensures honest { B.honest board.old → B.honest board.new }
     ensures past { B.honest board.old → KeepsPast (B.view board.old) (B.view board.new) }
+    ensures settled { B.honest board.old
+        → StaysSettled (B.view board.old).state (B.view board.new).state }
     // whatever the board: refused by the rule over what it tells, at some counter
     ensures rule { IsTrue B.tells_reads → (counter : ℕ) × ((f : Form) → f.version ≡ version
         → IfErr result (λ why. IsRefusal f (B.view board.old) (B.view board.old).state.reads
@@ -56,6 +59,8 @@ pub fn mount_again<B: Board>(board: &mut B, version: u32) -> Result<Option<Heade
     ensures memory { result ≢ Err answers.NoMemory }
     ensures honest { B.honest board.old → B.honest board.new }
     ensures past { B.honest board.old → KeepsPast (B.view board.old) (B.view board.new) }
+    ensures settled { B.honest board.old
+        → StaysSettled (B.view board.old).state (B.view board.new).state }
     ensures exact { B.honest board.old → (counter : ℕ)
         × IsCounter (B.view board.old).state counter × ((f : Form) → f.version ≡ version
         → IfErr result (λ why. IsRefusal f (B.view board.old) (B.view board.old).state.reads
@@ -85,6 +90,8 @@ pub fn mount_after_power<B: Board>(
     ensures memory { result ≢ Err answers.NoMemory }
     ensures honest { B.honest board.old → B.honest board.new }
     ensures past { B.honest board.old → KeepsPast (B.view board.old) (B.view board.new) }
+    ensures settled { B.honest board.old
+        → StaysSettled (B.view board.old).state (B.view board.new).state }
     ensures exact { B.honest board.old → (c : Outcome) × IsLeft (B.view board.old).state c
         × ((f : Form) → f.version ≡ version
         → IfErr result (λ why. IsRefusal f (B.view board.old) c.image c.counter why)) }

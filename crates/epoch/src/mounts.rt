@@ -41,7 +41,8 @@ pub trait BoardVolume<B: Board>: Volume + Sized {
         ensures exact { B.honest board → (counter : ℕ) × IsCounter (B.view board).state counter
             × IfErr result (λ u. IsRefusal form (B.view board)
             (B.view board).state.reads counter u.why) }
-        ensures honest { B.honest board → IfErr result (λ u. B.honest u.board) }
+        ensures honest { B.honest board → IfOk result (λ v. B.honest (board_of v)) }
+        ensures honest_back { B.honest board → IfErr result (λ u. B.honest u.board) }
         // a board at rest with a sound image is opened, unless a call failed or there was no memory
         ensures opened { B.honest board → (n : ℕ) (h : Held) → Rests n (B.view board).state
             → BOARD_BLOCKS ≤ (B.view board).size
@@ -67,6 +68,7 @@ pub trait BoardVolume<B: Board>: Volume + Sized {
             → Rose (B.view (board_of self.old)).state.faults
             (B.view (board_of self.new)).state.faults }
         ensures back { IsBack Self.keeper result self.new }
+        ensures honest { B.honest (board_of self.old) → B.honest (board_of self.new) }
         ensures exact { B.honest (board_of self.old) → (counter : ℕ)
             × IsCounter (B.view (board_of self.old)).state counter
             × IfErr result (λ why. IsRefusal form (B.view (board_of self.old))
@@ -86,6 +88,7 @@ pub trait BoardVolume<B: Board>: Volume + Sized {
             → Rose (B.view (board_of self.old)).state.faults
             (B.view (board_of self.new)).state.faults }
         ensures back { IsBack Self.keeper result self.new }
+        ensures honest { B.honest (board_of self.old) → B.honest (board_of self.new) }
         ensures exact { B.honest (board_of self.old) → (c : Outcome)
             × IsLeft (B.view (board_of self.old)).state c
             × IfErr result (λ why. IsRefusal form (B.view (board_of self.old)) c.image c.counter
@@ -101,6 +104,7 @@ pub trait BoardVolume<B: Board>: Volume + Sized {
             ≡ (Self.keeper.condition self.old).lost }
         ensures sequence { (Self.keeper.held self.new).sequence
             ≡ (Self.keeper.held self.old).sequence }
+        ensures honest { B.honest (board_of self.old) → B.honest (board_of self.new) }
         ensures same { Self.keeper.honest self.old → IsOrdered Self.keeper self.old self.new };
 
     /// The board.

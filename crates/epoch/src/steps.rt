@@ -121,6 +121,9 @@ pub fn flip<B: Board>(board: &mut B, slot: u8) -> Result<u64, BoardFailed>
     ensures past { B.honest board.old → KeepsPast (B.view board.old) (B.view board.new) }
     ensures elsewhere { B.honest board.old → (k : ℕ) → k ≢ gate_at slot
         → (B.view board.new).state.reads k ≡ (B.view board.old).state.reads k }
+    ensures pending { B.honest board.old → (k : ℕ) → k ≢ gate_at slot
+        → (B.view board.old).state.pending k ≡ false
+        → (B.view board.new).state.pending k ≡ false }
     ensures flipped { B.honest board.old
         → IfOk result (λ m. IsFlipped slot m (B.view board.old).state (B.view board.new).state) }
     ensures run { B.honest board.old → (n : ℕ) → Rests n (B.view board.old).state

@@ -1,11 +1,10 @@
 -- What the copies of a commit hold once they are written, and which blocks they are.
-use Rattle.std.proofs.Common.{◌≡◌, ◌≢◌, ◌≤◌, ◌<◌, ◌+◌, ◌-◌, ◌*◌, ◌/◌, ◌%◌, ◌⊎◌, ◌==◌, ◌&&◌, ◌||◌, ◌∙◌, if◌then◌else◌, not, ℕ, Bool, true, false, List, [], ◌∷◌, Option, None, Some, nat_lt, is_none, bytes_eq, length, replicate, refl, sym, ap, subst, arith}
+use Rattle.std.proofs.Common.{◌≡◌, ◌≢◌, ◌<◌, ◌+◌, ◌-◌, ◌*◌, ◌/◌, ◌%◌, ◌==◌, ◌&&◌, ◌||◌, ◌∙◌, if◌then◌else◌, not, ℕ, Bool, true, false, List, [], ◌∷◌, Option, None, Some, nat_lt, is_none, bytes_eq, length, refl, sym, ap, subst, arith}
 use Rattle.std.proofs.lemmas.Bool.Decides.{nat_tests}
 use Rattle.std.proofs.lemmas.Slice.Eq.{bytes_eq-Decides}
 use Rattle.tee_base.specs.declared.limits.TheConstants.{HOSTS, LEAVES}
 use Rattle.store_api.specs.declared.answer.Mismatch.{Mismatch}
 use Rattle.store_api.specs.declared.leaves.Leaf.{Leaf}
-use Rattle.store_api.specs.Volumes.{replaced}
 use Rattle.board.specs.declared.TheConstants.{BLOCK}
 use Rattle.epoch.specs.Commits.{IsWritten, spare}
 use Rattle.epoch.specs.Forms.{is_leaf, is_sealed, leaves_of}
@@ -14,10 +13,10 @@ use Rattle.epoch.specs.Parts.{part}
 use Rattle.epoch.specs.declared.header.TreeEntry.{TreeEntry}
 use Rattle.epoch.proofs.CommitLemmas.{all_below_all, sealed_each}
 use Rattle.flat_volume.specs.declared.places.TheConstants.{ALL_LEAVES, FIRST_LEAF, FIRST_TABLE, TABLE_BLOCKS, TABLE_BYTES}
-use Rattle.flat_volume.specs.Flat.{block_at, copy_of, differing, entry_of, first_damage, flat, flat_uses, joined_below, leaf_damage, leaf_text, needs_copy, number_of, path_damage, table_damage, table_in, table_tag, zero_table}
-use Rattle.flat_volume.specs.Frame.{copy_below, leaf_damage_same, leaf_text_same, leaf_needs, table_needs, uses_by}
+use Rattle.flat_volume.specs.Flat.{block_at, copy_of, differing, entry_of, first_damage, flat, flat_uses, leaf_damage, number_of, path_damage, table_damage, table_in, table_tag}
+use Rattle.flat_volume.specs.Frame.{leaf_damage_same, leaf_text_same, leaf_needs, table_needs, uses_by}
 use Rattle.flat_volume.specs.Writing.{AreSealed, AreSpare, leaves_by, spare_block}
-use Rattle.flat_volume.proofs.LeafLemmas.{copy_flip, other_block}
+use Rattle.flat_volume.proofs.LeafLemmas.{other_block}
 use Rattle.flat_volume.proofs.TableLemmas.{joined_whole}
 
 -- the other copy isn't the one that is named

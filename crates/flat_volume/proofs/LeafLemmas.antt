@@ -1,8 +1,8 @@
 -- How the leaves change when one of them is written into its spare copy.
-use Rattle.std.proofs.Common.{◌≡◌, ◌≢◌, ◌≤◌, ◌<◌, ◌+◌, ◌-◌, ◌*◌, ◌⊎◌, ◌==◌, ◌&&◌, ◌∙◌, if◌then◌else◌, ℕ, Bool, true, false, List, [], ◌∷◌, Option, None, nat_lt, length, get_or, drop, refl, sym, ap, subst, ⊎_elim, inl, inr, arith}
+use Rattle.std.proofs.Common.{◌≡◌, ◌≢◌, ◌≤◌, ◌<◌, ◌+◌, ◌-◌, ◌*◌, ◌⊎◌, ◌==◌, ◌∙◌, if◌then◌else◌, ℕ, Bool, true, false, List, [], ◌∷◌, None, nat_lt, length, drop, refl, sym, ap, subst, ⊎_elim, inl, inr, arith}
 use Rattle.std.specs.List.{list_all}
-use Rattle.std.proofs.lemmas.Bool.{cases_eq, cases_lt}
-use Rattle.std.proofs.lemmas.List.{drop_more}
+use Rattle.std.proofs.lemmas.Bool.{cases_eq}
+use Rattle.std.proofs.lemmas.List.{drop_all}
 use Rattle.std.proofs.lemmas.Bool.Decides.{nat_tests}
 use Rattle.tee_base.specs.declared.limits.TheConstants.{HOSTS, LEAVES}
 use Rattle.store_api.specs.declared.leaves.Leaf.{Leaf}
@@ -10,10 +10,10 @@ use Rattle.store_api.specs.Ascending.{is_ascending}
 use Rattle.store_api.specs.Volumes.{leaf_after, replaced}
 use Rattle.epoch.specs.Forms.{is_leaf}
 use Rattle.epoch.specs.declared.header.TreeEntry.{TreeEntry}
-use Rattle.epoch.proofs.CommitLemmas.{first_true, second_true, leaf_below, region_below}
-use Rattle.flat_volume.specs.declared.places.TheConstants.{ALL_LEAVES, FIRST_LEAF, FIRST_TABLE, TABLE_BLOCKS}
+use Rattle.epoch.proofs.CommitLemmas.{first_true, second_true, leaf_below}
+use Rattle.flat_volume.specs.declared.places.TheConstants.{FIRST_LEAF}
 use Rattle.flat_volume.specs.Flat.{block_at, copy_of, entry_of, leaf_damage, leaf_text, number_of}
-use Rattle.flat_volume.specs.Frame.{copy_below, leaf_damage_same, leaf_text_same, number_below}
+use Rattle.flat_volume.specs.Frame.{copy_below, leaf_damage_same, leaf_text_same}
 use Rattle.flat_volume.specs.Writing.{AreSealed, AreSpare, leaves_by, spare_block}
 
 -- a block of another place is another block
@@ -21,10 +21,6 @@ pub other_block : (p q a b : ℕ) → p ≢ q → block_at p a ≢ block_at q b
 other_block p q a b ne = λ same. numbers p q (copy_of a) (copy_of b) (copy_below a) (copy_below b) ne same where
   numbers : (p q x y : ℕ) → x < 2 → y < 2 → p ≢ q → 4 + 2 * p + x ≡ 4 + 2 * q + y → ⊥
   numbers p q x y one two ne same = absurd (omega arith)
-
--- the copy that isn't named is the other one
-pub copy_flip : (copy : ℕ) → copy_of (1 - copy_of copy) ≡ 1 - copy_of copy
-copy_flip copy = elim (copy == 0) as (λ b. copy_of (1 - (if b then 0 else 1)) ≡ 1 - (if b then 0 else 1)) [ true ↦ refl | false ↦ refl ]
 
 module _ (key told tnew : List ℕ) (old new : ℕ → List ℕ) (number : ℕ) (elsewhere : (k : ℕ) → k ≢ spare_block told number → new k ≡ old k)
     (others : (n : ℕ) → n ≢ number → entry_of tnew n ≡ entry_of told n) where
@@ -141,10 +137,14 @@ spare_step open_at told tnew region number (leaf ∷ rest) others above spare =
       spare_step open_at told tnew region number rest others two spare.1,
     )
 
--- the leaves that are left, by the next of them
-pub rest_step : (xs : List Leaf) (i : ℕ) (leaf : Leaf) → i < length xs → leaf ≡ get_or xs i leaf → drop i xs ≡ leaf ∷ drop (i + 1) xs
-rest_step xs i leaf within is = drop_more xs i leaf within ∙ ap (λ (x : Leaf). x ∷ drop (i + 1) xs) (sym is)
+-- where no leaf is left nothing is replaced
+none_named : (region : ℕ) (leaves : ℕ → ℕ → List ℕ) (r l : ℕ) → replaced region [] leaves r l ≡ leaves r l
+none_named region leaves r l = elim (r == region) as (λ b. (if b then leaves r l else leaves r l) ≡ leaves r l) [ true ↦ refl | false ↦ refl ]
 
+pub none_left : (region : ℕ) (xs : List Leaf) (i : ℕ) (leaves : ℕ → ℕ → List ℕ) → length xs ≤ i → replaced region (drop i xs) leaves ≡ leaves
+none_left region xs i leaves all = ap (λ (rest : List Leaf). replaced region rest leaves) (drop_all i xs all) ∙ (λ j r l. none_named region leaves r l j)
+
+-- the leaves that are left ascend
 pub above_rest : (leaf : Leaf) (rest : List Leaf) → is_ascending (leaf ∷ rest) ≡ true → list_all (λ later. nat_lt leaf.number later.number) rest ≡ true
 above_rest leaf rest e = first_true (list_all (λ (later : Leaf). nat_lt leaf.number later.number) rest) (is_ascending rest) e
 

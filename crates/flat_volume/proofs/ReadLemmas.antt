@@ -1,5 +1,5 @@
 -- Runs of calls, one call more.
-use Rattle.std.proofs.Common.{◌≡◌, ◌≢◌, ◌≤◌, ◌*◌, ◌<◌, ◌+◌, ◌-◌, ◌^◌, ◌⊎◌, ◌==◌, ◌∙◌, ℕ, Bool, true, false, List, Option, None, Some, Result, Ok, Err, IfOk, if◌then◌else◌, bytes_eq, refl, sym, ap, subst, inl, inr, ⊎_elim, arith}
+use Rattle.std.proofs.Common.{◌≡◌, ◌≢◌, ◌≤◌, ◌*◌, ◌<◌, ◌+◌, ◌-◌, ◌^◌, ◌==◌, ◌∙◌, ℕ, Bool, true, false, List, Option, None, Some, Result, Ok, Err, IfOk, if◌then◌else◌, bytes_eq, refl, sym, ap, subst, inl, inr, ⊎_elim, arith}
 use Rattle.std.proofs.lemmas.Bool.{cases_lt}
 use Rattle.std.proofs.lemmas.Slice.Eq.{bytes_eq-Decides}
 use Rattle.store_api.specs.declared.answer.Mismatch.{Mismatch}
@@ -9,7 +9,7 @@ use Rattle.store_api.specs.Volumes.{ShowsLeaf}
 use Rattle.tee_base.specs.Faults.{Rose}
 use Rattle.board.specs.Moment.{View}
 use Rattle.board.specs.Steps.{Answered, Called, CallRun, Unchanged}
-use Rattle.seal.specs.Sealing.{SealsBlock, ciphertext, plaintext, seal_tag}
+use Rattle.seal.specs.Sealing.{ciphertext, plaintext, seal_tag}
 use Rattle.seal.proofs.SealLemmas.{reopened}
 use Rattle.epoch.specs.Parts.{part}
 use Rattle.epoch.proofs.PastLemmas.{followed, itself, once}

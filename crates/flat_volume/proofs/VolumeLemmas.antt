@@ -1,5 +1,5 @@
 -- What a volume that is open keeps while its board is read, and what its calls answer.
-use Rattle.std.proofs.Common.{◌≡◌, ◌≢◌, ◌≤◌, ◌<◌, ◌+◌, ◌-◌, ◌^◌, ◌⊎◌, ◌∙◌, if◌then◌else◌, ℕ, Bool, true, false, List, [], Option, Some, None, Result, Ok, Err, IfOk, OnOk, nat_lt, refl, sym, ap, subst, inl, inr, ⊎_elim, arith}
+use Rattle.std.proofs.Common.{◌≡◌, ◌≢◌, ◌≤◌, ◌<◌, ◌+◌, ◌-◌, ◌^◌, ◌∙◌, if◌then◌else◌, ℕ, true, false, List, [], Option, Some, None, Result, Ok, Err, nat_lt, refl, sym, ap, subst, inl, arith}
 use Rattle.std.proofs.lemmas.Bool.Decides.{nat_tests}
 use Rattle.tee_base.specs.Crash.{LeavesOnly, read_as}
 use Rattle.tee_base.specs.Faults.{Rose}
@@ -9,11 +9,12 @@ use Rattle.store_api.specs.declared.answer.Mismatch.{Mismatch}
 use Rattle.store_api.specs.declared.leaves.Leaf.{Leaf}
 use Rattle.store_api.specs.declared.leaves.LeafAnswer.{LeafAnswer}
 use Rattle.store_api.specs.declared.leaves.LeafAnswer.TheVariants as answers
+use Rattle.store_api.specs.Foundations.{Foundation}
 use Rattle.store_api.specs.Volumes.{Condition, Held, IfMismatch, IsUndamaged, IsVolumeCall, LeafCause, LeftByCommit, ShowsLeaf, VolumeKeeper, after_commit}
 use Rattle.board.specs.Moment.{Outcome, Moment, View, IsLeft, moment, left_since}
 use Rattle.board.specs.declared.BoardFailed.{BoardFailed}
-use Rattle.board.specs.Runs.{LeavesBase, RunsOver, Rests}
-use Rattle.board.specs.Steps.{Advanced, Passes, SameBlocks, Unchanged}
+use Rattle.board.specs.Runs.{LeavesBase, Rests}
+use Rattle.board.specs.Steps.{Advanced, CallRun, Passes, SameBlocks, Unchanged}
 use Rattle.board.proofs.Runs.{goes_on, starts}
 use Rattle.epoch.specs.Commits.{BeforeOrAfter, IsMounted}
 use Rattle.epoch.specs.Forms.{held_of, is_leaf, is_sealed, leaves_of}
@@ -24,7 +25,7 @@ use Rattle.epoch.proofs.CommitLemmas.{held_before, sealed_each}
 use Rattle.epoch.proofs.RunLemmas.{rest_starts}
 use Rattle.flat_volume.specs.Flat.{entry_of, first_damage, flat, leaf_damage, leaf_text, number_of, path_damage, table_damage, table_in}
 use Rattle.flat_volume.specs.Frame.{flat_framed}
-use Rattle.flat_volume.specs.Keeping.{Exhausts, IsKept, IsOpen, StaysOpen, damage_now, held_now, is_failure, table_now}
+use Rattle.flat_volume.specs.Keeping.{Exhausts, IsKept, IsOpen, IsVerified, Replaces, StaysOpen, damage_now, held_now, is_failure, table_now}
 use Rattle.flat_volume.specs.Laws.{kept_table}
 use Rattle.flat_volume.specs.Reading.{OnlyReads}
 use Rattle.flat_volume.specs.declared.places.TheConstants.{FIRST_LEAF}
@@ -110,10 +111,13 @@ mounted_open view key root h table same mounted stands = record {
   kept = stands;
 }
 
+pub leaves_held : (view : View) (key : List ℕ) (root : TreeEntry) (h : Held) → view.key ≡ key → leaves_of flat key view.state.reads root ≡ h.leaves → held_now view root h.sequence ≡ h
+leaves_held view key root h same leaves =
+    let now : leaves_of flat view.key view.state.reads root ≡ h.leaves = rw same leaves in
+    λ i. record { leaves = now i; sequence = h.sequence }
+
 pub mounted_held : (view : View) (key : List ℕ) (root : TreeEntry) (h : Held) → view.key ≡ key → IsMounted flat key root h view.state → held_now view root h.sequence ≡ h
-mounted_held view key root h same mounted =
-    let leaves : leaves_of flat view.key view.state.reads root ≡ h.leaves = rw same (sym mounted.leaves) in
-    λ i. record { leaves = leaves i; sequence = h.sequence }
+mounted_held view key root h same mounted = leaves_held view key root h same (sym mounted.leaves)
 
 -- what a crash leaves whose blocks are those of an open volume, and whose counter is its sequence
 left_holds : (view : View) (m : Moment) (root : TreeEntry) (sequence : ℕ) (table : Option Table) (c : Outcome) → IsOpen view root sequence table → SameBlocks view.state m
@@ -190,6 +194,12 @@ sealed_table key reads root sealed =
     first_none (table_damage key (table_in reads root) root) (leaf_damage key reads (FIRST_LEAF + number_of 0 0) (entry_of (table_in reads root) (number_of 0 0)))
     (sealed_each flat key root reads sealed 0 0 (omega arith) (omega arith))
 
+-- a table that is kept of a volume that is open has no damage
+pub verified_open : (view : View) (root : TreeEntry) (sequence : ℕ) (table : Option Table) → IsOpen view root sequence table → IsVerified view.key table root
+verified_open view root sequence (Some t) is =
+    ap (λ (bytes : List ℕ). table_damage view.key bytes root) is.kept ∙ sealed_table view.key view.state.reads root is.mounted.sealed
+verified_open view root sequence None is = tt
+
 -- an answer that shows what is no damage is none of damage
 pub err_undamaged : (A B : Type 0) (e : LeafAnswer) (damage : Option Mismatch) → ShowsLeaf {A = A} (Err e) damage → damage ≡ None → IsUndamaged {A = B} (Err e)
 err_undamaged A B (answers.Mismatch tags) damage shows none = absurd (let e : Some tags ≡ None = sym shows ∙ none in cc)
@@ -252,3 +262,75 @@ lost_call V A K v lost = record {
   quiet = λ told. record { same = refl; none = λ t o left. left };
   past = λ h t o le left. left;
 }
+
+-- a commit that came no further than the reading of the table
+pub read_replaces : (region : ℕ) (named : List Leaf) (e : LeafAnswer) (before : Opened) (old new : View) → IsOpen old before.root before.sequence before.table
+    → new.key ≡ old.key → OnlyReads old new → ShowsLeaf {A = Table} (Err e) (table_damage old.key (table_now before.table old.state.reads before.root) before.root)
+    → Replaces region named (Err e) before old new
+read_replaces region named e before old new is key only shows =
+    let held : Held = held_now old before.root before.sequence in
+    let none : table_damage old.key (table_now before.table old.state.reads before.root) before.root ≡ None
+    = ap (λ (t : List ℕ). table_damage old.key t before.root) (kept_table before.table old.state.reads before.root is.kept)
+    ∙ sealed_table old.key old.state.reads before.root is.mounted.sealed in
+    record {
+      undamaged = err_undamaged Table Opened e _ shows none;
+      stays = stays_read e before new (open_read old new before.root before.sequence before.table key only.state is);
+      commits = held_same old new before.root before.sequence key only.state.reads;
+      crash = weaker moment left_since old new (λ c. held_of flat old.key c ≡ Some held) (λ c. LeftByCommit (Err e) held (after_commit region named held) (held_of flat old.key c))
+          (λ c same. left_before (Err e) held (after_commit region named held) (held_of flat old.key c) same)
+          (reads_crash old new before.root before.sequence before.table is only);
+    }
+
+-- a run of calls makes no order to what the volume stands on
+pub foundation_same : (old new : View) → CallRun true old new
+    → ◌≡◌ {A = Foundation} (record { place = []; orders = new.state.orders; ordered = new.ordered }) (record { place = []; orders = old.state.orders; ordered = old.ordered })
+foundation_same old new run = λ i. record { place = []; orders = run.orders i; ordered = run.ordered i }
+
+-- what counts of a table after a read
+pub tables_same : (table table' : Option Table) (old new : View) (root : TreeEntry) → new.state.reads ≡ old.state.reads
+    → table_now table' old.state.reads root ≡ table_now table old.state.reads root → table_now table' new.state.reads root ≡ table_now table old.state.reads root
+tables_same table table' old new root reads same = ap (λ (f : ℕ → List ℕ). table_now table' f root) reads ∙ same
+
+-- what a crash leaves within a read, under the key after it
+pub crash_read : (old new : View) (root : TreeEntry) (sequence : ℕ) (table : Option Table) → IsOpen old root sequence table → new.key ≡ old.key → OnlyReads old new
+    → LeavesOnly moment left_since old new (λ c. held_of flat new.key c ≡ Some (held_now old root sequence))
+crash_read old new root sequence table is key only =
+    subst (λ (k : List ℕ). LeavesOnly moment left_since old new (λ c. held_of flat k c ≡ Some (held_now old root sequence))) (sym key)
+    (reads_crash old new root sequence table is only)
+
+-- the bytes that were read are those that are held
+pub text_read : (view : View) (root : TreeEntry) (sequence : ℕ) (table : Option Table) (region leaf number : ℕ) (bytes : List ℕ) → IsOpen view root sequence table → region < HOSTS → leaf < LEAVES
+    → number ≡ number_of region leaf → bytes ≡ leaf_text view.key view.state.reads (FIRST_LEAF + number) (entry_of (table_now table view.state.reads root) number)
+    → bytes ≡ leaves_of flat view.key view.state.reads root region leaf
+text_read view root sequence table region leaf number bytes is r l at read =
+    read ∙ ap (λ (t : List ℕ). leaf_text view.key view.state.reads (FIRST_LEAF + number) (entry_of t number)) (kept_table table view.state.reads root is.kept)
+    ∙ text_of view root region leaf number r l at
+
+-- damage that a commit answers is one of a leaf at its return
+pub err_shows : (A B : Type 0) (e : LeafAnswer) (view : View) (key : List ℕ) (root : TreeEntry) (region : ℕ) (table : Option Table) → view.key ≡ key → table ≡ None → region < HOSTS
+    → IfMismatch {A = A} (Err e) (λ tags. table_damage key (table_in view.state.reads root) root ≡ Some tags)
+    → IfMismatch {A = B} (Err e) (λ tags. (number : ℕ) × (number < LEAVES) × (damage_now table view root region number ≡ Some tags))
+err_shows A B answers.Lost view key root region table same none r shows = tt
+err_shows A B answers.Failed view key root region table same none r shows = tt
+err_shows A B (answers.Mismatch tags) view key root region table same none r shows = (
+  0,
+  omega arith,
+  ap (λ (t : Option Table). damage_now t view root region 0) none
+      ∙ table_shows None view root region tags r (ap (λ (k : List ℕ). table_damage k (table_in view.state.reads root) root) same ∙ shows),
+)
+err_shows A B answers.NoMemory view key root region table same none r shows = tt
+
+-- what holds of the tags of an answer, of whatever call
+pub still_tags : (A B : Type 0) (P : Mismatch → Type 0) (e : LeafAnswer) → IfMismatch {A = A} (Err e) P → IfMismatch {A = B} (Err e) P
+still_tags A B P answers.Lost tags = tt
+still_tags A B P answers.Failed tags = tt
+still_tags A B P (answers.Mismatch m) tags = tags
+still_tags A B P answers.NoMemory tags = tt
+
+-- a volume that isn't lost by what a commit answers is open
+pub still_open : (e : LeafAnswer) (before : Opened) (view : View) (table : Option Table) → table ≡ None → is_failure e ≡ false → StaysOpen (Err e) before view
+    → IsOpen view before.root before.sequence table
+still_open answers.Lost before view table none live stays = subst (IsOpen view before.root before.sequence) (sym none) stays
+still_open answers.Failed before view table none live stays = absurd (let f : true ≡ false = live in cc)
+still_open (answers.Mismatch tags) before view table none live stays = subst (IsOpen view before.root before.sequence) (sym none) stays
+still_open answers.NoMemory before view table none live stays = subst (IsOpen view before.root before.sequence) (sym none) stays

@@ -1,16 +1,15 @@
 -- The laws of the flat form: what its leaves rest on, and what a root of sequence 0 stands for.
-use Rattle.std.proofs.Common.{◌≡◌, ◌≤◌, ◌<◌, ◌+◌, ◌-◌, ◌*◌, ◌/◌, ◌%◌, ◌==◌, ◌∙◌, if◌then◌else◌, ℕ, zero, suc, Bool, true, false, nat_lt, List, ◌++◌, Option, None, length, take, replicate, refl, sym, ap, arith, rules}
+use Rattle.std.proofs.Common.{◌≡◌, ◌≤◌, ◌<◌, ◌+◌, ◌-◌, ◌*◌, ◌/◌, ◌%◌, ◌==◌, ◌∙◌, if◌then◌else◌, ℕ, zero, suc, true, false, nat_lt, List, Option, None, take, replicate, refl, ap, arith}
 use Rattle.std.specs.Int.{w64, from_le_bytes}
 use Rattle.std.proofs.lemmas.Bool.Decides.{nat_tests}
 use Rattle.std.proofs.lemmas.List.{drop-replicate, take-replicate}
 use Rattle.tee_base.specs.declared.limits.TheConstants.{BLOCK_BYTES, HOSTS, LEAVES}
 use Rattle.store_api.specs.declared.answer.Mismatch.{Mismatch}
-use Rattle.seal.specs.Sealing.{plaintext, seal_tag}
 use Rattle.epoch.specs.Forms.{IsFramed, SameUsed}
 use Rattle.epoch.specs.Parts.{part}
 use Rattle.epoch.specs.declared.header.TreeEntry.{TreeEntry}
-use Rattle.flat_volume.specs.declared.places.TheConstants.{FIRST_LEAF, FIRST_TABLE, SLOT_BLOCKS, TABLE_BLOCKS, TABLE_BYTES, ENTRY_BYTES, ALL_LEAVES}
-use Rattle.flat_volume.specs.Flat.{block_at, copy_of, differing, entry_of, first_damage, flat, flat_uses, joined_below, leaf_damage, leaf_text, needs_copy, number_of, path_damage, table_damage, table_in, zero_table, zeros_of}
+use Rattle.flat_volume.specs.declared.places.TheConstants.{FIRST_LEAF, FIRST_TABLE, TABLE_BLOCKS, TABLE_BYTES, ENTRY_BYTES, ALL_LEAVES}
+use Rattle.flat_volume.specs.Flat.{block_at, copy_of, entry_of, first_damage, flat, flat_uses, joined_below, leaf_damage, leaf_text, needs_copy, number_of, path_damage, table_damage, table_in, zero_table, zeros_of}
 
 -- a copy is 0 or 1
 pub copy_below : (copy : ℕ) → copy_of copy < 2

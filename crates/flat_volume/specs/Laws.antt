@@ -1,8 +1,6 @@
 -- The laws of a flat volume: what a crash leaves of one that is open, that no leaf of it is damaged, and its clock.
-use Rattle.std.proofs.Common.{◌≡◌, ◌≤◌, ◌<◌, ◌+◌, ◌⊎◌, ◌∙◌, if◌then◌else◌, ℕ, Bool, true, false, List, [], ◌∷◌, Option, Some, None, length, refl, sym, ap, inl, inr, ⊎_elim, arith}
+use Rattle.std.proofs.Common.{◌≡◌, ◌≤◌, ◌∙◌, if◌then◌else◌, ℕ, true, false, List, [], ◌∷◌, Option, Some, None, length, refl, sym, ap, inl, inr, ⊎_elim, arith}
 use Rattle.tee_base.specs.Crash.{read_as}
-use Rattle.tee_base.specs.declared.limits.TheConstants.{HOSTS, LEAVES}
-use Rattle.store_api.specs.declared.answer.Mismatch.{Mismatch}
 use Rattle.store_api.specs.Volumes.{Held}
 use Rattle.board.specs.Moment.{Outcome, Moment, View, IsLeft, WasLeft, moment, left_since}
 use Rattle.epoch.specs.Forms.{held_of, is_leaf}

@@ -1,5 +1,5 @@
 -- What calls that only read keep of an honest board.
-use Rattle.std.specs.Prelude.{◌≡◌, ℕ, Bool, List, Result, Option, Some, None}
+use Rattle.std.specs.Prelude.{ℕ, Bool, List}
 use Rattle.board.specs.Moment.{View}
 use Rattle.board.specs.Runs.{RunsOver}
 use Rattle.board.specs.Steps.{Unchanged}

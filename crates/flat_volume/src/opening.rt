@@ -1,31 +1,108 @@
 //! How a flat volume is opened and formatted, and opened again.
-ghost use Rattle.std.specs.Prelude.{◌≡◌, ◌≤◌, IfOk, IfErr};
+ghost use Rattle.std.specs.Prelude.{◌≡◌, ◌≤◌, ◌<◌, ℕ, true, false, None, Some, Err, IsTrue, IfOk, IfErr, OnOk, OnErr, refl};
+ghost use Rattle.tee_base.specs.Faults.{Rose};
+ghost use Rattle.tee_base.specs.declared.limits.TheConstants.{BOARD_BLOCKS};
+ghost use Rattle.store_api.specs.Volumes.{Held};
+ghost use Rattle.board.specs.Moment.{IsCounter};
+ghost use Rattle.board.specs.Runs.{Rests};
+ghost use Rattle.board.specs.Steps.{CallRun};
+ghost use Rattle.epoch.specs.Forms.{held};
+ghost use Rattle.epoch.specs.Mounting.{MountsTo, after_found};
+ghost use Rattle.epoch.specs.Mounts.{IsKeptFromOpening, IsRefusal, after_opening};
+ghost use Rattle.epoch.specs.Past.{KeepsPast};
 ghost use Rattle.epoch.specs.declared.answer.OpenAnswer.TheVariants as refusals;
-ghost use Rattle.flat_volume.specs.Flat.{zero_table};
+ghost use Rattle.epoch.specs.declared.header.Header.{Header as Kept};
+ghost use Rattle.flat_volume.specs.Flat.{flat, zero_table};
+ghost use Rattle.flat_volume.specs.Keeping.{IsOpen, IsVerified, held_now};
+ghost use Rattle.flat_volume.specs.Opens.{Opens};
 
 use crate::table::Table;
 use crate::volume::{FlatVolume, Opened};
 use crate::write::{FlatChange, NO_ROOT};
-use board::{Board, BoardFailed};
-use epoch::{OpenAnswer, Unopened, VOLUME_BLOCKS, commit, find_header};
+use board::Board;
+use epoch::{
+    BoardVolume, FLAT_VERSION, Header, OpenAnswer, Unopened, VOLUME_BLOCKS, commit, mount,
+    mount_after_power, mount_again,
+};
 use seal::Keys;
 use std::alloc::Global;
 
-/// Finds the header that counts, and formats a blank board.
-fn open_board<B: Board>(alloc: Global, board: &mut B) -> Result<Opened, OpenAnswer> {
-    match find_header(board)? {
-        Some(header) => Ok(Opened {
-            root: header.root,
-            sequence: header.sequence,
-            table: None,
-        }),
+/// Opens a board; one that is blank is formatted.
+fn open_board<B: Board>(alloc: Global, board: &mut B) -> Result<Opened, OpenAnswer>
+    ensures calls { CallRun true (B.view board.old) (B.view board.new) }
+    ensures cause { result ≡ Err refusals.Failed
+        → Rose (B.view board.old).state.faults (B.view board.new).state.faults }
+    ensures size { OnOk result (BOARD_BLOCKS ≤ (B.view board.old).size) }
+    ensures verified { IfOk result (λ o. IsVerified (B.view board.old).key o.table o.root) }
+    ensures honest { B.honest board.old → B.honest board.new }
+    ensures rule { IsTrue B.tells_reads → (counter : ℕ)
+        × IfErr result (λ why. IsRefusal flat (B.view board.old)
+        (B.view board.old).state.reads counter why) }
+    ensures exact { B.honest board.old → (counter : ℕ) × IsCounter (B.view board.old).state counter
+        × IfErr result (λ why. IsRefusal flat (B.view board.old)
+        (B.view board.old).state.reads counter why) }
+    ensures opens { B.honest board.old → (n : ℕ) (h : Held) → Rests n (B.view board.old).state
+        → BOARD_BLOCKS ≤ (B.view board.old).size
+        → held flat (B.view board.old).key (B.view board.old).state.reads n ≡ Some h
+        → Opens h (after_opening flat (B.view board.old) h) result (B.view board.old)
+        (B.view board.new) }
+{
+    let found = mount(board, FLAT_VERSION)?;
+    take_up(alloc, board, found)
+}
+
+/// Takes up the header that was found; where there is none, the board is formatted.
+fn take_up<B: Board>(
+    alloc: Global,
+    board: &mut B,
+    found: Option<Header>,
+) -> Result<Opened, OpenAnswer>
+    requires { VOLUME_BLOCKS ≤ (B.view board.old).size }
+    ensures calls { CallRun true (B.view board.old) (B.view board.new) }
+    ensures cause { result ≡ Err refusals.Failed
+        → Rose (B.view board.old).state.faults (B.view board.new).state.faults }
+    ensures kept { IfErr result (λ why. IsKeptFromOpening why) }
+    ensures verified { IfOk result (λ o. IsVerified (B.view board.old).key o.table o.root) }
+    ensures honest { B.honest board.old → B.honest board.new }
+    ensures past { B.honest board.old → KeepsPast (B.view board.old) (B.view board.new) }
+    ensures same { (header : Kept) → found ≡ Some header
+        → (B.view board.new ≡ B.view board.old) × OnErr result ⊥ }
+    ensures opens { B.honest board.old → (h : Held)
+        → MountsTo flat (B.view board.old).key h (B.view board.old).state found
+        → Opens h (after_found found h) result (B.view board.old) (B.view board.new) }
+{
+    match found {
+        Some(header) => Ok(opened_at(header)),
         None => format_board(alloc, board),
+    }
+}
+
+/// The root and the sequence of a header. Its table isn't read yet.
+fn opened_at(header: Header) -> Opened
+    ensures root { result.root ≡ header.root }
+    ensures sequence { result.sequence ≡ header.sequence }
+    ensures table { result.table ≡ None }
+{
+    Opened {
+        root: header.root,
+        sequence: header.sequence,
+        table: None,
     }
 }
 
 /// Formats a blank board: a commit of no leaf to the sequence 1.
 fn format_board<B: Board>(alloc: Global, board: &mut B) -> Result<Opened, OpenAnswer>
     requires { VOLUME_BLOCKS ≤ (B.view board.old).size }
+    ensures calls { CallRun true (B.view board.old) (B.view board.new) }
+    ensures cause { result ≡ Err refusals.Failed
+        → Rose (B.view board.old).state.faults (B.view board.new).state.faults }
+    ensures kept { IfErr result (λ why. IsKeptFromOpening why) }
+    ensures verified { IfOk result (λ o. IsVerified (B.view board.old).key o.table o.root) }
+    ensures honest { B.honest board.old → B.honest board.new }
+    ensures past { B.honest board.old → KeepsPast (B.view board.old) (B.view board.new) }
+    ensures opens { B.honest board.old → (h : Held)
+        → MountsTo flat (B.view board.old).key h (B.view board.old).state None
+        → Opens h (after_found None h) result (B.view board.old) (B.view board.new) }
 {
     let keys = Keys::of(&board.key());
     let mut change = FlatChange {
@@ -54,19 +131,59 @@ fn blank_table(alloc: Global) -> Result<Table, OpenAnswer>
     }
 }
 
-/// Makes durable what reads give, and opens the board.
-fn open_again<B: Board>(alloc: Global, board: &mut B) -> Result<Opened, OpenAnswer> {
-    board.sync()?;
-    open_board(alloc, board)
+impl<B: Board + Drop> FlatVolume<B> {
+    /// Takes up what was found on the board, where it is lost until then.
+    fn resume(&mut self, found: Option<Header>) -> Result<u64, OpenAnswer>
+        ensures calls { CallRun true (B.view self.old.board) (B.view self.new.board) }
+        ensures cause { result ≡ Err refusals.Failed
+            → Rose (B.view self.old.board).state.faults (B.view self.new.board).state.faults }
+        ensures kept { IfErr result (λ why. IsKeptFromOpening why) }
+        ensures works { IfOk result (λ sequence. self.new.lost ≡ false) }
+        ensures lost { OnErr result (self.new.lost ≡ true) }
+        ensures sequence { IfOk result (λ sequence. self.new.sequence ≡ sequence) }
+        ensures honest { B.honest self.old.board → B.honest self.new.board }
+        ensures past { B.honest self.old.board
+            → KeepsPast (B.view self.old.board) (B.view self.new.board) }
+        ensures same { (header : Kept) → found ≡ Some header
+            → (B.view self.new.board ≡ B.view self.old.board) × OnErr result ⊥ }
+        ensures opened { B.honest self.old.board → (h : Held)
+            → MountsTo flat (B.view self.old.board).key h (B.view self.old.board).state found
+            → IfOk result (λ sequence.
+            IsOpen (B.view self.new.board) self.new.root self.new.sequence self.new.table
+            × (held_now (B.view self.new.board) self.new.root self.new.sequence
+            ≡ after_found found h)) }
+    {
+        self.lost = true;
+        self.table = None;
+        let Opened {
+            root,
+            sequence,
+            table,
+        } = take_up(self.alloc, &mut self.board, found)?;
+        self.root = root;
+        self.sequence = sequence;
+        self.table = table;
+        self.lost = false;
+        Ok(sequence)
+    }
 }
 
-impl<B: Board + Drop> FlatVolume<B> {
-    /// Opens a board; one that is blank is formatted.
-    ///
-    /// # Errors
-    ///
-    /// As the opening rule refuses, `Failed` where a call of the board failed, and `NoMemory`. The board is handed back.
-    pub fn open(alloc: Global, board: B) -> Result<FlatVolume<B>, Unopened<B>> {
+impl<B: Board + Drop> BoardVolume<B> for FlatVolume<B> {
+    ghost form = { flat };
+
+    ghost board_of = { λ v. v.board };
+
+    ghost seen = { λ v. record {
+      faults = refl;
+      foundation = refl;
+      moment = refl;
+      left = λ t o left. left;
+      left_back = λ t c left. (c, left, refl);
+    } };
+
+    ghost honest_board = { λ v h. h.0 };
+
+    fn open(alloc: Global, board: B) -> Result<FlatVolume<B>, Unopened<B>> {
         let mut board = board;
         match open_board(alloc, &mut board) {
             Ok(
@@ -87,44 +204,25 @@ impl<B: Board + Drop> FlatVolume<B> {
         }
     }
 
-    /// The board.
-    pub fn into_board(self) -> B {
-        self.board
-    }
-
-    /// Opens the board again, after what a failed commit may have left pending is synced, and answers the sequence. The
-    /// table is read again when it is needed.
-    ///
-    /// # Errors
-    ///
-    /// As `open`. The volume is lost then.
-    pub fn reopen(&mut self) -> Result<u64, OpenAnswer> {
+    fn reopen(&mut self) -> Result<u64, OpenAnswer> {
         self.lost = true;
         self.table = None;
-        let Opened {
-            root,
-            sequence,
-            table,
-        } = open_again(self.alloc, &mut self.board)?;
-        self.root = root;
-        self.sequence = sequence;
-        self.table = table;
-        self.lost = false;
-        Ok(sequence)
+        let found = mount_again(&mut self.board, FLAT_VERSION)?;
+        self.resume(found)
     }
 
-    /// A loss of power of the board, which is then opened again, as `reopen` does.
-    ///
-    /// # Errors
-    ///
-    /// As `reopen`.
-    pub fn power(&mut self, pick: u64) -> Result<u64, OpenAnswer> {
-        self.board.power(pick);
-        self.reopen()
+    fn power(&mut self, pick: u64) -> Result<u64, OpenAnswer> {
+        self.lost = true;
+        self.table = None;
+        let found = mount_after_power(&mut self.board, pick, FLAT_VERSION)?;
+        self.resume(found)
     }
 
-    /// Lets so many calls of the board pass, as the board's `fuse` does.
-    pub fn fuse(&mut self, calls: u32) {
+    fn fuse(&mut self, calls: u32) {
         self.board.fuse(calls);
+    }
+
+    fn into_board(self) -> B {
+        self.board
     }
 }

@@ -1,5 +1,5 @@
 //! A flat volume on a board.
-ghost use Rattle.std.specs.Prelude.{◌≡◌, ◌≢◌, ◌≤◌, ◌<◌, ◌+◌, ◌-◌, ◌^◌, ◌⊎◌, false, [], Option, Some, Err, IsTrue, IfOk};
+ghost use Rattle.std.specs.Prelude.{◌≡◌, ◌≢◌, ◌≤◌, ◌<◌, ◌+◌, ◌-◌, ◌^◌, ◌⊎◌, true, false, [], Option, Some, Err, IsTrue, IfOk};
 ghost use Rattle.std.proofs.Props.{props};
 ghost use Rattle.tee_base.specs.Crash.{read_as};
 ghost use Rattle.tee_base.specs.Faults.{Rose};
@@ -218,9 +218,9 @@ impl<B: Board + Drop> Volume for FlatVolume<B> {
                 self.table = table;
                 Ok(sequence)
             }
-            Err(answer) => {
-                self.lost = is_failed(answer);
-                Err(answer)
+            Err(why) => {
+                self.lost = is_failed(why);
+                Err(why)
             }
         }
     }

@@ -12,7 +12,7 @@ use Rattle.region_plan.specs.Reading.{IfGarbled, ReadsOnly, refusal_of}
 use Rattle.region_plan.specs.Regions.{breaks}
 use Rattle.object_dir.specs.Changing.{IsRegionCall}
 use Rattle.object_dir.specs.Directories.{damage_of, damage_told, dir_keeper}
-use Rattle.object_dir.specs.Regions.{HasStore, number_of, region_keeper, remains_in, store_in}
+use Rattle.object_dir.specs.Regions.{HasStore, kept_in, number_of, region_keeper, remains_in, store_in}
 use Rattle.object_dir.specs.declared.directory.ObjectDir.{ObjectDir}
 use Rattle.object_dir.specs.declared.region.Region.{Region}
 use Rattle.object_dir.proofs.AnswerLemmas.{cause_of, corrupt_under, garbled_never, intact_of, reports_of, tells_of}
@@ -55,10 +55,11 @@ module _ {V : Type 0} (K : VolumeKeeper V) where
     same_outcome o = ap (λ (k : ℕ). remains_in k o) (same_number K old.region new.region call.foundation)
 
     -- a call on a region is a call of its store
-    pub store_call : (HasStore K old.region → HasStore K new.region) → IfGarbled (refusal_of result) (λ leaf. leaf < LEAVES)
+    pub store_call : (HasStore K old.region → HasStore K new.region) → (HasStore K old.region → IsTrue (K.condition new.region.volume.now).lost → kept_in K new.region ≡ kept_in K old.region) → IfGarbled (refusal_of result) (λ leaf. leaf < LEAVES)
         → new.damage_reports ≡ old.damage_reports + damage_told (refusal_of result) → new.change_attempts ≡ old.change_attempts + tried → IsCall (dir_keeper K) tried result old new
-    store_call stands few reports attempts = record {
+    store_call stands still few reports attempts = record {
       model = stands;
+      still = still;
       limits = λ has. (kept_limits K old.region has, kept_limits K new.region (stands has));
       cause = record {
         cause = cause_of result ((region_keeper K).condition old.region) ((region_keeper K).condition new.region) old.damage_reports old.change_attempts new.damage_reports new.change_attempts call.cause;

@@ -1,5 +1,6 @@
 -- How a change of the objects of a region ends: refused, without a leaf that changes, or with one commit.
-use Rattle.std.proofs.Common.{◌≡◌, ◌≤◌, ◌<◌, ℕ, false, List, [], ◌∷◌, length, Option, None, Some, Result, Ok, Err, refl, sym, ap, ◌∙◌, subst, arith}
+use Rattle.std.proofs.Common.{◌≡◌, ◌≤◌, ◌<◌, ℕ, Bool, false, List, [], ◌∷◌, length, Option, None, Some, Result, Ok, Err, refl, sym, ap, ◌∙◌, subst, arith}
+use Rattle.std.specs.Prelude.{IfSome}
 use Rattle.tee_base.specs.Crash.{LeavesOnly}
 use Rattle.tee_base.specs.declared.limits.TheConstants.{LEAVES}
 use Rattle.tee_base.proofs.Crash.{joined, weaker}
@@ -13,12 +14,12 @@ use Rattle.store_api.specs.Volumes.{Commits, CommitsLeaves, Held, LeftByCommit, 
 use Rattle.region_plan.specs.Layout.{version_one}
 use Rattle.region_plan.specs.Planning.{IsPlanOf, PlansChange}
 use Rattle.region_plan.specs.Reading.{refusal_of}
-use Rattle.object_dir.specs.Changing.{ChangesRegion, CommitsRegion, IsRegionCall, done_of}
+use Rattle.object_dir.specs.Changing.{ChangesLeaves, ChangesRegion, CommitsRegion, IsRegionCall, done_of, planned_leaves}
 use Rattle.object_dir.specs.Regions.{HasStore, contents_in, kept_in, number_of, region_in, region_keeper, remains_in, store_in, store_or_empty}
 use Rattle.object_dir.specs.declared.region.Region.{Region}
 use Rattle.object_dir.proofs.AnswerLemmas.{commit_cause, commit_corrupt, commit_garbled, commit_one, left_before, not_both}
 use Rattle.object_dir.proofs.CallLemmas.{from_reads, reads_go_on, reads_stand}
-use Rattle.object_dir.proofs.CommitLemmas.{commit_applied, commit_left, commit_stands}
+use Rattle.object_dir.proofs.CommitLemmas.{commit_applied, commit_idle, commit_left, commit_stands}
 use Rattle.object_dir.proofs.HeldLemmas.{reads_back, same_contents}
 use Rattle.object_dir.proofs.PlaceLemmas.{same_number}
 
@@ -47,6 +48,7 @@ module _ {V : Type 0} (K : VolumeKeeper V) (c : Change) where
       stands = reads_stand K (refusal_of planned) old new plan.reads;
       applied = applied;
       one = let same : (K.held new.volume.now).sequence ≡ (K.held old.volume.now).sequence = plan.reads.sequence in omega arith;
+      idle = λ h same. plan.reads.sequence;
       crash = plan_leaves;
     }
 
@@ -65,7 +67,7 @@ module _ {V : Type 0} (K : VolumeKeeper V) (c : Change) where
       let same : store_in n h ≡ plan.after = ap (λ (r : Result Store ℕ). store_or_empty r) (sym is ∙ plan.stands) in
       plan.changes ∙ ap (λ (s : Store). Ok s) (sym same)
 
-  pub nothing_changes : (old new : Region V) → PlansChange (region_keeper K) number_of version_one c (Ok []) old new → ChangesRegion K c (Ok tt) old new
+  nothing_changes : (old new : Region V) → PlansChange (region_keeper K) number_of version_one c (Ok []) old new → ChangesRegion K c (Ok tt) old new
   nothing_changes old new plan =
       ends_with_plan (Ok []) (Ok tt) old new refl plan
       (λ has.
@@ -76,17 +78,6 @@ module _ {V : Type 0} (K : VolumeKeeper V) (c : Change) where
         let e : (kept_in K new).number ≡ (kept_in K old).number = ap (λ (x : Contents). x.number) same
             in omega arith,
       ))
-
-  no_leaf : (seen : List Leaf) → length seen ≡ 0 → seen ≡ []
-  no_leaf [] none = refl
-  no_leaf (leaf ∷ leaves) none = absurd (omega arith)
-
-  -- the same, by what is seen of the plan
-  pub no_leaf_changes : (named seen : List Leaf) (old new : Region V) → seen ≡ named → length seen ≡ 0 → PlansChange (region_keeper K) number_of version_one c (Ok named) old new
-      → ChangesRegion K c (Ok tt) old new
-  no_leaf_changes named seen old new same none plan =
-      let empty : named ≡ [] = sym same ∙ no_leaf seen none in
-      nothing_changes old new (subst (λ (l : List Leaf). PlansChange (region_keeper K) number_of version_one c (Ok l) old new) empty plan)
 
   -- planned leaves, and one commit of them
   module _ (named : List Leaf) (answer : Result ℕ LeafAnswer) (old mid new : Region V) (plan : PlansChange (region_keeper K) number_of version_one c (Ok named) old mid)
@@ -119,26 +110,26 @@ module _ {V : Type 0} (K : VolumeKeeper V) (c : Change) where
     }
 
     -- the commit, from what was held before the plan
+    made : K.honest old.volume.now → Commits answer old.number named (K.held old.volume.now) (K.held new.volume.now)
+    made h =
+        subst (λ (x : Held). Commits answer old.number named x (K.held new.volume.now)) (plan.reads.same h)
+        (subst (λ (k : ℕ). Commits answer k named (K.held mid.volume.now) (K.held new.volume.now)) plan.reads.same_region (commit.committed (plan.reads.honest h).0))
+
     module _ (has : HasStore K old) where
       plan_of : IsPlanOf version_one ((K.held old.volume.now).leaves old.number) (store_in old.number (K.held old.volume.now)) c named
       plan_of = plan.plans has.honest (store_in old.number (K.held old.volume.now)) has.stands
-
-      made : Commits answer old.number named (K.held old.volume.now) (K.held new.volume.now)
-      made =
-          subst (λ (x : Held). Commits answer old.number named x (K.held new.volume.now)) (plan.reads.same has.honest)
-          (subst (λ (k : ℕ). Commits answer k named (K.held mid.volume.now) (K.held new.volume.now)) plan.reads.same_region (commit.committed (plan.reads.honest has.honest).0))
 
       commit_has : HasStore K new
       commit_has = record {
         honest = (commit.call.honest (plan.reads.honest has.honest).0).0;
         stands = subst (λ (k : ℕ). region_in k (K.held new.volume.now) ≡ Ok (store_in k (K.held new.volume.now))) (sym number)
-            (commit_stands c named old.number (K.held old.volume.now) has.stands plan_of answer (K.held new.volume.now) made);
+            (commit_stands c named old.number (K.held old.volume.now) has.stands plan_of answer (K.held new.volume.now) (made has.honest));
       }
 
       commit_applies : Applied (done_of answer) (change (kept_in K old).store c) (kept_in K old) (kept_in K new)
       commit_applies =
           subst (λ (k : ℕ). Applied (done_of answer) (change (kept_in K old).store c) (kept_in K old) (contents_in k (K.held new.volume.now))) (sym number)
-          (commit_applied c named old.number (K.held old.volume.now) has.stands plan_of answer (K.held new.volume.now) made)
+          (commit_applied c named old.number (K.held old.volume.now) has.stands plan_of answer (K.held new.volume.now) (made has.honest))
 
       commit_remains : (o : Option Held) → LeftByCommit answer (K.held mid.volume.now) (after_commit mid.number named (K.held mid.volume.now)) o
           → LeftByChange (done_of answer) (kept_in K old) (change (kept_in K old).store c) (remains_in new.number o)
@@ -163,19 +154,32 @@ module _ {V : Type 0} (K : VolumeKeeper V) (c : Change) where
           (λ o. LeftByChange (done_of answer) (kept_in K old) (change (kept_in K old).store c) (remains_in new.number o))
           commit_remains (commit.crash (plan.reads.honest has.honest).0 works_then))
 
-    by_answer : ChangesRegion K c (done_of answer) old new
-    by_answer = record {
+    by_answer : ChangesLeaves K old named → ChangesRegion K c (done_of answer) old new
+    by_answer changes = record {
       call = commit_call;
       stands = commit_has;
       applied = commit_applies;
       one = let same : (K.held mid.volume.now).sequence ≡ (K.held old.volume.now).sequence = plan.reads.sequence in let rises = commit_one answer (K.held mid.volume.now).sequence
           (K.held new.volume.now).sequence commit.sequence in omega arith;
+      idle = λ h same. commit_idle named old.number (K.held old.volume.now) answer (K.held new.volume.now) (made h) (changes h) same;
       crash = commit_leaves;
     }
 
   -- a change that is committed
-  pub change_committed : (named : List Leaf) (result : Result (Unit {0}) StoreAnswer) (old mid new : Region V) → PlansChange (region_keeper K) number_of version_one c (Ok named) old mid
-      → CommitsRegion K named result mid new → ChangesRegion K c result old new
-  change_committed named result old mid new plan commit =
+  change_committed : (named : List Leaf) (result : Result (Unit {0}) StoreAnswer) (old mid new : Region V) → PlansChange (region_keeper K) number_of version_one c (Ok named) old mid
+      → ChangesLeaves K old named → CommitsRegion K named result mid new → ChangesRegion K c result old new
+  change_committed named result old mid new plan changes commit =
       subst (λ (r : Result (Unit {0}) StoreAnswer). ChangesRegion K c r old new) (sym commit.told)
-      (by_answer named commit.answer old mid new plan commit.commits)
+      (by_answer named commit.answer old mid new plan commit.commits changes)
+
+  -- the same by what a plan answered
+  pub committed_as : (planned : Option (List Leaf)) (named : List Leaf) (result : Result (Unit {0}) StoreAnswer) (old mid new : Region V) → planned ≡ Some named
+      → PlansChange (region_keeper K) number_of version_one c (planned_leaves (Ok planned)) old mid → IfSome planned (λ leaves. ChangesLeaves K old leaves) → CommitsRegion K named result mid new
+      → ChangesRegion K c result old new
+  committed_as planned named result old mid new is plan changes commit =
+      change_committed named result old mid new (subst (λ (o : Option (List Leaf)). PlansChange (region_keeper K) number_of version_one c (planned_leaves (Ok o)) old mid) is plan)
+      (subst (λ (o : Option (List Leaf)). IfSome o (λ leaves. ChangesLeaves K old leaves)) is changes) commit
+
+  pub nothing_as : (planned : Option (List Leaf)) (old new : Region V) → planned ≡ None → PlansChange (region_keeper K) number_of version_one c (planned_leaves (Ok planned)) old new
+      → ChangesRegion K c (Ok tt) old new
+  nothing_as planned old new is plan = nothing_changes old new (subst (λ (o : Option (List Leaf)). PlansChange (region_keeper K) number_of version_one c (planned_leaves (Ok o)) old new) is plan)

@@ -9,9 +9,16 @@ use Rattle.store_api.specs.Stores.{change}
 use Rattle.store_api.specs.Volumes.{Commits, Held, LeftByCommit, after_commit}
 use Rattle.region_plan.specs.Layout.{version_one}
 use Rattle.region_plan.specs.Planning.{IsPlanOf}
+use Rattle.region_plan.specs.Plans.{with_leaves}
 use Rattle.object_dir.specs.Changing.{done_of}
 use Rattle.object_dir.specs.Regions.{contents_in, region_in, remains_in, rest_of, store_in}
-use Rattle.object_dir.proofs.HeldLemmas.{after_changes, after_remains, after_rest, after_stands, reads_back}
+use Rattle.object_dir.proofs.HeldLemmas.{after_changes, after_remains, after_rest, after_stands, own_leaves, reads_back}
+
+-- an acknowledged commit of leaves that change a region changes it
+pub commit_idle : (named : List Leaf) (n : ℕ) (h : Held) (answer : Result ℕ LeafAnswer) (g : Held) → Commits answer n named h g → (with_leaves named (h.leaves n) ≡ h.leaves n → ⊥)
+    → g.leaves n ≡ h.leaves n → g.sequence ≡ h.sequence
+commit_idle named n h (Ok sequence) g made changes same = absurd (changes (sym (own_leaves n named h.leaves) ∙ (sym (ap (λ (x : Held). x.leaves n) made.0) ∙ same)))
+commit_idle named n h (Err answer) g made changes same = ap (λ (x : Held). x.sequence) made
 
 module _ (c : Change) (named : List Leaf) (n : ℕ) (h : Held) (is : region_in n h ≡ Ok (store_in n h)) (plan : IsPlanOf version_one (h.leaves n) (store_in n h) c named) where
   pub commit_stands : (answer : Result ℕ LeafAnswer) (g : Held) → Commits answer n named h g → region_in n g ≡ Ok (store_in n g)

@@ -25,6 +25,12 @@ same_when_lost : {A : Type 0} (result : Result A StoreAnswer) (cold cnew : Condi
 same_when_lost (Ok a) cold cnew stated old new lost cause applied = not_both cold.lost lost cause.0
 same_when_lost (Err refusal) cold cnew stated old new lost cause applied = applied.1
 
+-- a change after which the volume is lost: nothing is changed
+still_when_lost : {A : Type 0} (result : Result A StoreAnswer) (cold cnew : Condition) (stated : Result Store StoreAnswer) (old new : Contents) → cnew.lost ≡ true
+    → ReadCause (refusal_of result) cold cnew → Applied result stated old new → new ≡ old
+still_when_lost (Ok a) cold cnew stated old new lost cause applied = not_both cnew.lost lost cause.1
+still_when_lost (Err refusal) cold cnew stated old new lost cause applied = applied.1
+
 -- a change that ends over a volume that works, or failed
 when_it_works : {A : Type 0} (result : Result A StoreAnswer) (cold cnew : Condition) (fact : Type 0) → cold.lost ≡ false → ReadCause (refusal_of result) cold cnew → (cnew.lost ≡ false → fact)
     → UnlessFailed result fact
@@ -88,7 +94,8 @@ module _ {V : Type 0} (K : VolumeKeeper V) where
       answer = λ has. read.answer has.honest (store_in old.region.number (K.held old.region.volume.now)) has.stands;
       same = λ has. same_contents new.region.number old.region.number (K.held new.region.volume.now) (K.held old.region.volume.now) read.reads.same_region (read.reads.same has.honest);
       bounds = read.bounds;
-      call = store_call K result 0 old new read_call (reads_stand K (refusal_of result) old.region new.region read.reads) few reports (let e = attempts in omega arith);
+      call = store_call K result 0 old new read_call (reads_stand K (refusal_of result) old.region new.region read.reads)
+          (λ has lost. same_contents new.region.number old.region.number (K.held new.region.volume.now) (K.held old.region.volume.now) read.reads.same_region (read.reads.same has.honest)) few reports (let e = attempts in omega arith);
       crash = read_crash;
     }
 
@@ -128,7 +135,8 @@ module _ {V : Type 0} (K : VolumeKeeper V) where
     pub store_applies : Applies (dir_keeper K) c result old new
     store_applies = record {
       applied = made.applied;
-      call = store_call K result 1 old new made.call made.stands few reports attempts;
+      call = store_call K result 1 old new made.call made.stands
+          (λ has lost. still_when_lost result ((region_keeper K).condition old.region) ((region_keeper K).condition new.region) (change (kept_in K old.region).store c) (kept_in K old.region) (kept_in K new.region) lost made.call.cause (made.applied has)) few reports attempts;
       crash = made_crash;
     }
 

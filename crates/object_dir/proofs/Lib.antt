@@ -4,4 +4,6 @@ pub mod ChangeLemmas
 pub mod CommitLemmas
 pub mod DirectoryLemmas
 pub mod HeldLemmas
+pub mod IdleLemmas
 pub mod PlaceLemmas
+pub mod PlannedLemmas

@@ -1,5 +1,6 @@
 -- What a call on a region promises, and what a change of its objects comes to.
-use Rattle.std.specs.Prelude.{ℕ, ◌≡◌, ◌+◌, ◌≤◌, ◌<◌, false, List, Option, Some, Result, Ok, Err, IsTrue}
+use Rattle.std.specs.Prelude.{ℕ, ◌≡◌, ◌≢◌, ◌+◌, ◌≤◌, ◌<◌, Bool, false, List, [], bytes_eq, Option, None, Some, Result, Ok, Err, IsTrue}
+use Rattle.std.specs.List.{list_all}
 use Rattle.tee_base.specs.Crash.{LeavesOnly}
 use Rattle.tee_base.specs.declared.limits.TheConstants.{LEAVES}
 use Rattle.store_api.specs.declared.answer.StoreAnswer.{StoreAnswer}
@@ -11,6 +12,7 @@ use Rattle.store_api.specs.Stores.{change}
 use Rattle.store_api.specs.Volumes.{Held, VolumeKeeper, AddsNothing, CommitsLeaves}
 use Rattle.region_plan.specs.Layout.{version_one}
 use Rattle.store_api.specs.Refusals.{store_answer}
+use Rattle.region_plan.specs.Plans.{with_leaves}
 use Rattle.region_plan.specs.Reading.{ReadCause, IfCorrupt, IfGarbled, refusal_of}
 use Rattle.region_plan.specs.Regions.{breaks}
 use Rattle.object_dir.specs.Regions.{HasStore, kept_in, region_keeper, remains_in}
@@ -21,7 +23,21 @@ abbrev pub done_of : Result ℕ LeafAnswer → Result (Unit {0}) StoreAnswer
 done_of (Ok sequence) = Ok tt
 done_of (Err answer) = Err (store_answer answer)
 
+-- leaves of a region have these bytes already
+abbrev pub are_there : (ℕ → List ℕ) → List Leaf → Bool
+are_there leaves named = list_all (λ leaf. bytes_eq (leaves leaf.number) leaf.bytes) named
+
+-- the leaves of a plan, which are none where nothing is to be written
+abbrev pub planned_leaves : Result (Option (List Leaf)) StoreAnswer → Result (List Leaf) StoreAnswer
+planned_leaves (Ok None) = Ok []
+planned_leaves (Ok (Some named)) = Ok named
+planned_leaves (Err refusal) = Err refusal
+
 module _ {V : Type 0} (K : VolumeKeeper V) where
+  -- these leaves change a region of an honest volume
+  abbrev pub ChangesLeaves : Region V → List Leaf → Type 0
+  ChangesLeaves old named = K.honest old.volume.now → with_leaves named ((K.held old.volume.now).leaves old.number) ≢ (K.held old.volume.now).leaves old.number
+
   -- these leaves of a region are replaced by one commit of the volume
   pub record CommitsRegion (named : List Leaf) (result : Result (Unit {0}) StoreAnswer) (old new : Region V) : Type 0 where
     pub answer : Result ℕ LeafAnswer
@@ -50,6 +66,9 @@ module _ {V : Type 0} (K : VolumeKeeper V) where
     pub applied : HasStore K old → Applied result (change (kept_in K old).store c) (kept_in K old) (kept_in K new)
     -- one commit at most
     pub one : (K.held new.volume.now).sequence ≤ (K.held old.volume.now).sequence + 1
+    -- and none where each leaf of the region is as it was
+    pub idle : K.honest old.volume.now → (K.held new.volume.now).leaves old.number ≡ (K.held old.volume.now).leaves old.number
+        → (K.held new.volume.now).sequence ≡ (K.held old.volume.now).sequence
     -- a crash leaves the objects before the change or after it
     pub crash : HasStore K old → (K.condition old.volume.now).lost ≡ false
         → LeavesOnly (region_keeper K).moment (region_keeper K).left_since old new

@@ -53,6 +53,12 @@ module _ {V : Type 0} (K : VolumeKeeper V) where
   abbrev pub IsOneCommit : ObjectDir V → ObjectDir V → Type 0
   IsOneCommit old new = (K.held new.region.volume.now).sequence ≤ (K.held old.region.volume.now).sequence + 1
 
+  -- an honest volume made no commit where each leaf of the region is as it was
+  abbrev pub IsIdle : ObjectDir V → ObjectDir V → Type 0
+  IsIdle old new = K.honest old.region.volume.now
+      → (K.held new.region.volume.now).leaves old.region.number ≡ (K.held old.region.volume.now).leaves old.region.number
+      → (K.held new.region.volume.now).sequence ≡ (K.held old.region.volume.now).sequence
+
 -- the store of a region of a volume that is this
 pub record IsOver {V : Type 0} (region : ℕ) (volume : V) (dir : ObjectDir V) : Type 0 where
   pub same_volume : dir.region.volume.now ≡ volume

@@ -3,8 +3,8 @@
 ghost use Rattle.store_api.specs.Limits.{IsChange};
 ghost use Rattle.object_dir.specs.Changing.{ChangesRegion};
 
+use crate::planned::plan_change;
 use crate::region::Region;
-use region_plan::plan;
 use std::alloc::Global;
 use store_api::{Change, StoreAnswer, Volume};
 
@@ -17,9 +17,8 @@ pub(crate) fn change_region<V: Volume>(
     requires { IsChange change.now }
     ensures { ChangesRegion V.keeper change.now result region.old region.new }
 {
-    let leaves = plan(alloc, region, change)?;
-    if leaves.as_slice().is_empty() {
-        return Ok(());
+    match plan_change(alloc, region, change)? {
+        Some(leaves) => region.commit(&leaves),
+        None => Ok(()),
     }
-    region.commit(&leaves)
 }

@@ -6,7 +6,7 @@ ghost use Rattle.store_api.specs.Limits.{IsIdentifier, IsChange, AreFacts, IsSec
 ghost use Rattle.store_api.specs.Stores.{found, secret_at, read_at, next_after as next_of};
 ghost use Rattle.tee_base.specs.declared.limits.TheConstants.{ASK_BYTES, HOSTS, LEAVES};
 ghost use Rattle.region_plan.specs.Reading.{refusal_of, IfGarbled};
-ghost use Rattle.object_dir.specs.Directories.{dir_keeper, damage_told, BreaksRule, IsOneCommit};
+ghost use Rattle.object_dir.specs.Directories.{dir_keeper, damage_told, BreaksRule, IsIdle, IsOneCommit};
 
 use crate::changing::change_region;
 use crate::region::Region;
@@ -131,12 +131,13 @@ impl<V: Volume> AppStore for ObjectDir<'_, V> {
         answer
     }
 
-    /// Besides, it makes one commit at most.
+    /// Besides, it makes one commit at most, and none where each leaf of the region stays as it was.
     fn apply(&mut self, change: &Change) -> Result<(), StoreAnswer>
         requires { IsChange change.now }
         ensures applies { Applies (dir_keeper V.keeper) change.now result self.old self.new }
         ensures garbled { BreaksRule V.keeper (refusal_of result) self.old }
         ensures one { IsOneCommit V.keeper self.old self.new }
+        ensures idle { IsIdle V.keeper self.old self.new }
     {
         self.change_attempts = self.change_attempts.one_more();
         let answer = change_region(self.alloc, &mut self.region, change);

@@ -3,6 +3,7 @@
 
 mod changing;
 mod directory;
+mod planned;
 mod region;
 #[cfg(test)]
 mod tests;

@@ -35,7 +35,9 @@ pub(crate) fn turn_over<V: Volume, A: Application>(
     ensures boot { boot_of side.new ≡ boot_of side.old }
 {
     let mut dir = ObjectDir::of(alloc, volume, region);
-    side.turn_into(instance, &mut dir, replies)
+    let kind = side.turn_into(instance, &mut dir, replies);
+    let _volume = dir.into_volume();
+    kind
 }
 
 /// The storage of all of them is lost.

@@ -82,6 +82,7 @@ fn no_commit(rt: HostRuntime) -> Result<(), Fail> {
     let alloc = rt.alloc();
     assert_eq!(rt; commits(alloc, Step::Truncate(b'a', 1500))?, 1);
     assert_eq!(rt; commits(alloc, Step::Write(b'a', 9, 0))?, 1);
+    assert_eq!(rt; commits(alloc, Step::Overwrite(b'a', 1500))?, 1);
     assert_eq!(rt; commits(alloc, Step::Write(b'a', 9, 1))?, 2);
     Ok(())
 }

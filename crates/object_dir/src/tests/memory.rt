@@ -19,14 +19,39 @@ pub enum Ending {
     FailsBehind,
 }
 
+/// The leaves of sixteen regions.
+#[derive(Drop)]
+struct Regions {
+    leaves: Vec<[u8; BLOCK_BYTES]>,
+    ghost whole: { vec_len leaves ≡ 4096 },
+}
+
+impl Regions {
+    ghost use Rattle.std.specs.Prelude.{◌<◌};
+
+    fn leaf(&self, region: u8, leaf: u8) -> [u8; BLOCK_BYTES]
+        requires { region < HOSTS }
+    {
+        self.leaves[LEAVES * region as usize + leaf as usize]
+    }
+
+    /// Replaces leaves of a region.
+    fn replace(&mut self, region: u8, named: &[Leaf])
+        requires { region < HOSTS }
+    {
+        for leaf in named {
+            self.leaves[LEAVES * region as usize + leaf.number as usize] = leaf.bytes;
+        }
+    }
+}
+
 #[derive(Drop)]
 pub struct Memory {
-    leaves: Vec<[u8; BLOCK_BYTES]>,
+    regions: Regions,
     sequence: u64,
     faults: u64,
     pub lost: bool,
     pub ending: Ending,
-    ghost whole: { vec_len leaves ≡ 4096 },
 }
 
 /// A volume of zeros.
@@ -34,7 +59,7 @@ pub fn blank(alloc: Global) -> Result<Memory, Fail> {
     let mut leaves = Vec::new(alloc);
     leaves.resize(HOSTS * LEAVES, [0; BLOCK_BYTES])?;
     Ok(Memory {
-        leaves,
+        regions: Regions { leaves },
         sequence: 0,
         faults: 0,
         lost: false,
@@ -42,22 +67,19 @@ pub fn blank(alloc: Global) -> Result<Memory, Fail> {
     })
 }
 
-/// Replaces leaves of a region.
-fn replace(leaves: &mut Vec<[u8; BLOCK_BYTES]>, region: u8, named: &[Leaf])
-    requires whole { vec_len leaves.old ≡ 4096 }
-    requires region { region < HOSTS }
-    ensures { vec_len leaves.new ≡ 4096 }
-{
-    for leaf in named {
-        leaves[LEAVES * region as usize + leaf.number as usize] = leaf.bytes;
-    }
-}
-
 impl Memory {
-    ghost use Rattle.std.specs.Prelude.{◌≡◌, ◌<◌};
+    ghost use Rattle.std.specs.Prelude.{◌≡◌, ◌≤◌, true};
+    ghost use Rattle.tee_base.specs.Faults.{Rose};
+    ghost use Rattle.store_api.specs.declared.leaves.LeafAnswer.TheVariants.{Failed};
 
     /// Fails, and is lost.
-    fn fail(&mut self) -> LeafAnswer {
+    fn fail(&mut self) -> LeafAnswer
+        ensures answer { result ≡ Failed }
+        ensures lost { self.new.lost ≡ true }
+        ensures later { self.old.faults ≤ self.new.faults }
+        ensures cause { Rose self.old.faults self.new.faults }
+        ensures sequence { self.new.sequence ≡ self.old.sequence }
+    {
         self.faults = self.faults.saturating_add(1);
         self.lost = true;
         LeafAnswer::Failed
@@ -92,7 +114,7 @@ impl Volume for Memory {
         if self.lost {
             return Err(LeafAnswer::Lost);
         }
-        *into = self.leaves[LEAVES * region as usize + leaf as usize];
+        *into = self.regions.leaf(region, leaf);
         Ok(())
     }
 
@@ -103,7 +125,7 @@ impl Volume for Memory {
         if matches!(self.ending, Ending::FailsBefore) || self.sequence == u64::MAX {
             return Err(self.fail());
         }
-        replace(&mut self.leaves, region, leaves.as_slice());
+        self.regions.replace(region, leaves.as_slice());
         if matches!(self.ending, Ending::FailsBehind) {
             return Err(self.fail());
         }

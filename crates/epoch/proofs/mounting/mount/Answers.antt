@@ -1,7 +1,12 @@
 use Rattle.epoch.proofs.MountLemmas.{mounts_found}
+use Rattle.epoch.proofs.SettledLemmas.{settled_blocks}
 use Rattle.epoch.proofs.mounting.mount.Goals as goal
 
 pub returns-clause-holds : goal.returns-clause-holds
 returns-clause-holds g c honest f h framed same large holding =
     mounts_found f framed c.args.version same h (g.B.Board.view c.args.board.now) (g.B.Board.view c.find_version.new.board) holding (g.met.B.Board.consistent c.args.board.now honest).counter large
     c.find_version.result (c.find_version.ensures.exact honest) (c.find_version.ensures.blocks honest) (c.find_version.ensures.counter honest) (c.find_version.ensures.run honest)
+
+pub returns-clause-settled : goal.returns-clause-settled
+returns-clause-settled g c honest =
+    settled_blocks (g.B.Board.view c.args.board.now).state (g.B.Board.view c.find_version.new.board).state (c.find_version.ensures.blocks honest)

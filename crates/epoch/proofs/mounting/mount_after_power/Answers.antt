@@ -1,5 +1,6 @@
 use Rattle.std.proofs.Common.{◌≡◌, arith}
 use Rattle.epoch.proofs.MountLemmas.{after_power, power_in_use, refused_so}
+use Rattle.epoch.proofs.SettledLemmas.{settled_on, settled_power}
 use Rattle.epoch.proofs.mounting.mount_after_power.Goals as goal
 
 pub returns-clause-exact : goal.returns-clause-exact
@@ -23,3 +24,10 @@ returns-clause-again g c h f framed same large used =
     after_power f (g.B.Board.view c.args.board.now) (g.B.Board.view c.power.new.self) call.key step.1 step.2 (g.B.Board.view c.mount_again.new.board) c.mount_again.result
     (c.mount_again.ensures.again step.0 f framed same (omega (arith, large, call.size))
     (power_in_use f (g.B.Board.view c.args.board.now) (g.B.Board.view c.power.new.self) call.key step.1 step.2 used))
+
+pub returns-clause-settled : goal.returns-clause-settled
+returns-clause-settled g c h =
+    let step = c.power.ensures.honest h in
+    let v = g.B.Board.view c.args.board.now in
+    let mid = (g.B.Board.view c.power.new.self).state in
+    settled_on v.state mid (g.B.Board.view c.mount_again.new.board).state (settled_power v mid (g.met.B.Board.consistent c.args.board.now h) step.2) (c.mount_again.ensures.settled step.0)

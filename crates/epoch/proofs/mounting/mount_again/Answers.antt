@@ -1,5 +1,6 @@
 use Rattle.std.proofs.Common.{refl, arith, rules}
 use Rattle.epoch.proofs.MountLemmas.{again_failed, again_found, refused_so, stopped}
+use Rattle.epoch.proofs.SettledLemmas.{settled_on, settled_sync}
 use Rattle.epoch.proofs.mounting.mount_again.Goals as goal
 
 pub returns-in_err-sync-clause-again : goal.returns-in_err-sync-clause-again
@@ -28,3 +29,14 @@ returns-clause-again g c h f framed same large used =
     let call = c.in_ok-sync.ensures.call in
     again_found f (g.B.Board.view c.args.board.now) (g.met.B.Board.consistent c.args.board.now h) used (g.B.Board.view c.sync.new.self) (g.B.Board.view c.mount.new.board) c.mount.result call.key step.1 step.2
     (λ held holding. c.mount.ensures.holds step.0 f held framed same (omega (arith, large, call.size)) holding)
+
+pub returns-in_err-sync-clause-settled : goal.returns-in_err-sync-clause-settled
+returns-in_err-sync-clause-settled g c h =
+    settled_sync _ (g.B.Board.view c.args.board.now).state (g.B.Board.view c.sync.new.self).state (c.in_err-sync.ensures.honest h).2
+
+pub returns-clause-settled : goal.returns-clause-settled
+returns-clause-settled g c h =
+    let step = c.in_ok-sync.ensures.honest h in
+    let v = (g.B.Board.view c.args.board.now).state in
+    let mid = (g.B.Board.view c.sync.new.self).state in
+    settled_on v mid (g.B.Board.view c.mount.new.board).state (settled_sync _ v mid step.2) (c.mount.ensures.settled step.0)

@@ -1,5 +1,6 @@
 use Rattle.epoch.proofs.PastLemmas.{once, followed}
 use Rattle.epoch.proofs.RunLemmas.{flip_wrote, flip_before, flip_advanced, flip_answers, opened_answers, flip_crash, over_sync}
+use Rattle.epoch.proofs.SettledLemmas.{settled_blocks, settled_sync, settled_wrote}
 use Rattle.epoch.proofs.steps.flip.Goals as goal
 
 pub returns-in_err-write-clause-run : goal.returns-in_err-write-clause-run
@@ -57,3 +58,21 @@ returns-clause-past g c h =
     let s = c.in_ok-sync.ensures.honest w.0 in
     let a = c.advance.ensures.honest s.0 in
     followed _ _ _ (once _ _ w.1) (followed _ _ _ (once _ _ s.1) (once _ _ a.1))
+
+pub returns-in_err-write-clause-pending : goal.returns-in_err-write-clause-pending
+returns-in_err-write-clause-pending g c h k ne was =
+    let w = c.in_err-write.ensures.honest h in
+    settled_wrote _ _ _ _ _ _ c.gate_block.ensures w.2 k ne was
+
+pub returns-in_err-sync-clause-pending : goal.returns-in_err-sync-clause-pending
+returns-in_err-sync-clause-pending g c h k ne was =
+    let w = c.in_ok-write.ensures.honest h in
+    let s = c.in_err-sync.ensures.honest w.0 in
+    (settled_sync _ _ _ s.2 k (settled_wrote _ _ _ _ _ _ c.gate_block.ensures w.2 k ne was)).1
+
+pub returns-clause-pending : goal.returns-clause-pending
+returns-clause-pending g c h k ne was =
+    let w = c.in_ok-write.ensures.honest h in
+    let s = c.in_ok-sync.ensures.honest w.0 in
+    let a = c.advance.ensures.honest s.0 in
+    (settled_blocks _ _ a.2.blocks k (settled_sync _ _ _ s.2 k (settled_wrote _ _ _ _ _ _ c.gate_block.ensures w.2 k ne was)).1).1

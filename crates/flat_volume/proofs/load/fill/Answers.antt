@@ -1,6 +1,4 @@
-use Rattle.std.proofs.Common.{◌≡◌, ◌≢◌, ◌<◌, ◌≤◌, ◌+◌, ◌*◌, ◌∙◌, ℕ, List, true, length, refl, sym, ap, subst, ⊎_elim, arith, rules}
-use Rattle.std.proofs.lemmas.Bool.{cases_lt}
-use Rattle.epoch.specs.Parts.{part}
+use Rattle.std.proofs.Common.{◌≡◌, ◌+◌, ◌∙◌, ℕ, List, true, length, refl, sym, ap, arith, rules}
 use Rattle.flat_volume.specs.Flat.{block_at}
 use Rattle.flat_volume.proofs.ReadLemmas.{call_more, only_itself, only_once, only_more, filled_step}
 use Rattle.flat_volume.proofs.TableLemmas.{joined_whole}

@@ -1,4 +1,4 @@
-use Rattle.std.proofs.Common.{◌∙◌, sym}
+use Rattle.std.proofs.Common.{sym}
 use Rattle.flat_volume.specs.Frame.{zero_damage, zero_text}
 use Rattle.flat_volume.proofs.load.load_leaf.Goals as goal
 

@@ -1,4 +1,4 @@
-use Rattle.std.proofs.Common.{◌≡◌, ◌∙◌, ℕ, List, Some, sym, ap}
+use Rattle.std.proofs.Common.{◌∙◌, ℕ, List, Some, sym, ap}
 use Rattle.flat_volume.proofs.ReadLemmas.{leaf_agrees, leaf_differs, leaf_opened}
 use Rattle.flat_volume.proofs.load.opened.Goals as goal
 

@@ -1,9 +1,8 @@
-use Rattle.std.proofs.Common.{◌≡◌, ◌≢◌, ◌<◌, ◌+◌, ◌-◌, ◌*◌, ◌∙◌, ℕ, List, refl, sym, ap, subst, rules, arith}
+use Rattle.std.proofs.Common.{◌≡◌, ◌+◌, ◌-◌, ◌∙◌, refl, sym, ap}
 use Rattle.epoch.proofs.PastLemmas.{once}
 use Rattle.epoch.proofs.RunLemmas.{over_write}
 use Rattle.epoch.specs.declared.header.TreeEntry.{TreeEntry}
-use Rattle.flat_volume.specs.Flat.{block_at, copy_of, entry_of, leaf_damage, leaf_text}
-use Rattle.flat_volume.specs.Writing.{spare_block}
+use Rattle.flat_volume.specs.Flat.{block_at, copy_of, leaf_damage, leaf_text}
 use Rattle.flat_volume.proofs.ReadLemmas.{sealed_damage, sealed_text, spare_is}
 use Rattle.flat_volume.proofs.write.write_leaf.Goals as goal
 
@@ -43,7 +42,7 @@ pub returns-clause-sealed : goal.returns-clause-sealed
 returns-clause-sealed g c h key are =
     let seals = c.seal_leaf.ensures key are in
     let w = (c.in_ok-write.ensures.honest h).2 in
-    let reads = (g.B.Board.view c.in_ok-write.new.board).state.reads in
+    let reads = (g.B.Board.view c.write.new.self).state.reads in
     let here : reads (block_at (273 + c.args.number) c.other_copy-copy.result) ≡ c.seal_leaf.new.into = ap reads (sym c.block_at.ensures.block) ∙ w.here refl in
     ap (leaf_damage key reads (273 + c.args.number)) c.set.ensures.here
     ∙ sealed_damage key reads (273 + c.args.number) _ c.args.bytes.now c.seal_leaf.new.into c.requires.sequence here seals.tag
@@ -52,7 +51,7 @@ pub returns-clause-text : goal.returns-clause-text
 returns-clause-text g c h key are =
     let seals = c.seal_leaf.ensures key are in
     let w = (c.in_ok-write.ensures.honest h).2 in
-    let reads = (g.B.Board.view c.in_ok-write.new.board).state.reads in
+    let reads = (g.B.Board.view c.write.new.self).state.reads in
     let here : reads (block_at (273 + c.args.number) c.other_copy-copy.result) ≡ c.seal_leaf.new.into = ap reads (sym c.block_at.ensures.block) ∙ w.here refl in
     ap (leaf_text key reads (273 + c.args.number)) c.set.ensures.here
     ∙ sealed_text key reads (273 + c.args.number) _ c.args.bytes.now c.seal_leaf.new.into c.requires.sequence here seals.text

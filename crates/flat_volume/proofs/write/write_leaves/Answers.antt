@@ -1,13 +1,16 @@
-use Rattle.std.proofs.Common.{◌≡◌, ◌≢◌, ◌<◌, ◌+◌, ◌∷◌, ◌∙◌, ℕ, Bool, true, List, [], drop, get_or, nat_lt, length, refl, sym, ap, subst, rules, arith}
-use Rattle.std.proofs.lemmas.List.{drop_all}
+use Rattle.std.proofs.Common.{◌≡◌, ◌<◌, ◌+◌, ◌∷◌, ◌∙◌, ℕ, true, List, [], drop, get_or, refl, sym, ap, subst, rules}
+use Rattle.std.proofs.lemmas.List.{drop_more}
 use Rattle.store_api.specs.Ascending.{is_ascending}
 use Rattle.store_api.specs.declared.leaves.Leaf.{Leaf}
 use Rattle.store_api.specs.Volumes.{replaced}
 use Rattle.epoch.proofs.PastLemmas.{followed, itself}
-use Rattle.flat_volume.specs.Writing.{AreSealed, AreSpare, leaves_by}
-use Rattle.flat_volume.proofs.LeafLemmas.{leaves_more, rest_ascends, rest_step, sealed_more, spare_here, spare_more}
+use Rattle.flat_volume.specs.Writing.{AreSpare, leaves_by}
+use Rattle.flat_volume.proofs.LeafLemmas.{leaves_more, none_left, rest_ascends, sealed_more, spare_here, spare_more}
 use Rattle.flat_volume.proofs.ReadLemmas.{run_more}
 use Rattle.flat_volume.proofs.write.write_leaves.Goals as goal
+
+abbrev leaf_at : List Leaf → ℕ → Leaf
+leaf_at xs i = get_or xs i (record { number = 0; bytes = [] })
 
 pub loop-leaf-init : goal.loop-leaf-init
 loop-leaf-init g c = record {
@@ -26,9 +29,9 @@ loop-leaf-preserved g c =
     let inv = c.loop-leaf.invariant in
     let xs = c.args.leaves.now in
     let i = c.loop-leaf.leaf-index in
-    let leaf = c.leaf-item.result in
+    let leaf : Leaf = leaf_at xs i in
     let rest = drop (i + 1) xs in
-    let e : drop i xs ≡ leaf ∷ rest = rest_step xs i leaf c.loop-leaf-test.true c.leaf-item.is in
+    let e : drop i xs ≡ leaf ∷ rest = drop_more xs i (record { number = 0; bytes = [] }) c.loop-leaf-test.true in
     let asc : is_ascending (leaf ∷ rest) ≡ true = subst (λ (l : List Leaf). is_ascending l ≡ true) e inv.ascending in
     let small : leaf.number < 256 = search rules in
     let w = c.in_ok-write_leaf.ensures in
@@ -51,13 +54,31 @@ loop-leaf-preserved g c =
       leaves = λ h key are.
           leaves_more _ _ c.args.region leaf rest number.result c.requires.region small number.ensures.number w.others asc key _ _ (w.elsewhere (inv.honest h))
           (w.text (inv.honest h) key are)
-          ∙ ap (λ (l : List Leaf). replaced c.args.region l (leaves_by key _ _)) (sym e) ∙ inv.leaves h key are;
+          ∙ ap (λ (l : List Leaf). replaced c.args.region l (leaves_by key c.loop-leaf.table.bytes.items (g.B.Board.view c.loop-leaf.board).state.reads)) (sym e) ∙ inv.leaves h key are;
     }
-
-pub returns-in_err-write_leaf-clause-calls : goal.returns-in_err-write_leaf-clause-calls
-returns-in_err-write_leaf-clause-calls g c = run_more _ _ _ _ c.loop-leaf.invariant.calls c.in_err-write_leaf.ensures.calls
 
 pub returns-in_err-write_leaf-clause-past : goal.returns-in_err-write_leaf-clause-past
 returns-in_err-write_leaf-clause-past g c h =
     let inv = c.loop-leaf.invariant in
     followed _ _ _ (inv.past h) (c.in_err-write_leaf.ensures.past (inv.honest h))
+
+pub returns-in_err-write_leaf-clause-run : goal.returns-in_err-write_leaf-clause-run
+returns-in_err-write_leaf-clause-run g c h open_at base low high first s run =
+    let inv = c.loop-leaf.invariant in
+    let xs = c.args.leaves.now in
+    let i = c.loop-leaf.leaf-index in
+    let leaf : Leaf = leaf_at xs i in
+    let rest = drop (i + 1) xs in
+    let e : drop i xs ≡ leaf ∷ rest = drop_more xs i (record { number = 0; bytes = [] }) c.loop-leaf-test.true in
+    let asc : is_ascending (leaf ∷ rest) ≡ true = subst (λ (l : List Leaf). is_ascending l ≡ true) e inv.ascending in
+    let small : leaf.number < 256 = search rules in
+    let w = c.in_err-write_leaf.ensures in
+    let number = c.number_in_all-number in
+    w.run (inv.honest h) open_at base low high first
+    (spare_here _ _ c.args.region leaf rest number.result c.requires.region small number.ensures.number w.others asc open_at
+    (subst (AreSpare open_at _ c.args.region) e (inv.spare open_at s)))
+    (inv.run h open_at base low high first s run)
+
+pub returns-clause-leaves : goal.returns-clause-leaves
+returns-clause-leaves g c h key are =
+    sym (none_left c.args.region c.args.leaves.now c.loop-leaf.leaf-index _ c.loop-leaf-test.false) ∙ c.loop-leaf.invariant.leaves h key are

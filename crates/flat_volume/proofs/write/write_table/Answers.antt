@@ -1,7 +1,6 @@
-use Rattle.std.proofs.Common.{◌≡◌, ◌≢◌, ◌<◌, ◌≤◌, ◌+◌, ◌∙◌, ℕ, List, true, refl, sym, ap, subst, arith}
+use Rattle.std.proofs.Common.{◌∙◌, true, refl, sym, ap, rules, arith}
 use Rattle.epoch.proofs.PastLemmas.{followed, itself, once}
 use Rattle.epoch.proofs.RunLemmas.{over_write}
-use Rattle.flat_volume.specs.Flat.{block_at}
 use Rattle.flat_volume.proofs.ReadLemmas.{call_more, placed_step}
 use Rattle.flat_volume.proofs.write.write_table.Goals as goal
 
@@ -29,6 +28,17 @@ loop-i-preserved g c = record {
       w.2.elsewhere k (λ e. ne c.loop-i.i (omega arith) (e ∙ c.block_at.ensures.block)) ∙ c.loop-i.invariant.elsewhere h k ne;
   placed = λ h.
       let w = c.in_ok-write.ensures.honest (c.loop-i.invariant.honest h) in
-      placed_step _ _ c.args.copy c.loop-i.i c.args.table.now.bytes.items _
-      (ap _ (sym c.block_at.ensures.block) ∙ w.2.here refl) (λ k ne. w.2.elsewhere k (λ e. ne (e ∙ c.block_at.ensures.block))) c.block.ensures (c.loop-i.invariant.placed h);
+      placed_step _ (g.B.Board.view c.write.new.self).state.reads c.args.copy c.loop-i.i c.args.table.now.bytes.items _
+      (ap (g.B.Board.view c.write.new.self).state.reads (sym c.block_at.ensures.block) ∙ w.2.here refl) (λ k ne. w.2.elsewhere k (λ e. ne (e ∙ c.block_at.ensures.block))) c.block.ensures (c.loop-i.invariant.placed h);
 }
+
+pub returns-in_err-write-clause-run : goal.returns-in_err-write-clause-run
+returns-in_err-write-clause-run g c h open_at base low high first opens run =
+    let w = c.in_err-write.ensures.honest (c.loop-i.invariant.honest h) in
+    over_write open_at base low high first _ _ (c.loop-i.invariant.run h open_at base low high first opens run) w.1 _ _ _
+    (ap open_at c.block_at.ensures.block ∙ opens c.loop-i.i (omega arith)) w.2
+
+pub returns-in_err-write-clause-elsewhere : goal.returns-in_err-write-clause-elsewhere
+returns-in_err-write-clause-elsewhere g c h k ne =
+    let w = c.in_err-write.ensures.honest (c.loop-i.invariant.honest h) in
+    w.2.elsewhere k (λ e. ne c.loop-i.i (omega arith) (e ∙ c.block_at.ensures.block)) ∙ c.loop-i.invariant.elsewhere h k ne

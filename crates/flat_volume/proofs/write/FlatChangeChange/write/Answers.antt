@@ -1,14 +1,11 @@
-use Rattle.std.proofs.Common.{◌≡◌, ◌<◌, ◌+◌, ◌*◌, ◌-◌, ◌∙◌, ℕ, List, length, refl, sym, ap, subst, rules, arith}
+use Rattle.std.proofs.Common.{◌+◌, ◌*◌, ◌∙◌, ℕ, List, sym, ap, subst, rules}
+use Rattle.store_api.specs.Volumes.{replaced}
 use Rattle.epoch.specs.Commits.{spare}
 use Rattle.epoch.proofs.PastLemmas.{followed}
-use Rattle.flat_volume.specs.Flat.{block_at, copy_of, flat, table_in}
+use Rattle.flat_volume.specs.Flat.{copy_of, flat}
 use Rattle.flat_volume.specs.Writing.{AreSealed, leaves_by}
 use Rattle.flat_volume.proofs.FlatLemmas.{entries_sealed, flat_written, table_is, tagged, leaves_are_by, leaves_spare, table_spare}
-use Rattle.flat_volume.proofs.ReadLemmas.{run_more}
 use Rattle.flat_volume.proofs.write.FlatChangeChange.write.Goals as goal
-
-pub returns-in_err-write_table-clause-calls : goal.returns-in_err-write_table-clause-calls
-returns-in_err-write_table-clause-calls g c = run_more _ _ _ _ c.in_ok-write_leaves.ensures.calls c.in_err-write_table.ensures.calls
 
 pub returns-in_err-write_table-clause-past : goal.returns-in_err-write_table-clause-past
 returns-in_err-write_table-clause-past g c h =
@@ -52,7 +49,7 @@ returns-clause-written g c h fits sealed =
     = subst (λ (t : List ℕ). AreSealed v.key t v.state.reads) (sym fits.stands) (entries_sealed v.key v.state.reads root sealed) in
     flat_written v.key _ _ _ _ c.requires.sequence (search rules) (c.in_ok-write_table.ensures.placed hon1) (c.in_ok-write_table.ensures.elsewhere hon1)
     (c.tag.ensures v.key fits.keyed) (c.in_ok-write_leaves.ensures.sealed h v.key fits.keyed start) _
-    (c.in_ok-write_leaves.ensures.leaves h v.key fits.keyed ∙ ap _ (ap (λ (t : List ℕ). leaves_by v.key t v.state.reads) fits.stands ∙ sym (leaves_are_by v.key v.state.reads root)))
+    (c.in_ok-write_leaves.ensures.leaves h v.key fits.keyed ∙ ap (replaced c.args.self.now.region c.args.self.now.leaves.now) (ap (λ (t : List ℕ). leaves_by v.key t v.state.reads) fits.stands ∙ sym (leaves_are_by v.key v.state.reads root)))
 
 pub returns-clause-fits : goal.returns-clause-fits
 returns-clause-fits g c h fits =

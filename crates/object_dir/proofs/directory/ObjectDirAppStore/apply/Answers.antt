@@ -10,3 +10,6 @@ returns-clause-garbled g c = c.change_region-answer.ensures.call.garbled
 
 pub returns-clause-one : goal.returns-clause-one
 returns-clause-one g c = c.change_region-answer.ensures.one
+
+pub returns-clause-idle : goal.returns-clause-idle
+returns-clause-idle g c = c.change_region-answer.ensures.idle

@@ -1,0 +1,194 @@
+-- What the opening of a flat volume leaves, over what was found on its board.
+use Rattle.std.proofs.Common.{◌≡◌, ◌+◌, ◌⊎◌, ◌==◌, ◌∙◌, if◌then◌else◌, ℕ, Bool, true, false, List, [], Option, Some, None, Result, Ok, Err, IfErr, IfOk, OnErr, refl, sym, ap, subst, inl, inr, arith, ◌<◌, ⊎_elim}
+use Rattle.std.specs.Result.{IsErr}
+use Rattle.std.proofs.lemmas.Bool.{false≢true}
+use Rattle.std.proofs.lemmas.Bool.Decides.{nat_tests}
+use Rattle.tee_base.specs.Crash.{LeavesOnly}
+use Rattle.tee_base.proofs.Crash.{joined, weaker}
+use Rattle.store_api.specs.Volumes.{Held, leaf_after, replaced}
+use Rattle.board.specs.Moment.{IsLeft, Outcome, View, left_since, moment, Moment}
+use Rattle.board.proofs.Runs.{starts}
+use Rattle.seal.specs.declared.keys.Keys.{Keys}
+use Rattle.epoch.specs.Commits.{BeforeOrAfter, IsMounted, next_held}
+use Rattle.epoch.specs.Forms.{held_of}
+use Rattle.epoch.specs.Mounting.{MountsTo, after_found}
+use Rattle.epoch.specs.Mounts.{IsKeptFromOpening, after_opening, IsRefusal}
+use Rattle.epoch.specs.declared.answer.OpenAnswer.{OpenAnswer}
+use Rattle.epoch.specs.declared.answer.OpenAnswer.TheVariants.{Failed, NoMemory}
+use Rattle.epoch.specs.declared.header.Header.{Header}
+use Rattle.epoch.specs.declared.header.TreeEntry.{TreeEntry}
+use Rattle.epoch.proofs.MountLemmas.{mounted_left}
+use Rattle.flat_volume.specs.Change.{ChecksFlat, FitsFlat}
+use Rattle.flat_volume.specs.Flat.{flat, table_damage, table_in, zero_table}
+use Rattle.flat_volume.specs.Frame.{flat_framed}
+use Rattle.flat_volume.specs.Keeping.{IsKept, IsOpen, held_now}
+use Rattle.flat_volume.specs.Opens.{Opens}
+use Rattle.flat_volume.specs.declared.table.Table.{Table}
+use Rattle.flat_volume.specs.declared.volume.Opened.{Opened}
+
+-- what is held under a root that a board is mounted with
+pub held_is : (view : View) (root : TreeEntry) (sequence : ℕ) (h : Held) → IsMounted flat view.key root h view.state → sequence ≡ h.sequence → held_now view root sequence ≡ h
+held_is view root sequence h mounted e = λ i. record { leaves = (sym mounted.leaves) i; sequence = e i }
+
+-- such a board is open
+pub open_with : (view : View) (root : TreeEntry) (sequence : ℕ) (table : Option Table) (h : Held) → IsMounted flat view.key root h view.state → sequence ≡ h.sequence
+    → IsKept table view.state.reads root → IsOpen view root sequence table × (held_now view root sequence ≡ h)
+open_with view root sequence table h mounted e kept =
+    let same = held_is view root sequence h mounted e in
+    (record { mounted = subst (λ (x : Held). IsMounted flat view.key root x view.state) (sym same) mounted; kept = kept }, same)
+
+-- and nothing else is left of it
+rests_so : (view : View) (root : TreeEntry) (h after : Held) → IsMounted flat view.key root h view.state
+    → LeavesOnly moment left_since view view (λ c. (held_of flat view.key c ≡ Some h) ⊎ (held_of flat view.key c ≡ Some after))
+rests_so view root h after mounted =
+    starts view (λ c. (held_of flat view.key c ≡ Some h) ⊎ (held_of flat view.key c ≡ Some after)) (λ c left. inl (mounted_left flat flat_framed root h view mounted c left))
+
+none_kept : (table : Option Table) (reads : ℕ → List ℕ) (root : TreeEntry) → table ≡ None → IsKept table reads root
+none_kept table reads root none = subst (λ (t : Option Table). IsKept t reads root) (sym none) tt
+
+-- a header that was found
+pub opens_found : (view : View) (o : Opened) (header : Header) (h : Held) → o.root ≡ header.root → o.sequence ≡ header.sequence → o.table ≡ None
+    → MountsTo flat view.key h view.state (Some header) → Opens h h (Ok o) view view
+opens_found view o header h root sequence table mounts =
+    let mounted : IsMounted flat view.key o.root h view.state = subst (λ (r : TreeEntry). IsMounted flat view.key r h view.state) (sym root) mounts.1 in
+    record {
+      opened = open_with view o.root o.sequence o.table h mounted (sequence ∙ sym mounts.0) (none_kept o.table view.state.reads o.root table);
+      failed = tt;
+      leaves = rests_so view o.root h h mounted;
+    }
+
+-- the same where what was found is told by an equation
+pub opens_some : (view : View) (o : Opened) (header : Header) (found : Option Header) (h : Held) → found ≡ Some header → o.root ≡ header.root → o.sequence ≡ header.sequence → o.table ≡ None
+    → MountsTo flat view.key h view.state found → Opens h (after_found found h) (Ok o) view view
+opens_some view o header found h is root sequence table mounts =
+    subst (λ (f : Option Header). Opens h (after_found f h) (Ok o) view view) (sym is)
+    (opens_found view o header h root sequence table (subst (MountsTo flat view.key h view.state) is mounts))
+
+-- a blank board that wasn't formatted, since there was no memory
+pub opens_without : (view : View) (root : TreeEntry) (result : Result Opened OpenAnswer) (h after : Held) → IsMounted flat view.key root h view.state
+    → IsErr result → IfErr result (λ why. IsKeptFromOpening why) → Opens h after result view view
+opens_without view root (Ok o) h after mounted fails kept = absurd (false≢true fails)
+opens_without view root (Err why) h after mounted fails kept = record { opened = tt; failed = kept; leaves = rests_so view root h after mounted }
+
+-- a blank board that was to be formatted
+pub opens_none : (old new : View) (result : Result Opened OpenAnswer) (found : Option Header) (h : Held) → found ≡ None
+    → (MountsTo flat old.key h old.state None → Opens h (after_found None h) result old new) → MountsTo flat old.key h old.state found → Opens h (after_found found h) result old new
+opens_none old new result found h is opens mounts =
+    subst (λ (f : Option Header). Opens h (after_found f h) result old new) (sym is) (opens (subst (MountsTo flat old.key h old.state) is mounts))
+
+-- no leaf is replaced by a commit of none
+same_leaf : (b : Bool) (l : ℕ) (bytes : List ℕ) → (if b then leaf_after [] l bytes else bytes) ≡ bytes
+same_leaf true l bytes = refl
+same_leaf false l bytes = refl
+
+same_leaves : (leaves : ℕ → ℕ → List ℕ) → replaced 0 [] leaves ≡ leaves
+same_leaves leaves = λ i r l. same_leaf (r == 0) l (leaves r l) i
+
+formatted : (h : Held) → h.sequence ≡ 0 → next_held (replaced 0 [] h.leaves) h.sequence ≡ after_found None h
+formatted h zero =
+    let next : h.sequence + 1 ≡ 1 = omega (arith, zero) in
+    λ i. record { leaves = same_leaves h.leaves i; sequence = next i }
+
+-- what a crash leaves within the formatting
+pub leaves_format : (old new : View) (h : Held) → h.sequence ≡ 0
+    → LeavesOnly moment left_since old new (BeforeOrAfter flat old.key h (next_held (replaced 0 [] h.leaves) h.sequence))
+    → LeavesOnly moment left_since old new (λ c. (held_of flat old.key c ≡ Some h) ⊎ (held_of flat old.key c ≡ Some (after_found None h)))
+leaves_format old new h zero run =
+    subst (λ (after : Held). LeavesOnly moment left_since old new (λ c. (held_of flat old.key c ≡ Some h) ⊎ (held_of flat old.key c ≡ Some after))) (formatted h zero) run
+
+pub format_failed : (old new : View) (result : Result Opened OpenAnswer) (h : Held) → h.sequence ≡ 0 → IsErr result → IfErr result (λ why. IsKeptFromOpening why)
+    → LeavesOnly moment left_since old new (BeforeOrAfter flat old.key h (next_held (replaced 0 [] h.leaves) h.sequence)) → Opens h (after_found None h) result old new
+format_failed old new (Ok o) h zero fails kept run = absurd (false≢true fails)
+format_failed old new (Err why) h zero fails kept run = record { opened = tt; failed = kept; leaves = leaves_format old new h zero run }
+
+pub format_done : (old new : View) (root root' : TreeEntry) (keys : Keys) (table : Table) (h : Held) → h.sequence ≡ 0 → new.key ≡ old.key → root' ≡ root
+    → LeavesOnly moment left_since old new (BeforeOrAfter flat old.key h (next_held (replaced 0 [] h.leaves) h.sequence))
+    → IsMounted flat old.key root (next_held (replaced 0 [] h.leaves) h.sequence) new.state → FitsFlat keys table root' old.key new.state.reads
+    → Opens h (after_found None h) (Ok (record { root = root; sequence = 1; table = Some table })) old new
+format_done old new root root' keys table h zero key same run mounted fits =
+    let mounted' : IsMounted flat new.key root (after_found None h) new.state
+    = subst (λ (k : List ℕ). IsMounted flat k root (after_found None h) new.state) (sym key) (subst (λ (x : Held). IsMounted flat old.key root x new.state) (formatted h zero) mounted) in
+    let kept : table.bytes.items ≡ table_in new.state.reads root = fits.stands ∙ ap (table_in new.state.reads) same in
+    record {
+      opened = open_with new root 1 (Some table) (after_found None h) mounted' refl kept;
+      failed = tt;
+      leaves = leaves_format old new h zero run;
+    }
+
+-- the table that stands under a root of sequence 0
+pub blank_stands : (reads : ℕ → List ℕ) (root : TreeEntry) → root.sequence ≡ 0 → table_in reads root ≡ zero_table
+unfolding table_in
+blank_stands reads root zero =
+    let test : (root.sequence == 0) ≡ true = grind (arith, nat_tests, zero) in
+    rw test refl
+
+pub blank_undamaged : (key table : List ℕ) (root : TreeEntry) → root.sequence ≡ 0 → table_damage key table root ≡ None
+unfolding table_damage
+blank_undamaged key table root zero =
+    let test : (root.sequence == 0) ≡ true = grind (arith, nat_tests, zero) in
+    rw test refl
+
+-- what was checked of a table, under the root that the commit gave
+pub checked_under : (keys : Keys) (table : Table) (root root' : TreeEntry) (key : List ℕ) → root' ≡ root → ChecksFlat keys table root' key → table_damage key table.bytes.items root ≡ None
+checked_under keys table root root' key same checks = ap (table_damage key table.bytes.items) (sym same) ∙ checks.undamaged
+
+-- a search and what is then made of what it found
+pub opens_joined : (old mid new : View) (found : Option Header) (result : Result Opened OpenAnswer) (h : Held) → mid.key ≡ old.key
+    → MountsTo flat old.key h mid.state found × (after_found found h ≡ after_opening flat old h)
+    → LeavesOnly moment left_since old mid (λ c. held_of flat old.key c ≡ Some h)
+    → (MountsTo flat mid.key h mid.state found → Opens h (after_found found h) result mid new) → Opens h (after_opening flat old h) result old new
+opens_joined old mid new found result h key mounts run opens =
+    let after = after_opening flat old h in
+    let last : Opens h (after_found found h) result mid new = opens (subst (λ (k : List ℕ). MountsTo flat k h mid.state found) (sym key) mounts.0) in
+    let last' : Opens h (after_opening flat old h) result mid new = subst (λ (x : Held). Opens h x result mid new) mounts.1 last in
+    record {
+      opened = last'.opened;
+      failed = last'.failed;
+      leaves = joined moment left_since old mid new (λ c. (held_of flat old.key c ≡ Some h) ⊎ (held_of flat old.key c ≡ Some (after_opening flat old h)))
+          (weaker moment left_since old mid (λ c. held_of flat old.key c ≡ Some h) (λ c. (held_of flat old.key c ≡ Some h) ⊎ (held_of flat old.key c ≡ Some (after_opening flat old h))) (λ c e. inl e) run)
+          (subst (λ (k : List ℕ). LeavesOnly moment left_since mid new (λ c. (held_of flat k c ≡ Some h) ⊎ (held_of flat k c ≡ Some (after_opening flat old h)))) key last'.leaves);
+    }
+
+-- a search that failed
+pub opens_failed : (old new : View) (why : OpenAnswer) (result : Result Opened OpenAnswer) (h after : Held) → result ≡ Err why → why ≡ Failed
+    → LeavesOnly moment left_since old new (λ c. held_of flat old.key c ≡ Some h) → Opens h after result old new
+opens_failed old new why result h after is failed run =
+    subst (λ (r : Result Opened OpenAnswer). Opens h after r old new) (sym is) (record {
+      opened = tt;
+      failed = inl failed;
+      leaves = weaker moment left_since old new (λ c. held_of flat old.key c ≡ Some h) (λ c. (held_of flat old.key c ≡ Some h) ⊎ (held_of flat old.key c ≡ Some after)) (λ c e. inl e) run;
+    })
+
+-- what is told of an answer is told of the result
+pub told_so : {A : Type 0} (result : Result A OpenAnswer) (why : OpenAnswer) (P : OpenAnswer → Type 0) → result ≡ Err why → P why → IfErr result P
+told_so {A} result why P is fact = subst (λ (r : Result A OpenAnswer). IfErr r P) (sym is) fact
+
+-- of a result that is no error, or is one
+pub not_ok : {A : Type 0} (result : Result A OpenAnswer) (P : A → Type 0) → IsErr result → IfOk result P
+not_ok (Ok x) P fails = absurd (false≢true fails)
+not_ok (Err why) P fails = tt
+
+pub surely : {A : Type 0} (result : Result A OpenAnswer) (P : Type 0) → OnErr result ⊥ → IfOk result (λ x. P) → P
+surely (Ok x) P fine fact = fact
+surely (Err why) P fine fact = absurd fine
+
+pub never : {A : Type 0} (result : Result A OpenAnswer) (P : OpenAnswer → Type 0) → OnErr result ⊥ → IfErr result P
+never (Ok x) P fine = tt
+never (Err why) P fine = absurd fine
+
+pub always : {A : Type 0} (result : Result A OpenAnswer) (P : Type 0) → P → IfOk result (λ x. P)
+always (Ok x) P fact = fact
+always (Err why) P fact = tt
+
+-- what was in use isn't blank
+pub some_found : (key : List ℕ) (h : Held) (m : Moment) (found : Option Header) → MountsTo flat key h m found → 0 < h.sequence → (header : Header) × (found ≡ Some header)
+some_found key h m None mounts used = absurd (let zero = mounts.0 in omega arith)
+some_found key h m (Some header) mounts used = (header, refl)
+
+-- why a board isn't opened once a header was found is no refusal
+pub kept_refusal : (view : View) (image : ℕ → List ℕ) (n : ℕ) (why : OpenAnswer) → IsKeptFromOpening why → IsRefusal flat view image n why
+kept_refusal view image n why kept =
+    ⊎_elim
+    (λ (e : why ≡ Failed). subst (IsRefusal flat view image n) (sym e) tt)
+    (λ (e : why ≡ NoMemory). subst (IsRefusal flat view image n) (sym e) tt)
+    kept

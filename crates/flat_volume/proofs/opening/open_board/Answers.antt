@@ -1,0 +1,35 @@
+use Rattle.std.proofs.Common.{◌≡◌, Err, refl, rules}
+use Rattle.epoch.specs.Mounts.{IsRefusal}
+use Rattle.epoch.proofs.MountLemmas.{rests_holding}
+use Rattle.flat_volume.specs.Flat.{flat}
+use Rattle.flat_volume.specs.Frame.{flat_framed}
+use Rattle.flat_volume.proofs.OpenLemmas.{opens_failed, opens_joined, told_so}
+use Rattle.flat_volume.proofs.opening.open_board.Goals as goal
+
+pub returns-in_err-found-clause-rule : goal.returns-in_err-found-clause-rule
+returns-in_err-found-clause-rule g c tells =
+    let v = g.B.Board.view c.args.board.now in
+    let is : c.from_residual.result ≡ Err c.in_err-found.field-0.0 = search rules in
+    let told = c.in_err-found.ensures.rule tells in
+    (told.0, told_so c.from_residual.result c.in_err-found.field-0.0 (λ why. IsRefusal flat v v.state.reads told.0 why) is (told.1 flat refl))
+
+pub returns-in_err-found-clause-exact : goal.returns-in_err-found-clause-exact
+returns-in_err-found-clause-exact g c honest =
+    let v = g.B.Board.view c.args.board.now in
+    let is : c.from_residual.result ≡ Err c.in_err-found.field-0.0 = search rules in
+    let told = c.in_err-found.ensures.exact honest in
+    (told.0, told.1, told_so c.from_residual.result c.in_err-found.field-0.0 (λ why. IsRefusal flat v v.state.reads told.0 why) is (told.2 flat refl))
+
+pub returns-in_err-found-clause-opens : goal.returns-in_err-found-clause-opens
+returns-in_err-found-clause-opens g c honest n h rests large is =
+    let v = g.B.Board.view c.args.board.now in
+    let same : c.from_residual.result ≡ Err c.in_err-found.field-0.0 = search rules in
+    let mounts = c.in_err-found.ensures.holds honest flat h flat_framed refl large (rests_holding flat v.key h n v.state rests is) in
+    opens_failed v (g.B.Board.view c.mount.new.board) c.in_err-found.field-0.0 c.from_residual.result h _ same mounts.failed mounts.leaves
+
+pub returns-clause-opens : goal.returns-clause-opens
+returns-clause-opens g c honest n h rests large is =
+    let v = g.B.Board.view c.args.board.now in
+    let mounts = c.in_ok-found.ensures.holds honest flat h flat_framed refl large (rests_holding flat v.key h n v.state rests is) in
+    opens_joined v (g.B.Board.view c.mount.new.board) (g.B.Board.view c.take_up.new.board) c.in_ok-found.found c.take_up.result h c.in_ok-found.ensures.calls.key mounts.mounted mounts.leaves
+    (c.take_up.ensures.opens (c.in_ok-found.ensures.honest honest) h)

@@ -1,0 +1,48 @@
+use Rattle.std.proofs.Common.{◌≡◌, ◌≢◌, ◌∙◌, ℕ, true, false, List, Option, Err, refl, sym, ap, subst}
+use Rattle.tee_base.specs.Crash.{LeavesOnly}
+use Rattle.tee_base.proofs.Crash.{mapped}
+use Rattle.store_api.specs.Volumes.{Held, LeftByCommit, after_commit}
+use Rattle.board.specs.Moment.{moment, left_since}
+use Rattle.epoch.specs.Forms.{held_of}
+use Rattle.flat_volume.specs.Flat.{flat}
+use Rattle.flat_volume.specs.Keeping.{IsOpen, IsVerified, held_now}
+use Rattle.flat_volume.specs.declared.table.Table.{Table}
+use Rattle.flat_volume.specs.declared.volume.Opened.{Opened}
+use Rattle.flat_volume.proofs.VolumeLemmas.{err_cause, err_shows, foundation_same, past_read, still_open, still_tags}
+use Rattle.flat_volume.proofs.volume.FlatVolumeVolume.commit.Goals as goal
+
+pub returns-in-Err : goal.returns-in-Err
+returns-in-Err g c =
+    let old = c.args.self.now in
+    let v = g.B.Board.view old.board in
+    let w = g.B.Board.view c.replace.new.board in
+    let e = c.in-Err.why in
+    let told = c.in-Err.ensures in
+    let opened : Opened = record { root = old.root; sequence = old.sequence; table = c.take.result } in
+    let before : Held = held_now v old.root old.sequence in
+    let after : Held = after_commit c.args.region c.args.leaves.now before in
+    let verified : IsVerified v.key c.take.result old.root = subst (λ (t : Option Table). IsVerified v.key t old.root) (sym c.take.ensures.value) old.verified in
+    let is_open = λ (is : IsOpen v old.root old.sequence old.table). subst (IsOpen v old.root old.sequence) (sym c.take.ensures.value) is in
+    record {
+      committed = λ h. (told.replaced h.0 (is_open (h.1 c.if-self.false))).commits;
+      sequence = refl;
+      shows = λ tells. err_shows Opened ℕ e w v.key old.root c.args.region c.take.new.self told.calls.key c.take.ensures.after c.requires (told.damage tells verified);
+      call = record {
+        cause = record {
+          cause = err_cause ℕ e _ _ c.if-self.false c.is_failed-self-in-Err.ensures (λ f. told.cause (ap Err f)) (λ f. told.answer (ap Err f)) (still_tags Opened ℕ (λ tags. tags.found ≢ tags.kept) e told.tags);
+          later = told.calls.faults;
+          foundation = foundation_same v w told.calls;
+        };
+        honest = λ h.
+            let does = told.replaced h.0 (is_open (h.1 c.if-self.false)) in (
+              (told.honest h.0, λ live. still_open e opened w c.take.new.self c.take.ensures.after (sym c.is_failed-self-in-Err.ensures ∙ live) does.stays),
+              still_tags Opened ℕ (λ tags. ⊥) e does.undamaged,
+            );
+        quiet = λ lost. absurd (let f : true ≡ false = sym lost ∙ c.if-self.false in cc);
+        past = λ h. past_read v w told.calls.key (told.past h.0);
+      };
+      crash = λ h live. mapped moment left_since (λ x. g.B.Board.view x.board) (λ x. held_of flat (g.B.Board.view x.board).key) _ _ (LeftByCommit (Err e) before after)
+          (λ o. ap (λ (k : List ℕ). held_of flat k o) told.calls.key)
+          (subst (λ (k : List ℕ). LeavesOnly moment left_since v w (λ o. LeftByCommit (Err e) before after (held_of flat k o))) (sym told.calls.key)
+          (told.replaced h.0 (is_open (h.1 live))).crash);
+    }

@@ -1,0 +1,63 @@
+use Rattle.std.proofs.Common.{◌∙◌, ℕ, List, Some, refl, sym, ap, subst}
+use Rattle.std.proofs.lemmas.Result.{err_from_is_err_and}
+use Rattle.store_api.specs.declared.leaves.Leaf.{Leaf}
+use Rattle.store_api.specs.Volumes.{Held, after_commit}
+use Rattle.seal.specs.Keys.{AreKeysOf}
+use Rattle.flat_volume.specs.Change.{FitsFlat}
+use Rattle.flat_volume.specs.Flat.{table_in}
+use Rattle.flat_volume.specs.Keeping.{IsOpen, Replaces, held_now}
+use Rattle.flat_volume.proofs.VolumeLemmas.{commit_crash, held_same, leaves_held, mounted_held, mounted_open, open_same, read_replaces, verified_open}
+use Rattle.flat_volume.proofs.volume.replace.Goals as goal
+use Rattle.flat_volume.proofs.volume.replace.Goals.{in-Ok, in-Err}
+
+pub returns-in_err-known_table-clause-replaced : goal.returns-in_err-known_table-clause-replaced
+returns-in_err-known_table-clause-replaced g c h is =
+    let v = g.B.Board.view c.args.board.now in
+    let mid = g.B.Board.view c.known_table.new.board in
+    let p = err_from_is_err_and c.from_residual.result c.from_residual.ensures.1 in
+    let e = c.in_err-known_table.field-0.0 in
+    let told = c.in_err-known_table.ensures in
+    let tells = g.met.B.Board.honest_reads c.args.board.now h in
+    let keyed : AreKeysOf c.of-keys.result v.key = subst (λ (k : List ℕ). AreKeysOf c.of-keys.result k) c.key.ensures c.of-keys.ensures in
+    let verified = verified_open v c.args.opened.root c.args.opened.sequence c.args.opened.table is in
+    rw (p.1, p.2) (read_replaces c.args.region c.args.leaves.now e c.args.opened v mid is told.calls.key (told.honest h).1 (told.damage tells v.key keyed verified))
+
+pub returns-clause-replaced : goal.returns-clause-replaced
+returns-clause-replaced g c h is =
+    let v = g.B.Board.view c.args.board.now in
+    let mid = g.B.Board.view c.known_table.new.board in
+    let new = g.B.Board.view c.commit.new.board in
+    let root = c.args.opened.root in
+    let sequence = c.args.opened.sequence in
+    let table = c.args.opened.table in
+    let known = c.in_ok-known_table.field-0 in
+    let told = c.in_ok-known_table.ensures in
+    let read = told.honest h in
+    let tells = g.met.B.Board.honest_reads c.args.board.now h in
+    let keyed : AreKeysOf c.of-keys.result v.key = subst (λ (k : List ℕ). AreKeysOf c.of-keys.result k) c.key.ensures c.of-keys.ensures in
+    let keys : AreKeysOf c.of-keys.result mid.key = subst (λ (k : List ℕ). AreKeysOf c.of-keys.result k) (sym told.calls.key) keyed in
+    let is' : IsOpen mid root sequence (Some known) = open_same v mid root sequence table (Some known) told.calls.key read.1.state (told.table tells) is in
+    let before : Held = held_now mid root sequence in
+    let fits : FitsFlat c.of-keys.result known root mid.key mid.state.reads = record { keyed = keys; stands = is'.kept } in
+    let named = c.as_slice.result.now in
+    let after : Held = after_commit c.args.region named before in
+    let held = held_same v mid root sequence told.calls.key read.1.state.reads in
+    subst (λ (l : List Leaf). Replaces c.args.region l c.match-commit.result c.args.opened v new) c.as_slice.ensures.leaves
+    (elim c.match-commit.branch [
+      | in-Ok w ↦
+          let done = w.in-Ok.ensures.done read.0 before refl is'.mounted fits in
+          let change = c.commit.new.change in
+          rw w.result-is (record {
+            undamaged = tt;
+            stays = mounted_open new mid.key w.in-Ok.root after change.table w.in-Ok.ensures.calls.key done.0
+                (done.1.stands ∙ ap (table_in new.state.reads) w.in-Ok.ensures.root);
+            commits = (mounted_held new mid.key w.in-Ok.root after w.in-Ok.ensures.calls.key done.0 ∙ ap (after_commit c.args.region named) held, refl);
+            crash = commit_crash v mid new root sequence table c.args.region named is told.calls.key read.1 (w.in-Ok.ensures.crash read.0 before refl is'.mounted fits);
+          })
+      | in-Err w ↦ rw w.result-is (record {
+        undamaged = tt;
+        stays = tt;
+        commits = leaves_held new mid.key root before w.in-Err.ensures.calls.key (w.in-Err.ensures.kept read.0 before refl is'.mounted fits) ∙ held;
+        crash = commit_crash v mid new root sequence table c.args.region named is told.calls.key read.1 (w.in-Err.ensures.crash read.0 before refl is'.mounted fits);
+      })
+    ])

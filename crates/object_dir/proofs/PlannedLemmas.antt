@@ -1,0 +1,40 @@
+-- A plan, and behind it reads of the leaves that it names.
+use Rattle.std.proofs.Common.{◌≡◌, ◌∙◌, ℕ, true, List, [], Option, None, Some, Result, Ok, Err, refl, sym, ap, subst, arith}
+use Rattle.store_api.specs.declared.answer.StoreAnswer.{StoreAnswer}
+use Rattle.store_api.specs.declared.answer.StoreAnswer.TheVariants.{NotFound, Exists, NoSpace, Lost, Failed, Corrupt, Garbled, NoMemory}
+use Rattle.store_api.specs.declared.change.Change.{Change}
+use Rattle.store_api.specs.declared.leaves.Leaf.{Leaf}
+use Rattle.store_api.specs.Keeping.{Answers}
+use Rattle.store_api.specs.Stores.{Store}
+use Rattle.store_api.specs.Volumes.{VolumeKeeper}
+use Rattle.region_plan.specs.Layout.{version_one}
+use Rattle.region_plan.specs.Planning.{IsPlanOf, PlansChange}
+use Rattle.region_plan.specs.Plans.{with_leaves}
+use Rattle.region_plan.specs.Reading.{IfGarbled, IsUnread, ReadsOnly, leaves_of}
+use Rattle.region_plan.specs.Regions.{region_of}
+use Rattle.region_plan.proofs.ReadLemmas.{leaves_stay, reads_joined}
+use Rattle.object_dir.specs.Changing.{are_there}
+use Rattle.object_dir.specs.Regions.{number_of, region_keeper}
+use Rattle.object_dir.specs.declared.region.Region.{Region}
+use Rattle.object_dir.proofs.IdleLemmas.{there_same}
+
+module _ {V : Type 0} (K : VolumeKeeper V) (c : Change) (named : List Leaf) (old mid : Region V) (plan : PlansChange (region_keeper K) number_of version_one c (Ok named) old mid) where
+  -- the leaves before the plan and after it
+  pub plan_stays : K.honest old.volume.now → leaves_of (region_keeper K) number_of mid ≡ leaves_of (region_keeper K) number_of old
+  plan_stays h = leaves_stay (region_keeper K) number_of old mid plan.reads h
+
+  -- all that is planned is there
+  pub planned_none : (new : Region V) → (K.honest mid.volume.now → are_there (leaves_of (region_keeper K) number_of mid) named ≡ true)
+      → ReadsOnly (region_keeper K) number_of None mid new → PlansChange (region_keeper K) number_of version_one c (Ok []) old new
+  planned_none new there reads = record {
+    plans = λ h store is.
+        let made = plan.plans h store is in
+        let all = subst (λ (l : ℕ → List ℕ). are_there l named ≡ true) (plan_stays h) (there (plan.reads.honest h).0) in record {
+          after = made.after;
+          changes = made.changes;
+          stands = ap (λ (l : ℕ → List ℕ). region_of version_one l) (sym (there_same named (leaves_of (region_keeper K) number_of old) all)) ∙ made.stands;
+          few = omega arith;
+        };
+    garbled = λ h. tt;
+    reads = reads_joined (region_keeper K) number_of None old mid new plan.reads reads;
+  }

@@ -1,0 +1,28 @@
+use Rattle.std.proofs.Common.{◌≡◌, ◌∙◌, ℕ, true, false, List, sym, ap, subst}
+use Rattle.store_api.specs.Ascending.{is_ascending}
+use Rattle.store_api.specs.declared.leaves.Leaf.{Leaf}
+use Rattle.region_plan.specs.Reading.{leaves_of}
+use Rattle.object_dir.specs.Changing.{are_there}
+use Rattle.object_dir.specs.Regions.{number_of, region_keeper}
+use Rattle.object_dir.proofs.IdleLemmas.{not_there}
+use Rattle.object_dir.proofs.PlannedLemmas.{plan_stays, planned_none}
+use Rattle.object_dir.proofs.planned.plan_change.Goals as goal
+
+pub returns-then-branch-clause-plans : goal.returns-then-branch-clause-plans
+returns-then-branch-clause-plans g c =
+    let K = g.V.Volume.keeper in
+    planned_none K c.args.change.now c.in_ok-leaves.leaves c.args.region.now c.plan.new.from c.in_ok-leaves.ensures c.are_all_there.new.region
+    (λ h. ap (λ (l : List Leaf). are_there (leaves_of (region_keeper K) number_of c.plan.new.from) l) (sym c.as_slice.ensures.leaves)
+    ∙ (sym (c.in_ok-are_all_there.ensures.told h) ∙ c.if-branch.true)) c.in_ok-are_all_there.ensures.reads
+
+pub returns-clause-writes : goal.returns-clause-writes
+returns-clause-writes g c h same =
+    let K = g.V.Volume.keeper in
+    let old = c.args.region.now in
+    let mid = c.plan.new.from in
+    let seen : c.as_slice.result.now ≡ c.in_ok-leaves.leaves = c.as_slice.ensures.leaves in
+    let stays = plan_stays K c.args.change.now c.in_ok-leaves.leaves old mid c.in_ok-leaves.ensures h in
+    let there : are_there (leaves_of (region_keeper K) number_of mid) c.as_slice.result.now ≡ false =
+    sym (c.in_ok-are_all_there.ensures.told (c.in_ok-leaves.ensures.reads.honest h).0) ∙ c.if-branch.false in
+    not_there c.in_ok-leaves.leaves (leaves_of (region_keeper K) number_of old) (subst (λ (l : List Leaf). is_ascending l ≡ true) seen c.as_slice.ensures.ascending)
+    (subst (λ (l : List Leaf). are_there (leaves_of (region_keeper K) number_of old) l ≡ false) seen (subst (λ (f : ℕ → List ℕ). are_there f c.as_slice.result.now ≡ false) stays there)) same
