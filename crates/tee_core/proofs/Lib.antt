@@ -1,7 +1,7 @@
-pub mod Events
+pub mod EventLemmas
 pub mod Powers
 pub mod Runs
-pub mod Sides
+pub mod SideLemmas
 pub mod Steps
 pub mod Stores
 pub mod Told

@@ -71,7 +71,7 @@ module _ {V A : Type 0} (K : VolumeKeeper V)
   in_use None left = absurd left
   in_use (Some held) left = ⊎_elim
       (λ (now : (held.sequence ≡ (K.held old).sequence) × HoldsStores none_kept world held). let same = now.0 in omega (arith, same, whole.formatted))
-      (λ (has : (owner : ℕ) × HasDoubt owner world × ((K.held old).sequence < held.sequence) × HoldsStores (kept_of owner) world held). let lt = has.2.0 in omega (arith, lt, whole.formatted)) left
+      (λ (has : (owner : ℕ) × HasDoubt owner world × ((K.held old).sequence < held.sequence) × HoldsStores (kept_of owner) world held). let lt = has.2 in omega (arith, lt, whole.formatted)) left
 
   -- all that a crash may leave was formatted
   pub always_in_use : IsAlwaysInUse K old
@@ -125,8 +125,12 @@ module _ {V A : Type 0} (K : VolumeKeeper V)
 
     -- the one that has a change in doubt is the one that says so
     owner_is : (o : Option ℕ) → IfNone o (IsNoneInDoubt sides) → IfSome o (λ x. HasDoubt x world) → (other : ℕ) → HasDoubt other world → o ≡ Some other
-    owner_is None no has other doubt = absurd (none_at sides world other whole.sides_are no doubt)
-    owner_is (Some o) no has other doubt = ap (λ n. Some n) (whole.single o other has doubt)
+    owner_is None lacks has other doubt = absurd (none_at sides world other whole.sides_are lacks doubt)
+    owner_is (Some o) lacks has other doubt = ap (λ n. Some n) (whole.single o other has doubt)
+
+    not_kept : (o : Option ℕ) → HoldsStores none_kept world (K.held new) → HoldsStores (kept_by (told_of o false)) world (K.held new)
+    not_kept None are = are
+    not_kept (Some o) are = are
 
     pub found_stores : HoldsStores (kept_by (told_of owner kept)) world (K.held new)
     found_stores = ⊎_elim
@@ -134,21 +138,17 @@ module _ {V A : Type 0} (K : VolumeKeeper V)
         let b : kept ≡ false = le-ltb (K.held old).sequence (K.held new).sequence (let same = now.0 in omega (arith, same)) in
         subst (λ c. HoldsStores (kept_by (told_of owner c)) world (K.held new)) (sym b) (not_kept owner now.1))
         (λ (has : (other : ℕ) × HasDoubt other world × ((K.held old).sequence < (K.held new).sequence) × HoldsStores (kept_of other) world (K.held new)).
-        let b : kept ≡ true = lt-ltb (K.held old).sequence (K.held new).sequence has.2.0 in
+        let b : kept ≡ true = lt-ltb (K.held old).sequence (K.held new).sequence has.2 in
         subst (λ c. HoldsStores (kept_by (told_of owner c)) world (K.held new)) (sym b)
-        (subst (λ (o : Option ℕ). HoldsStores (kept_by (told_of o true)) world (K.held new)) (sym (owner_is owner none some has.0 has.1)) has.2.1)) found
+        (subst (λ (o : Option ℕ). HoldsStores (kept_by (told_of o true)) world (K.held new)) (sym (owner_is owner none some has.0 has.1)) has.3)) found
 
-    not_kept : (o : Option ℕ) → HoldsStores none_kept world (K.held new) → HoldsStores (kept_by (told_of o false)) world (K.held new)
-    not_kept None are = are
-    not_kept (Some o) are = are
+    told_by : (o : Option ℕ) (b : Bool) → IfNone o (IsNoneInDoubt sides) → IfSome o (λ x. HasDoubt x world) → kept ≡ b → IsTold (told_of o b) world (K.held old).sequence (K.held new).sequence
+    told_by None b lacks has is = λ other doubt. none_at sides world other whole.sides_are lacks doubt
+    told_by (Some o) true lacks has is = (has, ltb-true (K.held old).sequence (K.held new).sequence is)
+    told_by (Some o) false lacks has is = (has, ltb-false (K.held old).sequence (K.held new).sequence is)
 
     pub told_is : IsTold (told_of owner kept) world (K.held old).sequence (K.held new).sequence
     told_is = told_by owner kept none some refl
-
-    told_by : (o : Option ℕ) (b : Bool) → IfNone o (IsNoneInDoubt sides) → IfSome o (λ x. HasDoubt x world) → kept ≡ b → IsTold (told_of o b) world (K.held old).sequence (K.held new).sequence
-    told_by None b no has is = λ other doubt. none_at sides world other whole.sides_are no doubt
-    told_by (Some o) true no has is = (has, ltb-true (K.held old).sequence (K.held new).sequence is)
-    told_by (Some o) false no has is = (has, ltb-false (K.held old).sequence (K.held new).sequence is)
 
     later_sequence : 0 < (K.held new).sequence
     later_sequence = in_use (Some (K.held new)) found

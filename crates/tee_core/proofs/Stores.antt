@@ -13,7 +13,7 @@ use Rattle.alone.specs.Step.{store_found}
 use Rattle.tee_core.specs.Powers.{all_lost}
 use Rattle.tee_core.specs.Represents.{HasDoubt, HasStoresOf, HoldsStores, IsLeftOf, StoresFrom, kept_of, none_kept}
 use Rattle.tee_core.specs.World.{World}
-use Rattle.tee_core.proofs.Sides.{get_other, get_set}
+use Rattle.tee_core.proofs.SideLemmas.{get_other, get_set}
 
 -- without a change that is kept the store is the machine's own
 pub own_store : (store : Store) (doubt : Option Store) → store_found false store doubt ≡ store
@@ -22,13 +22,14 @@ own_store store (Some doubt) = refl
 
 -- ---- one region
 
+others_at : (app other : ℕ) (leaves : ℕ → ℕ → List ℕ) → other ≢ app → others app leaves other ≡ leaves other
+others_at app other leaves apart = ap (λ (b : Bool). (λ (l : ℕ). cond b [] (leaves other l))) (ne_eqb other app apart)
+
 -- the regions beside one are the same where the rest is
 pub same_region : (app other : ℕ) (held held_then : Held) → rest_of app held_then ≡ rest_of app held → other ≢ app → region_in other held_then ≡ region_in other held
 same_region app other held held_then same apart =
-    let leaves : others app held_then.leaves ≡ others app held.leaves = ap (λ (r : Rest). r.leaves) same in
-    let chosen : (other == app) ≡ false = ne_eqb other app apart in
-    let then : (λ l. cond (other == app) [] (held_then.leaves other l)) ≡ (λ l. cond (other == app) [] (held.leaves other l)) = ap (λ (f : ℕ → ℕ → List ℕ). f other) leaves in
-    ap (λ (f : ℕ → List ℕ). region_of version_one f) (subst (λ b. (λ l. cond b [] (held_then.leaves other l)) ≡ (λ l. cond b [] (held.leaves other l))) chosen then)
+    let leaves : others app held_then.leaves other ≡ others app held.leaves other = ap (λ (r : Rest). r.leaves other) same in
+    ap (λ (f : ℕ → List ℕ). region_of version_one f) (sym (others_at app other held_then.leaves apart) ∙ leaves ∙ others_at app other held.leaves apart)
 
 -- what a crash left of a region, where it is this
 pub record IsRemains (app : ℕ) (o : Option Held) (kept : Contents) : Type 0 where
@@ -84,7 +85,16 @@ module _ {A : Type 0} where
       subst (λ k. region_in k held ≡ Ok (store_found (kept k) m.store m.in_doubt)) (omega arith) (store_at kept (r + 1) i world held m here are.1)
 
   pub own_at : (world : World A) (app : ℕ) (held : Held) (m : Machine A) → slice_get world app ≡ Some m → HoldsStores none_kept world held → region_in app held ≡ Ok m.store
-  own_at world app held m here are = store_at none_kept 0 app world held m here are ∙ ap (λ (s : Store). Ok s) (own_store m.store m.in_doubt)
+  own_at world app held m here are =
+      let at : 0 + app ≡ app = omega arith in
+      subst (λ k. region_in k held ≡ Ok (store_found false m.store m.in_doubt)) at (store_at none_kept 0 app world held m here are) ∙ ap (λ (s : Store). Ok s) (own_store m.store m.in_doubt)
+
+  -- those behind the owner have none
+  stores_behind : (owner r : ℕ) (world : World A) (held then : Held) → owner < r → ((b : ℕ) → r ≤ b → region_in b then ≡ region_in b held) → StoresFrom none_kept r world held → StoresFrom (kept_of owner) r world then
+  stores_behind owner r [] held then behind same are = tt
+  stores_behind owner r (m ∷ world) held then behind same are =
+      (same r (omega arith) ∙ are.0 ∙ ap (λ b. Ok (store_found b m.store m.in_doubt)) (sym (ne_eqb r owner (λ is. absurd (omega (arith, is, behind))))),
+      stores_behind owner (r + 1) world held then (omega (arith, behind)) (λ b le. same b (omega (arith, le))) are.1)
 
   -- where only the one that is set has a change that is kept
   pub stores_kept : (r i : ℕ) (world : World A) (held then : Held) (m : Machine A) → ((b : ℕ) → b ≢ r + i → region_in b then ≡ region_in b held)
@@ -99,12 +109,25 @@ module _ {A : Type 0} where
       subst (λ k. StoresFrom (kept_of k) (r + 1) (set world i m) then) (sym at)
       (stores_kept (r + 1) i world held then m (λ b other. same b (λ is. other (is ∙ at))) (subst (λ k. region_in k then ≡ Ok (store_found true m.store m.in_doubt)) at own) are.1))
 
-  -- those behind the owner have none
-  stores_behind : (owner r : ℕ) (world : World A) (held then : Held) → owner < r → ((b : ℕ) → r ≤ b → region_in b then ≡ region_in b held) → StoresFrom none_kept r world held → StoresFrom (kept_of owner) r world then
-  stores_behind owner r [] held then behind same are = tt
-  stores_behind owner r (m ∷ world) held then behind same are =
-      (same r (omega arith) ∙ are.0 ∙ ap (λ b. Ok (store_found b m.store m.in_doubt)) (sym (ne_eqb r owner (λ is. absurd (omega (arith, is, behind))))),
-      stores_behind owner (r + 1) world held then (omega (arith, behind)) (λ b le. same b (omega (arith, le))) are.1)
+  -- the same of the whole world
+  pub whole_set : (world : World A) (app : ℕ) (held then : Held) (m : Machine A) → ((b : ℕ) → b ≢ app → region_in b then ≡ region_in b held) → region_in app then ≡ Ok m.store
+      → HoldsStores none_kept world held → HoldsStores none_kept (set world app m) then
+  whole_set world app held then m same own are =
+      let at : 0 + app ≡ app = omega arith in
+      stores_set none_kept 0 app world held then m (λ b other. same b (λ is. other (is ∙ sym at)))
+      (subst (λ k. region_in k then ≡ Ok (store_found false m.store m.in_doubt)) (sym at) (own ∙ ap (λ (s : Store). Ok s) (sym (own_store m.store m.in_doubt)))) are
+
+  pub whole_kept : (world : World A) (app : ℕ) (held then : Held) (m : Machine A) → ((b : ℕ) → b ≢ app → region_in b then ≡ region_in b held)
+      → region_in app then ≡ Ok (store_found true m.store m.in_doubt) → HoldsStores none_kept world held → HoldsStores (kept_of app) (set world app m) then
+  whole_kept world app held then m same own are =
+      let at : 0 + app ≡ app = omega arith in
+      subst (λ k. HoldsStores (kept_of k) (set world app m) then) at
+      (stores_kept 0 app world held then m (λ b other. same b (λ is. other (is ∙ sym at))) (subst (λ k. region_in k then ≡ Ok (store_found true m.store m.in_doubt)) (sym at) own) are)
+
+  pub whole_at : (kept : ℕ → Bool) (world : World A) (app : ℕ) (held : Held) (m : Machine A) → slice_get world app ≡ Some m → HoldsStores kept world held → region_in app held ≡ Ok (store_found (kept app) m.store m.in_doubt)
+  whole_at kept world app held m here are =
+      let at : 0 + app ≡ app = omega arith in
+      subst (λ k. region_in k held ≡ Ok (store_found (kept k) m.store m.in_doubt)) at (store_at kept 0 app world held m here are)
 
   -- ---- losses leave stores and changes in doubt
 
@@ -112,14 +135,14 @@ module _ {A : Type 0} where
   stores_lost kept r [] held are = tt
   stores_lost kept r (m ∷ world) held are = (are.0, stores_lost kept (r + 1) world held are.1)
 
+  abbrev lost_option : Option (Machine A) → Option (Machine A)
+  lost_option None = None
+  lost_option (Some m) = Some (record m { lost = true })
+
   pub lost_at : (world : World A) (i : ℕ) (m : Machine A) → slice_get world i ≡ Some m → slice_get (all_lost world) i ≡ Some (record m { lost = true })
   lost_at [] i m here = absurd (let e : None ≡ Some m = here in cc)
   lost_at (n ∷ world) zero m here = ap (λ (o : Option (Machine A)). lost_option o) here
   lost_at (n ∷ world) (suc i) m here = lost_at world i m here
-
-  lost_option : Option (Machine A) → Option (Machine A)
-  lost_option None = None
-  lost_option (Some m) = Some (record m { lost = true })
 
   from_lost : (world : World A) (i : ℕ) (m : Machine A) → slice_get (all_lost world) i ≡ Some m → (n : Machine A) × (slice_get world i ≡ Some n) × (m ≡ record n { lost = true })
   from_lost [] i m here = absurd (let e : None ≡ Some m = here in cc)
@@ -139,7 +162,7 @@ module _ {A : Type 0} where
   left_lost world sequence (Some held) left = ⊎_elim
       (λ (now : (held.sequence ≡ sequence) × HoldsStores none_kept world held). inl (now.0, stores_lost none_kept 0 world held now.1))
       (λ (doubt : (owner : ℕ) × HasDoubt owner world × (sequence < held.sequence) × HoldsStores (kept_of owner) world held).
-      inr (doubt.0, doubt_lost doubt.0 world doubt.1, doubt.2.0, stores_lost (kept_of doubt.0) 0 world held doubt.2.1)) left
+      inr (doubt.0, doubt_lost doubt.0 world doubt.1, doubt.2, stores_lost (kept_of doubt.0) 0 world held doubt.3)) left
 
   pub has_lost : (world : World A) (o : Option Held) → HasStoresOf world o → HasStoresOf (all_lost world) o
   has_lost world None has = absurd has
@@ -153,4 +176,4 @@ module _ {A : Type 0} where
   left_has world sequence None left = absurd left
   left_has world sequence (Some held) left = ⊎_elim
       (λ (now : (held.sequence ≡ sequence) × HoldsStores none_kept world held). inl now.1)
-      (λ (doubt : (owner : ℕ) × HasDoubt owner world × (sequence < held.sequence) × HoldsStores (kept_of owner) world held). inr (doubt.0, doubt.1, doubt.2.1)) left
+      (λ (doubt : (owner : ℕ) × HasDoubt owner world × (sequence < held.sequence) × HoldsStores (kept_of owner) world held). inr (doubt.0, doubt.1, doubt.3)) left

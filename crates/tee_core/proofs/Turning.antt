@@ -28,8 +28,8 @@ use Rattle.tee_core.specs.World.{AppEvent, World, met_by_others, moved_at, world
 use Rattle.tee_core.specs.Moments.{IsWithin, KeepsCounts, RoseIfLost}
 use Rattle.tee_core.specs.Powers.{all_lost}
 use Rattle.tee_core.specs.Sides.{AreSides}
-use Rattle.tee_core.proofs.Sides.{get_other, get_set, map_set, sides_set}
-use Rattle.tee_core.proofs.Stores.{IsRemains, doubt_unlost, has_lost, left_has, left_lost as left_lost_world, own_at, own_store, remains_is, same_region, store_at, stores_kept, stores_lost, stores_same, stores_set}
+use Rattle.tee_core.proofs.SideLemmas.{get_other, get_set, map_set, sides_set}
+use Rattle.tee_core.proofs.Stores.{doubt_unlost, has_lost, left_has, left_lost as left_lost_world, own_at, remains_is, same_region, stores_lost, stores_same, whole_at, whole_kept, whole_set}
 
 -- a turn that didn't lose the storage leaves the change in doubt
 doubt_stays : {A : Type 0} (behaviour : Behaviour A) (kind : TurnKind) (m : Machine A) (i : ℕ) → ((changes : Bool) → store_kind kind ≢ store_kinds.Lost changes) → (step behaviour m (turn_of kind i)).machine.in_doubt ≡ m.in_doubt
@@ -93,7 +93,7 @@ pub left_alike : {A : Type 0} (world : World A) (sequence : ℕ) (held then : He
 left_alike world sequence held then same number left = ⊎_elim
     (λ (now : (held.sequence ≡ sequence) × HoldsStores none_kept world held). inl (number ∙ now.0, stores_same none_kept 0 world held then (λ b le. same b) now.1))
     (λ (doubt : (owner : ℕ) × HasDoubt owner world × (sequence < held.sequence) × HoldsStores (kept_of owner) world held).
-    inr (doubt.0, doubt.1, subst (λ n. sequence < n) (sym number) doubt.2.0, stores_same (kept_of doubt.0) 0 world held then (λ b le. same b) doubt.2.1)) left
+    inr (doubt.0, doubt.1, subst (λ n. sequence < n) (sym number) doubt.2, stores_same (kept_of doubt.0) 0 world held then (λ b le. same b) doubt.3)) left
 
 pub left_stays : {A : Type 0} (world : World A) (sequence app : ℕ) (m then : Machine A) (o : Option Held) → slice_get world app ≡ Some m → then.store ≡ m.store → then.in_doubt ≡ m.in_doubt
     → IsLeftOf world sequence o → IsLeftOf (set world app then) sequence o
@@ -101,14 +101,21 @@ left_stays world sequence app m then None here store doubt left = absurd left
 left_stays world sequence app m then (Some held) here store doubt left = ⊎_elim
     (λ (now : (held.sequence ≡ sequence) × HoldsStores none_kept world held). inl (now.0, stores_stay none_kept 0 app world held m then here store doubt now.1))
     (λ (has : (owner : ℕ) × HasDoubt owner world × (sequence < held.sequence) × HoldsStores (kept_of owner) world held).
-    inr (has.0, doubt_kept world app has.0 m then here doubt has.1, has.2.0, stores_stay (kept_of has.0) 0 app world held m then here store doubt has.2.1)) left
+    inr (has.0, doubt_kept world app has.0 m then here doubt has.1, has.2, stores_stay (kept_of has.0) 0 app world held m then here store doubt has.3)) left
 
 -- each region of what a crash left stands for a store
 region_left : {A : Type 0} (world : World A) (sequence app : ℕ) (m : Machine A) (held : Held) → slice_get world app ≡ Some m → IsLeftOf world sequence (Some held) → (store : Store) × (region_in app held ≡ Ok store)
 region_left world sequence app m held here left = ⊎_elim
-    (λ (now : (held.sequence ≡ sequence) × HoldsStores none_kept world held). (store_found (none_kept app) m.store m.in_doubt, store_at none_kept 0 app world held m here now.1))
+    (λ (now : (held.sequence ≡ sequence) × HoldsStores none_kept world held). (store_found (none_kept app) m.store m.in_doubt, whole_at none_kept world app held m here now.1))
     (λ (has : (owner : ℕ) × HasDoubt owner world × (sequence < held.sequence) × HoldsStores (kept_of owner) world held).
-    (store_found (kept_of has.0 app) m.store m.in_doubt, store_at (kept_of has.0) 0 app world held m here has.2.1)) left
+    (store_found (kept_of has.0 app) m.store m.in_doubt, whole_at (kept_of has.0) world app held m here has.3)) left
+
+-- a turn is one that lost the storage, or isn't
+elim_kind : {P : Type 0} (kind : TurnKind) → (((changes : Bool) → kind ≢ kinds.Lost changes) → P) → ((changes : Bool) → kind ≡ kinds.Lost changes → P) → P
+elim_kind kinds.Plain served lost = served (λ changes is. absurd (let f : kinds.Plain ≡ kinds.Lost changes = is in cc))
+elim_kind (kinds.Lost changes) served lost = lost changes refl
+elim_kind kinds.Starved served lost = served (λ changes is. absurd (let f : kinds.Starved ≡ kinds.Lost changes = is in cc))
+elim_kind kinds.Corrupted served lost = served (λ changes is. absurd (let f : kinds.Corrupted ≡ kinds.Lost changes = is in cc))
 
 module _ {V A : Type 0} (K : VolumeKeeper V)
     (rests : (v : V) → K.honest v → (K.condition v).lost ≡ false → RestsAt K v (K.held v))
@@ -189,8 +196,8 @@ module _ {V A : Type 0} (K : VolumeKeeper V)
 
   pub stores_after : HoldsStores none_kept (set world app then) (K.held new)
   stores_after =
-      stores_set none_kept 0 app world (K.held old) (K.held new) then (λ b other. same_region app b (K.held old) (K.held new) rest_after other)
-      (stands_after ∙ ap (λ (s : Store). Ok s) (sym store_after) ∙ ap (λ (s : Store). Ok s) (sym (own_store then.store then.in_doubt))) whole.stores
+      whole_set world app (K.held old) (K.held new) then (λ b other. same_region app b (K.held old) (K.held new) rest_after other)
+      (stands_after ∙ ap (λ (s : Store). Ok s) (sym store_after)) whole.stores
 
   lost_before : (D.status d).lost ≡ (K.condition old).lost
   lost_before = ap (λ (v : V). (K.condition v).lost) t.over_old.same_volume
@@ -248,7 +255,7 @@ module _ {V A : Type 0} (K : VolumeKeeper V)
       let greater : (K.held new).sequence < r.held.sequence = let lt = further.1 in let same = r.sequence in omega (arith, lt, same, number, number_then) in
       subst (λ (x : Option Held). IsLeftOf (set world app then) (K.held new).sequence x) (sym r.is)
       (inr (app, record { machine = then; there = get_set world app m then here; doubt = ap (λ (x : Option Store). is_some x) is }, greater,
-      stores_kept 0 app world (K.held old) r.held then (λ b other. same_region app b (K.held old) r.held r.rest other) (r.store ∙ ap (λ (x : Option Store). Ok (store_found true then.store x)) (sym is)) whole.stores))) left
+      whole_kept world app (K.held old) r.held then (λ b other. same_region app b (K.held old) r.held r.rest other) (r.store ∙ ap (λ (x : Option Store). Ok (store_found true then.store x)) (sym is)) whole.stores))) left
 
   left_working : (k : StoreKind) → store_kind kind ≡ k → (K.condition old).lost ≡ false → (o : Option Held) → K.left_since new (K.moment new) o → IsLeftOf (set world app then) (K.held new).sequence o
   left_working store_kinds.Plain is works o left = after_just (subst (λ (k : StoreKind). UnlessInDoubt k (LeavesJust D e (D.contents e))) is (crash works).afterwards) o left
@@ -256,7 +263,7 @@ module _ {V A : Type 0} (K : VolumeKeeper V)
   left_working store_kinds.Corrupted is works o left = after_just (subst (λ (k : StoreKind). UnlessInDoubt k (LeavesJust D e (D.contents e))) is (crash works).afterwards) o left
   left_working (store_kinds.Lost true) is works o left =
       let cause : IsKind (store_kinds.Lost true) (D.status d) (D.status e) = subst (λ (k : StoreKind). IsKind k (D.status d) (D.status e)) is t.turn.status.cause in
-      let still : D.contents e ≡ D.contents d = t.turn.keeps.still has_before cause.1.0 in
+      let still : D.contents e ≡ D.contents d = t.turn.keeps.still has_before cause.1 in
       let earlier : K.left_since new (K.moment old) o = since new (K.moment old) (K.moment new) o later left in
       let within = (crash works).any_moment.each (remains_in app o) (subst (λ u. D.left_since e u (remains_in app o)) (sym moment_before) (from_new (K.moment old) o earlier)) in
       doubtful o then.in_doubt refl still (subst (λ (k : StoreKind). LeftByTurn k then.in_doubt (D.contents d) (D.contents e) (remains_in app o)) is within)
@@ -322,7 +329,7 @@ module _ {V A : Type 0} (K : VolumeKeeper V)
       sym lost_before ∙ sym (subst (λ (k : StoreKind). IsKind k (D.status d) (D.status e)) is t.turn.status.cause) ∙ lost_after ∙ works)
   calm_kind (store_kinds.Lost changes) is works =
       let cause : IsKind (store_kinds.Lost changes) (D.status d) (D.status e) = subst (λ (k : StoreKind). IsKind k (D.status d) (D.status e)) is t.turn.status.cause in
-      absurd (let f : true ≡ false = sym cause.1.0 ∙ lost_after ∙ works in cc)
+      absurd (let f : true ≡ false = sym cause.1 ∙ lost_after ∙ works in cc)
   calm_kind store_kinds.Corrupted is works =
       let cause : IsKind store_kinds.Corrupted (D.status d) (D.status e) = subst (λ (k : StoreKind). IsKind k (D.status d) (D.status e)) is t.turn.status.cause in
       (λ changes same. absurd (let f : store_kinds.Corrupted ≡ store_kinds.Lost changes = same in cc), sym lost_before ∙ cause.0)
@@ -359,15 +366,15 @@ module _ {V A : Type 0} (K : VolumeKeeper V)
       let r = remains_is app o (record { store = (D.contents e).store; rest = rest_of app (K.held old); number = n })
           (is ∙ ap (λ (c : Contents). Some (record { store = (D.contents e).store; rest = c.rest; number = n })) contents_before) in
       subst (λ (x : Option Held). HasStoresOf (set world app then) x) (sym r.is)
-      (inl (stores_set none_kept 0 app world (K.held old) r.held then (λ b other. same_region app b (K.held old) r.held r.rest other)
-      (r.store ∙ ap (λ (s : Store). Ok s) (sym store_then) ∙ ap (λ (s : Store). Ok s) (sym (own_store then.store then.in_doubt))) whole.stores))
+      (inl (whole_set world app (K.held old) r.held then (λ b other. same_region app b (K.held old) r.held r.rest other)
+      (r.store ∙ ap (λ (s : Store). Ok s) (sym store_then)) whole.stores))
 
   doubt_has : (o : Option Held) (store : Store) (n : ℕ) → then.in_doubt ≡ Some store → remains_in app o ≡ Some (record { store = store; rest = (D.contents d).rest; number = n }) → HasStoresOf (set world app then) o
   doubt_has o store n doubt is =
       let r = remains_is app o (record { store = store; rest = rest_of app (K.held old); number = n }) (is ∙ ap (λ (c : Contents). Some (record { store = store; rest = c.rest; number = n })) contents_before) in
       subst (λ (x : Option Held). HasStoresOf (set world app then) x) (sym r.is)
       (inr (app, record { machine = then; there = get_set world app m then here; doubt = ap (λ (x : Option Store). is_some x) doubt },
-      stores_kept 0 app world (K.held old) r.held then (λ b other. same_region app b (K.held old) r.held r.rest other) (r.store ∙ ap (λ (x : Option Store). Ok (store_found true then.store x)) (sym doubt)) whole.stores))
+      whole_kept world app (K.held old) r.held then (λ b other. same_region app b (K.held old) r.held r.rest other) (r.store ∙ ap (λ (x : Option Store). Ok (store_found true then.store x)) (sym doubt)) whole.stores))
 
   left_within : (k : StoreKind) (doubt : Option Store) (o : Option Held) → then.in_doubt ≡ doubt → LeftByTurn k doubt (D.contents d) (D.contents e) (remains_in app o) → HasStoresOf world o ⊎ HasStoresOf (set world app then) o
   left_within store_kinds.Plain doubt o is left = ⊎_elim
@@ -421,7 +428,7 @@ module _ {V A : Type 0} (K : VolumeKeeper V)
   lost_is : (changes : Bool) → kind ≡ kinds.Lost changes → ((D.status d).lost ≡ false) × ((D.status e).lost ≡ true)
   lost_is changes is =
       let cause : IsKind (store_kinds.Lost changes) (D.status d) (D.status e) = subst (λ (k : TurnKind). IsKind (store_kind k) (D.status d) (D.status e)) is t.turn.status.cause in
-      (cause.0, cause.1.0)
+      (cause.0, cause.1)
 
   then_lost : (changes : Bool) → kind ≡ kinds.Lost changes → then.lost ≡ true
   then_lost changes is = ap (λ (x : Machine A). x.lost) after_is.parts ∙ t.turn.lost ∙ (lost_is changes is).1
@@ -457,7 +464,7 @@ module _ {V A : Type 0} (K : VolumeKeeper V)
 
 rose_by : (kind : TurnKind) (old new : Status) → IsKind (store_kind kind) old new → RoseIfLost kind old.faults new.faults
 rose_by kinds.Plain old new cause = tt
-rose_by (kinds.Lost changes) old new cause = cause.1.1
+rose_by (kinds.Lost changes) old new cause = cause.2
 rose_by kinds.Starved old new cause = tt
 rose_by kinds.Corrupted old new cause = tt
 
@@ -473,10 +480,3 @@ counts_kept {V} K behaviour app i kind replies before after old new t =
       rose = subst (λ n. RoseIfLost kind n (K.condition new).faults) faults_old (subst (λ n. RoseIfLost kind (D.status t.dir_before).faults n) faults_new (rose_by kind (D.status t.dir_before) (D.status t.dir_after) t.turn.status.cause));
       foundation = sym (ap (λ (v : V). (K.condition v).foundation) t.over_new.same_volume) ∙ volume_stays K t.dir_before.region t.dir_after.region t.turn.status.foundation ∙ ap (λ (v : V). (K.condition v).foundation) t.over_old.same_volume;
     }
-
--- a turn is one that lost the storage, or isn't
-elim_kind : {P : Type 0} (kind : TurnKind) → (((changes : Bool) → kind ≢ kinds.Lost changes) → P) → ((changes : Bool) → kind ≡ kinds.Lost changes → P) → P
-elim_kind kinds.Plain served lost = served (λ changes is. absurd (let f : kinds.Plain ≡ kinds.Lost changes = is in cc))
-elim_kind (kinds.Lost changes) served lost = lost changes refl
-elim_kind kinds.Starved served lost = served (λ changes is. absurd (let f : kinds.Starved ≡ kinds.Lost changes = is in cc))
-elim_kind kinds.Corrupted served lost = served (λ changes is. absurd (let f : kinds.Corrupted ≡ kinds.Lost changes = is in cc))

@@ -34,7 +34,7 @@ IsTold (Absent owner) world acknowledged opened = HasDoubt owner world × (opene
 
 -- the storage of every machine is lost
 abbrev pub all_lost : {A : Type 0} → World A → World A
-all_lost world = map (λ m. record m { lost = true }) world
+all_lost {A} world = map (λ (m : Machine A). record m { lost = true }) world
 
 module _ {A : Type 0} (behaviour : Behaviour A) where
   -- the machines from this index on after the power came back

@@ -7,10 +7,8 @@ mod power;
 mod run;
 mod sides;
 mod tee;
-#[cfg(test)]
-mod tests;
 
 pub use alone::{Power, TurnKind};
 pub use epoch::{OpenAnswer, Unopened};
 pub use happened::{Event, Happened, RunReplies};
-pub use tee::{Tee, TeeOver};
+pub use tee::TeeOver;

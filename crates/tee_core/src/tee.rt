@@ -5,7 +5,6 @@ ghost use Rattle.tee_base.specs.declared.limits.TheConstants.{HOSTS};
 ghost use Rattle.tee_core.specs.Sides.{AreBooted, AreLost};
 
 use app_side::AppSide;
-use flat_volume::FlatVolume;
 use std::alloc::Global;
 use std::marker::PhantomData;
 use store_api::Volume;
@@ -23,6 +22,3 @@ pub struct TeeOver<B, V: Volume, A> {
     ghost served: { AreLost (V.keeper.condition volume).lost sides.items },
     ghost booted: { AreBooted boots sides.items },
 }
-
-/// The running applications over the kind of volume that is in use, which no other line names.
-pub type Tee<B, A> = TeeOver<B, FlatVolume<B>, A>;

@@ -14,7 +14,7 @@ use Rattle.store_api.specs.Volumes.{Held, VolumeKeeper}
 use Rattle.tee_core.specs.Moments.{IsWithin}
 use Rattle.tee_core.specs.Represents.{HasDoubt, StandFor, none_kept}
 use Rattle.tee_core.specs.World.{World, moved_at, world_step}
-use Rattle.tee_core.proofs.Sides.{set_same, side_at, side_here, sides_kept, sides_set}
+use Rattle.tee_core.proofs.SideLemmas.{set_same, side_at, side_here, sides_kept, sides_set}
 use Rattle.tee_core.proofs.Stores.{left_has}
 use Rattle.tee_core.proofs.Turning.{doubt_back, left_stays, stores_stay}
 

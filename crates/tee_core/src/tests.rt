@@ -1,4 +1,0 @@
-//! Two applications side by side.
-
-mod creator;
-mod pairs;
