@@ -1,5 +1,6 @@
 pub mod EventLemmas
 pub mod Powers
+pub mod Restarts
 pub mod Runs
 pub mod SideLemmas
 pub mod Steps

@@ -1,6 +1,6 @@
 //! The board beside the applications: opening, a fuse, a loss of power, and the board handed back.
 
-ghost use Rattle.std.specs.Prelude.{◌≡◌, ◌≤◌, ◌<◌, ◌+◌, ◌-◌, ◌^◌, ℕ, Err, IfErr, IfOk, OnErr, OnOk, Some, length};
+ghost use Rattle.std.specs.Prelude.{◌≡◌, ◌≤◌, ◌<◌, ◌+◌, ◌-◌, ◌^◌, ℕ, Err, IfErr, IfOk, OnErr, OnOk, Some, false, length};
 ghost use Rattle.app_api.specs.Hosts.{HostsFit};
 ghost use Rattle.tee_base.specs.Crash.{LeavesOnly};
 ghost use Rattle.tee_base.specs.declared.limits.TheConstants.{BOARD_BLOCKS, HOSTS};

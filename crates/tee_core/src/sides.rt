@@ -1,6 +1,7 @@
 //! Applications side by side: turns over their regions, losses and restarts of all of them.
 
 ghost use Rattle.std.specs.Prelude.{◌≡◌, ◌≤◌, ◌<◌, ◌+◌, ◌-◌, ◌^◌, [], false, true, IfNone, IfSome, length, map, slice_get, Some};
+ghost use Rattle.std.specs.List.{position};
 ghost use Rattle.tee_base.specs.declared.limits.TheConstants.{HOSTS};
 ghost use Rattle.app_side.specs.Represents.{boot_of, has_doubt, is_lost, turns_of};
 ghost use Rattle.app_side.specs.declared.side.AppSide.{AppSide as Side};
@@ -80,6 +81,13 @@ pub(crate) fn owner_of_doubt<A: Application>(sides: &[AppSide<A>]) -> Option<u8>
     ensures some { IfSome result (λ owner. (side : Side A) × (slice_get sides.now owner ≡ Some side)
         × (has_doubt side ≡ true)) }
 {
-    let place = sides.iter().position(|side| side.is_in_doubt())?;
+    let place = place_of_doubt(sides)?;
     Some(place as u8)
+}
+
+/// The place of the first application whose change is in doubt.
+fn place_of_doubt<A: Application>(sides: &[AppSide<A>]) -> Option<usize>
+    ensures { result ≡ position (λ side. has_doubt side) sides.now }
+{
+    sides.iter().position(|side| side.is_in_doubt())
 }
