@@ -1,4 +1,6 @@
+pub mod Doubts
 pub mod EventLemmas
+pub mod Opens
 pub mod Powers
 pub mod Restarts
 pub mod Runs

@@ -97,3 +97,8 @@ pub back_booted : {A : Type 0} (boots n : ℕ) (ss : List (AppSide A)) → AreBa
 back_booted boots n [] are few = tt
 back_booted boots zero (k ∷ ss) are few = absurd (omega (arith, few))
 back_booted boots (suc n) (k ∷ ss) are few = (are.1, back_booted boots n ss are.2 (omega (arith, few)))
+
+pub set_length : {X : Type 0} (xs : List X) (n : ℕ) (x : X) → length (set xs n x) ≡ length xs
+set_length [] n x = refl
+set_length (y ∷ xs) zero x = refl
+set_length (y ∷ xs) (suc n) x = ap (λ k. suc k) (set_length xs n x)

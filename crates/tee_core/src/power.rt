@@ -8,11 +8,11 @@ ghost use Rattle.store_api.specs.Stores.{Store};
 ghost use Rattle.store_api.specs.Volumes.{Held};
 ghost use Rattle.board.specs.Runs.{Rests};
 ghost use Rattle.epoch.specs.Forms.{held};
-ghost use Rattle.epoch.specs.Mounts.{IsKeptFromOpening, LeavesOpening, OrderRun};
+ghost use Rattle.epoch.specs.Mounts.{LeavesOpening, OrderRun, after_opening};
 ghost use Rattle.epoch.specs.declared.answer.OpenAnswer.TheVariants as answers;
 ghost use Rattle.tee_core.specs.Moments.{IsWithin};
 ghost use Rattle.tee_core.specs.Opening.{IsOpenedOver, IsSoundFor};
-ghost use Rattle.tee_core.specs.Powers.{IsTold, after_power, all_lost, told_of};
+ghost use Rattle.tee_core.specs.Powers.{IsTold, after_power, all_lost, kept_by, kept_one, told_of};
 ghost use Rattle.tee_core.specs.Represents.{app_count, boots_of, turns_made, volume_of, Represents};
 ghost use Rattle.tee_core.specs.Sides.{AreBooted, AreLost, AreSides};
 ghost use Rattle.tee_core.specs.World.{World, world_of};
@@ -67,6 +67,22 @@ fn power_of(owner: Option<u8>, kept: bool) -> Power
     }
 }
 
+/// The application whose change in doubt is kept.
+fn owner_kept(owner: Option<u8>, kept: bool) -> Option<u8>
+    ensures { kept_one result ≡ kept_by (told_of owner kept) }
+{
+    match owner {
+        None => None,
+        Some(owner) => {
+            if kept {
+                Some(owner)
+            } else {
+                None
+            }
+        }
+    }
+}
+
 impl<B: Board, V: BoardVolume<B>, A: Application> TeeOver<B, V, A> {
     /// Applications that have run nothing, over the objects of a board; one that is blank is formatted.
     ///
@@ -92,15 +108,36 @@ impl<B: Board, V: BoardVolume<B>, A: Application> TeeOver<B, V, A> {
         ensures turns { IfOk result (λ tee. (app : ℕ) → turns_made tee app ≡ 0) }
         ensures boots { IfOk result (λ tee. boots_of tee ≡ 0) }
     {
-        let sides = match start_all(alloc, hosts, seed) {
-            Ok(sides) => sides,
-            Err(NoMemory) => {
-                return Err(Unopened {
-                    board,
-                    why: OpenAnswer::NoMemory,
-                });
-            }
-        };
+        match start_all(alloc, hosts, seed) {
+            Ok(sides) => Self::open_over(alloc, board, sides),
+            Err(NoMemory) => Err(Unopened {
+                board,
+                why: OpenAnswer::NoMemory,
+            }),
+        }
+    }
+
+    /// These applications, which have run nothing, over the objects of a board.
+    fn open_over(
+        alloc: Global,
+        board: B,
+        sides: Vec<AppSide<A>>,
+    ) -> Result<TeeOver<B, V, A>, Unopened<B>>
+        requires few { length sides.items ≤ HOSTS }
+        requires lost { AreLost false sides.items }
+        requires booted { AreBooted 0 sides.items }
+        ensures volume { B.honest board → (n : ℕ) (h : Held) → Rests n (B.view board).state
+            → BOARD_BLOCKS ≤ (B.view board).size
+            → held V.form (B.view board).key (B.view board).state.reads n ≡ Some h
+            → IfOk result (λ tee. V.keeper.honest (volume_of tee)
+            × (V.keeper.held (volume_of tee) ≡ after_opening V.form (B.view board) h)
+            × LeavesOpening V.form h (B.view board) (B.view (V.board_of (volume_of tee)))) }
+        ensures works { IfOk result (λ tee. (V.keeper.condition (volume_of tee)).lost ≡ false) }
+        ensures opened { IfOk result (λ tee.
+            IsOpenedOver (B.view board) (B.view (V.board_of (volume_of tee)))) }
+        ensures sides { IfOk result (λ tee. tee.sides.items ≡ sides.items) }
+        ensures boots { IfOk result (λ tee. boots_of tee ≡ 0) }
+    {
         let volume = V::open(alloc, board)?;
         Ok(TeeOver {
             alloc,
@@ -158,7 +195,7 @@ impl<B: Board, V: BoardVolume<B>, A: Application> TeeOver<B, V, A> {
         match self.volume.power(pick) {
             Ok(opened) => {
                 let kept = acknowledged < opened;
-                let taken = if kept { owner } else { None };
+                let taken = owner_kept(owner, kept);
                 restart_all(&mut self.sides, taken, self.boots);
                 self.boots += 1;
                 Ok(power_of(owner, kept))

@@ -1,6 +1,6 @@
 //! Applications side by side: turns over their regions, losses and restarts of all of them.
 
-ghost use Rattle.std.specs.Prelude.{◌≡◌, ◌≤◌, ◌<◌, ◌+◌, ◌-◌, ◌^◌, [], false, true, IfNone, IfSome, length, map, slice_get, Some};
+ghost use Rattle.std.specs.Prelude.{◌≡◌, ◌≤◌, ◌<◌, ◌+◌, ◌-◌, ◌^◌, ℕ, [], false, true, IfNone, IfSome, length, map, slice_get, Some};
 ghost use Rattle.std.specs.List.{position};
 ghost use Rattle.tee_base.specs.declared.limits.TheConstants.{HOSTS};
 ghost use Rattle.app_side.specs.Represents.{boot_of, has_doubt, is_lost, turns_of};
@@ -69,8 +69,18 @@ pub(crate) fn restart_all<A: Application>(sides: &mut Vec<AppSide<A>>, kept: Opt
     ensures booted { AreBooted (boots + 1) sides.new.items }
 {
     for index in 0..sides.len() {
-        let took = kept == Some(index as u8);
+        let took = is_kept(kept, index);
         sides[index].restart(took);
+    }
+}
+
+/// The application of this index keeps its change in doubt.
+fn is_kept(kept: Option<u8>, index: usize) -> bool
+    ensures { result ≡ kept_one kept index }
+{
+    match kept {
+        None => false,
+        Some(owner) => index == owner as usize,
     }
 }
 
