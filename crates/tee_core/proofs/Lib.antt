@@ -1,3 +1,4 @@
+pub mod Backs
 pub mod Doubts
 pub mod EventLemmas
 pub mod Opens

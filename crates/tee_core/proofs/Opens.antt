@@ -1,5 +1,5 @@
 -- The world over a board that was opened.
-use Rattle.std.proofs.Common.{◌≡◌, ◌<◌, ◌≤◌, ◌+◌, ℕ, zero, suc, Bool, true, false, List, [], ◌∷◌, Option, None, Some, Result, Ok, Err, is_some, length, refl, sym, subst, ◌∙◌, ap, inl, inr, ⊎_elim, arith}
+use Rattle.std.proofs.Common.{◌≡◌, ◌<◌, ◌≤◌, ◌+◌, ℕ, zero, suc, Bool, true, false, List, [], ◌∷◌, Option, None, Some, Result, Ok, Err, drop, is_some, length, refl, sym, subst, ◌∙◌, ap, inl, inr, ⊎_elim, arith}
 use Rattle.std.specs.Prelude.{◌⊎◌, slice_get}
 use Rattle.app_api.specs.declared.host.Host.{Host}
 use Rattle.alone.specs.Machine.{Machine, start}
@@ -84,3 +84,10 @@ module _ {V A : Type 0} (K : VolumeKeeper V) (rests : (v : V) → K.honest v →
         calm = λ _ one has. none_started 0 one hosts seed stores has;
         single = λ one other first second. absurd (none_started 0 one hosts seed stores first);
       }
+
+-- a list that loses nothing with its first element has none
+pub none_left : {X : Type 0} (xs : List X) → xs ≡ drop 1 xs → xs ≡ []
+none_left [] same = refl
+none_left {X} (x ∷ xs) same =
+    let fewer : length (x ∷ xs) ≡ length xs = ap (λ (ys : List X). length ys) same in
+    absurd (omega (arith, fewer))

@@ -5,6 +5,7 @@ use Rattle.app_side.specs.declared.side.AppSide.{AppSide as Side}
 use Rattle.alone.specs.Machine.{Machine, start}
 use Rattle.tee_core.specs.Sides.{AreBooted, AreLost, AreSides}
 use Rattle.tee_core.specs.World.{World, starts_from, world_of}
+use Rattle.tee_core.proofs.Opens.{none_left}
 use Rattle.tee_core.proofs.SideLemmas.{booted_more, lost_more, sides_more, starts_one}
 use Rattle.tee_core.proofs.power.start_all.Goals as goal
 
@@ -38,7 +39,7 @@ loop-host-preserved g c =
 pub returns-clause-world : goal.returns-clause-world
 returns-clause-world g c = λ stores.
     let was = c.loop-host.invariant.sides stores in
-    let none : c.loop-host.rest.items ≡ [] = search (c.in_default.ensures.items, c.in_default.ensures.cases) in
+    let none : c.loop-host.rest.items ≡ [] = none_left c.loop-host.rest.items (c.in_default.ensures.items ∙ c.in_default.ensures.rest) in
     subst (λ (w : World g.row.A.Denot). AreSides c.loop-host.sides.items w)
     (sym (append-nil was.0) ∙ ap (λ (hosts : List (Host g.row.A.Denot)). was.0 ++ starts_from (length c.loop-host.sides.items) hosts c.args.seed stores) (sym none) ∙ was.2)
     was.1
