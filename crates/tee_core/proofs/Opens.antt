@@ -1,5 +1,5 @@
 -- The world over a board that was opened.
-use Rattle.std.proofs.Common.{◌≡◌, ◌<◌, ◌≤◌, ◌+◌, ℕ, zero, suc, Bool, true, false, List, [], ◌∷◌, Option, None, Some, Result, Ok, Err, drop, is_some, length, refl, sym, subst, ◌∙◌, ap, inl, inr, ⊎_elim, arith}
+use Rattle.std.proofs.Common.{◌≡◌, ◌<◌, ◌≤◌, ◌+◌, ℕ, zero, suc, Bool, true, false, List, [], ◌∷◌, Option, None, Some, Result, Ok, Err, IfOk, drop, is_some, length, refl, sym, subst, ◌∙◌, ap, inl, inr, ⊎_elim, arith}
 use Rattle.std.specs.Prelude.{◌⊎◌, slice_get}
 use Rattle.app_api.specs.declared.host.Host.{Host}
 use Rattle.alone.specs.Machine.{Machine, start}
@@ -91,3 +91,7 @@ none_left [] same = refl
 none_left {X} (x ∷ xs) same =
     let fewer : length (x ∷ xs) ≡ length xs = ap (λ (ys : List X). length ys) same in
     absurd (omega (arith, fewer))
+
+pub if_all : {X E : Type 0} (r : Result X E) (P Q R S : X → Type 0) → IfOk r P → IfOk r Q → IfOk r R → ((x : X) → P x → Q x → R x → S x) → IfOk r S
+if_all (Ok x) P Q R S p q r all = all x p q r
+if_all (Err e) P Q R S p q r all = tt
