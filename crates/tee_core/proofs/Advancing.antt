@@ -7,12 +7,11 @@ use Rattle.alone.specs.declared.turn.TurnKind.{TurnKind}
 use Rattle.alone.specs.declared.turn.TurnKind.TheVariants as kinds
 use Rattle.alone.specs.Machine.{Machine}
 use Rattle.alone.specs.Step.{is_changing, may_stand, step}
-use Rattle.app_side.specs.Represents.{Represents as Runs_as, event_of as turn_of, is_lost, store_kind}
+use Rattle.app_side.specs.Represents.{Represents as Runs_as, event_of as turn_of, store_kind}
 use Rattle.app_side.specs.declared.side.AppSide.{AppSide}
 use Rattle.object_asks.specs.Serving.{IsKind, SaysChange}
 use Rattle.object_dir.specs.Directories.{dir_keeper}
-use Rattle.object_dir.specs.declared.directory.ObjectDir.{ObjectDir}
-use Rattle.store_api.specs.Keeping.{Keeper, Status}
+use Rattle.store_api.specs.Keeping.{Status}
 use Rattle.store_api.specs.Volumes.{Held, RestsAt, VolumeKeeper}
 use Rattle.tee_core.specs.Moments.{IsWithin}
 use Rattle.tee_core.specs.Powers.{all_lost}
@@ -90,11 +89,11 @@ module _ {V A : Type 0} (K : VolumeKeeper V)
   pub served_plain : ((changes : Bool) → kind ≢ kinds.Lost changes) → AreLost (K.condition old).lost sides → AreLost (K.condition new).lost (set sides app after)
   served_plain served are =
       let same : (K.condition new).lost ≡ (K.condition old).lost =
-          sym lost_new ∙ lost_as_before kind ((dir_keeper K).status t.dir_before) ((dir_keeper K).status t.dir_after) cause_of served ∙ lost_old in
+      sym lost_new ∙ lost_as_before kind ((dir_keeper K).status t.dir_before) ((dir_keeper K).status t.dir_after) cause_of served ∙ lost_old in
       lost_set (K.condition new).lost sides app after (subst (λ b. AreLost b sides) (sym same) are) (t.turn.lost ∙ lost_new)
 
   pub served_lost : (changes : Bool) → kind ≡ kinds.Lost changes → (left : List (AppSide A)) → AreLost true left → AreLost (K.condition new).lost left
   served_lost changes is left are =
       let cause : IsKind (store_kind (kinds.Lost changes)) ((dir_keeper K).status t.dir_before) ((dir_keeper K).status t.dir_after) =
-          subst (λ (k : TurnKind). IsKind (store_kind k) ((dir_keeper K).status t.dir_before) ((dir_keeper K).status t.dir_after)) is cause_of in
+      subst (λ (k : TurnKind). IsKind (store_kind k) ((dir_keeper K).status t.dir_before) ((dir_keeper K).status t.dir_after)) is cause_of in
       subst (λ b. AreLost b left) (sym cause.1 ∙ lost_new) are

@@ -1,9 +1,8 @@
 -- Applications that lose their storage one after the other.
-use Rattle.std.proofs.Common.{◌≡◌, ◌<◌, ◌≤◌, ◌+◌, ℕ, zero, suc, Bool, true, false, List, [], ◌∷◌, get_or, length, map, set, refl, sym, subst, ◌∙◌, ap, arith}
+use Rattle.std.proofs.Common.{◌≡◌, ◌<◌, ◌≤◌, ◌+◌, ℕ, zero, suc, true, List, [], ◌∷◌, get_or, length, map, set, refl, sym, subst, ◌∙◌, ap, arith}
 use Rattle.alone.specs.Machine.{Machine}
 use Rattle.app_side.specs.Represents.{Represents as Runs_as, boot_of, is_lost, turns_of}
 use Rattle.app_side.specs.declared.side.AppSide.{AppSide}
-use Rattle.store_api.specs.Stores.{empty_store}
 use Rattle.tee_core.specs.Powers.{all_lost}
 use Rattle.tee_core.specs.Sides.{AreBooted, AreLost, AreSides}
 use Rattle.tee_core.specs.World.{World}

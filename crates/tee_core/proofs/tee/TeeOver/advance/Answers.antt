@@ -1,9 +1,9 @@
-use Rattle.std.proofs.Common.{◌+◌, length, set, refl, ap, ◌∙◌, arith}
+use Rattle.std.proofs.Common.{set, refl, ap, ◌∙◌, arith}
 use Rattle.app_side.specs.Represents.{is_lost}
 use Rattle.app_side.specs.declared.side.AppSide.{AppSide as Side}
 use Rattle.tee_core.proofs.Advancing.{change_all, may_all, moved_lost, moved_plain, replies_all, served_lost, served_plain, within_all}
-use Rattle.tee_core.proofs.Counts.{booted_kept, lost_kept, mapped_length, set_length, turns_apart, turns_one}
-use Rattle.tee_core.proofs.SideLemmas.{lost_at, turns_here}
+use Rattle.tee_core.proofs.Counts.{booted_kept, mapped_length, set_length, turns_apart, turns_one}
+use Rattle.tee_core.proofs.SideLemmas.{lost_at}
 use Rattle.tee_core.proofs.Turning.{counts_kept}
 use Rattle.tee_core.proofs.tee.TeeOver.advance.Goals as goal
 
@@ -120,4 +120,3 @@ pub returns-in_default-clause-replies : goal.returns-in_default-clause-replies
 returns-in_default-clause-replies g c =
     let items = c.args.self.now.sides.items in
     replies_all g.V.Volume.keeper g.met.V.Volume.rests g.met.V.Volume.since_earlier g.A.Application.behaviour items c.args.app c.args.instance c.turn_over-kind.result c.turn_over-kind.new.replies c.index_mut.result.now _ c.turn_over-kind.new.side c.args.self.now.volume c.turn_over-kind.new.volume c.requires.known c.index_mut.ensures.value c.turn_over-kind.ensures.turn
-

@@ -7,4 +7,4 @@ pub returns-in-Call-clause-moments : goal.returns-in-Call-clause-moments
 returns-in-Call-clause-moments g c =
     let tee = c.args.self.now in
     if_ok_all c.call.result _ (λ told world whole.
-    moments_still g.V.Volume.keeper g.met.V.Volume.since_earlier tee.sides.items tee.volume (volume_of c.call.new.self) world _ c.call.ensures.volume whole)
+    moments_still g.V.Volume.keeper tee.sides.items tee.volume (volume_of c.call.new.self) world _ c.call.ensures.volume whole)
