@@ -1,12 +1,16 @@
+pub mod Advancing
 pub mod Backs
+pub mod Counts
 pub mod Doubts
 pub mod EventLemmas
+pub mod Losing
 pub mod Opens
 pub mod Powers
 pub mod Restarts
 pub mod Runs
 pub mod SideLemmas
 pub mod Steps
+pub mod Still
 pub mod Stores
 pub mod Told
 pub mod Turning

@@ -70,10 +70,12 @@ module _ {A : Type 0} where
   stores_set kept r i [] held then m same own are = tt
   stores_set kept r zero (n ∷ world) held then m same own are =
       (subst (λ k. region_in k then ≡ Ok (store_found (kept k) m.store m.in_doubt)) (omega arith) own, stores_same kept (r + 1) world held then (λ b le. same b (λ is. absurd (omega (arith, le, is)))) are.1)
-  stores_set kept r (suc i) (n ∷ world) held then m same own are =
-      (same r (λ is. absurd (omega (arith, is))) ∙ are.0, stores_set kept (r + 1) i world held then m
-      (λ b other. same b (λ is. other (omega (arith, is))))
-      (subst (λ k. region_in k then ≡ Ok (store_found (kept k) m.store m.in_doubt)) (omega arith) own) are.1)
+  stores_set kept r (suc i) (n ∷ world) held then m same own are = (
+    same r (λ is. absurd (omega (arith, is))) ∙ are.0,
+    stores_set kept (r + 1) i world held then m
+        (λ b other. same b (λ is. other (omega (arith, is))))
+        (subst (λ k. region_in k then ≡ Ok (store_found (kept k) m.store m.in_doubt)) (omega arith) own) are.1,
+  )
 
   -- the store of one of them
   pub store_at : (kept : ℕ → Bool) (r i : ℕ) (world : World A) (held : Held) (m : Machine A) → slice_get world i ≡ Some m → StoresFrom kept r world held → region_in (r + i) held ≡ Ok (store_found (kept (r + i)) m.store m.in_doubt)
@@ -92,22 +94,25 @@ module _ {A : Type 0} where
   -- those behind the owner have none
   stores_behind : (owner r : ℕ) (world : World A) (held then : Held) → owner < r → ((b : ℕ) → r ≤ b → region_in b then ≡ region_in b held) → StoresFrom none_kept r world held → StoresFrom (kept_of owner) r world then
   stores_behind owner r [] held then behind same are = tt
-  stores_behind owner r (m ∷ world) held then behind same are =
-      (same r (omega arith) ∙ are.0 ∙ ap (λ b. Ok (store_found b m.store m.in_doubt)) (sym (ne_eqb r owner (λ is. absurd (omega (arith, is, behind))))),
-      stores_behind owner (r + 1) world held then (omega (arith, behind)) (λ b le. same b (omega (arith, le))) are.1)
+  stores_behind owner r (m ∷ world) held then behind same are = (
+    same r (omega arith) ∙ are.0 ∙ ap (λ b. Ok (store_found b m.store m.in_doubt)) (sym (ne_eqb r owner (λ is. absurd (omega (arith, is, behind))))),
+    stores_behind owner (r + 1) world held then (omega (arith, behind)) (λ b le. same b (omega (arith, le))) are.1,
+  )
 
   -- where only the one that is set has a change that is kept
   pub stores_kept : (r i : ℕ) (world : World A) (held then : Held) (m : Machine A) → ((b : ℕ) → b ≢ r + i → region_in b then ≡ region_in b held)
       → region_in (r + i) then ≡ Ok (store_found true m.store m.in_doubt) → StoresFrom none_kept r world held → StoresFrom (kept_of (r + i)) r (set world i m) then
   stores_kept r i [] held then m same own are = tt
-  stores_kept r zero (n ∷ world) held then m same own are =
-      (subst (λ k. region_in k then ≡ Ok (store_found (k == r + 0) m.store m.in_doubt)) (omega arith) (own ∙ ap (λ b. Ok (store_found b m.store m.in_doubt)) (sym (eq-eqb (r + 0) (r + 0) refl))),
-      stores_behind (r + 0) (r + 1) world held then (omega arith) (λ b le. same b (λ is. absurd (omega (arith, le, is)))) are.1)
+  stores_kept r zero (n ∷ world) held then m same own are = (
+    subst (λ k. region_in k then ≡ Ok (store_found (k == r + 0) m.store m.in_doubt)) (omega arith) (own ∙ ap (λ b. Ok (store_found b m.store m.in_doubt)) (sym (eq-eqb (r + 0) (r + 0) refl))),
+    stores_behind (r + 0) (r + 1) world held then (omega arith) (λ b le. same b (λ is. absurd (omega (arith, le, is)))) are.1,
+  )
   stores_kept r (suc i) (n ∷ world) held then m same own are =
-      let at : r + suc i ≡ r + 1 + i = omega arith in
-      (same r (λ is. absurd (omega (arith, is))) ∙ are.0 ∙ ap (λ b. Ok (store_found b n.store n.in_doubt)) (sym (ne_eqb r (r + suc i) (λ is. absurd (omega (arith, is))))),
-      subst (λ k. StoresFrom (kept_of k) (r + 1) (set world i m) then) (sym at)
-      (stores_kept (r + 1) i world held then m (λ b other. same b (λ is. other (is ∙ at))) (subst (λ k. region_in k then ≡ Ok (store_found true m.store m.in_doubt)) at own) are.1))
+      let at : r + suc i ≡ r + 1 + i = omega arith in (
+        same r (λ is. absurd (omega (arith, is))) ∙ are.0 ∙ ap (λ b. Ok (store_found b n.store n.in_doubt)) (sym (ne_eqb r (r + suc i) (λ is. absurd (omega (arith, is))))),
+        subst (λ k. StoresFrom (kept_of k) (r + 1) (set world i m) then) (sym at)
+            (stores_kept (r + 1) i world held then m (λ b other. same b (λ is. other (is ∙ at))) (subst (λ k. region_in k then ≡ Ok (store_found true m.store m.in_doubt)) at own) are.1),
+      )
 
   -- the same of the whole world
   pub whole_set : (world : World A) (app : ℕ) (held then : Held) (m : Machine A) → ((b : ℕ) → b ≢ app → region_in b then ≡ region_in b held) → region_in app then ≡ Ok m.store

@@ -81,10 +81,12 @@ pub stores_stay : {A : Type 0} (kept : ℕ → Bool) (r i : ℕ) (world : World 
     → StoresFrom kept r world held → StoresFrom kept r (set world i then) held
 stores_stay {A} kept r i [] held m then here store doubt are = absurd (let e : None ≡ Some m = here in cc)
 stores_stay {A} kept r zero (n ∷ world) held m then here store doubt are =
-    let is : n ≡ m = let e : Some n ≡ Some m = here in cc in
-    (are.0 ∙ ap (λ (x : Machine A). Ok (store_found (kept r) x.store x.in_doubt)) is
-    ∙ ap (λ (s : Store). Ok (store_found (kept r) s m.in_doubt)) (sym store)
-    ∙ ap (λ (d : Option Store). Ok (store_found (kept r) then.store d)) (sym doubt), are.1)
+    let is : n ≡ m = let e : Some n ≡ Some m = here in cc in (
+      are.0 ∙ ap (λ (x : Machine A). Ok (store_found (kept r) x.store x.in_doubt)) is
+          ∙ ap (λ (s : Store). Ok (store_found (kept r) s m.in_doubt)) (sym store)
+          ∙ ap (λ (d : Option Store). Ok (store_found (kept r) then.store d)) (sym doubt),
+      are.1,
+    )
 stores_stay kept r (suc i) (n ∷ world) held m then here store doubt are = (are.0, stores_stay kept (r + 1) i world held m then here store doubt are.1)
 
 -- what a crash left has the same stores as this
@@ -254,8 +256,12 @@ module _ {V A : Type 0} (K : VolumeKeeper V)
       let number : (D.contents e).number ≡ (D.contents d).number = ap (λ (c : Contents). c.number) still in
       let greater : (K.held new).sequence < r.held.sequence = let lt = further.1 in let same = r.sequence in omega (arith, lt, same, number, number_then) in
       subst (λ (x : Option Held). IsLeftOf (set world app then) (K.held new).sequence x) (sym r.is)
-      (inr (app, record { machine = then; there = get_set world app m then here; doubt = ap (λ (x : Option Store). is_some x) is }, greater,
-      whole_kept world app (K.held old) r.held then (λ b other. same_region app b (K.held old) r.held r.rest other) (r.store ∙ ap (λ (x : Option Store). Ok (store_found true then.store x)) (sym is)) whole.stores))) left
+      (inr (
+        app,
+        record { machine = then; there = get_set world app m then here; doubt = ap (λ (x : Option Store). is_some x) is },
+        greater,
+        whole_kept world app (K.held old) r.held then (λ b other. same_region app b (K.held old) r.held r.rest other) (r.store ∙ ap (λ (x : Option Store). Ok (store_found true then.store x)) (sym is)) whole.stores,
+      ))) left
 
   left_working : (k : StoreKind) → store_kind kind ≡ k → (K.condition old).lost ≡ false → (o : Option Held) → K.left_since new (K.moment new) o → IsLeftOf (set world app then) (K.held new).sequence o
   left_working store_kinds.Plain is works o left = after_just (subst (λ (k : StoreKind). UnlessInDoubt k (LeavesJust D e (D.contents e))) is (crash works).afterwards) o left
@@ -271,8 +277,10 @@ module _ {V A : Type 0} (K : VolumeKeeper V)
   -- ---- over a volume that was lost
 
   not_lost : (k : StoreKind) → store_kind kind ≡ k → (K.condition old).lost ≡ true → ((changes : Bool) → k ≢ store_kinds.Lost changes) × ((D.status e).lost ≡ true)
-  not_lost store_kinds.Plain is lost = (λ changes same. absurd (let f : store_kinds.Plain ≡ store_kinds.Lost changes = same in cc),
-      (subst (λ (k : StoreKind). IsKind k (D.status d) (D.status e)) is t.turn.status.cause) ∙ lost_before ∙ lost)
+  not_lost store_kinds.Plain is lost = (
+    λ changes same. absurd (let f : store_kinds.Plain ≡ store_kinds.Lost changes = same in cc),
+    (subst (λ (k : StoreKind). IsKind k (D.status d) (D.status e)) is t.turn.status.cause) ∙ lost_before ∙ lost,
+  )
   not_lost (store_kinds.Lost changes) is lost =
       let cause : IsKind (store_kinds.Lost changes) (D.status d) (D.status e) = subst (λ (k : StoreKind). IsKind k (D.status d) (D.status e)) is t.turn.status.cause in
       absurd (let f : true ≡ false = sym lost ∙ sym lost_before ∙ cause.0 in cc)
@@ -325,8 +333,10 @@ module _ {V A : Type 0} (K : VolumeKeeper V)
   -- ---- changes in doubt
 
   calm_kind : (k : StoreKind) → store_kind kind ≡ k → (K.condition new).lost ≡ false → ((changes : Bool) → k ≢ store_kinds.Lost changes) × ((K.condition old).lost ≡ false)
-  calm_kind store_kinds.Plain is works = (λ changes same. absurd (let f : store_kinds.Plain ≡ store_kinds.Lost changes = same in cc),
-      sym lost_before ∙ sym (subst (λ (k : StoreKind). IsKind k (D.status d) (D.status e)) is t.turn.status.cause) ∙ lost_after ∙ works)
+  calm_kind store_kinds.Plain is works = (
+    λ changes same. absurd (let f : store_kinds.Plain ≡ store_kinds.Lost changes = same in cc),
+    sym lost_before ∙ sym (subst (λ (k : StoreKind). IsKind k (D.status d) (D.status e)) is t.turn.status.cause) ∙ lost_after ∙ works,
+  )
   calm_kind (store_kinds.Lost changes) is works =
       let cause : IsKind (store_kinds.Lost changes) (D.status d) (D.status e) = subst (λ (k : StoreKind). IsKind k (D.status d) (D.status e)) is t.turn.status.cause in
       absurd (let f : true ≡ false = sym cause.1 ∙ lost_after ∙ works in cc)
@@ -364,7 +374,7 @@ module _ {V A : Type 0} (K : VolumeKeeper V)
   new_has : (o : Option Held) (n : ℕ) → remains_in app o ≡ Some (record { store = (D.contents e).store; rest = (D.contents d).rest; number = n }) → HasStoresOf (set world app then) o
   new_has o n is =
       let r = remains_is app o (record { store = (D.contents e).store; rest = rest_of app (K.held old); number = n })
-          (is ∙ ap (λ (c : Contents). Some (record { store = (D.contents e).store; rest = c.rest; number = n })) contents_before) in
+      (is ∙ ap (λ (c : Contents). Some (record { store = (D.contents e).store; rest = c.rest; number = n })) contents_before) in
       subst (λ (x : Option Held). HasStoresOf (set world app then) x) (sym r.is)
       (inl (whole_set world app (K.held old) r.held then (λ b other. same_region app b (K.held old) r.held r.rest other)
       (r.store ∙ ap (λ (s : Store). Ok s) (sym store_then)) whole.stores))
@@ -373,8 +383,11 @@ module _ {V A : Type 0} (K : VolumeKeeper V)
   doubt_has o store n doubt is =
       let r = remains_is app o (record { store = store; rest = rest_of app (K.held old); number = n }) (is ∙ ap (λ (c : Contents). Some (record { store = store; rest = c.rest; number = n })) contents_before) in
       subst (λ (x : Option Held). HasStoresOf (set world app then) x) (sym r.is)
-      (inr (app, record { machine = then; there = get_set world app m then here; doubt = ap (λ (x : Option Store). is_some x) doubt },
-      whole_kept world app (K.held old) r.held then (λ b other. same_region app b (K.held old) r.held r.rest other) (r.store ∙ ap (λ (x : Option Store). Ok (store_found true then.store x)) (sym doubt)) whole.stores))
+      (inr (
+        app,
+        record { machine = then; there = get_set world app m then here; doubt = ap (λ (x : Option Store). is_some x) doubt },
+        whole_kept world app (K.held old) r.held then (λ b other. same_region app b (K.held old) r.held r.rest other) (r.store ∙ ap (λ (x : Option Store). Ok (store_found true then.store x)) (sym doubt)) whole.stores,
+      ))
 
   left_within : (k : StoreKind) (doubt : Option Store) (o : Option Held) → then.in_doubt ≡ doubt → LeftByTurn k doubt (D.contents d) (D.contents e) (remains_in app o) → HasStoresOf world o ⊎ HasStoresOf (set world app then) o
   left_within store_kinds.Plain doubt o is left = ⊎_elim
@@ -460,7 +473,6 @@ module _ {V A : Type 0} (K : VolumeKeeper V)
         (λ changes is. subst (λ (w : World A). HasStoresOf world o ⊎ HasStoresOf w o) (sym (stepped_lost changes is))
         (⊎_elim (λ (was : HasStoresOf world o). inl was) (λ (is_now : HasStoresOf (set world app then) o). inr (has_lost (set world app then) o is_now)) (each_within o left)));
   }
-
 
 rose_by : (kind : TurnKind) (old new : Status) → IsKind (store_kind kind) old new → RoseIfLost kind old.faults new.faults
 rose_by kinds.Plain old new cause = tt

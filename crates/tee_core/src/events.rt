@@ -58,7 +58,8 @@ impl<B, V: Volume, A: Application> TeeOver<B, V, A> {
         ensures err { OnErr result (IsCall event × (volume_of self.new ≡ volume_of self.old)
             × ((world : World A) → Represents self.old world → Represents self.new world)) }
         ensures apps { app_count self.new ≡ app_count self.old }
-        ensures turns { turns_made self.new (app_of event) ≤ turns_made self.old (app_of event) + 1 }
+        ensures turns { turns_made self.new (app_of event)
+            ≤ turns_made self.old (app_of event) + 1 }
         ensures others { (app : ℕ) → app ≢ app_of event
             → turns_made self.new app ≡ turns_made self.old app }
         ensures boots { boots_of self.new ≡ boots_of self.old }
