@@ -3,8 +3,9 @@
 ghost use Rattle.std.specs.Prelude.{◌≡◌, ◌<◌, ◌≤◌, ◌≢◌, ◌+◌, ◌^◌, ℕ, [], IfOk, OnErr, OnOk, Some, slice_get, true};
 ghost use Rattle.alone.specs.Machine.{Machine};
 ghost use Rattle.alone.specs.declared.turn.TurnKind.TheVariants.{Plain};
-ghost use Rattle.alone.specs.Step.{may_stand, step, Called, Cancelled};
-ghost use Rattle.app_side.specs.Represents.{event_of as turn_of};
+ghost use Rattle.alone.specs.Step.{is_changing, may_stand, step, Called, Cancelled};
+ghost use Rattle.app_side.specs.Represents.{event_of as turn_of, store_kind};
+ghost use Rattle.object_asks.specs.Serving.{SaysChange};
 ghost use Rattle.tee_core.specs.Happenings.{happening};
 ghost use Rattle.tee_core.specs.Represents.{app_count, app_of, boots_of, event_of, machine_event, turns_made, volume_of, IsCall, Represents};
 ghost use Rattle.tee_core.specs.Moments.{IsWithin, KeepsCounts};
@@ -168,6 +169,9 @@ impl<B, V: Volume, A: Application> TeeOver<B, V, A> {
             (record { app = app; event = turn_of result instance })) }
         ensures stands { (world : World A) (m : Machine A) → Represents self.old world
             → slice_get world app ≡ Some m → may_stand m (turn_of result instance) ≡ true }
+        ensures change { (world : World A) (m : Machine A) → Represents self.old world
+            → slice_get world app ≡ Some m
+            → SaysChange (store_kind result) (is_changing m instance) }
         ensures moments { (world : World A) → Represents self.old world
             → IsWithin V.keeper world (world_step A.behaviour world
             (record { app = app; event = turn_of result instance }))

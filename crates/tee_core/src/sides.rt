@@ -1,6 +1,6 @@
 //! Applications side by side: turns over their regions, losses and restarts of all of them.
 
-ghost use Rattle.std.specs.Prelude.{◌≡◌, ◌≤◌, ◌<◌, ◌+◌, ◌-◌, ◌^◌, [], false, true, IfNone, IfSome, length, map, slice_get, Some};
+ghost use Rattle.std.specs.Prelude.{◌≡◌, ◌≤◌, ◌<◌, ◌+◌, ◌-◌, ◌^◌, ℕ, [], false, true, IfNone, IfSome, length, map, slice_get, Some};
 ghost use Rattle.tee_base.specs.declared.limits.TheConstants.{HOSTS};
 ghost use Rattle.app_side.specs.Represents.{boot_of, has_doubt, is_lost, turns_of};
 ghost use Rattle.app_side.specs.declared.side.AppSide.{AppSide as Side};

@@ -2,7 +2,7 @@
 
 ghost use Rattle.std.specs.Prelude.{◌≤◌, vec_len};
 ghost use Rattle.tee_base.specs.declared.limits.TheConstants.{HOSTS};
-ghost use Rattle.tee_core.specs.Sides.{AreBooted, AreLost};
+ghost use Rattle.tee_core.specs.Sides.{AreBooted, AreBooted-prop, AreLost, AreLost-prop};
 
 use app_side::AppSide;
 use std::alloc::Global;
@@ -19,6 +19,7 @@ pub struct TeeOver<B, V: Volume, A> {
     pub(crate) boots: u32,
     pub(crate) board: PhantomData<B>,
     ghost few: { vec_len sides ≤ HOSTS },
-    ghost served: { AreLost (V.keeper.condition volume).lost sides.items },
-    ghost booted: { AreBooted boots sides.items },
+    ghost served: { AreLost (V.keeper.condition volume).lost sides.items }
+        by { AreLost-prop (V.keeper.condition volume).lost sides.items },
+    ghost booted: { AreBooted boots sides.items } by { AreBooted-prop boots sides.items },
 }
