@@ -1,5 +1,6 @@
 pub mod EventLemmas
 pub mod Powers
+pub mod RunCounts
 pub mod Runs
 pub mod SideLemmas
 pub mod Steps
@@ -7,3 +8,4 @@ pub mod Stores
 pub mod Told
 pub mod Turning
 pub mod Turns
+pub mod TurnsMade
