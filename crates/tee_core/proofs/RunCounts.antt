@@ -74,3 +74,9 @@ call_tells_none h plain = ap (λ k. is_lost_turn k || false) plain
 pub run_counted : (h : Happened) (before told : List Happened) (first old new : Condition) → h.kind ≡ kinds.Plain → before ≡ h ∷ [] → old ≡ first → HasRunBehind before told old new → HasRun told first new
 run_counted h before told first old new plain alone same run some =
     subst (λ (c : Condition). Rose c.faults new.faults) same (run (ap tells_loss alone ∙ call_tells_none h plain) some)
+
+pub kept_still : (first old : Condition) → old ≡ first → KeepsFoundation first old
+kept_still first old same = subst (λ (c : Condition). KeepsFoundation first c) (sym same) (kept_begun first)
+
+pub kept_from : (first old new : Condition) → old ≡ first → KeepsFoundation old new → KeepsFoundation first new
+kept_from first old new same kept = subst (λ (c : Condition). KeepsFoundation c new) same kept
