@@ -1,9 +1,13 @@
+pub mod Advancing
+pub mod Counts
 pub mod EventLemmas
+pub mod Losing
 pub mod Powers
 pub mod RunCounts
 pub mod Runs
 pub mod SideLemmas
 pub mod Steps
+pub mod Still
 pub mod Stores
 pub mod Told
 pub mod Turning

@@ -2,7 +2,9 @@
 
 ghost use Rattle.std.specs.Prelude.{◌≡◌, ◌≤◌, ◌<◌, ◌+◌, ◌-◌, ◌^◌, ℕ, [], false, true, IfNone, IfSome, length, map, slice_get, Some};
 ghost use Rattle.tee_base.specs.declared.limits.TheConstants.{HOSTS};
-ghost use Rattle.app_side.specs.Represents.{boot_of, has_doubt, is_lost, turns_of};
+ghost use Rattle.alone.specs.Machine.{Machine};
+ghost use Rattle.alone.specs.Step.{step, Lost};
+ghost use Rattle.app_side.specs.Represents.{boot_of, has_doubt, is_lost, turns_of, Represents};
 ghost use Rattle.app_side.specs.declared.side.AppSide.{AppSide as Side};
 ghost use Rattle.tee_core.specs.Powers.{all_lost, kept_one, restarts_from};
 ghost use Rattle.tee_core.specs.Sides.{AreBooted, AreLost, AreSides, IsNoneInDoubt};
@@ -50,10 +52,20 @@ pub(crate) fn lose_all<A: Application>(sides: &mut Vec<AppSide<A>>)
         → AreBooted boots sides.new.items }
 {
     for index in 0..sides.len() {
-        if !sides[index].is_lost() {
-            sides[index].lose();
-        }
+        lose_one(&mut sides[index]);
     }
+}
+
+/// The storage of one of them is lost, unless it is lost already.
+fn lose_one<A: Application>(side: &mut AppSide<A>)
+    ensures step { (m : Machine A) → Represents side.old m
+        → Represents side.new (step A.behaviour m Lost).machine }
+    ensures lost { is_lost side.new ≡ true }
+{
+    if side.is_lost() {
+        return;
+    }
+    side.lose();
 }
 
 /// The power of all of them came back, of which one may keep its change in doubt.
