@@ -1,6 +1,6 @@
 -- What turns behind a call leave of the counts of what a volume stands on.
-use Rattle.std.proofs.Common.{◌≡◌, ◌≤◌, ◌<◌, ◌+◌, ◌-◌, ◌^◌, ◌==◌, ℕ, Bool, true, false, List, [], ◌∷◌, refl, sym, subst, ◌∙◌, ap, append-nil, inl, inr, ⊎_elim, arith}
-use Rattle.std.specs.Prelude.{◌⊎◌, ◌||◌, ◌++◌, nat_lt}
+use Rattle.std.proofs.Common.{◌≡◌, ◌≤◌, ◌<◌, ◌-◌, ◌^◌, ℕ, true, false, List, [], ◌∷◌, refl, sym, subst, ◌∙◌, ap, append-nil, inl, inr, ⊎_elim, arith}
+use Rattle.std.specs.Prelude.{◌||◌, ◌++◌, nat_lt}
 use Rattle.std.proofs.Math.Bool.{or-false}
 use Rattle.std.proofs.lemmas.Bool.{cond_both, ltb-false, ltb-true}
 use Rattle.std.proofs.lemmas.List.Folds.{list_any-append}
@@ -21,10 +21,10 @@ rose_later a b c le rose = ⊎_elim (λ (lt : b < c). inl (omega (arith, le, lt)
 rose_longer : (a b c : ℕ) → a ≤ b → b ≤ c → Rose a b → Rose a c
 rose_longer a b c le further rose = ⊎_elim (λ (lt : a < b). inl (omega (arith, lt, further)))
     (λ (end : b ≡ 2 ^ 64 - 1).
-        elim (nat_lt a c) as (λ t. nat_lt a c ≡ t → Rose a c) [
-          | true ↦ λ is. inl (ltb-true a c is)
-          | false ↦ λ is. let last = ltb-false a c is in inr (omega (arith, le, further, last, end))
-        ] refl) rose
+    elim (nat_lt a c) as (λ t. nat_lt a c ≡ t → Rose a c) [
+      | true ↦ λ is. inl (ltb-true a c is)
+      | false ↦ λ is. let last = ltb-false a c is in inr (omega (arith, le, further, last, end))
+    ] refl) rose
 
 -- ---- what is told
 

@@ -1,6 +1,6 @@
 -- The machine of one application in the world after its turns so far, and one turn more.
 use Rattle.app_api.specs.Behaviours.{Behaviour}
-use Rattle.std.proofs.Common.{◌≡◌, ◌++◌, ◌<◌, ◌+◌, ℕ, zero, suc, Bool, true, false, List, [], ◌∷◌, Option, None, Some, length, map, get_or, set, refl, sym, subst, ◌∙◌, ap, arith}
+use Rattle.std.proofs.Common.{◌≡◌, ◌++◌, ◌<◌, ◌+◌, ℕ, zero, suc, Bool, true, false, List, [], ◌∷◌, Option, None, Some, length, map, get_or, refl, sym, subst, ◌∙◌, ap}
 use Rattle.std.specs.Prelude.{slice_get}
 use Rattle.alone.specs.declared.reply.Reply.{Reply}
 use Rattle.alone.specs.declared.turn.TurnKind.{TurnKind}
@@ -8,7 +8,7 @@ use Rattle.alone.specs.declared.turn.TurnKind.TheVariants as kinds
 use Rattle.alone.specs.Machine.{Machine}
 use Rattle.alone.specs.Runs.{machine_after}
 use Rattle.alone.specs.Step.{Event, Called, Cancelled, Turned, TurnLost, Corrupted, Lost, Starved, Restarted, is_answered, is_changing, may_stand, step}
-use Rattle.app_side.specs.Represents.{Represents as Runs_as, event_of, store_kind, turns_of}
+use Rattle.app_side.specs.Represents.{Represents as Runs_as, event_of, store_kind}
 use Rattle.app_side.specs.declared.side.AppSide.{AppSide}
 use Rattle.object_asks.specs.Serving.{SaysChange}
 use Rattle.store_api.specs.Volumes.{VolumeKeeper}
@@ -16,7 +16,7 @@ use Rattle.tee_core.specs.declared.happened.Happened.{Happened}
 use Rattle.tee_core.specs.Happenings.{IsPlainBehind, told_behind, turn_happened}
 use Rattle.tee_core.specs.Represents.{StandFor}
 use Rattle.tee_core.specs.Sides.{AreSides, turns_in}
-use Rattle.tee_core.specs.World.{AppEvent, World, events_at, met_by_others, moved_at, world_after, world_step}
+use Rattle.tee_core.specs.World.{World, events_at, met_by_others, moved_at, world_after, world_step}
 use Rattle.tee_core.proofs.SideLemmas.{get_set, side_here}
 use Rattle.tee_core.proofs.Steps.{SaysChanging, turn_is}
 use Rattle.tee_core.proofs.Turns.{HasTurned, Leads, turns_further, turns_start}
@@ -110,7 +110,7 @@ module _ {V A : Type 0} (K : VolumeKeeper V) (behaviour : Behaviour A) (world : 
         let e : Event = event_of kind i in
         let stepped = steps so_far run.stands in
         let turns : turn ≡ (step behaviour run.now e).machine.turns =
-                counted ∙ sides_turns then (world_step behaviour so_far (record { app = app; event = e })) app (step behaviour run.now e).machine stepped.sides_are (at_step behaviour so_far app run.now e now_there) in
+        counted ∙ sides_turns then (world_step behaviour so_far (record { app = app; event = e })) app (step behaviour run.now e).machine stepped.sides_are (at_step behaviour so_far app run.now e now_there) in
         let told_so = turn_is behaviour run.now kind i turn replies (says_so kind (is_changing run.now i) (change so_far run.now run.stands now_there)) turns (replied so_far run.now run.stands now_there) in
         turns_further behaviour (Leads behaviour (λ (w : World A). StandFor K sides old w) world app) (Leads behaviour (λ (w : World A). StandFor K then new w) world app) m i op k before told run within not_yet
         (turn_happened kind turn i replies) (stands so_far run.now run.stands now_there)

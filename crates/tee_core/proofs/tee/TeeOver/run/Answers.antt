@@ -1,9 +1,8 @@
-use Rattle.std.proofs.Common.{rules, ◌≡◌, ◌∷◌, ◌++◌, [], List, refl, sym, subst, ◌∙◌, ap, arith}
-use Rattle.alone.specs.Step.{Called, called}
+use Rattle.std.proofs.Common.{◌∷◌, ◌++◌, [], List, sym, subst, ◌∙◌, ap, arith}
+use Rattle.alone.specs.Step.{Called}
 use Rattle.tee_core.specs.declared.happened.Happened.{Happened}
 use Rattle.tee_core.specs.Happenings.{IsPlainBehind}
 use Rattle.tee_core.specs.Represents.{Represents, turns_made, volume_of}
-use Rattle.tee_core.specs.World.{world_step}
 use Rattle.tee_core.proofs.RunCounts.{kept_from, kept_still, run_counted}
 use Rattle.tee_core.proofs.Runs.{run_call, run_none, run_part, run_stands, run_told}
 use Rattle.tee_core.proofs.SideLemmas.{side_at}

@@ -1,4 +1,4 @@
-use Rattle.std.proofs.Common.{rules, ◌≡◌, ◌+◌, List, refl, sym, subst, ◌∙◌, ap, arith}
+use Rattle.std.proofs.Common.{◌+◌, List, refl, sym, subst, ◌∙◌, arith}
 use Rattle.tee_core.specs.declared.happened.Happened.{Happened}
 use Rattle.tee_core.specs.Happenings.{turn_happened}
 use Rattle.tee_core.specs.Moments.{HasRunBehind}
@@ -35,7 +35,7 @@ returns-then-answered-clause-ok g c = λ world m is here.
     let sides = c.loop.self.sides.items in
     let run = c.loop.invariant.run world m is here in
     let says = now_says keeper behaviour world m c.args.app c.args.instance c.args.op here sides c.loop.self.volume c.loop.counter c.args.told.now c.loop.told run c.index.result.now _ c.answered.result
-        (omega (arith, c.requires.known, c.loop.invariant.apps)) c.index.ensures c.answered.ensures in
+    (omega (arith, c.requires.known, c.loop.invariant.apps)) c.index.ensures c.answered.ensures in
     turns_answered behaviour (λ after. Represents c.loop.self after) world c.args.app m c.args.instance c.args.op c.loop.counter _ c.args.told.now c.loop.told run
     (now_turns keeper behaviour world m c.args.app c.args.instance c.args.op here sides c.loop.self.volume c.loop.counter c.args.told.now c.loop.told run) (sym says ∙ c.if-answered.true)
 
@@ -48,7 +48,7 @@ returns-in_err-tell_turn-clause-err g c = on_err_known c.from_residual.result _ 
     let turned = c.advance-kind.ensures in
     let run = c.loop.invariant.run world m is here in
     let says = now_says keeper behaviour world m c.args.app c.args.instance c.args.op here sides c.loop.self.volume c.loop.counter c.args.told.now c.loop.told run c.index.result.now _ c.answered.result
-        (omega (arith, c.requires.known, c.loop.invariant.apps)) c.index.ensures c.answered.ensures in
+    (omega (arith, c.requires.known, c.loop.invariant.apps)) c.index.ensures c.answered.ensures in
     turns_stopped behaviour (λ after. Represents new after) world c.args.app m c.args.instance c.args.op (c.loop.counter + 1) c.args.told.now _
     (made_further keeper behaviour world m c.args.app c.args.instance c.args.op here sides c.loop.self.volume c.loop.counter c.args.told.now c.loop.told run new.sides.items new.volume
     c.advance-kind.result c.turns.result c.advance-kind.new.replies turned.world turned.stands turned.change turned.replies c.turns.ensures c.loop-test.true (sym says ∙ c.if-answered.false)))
@@ -63,7 +63,7 @@ loop-preserved g c = record {
       let turned = c.advance-kind.ensures in
       let run = c.loop.invariant.run world m is here in
       let says = now_says keeper behaviour world m c.args.app c.args.instance c.args.op here sides c.loop.self.volume c.loop.counter c.args.told.now c.loop.told run c.index.result.now _ c.answered.result
-          (omega (arith, c.requires.known, c.loop.invariant.apps)) c.index.ensures c.answered.ensures in
+      (omega (arith, c.requires.known, c.loop.invariant.apps)) c.index.ensures c.answered.ensures in
       subst (λ (ts : List Happened). Made keeper behaviour world m c.args.app c.args.instance c.args.op here new.sides.items new.volume (c.loop.counter + 1) c.args.told.now ts) (sym c.in_ok-tell_turn.ensures.ok)
       (made_further keeper behaviour world m c.args.app c.args.instance c.args.op here sides c.loop.self.volume c.loop.counter c.args.told.now c.loop.told run new.sides.items new.volume
       c.advance-kind.result c.turns.result c.advance-kind.new.replies turned.world turned.stands turned.change turned.replies c.turns.ensures c.loop-test.true (sym says ∙ c.if-answered.false));
