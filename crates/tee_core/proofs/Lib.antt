@@ -7,6 +7,7 @@ pub mod Losing
 pub mod Opens
 pub mod Powers
 pub mod Restarts
+pub mod RunCounts
 pub mod Runs
 pub mod SideLemmas
 pub mod Steps
@@ -15,3 +16,4 @@ pub mod Stores
 pub mod Told
 pub mod Turning
 pub mod Turns
+pub mod TurnsMade

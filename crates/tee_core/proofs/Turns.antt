@@ -139,7 +139,7 @@ module _ {A : Type 0} (behaviour : Behaviour A) where
 
   -- what stands for the world after them
   module _ (Stands : World A → Type 0) (world : World A) (app : ℕ) where
-    abbrev Leads : List Event → Type 0
+    abbrev pub Leads : List Event → Type 0
     Leads made = Stands (world_after behaviour world (events_at behaviour app made))
 
     -- no turn is left

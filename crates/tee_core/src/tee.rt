@@ -19,7 +19,6 @@ pub struct TeeOver<B, V: Volume, A> {
     pub(crate) boots: u32,
     pub(crate) board: PhantomData<B>,
     ghost few: { vec_len sides ≤ HOSTS },
-    ghost served: { AreLost (V.keeper.condition volume).lost sides.items }
-        by { AreLost-prop (V.keeper.condition volume).lost sides.items },
+    ghost served: { AreLost (V.keeper.condition volume).lost sides.items } by { AreLost-prop (V.keeper.condition volume).lost sides.items },
     ghost booted: { AreBooted boots sides.items } by { AreBooted-prop boots sides.items },
 }
