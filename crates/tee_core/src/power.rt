@@ -73,13 +73,7 @@ fn owner_kept(owner: Option<u8>, kept: bool) -> Option<u8>
 {
     match owner {
         None => None,
-        Some(owner) => {
-            if kept {
-                Some(owner)
-            } else {
-                None
-            }
-        }
+        Some(owner) => { if kept { Some(owner) } else { None } }
     }
 }
 

@@ -23,14 +23,15 @@ loop-host-preserved g c =
     record {
       sides = λ stores.
           let was = old.sides stores in
-          let m : Machine g.row.A.Denot = start c.in-Some.host n c.args.seed (stores n) in
-          (was.0 ++ m ∷ [],
-          subst (λ (hs : List (Side g.row.A.Denot)). AreSides hs (was.0 ++ m ∷ [])) (sym pushed)
-          (sides_more ss was.0 s m was.1 (subst (λ (k : ℕ). Runs_as s (start c.in-Some.host k c.args.seed (stores n))) (c.len-index.ensures ∙ c.loop-host.sides.ok.0) (new.start (stores n)))),
-          ap (λ (k : ℕ). (was.0 ++ m ∷ []) ++ starts_from k c.pop_front.new.self.items c.args.seed stores) longer
-          ∙ starts_one was.0 n c.in-Some.host c.pop_front.new.self.items c.args.seed stores
-          ∙ ap (λ (hosts : List (Host g.row.A.Denot)). was.0 ++ starts_from n hosts c.args.seed stores) (sym items)
-          ∙ was.2);
+          let m : Machine g.row.A.Denot = start c.in-Some.host n c.args.seed (stores n) in (
+            was.0 ++ m ∷ [],
+            subst (λ (hs : List (Side g.row.A.Denot)). AreSides hs (was.0 ++ m ∷ [])) (sym pushed)
+                (sides_more ss was.0 s m was.1 (subst (λ (k : ℕ). Runs_as s (start c.in-Some.host k c.args.seed (stores n))) (c.len-index.ensures ∙ c.loop-host.sides.ok.0) (new.start (stores n)))),
+            ap (λ (k : ℕ). (was.0 ++ m ∷ []) ++ starts_from k c.pop_front.new.self.items c.args.seed stores) longer
+                ∙ starts_one was.0 n c.in-Some.host c.pop_front.new.self.items c.args.seed stores
+                ∙ ap (λ (hosts : List (Host g.row.A.Denot)). was.0 ++ starts_from n hosts c.args.seed stores) (sym items)
+                ∙ was.2,
+          );
       lost = subst (λ (hs : List (Side g.row.A.Denot)). AreLost false hs) (sym pushed) (lost_more false ss s old.lost new.lost);
       booted = subst (λ (hs : List (Side g.row.A.Denot)). AreBooted 0 hs) (sym pushed) (booted_more 0 ss s old.booted new.boot);
       count = omega (arith, longer, shorter, old.count);

@@ -10,10 +10,12 @@ pub returns-in-Ok-clause-world : goal.returns-in-Ok-clause-world
 returns-in-Ok-clause-world g c = λ honest n h stores at_rest size sound.
     let is = c.open_over.ensures in
     if_all c.open_over.result _ _ _ _ (is.volume honest n h at_rest size sound.opens) is.works is.sides
-    (λ tee made works sides.
-    (stand_opened g.V.Volume.keeper g.met.V.Volume.rests g.V.BoardVolume.form (g.B.Board.view c.args.board) n h c.args.hosts.items c.args.seed stores at_rest.counter sound tee.sides.items tee.volume
-    (subst (λ (ss : List (Side g.row.A.Denot)). AreSides ss (world_of c.args.hosts.items c.args.seed stores)) (sym sides) (c.in-Ok.ensures.world stores))
-    made.0 made.1 works, made.2))
+    (λ tee made works sides. (
+      stand_opened g.V.Volume.keeper g.met.V.Volume.rests g.V.BoardVolume.form (g.B.Board.view c.args.board) n h c.args.hosts.items c.args.seed stores at_rest.counter sound tee.sides.items tee.volume
+          (subst (λ (ss : List (Side g.row.A.Denot)). AreSides ss (world_of c.args.hosts.items c.args.seed stores)) (sym sides) (c.in-Ok.ensures.world stores))
+          made.0 made.1 works,
+      made.2,
+    ))
 
 pub returns-in-Ok-clause-turns : goal.returns-in-Ok-clause-turns
 returns-in-Ok-clause-turns g c =

@@ -24,7 +24,7 @@ pub returns-in-Ok-clause-world : goal.returns-in-Ok-clause-world
 returns-in-Ok-clause-world g c = λ world whole.
     let tee = c.args.self.now in
     let after = c.in-Ok.ensures.opened (g.met.V.BoardVolume.honest_board tee.volume whole.honest)
-        (always_in_use g.V.Volume.keeper g.met.V.Volume.rests g.met.V.Volume.since_earlier g.A.Application.behaviour tee.sides.items world tee.volume c.power.new.self whole) in
+    (always_in_use g.V.Volume.keeper g.met.V.Volume.rests g.met.V.Volume.since_earlier g.A.Application.behaviour tee.sides.items world tee.volume c.power.new.self whole) in
     power_stands g.V.Volume.keeper g.met.V.Volume.rests g.met.V.Volume.since_earlier g.A.Application.behaviour tee.sides.items world tee.volume c.power.new.self whole
     c.owner_of_doubt-owner.result
     (subst (λ (ss : List (Side g.row.A.Denot)). IfNone c.owner_of_doubt-owner.result (IsNoneInDoubt ss)) c.as_slice.ensures.value c.owner_of_doubt-owner.ensures.none)
@@ -36,7 +36,7 @@ pub returns-in-Ok-clause-told : goal.returns-in-Ok-clause-told
 returns-in-Ok-clause-told g c = λ world whole.
     let tee = c.args.self.now in
     let after = c.in-Ok.ensures.opened (g.met.V.BoardVolume.honest_board tee.volume whole.honest)
-        (always_in_use g.V.Volume.keeper g.met.V.Volume.rests g.met.V.Volume.since_earlier g.A.Application.behaviour tee.sides.items world tee.volume c.power.new.self whole) in
+    (always_in_use g.V.Volume.keeper g.met.V.Volume.rests g.met.V.Volume.since_earlier g.A.Application.behaviour tee.sides.items world tee.volume c.power.new.self whole) in
     power_told g.V.Volume.keeper g.met.V.Volume.rests g.met.V.Volume.since_earlier g.A.Application.behaviour tee.sides.items world tee.volume c.power.new.self whole
     c.owner_of_doubt-owner.result
     (subst (λ (ss : List (Side g.row.A.Denot)). IfNone c.owner_of_doubt-owner.result (IsNoneInDoubt ss)) c.as_slice.ensures.value c.owner_of_doubt-owner.ensures.none)
@@ -47,7 +47,7 @@ pub returns-in-Ok-clause-moments : goal.returns-in-Ok-clause-moments
 returns-in-Ok-clause-moments g c = λ world whole.
     let tee = c.args.self.now in
     let after = c.in-Ok.ensures.opened (g.met.V.BoardVolume.honest_board tee.volume whole.honest)
-        (always_in_use g.V.Volume.keeper g.met.V.Volume.rests g.met.V.Volume.since_earlier g.A.Application.behaviour tee.sides.items world tee.volume c.power.new.self whole) in
+    (always_in_use g.V.Volume.keeper g.met.V.Volume.rests g.met.V.Volume.since_earlier g.A.Application.behaviour tee.sides.items world tee.volume c.power.new.self whole) in
     within_power g.V.Volume.keeper g.met.V.Volume.rests g.met.V.Volume.since_earlier g.A.Application.behaviour tee.sides.items world tee.volume c.power.new.self whole after.again.leaves
 
 pub returns-in-Ok-clause-apps : goal.returns-in-Ok-clause-apps
@@ -71,21 +71,21 @@ pub returns-in-Err-clause-moments : goal.returns-in-Err-clause-moments
 returns-in-Err-clause-moments g c = λ world whole.
     let tee = c.args.self.now in
     let after = c.in-Err.ensures.opened (g.met.V.BoardVolume.honest_board tee.volume whole.honest)
-        (always_in_use g.V.Volume.keeper g.met.V.Volume.rests g.met.V.Volume.since_earlier g.A.Application.behaviour tee.sides.items world tee.volume c.power.new.self whole) in
+    (always_in_use g.V.Volume.keeper g.met.V.Volume.rests g.met.V.Volume.since_earlier g.A.Application.behaviour tee.sides.items world tee.volume c.power.new.self whole) in
     within_power g.V.Volume.keeper g.met.V.Volume.rests g.met.V.Volume.since_earlier g.A.Application.behaviour tee.sides.items world tee.volume c.power.new.self whole after.again.leaves
 
 pub returns-in-Err-clause-failed : goal.returns-in-Err-clause-failed
 returns-in-Err-clause-failed g c = λ world whole.
     let tee = c.args.self.now in
     let after = c.in-Err.ensures.opened (g.met.V.BoardVolume.honest_board tee.volume whole.honest)
-        (always_in_use g.V.Volume.keeper g.met.V.Volume.rests g.met.V.Volume.since_earlier g.A.Application.behaviour tee.sides.items world tee.volume c.power.new.self whole) in
+    (always_in_use g.V.Volume.keeper g.met.V.Volume.rests g.met.V.Volume.since_earlier g.A.Application.behaviour tee.sides.items world tee.volume c.power.new.self whole) in
     after.again.failed
 
 pub returns-in-Err-clause-refused : goal.returns-in-Err-clause-refused
 returns-in-Err-clause-refused g c = λ world whole.
     let tee = c.args.self.now in
     let after = c.in-Err.ensures.opened (g.met.V.BoardVolume.honest_board tee.volume whole.honest)
-        (always_in_use g.V.Volume.keeper g.met.V.Volume.rests g.met.V.Volume.since_earlier g.A.Application.behaviour tee.sides.items world tee.volume c.power.new.self whole) in
+    (always_in_use g.V.Volume.keeper g.met.V.Volume.rests g.met.V.Volume.since_earlier g.A.Application.behaviour tee.sides.items world tee.volume c.power.new.self whole) in
     stand_refused g.V.Volume.keeper g.met.V.Volume.rests g.met.V.Volume.since_earlier g.A.Application.behaviour tee.sides.items world tee.volume c.power.new.self whole
     c.lose_all.new.sides.items (c.lose_all.ensures.sides world whole.sides_are) (after.again.honest whole.honest) (after.again.same whole.honest) c.in-Err.ensures.back.lost after.again.leaves
 
