@@ -2,6 +2,7 @@
 //! store in memory.
 
 mod changes;
+mod counted;
 mod memory;
 mod reading;
 mod rules;
