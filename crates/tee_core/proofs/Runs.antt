@@ -1,67 +1,83 @@
 -- A call, and the turns behind it.
 use Rattle.app_api.specs.Behaviours.{Behaviour}
-use Rattle.std.proofs.Common.{◌≡◌, ◌++◌, ℕ, List, [], ◌∷◌, filter, refl, sym, subst, ◌∙◌, ap}
+use Rattle.std.proofs.Common.{◌≡◌, ◌++◌, ℕ, List, [], ◌∷◌, Some, filter, refl, sym, subst, ◌∙◌, ap}
+use Rattle.std.specs.Prelude.{slice_get}
 use Rattle.app_api.specs.declared.call.Call.{Call}
 use Rattle.alone.specs.Machine.{Machine}
-use Rattle.alone.specs.Marks.{SameWithin, no_marks}
+use Rattle.alone.specs.Marks.{Marks, SameWithin, no_marks}
 use Rattle.alone.specs.Runs.{events_of_call, turns_of_call}
-use Rattle.alone.specs.Step.{Called, called}
+use Rattle.alone.specs.Step.{Event, Called, called}
 use Rattle.alone.proofs.Counted.{call_counts_none}
-use Rattle.app_side.specs.Represents.{turns_of}
 use Rattle.tee_core.specs.declared.happened.Happened.{Happened}
-use Rattle.tee_core.specs.declared.hosted.Hosted.{Hosted}
-use Rattle.tee_core.specs.Happenings.{happening, happenings, is_told, marks_of}
-use Rattle.tee_core.specs.Represents.{IsHosted}
-use Rattle.tee_core.specs.Turns.{IsPartRun, IsRun, IsTurnedUntil, StopsBefore}
+use Rattle.tee_core.specs.Happenings.{happening, happenings, is_told, marks_of, told_of_call}
+use Rattle.tee_core.specs.Represents.{StopsWithin}
+use Rattle.tee_core.specs.Turns.{IsTurnedUntil, StopsBefore}
+use Rattle.tee_core.specs.World.{AppEvent, World, called_at, events_at, run_events, world_after, world_step}
 
-module _ {A : Type 0} (behaviour : Behaviour A) (m : Machine A) (client : ℕ) (call : Call) where
-  -- in whole
-  pub run_whole : (h : Happened) (before told : List Happened) (new : Hosted A) → h ≡ happening behaviour m (Called client call) → before ≡ h ∷ []
-      → IsTurnedUntil behaviour (called m client call).machine h.instance h.op before told new → IsRun behaviour m client call told new
-  run_whole h before told new same alone turned =
-      let then : Machine A = (called m client call).machine in
-      let t = subst (λ (x : Happened). IsTurnedUntil behaviour then x.instance x.op before told new) same turned in
-      record {
-        made = t.made;
-        stands = t.stands;
-        told_so = t.told_so ∙ ap (λ b. b ++ filter is_told (happenings behaviour then t.made)) (alone ∙ ap (λ (x : Happened). x ∷ []) same);
-        apart = t.apart;
-        by_marks = λ marks agree. t.by_marks marks (subst (λ n. SameWithin n (turns_of new.side) marks (marks_of told)) (sym (call_counts_none m client call)) agree);
-      }
+module _ {A : Type 0} (behaviour : Behaviour A) (Stands : World A → Type 0) (world : World A) (m : Machine A) (app client : ℕ) (call : Call) (here : slice_get world app ≡ Some m) where
+  abbrev called_then : Machine A
+  called_then = (called m client call).machine
 
-  -- in part
-  pub run_part : (h : Happened) (new : Hosted A) → h ≡ happening behaviour m (Called client call) → StopsBefore behaviour (called m client call).machine h.instance h.op new
-      → IsPartRun behaviour m client call new
-  run_part h new same stopped =
-      let then : Machine A = (called m client call).machine in
-      let s = subst (λ (x : Happened). StopsBefore behaviour then x.instance x.op new) same stopped in
-      record {
-        marks = s.marks;
-        made = Called client call ∷ s.made;
-        rest = s.rest;
-        all = ap (λ es. Called client call ∷ es) s.all;
-        stands = s.stands;
-        apart = (tt, s.apart);
-      }
+  abbrev world_then : World A
+  world_then = world_step behaviour world (record { app = app; event = Called client call })
+
+  events_append : (xs ys : List Event) → events_at behaviour app (xs ++ ys) ≡ events_at behaviour app xs ++ events_at behaviour app ys
+  events_append [] ys = refl
+  events_append (x ∷ xs) ys = ap (λ (es : List AppEvent). record { app = app; event = x } ∷ es) (events_append xs ys)
+
+  -- what the run of the call is for the world
+  run_is : (marks : Marks) → run_events behaviour marks world app client call ≡ events_at behaviour app (events_of_call behaviour marks m client call)
+  run_is marks = ap (λ o. called_at behaviour marks app client call o) here
+
+  module _ (h : Happened) (same : h ≡ happening behaviour m (Called client call)) where
+    -- in whole
+    module _ (turns : ℕ) (before told : List Happened) (alone : before ≡ h ∷ []) (turned : IsTurnedUntil behaviour Stands world_then called_then app h.instance h.op turns before told) where
+      of_call : IsTurnedUntil behaviour Stands world_then called_then app (called m client call).instance m.queue.next turns before told
+      of_call = subst (λ (x : Happened). IsTurnedUntil behaviour Stands world_then called_then app x.instance x.op turns before told) same turned
+
+      turns_are : (marks : Marks) → SameWithin m.turns turns marks (marks_of told) → turns_of_call behaviour marks m client call ≡ of_call.made
+      turns_are marks agree = of_call.by_marks marks (subst (λ n. SameWithin n turns marks (marks_of told)) (sym (call_counts_none m client call)) agree)
+
+      pub run_stands : (marks : Marks) → SameWithin m.turns turns marks (marks_of told) → Stands (world_after behaviour world (run_events behaviour marks world app client call))
+      run_stands marks agree =
+          subst (λ (es : List AppEvent). Stands (world_after behaviour world es)) (sym (run_is marks))
+          (subst (λ (es : List Event). Stands (world_after behaviour world_then (events_at behaviour app es))) (sym (turns_are marks agree)) of_call.stands)
+
+      pub run_told : (marks : Marks) → SameWithin m.turns turns marks (marks_of told) → told ≡ told_of_call behaviour marks m client call
+      run_told marks agree =
+          of_call.told_so
+          ∙ ap (λ (hs : List Happened). hs ++ filter is_told (happenings behaviour called_then of_call.made)) (alone ∙ ap (λ (x : Happened). x ∷ []) same)
+          ∙ ap (λ (es : List Event). happening behaviour m (Called client call) ∷ filter is_told (happenings behaviour called_then es)) (sym (turns_are marks agree))
+
+    -- in part
+    pub run_part : StopsBefore behaviour Stands world_then called_then app h.instance h.op → StopsWithin behaviour Stands world app client call
+    run_part stopped =
+        let s = subst (λ (x : Happened). StopsBefore behaviour Stands world_then called_then app x.instance x.op) same stopped in
+        record {
+          marks = s.marks;
+          made = record { app = app; event = Called client call } ∷ events_at behaviour app s.made;
+          rest = events_at behaviour app s.rest;
+          all = run_is s.marks ∙ ap (λ (es : List Event). record { app = app; event = Called client call } ∷ events_at behaviour app es) s.all
+              ∙ ap (λ (es : List AppEvent). record { app = app; event = Called client call } ∷ es) (events_append s.made s.rest);
+          stands = s.stands;
+        }
 
   -- the call alone
-  pub run_call : (new : Hosted A) → IsHosted new (called m client call).machine → IsPartRun behaviour m client call new
-  run_call new stands = record {
+  pub run_call : Stands world_then → StopsWithin behaviour Stands world app client call
+  run_call stands = record {
     marks = no_marks;
-    made = Called client call ∷ [];
-    rest = turns_of_call behaviour no_marks m client call;
-    all = refl;
+    made = record { app = app; event = Called client call } ∷ [];
+    rest = events_at behaviour app (turns_of_call behaviour no_marks m client call);
+    all = run_is no_marks;
     stands = stands;
-    apart = (tt, tt);
   }
 
   -- nothing
-  pub run_none : (new : Hosted A) → IsHosted new m → IsPartRun behaviour m client call new
-  run_none new stands = record {
+  pub run_none : Stands world → StopsWithin behaviour Stands world app client call
+  run_none stands = record {
     marks = no_marks;
     made = [];
-    rest = events_of_call behaviour no_marks m client call;
-    all = refl;
+    rest = events_at behaviour app (events_of_call behaviour no_marks m client call);
+    all = run_is no_marks;
     stands = stands;
-    apart = tt;
   }

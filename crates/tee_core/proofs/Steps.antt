@@ -1,20 +1,24 @@
 -- What the calls and turns of one application are for its machine.
 use Rattle.app_api.specs.Behaviours.{Behaviour}
-use Rattle.std.proofs.Common.{◌≡◌, ◌++◌, ℕ, List, [], ◌∷◌, false, not, cond, Result, Ok, Err, OnErr, OnOk, IfOk, refl, sym, ap, ◌∙◌, append-nil}
+use Rattle.std.proofs.Common.{◌≡◌, ◌++◌, ℕ, List, [], ◌∷◌, Bool, false, not, cond, Result, Ok, Err, OnErr, OnOk, IfOk, refl, sym, ap, ◌∙◌, append-nil}
 use Rattle.std.specs.Prelude.{◌||◌}
 use Rattle.app_api.specs.declared.call.Call.{Call}
-use Rattle.store_api.specs.Stores.{empty_store}
 use Rattle.alone.specs.declared.turn.TurnKind.{TurnKind}
 use Rattle.alone.specs.declared.turn.TurnKind.TheVariants as kinds
 use Rattle.alone.specs.declared.reply.Reply.{Reply}
 use Rattle.alone.specs.Machine.{Machine}
-use Rattle.alone.specs.Step.{called, cancelled, step}
-use Rattle.app_side.specs.Represents.{event_of, machine_over, turns_of}
+use Rattle.alone.specs.Step.{called, cancelled, is_changing, step}
+use Rattle.app_side.specs.Represents.{event_of}
 use Rattle.app_side.proofs.Stored.{called_over, cancelled_over}
 use Rattle.tee_core.specs.declared.happened.Happened.{Happened}
-use Rattle.tee_core.specs.declared.hosted.Hosted.{Hosted}
 use Rattle.tee_core.specs.Happenings.{happening, has_reply, is_plain, told_behind, turn_happened}
-use Rattle.tee_core.specs.Represents.{IsHosted, IsPlainOrStarved}
+
+-- a lost turn says whether it was to change the store
+abbrev pub SaysChanging : TurnKind → Bool → Type 0
+SaysChanging kinds.Plain changing = Unit {0}
+SaysChanging (kinds.Lost change) changing = change ≡ changing
+SaysChanging kinds.Starved changing = Unit {0}
+SaysChanging kinds.Corrupted changing = Unit {0}
 
 abbrev of_parts : TurnKind → ℕ → ℕ → ℕ → List Reply → Happened
 of_parts kind turn op instance replies = record { kind = kind; turn = turn; op = op; instance = instance; replies = replies }
@@ -45,21 +49,13 @@ pub happened_is : (kind kind_then : TurnKind) (turn turn_then op op_then instanc
 happened_is kind kind_then turn turn_then op op_then instance instance_then replies replies_then ek et eo ei er = cc
 
 module _ {A : Type 0} (behaviour : Behaviour A) where
-  -- what is told of a turn of its kind
-  pub turn_is : (m : Machine A) (kind : TurnKind) (i turn : ℕ) (replies : List Reply) → IsPlainOrStarved kind → turn ≡ (step behaviour m (event_of kind i)).machine.turns
+  -- what is told of a turn of its kind, which says of a lost one whether its ask was to change the store
+  pub turn_is : (m : Machine A) (kind : TurnKind) (i turn : ℕ) (replies : List Reply) → SaysChanging kind (is_changing m i) → turn ≡ (step behaviour m (event_of kind i)).machine.turns
       → replies ≡ (step behaviour m (event_of kind i)).replies → turn_happened kind turn i replies ≡ happening behaviour m (event_of kind i)
-  turn_is m kinds.Plain i turn replies own same told = happened_is _ _ _ _ _ _ _ _ _ _ refl same refl refl told
-  turn_is m (kinds.Lost change) i turn replies own same told = absurd own
-  turn_is m kinds.Starved i turn replies own same told = happened_is _ _ _ _ _ _ _ _ _ _ refl same refl refl told
-  turn_is m kinds.Corrupted i turn replies own same told = absurd own
-
--- a machine that the application stands for: each of its value has one
-pub some_machine : {A : Type 0} (h : Hosted A) → IsHosted h (machine_over h.side h.store.map.store empty_store)
-some_machine h = record { side = record { doubt = empty_store; parts = refl }; store = refl }
-
--- the turns that were made are the machine's
-pub hosted_turns : {A : Type 0} (h : Hosted A) (m : Machine A) → IsHosted h m → m.turns ≡ turns_of h.side
-hosted_turns {A} h m is = ap (λ (x : Machine A). x.turns) is.side.parts
+  turn_is m kinds.Plain i turn replies says same told = happened_is _ _ _ _ _ _ _ _ _ _ refl same refl refl told
+  turn_is m (kinds.Lost change) i turn replies says same told = happened_is _ _ _ _ _ _ _ _ _ _ (ap (λ b. kinds.Lost b) says) same refl refl told
+  turn_is m kinds.Starved i turn replies says same told = happened_is _ _ _ _ _ _ _ _ _ _ refl same refl refl told
+  turn_is m kinds.Corrupted i turn replies says same told = happened_is _ _ _ _ _ _ _ _ _ _ refl same refl refl told
 
 -- what isn't told leaves what was told
 pub told_unless : (told : List Happened) (kind : TurnKind) (turn instance : ℕ) (replies : List Reply) → kind ≡ kinds.Plain → replies ≡ [] → told ≡ told_behind told (turn_happened kind turn instance replies)

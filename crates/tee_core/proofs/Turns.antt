@@ -1,7 +1,6 @@
 -- Turns of one machine, made one after the other.
 use Rattle.app_api.specs.Behaviours.{Behaviour}
 use Rattle.std.proofs.Common.{◌≡◌, ◌++◌, ◌<◌, ◌≤◌, ◌-◌, ◌+◌, ℕ, zero, suc, List, [], ◌∷◌, true, false, cond, filter, refl, sym, subst, ◌∙◌, ap, append_assoc, append-nil, arith}
-use Rattle.std.specs.List.{AllByRecursion}
 use Rattle.std.proofs.lemmas.List.Elements.{filter-append}
 use Rattle.object_asks.specs.Asks.{Serves, Fails, Damaged}
 use Rattle.alone.specs.declared.turn.TurnKind.{TurnKind}
@@ -14,26 +13,14 @@ use Rattle.alone.proofs.Counted.{turn_counts}
 use Rattle.alone.proofs.Marked.{marked_corrupt, marked_lost, marked_plain, marked_starved}
 use Rattle.app_side.specs.Represents.{event_of}
 use Rattle.tee_core.specs.declared.happened.Happened.{Happened}
-use Rattle.tee_core.specs.declared.hosted.Hosted.{Hosted}
 use Rattle.tee_core.specs.Happenings.{IsPlainBehind, happening, happenings, is_corrupt_turn, is_lost_turn, is_starved_turn, is_told, marks_of, told_behind}
-use Rattle.tee_core.specs.Represents.{IsHosted, IsPlainOrStarved}
-use Rattle.tee_core.specs.Turns.{IsTurnedUntil, LeavesOthers, StopsBefore}
+use Rattle.tee_core.specs.Turns.{IsTurnedUntil, StopsBefore}
+use Rattle.tee_core.specs.World.{World, events_at, world_after}
 use Rattle.tee_core.proofs.Told.{behind_before, behind_here, behind_plain}
 
 most_is : most_turns ≡ 10000000
 unfolding most_turns
 most_is = refl
-
-all_more : {X : Type 0} (P : X → Type 0) (xs : List X) (x : X) → AllByRecursion P xs → P x → AllByRecursion P (xs ++ x ∷ [])
-all_more P [] x all here = (here, tt)
-all_more P (y ∷ xs) x all here = (all.0, all_more P xs x all.1 here)
-
--- a turn that was served, or starved, is none of another machine's
-pub leaves_others : (kind : TurnKind) (i : ℕ) → IsPlainOrStarved kind → LeavesOthers (event_of kind i)
-leaves_others kinds.Plain i own = tt
-leaves_others (kinds.Lost change) i own = absurd own
-leaves_others kinds.Starved i own = tt
-leaves_others kinds.Corrupted i own = absurd own
 
 -- marks that say so make the turn the event of its kind
 pub event_of_marks : {A : Type 0} (marks : Marks) (m : Machine A) (kind : TurnKind) (i : ℕ) → marks.lost (m.turns + 1) ≡ is_lost_turn kind → marks.corrupt (m.turns + 1) ≡ is_corrupt_turn kind
@@ -78,19 +65,18 @@ module _ {A : Type 0} (behaviour : Behaviour A) where
 
   -- so many of the turns were made, and they led there: what is told of them stands behind what was told so far, and under all marks
   -- that agree with it the turns are these and then those from here on
-  pub record HasTurned (Stands : Machine A → Type 0) (m : Machine A) (i op k : ℕ) (before told : List Happened) : Type 0 where
+  pub record HasTurned (Stands : List Event → Type 0) (m : Machine A) (i op k : ℕ) (before told : List Happened) : Type 0 where
     pub made : List Event
     pub now : Machine A
     pub now_is : machine_after behaviour m made ≡ now
-    pub stands : Stands now
+    pub stands : Stands made
     pub told_so : told ≡ before ++ filter is_told (happenings behaviour m made)
-    pub apart : AllByRecursion LeavesOthers made
     pub later : m.turns ≤ now.turns
     pub plain : IsPlainBehind now.turns told
     pub by_marks : (marks : Marks) → SameWithin m.turns now.turns marks (marks_of told)
         → turns_until behaviour marks most_turns m i op ≡ made ++ turns_until behaviour marks (most_turns - k) now i op
 
-  pub turns_start : (Stands : Machine A → Type 0) (m : Machine A) (i op : ℕ) (before : List Happened) → Stands m → IsPlainBehind m.turns before
+  pub turns_start : (Stands : List Event → Type 0) (m : Machine A) (i op : ℕ) (before : List Happened) → Stands [] → IsPlainBehind m.turns before
       → HasTurned Stands m i op 0 before before
   turns_start Stands m i op before stands plain = record {
     made = [];
@@ -98,7 +84,6 @@ module _ {A : Type 0} (behaviour : Behaviour A) where
     now_is = refl;
     stands = stands;
     told_so = sym (append-nil before);
-    apart = tt;
     later = omega arith;
     plain = plain;
     by_marks = λ marks same. ap (λ k. turns_until behaviour marks k m i op) (omega arith);
@@ -120,11 +105,11 @@ module _ {A : Type 0} (behaviour : Behaviour A) where
       let went = behind_here told h m.turns here plain in
       event_of_marks marks m h.kind i (at.lost ∙ went.lost) (at.corrupt ∙ went.corrupt) (at.starved ∙ went.starved) may
 
-  pub turns_further : (Stands Stands_then : Machine A → Type 0) (m : Machine A) (i op k : ℕ) (before told : List Happened) → (run : HasTurned Stands m i op k before told)
-      → k < 10000000 → is_answered run.now op ≡ false → (h : Happened) → IsPlainOrStarved h.kind → may_stand run.now (event_of h.kind i) ≡ true
-      → Stands_then (step behaviour run.now (event_of h.kind i)).machine → h ≡ happening behaviour run.now (event_of h.kind i)
+  pub turns_further : (Stands Stands_then : List Event → Type 0) (m : Machine A) (i op k : ℕ) (before told : List Happened) → (run : HasTurned Stands m i op k before told)
+      → k < 10000000 → is_answered run.now op ≡ false → (h : Happened) → may_stand run.now (event_of h.kind i) ≡ true
+      → Stands_then (run.made ++ event_of h.kind i ∷ []) → h ≡ happening behaviour run.now (event_of h.kind i)
       → HasTurned Stands_then m i op (k + 1) before (told_behind told h)
-  turns_further Stands Stands_then m i op k before told run within not_yet h own may stands same =
+  turns_further Stands Stands_then m i op k before told run within not_yet h may stands same =
       let e : Event = event_of h.kind i in
       let then : Machine A = (step behaviour run.now e).machine in
       let counts : then.turns ≡ run.now.turns + 1 = kind_counts run.now h.kind i in
@@ -142,7 +127,6 @@ module _ {A : Type 0} (behaviour : Behaviour A) where
             sym (filter-append is_told hs (h ∷ []))
             ∙ ap (λ (x : Happened). filter is_told (hs ++ x ∷ [])) (same ∙ ap (λ (x : Machine A). happening behaviour x e) (sym run.now_is))
             ∙ ap (filter is_told) (sym (happenings_more m run.made e)));
-        apart = all_more LeavesOthers run.made e run.apart (leaves_others h.kind i own);
         later = omega (arith, run.later, counts);
         plain = subst (λ n. IsPlainBehind n (told_behind told h)) (sym counts) (behind_plain told h run.now.turns here run.plain);
         by_marks = λ marks agree.
@@ -153,35 +137,38 @@ module _ {A : Type 0} (behaviour : Behaviour A) where
             ∙ sym (append_assoc run.made (e ∷ []) (turns_until behaviour marks (most_turns - (k + 1)) then i op));
       }
 
-  -- no turn is left
-  ended : (h : Hosted A) (m : Machine A) (i op k : ℕ) (before told : List Happened) → (run : HasTurned (IsHosted h) m i op k before told)
-      → ((marks : Marks) → turns_until behaviour marks (most_turns - k) run.now i op ≡ []) → IsTurnedUntil behaviour m i op before told h
-  ended h m i op k before told run none = record {
-    made = run.made;
-    stands = subst (IsHosted h) (sym run.now_is) run.stands;
-    told_so = run.told_so;
-    apart = run.apart;
-    by_marks = λ marks agree.
-        run.by_marks marks (subst (λ n. SameWithin m.turns n marks (marks_of told)) (sym (ap (λ (x : Machine A). x.turns) run.stands.side.parts)) agree)
-        ∙ ap (λ es. run.made ++ es) (none marks)
-        ∙ append-nil run.made;
-  }
+  -- what stands for the world after them
+  module _ (Stands : World A → Type 0) (world : World A) (app : ℕ) where
+    abbrev pub Leads : List Event → Type 0
+    Leads made = Stands (world_after behaviour world (events_at behaviour app made))
 
-  pub turns_answered : (h : Hosted A) (m : Machine A) (i op k : ℕ) (before told : List Happened) → (run : HasTurned (IsHosted h) m i op k before told) → is_answered run.now op ≡ true
-      → IsTurnedUntil behaviour m i op before told h
-  turns_answered h m i op k before told run done = ended h m i op k before told run (λ marks. turns_done marks (most_turns - k) run.now i op done)
+    -- no turn is left
+    ended : (m : Machine A) (i op k turns : ℕ) (before told : List Happened) → (run : HasTurned Leads m i op k before told) → run.now.turns ≡ turns
+        → ((marks : Marks) → turns_until behaviour marks (most_turns - k) run.now i op ≡ []) → IsTurnedUntil behaviour Stands world m app i op turns before told
+    ended m i op k turns before told run counts none = record {
+      made = run.made;
+      stands = run.stands;
+      told_so = run.told_so;
+      by_marks = λ marks agree.
+          run.by_marks marks (subst (λ n. SameWithin m.turns n marks (marks_of told)) (sym counts) agree)
+          ∙ ap (λ es. run.made ++ es) (none marks)
+          ∙ append-nil run.made;
+    }
 
-  pub turns_used : (h : Hosted A) (m : Machine A) (i op k : ℕ) (before told : List Happened) → (run : HasTurned (IsHosted h) m i op k before told) → 10000000 ≤ k
-      → IsTurnedUntil behaviour m i op before told h
-  turns_used h m i op k before told run all = ended h m i op k before told run (λ marks. turns_none marks (most_turns - k) run.now i op (omega (arith, all, most_is)))
+    pub turns_answered : (m : Machine A) (i op k turns : ℕ) (before told : List Happened) → (run : HasTurned Leads m i op k before told) → run.now.turns ≡ turns → is_answered run.now op ≡ true
+        → IsTurnedUntil behaviour Stands world m app i op turns before told
+    turns_answered m i op k turns before told run counts done = ended m i op k turns before told run counts (λ marks. turns_done marks (most_turns - k) run.now i op done)
 
-  -- the turns so far are the first under the marks that tell of them
-  pub turns_stopped : (h : Hosted A) (m : Machine A) (i op k : ℕ) (before told : List Happened) → (run : HasTurned (IsHosted h) m i op k before told) → StopsBefore behaviour m i op h
-  turns_stopped h m i op k before told run = record {
-    marks = marks_of told;
-    made = run.made;
-    rest = turns_until behaviour (marks_of told) (most_turns - k) run.now i op;
-    all = run.by_marks (marks_of told) (λ turn above within. record { lost = refl; corrupt = refl; starved = refl });
-    stands = subst (IsHosted h) (sym run.now_is) run.stands;
-    apart = run.apart;
-  }
+    pub turns_used : (m : Machine A) (i op k turns : ℕ) (before told : List Happened) → (run : HasTurned Leads m i op k before told) → run.now.turns ≡ turns → 10000000 ≤ k
+        → IsTurnedUntil behaviour Stands world m app i op turns before told
+    turns_used m i op k turns before told run counts all = ended m i op k turns before told run counts (λ marks. turns_none marks (most_turns - k) run.now i op (omega (arith, all, most_is)))
+
+    -- the turns so far are the first under the marks that tell of them
+    pub turns_stopped : (m : Machine A) (i op k : ℕ) (before told : List Happened) → (run : HasTurned Leads m i op k before told) → StopsBefore behaviour Stands world m app i op
+    turns_stopped m i op k before told run = record {
+      marks = marks_of told;
+      made = run.made;
+      rest = turns_until behaviour (marks_of told) (most_turns - k) run.now i op;
+      all = run.by_marks (marks_of told) (λ turn above within. record { lost = refl; corrupt = refl; starved = refl });
+      stands = run.stands;
+    }

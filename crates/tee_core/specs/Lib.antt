@@ -1,6 +1,10 @@
-pub mod Creator
 pub mod Happenings
+pub mod InUse
+pub mod Moments
+pub mod Opening
+pub mod Powers
 pub mod Represents
-pub mod SureStores
+pub mod Sides
+pub mod Turning
 pub mod Turns
 pub mod World

@@ -1,47 +1,97 @@
--- Which machines and worlds the values stand for.
+-- Which machines and worlds the values stand for, over a volume.
 use Rattle.app_api.specs.Behaviours.{Behaviour}
-use Rattle.std.specs.Prelude.{ℕ, ◌≡◌, ◌≢◌, ◌++◌, List, [], ◌∷◌, Option, None, Some, length, slice_get, slice_index_or}
+use Rattle.std.specs.Prelude.{ℕ, ◌≡◌, ◌<◌, ◌⊎◌, ◌+◌, ◌==◌, Bool, true, false, ◌++◌, List, [], ◌∷◌, Option, None, Some, Ok, is_some, length, slice_get}
 use Rattle.app_api.specs.declared.call.Call.{Call}
-use Rattle.app_side.specs.Represents.{Represents as Runs_as, event_of as turn_of, turns_of}
+use Rattle.store_api.specs.Volumes.{Held, VolumeKeeper}
+use Rattle.store_api.specs.declared.volume.Volume.{Ghosts}
+use Rattle.object_dir.specs.Regions.{region_in}
+use Rattle.app_side.specs.Represents.{event_of as turn_of}
+use Rattle.app_side.specs.declared.side.AppSide.{AppSide}
 use Rattle.alone.specs.declared.turn.TurnKind.{TurnKind}
-use Rattle.alone.specs.declared.turn.TurnKind.TheVariants as kinds
 use Rattle.alone.specs.Machine.{Machine}
 use Rattle.alone.specs.Marks.{Marks}
-use Rattle.alone.specs.Step.{Event as MachineEvent, Called, Cancelled}
+use Rattle.alone.specs.Step.{Event as MachineEvent, Called, Cancelled, store_found}
+use Rattle.tee_core.specs.Sides.{AreSides, turns_in}
 use Rattle.tee_core.specs.World.{World, AppEvent, run_events, world_after}
 use Rattle.tee_core.specs.declared.happened.Event.{Event}
 use Rattle.tee_core.specs.declared.happened.Event.TheVariants as events
-use Rattle.tee_core.specs.declared.hosted.Hosted.{Hosted}
-use Rattle.tee_core.specs.declared.tee.Tee.{Tee}
+use Rattle.tee_core.specs.declared.tee.TeeOver.{TeeOver}
 
--- the running application stands for the machine over the objects of its store
-pub record IsHosted {A : Type 0} (h : Hosted A) (m : Machine A) : Type 0 where
-  pub side : Runs_as h.side m
-  pub store : m.store ≡ h.store.map.store
+-- ---- stores and regions
 
--- each of them stands for the machine at its place, and there are no more
-abbrev pub AreHosted : {A : Type 0} → List (Hosted A) → World A → Type 0
-AreHosted [] [] = Unit {0}
-AreHosted [] (m ∷ world) = ⊥
-AreHosted (h ∷ hosted) [] = ⊥
-AreHosted (h ∷ hosted) (m ∷ world) = IsHosted h m × AreHosted hosted world
+-- no change in doubt is kept
+abbrev pub none_kept : ℕ → Bool
+none_kept app = false
+
+-- the change in doubt of the application of this index is kept
+abbrev pub kept_of : ℕ → ℕ → Bool
+kept_of owner app = app == owner
+
+-- the regions from this one on stand for the stores of these machines, with the change in doubt where it is kept
+abbrev pub StoresFrom : {A : Type 0} → (ℕ → Bool) → ℕ → World A → Held → Type 0
+StoresFrom kept region [] held = Unit {0}
+StoresFrom kept region (m ∷ world) held =
+    (region_in region held ≡ Ok (store_found (kept region) m.store m.in_doubt))
+    × StoresFrom kept (region + 1) world held
+
+-- the regions of a volume stand for the stores of the world, with the change in doubt where it is kept
+abbrev pub HoldsStores : {A : Type 0} → (ℕ → Bool) → World A → Held → Type 0
+HoldsStores kept world held = StoresFrom kept 0 world held
+
+-- the machine of this index has a change in doubt
+pub record HasDoubt {A : Type 0} (owner : ℕ) (world : World A) : Type 0 where
+  pub machine : Machine A
+  pub there : slice_get world owner ≡ Some machine
+  pub doubt : is_some machine.in_doubt ≡ true
+
+-- what a crash left has the stores of the world and this sequence, or has besides the change in doubt and a greater sequence
+abbrev pub IsLeftOf : {A : Type 0} → World A → ℕ → Option Held → Type 0
+IsLeftOf world sequence None = ⊥
+IsLeftOf world sequence (Some held) =
+    ((held.sequence ≡ sequence) × HoldsStores none_kept world held)
+    ⊎ ((owner : ℕ) × HasDoubt owner world × (sequence < held.sequence) × HoldsStores (kept_of owner) world held)
+
+-- what a crash left has the stores of the world, with the change in doubt or without it
+abbrev pub HasStoresOf : {A : Type 0} → World A → Option Held → Type 0
+HasStoresOf world None = ⊥
+HasStoresOf world (Some held) =
+    HoldsStores none_kept world held
+    ⊎ ((owner : ℕ) × HasDoubt owner world × HoldsStores (kept_of owner) world held)
+
+-- ---- values and worlds
+
+module _ {V : Type 0} (K : VolumeKeeper V) where
+  -- values over a volume stand for the world
+  pub record StandFor {A : Type 0} (sides : List (AppSide A)) (volume : V) (world : World A) : Type 0 where
+    pub honest : K.honest volume
+    pub sides_are : AreSides sides world
+    pub stores : HoldsStores none_kept world (K.held volume)
+    pub formatted : 0 < (K.held volume).sequence
+    -- all that a crash may leave has these stores, or the change in doubt besides
+    pub left : (o : Option Held) → K.left_since volume (K.moment volume) o → IsLeftOf world (K.held volume).sequence o
+    -- no change is in doubt unless the volume is lost, and then at most one
+    pub calm : (K.condition volume).lost ≡ false → (owner : ℕ) → HasDoubt owner world → ⊥
+    pub single : (one other : ℕ) → HasDoubt one world → HasDoubt other world → one ≡ other
 
 -- the value stands for the world
-abbrev pub Represents : {A : Type 0} → Tee A → World A → Type 0
-Represents tee world = AreHosted tee.hosted.items world
+abbrev pub Represents : {B V A : Type 0} {G : Ghosts V} → TeeOver B V A G → World A → Type 0
+Represents {B} {V} {A} {G} tee world = StandFor G.keeper tee.sides.items tee.volume world
+
+-- the volume that keeps the objects
+abbrev pub volume_of : {B V A : Type 0} {G : Ghosts V} → TeeOver B V A G → V
+volume_of tee = tee.volume
+
+-- how often the power was lost
+abbrev pub boots_of : {B V A : Type 0} {G : Ghosts V} → TeeOver B V A G → ℕ
+boots_of tee = tee.boots
 
 -- how many applications there are
-abbrev pub app_count : {A : Type 0} → Tee A → ℕ
-app_count tee = length tee.hosted.items
-
--- how many turns an application has made, 0 where it isn't there
-abbrev pub turns_in : {A : Type 0} → Option (Hosted A) → ℕ
-turns_in None = 0
-turns_in (Some h) = turns_of h.side
+abbrev pub app_count : {B V A : Type 0} {G : Ghosts V} → TeeOver B V A G → ℕ
+app_count tee = length tee.sides.items
 
 -- how many turns the application of this index has made
-abbrev pub turns_made : {A : Type 0} → Tee A → ℕ → ℕ
-turns_made tee app = turns_in (slice_get tee.hosted.items app)
+abbrev pub turns_made : {B V A : Type 0} {G : Ghosts V} → TeeOver B V A G → ℕ → ℕ
+turns_made tee app = turns_in (slice_get tee.sides.items app)
 
 -- the application of an event
 abbrev pub app_of : Event → ℕ
@@ -59,31 +109,16 @@ machine_event (events.Turn app instance) kind = turn_of kind instance
 abbrev pub event_of : Event → TurnKind → AppEvent
 event_of e kind = record { app = app_of e; event = machine_event e kind }
 
--- a turn of an application over a store that never fails: it serves, or there is no memory for it
-abbrev pub IsPlainOrStarved : TurnKind → Type 0
-IsPlainOrStarved kinds.Plain = Unit {0}
-IsPlainOrStarved (kinds.Lost change) = ⊥
-IsPlainOrStarved kinds.Starved = Unit {0}
-IsPlainOrStarved kinds.Corrupted = ⊥
-
--- the applications of a value
-abbrev pub applications_of : {A : Type 0} → Tee A → List (Hosted A)
-applications_of tee = tee.hosted.items
-
--- every other application is as it was
-abbrev pub OthersStay : {A : Type 0} → ℕ → List (Hosted A) → List (Hosted A) → Type 0
-OthersStay {A} app old new = (other : ℕ) (d : Hosted A) → other ≢ app → slice_index_or new other d ≡ slice_index_or old other d
-
--- only a call is an event for which there may be no memory, and it leaves what every world was
-abbrev pub LeftByWant : {A : Type 0} → Event → List (Hosted A) → List (Hosted A) → Type 0
-LeftByWant {A} (events.Call app client call) old new = (world : World A) → AreHosted old world → AreHosted new world
-LeftByWant (events.Cancel app op) old new = ⊥
-LeftByWant (events.Turn app instance) old new = ⊥
+-- only a call is an event for which there may be no memory
+abbrev pub IsCall : Event → Type 0
+IsCall (events.Call app client call) = Unit {0}
+IsCall (events.Cancel app op) = ⊥
+IsCall (events.Turn app instance) = ⊥
 
 -- what a run of a call leaves for which there was no memory: the world after the first of its events, where its turns go so
-pub record StopsWithin {A : Type 0} (behaviour : Behaviour A) (world : World A) (app client : ℕ) (call : Call) (left : Tee A) : Type 0 where
+pub record StopsWithin {A : Type 0} (behaviour : Behaviour A) (Stands : World A → Type 0) (world : World A) (app client : ℕ) (call : Call) : Type 0 where
   pub marks : Marks
   pub made : List AppEvent
   pub rest : List AppEvent
   pub all : run_events behaviour marks world app client call ≡ made ++ rest
-  pub stands : Represents left (world_after behaviour world made)
+  pub stands : Stands (world_after behaviour world made)

@@ -1,16 +1,16 @@
-//! All applications side by side, in one thread: each a machine of its own, over a store of its own.
+//! All applications side by side, in one thread: each a machine of its own, over the objects of its region of one volume.
 #![tactic(auto)]
 
 mod events;
 mod happened;
-mod hosted;
-mod keeping;
+mod power;
 mod run;
-mod sure_store;
+mod sides;
 mod tee;
 #[cfg(test)]
 mod tests;
 
-pub use alone::TurnKind;
+pub use alone::{Power, TurnKind};
+pub use epoch::{OpenAnswer, Unopened};
 pub use happened::{Event, Happened, RunReplies};
-pub use tee::Tee;
+pub use tee::{Tee, TeeOver, VolumeInUse};

@@ -1,123 +1,65 @@
-//! Calls, cancellations and turns of one application, and calls that are run until they are answered.
+//! Calls that are run until they are answered.
 
-ghost use Rattle.std.specs.Prelude.{◌≡◌, ◌+◌, ◌≤◌, ◌<◌, ◌^◌, [], IfOk, OnOk, OnErr, true};
-ghost use Rattle.store_api.specs.Stores.{empty_store};
+ghost use Rattle.std.specs.Prelude.{◌≡◌, ◌+◌, ◌≤◌, ◌<◌, ◌≢◌, ◌^◌, ℕ, IfOk, OnErr, OnOk, Some, slice_get};
 ghost use Rattle.tee_base.specs.declared.limits.TheConstants.{CALL_TURNS};
-ghost use Rattle.alone.specs.declared.turn.TurnKind.TheVariants.{Plain};
-ghost use Rattle.alone.specs.Machine.{Machine, start};
-ghost use Rattle.alone.specs.Step.{called, cancelled, may_stand, step, Called, Cancelled};
-ghost use Rattle.app_side.specs.Represents.{event_of, turns_of};
-ghost use Rattle.tee_core.specs.Happenings.{happening, IsPlainBehind};
-ghost use Rattle.tee_core.specs.Represents.{IsHosted, IsPlainOrStarved};
-ghost use Rattle.tee_core.specs.Turns.{IsPartRun, IsRun, IsTurnedUntil, StopsBefore};
+ghost use Rattle.alone.specs.Machine.{Machine};
+ghost use Rattle.alone.specs.Marks.{Marks, SameWithin};
+ghost use Rattle.tee_core.specs.Happenings.{IsPlainBehind, marks_of, told_of_call};
+ghost use Rattle.tee_core.specs.Moments.{HasRun, HasRunBehind, KeepsFoundation};
+ghost use Rattle.tee_core.specs.Represents.{app_count, boots_of, turns_made, volume_of, Represents, StopsWithin};
+ghost use Rattle.tee_core.specs.Turns.{IsTurnedUntil, StopsBefore};
+ghost use Rattle.tee_core.specs.World.{World, run_events, world_after};
 
-use crate::happened::{Happened, RunReplies};
-use crate::hosted::Hosted;
-use crate::sure_store::SureStore;
-use alone::{Call, Replies, TurnKind};
-use app_api::{Application, Host};
-use app_side::AppSide;
+use crate::happened::RunReplies;
+use crate::tee::TeeOver;
+use alone::{Call, Replies};
+use app_api::Application;
 use std::alloc::Global;
+use store_api::Volume;
 use tee_base::{NoMemory, limits};
 
-impl<A: Application> Hosted<A> {
-    /// An application that has run nothing, over an empty store whose calls don't fail.
-    pub fn new(
-        alloc: Global,
-        host: Host<A>,
-        application: u8,
-        seed: [u8; 32],
-    ) -> Result<Hosted<A>, NoMemory>
-        ensures { IfOk result (λ hosted.
-            IsHosted hosted (start host application seed empty_store)) }
-    {
-        let side = AppSide::new(alloc, host, application, seed)?;
-        let store = SureStore::new(alloc)?;
-        Ok(Hosted { side, store })
-    }
-
-    /// How many turns were made.
-    pub fn turns(&self) -> u64
-        ensures { result ≡ turns_of self.now.side }
-    {
-        self.side.turns()
-    }
-
-    /// A client's call. Want of memory changes nothing.
-    pub fn call(&mut self, client: u8, call: Call) -> Result<Happened, NoMemory>
-        ensures hosted { OnOk result ((m : Machine A) → IsHosted self.old m
-            → IsHosted self.new (called m client call).machine) }
+impl<B, V: Volume, A: Application> TeeOver<B, V, A> {
+    /// A call of a known application, and then turns of its instance until it is answered. Under all marks that agree
+    /// with what was told on every turn that was made it is the run that they give: those turns that were told as lost,
+    /// damaged or starved are marked so, and no others.
+    ///
+    /// # Errors
+    ///
+    /// There is no memory for the call, or to tell of what happened: then only the first events of such a run were made.
+    pub fn run(&mut self, app: u8, client: u8, call: Call) -> Result<RunReplies, NoMemory>
+        requires known { app < app_count self.old }
+        requires room { turns_made self.old app + CALL_TURNS ≤ 2 ^ 63 }
+        ensures world { IfOk result (λ told.
+            (world : World A) (m : Machine A) (marks : Marks) → Represents self.old world
+            → slice_get world app ≡ Some m
+            → SameWithin m.turns (turns_made self.new app) marks (marks_of told)
+            → Represents self.new
+            (world_after A.behaviour world (run_events A.behaviour marks world app client call))) }
         ensures told { IfOk result (λ told.
-            (m : Machine A) → IsHosted self.old m
-            → told ≡ happening A.behaviour m (Called client call)) }
-        ensures kind { IfOk result (λ told. told.kind ≡ Plain) }
-        ensures turns { OnOk result (turns_of self.new.side ≡ turns_of self.old.side) }
-        ensures err { OnErr result ((m : Machine A) → IsHosted self.old m → IsHosted self.new m) }
+            (world : World A) (m : Machine A) (marks : Marks) → Represents self.old world
+            → slice_get world app ≡ Some m
+            → SameWithin m.turns (turns_made self.new app) marks (marks_of told)
+            → told ≡ told_of_call A.behaviour marks m client call) }
+        // whatever the board: how often it failed, and that no order is made
+        ensures counts { IfOk result (λ told. HasRun told
+            (V.keeper.condition (volume_of self.old)) (V.keeper.condition (volume_of self.new))) }
+        ensures foundation { KeepsFoundation (V.keeper.condition (volume_of self.old))
+            (V.keeper.condition (volume_of self.new)) }
+        ensures err { OnErr result ((world : World A) → Represents self.old world
+            → StopsWithin A.behaviour (λ after. Represents self.new after) world app client call) }
+        ensures apps { app_count self.new ≡ app_count self.old }
+        ensures turns { turns_made self.new app ≤ turns_made self.old app + CALL_TURNS }
+        ensures others { (other : ℕ) → other ≢ app
+            → turns_made self.new other ≡ turns_made self.old other }
+        ensures boots { boots_of self.new ≡ boots_of self.old }
     {
-        let made = self.side.call(client, call)?;
-        Ok(Happened {
-            kind: TurnKind::Plain,
-            turn: self.side.turns(),
-            op: made.op,
-            instance: made.instance,
-            replies: made.replies,
-        })
-    }
-
-    /// A client asks for the operation of this number to be cancelled. It takes no memory.
-    pub fn cancel(&mut self, op: u64) -> Happened
-        ensures hosted { (m : Machine A) → IsHosted self.old m
-            → IsHosted self.new (cancelled m op).machine }
-        ensures told { (m : Machine A) → IsHosted self.old m
-            → result ≡ happening A.behaviour m (Cancelled op) }
-        ensures kind { result.kind ≡ Plain }
-    {
-        let replies = self.side.cancel(op);
-        Happened {
-            kind: TurnKind::Plain,
-            turn: self.side.turns(),
-            op,
-            instance: 0,
-            replies,
-        }
-    }
-
-    /// A turn of the instance, with its replies: how it went. The store served, or there was no memory.
-    fn advance(&mut self, instance: u8, replies: &mut Replies) -> TurnKind
-        requires room { turns_of self.old.side < 2 ^ 63 }
-        requires none { replies.old ≡ [] }
-        ensures hosted { (m : Machine A) → IsHosted self.old m
-            → IsHosted self.new (step A.behaviour m (event_of result instance)).machine }
-        ensures replies { (m : Machine A) → IsHosted self.old m
-            → replies.new ≡ (step A.behaviour m (event_of result instance)).replies }
-        ensures stands { (m : Machine A) → IsHosted self.old m
-            → may_stand m (event_of result instance) ≡ true }
-        ensures kind { IsPlainOrStarved result }
-        ensures turns { turns_of self.new.side ≡ turns_of self.old.side + 1 }
-    {
-        self.side.turn_into(instance, &mut self.store, replies)
-    }
-
-    /// A turn of the instance. One for which there is no memory is an event like any other.
-    pub fn turn(&mut self, instance: u8) -> Happened
-        requires { turns_of self.old.side < 2 ^ 63 }
-        ensures hosted { (m : Machine A) → IsHosted self.old m
-            → IsHosted self.new (step A.behaviour m (event_of result.kind instance)).machine }
-        ensures told { (m : Machine A) → IsHosted self.old m
-            → result ≡ happening A.behaviour m (event_of result.kind instance) }
-        ensures stands { (m : Machine A) → IsHosted self.old m
-            → may_stand m (event_of result.kind instance) ≡ true }
-        ensures kind { IsPlainOrStarved result.kind }
-    {
-        let mut replies = Replies::none();
-        let kind = self.advance(instance, &mut replies);
-        Happened {
-            kind,
-            turn: self.side.turns(),
-            op: 0,
-            instance,
-            replies,
-        }
+        let mut told = RunReplies::new(self.alloc);
+        let made = self.call(app, client, call)?;
+        let op = made.op;
+        let instance = made.instance;
+        told.push(made)?;
+        self.turn_until(app, instance, op, &mut told)?;
+        Ok(told)
     }
 
     /// Turns of the instance until the operation is answered; those that have a reply, or aren't plain, are told.
@@ -125,43 +67,42 @@ impl<A: Application> Hosted<A> {
     /// # Errors
     ///
     /// There is no memory to tell of a turn: then it was the last.
-    fn turn_until(&mut self, instance: u8, op: u64, told: &mut RunReplies) -> Result<(), NoMemory>
-        requires room { turns_of self.old.side + CALL_TURNS ≤ 2 ^ 63 }
-        requires plain { IsPlainBehind (turns_of self.old.side) told.old }
-        ensures ok { OnOk result ((m : Machine A) → IsHosted self.old m
-            → IsTurnedUntil A.behaviour m instance op told.old told.new self.new) }
-        ensures err { OnErr result ((m : Machine A) → IsHosted self.old m
-            → StopsBefore A.behaviour m instance op self.new) }
+    fn turn_until(
+        &mut self,
+        app: u8,
+        instance: u8,
+        op: u64,
+        told: &mut RunReplies,
+    ) -> Result<(), NoMemory>
+        requires known { app < app_count self.old }
+        requires room { turns_made self.old app + CALL_TURNS ≤ 2 ^ 63 }
+        requires plain { IsPlainBehind (turns_made self.old app) told.old }
+        ensures ok { OnOk result ((world : World A) (m : Machine A) → Represents self.old world
+            → slice_get world app ≡ Some m
+            → IsTurnedUntil A.behaviour (λ after. Represents self.new after) world m app instance op
+            (turns_made self.new app) told.old told.new) }
+        ensures err { OnErr result ((world : World A) (m : Machine A) → Represents self.old world
+            → slice_get world app ≡ Some m
+            → StopsBefore A.behaviour (λ after. Represents self.new after) world m app instance
+            op) }
+        ensures counts { OnOk result (HasRunBehind told.old told.new
+            (V.keeper.condition (volume_of self.old)) (V.keeper.condition (volume_of self.new))) }
+        ensures foundation { KeepsFoundation (V.keeper.condition (volume_of self.old))
+            (V.keeper.condition (volume_of self.new)) }
+        ensures apps { app_count self.new ≡ app_count self.old }
+        ensures turns { turns_made self.new app ≤ turns_made self.old app + CALL_TURNS }
+        ensures others { (other : ℕ) → other ≢ app
+            → turns_made self.new other ≡ turns_made self.old other }
+        ensures boots { boots_of self.new ≡ boots_of self.old }
     {
         let mut replies = Replies::none();
         for _ in 0..limits::CALL_TURNS {
-            if self.side.answered(op) {
+            if self.sides[app as usize].answered(op) {
                 return Ok(());
             }
-            let kind = self.advance(instance, &mut replies);
-            told.tell_turn(kind, self.side.turns(), instance, &mut replies)?;
+            let kind = self.advance(app, instance, &mut replies);
+            told.tell_turn(kind, self.turns(app), instance, &mut replies)?;
         }
         Ok(())
-    }
-
-    /// A client's call, and then turns of its instance until it is answered.
-    ///
-    /// # Errors
-    ///
-    /// There is no memory for the call, which changes nothing, or to tell of what happened: then the run ends there.
-    pub fn run(&mut self, alloc: Global, client: u8, call: Call) -> Result<RunReplies, NoMemory>
-        requires { turns_of self.old.side + CALL_TURNS ≤ 2 ^ 63 }
-        ensures ok { IfOk result (λ told. (m : Machine A) → IsHosted self.old m
-            → IsRun A.behaviour m client call told self.new) }
-        ensures err { OnErr result ((m : Machine A) → IsHosted self.old m
-            → IsPartRun A.behaviour m client call self.new) }
-    {
-        let mut told = RunReplies::new(alloc);
-        let made = self.call(client, call)?;
-        let op = made.op;
-        let instance = made.instance;
-        told.push(made)?;
-        self.turn_until(instance, op, &mut told)?;
-        Ok(told)
     }
 }

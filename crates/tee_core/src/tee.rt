@@ -1,9 +1,31 @@
-//! All applications side by side.
+//! All applications side by side, over one volume.
 
-use crate::hosted::Hosted;
+ghost use Rattle.std.specs.Prelude.{◌≤◌, vec_len};
+ghost use Rattle.tee_base.specs.declared.limits.TheConstants.{HOSTS};
+ghost use Rattle.tee_core.specs.Sides.{AreBooted, AreBooted-prop, ServeAs, ServeAs-prop};
 
-/// The running applications, in the order of their hosts.
+use app_side::AppSide;
+use flat_volume::FlatVolume;
+use std::alloc::Global;
+use std::marker::PhantomData;
+use store_api::Volume;
+
+/// The kind of volume in use. Its form is `form_in_use` of this crate's definitions.
+pub type VolumeInUse<B> = FlatVolume<B>;
+
+/// Applications over the volume in use. Another volume takes its place by this line.
+pub type Tee<B, A> = TeeOver<B, VolumeInUse<B>, A>;
+
+/// The running applications, in the order of their hosts, each with its objects in the region of its index.
 #[derive(Drop)]
-pub struct Tee<A> {
-    pub(crate) hosted: Vec<Hosted<A>>,
+pub struct TeeOver<B, V: Volume, A> {
+    pub(crate) alloc: Global,
+    pub(crate) volume: V,
+    pub(crate) sides: Vec<AppSide<A>>,
+    /// How often the power was lost.
+    pub(crate) boots: u32,
+    pub(crate) board: PhantomData<B>,
+    ghost few: { vec_len sides ≤ HOSTS },
+    ghost served: { ServeAs V.keeper volume sides.items } by { ServeAs-prop V.keeper volume sides.items },
+    ghost booted: { AreBooted boots sides.items } by { AreBooted-prop boots sides.items },
 }

@@ -1,4 +1,5 @@
-//! Two applications side by side.
+//! Two applications side by side, over a board in memory.
 
-mod creator;
+mod asking;
+mod losses;
 mod pairs;

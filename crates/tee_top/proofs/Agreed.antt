@@ -1,26 +1,34 @@
--- Marks that are those of a log agree with the events that it tells of: each number of a turn stands for one turn of an application.
+-- Weather that is that of a log agrees with the events that it tells of: each number of a turn stands for one turn of an application,
+-- and each number of a loss of power for one loss.
 use Rattle.app_api.specs.Behaviours.{Behaviour}
-use Rattle.std.proofs.Common.{ℕ, zero, suc, ◌≡◌, ◌≢◌, ◌<◌, ◌≤◌, ◌+◌, ◌^◌, ◌==◌, ◌&&◌, ◌⊎◌, inl, inr, Bool, true, false, cond, filter, List, [], ◌∷◌, ◌++◌, Option, None, Some, length, map, set, refl, sym, subst, ◌∙◌, ap, append_assoc, arith}
+use Rattle.std.proofs.Common.{ℕ, zero, suc, ◌≡◌, ◌≢◌, ◌<◌, ◌≤◌, ◌+◌, ◌==◌, ◌&&◌, ◌⊎◌, inl, inr, Bool, true, false, cond, filter, List, [], ◌∷◌, ◌++◌, Option, None, Some, length, map, refl, sym, subst, ◌∙◌, ap, append_assoc, arith}
 use Rattle.std.specs.Prelude.{◌||◌, slice_get}
 use Rattle.std.proofs.Math.Bool.{or-false}
 use Rattle.std.proofs.lemmas.Bool.{cond_both, eq-eqb, eqb-true, eqb-false, ne_eqb}
-use Rattle.std.proofs.lemmas.List.{map-append}
+use Rattle.std.proofs.lemmas.List.{length-append, map-append}
 use Rattle.std.proofs.lemmas.List.Elements.{filter-append}
 use Rattle.std.proofs.lemmas.List.Folds.{list_any-append}
+use Rattle.alone.specs.declared.power.Power.{Power}
+use Rattle.alone.specs.declared.power.Power.TheVariants.{Clean, Kept, Absent}
 use Rattle.alone.specs.declared.turn.TurnKind.{TurnKind}
 use Rattle.alone.specs.declared.turn.TurnKind.TheVariants as kinds
 use Rattle.alone.specs.Machine.{Machine}
-use Rattle.alone.specs.Marks.{Marks, SameAt}
+use Rattle.alone.specs.Marks.{Marks}
 use Rattle.alone.specs.Step.{Event, Called, Cancelled, Turned, TurnLost, Corrupted, Lost, Starved, Restarted, step}
 use Rattle.alone.proofs.Counted.{call_counts_none}
 use Rattle.tee_core.specs.declared.happened.Happened.{Happened}
 use Rattle.tee_core.specs.Happenings.{happening, is_corrupt_turn, is_lost_turn, is_starved_turn, kind_met, tells}
+use Rattle.tee_core.specs.Powers.{after_power, kept_by, restarts_from, told_of}
 use Rattle.tee_core.specs.World.{World, AppEvent, met_by_others, moved_at, world_step}
+use Rattle.tee_core.proofs.SideLemmas.{get_other}
 use Rattle.tee_core.proofs.Turns.{kind_counts}
-use Rattle.tee_top.specs.Logs.{AreKnown, Entry, log_marks, told_of}
-use Rattle.tee_top.specs.Parts.{AgreesAt, AgreesIn, AgreeWith, IsMarkedAs, entry_of, log_of}
-use Rattle.tee_top.proofs.Calls.{there_after}
+use Rattle.tee_core.proofs.TurnsMade.{at_step}
+use Rattle.tee_top.specs.BoardLines.{IsOwnerKnown}
+use Rattle.tee_top.specs.Logs.{AreKnown, Entry, Item, OfApp, OfBoard, SameWeather, entries_in, kept_at, log_weather, powers_told, told_of_app}
+use Rattle.tee_top.specs.Parts.{AgreesAt, AgreesIn, AgreeWith, AreTold, IsMarkedAs, entry_of, items_of, log_of, owner_told}
+use Rattle.tee_top.specs.Transcript.{Weather, WorldEvent, Fused, Happens, Powered, after_event, owner_in_doubt, powers_in, told_by}
 use Rattle.tee_top.proofs.Cancels.{cancel_counts_none}
+use Rattle.tee_top.proofs.Parts.{entries_both, powers_both}
 
 -- ---- how many turns a machine of a world has made
 
@@ -31,13 +39,6 @@ turns_in (Some m) = m.turns
 -- the number of turns of the application of this index
 abbrev pub turns_at : {A : Type 0} → World A → ℕ → ℕ
 turns_at w app = turns_in (slice_get w app)
-
-get_other : {X : Type 0} (xs : List X) (i j : ℕ) (x : X) → i ≢ j → slice_get (set xs i x) j ≡ slice_get xs j
-get_other [] i j x other = refl
-get_other (y ∷ xs) zero zero x other = absurd (other refl)
-get_other (y ∷ xs) zero (suc j) x other = refl
-get_other (y ∷ xs) (suc i) zero x other = refl
-get_other (y ∷ xs) (suc i) (suc j) x other = get_other xs i j x (λ same. other (ap (λ n. suc n) same))
 
 turns_map : {A : Type 0} (f : Machine A → Machine A) (w : World A) (app : ℕ) → ((m : Machine A) → (f m).turns ≡ m.turns) → turns_at (map f w) app ≡ turns_at w app
 turns_map f [] app keeps = refl
@@ -51,6 +52,19 @@ false_and false = refl
 true_and : (b : Bool) → (b && true) ≡ b
 true_and true = refl
 true_and false = refl
+
+-- ---- what is told of a loss of power
+
+-- the element behind a front
+at_front : {X : Type 0} (xs : List X) (x : X) (ys : List X) → slice_get (xs ++ x ∷ ys) (length xs) ≡ Some x
+at_front [] x ys = refl
+at_front (y ∷ xs) x ys = at_front xs x ys
+
+-- where the change in doubt is kept that was told as kept, the same is told
+told_again : (count : ℕ) (kept : ℕ → Bool) (told : Power) → IsOwnerKnown count told → ((app : ℕ) → app < count → kept app ≡ kept_by told app) → told_by kept (owner_told told) ≡ told
+told_again count kept Clean known same = refl
+told_again count kept (Kept app) known same = ap (told_of (Some app)) (same app known ∙ eq-eqb app app refl)
+told_again count kept (Absent app) known same = ap (told_of (Some app)) (same app known)
 
 module _ {A : Type 0} (behaviour : Behaviour A) where
   -- an event is a turn, which counts, or it is plain and counts none
@@ -85,45 +99,57 @@ module _ {A : Type 0} (behaviour : Behaviour A) where
   met_turns (Starved i) w app = refl
   met_turns (Restarted took) w app = refl
 
-  other_turns_by : (w : World A) (app other : ℕ) (event : Event) (o : Option (Machine A)) → app ≢ other → turns_at (moved_at behaviour w app event o) other ≡ turns_at w other
+  other_turns_by : (w : World A) (app other : ℕ) (event : Event) (o : Option (Machine A)) → other ≢ app → turns_at (moved_at behaviour w app event o) other ≡ turns_at w other
   other_turns_by w app other event None apart = refl
   other_turns_by w app other event (Some m) apart =
       ap (λ (x : Option (Machine A)). turns_in x) (get_other (met_by_others behaviour event w) app other (step behaviour m event).machine apart) ∙ met_turns event w other
 
   -- an event of one application leaves the count of the others
-  other_turns : (w : World A) (e : AppEvent) (other : ℕ) → e.app ≢ other → turns_at (world_step behaviour w e) other ≡ turns_at w other
+  other_turns : (w : World A) (e : AppEvent) (other : ℕ) → other ≢ e.app → turns_at (world_step behaviour w e) other ≡ turns_at w other
   other_turns w e other apart = other_turns_by w e.app other e.event (slice_get w e.app) apart
 
   own_turns : (w : World A) (e : AppEvent) (m : Machine A) → slice_get w e.app ≡ Some m → turns_at (world_step behaviour w e) e.app ≡ (step behaviour m e.event).machine.turns
-  own_turns w e m here = ap (λ (x : Option (Machine A)). turns_in x) (there_after behaviour w e.app m e.event here)
+  own_turns w e m here = ap (λ (x : Option (Machine A)). turns_in x) (at_step behaviour w e.app m e.event here)
 
-  kept_by : (w : World A) (e : AppEvent) (o : Option (Machine A)) → slice_get w e.app ≡ o → turns_at w e.app ≤ turns_at (world_step behaviour w e) e.app
-  kept_by w e None here =
+  own_kept : (w : World A) (e : AppEvent) (o : Option (Machine A)) → slice_get w e.app ≡ o → turns_at w e.app ≤ turns_at (world_step behaviour w e) e.app
+  own_kept w e None here =
       let stays : world_step behaviour w e ≡ w = ap (moved_at behaviour w e.app e.event) here in
       let same : turns_at (world_step behaviour w e) e.app ≡ turns_at w e.app = ap (λ (x : World A). turns_at x e.app) stays in omega (arith, same)
-  kept_by w e (Some m) here =
+  own_kept w e (Some m) here =
       let before : turns_at w e.app ≡ m.turns = ap (λ (x : Option (Machine A)). turns_in x) here in
       omega (arith, before, own_turns w e m here, later m e.event)
 
-  -- no count goes down
-  kept : (w : World A) (e : AppEvent) (app : ℕ) → turns_at w app ≤ turns_at (world_step behaviour w e) app
-  kept w e app =
+  step_kept : (w : World A) (e : AppEvent) (app : ℕ) → turns_at w app ≤ turns_at (world_step behaviour w e) app
+  step_kept w e app =
       cond_both (e.app == app) true false (λ b. turns_at w app ≤ turns_at (world_step behaviour w e) app)
-      (λ yes. subst (λ n. turns_at w n ≤ turns_at (world_step behaviour w e) n) (eqb-true e.app app yes) (kept_by w e (slice_get w e.app) refl))
-      (λ no. let same = other_turns w e app (eqb-false e.app app no) in omega (arith, same))
+      (λ yes. subst (λ n. turns_at w n ≤ turns_at (world_step behaviour w e) n) (eqb-true e.app app yes) (own_kept w e (slice_get w e.app) refl))
+      (λ no. let same = other_turns w e app (λ equal. eqb-false e.app app no (sym equal)) in omega (arith, same))
+
+  -- a restart counts no turn
+  restart_turns : (kept : ℕ → Bool) (index : ℕ) (w : World A) (app : ℕ) → turns_at (restarts_from behaviour kept index w) app ≡ turns_at w app
+  restart_turns kept index [] app = refl
+  restart_turns kept index (m ∷ w) zero = refl
+  restart_turns kept index (m ∷ w) (suc app) = restart_turns kept (index + 1) w app
+
+  -- no count goes down
+  kept : (w : World A) (e : WorldEvent) (app : ℕ) → turns_at w app ≤ turns_at (after_event behaviour w e) app
+  kept w (Happens e) app = step_kept w e app
+  kept w (Fused calls) app = omega arith
+  kept w (Powered pick told) app = let same = restart_turns (kept_by told) 0 w app in omega (arith, same)
 
   -- ---- what a log tells of a turn
 
   module _ (went : TurnKind → Bool) (plain : went kinds.Plain ≡ false) where
     -- whether the log tells that the turn went so
-    abbrev says : ℕ → List Entry → ℕ → Bool
-    says app log turn = tells went (told_of app log) turn
+    abbrev says : ℕ → List Item → ℕ → Bool
+    says app log turn = tells went (told_of_app app (entries_in log)) turn
 
-    says_both : (app : ℕ) (xs ys : List Entry) (turn : ℕ) → says app (xs ++ ys) turn ≡ (says app xs turn || says app ys turn)
+    says_both : (app : ℕ) (xs ys : List Item) (turn : ℕ) → says app (xs ++ ys) turn ≡ (says app xs turn || says app ys turn)
     says_both app xs ys turn =
-        ap (λ zs. tells went (map (λ (e : Entry). e.told) zs) turn) (filter-append (λ (e : Entry). e.app == app) xs ys)
-        ∙ ap (λ zs. tells went zs turn) (map-append (λ (e : Entry). e.told) (filter (λ (e : Entry). e.app == app) xs) (filter (λ (e : Entry). e.app == app) ys))
-        ∙ list_any-append (λ (h : Happened). went h.kind && h.turn == turn) (told_of app xs) (told_of app ys)
+        ap (λ zs. tells went (told_of_app app zs) turn) (entries_both xs ys)
+        ∙ ap (λ zs. tells went (map (λ (e : Entry). e.told) zs) turn) (filter-append (λ (e : Entry). e.app == app) (entries_in xs) (entries_in ys))
+        ∙ ap (λ zs. tells went zs turn) (map-append (λ (e : Entry). e.told) (filter (λ (e : Entry). e.app == app) (entries_in xs)) (filter (λ (e : Entry). e.app == app) (entries_in ys)))
+        ∙ list_any-append (λ (h : Happened). went h.kind && h.turn == turn) (told_of_app app (entries_in xs)) (told_of_app app (entries_in ys))
 
     -- an event that makes another turn, or none, tells nothing of this one
     says_other : (m : Machine A) (event : Event) (turn : ℕ) → (step behaviour m event).machine.turns ≢ turn → (went (kind_met m event) && (step behaviour m event).machine.turns == turn) ≡ false
@@ -143,39 +169,52 @@ module _ {A : Type 0} (behaviour : Behaviour A) where
         (λ yes. or-false (went (kind_met m event) && (step behaviour m event).machine.turns == turn) ∙ none m refl (eqb-true of app yes))
         (λ no. refl)
 
-    -- events from a world on tell nothing of the turns that were made before
-    says_later : (w : World A) (es : List AppEvent) (app turn : ℕ) → turn ≤ turns_at w app → says app (log_of behaviour w es) turn ≡ false
-    says_later w [] app turn made = refl
-    says_later w (e ∷ es) app turn made =
-        let here : List Entry = entry_of behaviour e.app e.event (slice_get w e.app) in
-        let then : World A = world_step behaviour w e in
-        says_both app here (log_of behaviour then es) turn
-        ∙ ap (λ b. b || says app (log_of behaviour then es) turn)
-        (entry_says e.app e.event app turn (slice_get w e.app)
+    -- an event tells nothing of the turns before it
+    items_later : (w : World A) (e : WorldEvent) (app turn : ℕ) → turn ≤ turns_at w app → says app (items_of behaviour w e) turn ≡ false
+    items_later w (Happens e) app turn made =
+        entry_says e.app e.event app turn (slice_get w e.app)
         (λ m is same.
         let count : turns_at w app ≡ m.turns = ap (λ n. turns_at w n) (sym same) ∙ ap (λ (x : Option (Machine A)). turns_in x) is in
-        says_before m e.event turn (omega (arith, made, count)) (counts m e.event)))
-        ∙ says_later then es app turn (omega (arith, made, kept w e app))
+        says_before m e.event turn (omega (arith, made, count)) (counts m e.event))
+    items_later w (Fused calls) app turn made = refl
+    items_later w (Powered pick told) app turn made = refl
 
-    -- entries tell nothing of the turns from a world on
-    abbrev IsBehind : World A → List Entry → Type 0
-    IsBehind w front = (app turn : ℕ) → turns_at w app < turn → says app front turn ≡ false
-
-    behind_more : (w : World A) (e : AppEvent) (front : List Entry) → IsBehind w front → IsBehind (world_step behaviour w e) (front ++ entry_of behaviour e.app e.event (slice_get w e.app))
-    behind_more w e front behind = λ app turn above.
-        let here : List Entry = entry_of behaviour e.app e.event (slice_get w e.app) in
-        says_both app front here turn
-        ∙ ap (λ b. b || says app here turn) (behind app turn (omega (arith, above, kept w e app)))
-        ∙ entry_says e.app e.event app turn (slice_get w e.app)
+    -- and nothing of those behind it
+    items_behind : (w : World A) (e : WorldEvent) (app turn : ℕ) → turns_at (after_event behaviour w e) app < turn → says app (items_of behaviour w e) turn ≡ false
+    items_behind w (Happens e) app turn above =
+        entry_says e.app e.event app turn (slice_get w e.app)
         (λ m is same.
         let count : turns_at (world_step behaviour w e) app ≡ (step behaviour m e.event).machine.turns = ap (λ n. turns_at (world_step behaviour w e) n) (sym same) ∙ own_turns w e m is in
         says_other m e.event turn (λ equal. absurd (omega (arith, above, equal, count))))
+    items_behind w (Fused calls) app turn above = refl
+    items_behind w (Powered pick told) app turn above = refl
+
+    -- events from a world on tell nothing of the turns that were made before
+    says_later : (w : World A) (es : List WorldEvent) (app turn : ℕ) → turn ≤ turns_at w app → says app (log_of behaviour w es) turn ≡ false
+    says_later w [] app turn made = refl
+    says_later w (e ∷ es) app turn made =
+        let here : List Item = items_of behaviour w e in
+        let then : World A = after_event behaviour w e in
+        says_both app here (log_of behaviour then es) turn
+        ∙ ap (λ b. b || says app (log_of behaviour then es) turn) (items_later w e app turn made)
+        ∙ says_later then es app turn (omega (arith, made, kept w e app))
+
+    -- items tell nothing of the turns from a world on
+    abbrev IsBehind : World A → List Item → Type 0
+    IsBehind w front = (app turn : ℕ) → turns_at w app < turn → says app front turn ≡ false
+
+    behind_more : (w : World A) (e : WorldEvent) (front : List Item) → IsBehind w front → IsBehind (after_event behaviour w e) (front ++ items_of behaviour w e)
+    behind_more w e front behind = λ app turn above.
+        let here : List Item = items_of behaviour w e in
+        says_both app front here turn
+        ∙ ap (λ b. b || says app here turn) (behind app turn (omega (arith, above, kept w e app)))
+        ∙ items_behind w e app turn above
 
     -- and of a turn as it went
-    says_here : (w : World A) (e : AppEvent) (m : Machine A) (front : List Entry) (es : List AppEvent) → slice_get w e.app ≡ Some m → (step behaviour m e.event).machine.turns ≡ m.turns + 1
-        → IsBehind w front → says e.app (front ++ log_of behaviour w (e ∷ es)) (m.turns + 1) ≡ went (kind_met m e.event)
+    says_here : (w : World A) (e : AppEvent) (m : Machine A) (front : List Item) (es : List WorldEvent) → slice_get w e.app ≡ Some m → (step behaviour m e.event).machine.turns ≡ m.turns + 1
+        → IsBehind w front → says e.app (front ++ log_of behaviour w (Happens e ∷ es)) (m.turns + 1) ≡ went (kind_met m e.event)
     says_here w e m front es is count behind =
-        let here : List Entry = entry_of behaviour e.app e.event (slice_get w e.app) in
+        let here : List Item = entry_of behaviour e.app e.event (slice_get w e.app) in
         let then : World A = world_step behaviour w e in
         let turn : ℕ = m.turns + 1 in
         let before : turns_at w e.app ≡ m.turns = ap (λ (x : Option (Machine A)). turns_in x) is in
@@ -190,21 +229,36 @@ module _ {A : Type 0} (behaviour : Behaviour A) where
         ∙ ap (λ b. went (kind_met m e.event) && b) (eq-eqb (step behaviour m e.event).machine.turns turn count)
         ∙ true_and (went (kind_met m e.event))
 
-  -- ---- marks that are those of the whole log
+  -- ---- weather that is that of the whole log
 
-  record AreBehind (w : World A) (front : List Entry) : Type 0 where
+  -- a front of a log: it tells nothing of the turns from a world on, and of so many losses of power
+  record AreBehind (power : ℕ) (w : World A) (front : List Item) : Type 0 where
     lost : IsBehind is_lost_turn refl w front
     corrupt : IsBehind is_corrupt_turn refl w front
     starved : IsBehind is_starved_turn refl w front
+    powers : length (powers_told front) ≡ power
 
-  module _ (names : List (List ℕ)) (marks : ℕ → Marks) (log : List Entry) (same : (app turn : ℕ) → app < length names → turn < 2 ^ 64 → SameAt turn (marks app) (log_marks log app)) where
-    marked : (w : World A) (e : AppEvent) (m : Machine A) (front : List Entry) (es : List AppEvent) → slice_get w e.app ≡ Some m → (step behaviour m e.event).machine.turns ≡ m.turns + 1
-        → AreBehind w front → log ≡ front ++ log_of behaviour w (e ∷ es) → AreKnown names (log_of behaviour w (e ∷ es)) → IsMarkedAs (kind_met m e.event) (marks e.app) (m.turns + 1)
-    marked w e m front es is count behind whole known =
+  behind_step : (power then : ℕ) (w : World A) (e : WorldEvent) (front : List Item) → length (powers_told front) + length (powers_told (items_of behaviour w e)) ≡ then → AreBehind power w front
+      → AreBehind then (after_event behaviour w e) (front ++ items_of behaviour w e)
+  behind_step power then w e front count behind = record {
+    lost = behind_more is_lost_turn refl w e front behind.lost;
+    corrupt = behind_more is_corrupt_turn refl w e front behind.corrupt;
+    starved = behind_more is_starved_turn refl w e front behind.starved;
+    powers = ap length (powers_both front (items_of behaviour w e)) ∙ length-append (powers_told front) (powers_told (items_of behaviour w e)) ∙ count;
+  }
+
+  none_told : (app : ℕ) (event : Event) (o : Option (Machine A)) → length (powers_told (entry_of behaviour app event o)) ≡ 0
+  none_told app event None = refl
+  none_told app event (Some m) = refl
+
+  module _ (names : List (List ℕ)) (weather : Weather) (log : List Item) (same : SameWeather (length names) weather (log_weather log)) where
+    marked : (power : ℕ) (w : World A) (e : AppEvent) (m : Machine A) (front : List Item) (es : List WorldEvent) → slice_get w e.app ≡ Some m → (step behaviour m e.event).machine.turns ≡ m.turns + 1
+        → AreBehind power w front → log ≡ front ++ log_of behaviour w (Happens e ∷ es) → AreKnown names (log_of behaviour w (Happens e ∷ es)) → IsMarkedAs (kind_met m e.event) (weather.marks e.app) (m.turns + 1)
+    marked power w e m front es is count behind whole known =
         let turn : ℕ = m.turns + 1 in
-        let entries : AreKnown names (record { app = e.app; told = happening behaviour m e.event } ∷ log_of behaviour (world_step behaviour w e) es) =
+        let entries : AreKnown names (OfApp (record { app = e.app; told = happening behaviour m e.event }) ∷ log_of behaviour (world_step behaviour w e) es) =
         subst (λ (o : Option (Machine A)). AreKnown names (entry_of behaviour e.app e.event o ++ log_of behaviour (world_step behaviour w e) es)) is known in
-        let at = same e.app turn entries.known.0 (omega (arith, entries.counted.0, count)) in
+        let at = same.marks e.app turn entries.known.0 (omega (arith, entries.counted.0, count)) in
         record {
           lost = at.lost ∙ ap (λ es. says is_lost_turn refl e.app es turn) whole ∙ says_here is_lost_turn refl w e m front es is count behind.lost;
           corrupt = at.corrupt ∙ ap (λ es. says is_corrupt_turn refl e.app es turn) whole ∙ says_here is_corrupt_turn refl w e m front es is count behind.corrupt;
@@ -226,28 +280,47 @@ module _ {A : Type 0} (behaviour : Behaviour A) where
     agrees_in turns event None here is h = tt
     agrees_in turns event (Some m) here is h = agrees_by m turns event (h m is)
 
-    known_rest : (xs ys : List Entry) → AreKnown names (xs ++ ys) → AreKnown names ys
+    known_rest : (xs ys : List Item) → AreKnown names (xs ++ ys) → AreKnown names ys
     known_rest [] ys h = h
-    known_rest (x ∷ xs) ys h = known_rest xs ys (record { known = h.known.1; counted = h.counted.1 })
+    known_rest (OfApp entry ∷ xs) ys h = known_rest xs ys (record { known = h.known.1; counted = h.counted.1; owners = h.owners })
+    known_rest (OfBoard told ∷ xs) ys h = known_rest xs ys (record { known = h.known; counted = h.counted; owners = h.owners.1 })
 
-    goes_from : (w : World A) (es : List AppEvent) (front : List Entry) → log ≡ front ++ log_of behaviour w es → AreKnown names (log_of behaviour w es) → AreBehind w front
-        → AgreeWith behaviour marks w es
-    goes_from w [] front whole known behind = tt
-    goes_from w (e ∷ es) front whole known behind =
-        let here : List Entry = entry_of behaviour e.app e.event (slice_get w e.app) in
-        let then : World A = world_step behaviour w e in (
-          agrees_in (marks e.app) e.event (slice_get w e.app) (slice_get w e.app) refl (λ m is count. marked w e m front es is count behind whole known),
-          goes_from then es (front ++ here) (whole ∙ sym (append_assoc front here (log_of behaviour then es))) (known_rest here (log_of behaviour then es) known)
-              (record {
-                lost = behind_more is_lost_turn refl w e front behind.lost;
-                corrupt = behind_more is_corrupt_turn refl w e front behind.corrupt;
-                starved = behind_more is_starved_turn refl w e front behind.starved;
-              }),
+    -- the loss of power behind a front of the log is told again by the weather
+    told_here : (power : ℕ) (w : World A) (told : Power) (front more : List Item) → length (powers_told front) ≡ power → log ≡ front ++ OfBoard told ∷ more → IsOwnerKnown (length names) told
+        → powers_in w ≡ power → owner_in_doubt w ≡ owner_told told → told_by (weather.kept (powers_in w)) (owner_in_doubt w) ≡ told
+    told_here power w told front more count whole known number owner =
+        let item : slice_get (powers_told log) (powers_in w) ≡ Some told =
+        ap (slice_get (powers_told log)) (number ∙ sym count)
+        ∙ ap (λ (items : List Item). slice_get (powers_told items) (length (powers_told front))) whole
+        ∙ ap (λ (told : List Power). slice_get told (length (powers_told front))) (powers_both front (OfBoard told ∷ more))
+        ∙ at_front (powers_told front) told (powers_told more) in
+        ap (told_by (weather.kept (powers_in w))) owner
+        ∙ told_again (length names) (weather.kept (powers_in w)) told known (λ app lt. same.kept (powers_in w) app lt ∙ ap (λ o. kept_at o app) item)
+
+    goes_from : (power : ℕ) (w : World A) (es : List WorldEvent) (front : List Item) → log ≡ front ++ log_of behaviour w es → AreKnown names (log_of behaviour w es) → AreTold behaviour power w es
+        → AreBehind power w front → AgreeWith behaviour weather w es
+    goes_from power w [] front whole known told behind = tt
+    goes_from power w (Happens e ∷ es) front whole known told behind =
+        let here : List Item = entry_of behaviour e.app e.event (slice_get w e.app) in
+        let then : World A = world_step behaviour w e in
+        let count : length (powers_told front) + length (powers_told here) ≡ power = omega (arith, behind.powers, none_told e.app e.event (slice_get w e.app)) in (
+          agrees_in (weather.marks e.app) e.event (slice_get w e.app) (slice_get w e.app) refl (λ m is count. marked power w e m front es is count behind whole known),
+          goes_from power then es (front ++ here) (whole ∙ sym (append_assoc front here (log_of behaviour then es))) (known_rest here (log_of behaviour then es) known) told
+              (behind_step power power w (Happens e) front count behind),
+        )
+    goes_from power w (Fused calls ∷ es) front whole known told behind = (tt, goes_from power w es front whole known told behind)
+    goes_from power w (Powered pick heard ∷ es) front whole known told behind =
+        let here : List Item = OfBoard heard ∷ [] in
+        let then : World A = after_power behaviour w heard in
+        let count : length (powers_told front) + 1 ≡ power + 1 = omega (arith, behind.powers) in (
+          told_here power w heard front (log_of behaviour then es) behind.powers whole known.owners.0 told.0 told.1,
+          goes_from (power + 1) then es (front ++ here) (whole ∙ sym (append_assoc front here (log_of behaviour then es))) (known_rest here (log_of behaviour then es) known) told.2
+              (behind_step power (power + 1) w (Powered pick heard) front count behind),
         )
 
-  -- marks that are alike with a log's agree with the events of that log
-  pub goes : (names : List (List ℕ)) (marks : ℕ → Marks) (w : World A) (es : List AppEvent) → AreKnown names (log_of behaviour w es)
-      → ((app turn : ℕ) → app < length names → turn < 2 ^ 64 → SameAt turn (marks app) (log_marks (log_of behaviour w es) app)) → AgreeWith behaviour marks w es
-  goes names marks w es known same =
-      goes_from names marks (log_of behaviour w es) same w es [] refl known
-      (record { lost = λ app turn above. refl; corrupt = λ app turn above. refl; starved = λ app turn above. refl })
+  -- weather that is alike with a log's agrees with the events of that log
+  pub goes : (names : List (List ℕ)) (weather : Weather) (w : World A) (made : List WorldEvent) → AreTold behaviour 0 w made → AreKnown names (log_of behaviour w made)
+      → SameWeather (length names) weather (log_weather (log_of behaviour w made)) → AgreeWith behaviour weather w made
+  goes names weather w made told known same =
+      goes_from names weather (log_of behaviour w made) same 0 w made [] refl known told
+      (record { lost = λ app turn above. refl; corrupt = λ app turn above. refl; starved = λ app turn above. refl; powers = refl })

@@ -2,14 +2,15 @@
 use Rattle.std.proofs.Common.{◌≡◌, ◌<◌, ◌≤◌, ◌⊎◌, ℕ, List, Option, Some, length, refl, ap, subst, inl, inr, arith}
 use Rattle.app_api.specs.declared.host.Host.{Host}
 use Rattle.app_api.specs.Hosts.{HostsFit}
+use Rattle.epoch.specs.declared.answer.OpenAnswer.{OpenAnswer}
 use Rattle.script.specs.declared.line.Line.{Line}
-use Rattle.script.specs.declared.dialect.Dialect.TheVariants.{WithoutBoard}
+use Rattle.script.specs.declared.dialect.Dialect.TheVariants.{Whole}
 use Rattle.script.proofs.Places.{not_both, one_line}
 use Rattle.tee_base.specs.Faults.{Rose}
 use Rattle.tee_base.specs.Transfer.{HasMoreThan}
 use Rattle.tee_top.specs.declared.status.Status.{Status}
-use Rattle.tee_top.specs.declared.status.Status.TheVariants.{Done, BadWords, BadLine, TooLong, NoMemory, ReadFault, WriteFault}
-use Rattle.tee_top.specs.Runs.{IsReadStatus, IsText, IsBadText, IsBadAt, IsWithin}
+use Rattle.tee_top.specs.declared.status.Status.TheVariants.{Done, BadWords, BadLine, TooLong, StoreRefused, NoMemory, ReadFault, WriteFault, BoardFault}
+use Rattle.tee_top.specs.Runs.{IsReadStatus, IsServed, IsText, IsBadText, IsBadAt, IsWithin}
 
 -- what reading says when it isn't Ok
 pub record Says {A : Type 0} (hosts : List (Host A)) (left : Option (List ℕ)) (before after : ℕ) (status : Status) : Type 0 where
@@ -29,7 +30,9 @@ module _ {A : Type 0} (hosts : List (Host A)) (fit : HostsFit hosts) (left : Opt
   bad_line_told Done n says told within unfailed bad = absurd says.few
   bad_line_told BadWords n says told within unfailed bad = absurd says.few
   bad_line_told WriteFault n says told within unfailed bad = absurd says.few
-  bad_line_told (BadLine m) n says told within unfailed bad = inl (ap BadLine (one_line WithoutBoard hosts text m n fit (subst (λ l. IsBadAt hosts l m) told (says.bad m refl)) bad))
+  bad_line_told (StoreRefused why) n says told within unfailed bad = absurd says.few
+  bad_line_told BoardFault n says told within unfailed bad = absurd says.few
+  bad_line_told (BadLine m) n says told within unfailed bad = inl (ap BadLine (one_line Whole hosts text m n fit (subst (λ l. IsBadAt hosts l m) told (says.bad m refl)) bad))
   bad_line_told TooLong n says told within unfailed bad = absurd (too_long_for told within (says.too_long refl))
   bad_line_told ReadFault n says told within unfailed bad = absurd (unfailed (says.fault refl))
   bad_line_told NoMemory n says told within unfailed bad = inr refl
@@ -38,7 +41,9 @@ module _ {A : Type 0} (hosts : List (Host A)) (fit : HostsFit hosts) (left : Opt
   script_told Done script says told within unfailed good = inl refl
   script_told BadWords script says told within unfailed good = absurd says.few
   script_told WriteFault script says told within unfailed good = absurd says.few
-  script_told (BadLine m) script says told within unfailed good = absurd (not_both WithoutBoard hosts text script m fit good (subst (λ l. IsBadAt hosts l m) told (says.bad m refl)))
+  script_told (StoreRefused why) script says told within unfailed good = absurd says.few
+  script_told BoardFault script says told within unfailed good = absurd says.few
+  script_told (BadLine m) script says told within unfailed good = absurd (not_both Whole hosts text script m fit good (subst (λ l. IsBadAt hosts l m) told (says.bad m refl)))
   script_told TooLong script says told within unfailed good = absurd (too_long_for told within (says.too_long refl))
   script_told ReadFault script says told within unfailed good = absurd (unfailed (says.fault refl))
   script_told NoMemory script says told within unfailed good = inr refl
@@ -47,7 +52,22 @@ module _ {A : Type 0} (hosts : List (Host A)) (fit : HostsFit hosts) (left : Opt
   too_long_told Done says within told beyond unfailed = absurd says.few
   too_long_told BadWords says within told beyond unfailed = absurd says.few
   too_long_told WriteFault says within told beyond unfailed = absurd says.few
+  too_long_told (StoreRefused why) says within told beyond unfailed = absurd says.few
+  too_long_told BoardFault says within told beyond unfailed = absurd says.few
   too_long_told (BadLine n) says within told beyond unfailed = absurd (within_for told beyond (within n refl))
   too_long_told TooLong says within told beyond unfailed = inl refl
   too_long_told ReadFault says within told beyond unfailed = absurd (unfailed (says.fault refl))
   too_long_told NoMemory says within told beyond unfailed = inr refl
+
+-- a run whose lines were read ends as done, or for want of memory, where no write and no call of the board failed and the board is
+-- accepted
+pub served_told : (status : Status) → IsServed status → ¬ (status ≡ WriteFault) → ¬ (status ≡ BoardFault) → ((why : OpenAnswer) → status ≡ StoreRefused why → ⊥) → (status ≡ Done) ⊎ (status ≡ NoMemory)
+served_told Done served write board accepted = inl refl
+served_told BadWords served write board accepted = absurd served
+served_told (BadLine n) served write board accepted = absurd served
+served_told TooLong served write board accepted = absurd served
+served_told (StoreRefused why) served write board accepted = absurd (accepted why refl)
+served_told NoMemory served write board accepted = inr refl
+served_told ReadFault served write board accepted = absurd served
+served_told WriteFault served write board accepted = absurd (write refl)
+served_told BoardFault served write board accepted = absurd (board refl)

@@ -7,17 +7,20 @@ use Rattle.std.specs.List.{filter, flat_map, slice_split}
 use Rattle.std.proofs.lemmas.Bool.{eq-eqb, eqb-true, ne_eqb}
 use Rattle.hex.specs.Hex.{encode_lower, encode_with, lower_digits}
 use Rattle.tee_base.specs.Codes.{number_of}
+use Rattle.alone.specs.declared.power.Power.{Power}
+use Rattle.alone.specs.declared.power.Power.TheVariants.{Clean, Kept, Absent}
 use Rattle.alone.specs.declared.turn.TurnKind.{TurnKind}
 use Rattle.alone.specs.declared.turn.TurnKind.TheVariants as kinds
 use Rattle.alone.specs.declared.reply.Outputs.{Outputs}
 use Rattle.alone.specs.declared.reply.Reply.{Reply}
 use Rattle.alone.specs.declared.reply.Shown.{Shown}
 use Rattle.alone.specs.declared.reply.Shown.TheVariants.{Nothing, Value, Mem, Size}
-use Rattle.report.specs.Texts.{code_text, happened_text, mark_text, outputs_text, parameter_text, reply_text, shown_text}
+use Rattle.report.specs.Texts.{code_text, happened_text, mark_text, outputs_text, parameter_text, power_text, reply_text, shown_text}
 use Rattle.script.proofs.Cuts.{Lacks, all_append, cut_at}
 use Rattle.tee_core.specs.declared.happened.Happened.{Happened}
-use Rattle.tee_top.specs.Isolation.{begins_with, is_mark_of, is_under, lines_for, mark_front}
-use Rattle.tee_top.specs.Transcript.{happened_lines, replies_text}
+use Rattle.tee_top.specs.BoardLines.{begins_with}
+use Rattle.tee_top.specs.Isolation.{is_mark_of, is_under, lines_for, mark_front}
+use Rattle.tee_top.specs.Transcript.{happened_lines, owner_name, power_line, replies_text}
 
 -- which way a test went
 pub which : (t : Bool) → (t ≡ true) ⊎ (t ≡ false)
@@ -354,3 +357,54 @@ other_happened name other h rest o =
     ap (lines_for name) (append_assoc mark replies rest)
     ∙ other_mark name other h.kind h.turn (replies ++ rest) o
     ∙ other_replies name other h.replies rest o
+
+-- ---- the line of a loss of power
+
+-- its text without the line feed, where the change in doubt is that of the application of this name
+abbrev power_words : List ℕ → Power → List ℕ
+power_words owner Clean = codes "board power clean"
+power_words owner (Kept app) = codes "board power kept " ++ owner
+power_words owner (Absent app) = codes "board power absent " ++ owner
+
+power_put : (front owner rest : List ℕ) → (front ++ owner ++ codes "\n") ++ rest ≡ (front ++ owner) ++ 10 ∷ rest
+power_put front owner rest = simp append_assoc
+
+power_is : (owner : List ℕ) (told : Power) (rest : List ℕ) → power_text owner told ++ rest ≡ power_words owner told ++ 10 ∷ rest
+power_is owner Clean rest = refl
+power_is owner (Kept app) rest = power_put (codes "board power kept ") owner rest
+power_is owner (Absent app) rest = power_put (codes "board power absent ") owner rest
+
+power_plain : (owner : List ℕ) (told : Power) → Lacks 10 owner → Lacks 10 (power_words owner told)
+power_plain owner Clean h = (refl, (refl, (refl, (refl, (refl, (refl, (refl, (refl, (refl, (refl, (refl, (refl, (refl, (refl, (refl, (refl, (refl, tt)))))))))))))))))
+power_plain owner (Kept app) h =
+    both (codes "board power kept ") owner
+    (refl, (refl, (refl, (refl, (refl, (refl, (refl, (refl, (refl, (refl, (refl, (refl, (refl, (refl, (refl, (refl, (refl, tt))))))))))))))))) h
+power_plain owner (Absent app) h =
+    both (codes "board power absent ") owner
+    (refl, (refl, (refl, (refl, (refl, (refl, (refl, (refl, (refl, (refl, (refl, (refl, (refl, (refl, (refl, (refl, (refl, (refl, (refl, tt))))))))))))))))))) h
+
+-- it is under no name
+power_apart : (name owner : List ℕ) (told : Power) → Lacks 32 name → name ≢ codes "board" → is_under name (power_words owner told) ≡ false
+power_apart name owner told space no_board = by told
+  where
+    first : (rest : List ℕ) → begins_with (name ++ codes " ") (codes "board" ++ 32 ∷ rest) ≡ false
+    first rest = begins_other name board [] rest space board_plain (λ same. no_board (sym same))
+
+    by : (told : Power) → is_under name (power_words owner told) ≡ false
+    by Clean = ap (λ t. t || is_mark_of name (codes "board power clean")) (first (codes "power clean")) ∙ none_marked name (codes "board power clean") refl refl refl
+    by (Kept app) =
+        let line = codes "board power kept " ++ owner in
+        ap (λ t. t || is_mark_of name line) (first (codes "power kept " ++ owner)) ∙ none_marked name line refl refl refl
+    by (Absent app) =
+        let line = codes "board power absent " ++ owner in
+        ap (λ t. t || is_mark_of name line) (first (codes "power absent " ++ owner)) ∙ none_marked name line refl refl refl
+
+-- what is written of a loss of power is under no name
+pub other_power : (name : List ℕ) (names : List (List ℕ)) (told : Power) (rest : List ℕ) → Lacks 32 name → name ≢ codes "board" → Lacks 10 (owner_name names told)
+    → lines_for name (power_line names told ++ rest) ≡ lines_for name rest
+other_power name names told rest space no_board feed =
+    let owner = owner_name names told in
+    let line = power_words owner told in
+    ap (lines_for name) (power_is owner told rest)
+    ∙ first_line name line rest (power_plain owner told feed)
+    ∙ ap (λ (t : Bool). cond t (line ++ 10 ∷ []) [] ++ lines_for name rest) (power_apart name owner told space no_board)

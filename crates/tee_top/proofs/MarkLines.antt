@@ -23,7 +23,7 @@ use Rattle.tee_top.proofs.WholeLines.{fed}
 -- ---- first words
 
 -- two texts that are alike begin with the same part before a byte, and go on alike behind it
-same_parts : (b : ℕ) (one other rest more : List ℕ) → Lacks b one → Lacks b other → one ++ b ∷ rest ≡ other ++ b ∷ more → (one ≡ other) × (rest ≡ more)
+pub same_parts : (b : ℕ) (one other rest more : List ℕ) → Lacks b one → Lacks b other → one ++ b ∷ rest ≡ other ++ b ∷ more → (one ≡ other) × (rest ≡ more)
 same_parts b [] [] rest more h k e =
     let both : b ∷ rest ≡ b ∷ more = e in
     let tails : rest ≡ more = cc in
@@ -60,7 +60,9 @@ mark_lines name (Lost change) turn = mark_line (codes "lost") name turn ∷ []
 mark_lines name Starved turn = mark_line (codes "starve") name turn ∷ []
 mark_lines name Corrupted turn = mark_line (codes "corrupt") name turn ∷ []
 
-mark_parts : (word name digits : List ℕ) → codes "board " ++ word ++ codes " " ++ name ++ codes " " ++ digits ++ codes "\n" ≡ codes "board" ++ 32 ∷ (word ++ 32 ∷ (name ++ 32 ∷ (digits ++ 10 ∷ [])))
+-- the printed text of such a line, by its words
+pub mark_parts : (word name digits : List ℕ)
+    → codes "board " ++ word ++ codes " " ++ name ++ codes " " ++ digits ++ codes "\n" ≡ codes "board" ++ 32 ∷ (word ++ 32 ∷ (name ++ 32 ∷ (digits ++ 10 ∷ [])))
 mark_parts word name digits = simp append_assoc
 
 fed_parts : (word name digits : List ℕ) → (codes "board" ++ 32 ∷ (word ++ 32 ∷ (name ++ 32 ∷ digits))) ++ codes "\n" ≡ codes "board" ++ 32 ∷ (word ++ 32 ∷ (name ++ 32 ∷ (digits ++ 10 ∷ [])))
@@ -97,7 +99,7 @@ abbrev pub is_mark : List ℕ → List ℕ → ℕ → List ℕ → Bool
 is_mark word name turn line = bytes_eq (line ++ codes "\n") (mark_text word name turn)
 
 -- the words of these lines have no space
-board_one_word : Lacks 32 (codes "board")
+pub board_one_word : Lacks 32 (codes "board")
 board_one_word = (refl, (refl, (refl, (refl, (refl, tt)))))
 
 lost_one_word : Lacks 32 (codes "lost")
@@ -137,22 +139,23 @@ mark_decides word name said called turn number word_space name_space said_space 
     (λ h. told_same word name said called turn number h)
     (bytes_eq-Decides (mark_line word name turn ++ codes "\n") (mark_text said called number))
 
--- the word of a line says that a turn went so
+-- the word of a line says that a turn went so, and isn't that of a loss of power
 pub record IsSaidBy (went : TurnKind → Bool) (word : List ℕ) : Type 0 where
   pub no_space : Lacks 32 word
+  pub other : word ≢ codes "power"
   pub plain : went Plain ≡ false
   pub lost : (change : Bool) → went (Lost change) ≡ bytes_eq (codes "lost") word
   pub starved : went Starved ≡ bytes_eq (codes "starve") word
   pub corrupted : went Corrupted ≡ bytes_eq (codes "corrupt") word
 
 pub lost_said : IsSaidBy is_lost_turn (codes "lost")
-lost_said = record { no_space = lost_one_word; plain = refl; lost = λ change. refl; starved = refl; corrupted = refl }
+lost_said = record { no_space = lost_one_word; other = λ e. cc; plain = refl; lost = λ change. refl; starved = refl; corrupted = refl }
 
 pub corrupt_said : IsSaidBy is_corrupt_turn (codes "corrupt")
-corrupt_said = record { no_space = corrupt_one_word; plain = refl; lost = λ change. refl; starved = refl; corrupted = refl }
+corrupt_said = record { no_space = corrupt_one_word; other = λ e. cc; plain = refl; lost = λ change. refl; starved = refl; corrupted = refl }
 
 pub starved_said : IsSaidBy is_starved_turn (codes "starve")
-starved_said = record { no_space = starve_one_word; plain = refl; lost = λ change. refl; starved = refl; corrupted = refl }
+starved_said = record { no_space = starve_one_word; other = λ e. cc; plain = refl; lost = λ change. refl; starved = refl; corrupted = refl }
 
 module _ (went : TurnKind → Bool) (said : List ℕ) (says : IsSaidBy went said) where
   one_told : (word name called : List ℕ) (same went_so : Bool) (turn number : ℕ) → Lacks 32 word → Lacks 32 name → Lacks 32 called → turn < 2 ^ 64 → number < 2 ^ 64

@@ -1,11 +1,12 @@
 -- Names of hosts, as the first words of lines.
 use Rattle.std.proofs.Common.{◌≢◌, ℕ, ◌<◌, ◌⊎◌, List, [], ◌∷◌, length, sym, ◌∙◌, arith, inl, inr}
-use Rattle.std.specs.Prelude.{All, AllPairs}
+use Rattle.std.specs.Prelude.{All, AllPairs, codes}
 use Rattle.std.proofs.lemmas.List.{get_or-map, length-map}
 use Rattle.std.proofs.lemmas.List.Elements.{All-map, All-weaker}
 use Rattle.app_api.specs.declared.host.Host.{Host}
 use Rattle.app_api.specs.Hosts.{HostsFit, IsApart, IsDigit, IsLowercase, IsName}
 use Rattle.script.specs.Grammar.{names_of}
+use Rattle.tee_top.specs.BoardLines.{AreFirstWords}
 
 -- names by which hosts can be told apart in a line: no space and no line feed is in them, and no two are alike
 pub record CanName (names : List (List ℕ)) : Type 0 where
@@ -30,6 +31,18 @@ names_apart {A} (host ∷ hosts) h i j d below within =
 -- the names of hosts can be told apart in a line
 pub hosts_can_name : {A : Type 0} (hosts : List (Host A)) → HostsFit hosts → CanName (names_of hosts)
 hosts_can_name hosts h = record {
-  plain = All-map (λ name. All (λ c. (c ≢ 32) × (c ≢ 10)) name) (λ host. host.name) hosts (All-weaker (λ host. IsName host.name) (λ host. All (λ c. (c ≢ 32) × (c ≢ 10)) host.name) (λ host. plain_name host.name) hosts h.named);
+  plain =
+      let is_plain = λ (name : List ℕ). All (λ c. (c ≢ 32) × (c ≢ 10)) name in
+      All-map is_plain (λ host. host.name) hosts (All-weaker (λ host. IsName host.name) (λ host. is_plain host.name) (λ host. plain_name host.name) hosts h.named);
   apart = names_apart hosts h.apart;
 }
+
+-- no host is named as the board
+pub not_board : {A : Type 0} (hosts : List (Host A)) → HostsFit hosts → All (λ name. name ≢ codes "board") (names_of hosts)
+not_board hosts fit =
+    All-map (λ name. name ≢ codes "board") (λ host. host.name) hosts
+    (All-weaker (λ host. IsName host.name) (λ host. host.name ≢ codes "board") (λ host is. is.not_board) hosts fit.named)
+
+-- none begins a line of the board
+pub hosts_begin : {A : Type 0} (hosts : List (Host A)) → HostsFit hosts → AreFirstWords (names_of hosts)
+hosts_begin hosts fit = λ k d below. ((hosts_can_name hosts fit).plain k d below, not_board hosts fit k d below)

@@ -1,16 +1,22 @@
--- Events one part after the other: the world, the log and the text of both, and marks that agree with them.
+-- Events one part after the other: the world, the log, the text and the board of both, and weather that agrees with them.
 use Rattle.app_api.specs.Behaviours.{Behaviour}
-use Rattle.std.proofs.Common.{ℕ, ◌≡◌, ◌<◌, ◌^◌, List, [], ◌∷◌, ◌++◌, Option, None, Some, length, refl, sym, subst, ◌∙◌, ap, append_assoc, append-nil}
+use Rattle.std.proofs.Common.{ℕ, ◌≡◌, ◌<◌, ◌≤◌, ◌+◌, ◌%◌, ◌^◌, inl, inr, List, [], ◌∷◌, ◌++◌, Option, None, Some, length, refl, sym, subst, ◌∙◌, ap, append_assoc, append-nil, arith}
 use Rattle.std.specs.Prelude.{slice_get, slice_index_or}
 use Rattle.std.specs.List.{AllByRecursion}
 use Rattle.std.proofs.lemmas.Grind.{flat_map-append}
 use Rattle.alone.specs.Machine.{Machine}
-use Rattle.alone.specs.Marks.{Marks}
 use Rattle.alone.specs.Step.{Event}
+use Rattle.board.specs.Moment.{View}
+use Rattle.epoch.specs.Forms.{Form}
+use Rattle.script.specs.declared.line.Line.{Line}
+use Rattle.script.specs.declared.line.Line.TheVariants as lines
 use Rattle.tee_core.specs.World.{World, AppEvent, world_after, world_step}
-use Rattle.tee_top.specs.Logs.{AreKnown, Entry, IsWrittenOf, log_text}
-use Rattle.tee_top.specs.Parts.{AgreeWith, entry_of, log_of}
-use Rattle.tee_top.specs.Transcript.{event_lines, happened_lines, text_of}
+use Rattle.tee_core.specs.Powers.{after_power}
+use Rattle.tee_top.specs.BoardLines.{IsOwnerKnown}
+use Rattle.tee_top.specs.Boards.{GoesAlong, HasFirstOrders, HasOrders, HasPower, IsSpan, RoseBy, losses_of, order_of, ordered_after, orders_after, orders_of}
+use Rattle.tee_top.specs.Logs.{AreKnown, Entry, Item, IsWrittenOf, OfApp, OfBoard, entries_in, item_text, log_text, powers_told}
+use Rattle.tee_top.specs.Parts.{AgreeWith, AreTold, HasNoDamage, count_powers, entry_of, items_of, log_of}
+use Rattle.tee_top.specs.Transcript.{Weather, WorldEvent, Fused, Happens, Powered, after_event, after_events, event_lines, happens, machine_lines, power_line, text_of}
 
 pub all_both : {X : Type 0} (P : X → Type 0) (xs ys : List X) → AllByRecursion P xs → AllByRecursion P ys → AllByRecursion P (xs ++ ys)
 all_both P [] ys h k = k
@@ -26,17 +32,28 @@ all_weaker P Q (x ∷ xs) f h = (f x h.0, all_weaker P Q xs f h.1)
 
 -- ---- logs
 
-pub known_both : (names : List (List ℕ)) (xs ys : List Entry) → AreKnown names xs → AreKnown names ys → AreKnown names (xs ++ ys)
+pub entries_both : (xs ys : List Item) → entries_in (xs ++ ys) ≡ entries_in xs ++ entries_in ys
+entries_both [] ys = refl
+entries_both (OfApp entry ∷ xs) ys = ap (λ zs. entry ∷ zs) (entries_both xs ys)
+entries_both (OfBoard told ∷ xs) ys = entries_both xs ys
+
+pub powers_both : (xs ys : List Item) → powers_told (xs ++ ys) ≡ powers_told xs ++ powers_told ys
+powers_both [] ys = refl
+powers_both (OfApp entry ∷ xs) ys = powers_both xs ys
+powers_both (OfBoard told ∷ xs) ys = ap (λ zs. told ∷ zs) (powers_both xs ys)
+
+pub known_both : (names : List (List ℕ)) (xs ys : List Item) → AreKnown names xs → AreKnown names ys → AreKnown names (xs ++ ys)
 known_both names xs ys h k = record {
-  known = all_both (λ (e : Entry). e.app < length names) xs ys h.known k.known;
-  counted = all_both (λ (e : Entry). e.told.turn < 2 ^ 64) xs ys h.counted k.counted;
+  known = subst (AllByRecursion (λ (e : Entry). e.app < length names)) (sym (entries_both xs ys)) (all_both (λ (e : Entry). e.app < length names) (entries_in xs) (entries_in ys) h.known k.known);
+  counted = subst (AllByRecursion (λ (e : Entry). e.told.turn < 2 ^ 64)) (sym (entries_both xs ys)) (all_both (λ (e : Entry). e.told.turn < 2 ^ 64) (entries_in xs) (entries_in ys) h.counted k.counted);
+  owners = subst (AllByRecursion (IsOwnerKnown (length names))) (sym (powers_both xs ys)) (all_both (IsOwnerKnown (length names)) (powers_told xs) (powers_told ys) h.owners k.owners);
 }
 
-pub log_text_both : (names : List (List ℕ)) (xs ys : List Entry) → log_text names (xs ++ ys) ≡ log_text names xs ++ log_text names ys
-log_text_both names xs ys = flat_map-append (λ (e : Entry). happened_lines (slice_index_or names e.app []) e.told) xs ys
+pub log_text_both : (names : List (List ℕ)) (xs ys : List Item) → log_text names (xs ++ ys) ≡ log_text names xs ++ log_text names ys
+log_text_both names xs ys = flat_map-append (item_text names) xs ys
 
 -- what is cut behind a log that was written whole
-pub written_behind : (names : List (List ℕ)) (xs ys : List Entry) (text : List ℕ) → IsWrittenOf names ys text → IsWrittenOf names (xs ++ ys) (log_text names xs ++ text)
+pub written_behind : (names : List (List ℕ)) (xs ys : List Item) (text : List ℕ) → IsWrittenOf names ys text → IsWrittenOf names (xs ++ ys) (log_text names xs ++ text)
 written_behind names xs ys text h = record {
   done = xs ++ h.done;
   last = h.last;
@@ -52,7 +69,7 @@ written_behind names xs ys text h = record {
 }
 
 -- a log that was cut is a front of its text
-pub cut_front : (names : List (List ℕ)) (log : List Entry) (text : List ℕ) → (h : IsWrittenOf names log text) → log_text names log ≡ text ++ h.rest
+pub cut_front : (names : List (List ℕ)) (log : List Item) (text : List ℕ) → (h : IsWrittenOf names log text) → log_text names log ≡ text ++ h.rest
 cut_front names log text h =
     ap (log_text names) h.all
     ∙ log_text_both names h.done h.last
@@ -62,54 +79,206 @@ cut_front names log text h =
 
 -- ---- events
 
+pub undamaged_both : (xs ys : List WorldEvent) → HasNoDamage xs → HasNoDamage ys → HasNoDamage (xs ++ ys)
+undamaged_both [] ys h k = k
+undamaged_both (Happens e ∷ xs) ys h k = (h.0, undamaged_both xs ys h.1 k)
+undamaged_both (Fused calls ∷ xs) ys h k = undamaged_both xs ys h k
+undamaged_both (Powered pick told ∷ xs) ys h k = undamaged_both xs ys h k
+
+pub happens_both : (xs ys : List AppEvent) → happens (xs ++ ys) ≡ happens xs ++ happens ys
+happens_both [] ys = refl
+happens_both (x ∷ xs) ys = ap (λ zs. Happens x ∷ zs) (happens_both xs ys)
+
 module _ {A : Type 0} (behaviour : Behaviour A) where
+  pub after_events_both : (w : World A) (xs ys : List WorldEvent) → after_events behaviour w (xs ++ ys) ≡ after_events behaviour (after_events behaviour w xs) ys
+  after_events_both w [] ys = refl
+  after_events_both w (x ∷ xs) ys = after_events_both (after_event behaviour w x) xs ys
+
   pub world_after_both : (w : World A) (xs ys : List AppEvent) → world_after behaviour w (xs ++ ys) ≡ world_after behaviour (world_after behaviour w xs) ys
   world_after_both w [] ys = refl
   world_after_both w (x ∷ xs) ys = world_after_both (world_step behaviour w x) xs ys
 
-  pub log_of_both : (w : World A) (xs ys : List AppEvent) → log_of behaviour w (xs ++ ys) ≡ log_of behaviour w xs ++ log_of behaviour (world_after behaviour w xs) ys
+  -- events of applications leave the world that they leave among all others
+  pub after_happens : (w : World A) (es : List AppEvent) → after_events behaviour w (happens es) ≡ world_after behaviour w es
+  after_happens w [] = refl
+  after_happens w (e ∷ es) = after_happens (world_step behaviour w e) es
+
+  -- ---- losses of power
+
+  pub count_both : (xs ys : List WorldEvent) → count_powers behaviour (xs ++ ys) ≡ count_powers behaviour xs + count_powers behaviour ys
+  count_both [] ys = omega arith
+  count_both (Happens e ∷ xs) ys = count_both xs ys
+  count_both (Fused calls ∷ xs) ys = count_both xs ys
+  count_both (Powered pick told ∷ xs) ys = let more = count_both xs ys in omega (arith, more)
+
+  pub no_powers : (es : List AppEvent) → count_powers behaviour (happens es) ≡ 0
+  no_powers [] = refl
+  no_powers (e ∷ es) = no_powers es
+
+  -- events of applications have no loss of power that isn't told so
+  pub happens_told : (power : ℕ) (w : World A) (es : List AppEvent) → AreTold behaviour power w (happens es)
+  happens_told power w [] = tt
+  happens_told power w (e ∷ es) = happens_told power (world_step behaviour w e) es
+
+  pub told_both : (power : ℕ) (w : World A) (xs ys : List WorldEvent) → AreTold behaviour power w xs → AreTold behaviour (power + count_powers behaviour xs) (after_events behaviour w xs) ys
+      → AreTold behaviour power w (xs ++ ys)
+  told_both power w [] ys h k = let same : power + 0 ≡ power = omega arith in subst (λ n. AreTold behaviour n w ys) same k
+  told_both power w (Happens e ∷ xs) ys h k = told_both power (world_step behaviour w e) xs ys h k
+  told_both power w (Fused calls ∷ xs) ys h k = told_both power w xs ys h k
+  told_both power w (Powered pick told ∷ xs) ys h k =
+      let same : power + (count_powers behaviour xs + 1) ≡ power + 1 + count_powers behaviour xs = omega arith in
+      let then : World A = after_power behaviour w told in
+      (h.0, h.1, told_both (power + 1) then xs ys h.2 (subst (λ n. AreTold behaviour n (after_events behaviour then xs) ys) same k))
+
+  -- ---- logs and texts of events
+
+  pub log_of_both : (w : World A) (xs ys : List WorldEvent) → log_of behaviour w (xs ++ ys) ≡ log_of behaviour w xs ++ log_of behaviour (after_events behaviour w xs) ys
   log_of_both w [] ys = refl
   log_of_both w (x ∷ xs) ys =
-      let here : List Entry = entry_of behaviour x.app x.event (slice_get w x.app) in
-      let then : World A = world_step behaviour w x in
+      let here : List Item = items_of behaviour w x in
+      let then : World A = after_event behaviour w x in
       ap (λ zs. here ++ zs) (log_of_both then xs ys)
-      ∙ sym (append_assoc here (log_of behaviour then xs) (log_of behaviour (world_after behaviour then xs) ys))
+      ∙ sym (append_assoc here (log_of behaviour then xs) (log_of behaviour (after_events behaviour then xs) ys))
 
-  -- the text of events is that of their log
-  event_is : (names : List (List ℕ)) (app : ℕ) (event : Event) (o : Option (Machine A)) → event_lines behaviour (slice_index_or names app []) event o ≡ log_text names (entry_of behaviour app event o)
-  event_is names app event None = refl
-  event_is names app event (Some m) = sym (append-nil (event_lines behaviour (slice_index_or names app []) event (Some m)))
+  -- the text of an event is that of what is told of it
+  machine_is : (names : List (List ℕ)) (app : ℕ) (event : Event) (o : Option (Machine A)) → machine_lines behaviour (slice_index_or names app []) event o ≡ log_text names (entry_of behaviour app event o)
+  machine_is names app event None = refl
+  machine_is names app event (Some m) = sym (append-nil (machine_lines behaviour (slice_index_or names app []) event (Some m)))
 
-  pub text_is_log : (names : List (List ℕ)) (w : World A) (es : List AppEvent) → text_of behaviour names w es ≡ log_text names (log_of behaviour w es)
+  event_is : (names : List (List ℕ)) (w : World A) (e : WorldEvent) → event_lines behaviour names w e ≡ log_text names (items_of behaviour w e)
+  event_is names w (Happens e) = machine_is names e.app e.event (slice_get w e.app)
+  event_is names w (Fused calls) = refl
+  event_is names w (Powered pick told) = sym (append-nil (power_line names told))
+
+  pub text_is_log : (names : List (List ℕ)) (w : World A) (es : List WorldEvent) → text_of behaviour names w es ≡ log_text names (log_of behaviour w es)
   text_is_log names w [] = refl
   text_is_log names w (e ∷ es) =
-      let here : List Entry = entry_of behaviour e.app e.event (slice_get w e.app) in
-      let then : World A = world_step behaviour w e in
-      ap (λ zs. zs ++ text_of behaviour names then es) (event_is names e.app e.event (slice_get w e.app))
+      let here : List Item = items_of behaviour w e in
+      let then : World A = after_event behaviour w e in
+      ap (λ zs. zs ++ text_of behaviour names then es) (event_is names w e)
       ∙ ap (λ zs. log_text names here ++ zs) (text_is_log names then es)
       ∙ sym (log_text_both names here (log_of behaviour then es))
 
-  pub text_of_both : (names : List (List ℕ)) (w : World A) (xs ys : List AppEvent)
-      → text_of behaviour names w (xs ++ ys) ≡ text_of behaviour names w xs ++ text_of behaviour names (world_after behaviour w xs) ys
+  pub text_of_both : (names : List (List ℕ)) (w : World A) (xs ys : List WorldEvent)
+      → text_of behaviour names w (xs ++ ys) ≡ text_of behaviour names w xs ++ text_of behaviour names (after_events behaviour w xs) ys
   text_of_both names w xs ys =
-      let then : World A = world_after behaviour w xs in
+      let then : World A = after_events behaviour w xs in
       text_is_log names w (xs ++ ys)
       ∙ ap (log_text names) (log_of_both w xs ys)
       ∙ log_text_both names (log_of behaviour w xs) (log_of behaviour then ys)
       ∙ ap (λ zs. zs ++ log_text names (log_of behaviour then ys)) (sym (text_is_log names w xs))
       ∙ ap (λ zs. text_of behaviour names w xs ++ zs) (sym (text_is_log names then ys))
 
-  -- marks that agree with both parts
-  pub agree_first : (marks : ℕ → Marks) (w : World A) (xs ys : List AppEvent) → AgreeWith behaviour marks w (xs ++ ys) → AgreeWith behaviour marks w xs
-  agree_first marks w [] ys h = tt
-  agree_first marks w (x ∷ xs) ys h = (h.0, agree_first marks (world_step behaviour w x) xs ys h.1)
+  -- weather that agrees with both parts
+  pub agree_first : (weather : Weather) (w : World A) (xs ys : List WorldEvent) → AgreeWith behaviour weather w (xs ++ ys) → AgreeWith behaviour weather w xs
+  agree_first weather w [] ys h = tt
+  agree_first weather w (x ∷ xs) ys h = (h.0, agree_first weather (after_event behaviour w x) xs ys h.1)
 
-  pub agree_behind : (marks : ℕ → Marks) (w : World A) (xs ys : List AppEvent) → AgreeWith behaviour marks w (xs ++ ys) → AgreeWith behaviour marks (world_after behaviour w xs) ys
-  agree_behind marks w [] ys h = h
-  agree_behind marks w (x ∷ xs) ys h = agree_behind marks (world_step behaviour w x) xs ys h.1
+  pub agree_behind : (weather : Weather) (w : World A) (xs ys : List WorldEvent) → AgreeWith behaviour weather w (xs ++ ys) → AgreeWith behaviour weather (after_events behaviour w xs) ys
+  agree_behind weather w [] ys h = h
+  agree_behind weather w (x ∷ xs) ys h = agree_behind weather (after_event behaviour w x) xs ys h.1
 
   -- the entries of both
-  pub known_parts : (names : List (List ℕ)) (w : World A) (xs ys : List AppEvent) → AreKnown names (log_of behaviour w xs) → AreKnown names (log_of behaviour (world_after behaviour w xs) ys)
+  pub known_parts : (names : List (List ℕ)) (w : World A) (xs ys : List WorldEvent) → AreKnown names (log_of behaviour w xs) → AreKnown names (log_of behaviour (after_events behaviour w xs) ys)
       → AreKnown names (log_of behaviour w (xs ++ ys))
   known_parts names w xs ys h k =
-      subst (λ (log : List Entry). AreKnown names log) (sym (log_of_both w xs ys)) (known_both names (log_of behaviour w xs) (log_of behaviour (world_after behaviour w xs) ys) h k)
+      subst (λ (log : List Item). AreKnown names log) (sym (log_of_both w xs ys)) (known_both names (log_of behaviour w xs) (log_of behaviour (after_events behaviour w xs) ys) h k)
+
+-- ---- the board
+
+-- a count that rose and then rose again
+pub rose_both : (one other a b c : ℕ) → a ≤ b → b ≤ c → RoseBy one a b → RoseBy other b c → RoseBy (one + other) a c
+rose_both one other a b c up on (inl h) (inl k) = inl (omega (arith, h, k))
+rose_both one other a b c up on (inr h) k = inr (omega (arith, h, on))
+rose_both one other a b c up on (inl h) (inr k) = inr k
+
+-- calls one after the other, without an order among them
+pub span_both : (one other : ℕ) (a b c : View) → IsSpan one a b → IsSpan other b c → IsSpan (one + other) a c
+span_both one other a b c h k = record {
+  orders = k.orders ∙ h.orders;
+  ordered = k.ordered ∙ h.ordered;
+  later = omega (arith, h.later, k.later);
+  faults = rose_both one other a.state.faults b.state.faults c.state.faults h.later k.later h.faults k.faults;
+}
+
+-- no call of the board
+pub span_none : (v : View) → IsSpan 0 v v
+span_none v = record {
+  orders = refl;
+  ordered = refl;
+  later = omega arith;
+  faults = inl (omega arith);
+}
+
+module _ {A : Type 0} (behaviour : Behaviour A) (form : Form) where
+  -- calls without an order, and then events
+  pub span_before : (losses more : ℕ) (w : World A) (start mid : View) (ys : List WorldEvent) (end : View)
+      → IsSpan losses start mid → GoesAlong behaviour form mid more w ys end → GoesAlong behaviour form start (losses + more) w ys end
+  unfolding GoesAlong
+  span_before losses more w start mid [] end h k = span_both losses more start mid end h k
+  span_before losses more w start mid (Happens e ∷ ys) end h k =
+      let same : losses + (more + losses_of e.event) ≡ losses + more + losses_of e.event = omega arith in
+      let then : World A = world_step behaviour w e in
+      subst (λ n. GoesAlong behaviour form start n then ys end) same (span_before losses (more + losses_of e.event) then start mid ys end h k)
+  span_before losses more w start mid (Fused calls ∷ ys) end h k = (k.0, k.1, span_both losses more start mid k.0 h k.2, k.3, k.4)
+  span_before losses more w start mid (Powered pick told ∷ ys) end h k = (k.0, k.1, span_both losses more start mid k.0 h k.2, k.3, k.4, k.5)
+
+  pub board_both : (losses : ℕ) (w : World A) (start mid : View) (xs ys : List WorldEvent) (end : View)
+      → GoesAlong behaviour form start losses w xs mid → GoesAlong behaviour form mid 0 (after_events behaviour w xs) ys end → GoesAlong behaviour form start losses w (xs ++ ys) end
+  unfolding GoesAlong
+  board_both losses w start mid [] ys end h k =
+      let same : losses + 0 ≡ losses = omega arith in
+      subst (λ n. GoesAlong behaviour form start n w ys end) same (span_before losses 0 w start mid ys end h k)
+  board_both losses w start mid (Happens e ∷ xs) ys end h k = board_both (losses + losses_of e.event) (world_step behaviour w e) start mid xs ys end h k
+  board_both losses w start mid (Fused calls ∷ xs) ys end h k = (h.0, h.1, h.2, h.3, board_both 0 w h.1 mid xs ys end h.4 k)
+  board_both losses w start mid (Powered pick told ∷ xs) ys end h k = (h.0, h.1, h.2, h.3, h.4, board_both 0 (after_power behaviour w told) h.1 mid xs ys end h.5 k)
+
+-- ---- orders
+
+count_orders : (xs ys : List ℕ) (count : ℕ) → orders_after (xs ++ ys) count ≡ orders_after ys (orders_after xs count)
+count_orders [] ys count = refl
+count_orders (x ∷ xs) ys count = count_orders xs ys ((count + 1) % 2 ^ 64)
+
+sum_orders : (xs ys : List ℕ) (total : ℕ) → ordered_after (xs ++ ys) total ≡ ordered_after ys (ordered_after xs total)
+sum_orders [] ys total = refl
+sum_orders (x ∷ xs) ys total = sum_orders xs ys ((total + x) % 2 ^ 64)
+
+pub orders_both : (xs ys : List ℕ) (a b c : View) → HasOrders xs a b → HasOrders ys b c → HasOrders (xs ++ ys) a c
+orders_both xs ys a b c h k = record {
+  orders = k.orders ∙ ap (orders_after ys) h.orders ∙ sym (count_orders xs ys a.state.orders);
+  ordered = k.ordered ∙ ap (ordered_after ys) h.ordered ∙ sym (sum_orders xs ys a.ordered);
+  later = omega (arith, h.later, k.later);
+}
+
+-- no order was made
+pub no_orders : (a b : View) → b.state.orders ≡ a.state.orders → b.ordered ≡ a.ordered → a.state.faults ≤ b.state.faults → HasOrders [] a b
+no_orders a b orders ordered later = record { orders = orders; ordered = ordered; later = later }
+
+pub orders_of_both : (xs ys : List Line) → orders_of (xs ++ ys) ≡ orders_of xs ++ orders_of ys
+orders_of_both [] ys = refl
+orders_of_both (x ∷ xs) ys = ap (λ zs. order_of x ++ zs) (orders_of_both xs ys) ∙ sym (append_assoc (order_of x) (orders_of xs) (orders_of ys))
+
+-- the orders of all of the first lines, and of the first of the others
+pub first_orders_more : (front rest : List Line) (a b c : View) → HasOrders (orders_of front) a b → HasFirstOrders rest b c → HasFirstOrders (front ++ rest) a c
+first_orders_more front rest a b c h k = (
+  orders_of front ++ k.0,
+  k.1,
+  orders_of_both front rest ∙ ap (λ zs. orders_of front ++ zs) k.2 ∙ sym (append_assoc (orders_of front) k.0 k.1),
+  orders_both (orders_of front) k.0 a b c h k.3,
+)
+
+-- the orders of all lines are orders of the first of them
+pub all_orders_first : (script : List Line) (a b : View) → HasOrders (orders_of script) a b → HasFirstOrders script a b
+all_orders_first script a b h = (orders_of script, [], sym (append-nil (orders_of script)), h)
+
+-- ---- lines of a power
+
+pub power_here : (pick : ℕ) (rest : List Line) → HasPower (lines.Power pick ∷ rest)
+power_here pick rest = ([], pick, rest, refl)
+
+pub power_more : (front rest : List Line) → HasPower rest → HasPower (front ++ rest)
+power_more front rest h = (front ++ h.0, h.1, h.2, ap (λ zs. front ++ zs) h.3 ∙ sym (append_assoc front h.0 (lines.Power h.1 ∷ h.2)))
+
+-- the first lines
+pub power_first : (front rest : List Line) → HasPower front → HasPower (front ++ rest)
+power_first front rest h = (h.0, h.1, h.2 ++ rest, ap (λ zs. zs ++ rest) h.3 ∙ append_assoc h.0 (lines.Power h.1 ∷ h.2) rest)

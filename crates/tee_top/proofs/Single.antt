@@ -1,45 +1,94 @@
 -- One event, and turns one after the other.
 use Rattle.app_api.specs.Behaviours.{Behaviour}
-use Rattle.std.proofs.Common.{ℕ, zero, suc, ◌≡◌, ◌<◌, ◌≤◌, ◌+◌, ◌-◌, ◌^◌, true, List, [], ◌∷◌, ◌++◌, Option, None, Some, length, refl, sym, subst, ◌∙◌, ap, append-nil, arith}
+use Rattle.std.proofs.Common.{ℕ, suc, ◌≡◌, ◌<◌, ◌≤◌, ◌+◌, ◌-◌, ◌^◌, inl, inr, true, List, [], ◌∷◌, ◌++◌, Option, None, Some, length, refl, sym, subst, ◌∙◌, ap, append-nil, arith}
 use Rattle.std.specs.Prelude.{slice_get, slice_index_or}
 use Rattle.std.specs.Io.KnownBytes.{Appends}
 use Rattle.tee_base.specs.Transfer.{AppendsFront}
+use Rattle.board.specs.Moment.{View}
+use Rattle.epoch.specs.Forms.{Form}
+use Rattle.epoch.specs.Mounts.{IsSeenOn}
+use Rattle.store_api.specs.Foundations.{Foundation}
+use Rattle.store_api.specs.Volumes.{VolumeKeeper}
+use Rattle.app_api.specs.declared.call.Call.{Call}
 use Rattle.alone.specs.declared.turn.TurnKind.{TurnKind}
+use Rattle.alone.specs.declared.turn.TurnKind.TheVariants as kinds
 use Rattle.alone.specs.Machine.{Machine}
-use Rattle.alone.specs.Marks.{Marks, event_at}
-use Rattle.alone.specs.Step.{Event, may_stand, step}
+use Rattle.alone.specs.Marks.{event_at}
+use Rattle.alone.specs.Step.{Event, Called, called, may_stand, step}
 use Rattle.alone.proofs.Counted.{call_counts_none}
 use Rattle.app_side.specs.Represents.{event_of as turn_of}
 use Rattle.tee_core.specs.declared.happened.Event.{Event as TeeEvent}
 use Rattle.tee_core.specs.declared.happened.Event.TheVariants as events
 use Rattle.tee_core.specs.declared.happened.Happened.{Happened}
-use Rattle.tee_core.specs.declared.hosted.Hosted.{Hosted}
-use Rattle.tee_core.specs.declared.tee.Tee.{Tee}
 use Rattle.tee_core.specs.Happenings.{happening}
-use Rattle.tee_core.specs.Represents.{AreHosted, IsHosted, Represents, app_of, event_of, machine_event, turns_in, turns_made}
-use Rattle.tee_core.specs.World.{World, turn_events, turned_at, world_after, world_step}
-use Rattle.tee_core.proofs.Steps.{hosted_turns}
+use Rattle.tee_core.specs.Moments.{IsSound, KeepsCounts, RoseIfLost}
+use Rattle.tee_core.specs.Represents.{app_of, event_of, machine_event}
+use Rattle.tee_core.specs.World.{World, AppEvent, turn_events, turned_at, world_step}
 use Rattle.tee_core.proofs.Turns.{kind_counts}
-use Rattle.tee_top.specs.Logs.{AreKnown, Entry, log_text}
-use Rattle.tee_top.specs.Parts.{AgreesIn, IsRunOf, StopsIn, entry_of, log_of, step_events}
-use Rattle.tee_top.specs.Transcript.{happened_lines, text_of}
-use Rattle.tee_top.proofs.Turns.{event_as}
-use Rattle.tee_top.proofs.Calls.{there_after}
+use Rattle.tee_core.proofs.TurnsMade.{at_step}
+use Rattle.tee_top.specs.Boards.{GoesAlong, HasOrders, IsSpan, LeavesStores, RoseBy, losses_of}
+use Rattle.tee_top.specs.Logs.{AreKnown, Item, OfApp, log_text}
+use Rattle.tee_top.specs.Parts.{AgreesIn, IsRunOf, IsUndamaged, Point, StopsIn, entry_of, log_of, step_events}
+use Rattle.tee_top.specs.Transcript.{Weather, Happens, after_events, happened_lines, happens, text_of}
 use Rattle.tee_top.proofs.Cancels.{cancel_counts_none}
 use Rattle.tee_top.proofs.Parts.{text_is_log}
+use Rattle.tee_top.proofs.Turns.{event_as}
 
--- ---- how many turns were made
+-- ---- what an event leaves of the board
 
-hosted_turns_at : {A : Type 0} (hs : List (Hosted A)) (w : World A) (i : ℕ) (m : Machine A) → AreHosted hs w → slice_get w i ≡ Some m → m.turns ≡ turns_in (slice_get hs i)
-hosted_turns_at [] [] i m are here = absurd (let f : None ≡ Some m = here in cc)
-hosted_turns_at [] (n ∷ w) i m are here = absurd are
-hosted_turns_at (h ∷ hs) [] i m are here = absurd are
-hosted_turns_at {A} (h ∷ hs) (n ∷ w) zero m are here = hosted_turns h m (subst (λ (x : Machine A). IsHosted h x) (let f : Some n ≡ Some m = here in cc) are.0)
-hosted_turns_at (h ∷ hs) (n ∷ w) (suc i) m are here = hosted_turns_at hs w i m are.1 here
+-- how often the board failed in an event
+losses_rose : (e : TeeEvent) (kind : TurnKind) (old new : ℕ) → old ≤ new → RoseIfLost kind old new → RoseBy (0 + losses_of (machine_event e kind)) old new
+losses_rose (events.Call app client call) kind old new later rose = inl (omega (arith, later))
+losses_rose (events.Cancel app op) kind old new later rose = inl (omega (arith, later))
+losses_rose (events.Turn app instance) kinds.Plain old new later rose = inl (omega (arith, later))
+losses_rose (events.Turn app instance) (kinds.Lost change) old new later (inl more) = inl (omega (arith, more))
+losses_rose (events.Turn app instance) (kinds.Lost change) old new later (inr most) = inr (omega (arith, most))
+losses_rose (events.Turn app instance) kinds.Starved old new later rose = inl (omega (arith, later))
+losses_rose (events.Turn app instance) kinds.Corrupted old new later rose = inl (omega (arith, later))
 
--- the turns of a machine are those that its application counts
-pub turns_are : {A : Type 0} (tee : Tee A) (w : World A) (app : ℕ) (m : Machine A) → Represents tee w → slice_get w app ≡ Some m → m.turns ≡ turns_made tee app
-turns_are tee w app m stands here = hosted_turns_at tee.hosted.items w app m stands here
+-- it met no damage where its turn didn't
+undamaged_as : (e : TeeEvent) (kind : TurnKind) → IsSound kind → IsUndamaged (machine_event e kind)
+undamaged_as (events.Call app client call) kind sound = tt
+undamaged_as (events.Cancel app op) kind sound = tt
+undamaged_as (events.Turn app instance) kinds.Plain sound = tt
+undamaged_as (events.Turn app instance) (kinds.Lost change) sound = tt
+undamaged_as (events.Turn app instance) kinds.Starved sound = tt
+undamaged_as (events.Turn app instance) kinds.Corrupted sound = sound
+
+-- a volume that is seen on its board, before and after
+module _ {V : Type 0} (K : VolumeKeeper V) (form : Form) (old new : V) (view view_then : View) (seen : IsSeenOn K form old view) (seen_then : IsSeenOn K form new view_then) where
+  module _ (same : (K.condition new).foundation ≡ (K.condition old).foundation) (later : (K.condition old).faults ≤ (K.condition new).faults) where
+    same_orders : view_then.state.orders ≡ view.state.orders
+    same_orders = ap (λ (f : Foundation). f.orders) (sym seen_then.foundation ∙ same ∙ seen.foundation)
+
+    same_ordered : view_then.ordered ≡ view.ordered
+    same_ordered = ap (λ (f : Foundation). f.ordered) (sym seen_then.foundation ∙ same ∙ seen.foundation)
+
+    later_faults : view.state.faults ≤ view_then.state.faults
+    later_faults = omega (arith, later, seen.faults, seen_then.faults)
+
+    -- no order was made
+    pub unordered : HasOrders [] view view_then
+    unordered = record { orders = same_orders; ordered = same_ordered; later = later_faults }
+
+  -- the calls of the board within an event
+  pub event_span : (e : TeeEvent) (kind : TurnKind) → KeepsCounts kind (K.condition old) (K.condition new) → IsSpan (0 + losses_of (machine_event e kind)) view view_then
+  event_span e kind counts = record {
+    orders = same_orders counts.foundation counts.faults;
+    ordered = same_ordered counts.foundation counts.faults;
+    later = later_faults counts.foundation counts.faults;
+    faults = subst (λ n. RoseBy (0 + losses_of (machine_event e kind)) n view_then.state.faults) seen.faults
+        (subst (λ n. RoseBy (0 + losses_of (machine_event e kind)) (K.condition old).faults n) seen_then.faults
+        (losses_rose e kind (K.condition old).faults (K.condition new).faults counts.faults counts.rose));
+  }
+
+module _ {A : Type 0} (behaviour : Behaviour A) (form : Form) where
+  -- the board along one event
+  board_one : (w : World A) (e : AppEvent) (old new : View) → IsSpan (0 + losses_of e.event) old new → GoesAlong behaviour form old 0 w (Happens e ∷ []) new
+  unfolding GoesAlong
+  board_one w e old new span = span
+
+-- ---- one event
 
 module _ {A : Type 0} (behaviour : Behaviour A) where
   -- one event makes one turn at most
@@ -48,92 +97,112 @@ module _ {A : Type 0} (behaviour : Behaviour A) where
   few_turns m (events.Cancel app op) kind few = omega (arith, few, cancel_counts_none m op)
   few_turns m (events.Turn app instance) kind few = omega (arith, few, kind_counts behaviour m kind instance)
 
-  -- marks that agree with an event give it
-  step_is : (marks : ℕ → Marks) (w : World A) (e : TeeEvent) (kind : TurnKind) (m : Machine A) → slice_get w (app_of e) ≡ Some m → may_stand m (machine_event e kind) ≡ true
-      → AgreesIn (marks (app_of e)) (slice_get w (app_of e)) (machine_event e kind) → step_events behaviour marks w e ≡ event_of e kind ∷ []
-  step_is marks w (events.Call app client call) kind m here may agree = refl
-  step_is marks w (events.Cancel app op) kind m here may agree = refl
-  step_is marks w (events.Turn app instance) kind m here may agree =
-      ap (turned_at behaviour (marks app) app instance 1) here
-      ∙ ap (λ (x : Event). record { app = app; event = x } ∷ [])
-      (event_as (marks app) m kind instance may (subst (λ (o : Option (Machine A)). AgreesIn (marks app) o (turn_of kind instance)) here agree))
+  -- weather that agrees with an event gives it
+  step_is : (weather : Weather) (w : World A) (e : TeeEvent) (kind : TurnKind) (m : Machine A) → slice_get w (app_of e) ≡ Some m → may_stand m (machine_event e kind) ≡ true
+      → AgreesIn (weather.marks (app_of e)) (slice_get w (app_of e)) (machine_event e kind) → step_events behaviour weather w e ≡ Happens (event_of e kind) ∷ []
+  step_is weather w (events.Call app client call) kind m here may agree = refl
+  step_is weather w (events.Cancel app op) kind m here may agree = refl
+  step_is weather w (events.Turn app instance) kind m here may agree =
+      ap (λ o. happens (turned_at behaviour (weather.marks app) app instance 1 o)) here
+      ∙ ap (λ (x : Event). Happens (record { app = app; event = x }) ∷ [])
+      (event_as (weather.marks app) m kind instance may (subst (λ (o : Option (Machine A)). AgreesIn (weather.marks app) o (turn_of kind instance)) here agree))
 
-  module _ (names : List (List ℕ)) (w : World A) (e : TeeEvent) (h : Happened) (m : Machine A) (here : slice_get w (app_of e) ≡ Some m)
+  -- the number and the instance of a call
+  pub call_told : (e : TeeEvent) (h : Happened) (m : Machine A) (app client : ℕ) (call : Call) → h ≡ happening behaviour m (machine_event e h.kind) → e ≡ events.Call app client call
+      → (h.op ≡ m.queue.next) × (h.instance ≡ (called m client call).instance)
+  call_told e h m app client call same is =
+      let so : h ≡ happening behaviour m (Called client call) = same ∙ ap (λ (x : TeeEvent). happening behaviour m (machine_event x h.kind)) is in
+      (ap (λ (x : Happened). x.op) so, ap (λ (x : Happened). x.instance) so)
+
+  module _ (form : Form) (names : List (List ℕ)) (w : World A) (e : TeeEvent) (h : Happened) (m : Machine A) (here : slice_get w (app_of e) ≡ Some m)
       (same : h ≡ happening behaviour m (machine_event e h.kind)) where
-    one_log : log_of behaviour w (event_of e h.kind ∷ []) ≡ record { app = app_of e; told = h } ∷ []
+    one_log : log_of behaviour w (Happens (event_of e h.kind) ∷ []) ≡ OfApp (record { app = app_of e; told = h }) ∷ []
     one_log =
         ap (λ o. entry_of behaviour (app_of e) (machine_event e h.kind) o ++ []) here
-        ∙ ap (λ (x : Happened). record { app = app_of e; told = x } ∷ []) (sym same)
+        ∙ ap (λ (x : Happened). OfApp (record { app = app_of e; told = x }) ∷ []) (sym same)
 
-    one_text : text_of behaviour names w (event_of e h.kind ∷ []) ≡ happened_lines (slice_index_or names (app_of e) []) h
+    one_text : text_of behaviour names w (Happens (event_of e h.kind) ∷ []) ≡ happened_lines (slice_index_or names (app_of e) []) h
     one_text =
-        text_is_log behaviour names w (event_of e h.kind ∷ [])
+        text_is_log behaviour names w (Happens (event_of e h.kind) ∷ [])
         ∙ ap (log_text names) one_log
         ∙ append-nil (happened_lines (slice_index_or names (app_of e) []) h)
 
-    one_known : app_of e < length names → m.turns < 2 ^ 63 → AreKnown names (log_of behaviour w (event_of e h.kind ∷ []))
+    one_known : app_of e < length names → m.turns < 2 ^ 63 → AreKnown names (log_of behaviour w (Happens (event_of e h.kind) ∷ []))
     one_known within few =
         let turn : h.turn ≡ (step behaviour m (machine_event e h.kind)).machine.turns = ap (λ (x : Happened). x.turn) same in
-        subst (λ (log : List Entry). AreKnown names log) (sym one_log)
-        (record { known = (within, tt); counted = (omega (arith, turn, few_turns m e h.kind few), tt) })
+        subst (λ (log : List Item). AreKnown names log) (sym one_log)
+        (record { known = (within, tt); counted = (omega (arith, turn, few_turns m e h.kind few), tt); owners = tt })
 
-    pub one_whole : (tee : Tee A) (old new : Option (List ℕ)) → app_of e < length names → m.turns < 2 ^ 63 → may_stand m (machine_event e h.kind) ≡ true
-        → Represents tee (world_step behaviour w (event_of e h.kind)) → Appends old new (happened_lines (slice_index_or names (app_of e) []) h)
-        → IsRunOf behaviour names (λ marks. step_events behaviour marks w e) w tee old new
-    one_whole tee old new within few may stands written = record {
-      made = event_of e h.kind ∷ [];
+    pub one_whole : (Stands : World A → Type 0) (old new : Point) → app_of e < length names → m.turns < 2 ^ 63 → may_stand m (machine_event e h.kind) ≡ true → IsSound h.kind → new.powers ≡ old.powers
+        → IsSpan (0 + losses_of (machine_event e h.kind)) old.view new.view → Stands (world_step behaviour w (event_of e h.kind))
+        → Appends old.written new.written (happened_lines (slice_index_or names (app_of e) []) h)
+        → IsRunOf behaviour form names (λ weather. step_events behaviour weather w e) w Stands old new
+    one_whole Stands old new within few may sound powers span stands written = record {
+      made = Happens (event_of e h.kind) ∷ [];
       known = one_known within few;
+      told = tt;
+      undamaged = (undamaged_as e h.kind sound, tt);
+      powers = omega (arith, powers);
       stands = stands;
-      written = subst (Appends old new) (sym one_text) written;
-      by_marks = λ marks agree. step_is marks w e h.kind m here may agree.0;
+      board = board_one behaviour form w (event_of e h.kind) old.view new.view span;
+      written = subst (Appends old.written new.written) (sym one_text) written;
+      by_weather = λ weather agree. step_is weather w e h.kind m here may agree.0;
     }
 
-    pub one_stops : (old new : Option (List ℕ)) → app_of e < length names → m.turns < 2 ^ 63 → may_stand m (machine_event e h.kind) ≡ true
-        → AppendsFront (happened_lines (slice_index_or names (app_of e) []) h) old new → StopsIn behaviour names (λ marks. step_events behaviour marks w e) w old new
-    one_stops old new within few may written = record {
-      made = event_of e h.kind ∷ [];
+    pub one_stops : (old new : Point) → app_of e < length names → m.turns < 2 ^ 63 → may_stand m (machine_event e h.kind) ≡ true → IsSound h.kind
+        → LeavesStores form new.view (world_step behaviour w (event_of e h.kind))
+        → AppendsFront (happened_lines (slice_index_or names (app_of e) []) h) old.written new.written
+        → StopsIn behaviour form names (λ weather. step_events behaviour weather w e) w old new
+    one_stops old new within few may sound left written = record {
+      made = Happens (event_of e h.kind) ∷ [];
       known = one_known within few;
+      told = tt;
+      undamaged = (undamaged_as e h.kind sound, tt);
+      left = left;
       text = written.0;
       cut = record {
         done = [];
-        last = log_of behaviour w (event_of e h.kind ∷ []);
-        few = subst (λ (log : List Entry). length log ≤ 1) (sym one_log) (omega arith);
+        last = log_of behaviour w (Happens (event_of e h.kind) ∷ []);
+        few = subst (λ (log : List Item). length log ≤ 1) (sym one_log) (omega arith);
         all = refl;
         cut = written.0;
         rest = written.1;
-        piece = sym (text_is_log behaviour names w (event_of e h.kind ∷ [])) ∙ one_text ∙ written.2;
+        piece = sym (text_is_log behaviour names w (Happens (event_of e h.kind) ∷ [])) ∙ one_text ∙ written.2;
         here = refl;
       };
       written = written.3;
-      by_marks = λ marks agree. ([], step_is marks w e h.kind m here may agree.0);
+      by_weather = λ weather agree. ([], step_is weather w e h.kind m here may agree.0);
     }
 
   -- ---- turns one after the other
 
-  turns_first : (marks : ℕ → Marks) (w : World A) (app i j : ℕ) (o : Option (Machine A)) → slice_get w app ≡ o
-      → turned_at behaviour (marks app) app i (suc j) o
-      ≡ turned_at behaviour (marks app) app i 1 o ++ turn_events behaviour (marks app) (world_after behaviour w (turned_at behaviour (marks app) app i 1 o)) app i j
-  turns_first marks w app i j None here = sym (ap (turned_at behaviour (marks app) app i j) here)
-  turns_first marks w app i j (Some m) here =
-      let event : Event = event_at (marks app) m i in
-      ap (λ o. record { app = app; event = event } ∷ turned_at behaviour (marks app) app i j o) (sym (there_after behaviour w app m event here))
+  turns_first : (weather : Weather) (w : World A) (app i j : ℕ) (o : Option (Machine A)) → slice_get w app ≡ o
+      → happens (turned_at behaviour (weather.marks app) app i (suc j) o)
+      ≡ happens (turned_at behaviour (weather.marks app) app i 1 o)
+      ++ happens (turn_events behaviour (weather.marks app) (after_events behaviour w (happens (turned_at behaviour (weather.marks app) app i 1 o))) app i j)
+  turns_first weather w app i j None here = sym (ap (λ o. happens (turned_at behaviour (weather.marks app) app i j o)) here)
+  turns_first weather w app i j (Some m) here =
+      let event : Event = event_at (weather.marks app) m i in
+      ap (λ o. Happens (record { app = app; event = event }) ∷ happens (turned_at behaviour (weather.marks app) app i j o)) (sym (at_step behaviour w app m event here))
 
   -- so many turns are one, and then the others
-  pub turns_split : (marks : ℕ → Marks) (w : World A) (app i count k : ℕ) → k < count
-      → turn_events behaviour (marks app) w app i (count - k)
-      ≡ step_events behaviour marks w (events.Turn app i) ++ turn_events behaviour (marks app) (world_after behaviour w (step_events behaviour marks w (events.Turn app i))) app i (count - (k + 1))
-  turns_split marks w app i count k within =
+  pub turns_split : (weather : Weather) (w : World A) (app i count k : ℕ) → k < count
+      → happens (turn_events behaviour (weather.marks app) w app i (count - k))
+      ≡ step_events behaviour weather w (events.Turn app i)
+      ++ happens (turn_events behaviour (weather.marks app) (after_events behaviour w (step_events behaviour weather w (events.Turn app i))) app i (count - (k + 1)))
+  turns_split weather w app i count k within =
       let fewer : count - k ≡ suc (count - (k + 1)) = omega (arith, within) in
-      ap (λ n. turn_events behaviour (marks app) w app i n) fewer ∙ turns_first marks w app i (count - (k + 1)) (slice_get w app) refl
+      ap (λ n. happens (turn_events behaviour (weather.marks app) w app i n)) fewer ∙ turns_first weather w app i (count - (k + 1)) (slice_get w app) refl
 
-  pub turns_all : (marks : ℕ → Marks) (w : World A) (app i count : ℕ) → turn_events behaviour (marks app) w app i count ≡ turn_events behaviour (marks app) w app i (count - 0)
-  turns_all marks w app i count = let same : count ≡ count - 0 = omega arith in ap (λ n. turn_events behaviour (marks app) w app i n) same
+  pub turns_all : (weather : Weather) (w : World A) (app i count : ℕ)
+      → happens (turn_events behaviour (weather.marks app) w app i count) ≡ happens (turn_events behaviour (weather.marks app) w app i (count - 0))
+  turns_all weather w app i count = let same : count ≡ count - 0 = omega arith in ap (λ n. happens (turn_events behaviour (weather.marks app) w app i n)) same
 
-  no_turns : (marks : ℕ → Marks) (app i : ℕ) (o : Option (Machine A)) → turned_at behaviour (marks app) app i 0 o ≡ []
-  no_turns marks app i None = refl
-  no_turns marks app i (Some m) = refl
+  no_turns : (weather : Weather) (app i : ℕ) (o : Option (Machine A)) → happens (turned_at behaviour (weather.marks app) app i 0 o) ≡ []
+  no_turns weather app i None = refl
+  no_turns weather app i (Some m) = refl
 
-  pub turns_none : (marks : ℕ → Marks) (w : World A) (app i count k : ℕ) → count ≤ k → turn_events behaviour (marks app) w app i (count - k) ≡ []
-  turns_none marks w app i count k all =
+  pub turns_none : (weather : Weather) (w : World A) (app i count k : ℕ) → count ≤ k → happens (turn_events behaviour (weather.marks app) w app i (count - k)) ≡ []
+  turns_none weather w app i count k all =
       let none : count - k ≡ 0 = omega (arith, all) in
-      ap (λ n. turn_events behaviour (marks app) w app i n) none ∙ no_turns marks app i (slice_get w app)
+      ap (λ n. happens (turn_events behaviour (weather.marks app) w app i n)) none ∙ no_turns weather app i (slice_get w app)

@@ -1,86 +1,115 @@
--- The text of a run is the transcript under the marks that are read back from it.
+-- The text of a run is the transcript in the weather that is read back from it.
 use Rattle.app_api.specs.Behaviours.{Behaviour}
-use Rattle.std.proofs.Common.{ℕ, ◌≢◌, ◌<◌, ◌^◌, List, [], ◌++◌, Option, length, codes, refl, sym, subst, ◌∙◌, ap, append_assoc}
-use Rattle.std.specs.Prelude.{All}
+use Rattle.std.proofs.Common.{ℕ, ◌≡◌, ◌<◌, List, [], ◌++◌, Option, inl, length, refl, sym, subst, ◌∙◌, ap}
+use Rattle.std.specs.Io.KnownBytes.{Appends}
 use Rattle.std.proofs.KnownBytes.{Appends-nil}
 use Rattle.std.proofs.lemmas.List.{length-map}
-use Rattle.std.proofs.lemmas.List.Elements.{All-map, All-weaker}
 use Rattle.app_api.specs.declared.host.Host.{Host}
-use Rattle.app_api.specs.Hosts.{HostsFit, IsName}
-use Rattle.store_api.specs.Stores.{empty_store}
+use Rattle.app_api.specs.Hosts.{HostsFit}
+use Rattle.store_api.specs.Stores.{Store}
 use Rattle.alone.specs.declared.turn.TurnKind.TheVariants.{Plain}
-use Rattle.alone.specs.Marks.{Marks, SameAt}
+use Rattle.board.specs.Moment.{View}
+use Rattle.epoch.specs.Forms.{Form}
 use Rattle.script.specs.declared.line.Line.{Line}
 use Rattle.script.specs.Grammar.{names_of}
-use Rattle.tee_core.specs.declared.tee.Tee.{Tee}
-use Rattle.tee_core.specs.World.{World, world_after, world_of}
-use Rattle.tee_top.specs.BoardLines.{marks_in, whole_text}
-use Rattle.tee_top.specs.Logs.{Entry, log_marks}
-use Rattle.tee_top.specs.Parts.{IsRunOf, StopsIn, log_of}
-use Rattle.tee_top.specs.Runs.{WritesAll, WritesFront}
-use Rattle.tee_top.specs.Transcript.{events_of, text_of, transcript}
+use Rattle.tee_core.specs.World.{World, world_of}
+use Rattle.tee_top.specs.BoardLines.{weather_in, whole_text}
+use Rattle.tee_top.specs.Boards.{GoesAlong, LeavesStores}
+use Rattle.tee_top.specs.Logs.{Item, SameWeather, log_weather}
+use Rattle.tee_top.specs.Parts.{AreTold, HasNoDamage, IsRefusedIn, IsRunOf, Point, StopsIn, log_of}
+use Rattle.tee_top.specs.Runs.{RunsFront, RunsToPower, RunsWhole, events_by}
+use Rattle.tee_top.specs.Transcript.{Weather, WorldEvent, after_events, events_of, text_of}
 use Rattle.tee_top.proofs.Agreed.{goes}
-use Rattle.tee_top.proofs.Marks.{cut_marks_read_back, marks_read_back}
-use Rattle.tee_top.proofs.Names.{hosts_can_name}
-use Rattle.tee_top.proofs.Parts.{cut_front, text_is_log, text_of_both}
+use Rattle.tee_top.proofs.Weather.{cut_weather_read_back, weather_read_back}
+use Rattle.tee_top.proofs.Names.{hosts_can_name, not_board}
+use Rattle.tee_top.proofs.Parts.{cut_front, text_is_log}
 
--- no host is named as the board
-not_board : {A : Type 0} (hosts : List (Host A)) → HostsFit hosts → All (λ name. name ≢ codes "board") (names_of hosts)
-not_board hosts fit =
-    All-map (λ name. name ≢ codes "board") (λ host. host.name) hosts
-    (All-weaker (λ host. IsName host.name) (λ host. host.name ≢ codes "board") (λ host is. is.not_board) hosts fit.named)
-
-module _ {A : Type 0} (behaviour : Behaviour A) (hosts : List (Host A)) (fit : HostsFit hosts) (seed : List ℕ) (script : List Line) where
+module _ {A : Type 0} (behaviour : Behaviour A) (form : Form) (hosts : List (Host A)) (fit : HostsFit hosts) (seed : List ℕ) (stores : ℕ → Store) where
   abbrev names : List (List ℕ)
   names = names_of hosts
 
   abbrev begin : World A
-  begin = world_of hosts seed (λ app. empty_store)
+  begin = world_of hosts seed stores
 
   some_name : 0 < length names
   some_name = subst (λ n. 0 < n) (sym (length-map hosts (λ (host : Host A). host.name))) fit.some
 
-  pub all_written : (tee : Tee A) (old new : Option (List ℕ)) → IsRunOf behaviour names (λ marks. events_of behaviour marks begin script) begin tee old new
-      → WritesAll behaviour hosts seed script old new
-  all_written tee old new run =
-      let log : List Entry = log_of behaviour begin run.made in
+  -- the weather that the text of a run tells gives the events that were made
+  same_events : (script : List Line) (Stands : World A → Type 0) (old new : Point) → old.powers ≡ 0 → (run : IsRunOf behaviour form names (λ weather. events_of behaviour weather begin script) begin Stands old new)
+      → events_by behaviour form hosts seed stores script (text_of behaviour names begin run.made) ≡ run.made
+  same_events script Stands old new none run =
+      let log : List Item = log_of behaviour begin run.made in
       let text : List ℕ = text_of behaviour names begin run.made in
-      let marks : ℕ → Marks = marks_in names text in
-      let same : (app turn : ℕ) → app < length names → turn < 2 ^ 64 → SameAt turn (marks app) (log_marks log app) = λ app turn within few.
-      subst (λ zs. SameAt turn (marks_in names zs app) (log_marks log app)) (sym (text_is_log behaviour names begin run.made))
-      (marks_read_back names log (hosts_can_name hosts fit) (not_board hosts fit) run.known app turn within few) in
+      let told : AreTold behaviour 0 begin run.made = subst (λ n. AreTold behaviour n begin run.made) none run.told in
+      let same : SameWeather (length names) (weather_in names text) (log_weather log) = subst (λ zs. SameWeather (length names) (weather_in names zs) (log_weather log)) (sym (text_is_log behaviour names begin run.made))
+      (weather_read_back names log (hosts_can_name hosts fit) (not_board hosts fit) run.known) in
+      run.by_weather (weather_in names text) (goes behaviour names (weather_in names text) begin run.made told run.known same)
+
+  -- all lines were run
+  pub all_written : (script : List Line) (Stands : World A → Type 0) (old new : Point) → old.powers ≡ 0 → ((world : World A) → Stands world → LeavesStores form new.view world)
+      → IsRunOf behaviour form names (λ weather. events_of behaviour weather begin script) begin Stands old new
+      → RunsWhole behaviour form hosts seed stores script old.view new.view old.written new.written
+  all_written script Stands old new none leaves run =
+      let is = sym (same_events script Stands old new none run) in
       record {
-        text = text;
+        text = text_of behaviour names begin run.made;
         appended = run.written;
-        all = ap (λ es. text_of behaviour names begin es) (sym (run.by_marks marks (goes behaviour names marks begin run.made run.known same)));
+        all = ap (λ es. text_of behaviour names begin es) is;
+        undamaged = subst HasNoDamage is run.undamaged;
+        board = subst (λ es. GoesAlong behaviour form old.view 0 begin es new.view) is run.board;
+        left = subst (λ es. LeavesStores form new.view (after_events behaviour begin es)) is (leaves (after_events behaviour begin run.made) run.stands);
       }
 
-  pub front_written : (old new : Option (List ℕ)) → StopsIn behaviour names (λ marks. events_of behaviour marks begin script) begin old new → WritesFront behaviour hosts seed script old new
-  front_written old new run =
-      let log : List Entry = log_of behaviour begin run.made in
-      let read = cut_marks_read_back names log run.text (hosts_can_name hosts fit) (not_board hosts fit) some_name run.known run.cut in
-      let marks : ℕ → Marks = marks_in names (whole_text run.text ++ read.0) in
-      let events = run.by_marks marks (goes behaviour names marks begin run.made run.known read.2) in
-      let behind : List ℕ = text_of behaviour names (world_after behaviour begin run.made) events.0 in
+  -- the lines stopped
+  pub front_written : (script : List Line) (old new : Point) → old.powers ≡ 0 → StopsIn behaviour form names (λ weather. events_of behaviour weather begin script) begin old new
+      → RunsFront behaviour form hosts seed stores script new.view old.written new.written
+  front_written script old new none run =
+      let log : List Item = log_of behaviour begin run.made in
+      let told : AreTold behaviour 0 begin run.made = subst (λ n. AreTold behaviour n begin run.made) none run.told in
+      let read = cut_weather_read_back names log run.text (hosts_can_name hosts fit) (not_board hosts fit) some_name run.known run.cut in
+      let weather : Weather = weather_in names (whole_text run.text ++ read.0) in
+      let events = run.by_weather weather (goes behaviour names weather begin run.made told run.known read.2) in
       record {
         text = run.text;
         appended = run.written;
         further = read.0;
         one = read.1;
-        rest = run.cut.rest ++ behind;
-        all =
-            ap (λ es. text_of behaviour names begin es) events.1
-            ∙ text_of_both behaviour names begin run.made events.0
-            ∙ ap (λ zs. zs ++ behind) (text_is_log behaviour names begin run.made ∙ cut_front names log run.text run.cut)
-            ∙ append_assoc run.text run.cut.rest behind;
+        made = run.made;
+        behind = events.0;
+        first = events.1;
+        rest = run.cut.rest;
+        all = text_is_log behaviour names begin run.made ∙ cut_front names log run.text run.cut;
+        left = run.left;
       }
 
-  pub nothing_written : (old : Option (List ℕ)) → WritesFront behaviour hosts seed script old old
-  nothing_written old = record {
+  -- the board wasn't opened again after a loss of power
+  pub power_written : (script : List Line) (old new : Point) → old.powers ≡ 0 → IsRefusedIn behaviour form names script begin old new
+      → RunsToPower behaviour form hosts seed stores script new.view old.written new.written
+  power_written script old new none refused =
+      let made : List WorldEvent = refused.run.made in
+      let is = sym (same_events refused.front (LeavesStores form new.view) old refused.between none refused.run) in
+      record {
+        front = refused.front;
+        pick = refused.pick;
+        rest = refused.behind;
+        split = refused.split;
+        text = text_of behaviour names begin made;
+        appended = subst (λ after. Appends old.written after (text_of behaviour names begin made)) (sym refused.written) refused.run.written;
+        all = ap (λ es. text_of behaviour names begin es) is;
+        left = subst (λ es. LeavesStores form new.view (after_events behaviour begin es)) is refused.run.stands;
+      }
+
+  -- no line was run
+  pub nothing_written : (script : List Line) (new : View) (written : Option (List ℕ)) → LeavesStores form new begin → RunsFront behaviour form hosts seed stores script new written written
+  nothing_written script new written left = record {
     text = [];
-    appended = Appends-nil old;
+    appended = Appends-nil written;
     further = [];
-    one = record { app = 0; known = some_name; kind = Plain; turn = 0; here = refl };
-    rest = transcript behaviour (marks_in names (whole_text [] ++ [])) hosts seed (λ app. empty_store) script;
+    one = inl (record { app = 0; known = some_name; kind = Plain; turn = 0; here = refl });
+    made = [];
+    behind = events_by behaviour form hosts seed stores script (whole_text [] ++ []);
+    first = refl;
+    rest = [];
     all = refl;
+    left = left;
   }

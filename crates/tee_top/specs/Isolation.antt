@@ -1,7 +1,7 @@
 -- One application among others: its events, its lines of a script and its lines of the text that is written.
 use Rattle.app_api.specs.Behaviours.{Behaviour}
-use Rattle.std.specs.Prelude.{ℕ, ◌≡◌, ◌≢◌, ◌==◌, ◌||◌, Bool, true, false, List, [], ◌∷◌, ◌++◌, codes, if◌then◌else◌}
-use Rattle.std.specs.List.{filter, flat_map, slice_split, starts_with}
+use Rattle.std.specs.Prelude.{ℕ, ◌≡◌, ◌≢◌, ◌==◌, ◌&&◌, ◌||◌, Bool, true, false, List, [], ◌∷◌, ◌++◌, codes, is_some, if◌then◌else◌}
+use Rattle.std.specs.List.{filter, flat_map, slice_split}
 use Rattle.alone.specs.Machine.{Machine}
 use Rattle.alone.specs.Marks.{Marks}
 use Rattle.alone.specs.Runs.{events_of_call, machine_after, turns_of}
@@ -9,14 +9,12 @@ use Rattle.alone.specs.Step.{Event, Called, Cancelled, Turned, TurnLost, Corrupt
 use Rattle.script.specs.declared.line.Line.{Line}
 use Rattle.script.specs.declared.line.Line.TheVariants as lines
 use Rattle.tee_core.specs.Happenings.{happenings}
+use Rattle.tee_core.specs.Powers.{kept_by}
 use Rattle.tee_core.specs.World.{AppEvent}
-use Rattle.tee_top.specs.Transcript.{happened_lines}
+use Rattle.tee_top.specs.BoardLines.{begins_with}
+use Rattle.tee_top.specs.Transcript.{Weather, WorldEvent, Fused, Happens, Powered, happened_lines}
 
 -- ---- lines of a text
-
--- whether a line begins with this text
-abbrev pub begins_with : List ℕ → List ℕ → Bool
-begins_with front line = starts_with (λ a b. a == b) line front
 
 -- what the line of a turn begins with that was lost, damaged or starved, as the word says: board, the word and the application's name
 abbrev pub mark_front : List ℕ → List ℕ → List ℕ
@@ -49,29 +47,39 @@ met_by_another Lost = []
 met_by_another (Starved instance) = []
 met_by_another (Restarted took) = []
 
--- what an event is for the machine of this index
-abbrev pub met_at : ℕ → AppEvent → List Event
-met_at app e = if e.app == app then e.event ∷ [] else met_by_another e.event
+-- what an event of an application is for the machine of this index
+abbrev pub app_met_at : ℕ → AppEvent → List Event
+app_met_at app e = if e.app == app then e.event ∷ [] else met_by_another e.event
 
--- what happens to the machine of this index: its own events, and a loss for each lost turn of another
-abbrev pub events_for : ℕ → List AppEvent → List Event
+-- what an event is for the machine of this index: a loss of power is a restart of each
+abbrev pub met_at : ℕ → WorldEvent → List Event
+met_at app (Happens e) = app_met_at app e
+met_at app (Fused calls) = []
+met_at app (Powered pick told) = Restarted (kept_by told app) ∷ []
+
+-- what happens to the machine of this index: its own events, a loss for each lost turn of another, and the losses of power
+abbrev pub events_for : ℕ → List WorldEvent → List Event
 events_for app events = flat_map (met_at app) events
 
+-- no turn is marked as lost
+abbrev pub LosesNone : Weather → Type 0
+LosesNone weather = (app turn : ℕ) → (weather.marks app).lost turn ≡ false
+
 -- no turn of another application is marked as lost
-abbrev pub OthersLoseNone : ℕ → (ℕ → Marks) → Type 0
-OthersLoseNone app marks = (other turn : ℕ) → other ≢ app → (marks other).lost turn ≡ false
+abbrev pub OthersLoseNone : ℕ → Weather → Type 0
+OthersLoseNone app weather = (other turn : ℕ) → other ≢ app → (weather.marks other).lost turn ≡ false
 
 -- ---- lines of a script
 
--- whether a line names the application of this index
+-- whether a line is about the application of this index: it names it, or is a loss of power
 abbrev pub is_of : ℕ → Line → Bool
 is_of index (lines.Call app client post call) = app == index
 is_of index (lines.Turns app client instance count) = app == index
 is_of index (lines.Cancel app client op) = app == index
 is_of index (lines.Fuse calls) = false
-is_of index (lines.Power pick) = false
+is_of index (lines.Power pick) = true
 
--- the lines of a script that name the application of this index
+-- the lines of a script that are about the application of this index
 abbrev pub own_lines : ℕ → List Line → List Line
 own_lines app script = filter (is_of app) script
 
@@ -83,17 +91,17 @@ module _ {A : Type 0} (behaviour : Behaviour A) where
   abbrev pub own_text : List ℕ → Machine A → List Event → List ℕ
   own_text name m events = flat_map (happened_lines name) (happenings behaviour m events)
 
--- marks say how the application's turns go
-module _ {A : Type 0} (behaviour : Behaviour A) (marks : Marks) where
+-- marks say how the application's turns go, and kept whether the loss of power of a number, from 0, kept its change in doubt
+module _ {A : Type 0} (behaviour : Behaviour A) (marks : Marks) (kept : ℕ → Bool) where
   -- what a line makes happen in one machine: a call, and then turns until it is answered; a posted one is the call alone; so many
-  -- turns, or a cancellation; no script that is run has other lines as yet
+  -- turns, a cancellation, or a restart, which keeps a change in doubt where there is one and that loss of power kept it
   abbrev pub own_line_events : Machine A → Line → List Event
   own_line_events m (lines.Call app client true call) = Called client call ∷ []
   own_line_events m (lines.Call app client false call) = events_of_call behaviour marks m client call
   own_line_events m (lines.Turns app client instance count) = turns_of behaviour marks count m instance
   own_line_events m (lines.Cancel app client op) = Cancelled op ∷ []
   own_line_events m (lines.Fuse calls) = []
-  own_line_events m (lines.Power pick) = []
+  own_line_events m (lines.Power pick) = Restarted (is_some m.in_doubt && kept m.boot) ∷ []
 
   -- what lines make happen in one machine, one line after the other
   abbrev pub own_events : Machine A → List Line → List Event

@@ -1,7 +1,9 @@
 pub mod BoardLines
+pub mod Boards
 pub mod Isolation
 pub mod Logs
 pub mod Parts
 pub mod Runs
 pub mod Statuses
+pub mod Stops
 pub mod Transcript

@@ -9,21 +9,33 @@ ghost use Rattle.script.specs.Grammar.{names_of};
 ghost use Rattle.tee_base.specs.Faults.{Rose};
 ghost use Rattle.tee_base.specs.Transfer.{ConsumesWithin, HasMoreThan};
 ghost use Rattle.tee_base.specs.declared.limits.TheConstants.{SCRIPT_BYTES};
-ghost use Rattle.tee_top.specs.Runs.{AreRunWords, IsKnown, IsServed, IsUnrun, IsReadStatus, ReadsTo, IsBadAt, IsOfScript, IsReadable, IsText, IsBadText, IsTooMuch, IsWithin, WritesAll, WritesFront};
+ghost use Rattle.board.specs.Moment.{IsCounter};
+ghost use Rattle.epoch.specs.Mounts.{IsRefusal};
+ghost use Rattle.store_api.specs.Stores.{Store};
+ghost use Rattle.tee_core.specs.InUse.{form_in_use};
+ghost use Rattle.tee_core.specs.World.{world_of};
+ghost use Rattle.tee_top.specs.Boards.{BeginsWith, HasFirstOrders, HasOrders, HasPower, LeavesStores, WritesLosses, orders_of};
+ghost use Rattle.epoch.specs.declared.answer.OpenAnswer.{OpenAnswer as OpenRefusal};
+ghost use Rattle.tee_top.specs.Runs.{AreRunWords, IsKnown, IsServed, IsStopped, IsUnrun, IsReadStatus, ReadsTo, IsBadAt, IsOfScript, IsReadable, IsText, IsBadText, IsTooMuch, IsWithin, refusal_of, stopped_as, RunsFront, RunsToPower, RunsWhole};
 
 use crate::lines::{Stop, run_lines};
 use crate::status::Status;
 use app_api::{Application, Host};
+use board::Board;
+use epoch::{BoardVolume, OpenAnswer, Unopened};
 use script::{Dialect, Line, ScriptAnswer, parse_in};
 use std::alloc::Global;
 use tee_base::{Bytes, NoMemory, ReadAnswer, Sink, Source, limits, read_all};
-use tee_core::Tee;
+use tee_core::{TeeOver, VolumeInUse};
 
 /// Whether the words are those of a run.
 fn are_run_words(words: &[String]) -> bool
     ensures { IsTrue result ↔ AreRunWords words.now }
 {
-    words.len() == 1 && words.iter().all(|word| word.as_str() == "run")
+    if words.is_empty() {
+        return false;
+    }
+    words.len() <= 2 && words[0].as_str() == "run"
 }
 
 /// The lines of the script that the source holds.
@@ -57,7 +69,7 @@ fn read_lines<S: Source, A: Application>(
         Err(ReadAnswer::ReadFault) => return Err(Status::ReadFault),
         Err(ReadAnswer::NoMemory) => return Err(Status::NoMemory),
     };
-    match parse_in(alloc, text.as_slice(), hosts, Dialect::WithoutBoard) {
+    match parse_in(alloc, text.as_slice(), hosts, Dialect::Whole) {
         Ok(script) => Ok(script.into_lines()),
         Err(ScriptAnswer::BadLine(number)) => Err(Status::BadLine(number)),
         Err(ScriptAnswer::NoMemory) => Err(Status::NoMemory),
@@ -75,98 +87,182 @@ fn names_of<A: Application>(alloc: Global, hosts: &[Host<A>]) -> Result<Vec<Byte
     Ok(names)
 }
 
-/// Runs the lines for these hosts.
-fn serve<W: Sink, A: Application>(
-    alloc: Global,
-    lines: Vec<Line>,
-    sink: &mut W,
-    hosts: Vec<Host<A>>,
-    seed: [u8; 32],
-) -> Status
-    requires fit { HostsFit hosts.items }
-    requires known { AllByRecursion (IsKnown (length hosts.items)) lines.items }
-    ensures done { result ≡ Status.Done
-        → WritesAll A.behaviour hosts.items seed lines.items
-        (W.written sink.old) (W.written sink.new) }
-    ensures stopped { ¬ (result ≡ Status.Done)
-        → WritesFront A.behaviour hosts.items seed lines.items
-        (W.written sink.old) (W.written sink.new) }
-    ensures fault { result ≡ Status.WriteFault → Rose (W.failures sink.old) (W.failures sink.new) }
-    ensures later { W.failures sink.old ≤ W.failures sink.new }
-    ensures few { IsServed result }
+/// How a run ends whose board wasn't opened.
+fn refusal_status(why: OpenAnswer) -> Status
+    ensures { result ≡ refusal_of why }
 {
-    let Ok(names) = names_of(alloc, hosts.as_slice()) else {
-        return Status::NoMemory;
-    };
-    let Ok(mut tee) = Tee::new(alloc, hosts, seed) else {
-        return Status::NoMemory;
-    };
-    match run_lines(alloc, names.as_slice(), &mut tee, lines, sink) {
-        Ok(()) => Status::Done,
-        Err(Stop::NoMemory) => Status::NoMemory,
-        Err(Stop::WriteFault) => Status::WriteFault,
+    match why {
+        OpenAnswer::Failed => Status::BoardFault,
+        OpenAnswer::NoMemory => Status::NoMemory,
+        why => Status::StoreRefused(why),
     }
 }
 
-/// Reads a script from the source, runs it for the hosts, and writes the replies to the sink, with a line before those of a
-/// turn that was lost, damaged or starved. What is written is the transcript of the script where turns go as the written
-/// text itself says; where the run stopped it is a front of one where turns go as the text says and at most one line more.
-/// The words of a run are `run`. Nothing is run, and nothing is written, unless the whole source was read and each line is
-/// in the grammar, and not about the board: such lines are bad ones as yet.
-pub fn run_tee<S: Source, W: Sink, A: Application>(
+/// How a run ends whose lines stopped.
+fn stop_status(stop: Stop) -> Status
+    ensures { result ≡ stopped_as stop }
+{
+    match stop {
+        Stop::NoMemory => Status::NoMemory,
+        Stop::WriteFault => Status::WriteFault,
+        Stop::Refused(why) => refusal_status(why),
+    }
+}
+
+/// Runs the lines for these hosts over the objects of a board, and hands it back.
+fn serve<B: Board, V: BoardVolume<B>, W: Sink, A: Application>(
+    alloc: Global,
+    lines: Vec<Line>,
+    sink: &mut W,
+    board: B,
+    hosts: Vec<Host<A>>,
+    seed: [u8; 32],
+) -> (Status, B)
+    requires fit { HostsFit hosts.items }
+    requires known { AllByRecursion (IsKnown (length hosts.items)) lines.items }
+    ensures done { result.0 ≡ Status.Done → B.honest board → (stores : ℕ → Store)
+        → BeginsWith V.form (B.view board) (length hosts.items) stores
+        → RunsWhole A.behaviour V.form hosts.items seed stores lines.items
+        (B.view board) (B.view result.1) (W.written sink.old) (W.written sink.new) }
+    ensures stopped { IsStopped result.0 → B.honest board → (stores : ℕ → Store)
+        → BeginsWith V.form (B.view board) (length hosts.items) stores
+        → RunsFront A.behaviour V.form hosts.items seed stores lines.items (B.view result.1)
+        (W.written sink.old) (W.written sink.new) }
+    ensures board_fault { result.0 ≡ Status.BoardFault → B.honest board → (stores : ℕ → Store)
+        → BeginsWith V.form (B.view board) (length hosts.items) stores
+        → ((sink.new ≡ sink.old) × LeavesStores V.form (B.view result.1)
+        (world_of hosts.items seed stores))
+        ⊎ RunsToPower A.behaviour V.form hosts.items seed stores lines.items (B.view result.1)
+        (W.written sink.old) (W.written sink.new) }
+    ensures accepted { (why : OpenRefusal) → result.0 ≡ Status.StoreRefused why
+        → B.honest board → (stores : ℕ → Store)
+        → BeginsWith V.form (B.view board) (length hosts.items) stores → ⊥ }
+    ensures refused { (why : OpenRefusal) → result.0 ≡ Status.StoreRefused why → B.honest board
+        → ((sink.new ≡ sink.old) × (counter : ℕ) × IsCounter (B.view board).state counter
+        × IsRefusal V.form (B.view board) (B.view board).state.reads counter why)
+        ⊎ HasPower lines.items }
+    ensures cause { result.0 ≡ Status.BoardFault
+        → Rose (B.view board).state.faults (B.view result.1).state.faults }
+    ensures orders { result.0 ≡ Status.Done
+        → HasOrders (orders_of lines.items) (B.view board) (B.view result.1) }
+    ensures first_orders { HasFirstOrders lines.items (B.view board) (B.view result.1) }
+    ensures losses { result.0 ≡ Status.Done
+        → WritesLosses (W.written sink.old) (W.written sink.new) (B.view board) (B.view result.1) }
+    ensures fault { result.0 ≡ Status.WriteFault
+        → Rose (W.failures sink.old) (W.failures sink.new) }
+    ensures later { W.failures sink.old ≤ W.failures sink.new }
+    ensures few { IsServed result.0 }
+{
+    let Ok(names) = names_of(alloc, hosts.as_slice()) else {
+        return (Status::NoMemory, board);
+    };
+    let mut tee = match TeeOver::<B, V, A>::open(alloc, board, hosts, seed) {
+        Ok(tee) => tee,
+        Err(Unopened { board, why }) => return (refusal_status(why), board),
+    };
+    let status = match run_lines(alloc, names.as_slice(), &mut tee, lines, sink) {
+        Ok(()) => Status::Done,
+        Err(stop) => stop_status(stop),
+    };
+    (status, tee.into_board())
+}
+
+/// Reads a script from the source, runs it for the hosts over the objects of the board, and writes the replies to the sink, with a
+/// line before those of a turn that was lost, damaged or starved, and a line for each loss of power. What is written is the
+/// transcript of the script in the weather that the written text itself tells; where the run stopped it is a front of one, in the
+/// weather that the text tells and at most one line more. The words of a run are `run`, or `run` and the name of an image. Nothing
+/// is run, and nothing is written, unless the whole source was read and each line is in the grammar. The board is handed back.
+///
+/// The clauses on what is written are those of an honest board at rest whose image is sound for the hosts, as a blank one is.
+pub fn run_tee<S: Source, W: Sink, B: Board + Drop, A: Application>(
     alloc: Global,
     words: &[String],
     source: &mut S,
     sink: &mut W,
+    board: B,
     hosts: Vec<Host<A>>,
     seed: [u8; 32],
-) -> Status
+) -> (Status, B)
     requires { HostsFit hosts.items }
-    ensures written { result ≡ Status.Done
+    ensures written { result.0 ≡ Status.Done → B.honest board → (stores : ℕ → Store)
+        → BeginsWith form_in_use (B.view board) (length hosts.items) stores
         → IsOfScript hosts.items (S.left source.old) (λ script.
-        WritesAll A.behaviour hosts.items seed script (W.written sink.old) (W.written sink.new)) }
-    ensures cut_short { result ≡ Status.WriteFault
+        RunsWhole A.behaviour form_in_use hosts.items seed stores script
+        (B.view board) (B.view result.1) (W.written sink.old) (W.written sink.new)) }
+    ensures cut_short { result.0 ≡ Status.WriteFault → B.honest board → (stores : ℕ → Store)
+        → BeginsWith form_in_use (B.view board) (length hosts.items) stores
         → IsOfScript hosts.items (S.left source.old) (λ script.
-        WritesFront A.behaviour hosts.items seed script (W.written sink.old)
-        (W.written sink.new)) }
-    ensures no_memory { result ≡ Status.NoMemory
-        → (sink.new ≡ sink.old)
+        RunsFront A.behaviour form_in_use hosts.items seed stores script (B.view result.1)
+        (W.written sink.old) (W.written sink.new)) }
+    ensures no_memory { result.0 ≡ Status.NoMemory → B.honest board → (stores : ℕ → Store)
+        → BeginsWith form_in_use (B.view board) (length hosts.items) stores
+        → ((sink.new ≡ sink.old) × (result.1 ≡ board))
         ⊎ IsOfScript hosts.items (S.left source.old) (λ script.
-        WritesFront A.behaviour hosts.items seed script (W.written sink.old)
-        (W.written sink.new)) }
-    ensures bad_words { (result ≡ Status.BadWords) ↔ ¬ AreRunWords words.now }
-    ensures bad_line { (n : ℕ) → result ≡ Status.BadLine n
+        RunsFront A.behaviour form_in_use hosts.items seed stores script (B.view result.1)
+        (W.written sink.old) (W.written sink.new)) }
+    ensures board_fault { result.0 ≡ Status.BoardFault → B.honest board → (stores : ℕ → Store)
+        → BeginsWith form_in_use (B.view board) (length hosts.items) stores
+        → ((sink.new ≡ sink.old) × LeavesStores form_in_use (B.view result.1)
+        (world_of hosts.items seed stores))
+        ⊎ IsOfScript hosts.items (S.left source.old) (λ script.
+        RunsToPower A.behaviour form_in_use hosts.items seed stores script (B.view result.1)
+        (W.written sink.old) (W.written sink.new)) }
+    // a refusal is the opening rule's, where no line of the script loses the power; on a sound image none comes
+    ensures accepted { (why : OpenRefusal) → result.0 ≡ Status.StoreRefused why
+        → B.honest board → (stores : ℕ → Store)
+        → BeginsWith form_in_use (B.view board) (length hosts.items) stores → ⊥ }
+    ensures refused { (why : OpenRefusal) → result.0 ≡ Status.StoreRefused why → B.honest board
+        → ((sink.new ≡ sink.old) × (counter : ℕ) × IsCounter (B.view board).state counter
+        × IsRefusal form_in_use (B.view board) (B.view board).state.reads counter why)
+        ⊎ IsOfScript hosts.items (S.left source.old) (λ script. HasPower script) }
+    ensures bad_words { (result.0 ≡ Status.BadWords) ↔ ¬ AreRunWords words.now }
+    ensures bad_line { (n : ℕ) → result.0 ≡ Status.BadLine n
         → IsBadAt hosts.items (S.left source.old) n × IsAtEnd (S.left source.new) }
     ensures each_bad_line { (text : List ℕ) (n : ℕ)
         → IsReadable words.now (S.left source.old) text (S.failures source.old)
         (S.failures source.new)
-        → IsBadText hosts.items text n → (result ≡ Status.BadLine n) ⊎ (result ≡ Status.NoMemory) }
-    ensures complete { (text : List ℕ) (script : List Line)
+        → IsBadText hosts.items text n
+        → (result.0 ≡ Status.BadLine n) ⊎ (result.0 ≡ Status.NoMemory) }
+    ensures complete { (text : List ℕ) (script : List Line) (stores : ℕ → Store)
         → IsReadable words.now (S.left source.old) text (S.failures source.old)
         (S.failures source.new)
-        → ¬ Rose (W.failures sink.old) (W.failures sink.new) → IsText hosts.items text script
-        → (result ≡ Status.Done) ⊎ (result ≡ Status.NoMemory) }
-    ensures too_long { result ≡ Status.TooLong → HasMoreThan SCRIPT_BYTES (S.left source.old) }
+        → ¬ Rose (W.failures sink.old) (W.failures sink.new) → B.honest board
+        → BeginsWith form_in_use (B.view board) (length hosts.items) stores
+        → ¬ Rose (B.view board).state.faults (B.view result.1).state.faults
+        → IsText hosts.items text script
+        → (result.0 ≡ Status.Done) ⊎ (result.0 ≡ Status.NoMemory) }
+    ensures too_long { result.0 ≡ Status.TooLong → HasMoreThan SCRIPT_BYTES (S.left source.old) }
     ensures each_too_long { (text : List ℕ)
         → IsTooMuch words.now (S.left source.old) text (S.failures source.old)
         (S.failures source.new)
-        → (result ≡ Status.TooLong) ⊎ (result ≡ Status.NoMemory) }
-    ensures read_fault { result ≡ Status.ReadFault
+        → (result.0 ≡ Status.TooLong) ⊎ (result.0 ≡ Status.NoMemory) }
+    ensures read_fault { result.0 ≡ Status.ReadFault
         → Rose (S.failures source.old) (S.failures source.new) }
-    ensures write_fault { result ≡ Status.WriteFault
+    ensures write_fault { result.0 ≡ Status.WriteFault
         → Rose (W.failures sink.old) (W.failures sink.new) }
-    ensures done { result ≡ Status.Done → IsAtEnd (S.left source.new) }
-    ensures unwritten { IsUnrun result → sink.new ≡ sink.old }
-    ensures unread { result ≡ Status.BadWords → source.new ≡ source.old }
+    // whatever the board
+    ensures cause { result.0 ≡ Status.BoardFault
+        → Rose (B.view board).state.faults (B.view result.1).state.faults }
+    ensures orders { result.0 ≡ Status.Done → IsOfScript hosts.items (S.left source.old) (λ script.
+        HasOrders (orders_of script) (B.view board) (B.view result.1)) }
+    ensures first_orders { (result.1 ≡ board)
+        ⊎ IsOfScript hosts.items (S.left source.old) (λ script.
+        HasFirstOrders script (B.view board) (B.view result.1)) }
+    ensures losses { result.0 ≡ Status.Done
+        → WritesLosses (W.written sink.old) (W.written sink.new) (B.view board) (B.view result.1) }
+    ensures done { result.0 ≡ Status.Done → IsAtEnd (S.left source.new) }
+    ensures unwritten { IsUnrun result.0 → sink.new ≡ sink.old }
+    ensures unused { IsUnrun result.0 → result.1 ≡ board }
+    ensures unread { result.0 ≡ Status.BadWords → source.new ≡ source.old }
     ensures consumed { ConsumesWithin (SCRIPT_BYTES + 1) (S.left source.old) (S.left source.new) }
-    ensures unfailed { result ≡ Status.TooLong → S.failures source.new ≡ S.failures source.old }
+    ensures unfailed { result.0 ≡ Status.TooLong → S.failures source.new ≡ S.failures source.old }
 {
     if !are_run_words(words) {
-        return Status::BadWords;
+        return (Status::BadWords, board);
     }
     let lines = match read_lines(alloc, source, hosts.as_slice()) {
         Ok(lines) => lines,
-        Err(status) => return status,
+        Err(status) => return (status, board),
     };
-    serve(alloc, lines, sink, hosts, seed)
+    serve::<B, VolumeInUse<B>, W, A>(alloc, lines, sink, board, hosts, seed)
 }

@@ -1,8 +1,10 @@
 //! How a run ends.
 
-ghost use Rattle.std.specs.Prelude.{◌≡◌, IfOk};
-ghost use Rattle.tee_top.specs.Statuses.{number_of, status_text};
+ghost use Rattle.std.specs.Prelude.{◌≡◌, ◌++◌, IfOk, OnOk, codes};
+ghost use Rattle.std.specs.Fmt.{decimal};
+ghost use Rattle.tee_top.specs.Statuses.{number_of, status_text, why_text};
 
+use epoch::OpenAnswer;
 use report::Line;
 use std::alloc::Global;
 use tee_base::{Bytes, NoMemory};
@@ -18,12 +20,16 @@ pub enum Status {
     BadLine(u64),
     /// The source holds more than 1,048,576 bytes. Nothing was run.
     TooLong,
+    /// The board wasn't opened, for this reason.
+    StoreRefused(OpenAnswer),
     /// There was no memory.
     NoMemory,
     /// A read failed. Nothing was run.
     ReadFault,
     /// A write failed. What was written is a prefix.
     WriteFault,
+    /// A call of the board failed while it was opened.
+    BoardFault,
 }
 
 impl Status {
@@ -39,11 +45,56 @@ impl Status {
             Status::BadWords => 64,
             Status::BadLine(_) => 65,
             Status::TooLong => 66,
+            Status::StoreRefused(_) => 67,
             Status::NoMemory => 71,
             Status::ReadFault => 73,
             Status::WriteFault => 74,
+            Status::BoardFault => 75,
         }
     }
+}
+
+/// Why a store was refused.
+fn write_why(line: &mut Line, why: &OpenAnswer) -> Result<(), NoMemory>
+    ensures { OnOk result (line.new ≡ line.old ++ why_text why.now) }
+{
+    match why {
+        OpenAnswer::TooSmall(blocks) => {
+            line.text(b"too small ")?;
+            line.number(*blocks)
+        }
+        OpenAnswer::NoVolume(counter) => {
+            line.text(b"no volume at counter ")?;
+            line.number(*counter)
+        }
+        OpenAnswer::BadHeader { slot, .. } => {
+            line.text(b"bad header ")?;
+            line.number(u64::from(*slot))
+        }
+        OpenAnswer::UnknownVersion(version) => {
+            line.text(b"unknown version ")?;
+            line.number(u64::from(*version))
+        }
+        OpenAnswer::Rollback { sequence, counter } => {
+            line.text(b"rollback ")?;
+            write_pair(line, *sequence, *counter)
+        }
+        OpenAnswer::Ahead { sequence, counter } => {
+            line.text(b"ahead ")?;
+            write_pair(line, *sequence, *counter)
+        }
+        OpenAnswer::Failed => line.text(b"failed"),
+        OpenAnswer::NoMemory => line.text(b"out of memory"),
+    }
+}
+
+/// Two numbers, with a space between.
+fn write_pair(line: &mut Line, first: u64, second: u64) -> Result<(), NoMemory>
+    ensures { OnOk result (line.new ≡ line.old ++ decimal first ++ codes " " ++ decimal second) }
+{
+    line.number(first)?;
+    line.text(b" ")?;
+    line.number(second)
 }
 
 /// What is told of a status, with a line feed; nothing of one that is Done. The names are those of the hosts.
@@ -60,9 +111,15 @@ pub fn status_line(alloc: Global, status: &Status, _names: &[Bytes]) -> Result<B
             line.text(b" is not a script line\n")?;
         }
         Status::TooLong => line.text(b"teectl: script too long\n")?,
+        Status::StoreRefused(why) => {
+            line.text(b"teectl: store refused: ")?;
+            write_why(&mut line, why)?;
+            line.text(b"\n")?;
+        }
         Status::NoMemory => line.text(b"teectl: out of memory\n")?,
         Status::ReadFault => line.text(b"teectl: cannot read\n")?,
         Status::WriteFault => line.text(b"teectl: cannot write\n")?,
+        Status::BoardFault => line.text(b"teectl: board failed\n")?,
     }
     Ok(line.into_bytes())
 }

@@ -5,37 +5,73 @@
 mod tests;
 mod words;
 
+use board::Board;
+use boards::{FileBoard, FileBoardFailed, MemBoard};
 use sample_apps::sample_hosts;
 use std::alloc::Global;
 use std::io;
 use std::process::ExitCode;
 use std::string::String;
-use tee_base::{StdSink, StdSource};
+use tee_base::{NoMemory, StdSink, StdSource, limits};
 use tee_top::{Status, run_tee, status_line};
 
 const HELP: &str = "\
 teectl runs a script of client calls for the trusted applications that it hosts.
 
-usage: teectl run       run the script on standard input, and write the replies to standard output
+usage: teectl run       run the script on standard input over an empty board in memory, and write the
+                        replies to standard output
+       teectl run IMAGE run it over the board of the files IMAGE, IMAGE.ctr and IMAGE.key, which keeps
+                        the applications' objects
        teectl --help    print this text
        teectl --version print the version
 
+IMAGE.key has 64 bytes, the key of the board and the seed of random bytes. IMAGE and IMAGE.ctr are made
+where they are missing.
+
 exit statuses: 0 done, 64 faulty command line, 65 a line is no script line, 66 script too long,
-71 out of memory, 73 cannot read, 74 cannot write
+67 the board holds no volume that fits, 71 out of memory, 73 cannot read, 74 cannot write,
+75 the board failed
 
 docs/SCRIPT.md describes the script language and the printed lines.
 ";
 
 const VERSION: &str = "teectl 0.1.0\n";
 
-/// Runs the words, and says how it ended.
-fn run<R: Input + Print>(rt: &R, alloc: Global, words: &[String]) -> Status {
+/// Runs the words over a board, and says how it ended.
+fn run_over<R: Input + Print, B: Board + Drop>(
+    rt: &R,
+    alloc: Global,
+    words: &[String],
+    board: B,
+    seed: [u8; 32],
+) -> Status {
     let Ok(hosts) = sample_hosts(alloc) else {
         return Status::NoMemory;
     };
     let mut source = StdSource::new(rt.reader());
     let mut sink = StdSink::new(io::writer(rt));
-    run_tee(alloc, words, &mut source, &mut sink, hosts, [0; 32])
+    let (status, _board) = run_tee(alloc, words, &mut source, &mut sink, board, hosts, seed);
+    status
+}
+
+/// Runs the words over a blank board in memory.
+fn run_in_memory<R: Input + Print>(rt: &R, alloc: Global, words: &[String]) -> Status {
+    match MemBoard::blank(alloc, [0; 32], limits::BOARD_BLOCKS) {
+        Ok(board) => run_over(rt, alloc, words, board, [0; 32]),
+        Err(NoMemory) => Status::NoMemory,
+    }
+}
+
+/// Runs the words over the board of these files.
+fn run_over_files(rt: &HostRuntime, alloc: Global, words: &[String], image: &str) -> Status {
+    match FileBoard::open(rt, alloc, image) {
+        Ok(board) => {
+            let seed = board.random_seed();
+            run_over(rt, alloc, words, board, seed)
+        }
+        Err(FileBoardFailed::Failed) => Status::BoardFault,
+        Err(FileBoardFailed::NoMemory) => Status::NoMemory,
+    }
 }
 
 /// Tells standard error of a status that isn't Done. Where there is no memory for it, or it can't be written, the exit
@@ -73,7 +109,11 @@ fn main(rt: HostRuntime) -> ExitCode {
             return print(&rt, VERSION);
         }
     }
-    let status = run(&rt, alloc, words.as_slice());
+    let status = if words.len() == 2 && words[0].as_str() == "run" {
+        run_over_files(&rt, alloc, words.as_slice(), words[1].as_str())
+    } else {
+        run_in_memory(&rt, alloc, words.as_slice())
+    };
     tell(&rt, alloc, &status);
     ExitCode::from(status.number())
 }

@@ -1,12 +1,16 @@
 //! Whole scripts, from bytes to bytes.
 
+mod over_boards;
+
 ghost use Rattle.app_api.specs.Hosts.{HostsFit};
 
 use app_api::{Host, Properties, hosts_fit};
+use boards::MemBoard;
+use epoch::OpenAnswer;
 use sample_apps::{Sample, Store, sample_hosts};
 use std::alloc::Global;
 use std::test::Fail;
-use tee_base::{Bytes, MemSink, MemSource};
+use tee_base::{Bytes, MemSink, MemSource, limits};
 use tee_top::{Status, run_tee, status_line};
 use uuid::Uuid;
 
@@ -25,14 +29,17 @@ fn run_for(
     let mut source = MemSource::new(alloc, text, reads)?;
     let mut sink = MemSink::new(alloc, writes)?;
     let words = vec![in alloc; String::from_str(alloc, word)?]?;
-    let status = run_tee(
+    let board = MemBoard::blank(alloc, [0; 32], limits::BOARD_BLOCKS)?;
+    let (status, board) = run_tee(
         alloc,
         words.as_slice(),
         &mut source,
         &mut sink,
+        board,
         hosts,
         [0; 32],
     );
+    drop(board);
     Ok((status, sink))
 }
 
@@ -154,8 +161,7 @@ fn waiting_calls_get_the_turns_that_the_script_gives(rt: HostRuntime) -> Result<
         ("keep turn 1 0\n", "", Status::BadLine(1)),
         ("keep turn 5 1\n", "", Status::BadLine(1)),
         ("keep turn 1 1000001\n", "", Status::BadLine(1)),
-        ("keep open 1\nboard fuse 1\n", "", Status::BadLine(2)),
-        ("board power 0\n", "", Status::BadLine(1)),
+        ("keep open 1\nboard fuse x\n", "", Status::BadLine(2)),
     ];
     for (script, output, wanted) in rows {
         let (status, sink) = run(alloc, "run", script, &[], &[])?;
@@ -222,6 +228,38 @@ fn statuses_have_numbers_and_texts(rt: HostRuntime) -> Result<(), Fail> {
         (Status::NoMemory, 71, "teectl: out of memory\n"),
         (Status::ReadFault, 73, "teectl: cannot read\n"),
         (Status::WriteFault, 74, "teectl: cannot write\n"),
+        (Status::BoardFault, 75, "teectl: board failed\n"),
+        (
+            Status::StoreRefused(OpenAnswer::TooSmall(8_741)),
+            67,
+            "teectl: store refused: too small 8741\n",
+        ),
+        (
+            Status::StoreRefused(OpenAnswer::NoVolume(3)),
+            67,
+            "teectl: store refused: no volume at counter 3\n",
+        ),
+        (
+            Status::StoreRefused(OpenAnswer::UnknownVersion(9)),
+            67,
+            "teectl: store refused: unknown version 9\n",
+        ),
+        (
+            Status::StoreRefused(OpenAnswer::Rollback {
+                sequence: 5,
+                counter: 6,
+            }),
+            67,
+            "teectl: store refused: rollback 5 6\n",
+        ),
+        (
+            Status::StoreRefused(OpenAnswer::Ahead {
+                sequence: 7,
+                counter: 5,
+            }),
+            67,
+            "teectl: store refused: ahead 7 5\n",
+        ),
     ];
     for (status, number, text) in rows {
         assert_eq!(rt; status.number(), number);

@@ -1,64 +1,121 @@
-use Rattle.std.proofs.Common.{◌≡◌, ◌<◌, ◌≤◌, ◌+◌, ◌^◌, ◌∙◌, [], get_or, length, ap, sym, subst, arith}
+use Rattle.std.proofs.Common.{◌≡◌, ◌<◌, ◌≤◌, ◌+◌, ◌^◌, ◌∙◌, [], get_or, length, ap, refl, sym, subst, Some, arith}
+use Rattle.std.specs.Prelude.{slice_get}
 use Rattle.std.proofs.lemmas.List.{get_or_read}
-use Rattle.std.proofs.lemmas.Result.{on_err_weaker, on_ok_weaker}
 use Rattle.std.specs.Io.KnownBytes.{Appends}
 use Rattle.tee_base.specs.Transfer.{AppendsFront}
-use Rattle.tee_core.specs.Represents.{app_count, app_of, turns_made}
+use Rattle.tee_core.specs.Represents.{app_count, app_of, turns_made, volume_of}
+use Rattle.tee_core.proofs.SideLemmas.{side_at}
 use Rattle.tee_core.proofs.Steps.{on_err_known}
-use Rattle.tee_core.proofs.Worlds.{hosted_at}
+use Rattle.tee_core.proofs.TurnsMade.{sides_turns}
+use Rattle.tee_top.specs.Boards.{HasOrders}
 use Rattle.tee_top.specs.Parts.{step_events}
 use Rattle.tee_top.specs.Transcript.{happened_lines}
 use Rattle.tee_top.proofs.Along.{stops_first}
-use Rattle.tee_top.proofs.Single.{one_stops, one_whole, turns_are}
+use Rattle.tee_top.proofs.Leaves.{stands_leaves}
+use Rattle.tee_top.proofs.Losses.{losses_event}
+use Rattle.tee_top.proofs.Parts.{no_orders}
+use Rattle.tee_top.proofs.Single.{call_told, event_span, one_stops, one_whole, unordered}
 use Rattle.tee_top.proofs.lines.run_event.Goals as goal
 
 pub returns-then-not-has_room-clause-stopped : goal.returns-then-not-has_room-clause-stopped
 returns-then-not-has_room-clause-stopped g c = λ w stands.
-    stops_first g.A.Application.behaviour c.args.names.now w (λ marks. step_events g.A.Application.behaviour marks w c.args.event) (g.W.Sink.written c.args.sink.now)
+    let behaviour = g.A.Application.behaviour in
+    let tee = c.args.tee.now in
+    stops_first behaviour g.V.BoardVolume.form c.args.names.now w (λ weather. step_events behaviour weather w c.args.event) _ _ _ _ _
+    (stands_leaves g.V.Volume.keeper g.V.BoardVolume.form tee.sides.items (volume_of tee) _ w (g.met.V.BoardVolume.seen (volume_of tee)) stands)
+
+pub returns-then-not-has_room-clause-orders : goal.returns-then-not-has_room-clause-orders
+returns-then-not-has_room-clause-orders g c = no_orders _ _ refl refl (omega arith)
 
 pub returns-in_err-happened-clause-stopped : goal.returns-in_err-happened-clause-stopped
 returns-in_err-happened-clause-stopped g c =
+    let behaviour = g.A.Application.behaviour in
+    let then = c.event.new.self in
     on_err_known c.from_residual.result _
-    (λ w stands. stops_first g.A.Application.behaviour c.args.names.now w (λ marks. step_events g.A.Application.behaviour marks w c.args.event) (g.W.Sink.written c.args.sink.now))
+    (λ w stands. stops_first behaviour g.V.BoardVolume.form c.args.names.now w (λ weather. step_events behaviour weather w c.args.event) _ _ _ _ _
+    (stands_leaves g.V.Volume.keeper g.V.BoardVolume.form then.sides.items (volume_of then) _ w (g.met.V.BoardVolume.seen (volume_of then)) (c.in_err-happened.ensures.err.2 w stands)))
+
+pub returns-in_err-happened-clause-orders : goal.returns-in_err-happened-clause-orders
+returns-in_err-happened-clause-orders g c =
+    subst (λ v. HasOrders [] (g.B.Board.view (g.V.BoardVolume.board_of (volume_of c.args.tee.now))) (g.B.Board.view (g.V.BoardVolume.board_of v))) (sym c.in_err-happened.ensures.err.1)
+    (no_orders _ _ refl refl (omega arith))
+
+pub returns-in_err-write_happened-clause-stopped : goal.returns-in_err-write_happened-clause-stopped
+returns-in_err-write_happened-clause-stopped g c =
+    let behaviour = g.A.Application.behaviour in
+    let names = c.args.names.now in
+    let tee = c.args.tee.now in
+    let then = c.event.new.self in
+    let e = c.args.event in
+    let h = c.in_ok-happened.happened in
+    let there : app_of e < app_count tee = subst (λ i. i < app_count tee) (sym c.requires.own) c.requires.known in
+    let own : app_of e < length names = omega (arith, c.requires.names, there) in
+    let within : c.args.app < length names = omega (arith, c.requires.names, c.requires.known) in
+    let named : c.as_slice.result.now ≡ get_or names (app_of e) [] =
+    c.as_slice.ensures ∙ get_or_read names c.args.app c.index-names-app.result within c.index-names-app.is [] ∙ ap (λ i. get_or names i []) (sym c.requires.own) in
+    let fits : turns_made tee c.args.app + 1 ≤ 2 ^ 63 = c.has_room.ensures.0 c.if-not-has_room.false in
+    let room : turns_made tee (app_of e) < 2 ^ 63 = subst (λ i. turns_made tee i < 2 ^ 63) (sym c.requires.own) (omega (arith, fits)) in
+    on_err_known c.from_residual-in_err-write_happened.result _
+    (λ w stands.
+    let p = side_at tee.sides.items w (app_of e) stands.sides_are there in
+    one_stops behaviour g.V.BoardVolume.form names w e h p.0 p.1 (c.in_ok-happened.ensures.told w p.0 stands p.1) _ _ own
+    (omega (arith, room, sides_turns tee.sides.items w (app_of e) p.0 stands.sides_are p.1))
+    (c.in_ok-happened.ensures.stands w p.0 stands p.1) (c.in_ok-happened.ensures.sound w stands)
+    (stands_leaves g.V.Volume.keeper g.V.BoardVolume.form then.sides.items (volume_of then) _ _ (g.met.V.BoardVolume.seen (volume_of then)) (c.in_ok-happened.ensures.world w stands))
+    (subst (λ name. AppendsFront (happened_lines name h) (g.W.Sink.written c.args.sink.now) (g.W.Sink.written c.write_happened.new.sink)) named c.in_err-write_happened.ensures.err))
+
+pub returns-in_err-write_happened-clause-orders : goal.returns-in_err-write_happened-clause-orders
+returns-in_err-write_happened-clause-orders g c =
+    let old = volume_of c.args.tee.now in
+    let new = volume_of c.event.new.self in
+    let counts = c.in_ok-happened.ensures.counts in
+    unordered g.V.Volume.keeper g.V.BoardVolume.form old new _ _ (g.met.V.BoardVolume.seen old) (g.met.V.BoardVolume.seen new) counts.foundation counts.faults
 
 pub returns-clause-whole : goal.returns-clause-whole
 returns-clause-whole g c =
     let behaviour = g.A.Application.behaviour in
     let names = c.args.names.now in
+    let tee = c.args.tee.now in
+    let then = c.event.new.self in
     let e = c.args.event in
     let h = c.in_ok-happened.happened in
-    let there : app_of e < app_count c.args.tee.now = subst (λ i. i < app_count c.args.tee.now) (sym c.requires.own) c.requires.known in
+    let there : app_of e < app_count tee = subst (λ i. i < app_count tee) (sym c.requires.own) c.requires.known in
     let own : app_of e < length names = omega (arith, c.requires.names, there) in
     let within : c.args.app < length names = omega (arith, c.requires.names, c.requires.known) in
     let named : c.as_slice.result.now ≡ get_or names (app_of e) [] =
     c.as_slice.ensures ∙ get_or_read names c.args.app c.index-names-app.result within c.index-names-app.is [] ∙ ap (λ i. get_or names i []) (sym c.requires.own) in
-    let fits : turns_made c.args.tee.now c.args.app + 1 ≤ 2 ^ 63 = c.has_room.ensures.0 c.if-not-has_room.false in
-    let room : turns_made c.args.tee.now (app_of e) < 2 ^ 63 = subst (λ i. turns_made c.args.tee.now i < 2 ^ 63) (sym c.requires.own) (omega (arith, fits)) in
-    on_ok_weaker c.write_happened.result
-    (λ written w stands.
-    let p = hosted_at c.args.tee.now.hosted.items w (app_of e) stands there in
-    one_whole behaviour names w e h p.0 p.1 (c.in_ok-happened.ensures.told w p.0 stands p.1) c.event.new.self _ _ own (omega (arith, room, turns_are c.args.tee.now w (app_of e) p.0 stands p.1))
-    (c.in_ok-happened.ensures.stands w p.0 stands p.1) (c.in_ok-happened.ensures.world w stands)
-    (subst (λ name. Appends (g.W.Sink.written c.args.sink.now) (g.W.Sink.written c.write_happened.new.sink) (happened_lines name h)) named written))
-    c.write_happened.ensures.ok
+    let fits : turns_made tee c.args.app + 1 ≤ 2 ^ 63 = c.has_room.ensures.0 c.if-not-has_room.false in
+    let room : turns_made tee (app_of e) < 2 ^ 63 = subst (λ i. turns_made tee i < 2 ^ 63) (sym c.requires.own) (omega (arith, fits)) in
+    λ w stands.
+    let p = side_at tee.sides.items w (app_of e) stands.sides_are there in
+    one_whole behaviour g.V.BoardVolume.form names w e h p.0 p.1 (c.in_ok-happened.ensures.told w p.0 stands p.1) _ _ _ own
+    (omega (arith, room, sides_turns tee.sides.items w (app_of e) p.0 stands.sides_are p.1))
+    (c.in_ok-happened.ensures.stands w p.0 stands p.1) (c.in_ok-happened.ensures.sound w stands) c.in_ok-happened.ensures.boots
+    (event_span g.V.Volume.keeper g.V.BoardVolume.form (volume_of tee) (volume_of then) _ _ (g.met.V.BoardVolume.seen (volume_of tee))
+    (g.met.V.BoardVolume.seen (volume_of then)) e h.kind c.in_ok-happened.ensures.counts)
+    (c.in_ok-happened.ensures.world w stands)
+    (subst (λ name. Appends (g.W.Sink.written c.args.sink.now) (g.W.Sink.written c.write_happened.new.sink) (happened_lines name h)) named c.in_ok-write_happened.ensures.ok)
 
-pub returns-clause-stopped : goal.returns-clause-stopped
-returns-clause-stopped g c =
-    let behaviour = g.A.Application.behaviour in
+pub returns-clause-called : goal.returns-clause-called
+returns-clause-called g c = λ w m client call stands here is.
+    call_told g.A.Application.behaviour c.args.event c.in_ok-happened.happened m c.args.app client call
+    (c.in_ok-happened.ensures.told w m stands (subst (λ i. slice_get w i ≡ Some m) (sym c.requires.own) here)) is
+
+pub returns-clause-orders : goal.returns-clause-orders
+returns-clause-orders g c =
+    let old = volume_of c.args.tee.now in
+    let new = volume_of c.event.new.self in
+    let counts = c.in_ok-happened.ensures.counts in
+    unordered g.V.Volume.keeper g.V.BoardVolume.form old new _ _ (g.met.V.BoardVolume.seen old) (g.met.V.BoardVolume.seen new) counts.foundation counts.faults
+
+pub returns-clause-losses : goal.returns-clause-losses
+returns-clause-losses g c =
     let names = c.args.names.now in
-    let e = c.args.event in
+    let old = volume_of c.args.tee.now in
+    let new = volume_of c.event.new.self in
     let h = c.in_ok-happened.happened in
-    let there : app_of e < app_count c.args.tee.now = subst (λ i. i < app_count c.args.tee.now) (sym c.requires.own) c.requires.known in
-    let own : app_of e < length names = omega (arith, c.requires.names, there) in
     let within : c.args.app < length names = omega (arith, c.requires.names, c.requires.known) in
-    let named : c.as_slice.result.now ≡ get_or names (app_of e) [] =
-    c.as_slice.ensures ∙ get_or_read names c.args.app c.index-names-app.result within c.index-names-app.is [] ∙ ap (λ i. get_or names i []) (sym c.requires.own) in
-    let fits : turns_made c.args.tee.now c.args.app + 1 ≤ 2 ^ 63 = c.has_room.ensures.0 c.if-not-has_room.false in
-    let room : turns_made c.args.tee.now (app_of e) < 2 ^ 63 = subst (λ i. turns_made c.args.tee.now i < 2 ^ 63) (sym c.requires.own) (omega (arith, fits)) in
-    on_err_weaker c.write_happened.result
-    (λ written w stands.
-    let p = hosted_at c.args.tee.now.hosted.items w (app_of e) stands there in
-    one_stops behaviour names w e h p.0 p.1 (c.in_ok-happened.ensures.told w p.0 stands p.1) _ _ own (omega (arith, room, turns_are c.args.tee.now w (app_of e) p.0 stands p.1))
-    (c.in_ok-happened.ensures.stands w p.0 stands p.1)
-    (subst (λ name. AppendsFront (happened_lines name h) (g.W.Sink.written c.args.sink.now) (g.W.Sink.written c.write_happened.new.sink)) named written))
-    c.write_happened.ensures.err
+    let named : c.as_slice.result.now ≡ get_or names c.args.app [] = c.as_slice.ensures ∙ get_or_read names c.args.app c.index-names-app.result within c.index-names-app.is [] in
+    losses_event g.V.Volume.keeper g.V.BoardVolume.form old new _ _ (g.met.V.BoardVolume.seen old) (g.met.V.BoardVolume.seen new) names c.args.app h _ _ c.requires.words within
+    c.in_ok-happened.ensures.counts
+    (subst (λ name. Appends (g.W.Sink.written c.args.sink.now) (g.W.Sink.written c.write_happened.new.sink) (happened_lines name h)) named c.in_ok-write_happened.ensures.ok)

@@ -1,12 +1,17 @@
-use Rattle.std.proofs.Common.{◌≡◌, ◌∙◌, suc, List, [], ◌∷◌, drop, length, ap, refl, subst, sym, arith}
+use Rattle.std.proofs.Common.{ℕ, ◌≡◌, ◌≤◌, ◌∙◌, inl, inr, suc, List, [], ◌∷◌, ◌++◌, Err, drop, length, ap, refl, subst, sym, append_assoc, append-nil, arith}
 use Rattle.std.specs.List.{AllByRecursion}
+use Rattle.std.proofs.lemmas.Result.{err_from_is_err_and}
+use Rattle.tee_base.specs.Faults.{Rose}
 use Rattle.script.specs.declared.line.Line.{Line}
 use Rattle.tee_core.specs.Represents.{app_count}
-use Rattle.tee_core.specs.World.{world_after}
 use Rattle.tee_core.proofs.Steps.{on_err_known}
 use Rattle.tee_top.specs.Runs.{IsKnown}
-use Rattle.tee_top.specs.Transcript.{events_of, line_events}
-use Rattle.tee_top.proofs.Along.{along_start, along_more, along_stopped, along_whole}
+use Rattle.tee_top.specs.Transcript.{after_events, events_of}
+use Rattle.tee_top.proofs.Along.{line_run, line_stops, lines_refused, lines_run, lines_stop, refused_before, run_none}
+use Rattle.tee_top.proofs.Losses.{losses_both, losses_none}
+use Rattle.tee_top.proofs.Parts.{first_orders_more, no_orders, power_first, power_more}
+use Rattle.tee_top.proofs.Powers.{first_orders_before, orders_more}
+use Rattle.tee_top.proofs.Refusals.{refused_weaker, unless_weaker}
 use Rattle.tee_top.proofs.lines.run_lines.Goals as goal
 
 -- what has nothing left of it once the first is gone
@@ -14,13 +19,20 @@ none_left : (lines : List Line) → lines ≡ drop 1 lines → lines ≡ []
 none_left [] same = refl
 none_left (line ∷ lines) same = let longer : suc (length lines) ≡ length lines = ap (λ (xs : List Line). length xs) same in absurd (omega (arith, longer))
 
+-- a count that rose since a later moment rose since an earlier one
+rose_since : (old mid new : ℕ) → old ≤ mid → Rose mid new → Rose old new
+rose_since old mid new later (inl more) = inl (omega (arith, later, more))
+rose_since old mid new later (inr most) = inr most
+
 pub loop-line-init : goal.loop-line-init
 loop-line-init g c =
     let behaviour = g.A.Application.behaviour in
     record {
-      run = λ w stands.
-          along_start behaviour c.args.names.now c.args.tee.now w (λ marks. events_of behaviour marks w c.args.lines.items) (λ marks now. events_of behaviour marks now c.from-rest.result.items)
-          (g.W.Sink.written c.args.sink.now) stands (λ marks. ap (events_of behaviour marks w) (sym c.from-rest.ensures.0));
+      front = [];
+      split = sym c.from-rest.ensures.0;
+      run = λ w stands. run_none behaviour g.V.BoardVolume.form c.args.names.now _ w (λ weather. events_of behaviour weather w []) _ stands (λ weather. refl);
+      orders = no_orders _ _ refl refl (omega arith);
+      losses = losses_none _ _ _ (omega arith);
       apps = refl;
       known = subst (λ (lines : List Line). AllByRecursion (IsKnown (app_count c.args.tee.now)) lines) (sym c.from-rest.ensures.0) c.requires.known;
       later = omega arith;
@@ -29,13 +41,18 @@ loop-line-init g c =
 pub loop-line-preserved : goal.loop-line-preserved
 loop-line-preserved g c =
     let behaviour = g.A.Application.behaviour in
+    let line = c.in-Some.line in
+    let front = c.loop-line.invariant.front in
+    let rest = c.pop_front.new.self.items in
     record {
+      front = front ++ line ∷ [];
+      split = c.loop-line.invariant.split ∙ ap (λ zs. front ++ zs) c.in-Some.ensures.items ∙ sym (append_assoc front (line ∷ []) rest);
       run = λ w stands.
           let run = c.loop-line.invariant.run w stands in
-          let now = world_after behaviour w run.made in
-          along_more behaviour c.args.names.now c.loop-line.tee c.run_line.new.tee w (λ marks. events_of behaviour marks w c.args.lines.items)
-          (λ marks x. events_of behaviour marks x c.loop-line.rest.items) (λ marks x. events_of behaviour marks x c.pop_front.new.self.items) _ _ _
-          run (λ marks. line_events behaviour marks now c.in-Some.line) (λ marks. ap (events_of behaviour marks now) c.in-Some.ensures.items) (c.in_ok-run_line.ensures.whole now run.stands);
+          lines_run behaviour g.V.BoardVolume.form c.args.names.now _ _ w front (line ∷ []) _ _ _ run
+          (line_run behaviour g.V.BoardVolume.form c.args.names.now _ _ line _ _ (c.in_ok-run_line.ensures.whole (after_events behaviour w run.made) run.stands));
+      orders = orders_more front line _ _ _ c.loop-line.invariant.orders c.in_ok-run_line.ensures.orders;
+      losses = losses_both _ _ _ _ _ _ c.loop-line.invariant.losses c.in_ok-run_line.ensures.losses;
       apps = c.in_ok-run_line.ensures.apps ∙ c.loop-line.invariant.apps;
       known = (subst (λ (lines : List Line). AllByRecursion (IsKnown (app_count c.args.tee.now)) lines) c.in-Some.ensures.items c.loop-line.invariant.known).1;
       later = omega (arith, c.loop-line.invariant.later, c.in_ok-run_line.ensures.later);
@@ -49,17 +66,72 @@ run_line-requires-clause-known g c =
 pub returns-in_err-run_line-clause-stopped : goal.returns-in_err-run_line-clause-stopped
 returns-in_err-run_line-clause-stopped g c =
     let behaviour = g.A.Application.behaviour in
-    on_err_known c.from_residual.result _
-    (λ w stands.
+    let form = g.V.BoardVolume.form in
+    let names = c.args.names.now in
+    let front = c.loop-line.invariant.front in
+    let line = c.in-Some.line in
+    let more = c.pop_front.new.self.items in
+    let all : c.args.lines.items ≡ front ++ line ∷ more = c.loop-line.invariant.split ∙ ap (λ zs. front ++ zs) c.in-Some.ensures.items in
+    let p = err_from_is_err_and c.from_residual.result c.from_residual.ensures.1 in
+    rw (p.1, p.2) (rw all (unless_weaker {X = Unit {0}} (Err c.in_err-run_line.field-0.0) _ _
+    (λ part w stands.
     let run = c.loop-line.invariant.run w stands in
-    let now = world_after behaviour w run.made in
-    along_stopped behaviour c.args.names.now c.loop-line.tee w (λ marks. events_of behaviour marks w c.args.lines.items)
-    (λ marks x. events_of behaviour marks x c.loop-line.rest.items) (λ marks x. events_of behaviour marks x c.pop_front.new.self.items) _ _ _
-    run (λ marks. line_events behaviour marks now c.in-Some.line) (λ marks. ap (events_of behaviour marks now) c.in-Some.ensures.items) (c.in_err-run_line.ensures.stopped now run.stands))
+    let now = after_events behaviour w run.made in
+    lines_stop behaviour form names _ w front (line ∷ more) _ _ _ run (line_stops behaviour form names now line more _ _ (part now run.stands)))
+    c.in_err-run_line.ensures.stopped))
+
+pub returns-in_err-run_line-clause-refused : goal.returns-in_err-run_line-clause-refused
+returns-in_err-run_line-clause-refused g c =
+    let behaviour = g.A.Application.behaviour in
+    let form = g.V.BoardVolume.form in
+    let names = c.args.names.now in
+    let front = c.loop-line.invariant.front in
+    let line = c.in-Some.line in
+    let more = c.pop_front.new.self.items in
+    let all : c.args.lines.items ≡ front ++ line ∷ more = c.loop-line.invariant.split ∙ ap (λ zs. front ++ zs) c.in-Some.ensures.items in
+    let p = err_from_is_err_and c.from_residual.result c.from_residual.ensures.1 in
+    rw (p.1, p.2) (rw all (refused_weaker {X = Unit {0}} (Err c.in_err-run_line.field-0.0) _ _
+    (λ why part w stands.
+    let run = c.loop-line.invariant.run w stands in
+    let now = after_events behaviour w run.made in
+    let refused = part now run.stands in
+    (lines_refused behaviour form names _ w front (line ∷ more) _ _ _ run (refused_before behaviour form names now (line ∷ []) more _ _ refused.0), refused.1))
+    c.in_err-run_line.ensures.refused))
+
+pub returns-in_err-run_line-clause-cause : goal.returns-in_err-run_line-clause-cause
+returns-in_err-run_line-clause-cause g c =
+    let p = err_from_is_err_and c.from_residual.result c.from_residual.ensures.1 in
+    rw (p.1, p.2) (refused_weaker {X = Unit {0}} (Err c.in_err-run_line.field-0.0) _ _ (λ why part is. rose_since _ _ _ c.loop-line.invariant.orders.later (part is)) c.in_err-run_line.ensures.cause)
+
+pub returns-in_err-run_line-clause-first_orders : goal.returns-in_err-run_line-clause-first_orders
+returns-in_err-run_line-clause-first_orders g c =
+    let front = c.loop-line.invariant.front in
+    let line = c.in-Some.line in
+    let more = c.pop_front.new.self.items in
+    let all : c.args.lines.items ≡ front ++ line ∷ more = c.loop-line.invariant.split ∙ ap (λ zs. front ++ zs) c.in-Some.ensures.items in
+    rw all (on_err_known c.from_residual.result _
+    (first_orders_more front (line ∷ more) _ _ _ c.loop-line.invariant.orders (first_orders_before (line ∷ []) more _ _ c.in_err-run_line.ensures.first_orders)))
 
 pub returns-clause-whole : goal.returns-clause-whole
-returns-clause-whole g c = λ w stands.
-    let behaviour = g.A.Application.behaviour in
-    let run = c.loop-line.invariant.run w stands in
-    along_whole behaviour c.args.names.now c.loop-line.tee w (λ marks. events_of behaviour marks w c.args.lines.items) (λ marks x. events_of behaviour marks x c.loop-line.rest.items) _ _
-    run (λ marks. ap (events_of behaviour marks (world_after behaviour w run.made)) (none_left c.loop-line.rest.items (c.in_default.ensures.items ∙ c.in_default.ensures.rest)))
+returns-clause-whole g c =
+    let front = c.loop-line.invariant.front in
+    let none = none_left c.loop-line.rest.items (c.in_default.ensures.items ∙ c.in_default.ensures.rest) in
+    let all : c.args.lines.items ≡ front = c.loop-line.invariant.split ∙ ap (λ zs. front ++ zs) none ∙ append-nil front in
+    rw all c.loop-line.invariant.run
+
+pub returns-clause-orders : goal.returns-clause-orders
+returns-clause-orders g c =
+    let front = c.loop-line.invariant.front in
+    let none = none_left c.loop-line.rest.items (c.in_default.ensures.items ∙ c.in_default.ensures.rest) in
+    let all : c.args.lines.items ≡ front = c.loop-line.invariant.split ∙ ap (λ zs. front ++ zs) none ∙ append-nil front in
+    rw all c.loop-line.invariant.orders
+
+pub returns-in_err-run_line-clause-power : goal.returns-in_err-run_line-clause-power
+returns-in_err-run_line-clause-power g c =
+    let front = c.loop-line.invariant.front in
+    let line = c.in-Some.line in
+    let more = c.pop_front.new.self.items in
+    let all : c.args.lines.items ≡ front ++ line ∷ more = c.loop-line.invariant.split ∙ ap (λ zs. front ++ zs) c.in-Some.ensures.items in
+    let p = err_from_is_err_and c.from_residual.result c.from_residual.ensures.1 in
+    rw (p.1, p.2) (rw all (refused_weaker {X = Unit {0}} (Err c.in_err-run_line.field-0.0) _ _
+    (λ why part. power_more front (line ∷ more) (power_first (line ∷ []) more part)) c.in_err-run_line.ensures.power))

@@ -1,20 +1,28 @@
-use Rattle.std.proofs.Common.{◌≡◌, ◌≤◌, length}
-use Rattle.tee_core.specs.Represents.{app_count, Represents}
-use Rattle.tee_core.specs.World.{World}
+use Rattle.std.proofs.Common.{◌≡◌, ◌≤◌, List, ◌++◌, length}
 use Rattle.std.specs.List.{AllByRecursion}
+use Rattle.script.specs.declared.line.Line.{Line}
+use Rattle.tee_core.specs.Represents.{app_count, boots_of, volume_of, Represents}
+use Rattle.tee_core.specs.World.{World}
+use Rattle.tee_top.specs.Boards.{HasOrders, WritesLosses, orders_of}
+use Rattle.tee_top.specs.Parts.{IsRunOf, point}
 use Rattle.tee_top.specs.Runs.{IsKnown}
 use Rattle.tee_top.specs.Transcript.{events_of}
-use Rattle.tee_top.proofs.Along.{Along}
 use Rattle.tee_top.proofs.lines.run_lines.Given as goal
 
--- the events of the lines so far and those of the rest are all
+-- the first lines were run to their end, and the rest remain
 abbrev pub invariant-loop-line : goal.invariant-loop-line
 invariant-loop-line g l =
     let behaviour = g.A.Application.behaviour in
     record {
+      front : List Line;
+      split : l.fn.lines.items ≡ front ++ l.rest.items;
       run : (world : World g.row.A.Denot) → Represents l.fn.tee world
-          → Along behaviour l.names l.tee world (λ marks. events_of behaviour marks world l.fn.lines.items) (λ marks now. events_of behaviour marks now l.rest.items)
-          (g.W.Sink.written l.fn.sink) (g.W.Sink.written l.sink);
+          → IsRunOf behaviour g.V.BoardVolume.form l.names (λ weather. events_of behaviour weather world front) world (λ after. Represents l.tee after)
+          (point (boots_of l.fn.tee) (g.B.Board.view (g.V.BoardVolume.board_of (volume_of l.fn.tee))) (g.W.Sink.written l.fn.sink))
+          (point (boots_of l.tee) (g.B.Board.view (g.V.BoardVolume.board_of (volume_of l.tee))) (g.W.Sink.written l.sink));
+      orders : HasOrders (orders_of front) (g.B.Board.view (g.V.BoardVolume.board_of (volume_of l.fn.tee))) (g.B.Board.view (g.V.BoardVolume.board_of (volume_of l.tee)));
+      losses : WritesLosses (g.W.Sink.written l.fn.sink) (g.W.Sink.written l.sink)
+          (g.B.Board.view (g.V.BoardVolume.board_of (volume_of l.fn.tee))) (g.B.Board.view (g.V.BoardVolume.board_of (volume_of l.tee)));
       apps : app_count l.tee ≡ app_count l.fn.tee;
       known : AllByRecursion (IsKnown (app_count l.fn.tee)) l.rest.items;
       later : g.W.Sink.failures l.fn.sink ≤ g.W.Sink.failures l.sink;

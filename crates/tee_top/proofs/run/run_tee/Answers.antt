@@ -1,8 +1,8 @@
-use Rattle.std.proofs.Common.{Err, ap, subst}
-use Rattle.script.specs.declared.dialect.Dialect.TheVariants.{WithoutBoard}
+use Rattle.std.proofs.Common.{Err, ⊎_elim, ap, inl, inr, subst, sym}
+use Rattle.script.specs.declared.dialect.Dialect.TheVariants.{Whole}
 use Rattle.script.proofs.Places.{not_both}
-use Rattle.tee_top.specs.Runs.{IsBadAt, ReadsTo}
-use Rattle.tee_top.proofs.Ended.{bad_line_told, script_told, too_long_told, within_for}
+use Rattle.tee_top.specs.Runs.{IsBadAt, IsStopped, ReadsTo}
+use Rattle.tee_top.proofs.Ended.{bad_line_told, script_told, served_told, too_long_told, within_for}
 use Rattle.tee_top.proofs.run.run_tee.Goals as goal
 
 pub returns-in-Err-clause-bad_line : goal.returns-in-Err-clause-bad_line
@@ -22,7 +22,7 @@ returns-in-Err-clause-each_bad_line g c = λ text n readable bad.
     readable.told readable.within readable.unfailed bad
 
 pub returns-in-Err-clause-complete : goal.returns-in-Err-clause-complete
-returns-in-Err-clause-complete g c = λ text script readable unfailed good.
+returns-in-Err-clause-complete g c = λ text script stores readable written honest begins unfailed good.
     script_told c.args.hosts.items c.requires (g.S.Source.left c.args.source.now) (g.S.Source.failures c.args.source.now) (g.S.Source.failures c.read_lines.new.source) text c.in-Err.status script
     (record {
       few = c.in-Err.ensures.few;
@@ -35,7 +35,7 @@ returns-in-Err-clause-complete g c = λ text script readable unfailed good.
 pub returns-clause-each_bad_line : goal.returns-clause-each_bad_line
 returns-clause-each_bad_line g c = λ text n readable bad.
     let reads = subst (λ hosts. ReadsTo hosts (g.S.Source.left c.args.source.now) c.in-Ok.lines.items) c.as_slice.ensures.value c.in-Ok.ensures.read in
-    absurd (not_both WithoutBoard c.args.hosts.items text c.in-Ok.lines.items n c.requires (subst (λ left. ReadsTo c.args.hosts.items left c.in-Ok.lines.items) readable.told reads) bad)
+    absurd (not_both Whole c.args.hosts.items text c.in-Ok.lines.items n c.requires (subst (λ left. ReadsTo c.args.hosts.items left c.in-Ok.lines.items) readable.told reads) bad)
 
 pub returns-in-Err-clause-each_too_long : goal.returns-in-Err-clause-each_too_long
 returns-in-Err-clause-each_too_long g c = λ text much.
@@ -51,3 +51,17 @@ returns-in-Err-clause-each_too_long g c = λ text much.
 pub returns-clause-each_too_long : goal.returns-clause-each_too_long
 returns-clause-each_too_long g c = λ text much.
     absurd (within_for c.args.hosts.items c.requires (g.S.Source.left c.args.source.now) (g.S.Source.failures c.args.source.now) (g.S.Source.failures c.read_lines.new.source) text much.told much.beyond c.in-Ok.ensures.within)
+
+pub returns-clause-no_memory : goal.returns-clause-no_memory
+returns-clause-no_memory g c = λ same honest stores begins.
+    let reads = subst (λ hosts. ReadsTo hosts (g.S.Source.left c.args.source.now) c.in-Ok.lines.items) c.as_slice.ensures.value c.in-Ok.ensures.read in
+    inr (c.in-Ok.lines.items, reads, c.serve.ensures.stopped (subst IsStopped (sym same) tt) honest stores begins)
+
+pub returns-clause-board_fault : goal.returns-clause-board_fault
+returns-clause-board_fault g c = λ same honest stores begins.
+    let reads = subst (λ hosts. ReadsTo hosts (g.S.Source.left c.args.source.now) c.in-Ok.lines.items) c.as_slice.ensures.value c.in-Ok.ensures.read in
+    ⊎_elim (λ none. inl none) (λ front. inr (c.in-Ok.lines.items, reads, front)) (c.serve.ensures.board_fault same honest stores begins)
+
+pub returns-clause-complete : goal.returns-clause-complete
+returns-clause-complete g c = λ text script stores readable written honest begins unfailed good.
+    served_told c.serve.result.0 c.serve.ensures.few (λ same. written (c.serve.ensures.fault same)) (λ same. unfailed (c.serve.ensures.cause same)) (λ why same. c.serve.ensures.accepted why same honest stores begins)

@@ -1,50 +1,159 @@
-use Rattle.std.proofs.Common.{◌≡◌, ◌∙◌, Err, ap, subst, sym}
+use Rattle.std.proofs.Common.{◌≡◌, ◌<◌, ◌≤◌, ◌∙◌, ℕ, List, [], ◌∷◌, ◌++◌, Err, Ok, inl, inr, length, ap, refl, subst, sym, arith}
 use Rattle.std.specs.List.{AllByRecursion}
-use Rattle.store_api.specs.Stores.{empty_store}
+use Rattle.epoch.specs.Mounts.{IsKeptFromOpening, LeavesOpening}
+use Rattle.epoch.specs.declared.answer.OpenAnswer.TheVariants as answers
 use Rattle.script.specs.Grammar.{names_of}
-use Rattle.tee_core.specs.World.{world_of}
-use Rattle.tee_top.specs.Parts.{IsRunOf, StopsIn}
-use Rattle.tee_top.specs.Runs.{IsKnown}
+use Rattle.tee_core.specs.Represents.{Represents, boots_of, volume_of}
+use Rattle.tee_core.specs.World.{World, world_of}
+use Rattle.tee_top.specs.BoardLines.{AreFirstWords}
+use Rattle.tee_top.specs.Boards.{HasFirstOrders, HasOrders, LeavesStores, orders_of}
+use Rattle.tee_top.specs.Parts.{IsRefusedIn, IsRunOf, StopsIn, point}
+use Rattle.tee_top.specs.Runs.{IsKnown, IsStopped, refusal_of}
 use Rattle.tee_top.specs.Transcript.{events_of}
-use Rattle.tee_top.proofs.Whole.{all_written, front_written, nothing_written}
+use Rattle.tee_top.specs.declared.status.Status.TheVariants.{BoardFault, Done, StoreRefused}
+use Rattle.tee_top.proofs.Leaves.{stands_leaves}
+use Rattle.tee_top.proofs.Losses.{losses_both, losses_none}
+use Rattle.tee_top.proofs.Names.{hosts_begin}
+use Rattle.tee_top.proofs.Opened.{begin_leaves, first_orders_none, opening_leaves, orders_opened, run_behind, span_opened}
+use Rattle.tee_top.proofs.Parts.{all_orders_first, first_orders_more, orders_both}
+use Rattle.tee_top.proofs.Refusals.{refused_weaker}
+use Rattle.tee_top.proofs.Served.{ended, ended_done, ended_either, ended_fault, ended_refused, ended_stopped, refused_never}
+use Rattle.tee_top.proofs.Whole.{all_written, front_written, nothing_written, power_written}
+use Rattle.tee_top.proofs.run.serve.Given.{Over}
+use Rattle.tee_top.proofs.run.serve.Goals.{in-Ok-run_lines, in-Err-run_lines}
 use Rattle.tee_top.proofs.run.serve.Goals as goal
 
-pub returns-in_default-clause-stopped : goal.returns-in_default-clause-stopped
-returns-in_default-clause-stopped g c = λ other. nothing_written g.A.Application.behaviour c.args.hosts.items c.requires.fit c.args.seed c.args.lines.items (g.W.Sink.written c.args.sink.now)
+-- ---- no name was copied
 
-pub returns-in_default-new-clause-stopped : goal.returns-in_default-new-clause-stopped
-returns-in_default-new-clause-stopped g c = λ other. nothing_written g.A.Application.behaviour c.args.hosts.items c.requires.fit c.args.seed c.args.lines.items (g.W.Sink.written c.args.sink.now)
+pub returns-in_default-clause-stopped : goal.returns-in_default-clause-stopped
+returns-in_default-clause-stopped g c = λ stopped honest stores begins.
+    nothing_written g.A.Application.behaviour g.V.BoardVolume.form c.args.hosts.items c.requires.fit c.args.seed stores c.args.lines.items (g.B.Board.view c.args.board) (g.W.Sink.written c.args.sink.now)
+    (begin_leaves g.V.BoardVolume.form c.args.hosts.items c.args.seed stores (g.B.Board.view c.args.board) begins)
+
+-- ---- the board wasn't opened
+
+pub returns-in-Err-clause-stopped : goal.returns-in-Err-clause-stopped
+returns-in-Err-clause-stopped g c = λ stopped honest stores begins.
+    let kept = c.in-Err.ensures.unopened honest begins.counter begins.held begins.rests begins.size begins.sound.opens in
+    nothing_written g.A.Application.behaviour g.V.BoardVolume.form c.args.hosts.items c.requires.fit c.args.seed stores c.args.lines.items (g.B.Board.view c.in-Err.field-0.board) (g.W.Sink.written c.args.sink.now)
+    (opening_leaves g.V.BoardVolume.form c.args.hosts.items c.args.seed stores (g.B.Board.view c.args.board) begins (g.B.Board.view c.in-Err.field-0.board) c.in-Err.ensures.back.key kept.1)
+
+pub returns-in-Err-clause-board_fault : goal.returns-in-Err-clause-board_fault
+returns-in-Err-clause-board_fault g c = λ fault honest stores begins.
+    let kept = c.in-Err.ensures.unopened honest begins.counter begins.held begins.rests begins.size begins.sound.opens in
+    inl (
+      refl,
+      opening_leaves g.V.BoardVolume.form c.args.hosts.items c.args.seed stores (g.B.Board.view c.args.board) begins (g.B.Board.view c.in-Err.field-0.board) c.in-Err.ensures.back.key kept.1,
+    )
+
+pub returns-in-Err-clause-accepted : goal.returns-in-Err-clause-accepted
+returns-in-Err-clause-accepted g c = λ why same honest stores begins.
+    let kept = c.in-Err.ensures.unopened honest begins.counter begins.held begins.rests begins.size begins.sound.opens in
+    refused_never c.in-Err.field-0.why why kept.0 (sym c.refusal_status.ensures ∙ same)
+
+pub returns-in-Err-clause-first_orders : goal.returns-in-Err-clause-first_orders
+returns-in-Err-clause-first_orders g c = first_orders_none c.args.lines.items _ _ (orders_opened _ _ _ c.in-Err.ensures.back)
+
+-- ---- the lines were run
 
 pub run_lines-requires-clause-known : goal.run_lines-requires-clause-known
-run_lines-requires-clause-known g c = subst (λ n. AllByRecursion (IsKnown n) c.args.lines.items) (sym c.in-Ok-new.ensures.apps) c.requires.known
+run_lines-requires-clause-known g c = subst (λ n. AllByRecursion (IsKnown n) c.args.lines.items) (sym c.in-Ok-open.ensures.apps) c.requires.known
 
-pub returns-in-Ok-run_lines-clause-done : goal.returns-in-Ok-run_lines-clause-done
-returns-in-Ok-run_lines-clause-done g c = λ same.
-    let behaviour = g.A.Application.behaviour in
-    let world = world_of c.args.hosts.items c.args.seed (λ app. empty_store) in
-    let names : c.as_slice-2.result.now ≡ names_of c.args.hosts.items = c.as_slice-2.ensures.value ∙ c.in-Ok.ensures ∙ ap names_of c.as_slice.ensures.value in
-    all_written behaviour c.args.hosts.items c.requires.fit c.args.seed c.args.lines.items c.run_lines.new.tee _ _
-    (subst (λ ns. IsRunOf behaviour ns (λ marks. events_of behaviour marks world c.args.lines.items) world c.run_lines.new.tee
-    (g.W.Sink.written c.args.sink.now) (g.W.Sink.written c.run_lines.new.sink)) names
-    (c.in-Ok-run_lines.ensures.whole world c.in-Ok-new.ensures.world))
+pub run_lines-requires-clause-words : goal.run_lines-requires-clause-words
+run_lines-requires-clause-words g c =
+    subst AreFirstWords (sym (c.as_slice-2.ensures.value ∙ c.in-Ok.ensures ∙ ap names_of c.as_slice.ensures.value)) (hosts_begin c.args.hosts.items c.requires.fit)
 
-pub returns-in-Err-NoMemory-clause-stopped : goal.returns-in-Err-NoMemory-clause-stopped
-returns-in-Err-NoMemory-clause-stopped g c = λ other.
+-- how the run ends
+ends_as : (g : Over) (c : goal.After-drop-names-2 g) → c.match-run_lines.status ≡ ended c.run_lines.result
+ends_as g c =
+    elim c.match-run_lines.branch [ in-Ok-run_lines w ↦ w.status-is ∙ ap ended (sym w.in-Ok-run_lines.is) | in-Err-run_lines w ↦ w.status-is ∙ w.stop_status-status.ensures ∙ ap ended (sym w.in-Err-run_lines.is) ]
+
+same_names : (g : Over) (c : goal.After-drop-names-2 g) → c.as_slice-2.result.now ≡ names_of c.args.hosts.items
+same_names g c = c.as_slice-2.ensures.value ∙ c.in-Ok.ensures ∙ ap names_of c.as_slice.ensures.value
+
+pub returns-clause-done : goal.returns-clause-done
+returns-clause-done g c = λ done honest stores begins.
     let behaviour = g.A.Application.behaviour in
-    let world = world_of c.args.hosts.items c.args.seed (λ app. empty_store) in
-    let names : c.as_slice-2.result.now ≡ names_of c.args.hosts.items = c.as_slice-2.ensures.value ∙ c.in-Ok.ensures ∙ ap names_of c.as_slice.ensures.value in
-    front_written behaviour c.args.hosts.items c.requires.fit c.args.seed c.args.lines.items _ _
-    (subst (λ ns. StopsIn behaviour ns (λ marks. events_of behaviour marks world c.args.lines.items) world (g.W.Sink.written c.args.sink.now) (g.W.Sink.written c.run_lines.new.sink)) names
-    (c.in-Err-NoMemory.ensures.stopped world c.in-Ok-new.ensures.world))
+    let form = g.V.BoardVolume.form in
+    let world = world_of c.args.hosts.items c.args.seed stores in
+    let tee = c.in-Ok-open.tee in
+    let new = c.run_lines.new.tee in
+    let start = g.B.Board.view c.args.board in
+    let view = g.B.Board.view (g.V.BoardVolume.board_of (volume_of tee)) in
+    let left = g.B.Board.view (g.V.BoardVolume.board_of (volume_of new)) in
+    let before = point (boots_of tee) view (g.W.Sink.written c.args.sink.now) in
+    let after = point (boots_of new) left (g.W.Sink.written c.run_lines.new.sink) in
+    let stands = (c.in-Ok-open.ensures.world honest begins.counter begins.held stores begins.rests begins.size begins.sound).0 in
+    let run = ended_done c.run_lines.result _ (sym (ends_as g c) ∙ done) c.run_lines.ensures.whole world stands in
+    rw c.into_board.ensures
+    (all_written behaviour form c.args.hosts.items c.requires.fit c.args.seed stores c.args.lines.items (λ w. Represents new w) (point (boots_of tee) start (g.W.Sink.written c.args.sink.now)) after c.in-Ok-open.ensures.boots
+    (λ w is. stands_leaves g.V.Volume.keeper form new.sides.items new.volume left w (g.met.V.BoardVolume.seen new.volume) is)
+    (run_behind behaviour form (names_of c.args.hosts.items) (λ weather. events_of behaviour weather world c.args.lines.items) world (λ w. Represents new w) start before after (span_opened _ _ _ c.in-Ok-open.ensures.opened)
+    (subst (λ ns. IsRunOf behaviour form ns (λ weather. events_of behaviour weather world c.args.lines.items) world (λ w. Represents new w) before after) (same_names g c) run)))
 
 pub returns-clause-stopped : goal.returns-clause-stopped
-returns-clause-stopped g c = λ other.
+returns-clause-stopped g c = λ stopped honest stores begins.
     let behaviour = g.A.Application.behaviour in
-    let world = world_of c.args.hosts.items c.args.seed (λ app. empty_store) in
-    let names : c.as_slice-2.result.now ≡ names_of c.args.hosts.items = c.as_slice-2.ensures.value ∙ c.in-Ok.ensures ∙ ap names_of c.as_slice.ensures.value in
-    front_written behaviour c.args.hosts.items c.requires.fit c.args.seed c.args.lines.items _ _
-    (subst (λ ns. StopsIn behaviour ns (λ marks. events_of behaviour marks world c.args.lines.items) world (g.W.Sink.written c.args.sink.now) (g.W.Sink.written c.run_lines.new.sink)) names
-    (c.in-Err-WriteFault.ensures.stopped world c.in-Ok-new.ensures.world))
+    let form = g.V.BoardVolume.form in
+    let world = world_of c.args.hosts.items c.args.seed stores in
+    let tee = c.in-Ok-open.tee in
+    let new = c.run_lines.new.tee in
+    let view = g.B.Board.view (g.V.BoardVolume.board_of (volume_of tee)) in
+    let left = g.B.Board.view (g.V.BoardVolume.board_of (volume_of new)) in
+    let before = point (boots_of tee) view (g.W.Sink.written c.args.sink.now) in
+    let after = point (boots_of new) left (g.W.Sink.written c.run_lines.new.sink) in
+    let stands = (c.in-Ok-open.ensures.world honest begins.counter begins.held stores begins.rests begins.size begins.sound).0 in
+    let run = ended_stopped c.run_lines.result _ c.match-run_lines.status (ends_as g c) stopped c.run_lines.ensures.stopped (refused_weaker c.run_lines.result _ _ (λ why part. (part world stands).1) c.run_lines.ensures.refused) world stands in
+    rw c.into_board.ensures
+    (front_written behaviour form c.args.hosts.items c.requires.fit c.args.seed stores c.args.lines.items before after c.in-Ok-open.ensures.boots
+    (subst (λ ns. StopsIn behaviour form ns (λ weather. events_of behaviour weather world c.args.lines.items) world before after) (same_names g c) run))
 
-pub returns-clause-fault : goal.returns-clause-fault
-returns-clause-fault g c = λ same. c.run_lines.ensures.fault (c.in-Err-WriteFault.is ∙ ap Err c.in-Err-WriteFault.field-0-is)
+pub returns-clause-board_fault : goal.returns-clause-board_fault
+returns-clause-board_fault g c = λ fault honest stores begins.
+    let behaviour = g.A.Application.behaviour in
+    let form = g.V.BoardVolume.form in
+    let world = world_of c.args.hosts.items c.args.seed stores in
+    let tee = c.in-Ok-open.tee in
+    let new = c.run_lines.new.tee in
+    let view = g.B.Board.view (g.V.BoardVolume.board_of (volume_of tee)) in
+    let left = g.B.Board.view (g.V.BoardVolume.board_of (volume_of new)) in
+    let before = point (boots_of tee) view (g.W.Sink.written c.args.sink.now) in
+    let after = point (boots_of new) left (g.W.Sink.written c.run_lines.new.sink) in
+    let stands = (c.in-Ok-open.ensures.world honest begins.counter begins.held stores begins.rests begins.size begins.sound).0 in
+    let refused = (ended_fault c.run_lines.result _ (sym (ends_as g c) ∙ fault) c.run_lines.ensures.refused).1 world stands in
+    inr (rw c.into_board.ensures
+    (power_written behaviour form c.args.hosts.items c.requires.fit c.args.seed stores c.args.lines.items before after c.in-Ok-open.ensures.boots
+    (subst (λ ns. IsRefusedIn behaviour form ns c.args.lines.items world before after) (same_names g c) refused.0)))
+
+pub returns-clause-accepted : goal.returns-clause-accepted
+returns-clause-accepted g c = λ why same honest stores begins.
+    let world = world_of c.args.hosts.items c.args.seed stores in
+    let stands = (c.in-Ok-open.ensures.world honest begins.counter begins.held stores begins.rests begins.size begins.sound).0 in
+    let refused = ended_refused c.run_lines.result _ why (sym (ends_as g c) ∙ same) c.run_lines.ensures.refused in
+    refused_never refused.0 why (inl (refused.1 world stands).1) refused.2
+
+pub returns-clause-refused : goal.returns-clause-refused
+returns-clause-refused g c = λ why same honest.
+    inr (ended_refused c.run_lines.result _ why (sym (ends_as g c) ∙ same) c.run_lines.ensures.power).1
+
+pub returns-clause-orders : goal.returns-clause-orders
+returns-clause-orders g c = λ done.
+    rw c.into_board.ensures
+    (orders_both [] (orders_of c.args.lines.items) _ _ _ (orders_opened _ _ _ c.in-Ok-open.ensures.opened) (ended_done c.run_lines.result _ (sym (ends_as g c) ∙ done) c.run_lines.ensures.orders))
+
+pub returns-clause-first_orders : goal.returns-clause-first_orders
+returns-clause-first_orders g c =
+    let tee = c.in-Ok-open.tee in
+    let new = c.run_lines.new.tee in
+    let view = g.B.Board.view (g.V.BoardVolume.board_of (volume_of tee)) in
+    let left = g.B.Board.view (g.V.BoardVolume.board_of (volume_of new)) in
+    let first : HasFirstOrders c.args.lines.items view left =
+    ended_either c.run_lines.result (HasOrders (orders_of c.args.lines.items) view left) (HasFirstOrders c.args.lines.items view left) (HasFirstOrders c.args.lines.items view left)
+    (all_orders_first c.args.lines.items view left) (λ h. h) c.run_lines.ensures.orders c.run_lines.ensures.first_orders in
+    rw c.into_board.ensures (first_orders_more [] c.args.lines.items (g.B.Board.view c.args.board) view left (orders_opened _ _ _ c.in-Ok-open.ensures.opened) first)
+
+pub returns-clause-losses : goal.returns-clause-losses
+returns-clause-losses g c = λ done.
+    rw c.into_board.ensures
+    (losses_both _ _ _ _ _ _ (losses_none (g.W.Sink.written c.args.sink.now) _ _ c.in-Ok-open.ensures.opened.faults)
+    (ended_done c.run_lines.result _ (sym (ends_as g c) ∙ done) c.run_lines.ensures.losses))

@@ -1,0 +1,53 @@
+-- A loss of power of all applications, put together of its parts.
+use Rattle.app_api.specs.Behaviours.{Behaviour}
+use Rattle.std.proofs.Common.{◌≡◌, ◌≤◌, ℕ, Bool, true, false, List, Option, None, Some, Ok, sym, subst, ◌∙◌, ap}
+use Rattle.std.specs.Prelude.{IfNone, IfSome, nat_lt, slice_get}
+use Rattle.alone.specs.declared.power.Power.{Power}
+use Rattle.app_side.specs.Represents.{has_doubt}
+use Rattle.app_side.specs.declared.side.AppSide.{AppSide}
+use Rattle.epoch.specs.Mounts.{OpensAgain}
+use Rattle.store_api.specs.Volumes.{Held, RestsAt, VolumeKeeper}
+use Rattle.tee_core.specs.Powers.{IsTold, after_power, kept_by, kept_one, restarts_from, told_of}
+use Rattle.tee_core.specs.Represents.{HasDoubt, IsLeftOf, StandFor}
+use Rattle.tee_core.specs.Sides.{AreSides, IsNoneInDoubt}
+use Rattle.tee_core.specs.World.{World}
+use Rattle.tee_core.proofs.Powers.{doubt_at, stand_back, told_is}
+
+-- the one that says so has a change in doubt
+pub owner_doubt : {A : Type 0} (ss : List (AppSide A)) (world : World A) (o : Option ℕ) → AreSides ss world
+    → IfSome o (λ owner. (side : AppSide A) × (slice_get ss owner ≡ Some side) × (has_doubt side ≡ true)) → IfSome o (λ owner. HasDoubt owner world)
+owner_doubt ss world None are some = tt
+owner_doubt ss world (Some owner) are some = doubt_at ss world owner some.0 are some.1 some.2
+
+module _ {V A : Type 0} (K : VolumeKeeper V)
+    (rests : (v : V) → K.honest v → (K.condition v).lost ≡ false → RestsAt K v (K.held v))
+    (since : (v : V) (t u : ℕ) (o : Option Held) → t ≤ u → K.left_since v u o → K.left_since v t o)
+    (behaviour : Behaviour A) (sides : List (AppSide A)) (world : World A) (old new : V) (whole : StandFor K sides old world)
+    (owner : Option ℕ) (none : IfNone owner (IsNoneInDoubt sides))
+    (some : IfSome owner (λ o. (side : AppSide A) × (slice_get sides o ≡ Some side) × (has_doubt side ≡ true)))
+    (acknowledged opened : ℕ) (told : Power) (again : OpensAgain K (Ok opened) old new)
+    (was : acknowledged ≡ (K.held old).sequence) (is : (K.held new).sequence ≡ opened) (tells : told ≡ told_of owner (nat_lt acknowledged opened)) where
+  found : IsLeftOf world (K.held old).sequence (Some (K.held new))
+  found = whole.left (Some (K.held new)) again.opened
+
+  doubt : IfSome owner (λ o. HasDoubt o world)
+  doubt = owner_doubt sides world owner whole.sides_are some
+
+  same : nat_lt acknowledged opened ≡ nat_lt (K.held old).sequence (K.held new).sequence
+  same = ap (λ n. nat_lt n opened) was ∙ ap (λ n. nat_lt (K.held old).sequence n) (sym is)
+
+  tells_so : told ≡ told_of owner (nat_lt (K.held old).sequence (K.held new).sequence)
+  tells_so = tells ∙ ap (λ b. told_of owner b) same
+
+  -- the applications stand for the world after the power came back
+  pub power_stands : (taken : Option ℕ) (left : List (AppSide A)) → kept_one taken ≡ kept_by (told_of owner (nat_lt acknowledged opened)) → AreSides left (restarts_from behaviour (kept_one taken) 0 world)
+      → (K.condition new).lost ≡ false → StandFor K left new (after_power behaviour world told)
+  power_stands taken left takes are works =
+      subst (λ (x : Power). StandFor K left new (after_power behaviour world x)) (sym tells_so)
+      (stand_back K rests since behaviour sides world old new whole owner none doubt found left
+      (subst (λ (f : ℕ → Bool). AreSides left (restarts_from behaviour f 0 world)) (takes ∙ ap (λ b. kept_by (told_of owner b)) same) are) again.fresh works)
+
+  -- what is told of it
+  pub power_told : IsTold told world (K.held old).sequence (K.held new).sequence
+  power_told = subst (λ (x : Power). IsTold x world (K.held old).sequence (K.held new).sequence) (sym tells_so)
+      (told_is K rests since behaviour sides world old new whole owner none doubt found)

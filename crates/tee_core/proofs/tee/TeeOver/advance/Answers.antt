@@ -1,0 +1,132 @@
+use Rattle.std.proofs.Common.{set, refl, ap, ◌∙◌, arith}
+use Rattle.app_side.specs.Represents.{is_lost}
+use Rattle.app_side.specs.declared.side.AppSide.{AppSide as Side}
+use Rattle.tee_core.proofs.Advancing.{change_all, may_all, moved_lost, moved_plain, replies_all, served_lost, served_plain, sound_all, within_all}
+use Rattle.tee_core.proofs.Counts.{booted_kept, mapped_length, set_length, turns_apart, turns_one}
+use Rattle.tee_core.proofs.SideLemmas.{lost_at}
+use Rattle.tee_core.proofs.Turning.{counts_kept}
+use Rattle.tee_core.proofs.tee.TeeOver.advance.Goals as goal
+
+pub turn_over-kind-requires-clause-loss : goal.turn_over-kind-requires-clause-loss
+turn_over-kind-requires-clause-loss g c =
+    let items = c.args.self.now.sides.items in
+    ap (λ (s : Side g.row.A.Denot). is_lost s) c.index_mut.ensures.value ∙ lost_at (g.V.Volume.keeper.condition c.args.self.now.volume).lost items c.args.app _ c.args.self.now.served c.requires.known
+
+-- ---- the storage is lost
+
+pub invariant_of-self-clause-few : goal.invariant_of-self-clause-few
+invariant_of-self-clause-few g c =
+    let items = c.args.self.now.sides.items in
+    omega (arith, c.args.self.now.few, mapped_length c.lose_all.new.sides.items (set items c.args.app c.turn_over-kind.new.side) c.lose_all.ensures.turns, set_length items c.args.app c.turn_over-kind.new.side)
+
+pub invariant_of-self-clause-served : goal.invariant_of-self-clause-served
+invariant_of-self-clause-served g c =
+    let items = c.args.self.now.sides.items in
+    served_lost g.V.Volume.keeper g.met.V.Volume.rests g.met.V.Volume.since_earlier g.A.Application.behaviour items c.args.app c.args.instance c.turn_over-kind.result c.turn_over-kind.new.replies c.index_mut.result.now _ c.turn_over-kind.new.side c.args.self.now.volume c.turn_over-kind.new.volume c.requires.known c.index_mut.ensures.value c.turn_over-kind.ensures.turn c.in-Lost.change c.in-Lost.is c.lose_all.new.sides.items c.lose_all.ensures.lost
+
+pub invariant_of-self-clause-booted : goal.invariant_of-self-clause-booted
+invariant_of-self-clause-booted g c =
+    let items = c.args.self.now.sides.items in
+    c.lose_all.ensures.boots c.args.self.now.boots (booted_kept c.args.self.now.boots items c.args.app c.index_mut.result.now _ c.turn_over-kind.new.side c.args.self.now.booted c.requires.known c.index_mut.ensures.value c.turn_over-kind.ensures.boot)
+
+pub returns-in-Lost-clause-world : goal.returns-in-Lost-clause-world
+returns-in-Lost-clause-world g c =
+    let items = c.args.self.now.sides.items in
+    moved_lost g.V.Volume.keeper g.met.V.Volume.rests g.met.V.Volume.since_earlier g.A.Application.behaviour items c.args.app c.args.instance c.turn_over-kind.result c.turn_over-kind.new.replies c.index_mut.result.now _ c.turn_over-kind.new.side c.args.self.now.volume c.turn_over-kind.new.volume c.requires.known c.index_mut.ensures.value c.turn_over-kind.ensures.turn c.in-Lost.change c.in-Lost.is c.lose_all.new.sides.items c.lose_all.ensures.sides
+
+pub returns-in-Lost-clause-stands : goal.returns-in-Lost-clause-stands
+returns-in-Lost-clause-stands g c =
+    let items = c.args.self.now.sides.items in
+    may_all g.V.Volume.keeper g.met.V.Volume.rests g.met.V.Volume.since_earlier g.A.Application.behaviour items c.args.app c.args.instance c.turn_over-kind.result c.turn_over-kind.new.replies c.index_mut.result.now _ c.turn_over-kind.new.side c.args.self.now.volume c.turn_over-kind.new.volume c.requires.known c.index_mut.ensures.value c.turn_over-kind.ensures.turn
+
+pub returns-in-Lost-clause-sound : goal.returns-in-Lost-clause-sound
+returns-in-Lost-clause-sound g c =
+    let items = c.args.self.now.sides.items in
+    sound_all g.V.Volume.keeper g.met.V.Volume.rests g.met.V.Volume.since_earlier g.A.Application.behaviour items c.args.app c.args.instance c.turn_over-kind.result c.turn_over-kind.new.replies c.index_mut.result.now _ c.turn_over-kind.new.side c.args.self.now.volume c.turn_over-kind.new.volume c.requires.known c.index_mut.ensures.value c.turn_over-kind.ensures.turn
+
+pub returns-in-Lost-clause-change : goal.returns-in-Lost-clause-change
+returns-in-Lost-clause-change g c =
+    let items = c.args.self.now.sides.items in
+    change_all g.V.Volume.keeper g.met.V.Volume.rests g.met.V.Volume.since_earlier g.A.Application.behaviour items c.args.app c.args.instance c.turn_over-kind.result c.turn_over-kind.new.replies c.index_mut.result.now _ c.turn_over-kind.new.side c.args.self.now.volume c.turn_over-kind.new.volume c.requires.known c.index_mut.ensures.value c.turn_over-kind.ensures.turn
+
+pub returns-in-Lost-clause-moments : goal.returns-in-Lost-clause-moments
+returns-in-Lost-clause-moments g c =
+    let items = c.args.self.now.sides.items in
+    within_all g.V.Volume.keeper g.met.V.Volume.rests g.met.V.Volume.since_earlier g.A.Application.behaviour items c.args.app c.args.instance c.turn_over-kind.result c.turn_over-kind.new.replies c.index_mut.result.now _ c.turn_over-kind.new.side c.args.self.now.volume c.turn_over-kind.new.volume c.requires.known c.index_mut.ensures.value c.turn_over-kind.ensures.turn
+
+pub returns-in-Lost-clause-counts : goal.returns-in-Lost-clause-counts
+returns-in-Lost-clause-counts g c =
+    let items = c.args.self.now.sides.items in
+    counts_kept g.V.Volume.keeper g.A.Application.behaviour c.args.app c.args.instance c.turn_over-kind.result c.turn_over-kind.new.replies c.index_mut.result.now c.turn_over-kind.new.side c.args.self.now.volume c.turn_over-kind.new.volume c.turn_over-kind.ensures.turn
+
+pub returns-in-Lost-clause-turns : goal.returns-in-Lost-clause-turns
+returns-in-Lost-clause-turns g c =
+    let items = c.args.self.now.sides.items in
+    turns_one items c.lose_all.new.sides.items c.args.app c.index_mut.result.now _ c.turn_over-kind.new.side c.requires.known c.index_mut.ensures.value c.turn_over-kind.ensures.turns c.lose_all.ensures.turns
+
+pub returns-in-Lost-clause-others : goal.returns-in-Lost-clause-others
+returns-in-Lost-clause-others g c =
+    let items = c.args.self.now.sides.items in
+    λ other apart. turns_apart items c.lose_all.new.sides.items c.args.app other c.turn_over-kind.new.side apart c.lose_all.ensures.turns
+
+pub returns-in-Lost-clause-replies : goal.returns-in-Lost-clause-replies
+returns-in-Lost-clause-replies g c =
+    let items = c.args.self.now.sides.items in
+    replies_all g.V.Volume.keeper g.met.V.Volume.rests g.met.V.Volume.since_earlier g.A.Application.behaviour items c.args.app c.args.instance c.turn_over-kind.result c.turn_over-kind.new.replies c.index_mut.result.now _ c.turn_over-kind.new.side c.args.self.now.volume c.turn_over-kind.new.volume c.requires.known c.index_mut.ensures.value c.turn_over-kind.ensures.turn
+
+-- ---- it isn't
+
+pub invariant_of-self-in_default-clause-served : goal.invariant_of-self-in_default-clause-served
+invariant_of-self-in_default-clause-served g c =
+    let items = c.args.self.now.sides.items in
+    served_plain g.V.Volume.keeper g.met.V.Volume.rests g.met.V.Volume.since_earlier g.A.Application.behaviour items c.args.app c.args.instance c.turn_over-kind.result c.turn_over-kind.new.replies c.index_mut.result.now _ c.turn_over-kind.new.side c.args.self.now.volume c.turn_over-kind.new.volume c.requires.known c.index_mut.ensures.value c.turn_over-kind.ensures.turn c.in_default.not-Lost c.args.self.now.served
+
+pub invariant_of-self-in_default-clause-booted : goal.invariant_of-self-in_default-clause-booted
+invariant_of-self-in_default-clause-booted g c =
+    let items = c.args.self.now.sides.items in
+    booted_kept c.args.self.now.boots items c.args.app c.index_mut.result.now _ c.turn_over-kind.new.side c.args.self.now.booted c.requires.known c.index_mut.ensures.value c.turn_over-kind.ensures.boot
+
+pub returns-in_default-clause-world : goal.returns-in_default-clause-world
+returns-in_default-clause-world g c =
+    let items = c.args.self.now.sides.items in
+    moved_plain g.V.Volume.keeper g.met.V.Volume.rests g.met.V.Volume.since_earlier g.A.Application.behaviour items c.args.app c.args.instance c.turn_over-kind.result c.turn_over-kind.new.replies c.index_mut.result.now _ c.turn_over-kind.new.side c.args.self.now.volume c.turn_over-kind.new.volume c.requires.known c.index_mut.ensures.value c.turn_over-kind.ensures.turn c.in_default.not-Lost
+
+pub returns-in_default-clause-stands : goal.returns-in_default-clause-stands
+returns-in_default-clause-stands g c =
+    let items = c.args.self.now.sides.items in
+    may_all g.V.Volume.keeper g.met.V.Volume.rests g.met.V.Volume.since_earlier g.A.Application.behaviour items c.args.app c.args.instance c.turn_over-kind.result c.turn_over-kind.new.replies c.index_mut.result.now _ c.turn_over-kind.new.side c.args.self.now.volume c.turn_over-kind.new.volume c.requires.known c.index_mut.ensures.value c.turn_over-kind.ensures.turn
+
+pub returns-in_default-clause-sound : goal.returns-in_default-clause-sound
+returns-in_default-clause-sound g c =
+    let items = c.args.self.now.sides.items in
+    sound_all g.V.Volume.keeper g.met.V.Volume.rests g.met.V.Volume.since_earlier g.A.Application.behaviour items c.args.app c.args.instance c.turn_over-kind.result c.turn_over-kind.new.replies c.index_mut.result.now _ c.turn_over-kind.new.side c.args.self.now.volume c.turn_over-kind.new.volume c.requires.known c.index_mut.ensures.value c.turn_over-kind.ensures.turn
+
+pub returns-in_default-clause-change : goal.returns-in_default-clause-change
+returns-in_default-clause-change g c =
+    let items = c.args.self.now.sides.items in
+    change_all g.V.Volume.keeper g.met.V.Volume.rests g.met.V.Volume.since_earlier g.A.Application.behaviour items c.args.app c.args.instance c.turn_over-kind.result c.turn_over-kind.new.replies c.index_mut.result.now _ c.turn_over-kind.new.side c.args.self.now.volume c.turn_over-kind.new.volume c.requires.known c.index_mut.ensures.value c.turn_over-kind.ensures.turn
+
+pub returns-in_default-clause-moments : goal.returns-in_default-clause-moments
+returns-in_default-clause-moments g c =
+    let items = c.args.self.now.sides.items in
+    within_all g.V.Volume.keeper g.met.V.Volume.rests g.met.V.Volume.since_earlier g.A.Application.behaviour items c.args.app c.args.instance c.turn_over-kind.result c.turn_over-kind.new.replies c.index_mut.result.now _ c.turn_over-kind.new.side c.args.self.now.volume c.turn_over-kind.new.volume c.requires.known c.index_mut.ensures.value c.turn_over-kind.ensures.turn
+
+pub returns-in_default-clause-counts : goal.returns-in_default-clause-counts
+returns-in_default-clause-counts g c =
+    let items = c.args.self.now.sides.items in
+    counts_kept g.V.Volume.keeper g.A.Application.behaviour c.args.app c.args.instance c.turn_over-kind.result c.turn_over-kind.new.replies c.index_mut.result.now c.turn_over-kind.new.side c.args.self.now.volume c.turn_over-kind.new.volume c.turn_over-kind.ensures.turn
+
+pub returns-in_default-clause-turns : goal.returns-in_default-clause-turns
+returns-in_default-clause-turns g c =
+    let items = c.args.self.now.sides.items in
+    turns_one items (set items c.args.app c.turn_over-kind.new.side) c.args.app c.index_mut.result.now _ c.turn_over-kind.new.side c.requires.known c.index_mut.ensures.value c.turn_over-kind.ensures.turns refl
+
+pub returns-in_default-clause-others : goal.returns-in_default-clause-others
+returns-in_default-clause-others g c =
+    let items = c.args.self.now.sides.items in
+    λ other apart. turns_apart items (set items c.args.app c.turn_over-kind.new.side) c.args.app other c.turn_over-kind.new.side apart refl
+
+pub returns-in_default-clause-replies : goal.returns-in_default-clause-replies
+returns-in_default-clause-replies g c =
+    let items = c.args.self.now.sides.items in
+    replies_all g.V.Volume.keeper g.met.V.Volume.rests g.met.V.Volume.since_earlier g.A.Application.behaviour items c.args.app c.args.instance c.turn_over-kind.result c.turn_over-kind.new.replies c.index_mut.result.now _ c.turn_over-kind.new.side c.args.self.now.volume c.turn_over-kind.new.volume c.requires.known c.index_mut.ensures.value c.turn_over-kind.ensures.turn

@@ -1,0 +1,261 @@
+//! The board beside the applications: opening, a fuse, a loss of power, and the board handed back.
+
+ghost use Rattle.std.specs.Prelude.{◌≡◌, ◌≤◌, ◌<◌, ◌+◌, ◌-◌, ◌^◌, ℕ, Err, IfErr, IfOk, IsTrue, OnErr, OnOk, Some, false, length};
+ghost use Rattle.app_api.specs.Hosts.{HostsFit};
+ghost use Rattle.tee_base.specs.Crash.{LeavesOnly};
+ghost use Rattle.tee_base.specs.Faults.{Rose};
+ghost use Rattle.tee_base.specs.declared.limits.TheConstants.{BOARD_BLOCKS, HOSTS};
+ghost use Rattle.store_api.specs.Stores.{Store};
+ghost use Rattle.store_api.specs.Volumes.{Held};
+ghost use Rattle.board.specs.Moment.{IsCounter, IsLeft, Outcome};
+ghost use Rattle.board.specs.Runs.{Rests};
+ghost use Rattle.epoch.specs.Forms.{held};
+ghost use Rattle.epoch.specs.Mounts.{IsKeptFromOpening, IsRefusal, LeavesOpening, OrderRun, after_opening};
+ghost use Rattle.epoch.specs.declared.answer.OpenAnswer.TheVariants as answers;
+ghost use Rattle.tee_core.specs.Moments.{IsWithin};
+ghost use Rattle.tee_core.specs.Opening.{IsOpenedOver, IsSoundFor};
+ghost use Rattle.tee_core.specs.Powers.{IsTold, after_power, all_lost, kept_by, kept_one, told_of};
+ghost use Rattle.tee_core.specs.Represents.{app_count, boots_of, turns_made, volume_of, Represents};
+ghost use Rattle.tee_core.specs.Sides.{AreBooted, AreLost, AreSides};
+ghost use Rattle.tee_core.specs.World.{World, world_of};
+
+use crate::sides::{lose_all, owner_of_doubt, restart_all};
+use crate::tee::TeeOver;
+use alone::Power;
+use app_api::{Application, Host};
+use app_side::AppSide;
+use board::Board;
+use epoch::{BoardVolume, OpenAnswer, Unopened};
+use std::alloc::Global;
+use std::collections::VecDeque;
+use std::marker::PhantomData;
+use tee_base::NoMemory;
+
+/// The hosts' applications, none of which has run anything yet.
+fn start_all<A: Application>(
+    alloc: Global,
+    hosts: Vec<Host<A>>,
+    seed: [u8; 32],
+) -> Result<Vec<AppSide<A>>, NoMemory>
+    requires { length hosts.items ≤ HOSTS }
+    ensures world { IfOk result (λ sides. (stores : ℕ → Store)
+        → AreSides sides.items (world_of hosts.items seed stores)) }
+    ensures lost { IfOk result (λ sides. AreLost false sides.items) }
+    ensures booted { IfOk result (λ sides. AreBooted 0 sides.items) }
+    ensures count { IfOk result (λ sides. length sides.items ≡ length hosts.items) }
+{
+    let mut rest = VecDeque::from(hosts);
+    let mut sides = Vec::new(alloc);
+    while let Some(host) = rest.pop_front() {
+        let index = sides.len() as u8;
+        sides.push(AppSide::new(alloc, host, index, seed)?)?;
+    }
+    Ok(sides)
+}
+
+/// What became of the change in doubt.
+fn power_of(owner: Option<u8>, kept: bool) -> Power
+    ensures { result ≡ told_of owner kept }
+{
+    match owner {
+        None => Power::Clean,
+        Some(owner) => {
+            if kept {
+                Power::Kept(owner)
+            } else {
+                Power::Absent(owner)
+            }
+        }
+    }
+}
+
+/// The application whose change in doubt is kept.
+fn owner_kept(owner: Option<u8>, kept: bool) -> Option<u8>
+    ensures { kept_one result ≡ kept_by (told_of owner kept) }
+{
+    match owner {
+        None => None,
+        Some(owner) => { if kept { Some(owner) } else { None } }
+    }
+}
+
+impl<B: Board, V: BoardVolume<B>, A: Application> TeeOver<B, V, A> {
+    /// Applications that have run nothing, over the objects of a board; one that is blank is formatted.
+    ///
+    /// # Errors
+    ///
+    /// As the opening of the volume, and `NoMemory`. The board is handed back, and the hosts are dropped.
+    pub fn open(
+        alloc: Global,
+        board: B,
+        hosts: Vec<Host<A>>,
+        seed: [u8; 32],
+    ) -> Result<TeeOver<B, V, A>, Unopened<B>>
+        requires { HostsFit hosts.items }
+        // over a board at rest with a sound image it begins with the stores of the image
+        ensures world { B.honest board → (n : ℕ) (h : Held) (stores : ℕ → Store)
+            → Rests n (B.view board).state → BOARD_BLOCKS ≤ (B.view board).size
+            → IsSoundFor V.form (B.view board) n h (length hosts.items) stores
+            → IfOk result (λ tee. Represents tee (world_of hosts.items seed stores)
+            × LeavesOpening V.form h (B.view board) (B.view (V.board_of (volume_of tee)))) }
+        ensures opened { IfOk result (λ tee.
+            IsOpenedOver (B.view board) (B.view (V.board_of (volume_of tee)))) }
+        ensures apps { IfOk result (λ tee. app_count tee ≡ length hosts.items) }
+        ensures turns { IfOk result (λ tee. (app : ℕ) → turns_made tee app ≡ 0) }
+        ensures boots { IfOk result (λ tee. boots_of tee ≡ 0) }
+        // a refusal hands the board back, as its calls left it
+        ensures back { IfErr result (λ u. IsOpenedOver (B.view board) (B.view u.board)) }
+        ensures honest_back { B.honest board → IfErr result (λ u. B.honest u.board) }
+        ensures cause { IfErr result (λ u. u.why ≡ answers.Failed
+            → Rose (B.view board).state.faults (B.view u.board).state.faults) }
+        // whatever the board: refused by the rule over what it tells, at some counter
+        ensures rule { IsTrue B.tells_reads → (counter : ℕ)
+            × IfErr result (λ u. IsRefusal V.form (B.view board)
+            (B.view board).state.reads counter u.why) }
+        ensures exact { B.honest board → (counter : ℕ) × IsCounter (B.view board).state counter
+            × IfErr result (λ u. IsRefusal V.form (B.view board)
+            (B.view board).state.reads counter u.why) }
+        ensures unopened { B.honest board → (n : ℕ) (h : Held) → Rests n (B.view board).state
+            → BOARD_BLOCKS ≤ (B.view board).size
+            → held V.form (B.view board).key (B.view board).state.reads n ≡ Some h
+            → IfErr result (λ u. IsKeptFromOpening u.why
+            × LeavesOpening V.form h (B.view board) (B.view u.board)) }
+    {
+        match start_all(alloc, hosts, seed) {
+            Ok(sides) => Self::open_over(alloc, board, sides),
+            Err(NoMemory) => Err(Unopened {
+                board,
+                why: OpenAnswer::NoMemory,
+            }),
+        }
+    }
+
+    /// These applications, which have run nothing, over the objects of a board.
+    fn open_over(
+        alloc: Global,
+        board: B,
+        sides: Vec<AppSide<A>>,
+    ) -> Result<TeeOver<B, V, A>, Unopened<B>>
+        requires few { length sides.items ≤ HOSTS }
+        requires lost { AreLost false sides.items }
+        requires booted { AreBooted 0 sides.items }
+        ensures volume { B.honest board → (n : ℕ) (h : Held) → Rests n (B.view board).state
+            → BOARD_BLOCKS ≤ (B.view board).size
+            → held V.form (B.view board).key (B.view board).state.reads n ≡ Some h
+            → IfOk result (λ tee. V.keeper.honest (volume_of tee)
+            × (V.keeper.held (volume_of tee) ≡ after_opening V.form (B.view board) h)
+            × LeavesOpening V.form h (B.view board) (B.view (V.board_of (volume_of tee)))) }
+        ensures works { IfOk result (λ tee. (V.keeper.condition (volume_of tee)).lost ≡ false) }
+        ensures opened { IfOk result (λ tee.
+            IsOpenedOver (B.view board) (B.view (V.board_of (volume_of tee)))) }
+        ensures sides { IfOk result (λ tee. tee.sides.items ≡ sides.items) }
+        ensures boots { IfOk result (λ tee. boots_of tee ≡ 0) }
+        // a refusal hands the board back, as its calls left it
+        ensures back { IfErr result (λ u. IsOpenedOver (B.view board) (B.view u.board)) }
+        ensures honest_back { B.honest board → IfErr result (λ u. B.honest u.board) }
+        ensures cause { IfErr result (λ u. u.why ≡ answers.Failed
+            → Rose (B.view board).state.faults (B.view u.board).state.faults) }
+        // whatever the board: refused by the rule over what it tells, at some counter
+        ensures rule { IsTrue B.tells_reads → (counter : ℕ)
+            × IfErr result (λ u. IsRefusal V.form (B.view board)
+            (B.view board).state.reads counter u.why) }
+        ensures exact { B.honest board → (counter : ℕ) × IsCounter (B.view board).state counter
+            × IfErr result (λ u. IsRefusal V.form (B.view board)
+            (B.view board).state.reads counter u.why) }
+        ensures unopened { B.honest board → (n : ℕ) (h : Held) → Rests n (B.view board).state
+            → BOARD_BLOCKS ≤ (B.view board).size
+            → held V.form (B.view board).key (B.view board).state.reads n ≡ Some h
+            → IfErr result (λ u. IsKeptFromOpening u.why
+            × LeavesOpening V.form h (B.view board) (B.view u.board)) }
+    {
+        let volume = V::open(alloc, board)?;
+        Ok(TeeOver {
+            alloc,
+            volume,
+            sides,
+            boots: 0,
+            board: PhantomData,
+        })
+    }
+
+    /// Lets so many calls of the board pass, as the board's `fuse` does.
+    pub fn fuse(&mut self, calls: u32)
+        ensures order { OrderRun calls (B.view (V.board_of (volume_of self.old)))
+            (B.view (V.board_of (volume_of self.new))) }
+        ensures world { (world : World A) → Represents self.old world
+            → Represents self.new world }
+        ensures moments { (world : World A) → Represents self.old world
+            → IsWithin V.keeper world world (volume_of self.old) (volume_of self.new) }
+        ensures apps { app_count self.new ≡ app_count self.old }
+        ensures turns { (app : ℕ) → turns_made self.new app ≡ turns_made self.old app }
+        ensures boots { boots_of self.new ≡ boots_of self.old }
+    {
+        self.volume.fuse(calls);
+    }
+
+    /// A loss of power: the applications begin anew over what the board kept. It says of a change in doubt whether it is
+    /// kept, which is so exactly where the sequence that was opened is greater than the last acknowledged one.
+    ///
+    /// # Errors
+    ///
+    /// The volume isn't opened again: every application is lost, and is otherwise as before.
+    pub fn power(&mut self, pick: u64) -> Result<Power, OpenAnswer>
+        requires { boots_of self.old < 2 ^ 32 - 1 }
+        ensures order { OrderRun pick (B.view (V.board_of (volume_of self.old)))
+            (B.view (V.board_of (volume_of self.new))) }
+        ensures world { IfOk result (λ told. (world : World A) → Represents self.old world
+            → Represents self.new (after_power A.behaviour world told)) }
+        ensures told { IfOk result (λ told. (world : World A) → Represents self.old world
+            → IsTold told world (V.keeper.held (volume_of self.old)).sequence
+            (V.keeper.held (volume_of self.new)).sequence) }
+        ensures moments { (world : World A) → Represents self.old world
+            → IsWithin V.keeper world world (volume_of self.old) (volume_of self.new) }
+        // on an honest board with a sound image it is refused only where a call of the board failed
+        ensures failed { IfErr result (λ why. (world : World A) → Represents self.old world
+            → why ≡ answers.Failed) }
+        ensures refused { OnErr result ((world : World A) → Represents self.old world
+            → Represents self.new (all_lost world)) }
+        ensures exact { B.honest (V.board_of (volume_of self.old)) → (c : Outcome)
+            × IsLeft (B.view (V.board_of (volume_of self.old))).state c
+            × IfErr result (λ why. IsRefusal V.form (B.view (V.board_of (volume_of self.old)))
+            c.image c.counter why) }
+        ensures cause { IfErr result (λ why. why ≡ answers.Failed
+            → Rose (B.view (V.board_of (volume_of self.old))).state.faults
+            (B.view (V.board_of (volume_of self.new))).state.faults) }
+        ensures apps { app_count self.new ≡ app_count self.old }
+        ensures turns { (app : ℕ) → turns_made self.new app ≡ turns_made self.old app }
+        ensures boots { OnOk result (boots_of self.new ≡ boots_of self.old + 1) }
+        ensures same_boots { OnErr result (boots_of self.new ≡ boots_of self.old) }
+    {
+        let acknowledged = self.volume.sequence();
+        let owner = owner_of_doubt(self.sides.as_slice());
+        match self.volume.power(pick) {
+            Ok(opened) => {
+                let kept = acknowledged < opened;
+                let taken = owner_kept(owner, kept);
+                restart_all(&mut self.sides, taken, self.boots);
+                self.boots += 1;
+                Ok(power_of(owner, kept))
+            }
+            Err(why) => {
+                lose_all(&mut self.sides);
+                Err(why)
+            }
+        }
+    }
+
+    /// How often the power was lost.
+    pub fn boots(&self) -> u32
+        ensures { result ≡ boots_of self.now }
+    {
+        self.boots
+    }
+
+    /// The board.
+    pub fn into_board(self) -> B
+        ensures { result ≡ V.board_of (volume_of self) }
+    {
+        let TeeOver { volume, .. } = self;
+        volume.into_board()
+    }
+}

@@ -1,0 +1,115 @@
+//! Applications side by side: turns over their regions, losses and restarts of all of them.
+
+ghost use Rattle.std.specs.Prelude.{◌≡◌, ◌≤◌, ◌<◌, ◌+◌, ◌-◌, ◌^◌, ℕ, [], false, true, IfNone, IfSome, length, map, slice_get, Some};
+ghost use Rattle.std.specs.List.{position};
+ghost use Rattle.tee_base.specs.declared.limits.TheConstants.{HOSTS};
+ghost use Rattle.alone.specs.Machine.{Machine};
+ghost use Rattle.alone.specs.Step.{step, Lost};
+ghost use Rattle.app_side.specs.Represents.{boot_of, has_doubt, is_lost, turns_of, Represents};
+ghost use Rattle.app_side.specs.declared.side.AppSide.{AppSide as Side};
+ghost use Rattle.tee_core.specs.Powers.{all_lost, kept_one, restarts_from};
+ghost use Rattle.tee_core.specs.Sides.{AreBooted, AreLost, AreSides, IsNoneInDoubt};
+ghost use Rattle.tee_core.specs.Turning.{TurnsOver};
+ghost use Rattle.tee_core.specs.World.{World};
+
+use alone::{Replies, TurnKind};
+use app_api::Application;
+use app_side::AppSide;
+use object_dir::ObjectDir;
+use std::alloc::Global;
+use store_api::Volume;
+
+/// A turn of an instance, over the region of its application.
+pub(crate) fn turn_over<V: Volume, A: Application>(
+    alloc: Global,
+    side: &mut AppSide<A>,
+    volume: &mut V,
+    region: u8,
+    instance: u8,
+    replies: &mut Replies,
+) -> TurnKind
+    requires few { turns_of side.old < 2 ^ 63 }
+    requires region { region < HOSTS }
+    requires loss { is_lost side.old ≡ (V.keeper.condition volume.old).lost }
+    requires none { replies.old ≡ [] }
+    ensures turn { TurnsOver V.keeper A.behaviour region instance result replies.new
+        side.old side.new volume.old volume.new }
+    ensures turns { turns_of side.new ≡ turns_of side.old + 1 }
+    ensures boot { boot_of side.new ≡ boot_of side.old }
+{
+    let mut dir = ObjectDir::of(alloc, volume, region);
+    let kind = side.turn_into(instance, &mut dir, replies);
+    let _volume = dir.into_volume();
+    kind
+}
+
+/// The storage of all of them is lost.
+pub(crate) fn lose_all<A: Application>(sides: &mut Vec<AppSide<A>>)
+    ensures sides { (world : World A) → AreSides sides.old.items world
+        → AreSides sides.new.items (all_lost world) }
+    ensures lost { AreLost true sides.new.items }
+    ensures turns { map (λ s. turns_of s) sides.new.items ≡ map (λ s. turns_of s) sides.old.items }
+    ensures boots { (boots : ℕ) → AreBooted boots sides.old.items
+        → AreBooted boots sides.new.items }
+{
+    for index in 0..sides.len() {
+        lose_one(&mut sides[index]);
+    }
+}
+
+/// The storage of one of them is lost, unless it is lost already.
+fn lose_one<A: Application>(side: &mut AppSide<A>)
+    ensures step { (m : Machine A) → Represents side.old m
+        → Represents side.new (step A.behaviour m Lost).machine }
+    ensures lost { is_lost side.new ≡ true }
+{
+    if side.is_lost() {
+        return;
+    }
+    side.lose();
+}
+
+/// The power of all of them came back, of which one may keep its change in doubt.
+pub(crate) fn restart_all<A: Application>(sides: &mut Vec<AppSide<A>>, kept: Option<u8>, boots: u32)
+    requires few { length sides.old.items ≤ HOSTS }
+    requires booted { AreBooted boots sides.old.items }
+    requires room { boots < 2 ^ 32 - 1 }
+    ensures sides { (world : World A) → AreSides sides.old.items world
+        → AreSides sides.new.items (restarts_from A.behaviour (kept_one kept) 0 world) }
+    ensures lost { AreLost false sides.new.items }
+    ensures turns { map (λ s. turns_of s) sides.new.items ≡ map (λ s. turns_of s) sides.old.items }
+    ensures booted { AreBooted (boots + 1) sides.new.items }
+{
+    for index in 0..sides.len() {
+        let took = is_kept(kept, index);
+        sides[index].restart(took);
+    }
+}
+
+/// The application of this index keeps its change in doubt.
+fn is_kept(kept: Option<u8>, index: usize) -> bool
+    ensures { result ≡ kept_one kept index }
+{
+    match kept {
+        None => false,
+        Some(owner) => index == owner as usize,
+    }
+}
+
+/// The application whose change is in doubt, if there is one.
+pub(crate) fn owner_of_doubt<A: Application>(sides: &[AppSide<A>]) -> Option<u8>
+    requires { length sides.now ≤ HOSTS }
+    ensures none { IfNone result (IsNoneInDoubt sides.now) }
+    ensures some { IfSome result (λ owner. (side : Side A) × (slice_get sides.now owner ≡ Some side)
+        × (has_doubt side ≡ true)) }
+{
+    let place = place_of_doubt(sides)?;
+    Some(place as u8)
+}
+
+/// The place of the first application whose change is in doubt.
+fn place_of_doubt<A: Application>(sides: &[AppSide<A>]) -> Option<usize>
+    ensures { result ≡ position (λ side. has_doubt side) sides.now }
+{
+    sides.iter().position(|side| side.is_in_doubt())
+}

@@ -1,0 +1,96 @@
+-- The board at the beginning of a run: before it is opened, and as its opening leaves it.
+use Rattle.app_api.specs.Behaviours.{Behaviour}
+use Rattle.std.proofs.Common.{ℕ, ◌≡◌, ◌<◌, ◌≤◌, Bool, List, [], Option, None, Some, Result, Ok, Err, inl, inr, length, refl, sym, subst, ◌∙◌, ap, arith}
+use Rattle.std.specs.Prelude.{◌⊎◌}
+use Rattle.app_api.specs.declared.host.Host.{Host}
+use Rattle.board.specs.Moment.{View}
+use Rattle.board.specs.Steps.{CallRun}
+use Rattle.epoch.specs.Forms.{Form, held, held_of}
+use Rattle.epoch.specs.Mounts.{LeavesOpening, after_opening, opened_by}
+use Rattle.epoch.specs.Opening.{opening_of}
+use Rattle.epoch.specs.declared.answer.OpenAnswer.{OpenAnswer}
+use Rattle.epoch.specs.declared.rule.Found.{Found}
+use Rattle.object_dir.specs.Regions.{region_in}
+use Rattle.store_api.specs.Stores.{Store}
+use Rattle.store_api.specs.Volumes.{Held}
+use Rattle.tee_base.specs.Faults.{Rose}
+use Rattle.tee_core.specs.Represents.{HasStoresOf, HoldsStores, none_kept}
+use Rattle.tee_core.specs.World.{World, world_of}
+use Rattle.tee_core.proofs.Opens.{stores_started}
+use Rattle.tee_top.specs.Boards.{BeginsWith, HasFirstOrders, HasOrders, IsSpan, LeavesStores, orders_of}
+use Rattle.tee_top.specs.Parts.{IsRunOf, Point, point}
+use Rattle.tee_top.specs.Transcript.{Weather, WorldEvent}
+use Rattle.tee_top.proofs.Parts.{no_orders, span_before}
+use Rattle.script.specs.declared.line.Line.{Line}
+
+-- a count that rose later rose
+pub rose_later : (a b c : ℕ) → a ≤ b → Rose b c → Rose a c
+rose_later a b c before (inl h) = inl (omega (arith, before, h))
+rose_later a b c before (inr h) = inr h
+
+-- calls of an opening have no order among them
+pub span_opened : (ok : Bool) (old new : View) → CallRun ok old new → IsSpan 0 old new
+span_opened ok old new run = record {
+  orders = run.orders;
+  ordered = run.ordered;
+  later = run.faults;
+  faults = inl (omega (arith, run.faults));
+}
+
+pub orders_opened : (ok : Bool) (old new : View) → CallRun ok old new → HasOrders [] old new
+orders_opened ok old new run = no_orders old new run.orders run.ordered run.faults
+
+-- none of the lines was run
+pub first_orders_none : (script : List Line) (old new : View) → HasOrders [] old new → HasFirstOrders script old new
+first_orders_none script old new h = ([], orders_of script, refl, h)
+
+-- what is held has the stores of the machines at their start
+pub starts_over : {A : Type 0} (hosts : List (Host A)) (seed : List ℕ) (stores : ℕ → Store) (h : Held) → ((app : ℕ) → app < length hosts → region_in app h ≡ Ok (stores app)) → HoldsStores none_kept (world_of hosts seed stores) h
+starts_over hosts seed stores h stand = stores_started 0 hosts seed stores h (λ app lt. stand app (omega (arith, lt)))
+
+-- also where it is formatted
+stand_opened : (r : Result (Option Found) OpenAnswer) (h : Held) (stores : ℕ → Store) (app : ℕ) → region_in app h ≡ Ok (stores app) → region_in app (opened_by r h) ≡ Ok (stores app)
+stand_opened (Ok None) h stores app stand = stand
+stand_opened (Ok (Some found)) h stores app stand = stand
+stand_opened (Err answer) h stores app stand = stand
+
+module _ {A : Type 0} (form : Form) (hosts : List (Host A)) (seed : List ℕ) (stores : ℕ → Store) (old : View) (begins : BeginsWith form old (length hosts) stores) where
+  abbrev begin : World A
+  begin = world_of hosts seed stores
+
+  -- a board at rest leaves what it holds
+  pub begin_leaves : LeavesStores form old begin
+  begin_leaves = λ c left.
+      let rests = begins.rests in
+      let image : (k : ℕ) → c.image k ≡ old.state.reads k = λ k. left.kept k (rests.pending k) ∙ sym (rests.as_read k) in
+      let whole : c.image ≡ old.state.reads = λ i k. image k i in
+      let counter : c.counter ≡ begins.counter = omega (arith, left.counter.least, left.counter.greatest, rests.counter, rests.slack) in
+      let holds : held_of form old.key c ≡ Some begins.held = ap (held form old.key c.image) counter ∙ ap (λ (g : ℕ → List ℕ). held form old.key g begins.counter) whole ∙ begins.sound.opens in
+      subst (HasStoresOf begin) (sym holds) (inl (starts_over hosts seed stores begins.held begins.sound.stand))
+
+  held_stores : (o : Option Held) → (o ≡ Some begins.held) ⊎ (o ≡ Some (after_opening form old begins.held)) → HasStoresOf begin o
+  held_stores o (inl is) = subst (HasStoresOf begin) (sym is) (inl (starts_over hosts seed stores begins.held begins.sound.stand))
+  held_stores o (inr is) =
+      let rule = opening_of form.version old.key old.state.reads old.state.counter in
+      subst (HasStoresOf begin) (sym is) (inl (starts_over hosts seed stores (after_opening form old begins.held) (λ app lt. stand_opened rule begins.held stores app (begins.sound.stand app lt))))
+
+  -- within an opening a crash leaves what was held, or that once it is formatted
+  pub opening_leaves : (new : View) → new.key ≡ old.key → LeavesOpening form begins.held old new → LeavesStores form new begin
+  opening_leaves new key leaves = λ c left.
+      subst (λ k. HasStoresOf begin (held_of form k c)) (sym key) (held_stores (held_of form old.key c) (leaves.each c (inl left)))
+
+-- a run after calls of the board without an order
+module _ {A : Type 0} (behaviour : Behaviour A) (form : Form) (names : List (List ℕ)) where
+  pub run_behind : (events : Weather → List WorldEvent) (world : World A) (Stands : World A → Type 0) (start : View) (old new : Point) → IsSpan 0 start old.view
+      → IsRunOf behaviour form names events world Stands old new → IsRunOf behaviour form names events world Stands (point old.powers start old.written) new
+  run_behind events world Stands start old new span run = record {
+    made = run.made;
+    known = run.known;
+    told = run.told;
+    undamaged = run.undamaged;
+    powers = run.powers;
+    stands = run.stands;
+    board = span_before behaviour form 0 0 world start old.view run.made new.view span run.board;
+    written = run.written;
+    by_weather = run.by_weather;
+  }

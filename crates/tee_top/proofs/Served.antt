@@ -1,0 +1,105 @@
+-- How a run ends, by how its lines ended and by why its board wasn't opened.
+use Rattle.std.proofs.Common.{◌≡◌, ◌⊎◌, Result, Ok, Err, OnErr, OnOk, inl, inr, refl, sym, subst, ◌∙◌, ap}
+use Rattle.epoch.specs.declared.answer.OpenAnswer.{OpenAnswer}
+use Rattle.epoch.specs.declared.answer.OpenAnswer.TheVariants as answers
+use Rattle.epoch.specs.Mounts.{IsKeptFromOpening}
+use Rattle.tee_top.specs.Runs.{IsStopped, refusal_of, stopped_as}
+use Rattle.tee_top.specs.Stops.{IfRefused, UnlessRefused}
+use Rattle.tee_top.specs.declared.lines.Stop.{Stop}
+use Rattle.tee_top.specs.declared.lines.Stop.TheVariants as stops
+use Rattle.tee_top.specs.declared.status.Status.{Status}
+use Rattle.tee_top.specs.declared.status.Status.TheVariants.{Done, BadWords, BadLine, TooLong, StoreRefused, NoMemory, ReadFault, WriteFault, BoardFault}
+
+-- how a run ends whose lines ended so
+abbrev pub ended : {X : Type 0} → Result X Stop → Status
+ended (Ok x) = Done
+ended (Err stop) = stopped_as stop
+
+-- ---- kinds of status
+
+abbrev IsDone : Status → Type 0
+IsDone Done = Unit {0}
+IsDone BadWords = ⊥
+IsDone (BadLine n) = ⊥
+IsDone TooLong = ⊥
+IsDone (StoreRefused why) = ⊥
+IsDone NoMemory = ⊥
+IsDone ReadFault = ⊥
+IsDone WriteFault = ⊥
+IsDone BoardFault = ⊥
+
+abbrev IsRefused : Status → Type 0
+IsRefused Done = ⊥
+IsRefused BadWords = ⊥
+IsRefused (BadLine n) = ⊥
+IsRefused TooLong = ⊥
+IsRefused (StoreRefused why) = Unit {0}
+IsRefused NoMemory = ⊥
+IsRefused ReadFault = ⊥
+IsRefused WriteFault = ⊥
+IsRefused BoardFault = ⊥
+
+abbrev IsBoardFault : Status → Type 0
+IsBoardFault Done = ⊥
+IsBoardFault BadWords = ⊥
+IsBoardFault (BadLine n) = ⊥
+IsBoardFault TooLong = ⊥
+IsBoardFault (StoreRefused why) = ⊥
+IsBoardFault NoMemory = ⊥
+IsBoardFault ReadFault = ⊥
+IsBoardFault WriteFault = ⊥
+IsBoardFault BoardFault = Unit {0}
+
+-- no refusal ends a run as done
+never_done : (why : OpenAnswer) → IsDone (refusal_of why) → ⊥
+never_done (answers.TooSmall blocks) h = h
+never_done (answers.NoVolume counter) h = h
+never_done (answers.BadHeader slot found kept) h = h
+never_done (answers.UnknownVersion version) h = h
+never_done (answers.Rollback sequence counter) h = h
+never_done (answers.Ahead sequence counter) h = h
+never_done answers.Failed h = h
+never_done answers.NoMemory h = h
+
+-- ---- a board that wasn't opened at the beginning
+
+-- a run that ends so for want of memory, or at a failed call of the board, is not refused
+pub refused_never : (why : OpenAnswer) (told : OpenAnswer) → IsKeptFromOpening why → refusal_of why ≡ StoreRefused told → ⊥
+refused_never why told (inl is) e = subst IsRefused (sym e ∙ ap refusal_of is) tt
+refused_never why told (inr is) e = subst IsRefused (sym e ∙ ap refusal_of is) tt
+
+-- ---- lines that ended
+
+module _ {X : Type 0} where
+  -- all lines were run
+  pub ended_done : (r : Result X Stop) (P : Type 0) → ended r ≡ Done → OnOk r P → P
+  ended_done (Ok x) P e p = p
+  ended_done (Err stops.NoMemory) P e p = absurd (subst IsDone (sym e) tt)
+  ended_done (Err stops.WriteFault) P e p = absurd (subst IsDone (sym e) tt)
+  ended_done (Err (stops.Refused why)) P e p = absurd (never_done why (subst IsDone (sym e) tt))
+
+  -- they stopped for want of memory or at a failed write
+  pub ended_stopped : (r : Result X Stop) (P : Type 0) (status : Status) → status ≡ ended r → IsStopped status → UnlessRefused r P → IfRefused r (λ why. why ≡ answers.Failed) → P
+  ended_stopped (Ok x) P status e is p failed = absurd (subst IsStopped e is)
+  ended_stopped (Err stops.NoMemory) P status e is p failed = p
+  ended_stopped (Err stops.WriteFault) P status e is p failed = p
+  ended_stopped (Err (stops.Refused why)) P status e is p failed = absurd (subst IsStopped (e ∙ ap refusal_of failed) is)
+
+  -- the board failed
+  pub ended_fault : (r : Result X Stop) (P : OpenAnswer → Type 0) → ended r ≡ BoardFault → IfRefused r P → (why : OpenAnswer) × P why
+  ended_fault (Ok x) P e p = absurd (subst IsBoardFault (sym e) tt)
+  ended_fault (Err stops.NoMemory) P e p = absurd (subst IsBoardFault (sym e) tt)
+  ended_fault (Err stops.WriteFault) P e p = absurd (subst IsBoardFault (sym e) tt)
+  ended_fault (Err (stops.Refused why)) P e p = (why, p)
+
+  -- the board wasn't opened again
+  pub ended_refused : (r : Result X Stop) (P : OpenAnswer → Type 0) (told : OpenAnswer) → ended r ≡ StoreRefused told → IfRefused r P → (why : OpenAnswer) × P why × (refusal_of why ≡ StoreRefused told)
+  ended_refused (Ok x) P told e p = absurd (subst IsRefused (sym e) tt)
+  ended_refused (Err stops.NoMemory) P told e p = absurd (subst IsRefused (sym e) tt)
+  ended_refused (Err stops.WriteFault) P told e p = absurd (subst IsRefused (sym e) tt)
+  ended_refused (Err (stops.Refused why)) P told e p = (why, p, e)
+
+  -- what holds of lines that were all run, and of others
+  pub ended_either : (r : Result X Stop) (P Q R : Type 0) → (P → R) → (Q → R) → OnOk r P → OnErr r Q → R
+  ended_either (Ok x) P Q R f g p q = f p
+  ended_either (Err stop) P Q R f g p q = g q

@@ -1,0 +1,126 @@
+-- The board along a run: its counts between two orders, and what a crash may leave of it.
+use Rattle.app_api.specs.Behaviours.{Behaviour}
+use Rattle.std.specs.Prelude.{ℕ, ◌≡◌, ◌≤◌, ◌+◌, ◌-◌, ◌%◌, ◌^◌, ◌⊎◌, List, [], ◌∷◌, ◌++◌, Option}
+use Rattle.std.specs.Io.KnownBytes.{Appends}
+use Rattle.alone.specs.Step.{Event, Called, Cancelled, Turned, TurnLost, Corrupted, Lost, Starved, Restarted}
+use Rattle.board.specs.Moment.{Outcome, View, IsLeft}
+use Rattle.board.specs.Runs.{Rests}
+use Rattle.epoch.specs.Forms.{Form, held_of}
+use Rattle.epoch.specs.Mounts.{OrderRun}
+use Rattle.script.specs.declared.line.Line.{Line}
+use Rattle.script.specs.declared.line.Line.TheVariants as lines
+use Rattle.store_api.specs.Stores.{Store}
+use Rattle.store_api.specs.Volumes.{Held}
+use Rattle.tee_base.specs.declared.limits.TheConstants.{BOARD_BLOCKS}
+use Rattle.tee_core.specs.Opening.{IsSoundFor}
+use Rattle.tee_core.specs.Powers.{after_power}
+use Rattle.tee_core.specs.Represents.{HasStoresOf}
+use Rattle.tee_core.specs.World.{World, AppEvent, world_step}
+use Rattle.tee_top.specs.BoardLines.{lost_lines, whole_text}
+use Rattle.tee_top.specs.Transcript.{WorldEvent, Happens, Fused, Powered}
+
+-- ---- orders
+
+-- the numbers of the orders among events
+abbrev pub orders_in : List WorldEvent → List ℕ
+orders_in [] = []
+orders_in (Happens e ∷ more) = orders_in more
+orders_in (Fused calls ∷ more) = calls ∷ orders_in more
+orders_in (Powered pick told ∷ more) = pick ∷ orders_in more
+
+-- the number of a line's order, if it is one
+abbrev pub order_of : Line → List ℕ
+order_of (lines.Call app client post call) = []
+order_of (lines.Turns app client instance count) = []
+order_of (lines.Cancel app client op) = []
+order_of (lines.Fuse calls) = calls ∷ []
+order_of (lines.Power pick) = pick ∷ []
+
+-- the numbers of the orders among lines
+abbrev pub orders_of : List Line → List ℕ
+orders_of [] = []
+orders_of (line ∷ more) = order_of line ++ orders_of more
+
+-- one of these lines is a loss of power
+abbrev pub HasPower : List Line → Type 0
+HasPower script = (front : List Line) × (pick : ℕ) × (rest : List Line) × (script ≡ front ++ lines.Power pick ∷ rest)
+
+-- the count of orders after these, which wraps
+abbrev pub orders_after : List ℕ → ℕ → ℕ
+orders_after [] count = count
+orders_after (number ∷ more) count = orders_after more ((count + 1) % 2 ^ 64)
+
+-- the sum of their numbers after these orders, which wraps too
+abbrev pub ordered_after : List ℕ → ℕ → ℕ
+ordered_after [] total = total
+ordered_after (number ∷ more) total = ordered_after more ((total + number) % 2 ^ 64)
+
+-- orders with these numbers were made, and no others; the count of faults doesn't fall
+pub record HasOrders (numbers : List ℕ) (old new : View) : Type 0 where
+  pub orders : new.state.orders ≡ orders_after numbers old.state.orders
+  pub ordered : new.ordered ≡ ordered_after numbers old.ordered
+  pub later : old.state.faults ≤ new.state.faults
+
+-- the orders of the first of these lines were made, and no others
+abbrev pub HasFirstOrders : List Line → View → View → Type 0
+HasFirstOrders script old new =
+    (numbers : List ℕ) × (rest : List ℕ) × (orders_of script ≡ numbers ++ rest) × HasOrders numbers old new
+
+-- ---- faults
+
+-- a count rose by at least so much, or is at its type's end
+abbrev pub RoseBy : ℕ → ℕ → ℕ → Type 0
+RoseBy least old new = (old + least ≤ new) ⊎ (2 ^ 64 - 1 ≤ new)
+
+-- calls without an order among them, of which at least so many failed
+pub record IsSpan (least : ℕ) (old new : View) : Type 0 where
+  pub orders : new.state.orders ≡ old.state.orders
+  pub ordered : new.ordered ≡ old.ordered
+  pub later : old.state.faults ≤ new.state.faults
+  pub faults : RoseBy least old.state.faults new.state.faults
+
+-- how many turns an event is that lost the storage
+abbrev pub losses_of : Event → ℕ
+losses_of (Called client call) = 0
+losses_of (Cancelled op) = 0
+losses_of (Turned instance) = 0
+losses_of (TurnLost instance) = 1
+losses_of (Corrupted instance) = 0
+losses_of Lost = 0
+losses_of (Starved instance) = 0
+losses_of (Restarted took) = 0
+
+-- whole lines were written, and at least as many calls failed as lines among them say that a turn lost the storage
+pub record WritesLosses (before after : Option (List ℕ)) (old new : View) : Type 0 where
+  pub text : List ℕ
+  pub appended : Appends before after text
+  pub whole : whole_text text ≡ text
+  pub later : old.state.faults ≤ new.state.faults
+  pub faults : RoseBy (lost_lines text) old.state.faults new.state.faults
+
+-- ---- images
+
+-- the board rests with an image that is sound for so many hosts, whose regions stand for these stores
+pub record BeginsWith (form : Form) (view : View) (hosts : ℕ) (stores : ℕ → Store) : Type 0 where
+  pub counter : ℕ
+  pub rests : Rests counter view.state
+  pub size : BOARD_BLOCKS ≤ view.size
+  pub held : Held
+  pub sound : IsSoundFor form view counter held hosts stores
+
+-- each image and counter that a crash of the board may leave opens to the stores of the world, with the change in doubt or without it
+abbrev pub LeavesStores : {A : Type 0} → Form → View → World A → Type 0
+LeavesStores form view world = (c : Outcome) → IsLeft view.state c → HasStoresOf world (held_of form view.key c)
+
+module _ {A : Type 0} (behaviour : Behaviour A) (form : Form) where
+  -- the board along events from a world on: since the last order it was start, and so many turns have lost the storage. Between two
+  -- orders, before the first and behind the last, at least as many of its calls failed as turns lost the storage in them; each order
+  -- is made with its number; and after a loss of power it has the stores of the world, in which what was told is done
+  unfoldable pub GoesAlong : View → ℕ → World A → List WorldEvent → View → Type 0
+  GoesAlong start losses world [] end = IsSpan losses start end
+  GoesAlong start losses world (Happens e ∷ more) end = GoesAlong start (losses + losses_of e.event) (world_step behaviour world e) more end
+  GoesAlong start losses world (Fused calls ∷ more) end =
+      (before after : View) × IsSpan losses start before × OrderRun calls before after × GoesAlong after 0 world more end
+  GoesAlong start losses world (Powered pick told ∷ more) end =
+      (before after : View) × IsSpan losses start before × OrderRun pick before after × LeavesStores form after (after_power behaviour world told)
+      × GoesAlong after 0 (after_power behaviour world told) more end
