@@ -13,7 +13,8 @@ use Rattle.aes_core.proofs.FieldLemmas.{four_columns, four, four_sums}
 use Rattle.aes_core.proofs.KeyLemmas.{four_fit}
 use Rattle.aes_core.proofs.RoundLemmas.{block_written}
 use Rattle.aes_core.proofs.TableEntries.{substitute-inverse_substitute, inverse_substitute_below}
-use Rattle.aes_core.proofs.LawLemmas.{AreBytes, IsState, all_bytes, at_byte, multiply-sum_of, transposed, zeros_behind, bytes-map, bytes-append, multiply_below, sum_below, IsState-add_round_key, round_key_bytes, bytes_of_state, state_of_same, added_twice}
+use Rattle.aes_core.proofs.LawLemmas.{AreBytes, IsState, all_bytes, at_byte, multiply-sum_of, transposed, zeros_behind, bytes-map, bytes-append}
+use Rattle.aes_core.proofs.LawLemmas.{multiply_below, sum_below, IsState-add_round_key, round_key_bytes, bytes_of_state, state_of_same, added_twice}
 
 -- ---- MixColumns undoes InvMixColumns
 -- a row of the matrix takes each byte of a column to a product, or leaves it; either goes over sums
@@ -90,15 +91,18 @@ remixed a b c d fa fb fc fd =
     (at_byte (third_share (multiply 2) (multiply 3) bare bare) nothing row_first.2 c fc) (at_byte (fourth_share (multiply 2) (multiply 3) bare bare) nothing row_first.3 d fd)
     ∙ (zeros_behind a))
     (row_of_unmixed bare (multiply 2) (multiply 3) bare bare_over (multiply-sum_of 2) (multiply-sum_of 3) bare_over a b c d
-    ∙ four_sums _ _ _ _ 0 b 0 0 (at_byte (first_share bare (multiply 2) (multiply 3) bare) nothing row_second.0 a fa) (at_byte (second_share bare (multiply 2) (multiply 3) bare) bare row_second.1 b fb)
+    ∙ four_sums _ _ _ _ 0 b 0 0 (at_byte (first_share bare (multiply 2) (multiply 3) bare) nothing row_second.0 a fa)
+    (at_byte (second_share bare (multiply 2) (multiply 3) bare) bare row_second.1 b fb)
     (at_byte (third_share bare (multiply 2) (multiply 3) bare) nothing row_second.2 c fc) (at_byte (fourth_share bare (multiply 2) (multiply 3) bare) nothing row_second.3 d fd)
     ∙ (xor_zero_r (bit_xor b 0) ∙ xor_zero_r b))
     (row_of_unmixed bare bare (multiply 2) (multiply 3) bare_over bare_over (multiply-sum_of 2) (multiply-sum_of 3) a b c d
-    ∙ four_sums _ _ _ _ 0 0 c 0 (at_byte (first_share bare bare (multiply 2) (multiply 3)) nothing row_third.0 a fa) (at_byte (second_share bare bare (multiply 2) (multiply 3)) nothing row_third.1 b fb)
+    ∙ four_sums _ _ _ _ 0 0 c 0 (at_byte (first_share bare bare (multiply 2) (multiply 3)) nothing row_third.0 a fa)
+    (at_byte (second_share bare bare (multiply 2) (multiply 3)) nothing row_third.1 b fb)
     (at_byte (third_share bare bare (multiply 2) (multiply 3)) bare row_third.2 c fc) (at_byte (fourth_share bare bare (multiply 2) (multiply 3)) nothing row_third.3 d fd)
     ∙ (xor_zero_r c))
     (row_of_unmixed (multiply 3) bare bare (multiply 2) (multiply-sum_of 3) bare_over bare_over (multiply-sum_of 2) a b c d
-    ∙ four_sums _ _ _ _ 0 0 0 d (at_byte (first_share (multiply 3) bare bare (multiply 2)) nothing row_fourth.0 a fa) (at_byte (second_share (multiply 3) bare bare (multiply 2)) nothing row_fourth.1 b fb)
+    ∙ four_sums _ _ _ _ 0 0 0 d (at_byte (first_share (multiply 3) bare bare (multiply 2)) nothing row_fourth.0 a fa)
+    (at_byte (second_share (multiply 3) bare bare (multiply 2)) nothing row_fourth.1 b fb)
     (at_byte (third_share (multiply 3) bare bare (multiply 2)) nothing row_fourth.2 c fc) (at_byte (fourth_share (multiply 3) bare bare (multiply 2)) bare row_fourth.3 d fd))
 
 remixed_state : (s : List ℕ) → IsState s → mix_columns (inv_mix_columns s) ≡ s

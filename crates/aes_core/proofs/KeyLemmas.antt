@@ -1,5 +1,6 @@
 -- The key expansion word by word, and the key at its beginning.
-use Rattle.std.proofs.Common.{◌≡◌, ◌≢◌, inl, inr, ℕ, zero, suc, ◌+◌, ◌-◌, ◌*◌, ◌/◌, ◌%◌, ◌<◌, ◌≤◌, List, [], ◌∷◌, ◌++◌, bit_xor, length, take, set, get_or, slice_index, eqb, ltb, ◌||◌, IsTrue, true, false, refl, sym, ap, ◌∙◌, arith, add-one, append_assoc}
+use Rattle.std.proofs.Common.{◌≡◌, ◌≢◌, inl, inr, ℕ, zero, suc, ◌+◌, ◌-◌, ◌*◌, ◌/◌, ◌%◌, ◌<◌, ◌≤◌, List, [], ◌∷◌, ◌++◌, bit_xor, length, take, set, get_or}
+use Rattle.std.proofs.Common.{slice_index, eqb, ltb, ◌||◌, IsTrue, true, false, refl, sym, ap, ◌∙◌, arith, add-one, append_assoc}
 use Rattle.std.proofs.lemmas.Bool.{eq-eqb, ne_eqb, lt-ltb, le-ltb, or_cases, eqb-true}
 use Rattle.std.proofs.lemmas.List.{take_more_set, take_more, get_or-take, length_push, take-append-le, take-take, take_all, flat_map_more}
 use Rattle.std.proofs.lemmas.Nat.{be_bytes_4}

@@ -39,10 +39,14 @@ last_encrypt_round_is a b c d k l m n p q r s A B C D ea eb ec ed ep eq er es =
 
 pub decrypt_round_is : (a b c d k l m n p q r s : ℕ) (A B C D : List ℕ)
     → A ≡ word_bytes a → B ≡ word_bytes b → C ≡ word_bytes c → D ≡ word_bytes d
-    → word_bytes p ≡ add_columns (inv_mix_column (inverse_substitute (slice_index A 0)) (inverse_substitute (slice_index D 1)) (inverse_substitute (slice_index C 2)) (inverse_substitute (slice_index B 3))) (word_bytes k)
-    → word_bytes q ≡ add_columns (inv_mix_column (inverse_substitute (slice_index B 0)) (inverse_substitute (slice_index A 1)) (inverse_substitute (slice_index D 2)) (inverse_substitute (slice_index C 3))) (word_bytes l)
-    → word_bytes r ≡ add_columns (inv_mix_column (inverse_substitute (slice_index C 0)) (inverse_substitute (slice_index B 1)) (inverse_substitute (slice_index A 2)) (inverse_substitute (slice_index D 3))) (word_bytes m)
-    → word_bytes s ≡ add_columns (inv_mix_column (inverse_substitute (slice_index D 0)) (inverse_substitute (slice_index C 1)) (inverse_substitute (slice_index B 2)) (inverse_substitute (slice_index A 3))) (word_bytes n)
+    → word_bytes p ≡ add_columns (inv_mix_column (inverse_substitute (slice_index A 0)) (inverse_substitute (slice_index D 1)) (inverse_substitute (slice_index C 2))
+    (inverse_substitute (slice_index B 3))) (word_bytes k)
+    → word_bytes q ≡ add_columns (inv_mix_column (inverse_substitute (slice_index B 0)) (inverse_substitute (slice_index A 1)) (inverse_substitute (slice_index D 2))
+    (inverse_substitute (slice_index C 3))) (word_bytes l)
+    → word_bytes r ≡ add_columns (inv_mix_column (inverse_substitute (slice_index C 0)) (inverse_substitute (slice_index B 1)) (inverse_substitute (slice_index A 2))
+    (inverse_substitute (slice_index D 3))) (word_bytes m)
+    → word_bytes s ≡ add_columns (inv_mix_column (inverse_substitute (slice_index D 0)) (inverse_substitute (slice_index C 1)) (inverse_substitute (slice_index B 2))
+    (inverse_substitute (slice_index A 3))) (word_bytes n)
     → block_of p q r s ≡ add_round_key (inv_mix_columns (inv_sub_bytes (inv_shift_rows (block_of a b c d)))) (block_of k l m n)
 unfolding add_round_key inv_mix_columns inv_mix_column inv_shift_rows inv_sub_bytes word_bytes
 decrypt_round_is a b c d k l m n p q r s A B C D ea eb ec ed ep eq er es =

@@ -79,10 +79,14 @@ first_round_is w blk plain k0 k1 state x f p b1 c1 d1 long ep ek0 ek1 es ea eb e
 second_round_from : (w blk k2 : List ℕ) (x a b c d p q r s : ℕ) (E F G : List ℕ) → block_bytes k2 ≡ round_key w 2
     → block_of a b c d ≡ cipher_rounds w (with_last blk x) 1
     → E ≡ word_bytes b → F ≡ word_bytes c → G ≡ word_bytes d
-    → word_bytes p ≡ add_columns (mix_column (substitute (slice_index (word_bytes a) 0)) (substitute (slice_index E 1)) (substitute (slice_index F 2)) (substitute (slice_index G 3))) (word_bytes (slice_index k2 0))
-    → word_bytes q ≡ add_columns (mix_column (substitute (slice_index E 0)) (substitute (slice_index F 1)) (substitute (slice_index G 2)) (substitute (slice_index (word_bytes a) 3))) (word_bytes (slice_index k2 1))
-    → word_bytes r ≡ add_columns (mix_column (substitute (slice_index F 0)) (substitute (slice_index G 1)) (substitute (slice_index (word_bytes a) 2)) (substitute (slice_index E 3))) (word_bytes (slice_index k2 2))
-    → word_bytes s ≡ add_columns (mix_column (substitute (slice_index G 0)) (substitute (slice_index (word_bytes a) 1)) (substitute (slice_index E 2)) (substitute (slice_index F 3))) (word_bytes (slice_index k2 3))
+    → word_bytes p ≡ add_columns (mix_column (substitute (slice_index (word_bytes a) 0)) (substitute (slice_index E 1)) (substitute (slice_index F 2))
+    (substitute (slice_index G 3))) (word_bytes (slice_index k2 0))
+    → word_bytes q ≡ add_columns (mix_column (substitute (slice_index E 0)) (substitute (slice_index F 1)) (substitute (slice_index G 2))
+    (substitute (slice_index (word_bytes a) 3))) (word_bytes (slice_index k2 1))
+    → word_bytes r ≡ add_columns (mix_column (substitute (slice_index F 0)) (substitute (slice_index G 1)) (substitute (slice_index (word_bytes a) 2))
+    (substitute (slice_index E 3))) (word_bytes (slice_index k2 2))
+    → word_bytes s ≡ add_columns (mix_column (substitute (slice_index G 0)) (substitute (slice_index (word_bytes a) 1)) (substitute (slice_index E 2))
+    (substitute (slice_index F 3))) (word_bytes (slice_index k2 3))
     → block_of p q r s ≡ cipher_rounds w (with_last blk x) 2
 unfolding cipher_rounds block_bytes
 second_round_from w blk k2 x a b c d p q r s E F G ek before eE eF eG ep eq er es =
@@ -95,20 +99,28 @@ pub shared_start_is : (key : Key) (start : SharedStart) (blk plain k0 k1 k2 stat
     → block_bytes state ≡ add_round_key (block_bytes plain) (block_bytes k0)
     → A ≡ word_bytes (slice_index state 0) → B ≡ word_bytes (slice_index state 1) → C ≡ word_bytes (slice_index state 2) → D ≡ word_bytes (slice_index state 3)
     → L ≡ word_bytes (slice_index k0 3) → start.last_key ≡ slice_index L 3
-    → word_bytes b1 ≡ add_columns (mix_column (substitute (slice_index B 0)) (substitute (slice_index C 1)) (substitute (slice_index D 2)) (substitute (slice_index A 3))) (word_bytes (slice_index k1 1))
-    → word_bytes c1 ≡ add_columns (mix_column (substitute (slice_index C 0)) (substitute (slice_index D 1)) (substitute (slice_index A 2)) (substitute (slice_index B 3))) (word_bytes (slice_index k1 2))
-    → word_bytes d1 ≡ add_columns (mix_column (substitute (slice_index D 0)) (substitute (slice_index A 1)) (substitute (slice_index B 2)) (substitute (slice_index C 3))) (word_bytes (slice_index k1 3))
+    → word_bytes b1 ≡ add_columns (mix_column (substitute (slice_index B 0)) (substitute (slice_index C 1)) (substitute (slice_index D 2)) (substitute (slice_index A 3)))
+    (word_bytes (slice_index k1 1))
+    → word_bytes c1 ≡ add_columns (mix_column (substitute (slice_index C 0)) (substitute (slice_index D 1)) (substitute (slice_index A 2)) (substitute (slice_index B 3)))
+    (word_bytes (slice_index k1 2))
+    → word_bytes d1 ≡ add_columns (mix_column (substitute (slice_index D 0)) (substitute (slice_index A 1)) (substitute (slice_index B 2)) (substitute (slice_index C 3)))
+    (word_bytes (slice_index k1 3))
     → E ≡ word_bytes b1 → F ≡ word_bytes c1 → G ≡ word_bytes d1
     → ((d p : ℕ) → word_bytes p ≡ mixed_3 (substitute d)
-    → word_bytes (bit_xor start.first p) ≡ add_columns (mix_column (substitute (slice_index A 0)) (substitute (slice_index B 1)) (substitute (slice_index C 2)) (substitute d)) (word_bytes (slice_index k1 0)))
+    → word_bytes (bit_xor start.first p) ≡ add_columns (mix_column (substitute (slice_index A 0)) (substitute (slice_index B 1)) (substitute (slice_index C 2)) (substitute d))
+    (word_bytes (slice_index k1 0)))
     → ((a p : ℕ) → word_bytes p ≡ mixed_0 (substitute a)
-    → word_bytes (bit_xor (slice_index start.second 0) p) ≡ add_columns (mix_column (substitute a) (substitute (slice_index E 1)) (substitute (slice_index F 2)) (substitute (slice_index G 3))) (word_bytes (slice_index k2 0)))
+    → word_bytes (bit_xor (slice_index start.second 0) p) ≡ add_columns (mix_column (substitute a) (substitute (slice_index E 1)) (substitute (slice_index F 2))
+    (substitute (slice_index G 3))) (word_bytes (slice_index k2 0)))
     → ((d p : ℕ) → word_bytes p ≡ mixed_3 (substitute d)
-    → word_bytes (bit_xor (slice_index start.second 1) p) ≡ add_columns (mix_column (substitute (slice_index E 0)) (substitute (slice_index F 1)) (substitute (slice_index G 2)) (substitute d)) (word_bytes (slice_index k2 1)))
+    → word_bytes (bit_xor (slice_index start.second 1) p) ≡ add_columns (mix_column (substitute (slice_index E 0)) (substitute (slice_index F 1)) (substitute (slice_index G 2))
+    (substitute d)) (word_bytes (slice_index k2 1)))
     → ((c p : ℕ) → word_bytes p ≡ mixed_2 (substitute c)
-    → word_bytes (bit_xor (slice_index start.second 2) p) ≡ add_columns (mix_column (substitute (slice_index F 0)) (substitute (slice_index G 1)) (substitute c) (substitute (slice_index E 3))) (word_bytes (slice_index k2 2)))
+    → word_bytes (bit_xor (slice_index start.second 2) p) ≡ add_columns (mix_column (substitute (slice_index F 0)) (substitute (slice_index G 1)) (substitute c)
+    (substitute (slice_index E 3))) (word_bytes (slice_index k2 2)))
     → ((b p : ℕ) → word_bytes p ≡ mixed_1 (substitute b)
-    → word_bytes (bit_xor (slice_index start.second 3) p) ≡ add_columns (mix_column (substitute (slice_index G 0)) (substitute b) (substitute (slice_index E 2)) (substitute (slice_index F 3))) (word_bytes (slice_index k2 3)))
+    → word_bytes (bit_xor (slice_index start.second 3) p) ≡ add_columns (mix_column (substitute (slice_index G 0)) (substitute b) (substitute (slice_index E 2))
+    (substitute (slice_index F 3))) (word_bytes (slice_index k2 3)))
     → IsSharedStart key blk start
 shared_start_is key start blk plain k0 k1 k2 state A B C D L E F G b1 c1 d1 long ep ek0 ek1 ek2 es eA eB eC eD eL el eb ec ed eE eF eG ef e0 e1 e2 e3 =
     record {

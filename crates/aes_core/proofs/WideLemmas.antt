@@ -95,7 +95,8 @@ eight_fit a b c d e f g h fa fb fc fd fe ff fg fh (suc (suc (suc (suc (suc (suc 
 eight_fit a b c d e f g h fa fb fc fd fe ff fg fh (suc (suc (suc (suc (suc (suc (suc zero))))))) = fh
 eight_fit a b c d e f g h fa fb fc fd fe ff fg fh (suc (suc (suc (suc (suc (suc (suc (suc k)))))))) = omega arith
 
-half_back : (a b c d e f g h : ℕ) → a < 256 → b < 256 → c < 256 → d < 256 → e < 256 → f < 256 → g < 256 → h < 256 → to_be_bytes w64 (from_be_bytes w64 (a ∷ b ∷ c ∷ d ∷ e ∷ f ∷ g ∷ h ∷ [])) ≡ a ∷ b ∷ c ∷ d ∷ e ∷ f ∷ g ∷ h ∷ []
+half_back : (a b c d e f g h : ℕ) → a < 256 → b < 256 → c < 256 → d < 256 → e < 256 → f < 256 → g < 256 → h < 256 →
+    to_be_bytes w64 (from_be_bytes w64 (a ∷ b ∷ c ∷ d ∷ e ∷ f ∷ g ∷ h ∷ [])) ≡ a ∷ b ∷ c ∷ d ∷ e ∷ f ∷ g ∷ h ∷ []
 half_back a b c d e f g h fa fb fc fd fe ff fg fh = be_bytes_8 (a ∷ b ∷ c ∷ d ∷ e ∷ f ∷ g ∷ h ∷ []) _ refl (eight_fit a b c d e f g h fa fb fc fd fe ff fg fh) refl
 
 number_of_halves : (a b c d e f g h i j k l m n o p : ℕ)

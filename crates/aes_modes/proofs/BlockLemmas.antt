@@ -1,5 +1,6 @@
 -- Blocks of a list, and the text of the first blocks.
-use Rattle.std.proofs.Common.{get_or, inl, inr, ◌≡◌, ℕ, zero, suc, ◌+◌, ◌-◌, ◌*◌, ◌<◌, ◌≤◌, List, [], ◌∷◌, ◌++◌, bit_xor, length, take, drop, refl, sym, ap, ◌∙◌, arith, add-one, append-nil, append_assoc}
+use Rattle.std.proofs.Common.{get_or, inl, inr, ◌≡◌, ℕ, zero, suc, ◌+◌, ◌-◌, ◌*◌, ◌<◌, ◌≤◌, List, [], ◌∷◌, ◌++◌, bit_xor, length}
+use Rattle.std.proofs.Common.{take, drop, refl, sym, ap, ◌∙◌, arith, add-one, append-nil, append_assoc}
 use Rattle.std.proofs.lemmas.List.{drop-drop, drop_all, take_at, drop_at, length-take, length-take-le, length-drop, length-append, get_or-take, get_or-drop, get_or_past}
 use Rattle.std.proofs.lemmas.Bool.{cases_lt}
 use Rattle.std.proofs.lemmas.Slice.{take-put_mid, drop-put_mid}
@@ -22,7 +23,10 @@ joint ea es = cc
 bytes-bit_xor : (x y : ℕ) → to_be_bytes w128 (bit_xor x y) ≡ xor_bytes (to_be_bytes w128 x) (to_be_bytes w128 y)
 unfolding xor_bytes
 bytes-bit_xor x y =
-    joint (xor_part x y 120) (joint (xor_part x y 112) (joint (xor_part x y 104) (joint (xor_part x y 96) (joint (xor_part x y 88) (joint (xor_part x y 80) (joint (xor_part x y 72) (joint (xor_part x y 64) (joint (xor_part x y 56) (joint (xor_part x y 48) (joint (xor_part x y 40) (joint (xor_part x y 32) (joint (xor_part x y 24) (joint (xor_part x y 16) (joint (xor_part x y 8) (joint (xor_mod x y 8) refl)))))))))))))))
+    joint (xor_part x y 120) (joint (xor_part x y 112) (joint (xor_part x y 104) (joint (xor_part x y 96)
+    (joint (xor_part x y 88) (joint (xor_part x y 80) (joint (xor_part x y 72) (joint (xor_part x y 64)
+    (joint (xor_part x y 56) (joint (xor_part x y 48) (joint (xor_part x y 40) (joint (xor_part x y 32)
+    (joint (xor_part x y 24) (joint (xor_part x y 16) (joint (xor_part x y 8) (joint (xor_mod x y 8) refl)))))))))))))))
 
 -- the sum of two blocks, as numbers
 pub xor_is : (a b : List ℕ) (x y z : ℕ) → length a ≡ 16 → length b ≡ 16 → ((i : ℕ) → get_or a i 0 < 256) → ((i : ℕ) → get_or b i 0 < 256)

@@ -72,7 +72,14 @@ pub part_of_sum : (block input ks : List ℕ) (skip n : ℕ) → length block �
     → take n (drop skip (xor_bytes (put_mid skip n block input) ks)) ≡ xor_bytes input (drop skip ks)
 part_of_sum block input ks skip n long within width lk =
     let lp : length (put_mid skip n block input) ≡ 16 =
-    omega (arith, length-append (take skip block) (input ++ drop n (drop skip block)), length-append input (drop n (drop skip block)), length-take skip block, length-drop n (drop skip block), length-drop skip block) in
+    omega (
+      arith,
+      length-append (take skip block) (input ++ drop n (drop skip block)),
+      length-append input (drop n (drop skip block)),
+      length-take skip block,
+      length-drop n (drop skip block),
+      length-drop skip block,
+    ) in
     let back : drop skip (put_mid skip n block input) ≡ input ++ drop n (drop skip block) =
     drop_at (take skip block) (input ++ drop n (drop skip block)) skip (length-take-le skip block (omega arith)) in
     ap (take n) (drop-xor_bytes skip (put_mid skip n block input) ks (omega arith) (omega arith))
@@ -125,7 +132,8 @@ joint ea es = cc
 front_of : (n : ℕ) → take 15 (to_be_bytes w128 n) ≡ front_bytes (n / 2 ^ 8)
 unfolding front_bytes
 front_of n =
-    joint (part 112) (joint (part 104) (joint (part 96) (joint (part 88) (joint (part 80) (joint (part 72) (joint (part 64) (joint (part 56) (joint (part 48) (joint (part 40) (joint (part 32) (joint (part 24) (joint (part 16) (joint (part 8) refl))))))))))))) where
+    joint (part 112) (joint (part 104) (joint (part 96) (joint (part 88) (joint (part 80) (joint (part 72)
+    (joint (part 64) (joint (part 56) (joint (part 48) (joint (part 40) (joint (part 32) (joint (part 24) (joint (part 16) (joint (part 8) refl))))))))))))) where
       part : (k : ℕ) → n / 2 ^ (8 + k) % 256 ≡ n / 2 ^ 8 / 2 ^ k % 256
       part k = ap (λ (z : ℕ). z % 256) (sym (shr-shr n 8 k))
 

@@ -78,7 +78,8 @@ blocks_text-add mode way key v d a zero = let e : a + 0 ≡ a = omega arith in a
 blocks_text-add mode way key v d a (suc n) =
     let e : a + suc n ≡ suc (a + n) = omega arith in
     ap (blocks_text mode way key v d) e
-    ∙ rw (blocks_text-add mode way key v d a n, vector_after-add mode way key v d a n, block_at-drop d a n) (append_assoc (blocks_text mode way key v d a) (blocks_text mode way key (vector_after mode way key v d a) (drop (16 * a) d) n)
+    ∙ rw (blocks_text-add mode way key v d a n, vector_after-add mode way key v d a n, block_at-drop d a n)
+    (append_assoc (blocks_text mode way key v d a) (blocks_text mode way key (vector_after mode way key v d a) (drop (16 * a) d) n)
     (step_text mode way key (vector_after mode way key (vector_after mode way key v d a) (drop (16 * a) d) n) (block_at (drop (16 * a) d) n)))
 
 -- ---- what a stream keeps
@@ -173,7 +174,8 @@ bytes_text_more s c x out es r e =
     let place : 16 * (length m / 16) + s.count ≡ length m = omega (arith, r.count_is) in
     let counter : s.counter ≡ (number_of s.iv + length m / 16) % 2 ^ 128 = rw r.iv_is (keeps_bytes c.mode s c em r.keeps) in
     let written : out ≡ ctr_from c.key c.iv (length m) x = e (length m / 16) counter ∙ rw (place, r.key_is, r.iv_is) refl in
-    rw (ctr_text c.mode c.way c.key c.iv (m ++ x) em, ctr_text c.mode c.way c.key c.iv m em, written) (ctr_from-append c.key c.iv 0 m x ∙ ap (λ (k : ℕ). ctr_from c.key c.iv 0 m ++ ctr_from c.key c.iv k x) (zero-add (length m)))
+    rw (ctr_text c.mode c.way c.key c.iv (m ++ x) em, ctr_text c.mode c.way c.key c.iv m em, written)
+    (ctr_from-append c.key c.iv 0 m x ∙ ap (λ (k : ℕ). ctr_from c.key c.iv 0 m ++ ctr_from c.key c.iv k x) (zero-add (length m)))
 
 pub represents_bytes : (s t : Stream) (c : Conversion) (x : List ℕ) → s.mode ≡ Ctr → Represents s c
     → t.key ≡ s.key → t.mode ≡ s.mode → t.way ≡ s.way → t.iv ≡ s.iv → t.count ≡ (s.count + length x) % 16

@@ -1,6 +1,7 @@
 -- Few operations are unanswered, and a call is answered within its turns.
 use Rattle.app_api.specs.Behaviours.{Behaviour}
-use Rattle.std.proofs.Common.{ℕ, zero, suc, ◌≡◌, ◌≢◌, ◌+◌, ◌≤◌, ◌<◌, ◌==◌, ◌&&◌, nat_lt, Bool, true, false, not, cond, List, [], ◌∷◌, find, length, count_by, Option, None, Some, is_some, option_map, refl, sym, ap, subst, ◌∙◌, ⊎_elim, arith}
+use Rattle.std.proofs.Common.{ℕ, zero, suc, ◌≡◌, ◌≢◌, ◌+◌, ◌≤◌, ◌<◌, ◌==◌, ◌&&◌, nat_lt, Bool, true, false, not, cond, List, [], ◌∷◌, find, length}
+use Rattle.std.proofs.Common.{count_by, Option, None, Some, is_some, option_map, refl, sym, ap, subst, ◌∙◌, ⊎_elim, arith}
 use Rattle.std.specs.List.{AllByRecursion}
 use Rattle.std.proofs.lemmas.Bool.{cases_Bool, cases_lt, cond_both, lt-ltb, ne_eqb, both_ways}
 use Rattle.std.proofs.lemmas.List.Sums.{count_by-le-length}
@@ -13,7 +14,7 @@ use Rattle.op_queue.proofs.Keeps.{forgotten_IsQueue}
 use Rattle.op_queue.specs.Queue.{forgotten, is_close, waits_for, facts_of as operation_facts}
 use Rattle.alone.specs.Machine.{Machine, start}
 use Rattle.alone.specs.Marks.{Marks, event_at}
-use Rattle.alone.specs.Step.{Event, Called, Cancelled, Turned, TurnLost, Corrupted, Lost, Starved, Restarted, step, belongs_to, called, may_stand, turn_counted, is_answered}
+use Rattle.alone.specs.Step.{Event, Called, Cancelled, Turned, TurnLost, Corrupted, Lost, Starved, Restarted, step, belongs_to, called, is_enabled, turn_counted, is_answered}
 use Rattle.alone.specs.Runs.{most_turns, machine_after, turns_until}
 use Rattle.alone.specs.Answering.{CallIsAnswered, OperationsAreFew}
 use Rattle.alone.proofs.Totals.{bit, total_both, total_count, total_le, total_ones}
@@ -86,9 +87,9 @@ module _ {A : Type 0} (behaviour : Behaviour A) where
   goes marks m i h =
       let turn = m.turns + 1 in
       let P = λ (e : Event). IsTurned i m (step behaviour m e) in
-      cond_both (marks.lost turn && may_stand m (TurnLost i)) _ _ P (λ _. turns behaviour Fails m i h)
-      (λ _. cond_both (marks.corrupt turn && may_stand m (Corrupted i)) _ _ P (λ _. turns behaviour Damaged m i h)
-      (λ _. cond_both (marks.starved turn && may_stand m (Starved i)) _ _ P (λ _. fails (turn_counted m) i h)
+      cond_both (marks.lost turn && is_enabled m (TurnLost i)) _ _ P (λ _. turns behaviour Fails m i h)
+      (λ _. cond_both (marks.corrupt turn && is_enabled m (Corrupted i)) _ _ P (λ _. turns behaviour Damaged m i h)
+      (λ _. cond_both (marks.starved turn && is_enabled m (Starved i)) _ _ P (λ _. fails (turn_counted m) i h)
       (λ _. turns behaviour Serves m i h)))
 
   within : (marks : Marks) (k : ℕ) (m : Machine A) (op i : ℕ) → IsSoundMachine m → op < m.queue.next → AllByRecursion (IsOf op i) m.queue.operations

@@ -10,10 +10,10 @@ use Rattle.op_queue.specs.declared.operation.Operation.{Operation}
 use Rattle.op_queue.specs.declared.operation.Cancelled.{Cancelled as Cancellation}
 use Rattle.op_queue.specs.declared.operation.Cancelled.TheVariants.{Dropped, Flagged, Nothing}
 use Rattle.op_queue.specs.Queue.{Queue, after_begin, after_cancel, masked_as, requested, started, submitted}
-use Rattle.object_asks.specs.Asks.{Serves, Fails, Damaged, Outcome, Answered, Returned, Panicked, Course, Settled, ComesToStore, Objects, object_course}
-use Rattle.object_asks.specs.Keys.{generate_course}
+use Rattle.object_asks.specs.Asks.{Serves, Fails, Damaged, Outcome, Answered, Returned, Panicked, Resolution, Settled, ComesToStore, Objects, object_resolution}
+use Rattle.object_asks.specs.Keys.{generate_resolution}
 use Rattle.object_asks.proofs.SoundAsks.{Goes, Leaves}
-use Rattle.alone.specs.declared.running.Instance.{Instance}
+use Rattle.alone.specs.declared.active_entry.Instance.{Instance}
 use Rattle.alone.specs.Asks.{objects_of}
 use Rattle.alone.specs.Laws.{born_of, live}
 use Rattle.alone.specs.Machine.{Machine, is_number, put_instance}
@@ -21,15 +21,15 @@ use Rattle.alone.specs.Step.{Event, Called, Cancelled, Turned, TurnLost, Corrupt
 use Rattle.alone.proofs.Kept.{IsKept, cancelled_kept, turned_kept}
 use Rattle.alone.proofs.KeptByCalls.{IsKeptByCalls, called_kept}
 
--- what holds of all holds of what a course leaves
+-- what holds of all holds of what a resolution leaves
 leaves_all : (Q : Objects → Type 0) (outcome : Outcome Objects) → ((o : Objects) → Q o) → Leaves Q outcome
 leaves_all Q (Answered after answer) f = f after
 leaves_all Q (Returned code outs) f = tt
 leaves_all Q Panicked f = tt
 
-pub goes_all : (Q : Objects → Type 0) (c : Course Objects) → ((o : Objects) → Q o) → Goes Q c
+pub goes_all : (Q : Objects → Type 0) (c : Resolution Objects) → ((o : Objects) → Q o) → Goes Q c
 goes_all Q (Settled outcome) f = leaves_all Q outcome f
-goes_all Q (ComesToStore kept plain) f = (f kept, leaves_all Q plain f)
+goes_all Q (ComesToStore kept if_served) f = (f kept, leaves_all Q if_served f)
 
 fewer : {X : Type 0} (p : X → Bool) (xs : List X) → length (filter p xs) ≤ length xs
 fewer p xs = omega (arith, length-filter p xs, count_by-le-length p xs)
@@ -73,9 +73,9 @@ module _ {A : Type 0} where
     removed = λ m session few. few;
     ending = λ m i few. few;
     gone = gone_few n;
-    objects = λ m i ask few. goes_all (λ _. IsFew n m) (object_course (objects_of m) i ask) (λ _. few);
+    objects = λ m i ask few. goes_all (λ _. IsFew n m) (object_resolution (objects_of m) i ask) (λ _. few);
     crypto = λ m s stream few. few;
-    made = λ m i object bits random few. goes_all (λ _. IsFew n m) (generate_course (objects_of m) i object bits random) (λ _. few);
+    made = λ m i object bits random few. goes_all (λ _. IsFew n m) (generate_resolution (objects_of m) i object bits random) (λ _. few);
   }
 
   calls_few : (n : ℕ) → IsKeptByCalls (IsFew n) (IsFew (n + 2))

@@ -18,7 +18,7 @@ use Rattle.instances.specs.Instances.{Table, session_of, facts_of, is_dead, is_k
 use Rattle.op_queue.specs.declared.operation.Operation.{Operation}
 use Rattle.op_queue.specs.declared.operation.Progress.TheVariants.{Waiting}
 use Rattle.op_queue.specs.Queue.{Queue, IsQueue, is_full, submitted}
-use Rattle.alone.specs.declared.running.Instance.{Instance}
+use Rattle.alone.specs.declared.active_entry.Instance.{Instance}
 use Rattle.alone.specs.Machine.{Machine}
 use Rattle.alone.specs.Step.{Stepped, called, called_open, opened_as, invoked_in, invoked_at, closed_in, closed_at, known, admitted, queued, answered_at_once}
 use Rattle.tee_base.specs.declared.codes.TheConstants.Code.{SUCCESS, BAD_PARAMETERS, BAD_STATE, BUSY, TARGET_DEAD}

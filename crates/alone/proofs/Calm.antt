@@ -1,5 +1,6 @@
 -- An instance that is destroyed has no session, and in an application that isn't single each instance has one at most.
-use Rattle.std.proofs.Common.{ℕ, ◌≡◌, ◌+◌, ◌*◌, ◌≤◌, ◌<◌, ◌==◌, ◌&&◌, Bool, true, false, not, cond, List, [], ◌∷◌, ◌++◌, find, filter, map, length, Option, None, Some, refl, sym, ap, ◌∙◌, ⊎_elim, arith}
+use Rattle.std.proofs.Common.{ℕ, ◌≡◌, ◌+◌, ◌*◌, ◌≤◌, ◌<◌, ◌==◌, ◌&&◌, Bool, true, false, not, cond, List, [], ◌∷◌, ◌++◌, find}
+use Rattle.std.proofs.Common.{filter, map, length, Option, None, Some, refl, sym, ap, ◌∙◌, ⊎_elim, arith}
 use Rattle.std.proofs.lemmas.Bool.{cases_Bool, cond_both, eqb-true}
 use Rattle.instances.specs.declared.instances.Admission.{Admission}
 use Rattle.instances.specs.declared.session.Session.{Session}
@@ -7,10 +8,10 @@ use Rattle.instances.specs.declared.session.Slot.{Slot}
 use Rattle.instances.specs.declared.session.SessionFacts.{SessionFacts}
 use Rattle.instances.specs.declared.session.SessionState.TheVariants.{Opening, Dead}
 use Rattle.instances.specs.Instances.{Table, destroy_begun, ended, entered, facts_of, instance_numbers, is_dead, killed, stays_after_end, with_ending}
-use Rattle.alone.specs.declared.running.Instance.{Instance}
-use Rattle.alone.specs.declared.running.Running.{Running}
-use Rattle.alone.specs.declared.running.Stage.{Stage}
-use Rattle.alone.specs.declared.running.Stage.TheVariants as stages
+use Rattle.alone.specs.declared.active_entry.Instance.{Instance}
+use Rattle.alone.specs.declared.active_entry.ActiveEntry.{ActiveEntry}
+use Rattle.alone.specs.declared.active_entry.EntryPoint.{EntryPoint}
+use Rattle.alone.specs.declared.active_entry.EntryPoint.TheVariants as stages
 use Rattle.alone.specs.Machine.{is_number, put_instance}
 use Rattle.alone.specs.Step.{new_instance}
 use Rattle.alone.proofs.Totals.{bit, having, total, total_filter, total_le, total_map, total_ones, total_push, total_zero}
@@ -28,14 +29,14 @@ counts_in i c = (c.instance == i) && not (is_dead c.state)
 abbrev pub counting : ℕ → List Session → ℕ
 counting i ss = sessions_of (counts_in i) ss
 
-abbrev pub is_destroy : Stage → Bool
+abbrev pub is_destroy : EntryPoint → Bool
 is_destroy (stages.Create session ps places) = false
 is_destroy (stages.Start session places) = false
 is_destroy (stages.Invoke session places) = false
 is_destroy (stages.Stop session) = false
 is_destroy (stages.Destroy reply) = true
 
-abbrev pub destroys : Option Running → Bool
+abbrev pub destroys : Option ActiveEntry → Bool
 destroys None = false
 destroys (Some r) = is_destroy r.stage
 

@@ -13,17 +13,18 @@ use Rattle.op_queue.specs.declared.operation.Operation.{Operation}
 use Rattle.op_queue.specs.declared.operation.Progress.TheVariants.{Waiting, Running as Runs}
 use Rattle.op_queue.specs.Queue.{Queue, IsQueue, ComesBefore, is_close, is_close_call, is_running, waits_for, first_waiting, started, after_begin, without}
 use Rattle.op_queue.proofs.Keeps.{started_IsQueue, without_IsQueue}
-use Rattle.alone.specs.declared.running.Instance.{Instance}
-use Rattle.alone.specs.declared.running.Running.{Running}
-use Rattle.alone.specs.declared.running.Stage.{Stage}
-use Rattle.alone.specs.declared.running.Stage.TheVariants as stages
+use Rattle.alone.specs.declared.active_entry.Instance.{Instance}
+use Rattle.alone.specs.declared.active_entry.ActiveEntry.{ActiveEntry}
+use Rattle.alone.specs.declared.active_entry.EntryPoint.{EntryPoint}
+use Rattle.alone.specs.declared.active_entry.EntryPoint.TheVariants as stages
 use Rattle.alone.specs.Machine.{is_number, put_instance}
 use Rattle.alone.specs.Step.{first_entry}
 use Rattle.alone.proofs.Totals.{bit, total, having, having_once, alike, found_passes, found_grows, total_both, total_map, total_filter, total_le, total_le_each, total_once}
 use Rattle.alone.proofs.Each.{ending_numbers, each_filter, each_map, each_weaker, bit_and, bit_when}
 use Rattle.alone.proofs.Lists.{total_put, numbers_put}
 use Rattle.alone.proofs.Calm.{IsCalm, calm_begun, calm_le, counting, destroyers_put, destroys, filter_le, sessions_of}
-use Rattle.alone.proofs.Sound.{IsSound, HasSlot, Run, run, claim_of, claim_of_call, claim_of_progress, claim_of_entry, claim_in, entry_le, run_of, weigh, weigh_entry, weigh_in, weigh_le, weigh_op, weigh_served, held_by, held_in, runs_by, run_fits, if_some}
+use Rattle.alone.proofs.Sound.{IsSound, HasSlot, Run, run, claim_of, claim_of_call, claim_of_progress, claim_of_entry, claim_in, entry_le, run_of, weigh}
+use Rattle.alone.proofs.Sound.{weigh_entry, weigh_in, weigh_le, weigh_op, weigh_served, held_by, held_in, runs_by, run_fits, if_some}
 
 -- the number of an operation
 abbrev pub operation_number : Operation → ℕ
@@ -180,10 +181,10 @@ runs_by_others p op os =
     omega (arith, after, le)
 
 -- a run of the operation is none of the others
-op_gone : (p : Run → Bool) (op i : ℕ) (stage : Stage) → weigh_op (other_op op p) i op stage ≡ 0
+op_gone : (p : Run → Bool) (op i : ℕ) (stage : EntryPoint) → weigh_op (other_op op p) i op stage ≡ 0
 op_gone p op i stage = go stage (λ close. ap (λ b. bit (not b && p (run op i close))) (eq-eqb op op refl))
   where
-    go : (stage : Stage) → ((close : Bool) → bit (other_op op p (run op i close)) ≡ 0) → weigh_op (other_op op p) i op stage ≡ 0
+    go : (stage : EntryPoint) → ((close : Bool) → bit (other_op op p (run op i close)) ≡ 0) → weigh_op (other_op op p) i op stage ≡ 0
     go (stages.Create session ps places) none = none false
     go (stages.Start session places) none = none false
     go (stages.Invoke session places) none = none false
@@ -211,7 +212,7 @@ sound_left {A} q t ss xs new old h found left same fewer = record {
   calm = calm_le t (record t { sessions = ss }) xs (put_instance new xs) h.calm refl left.counts (destroyers_put new old xs found fewer) (λ i. omega arith);
 }
 
-pub sound_answered : {A : Type 0} (q : Queue) (t : Table) (ss : List Session) (xs : List (Instance A)) (inst : Instance A) (r : Running) (op : ℕ)
+pub sound_answered : {A : Type 0} (q : Queue) (t : Table) (ss : List Session) (xs : List (Instance A)) (inst : Instance A) (r : ActiveEntry) (op : ℕ)
     → IsSound q t xs → find (is_number inst.number) xs ≡ Some inst → inst.running ≡ Some r → r.op ≡ Some op
     → IsLeft q t ss (put_instance (record inst { running = None }) xs) → IsSound (without q op) (record t { sessions = ss }) (put_instance (record inst { running = None }) xs)
 sound_answered {A} q t ss xs inst r op h found running serves left =

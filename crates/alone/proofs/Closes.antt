@@ -1,5 +1,6 @@
 -- Where a session is open, fewer than eight closes are unanswered.
-use Rattle.std.proofs.Common.{ℕ, ◌≡◌, ◌+◌, ◌*◌, ◌≤◌, ◌<◌, ◌==◌, ◌&&◌, ◌||◌, nat_eq, Bool, true, false, not, List, [], ◌∷◌, find, map, length, count_by, Option, None, Some, refl, sym, ap, ◌∙◌, ⊎_elim, eq-eqb, arith}
+use Rattle.std.proofs.Common.{ℕ, ◌≡◌, ◌+◌, ◌*◌, ◌≤◌, ◌<◌, ◌==◌, ◌&&◌, ◌||◌, nat_eq, Bool, true, false, not, List, [], ◌∷◌, find, map}
+use Rattle.std.proofs.Common.{length, count_by, Option, None, Some, refl, sym, ap, ◌∙◌, ⊎_elim, eq-eqb, arith}
 use Rattle.std.specs.List.{AllByRecursion, list_any}
 use Rattle.std.proofs.lemmas.Bool.{cases_Bool, both_ways}
 use Rattle.std.proofs.lemmas.List.{length-map}
@@ -14,14 +15,15 @@ use Rattle.op_queue.specs.declared.operation.Operation.{Operation}
 use Rattle.op_queue.specs.declared.operation.Progress.{Progress}
 use Rattle.op_queue.specs.declared.operation.Progress.TheVariants.{Waiting, Running as Runs}
 use Rattle.op_queue.specs.Queue.{Queue, is_close}
-use Rattle.alone.specs.declared.running.Instance.{Instance}
-use Rattle.alone.specs.declared.running.Running.{Running}
-use Rattle.alone.specs.declared.running.Stage.{Stage}
-use Rattle.alone.specs.declared.running.Stage.TheVariants as stages
+use Rattle.alone.specs.declared.active_entry.Instance.{Instance}
+use Rattle.alone.specs.declared.active_entry.ActiveEntry.{ActiveEntry}
+use Rattle.alone.specs.declared.active_entry.EntryPoint.{EntryPoint}
+use Rattle.alone.specs.declared.active_entry.EntryPoint.TheVariants as stages
 use Rattle.alone.proofs.Totals.{bit, found_grows, total, total_both, total_count, total_le}
 use Rattle.alone.proofs.Each.{each_weaker, or_later}
 use Rattle.alone.proofs.Calm.{counting, counts_in, destroyers, destroys, destroys_at, is_destroy, sessions_of}
-use Rattle.alone.proofs.Sound.{IsSound, HasSlot, Run, claim_of, claim_of_entry, claim_of_progress, claim_of_stage, claim_in, run_of, run_of_progress, weigh, weigh_entry, weigh_in, weigh_op, weigh_served}
+use Rattle.alone.proofs.Sound.{IsSound, HasSlot, Run, claim_of, claim_of_entry, claim_of_progress, claim_of_stage, claim_in}
+use Rattle.alone.proofs.Sound.{run_of, run_of_progress, weigh, weigh_entry, weigh_in, weigh_op, weigh_served}
 
 -- ---- what each close holds
 
@@ -45,18 +47,18 @@ close_holds op session i (Waiting (calls.Close label)) = omega arith
 close_holds op session i (Runs close cancelled masked) = omega arith
 
 -- one that runs holds it, or its instance is destroyed
-op_holds : (op i : ℕ) (stage : Stage) → weigh_op stopping i op stage ≤ weigh closing (claim_of_stage i stage) + bit (is_destroy stage)
+op_holds : (op i : ℕ) (stage : EntryPoint) → weigh_op stopping i op stage ≤ weigh closing (claim_of_stage i stage) + bit (is_destroy stage)
 op_holds op i (stages.Create session ps places) = omega arith
 op_holds op i (stages.Start session places) = omega arith
 op_holds op i (stages.Invoke session places) = omega arith
 op_holds op i (stages.Stop session) = omega arith
 op_holds op i (stages.Destroy reply) = omega arith
 
-served_holds : (op : Option ℕ) (i : ℕ) (stage : Stage) → weigh_served stopping i op stage ≤ weigh closing (claim_of_stage i stage) + bit (is_destroy stage)
+served_holds : (op : Option ℕ) (i : ℕ) (stage : EntryPoint) → weigh_served stopping i op stage ≤ weigh closing (claim_of_stage i stage) + bit (is_destroy stage)
 served_holds None i stage = omega arith
 served_holds (Some op) i stage = op_holds op i stage
 
-entry_holds : (i : ℕ) (o : Option Running) → weigh_entry stopping i o ≤ weigh closing (claim_of_entry i o) + bit (destroys o)
+entry_holds : (i : ℕ) (o : Option ActiveEntry) → weigh_entry stopping i o ≤ weigh closing (claim_of_entry i o) + bit (destroys o)
 entry_holds i None = omega arith
 entry_holds i (Some r) = served_holds r.op i r.stage
 

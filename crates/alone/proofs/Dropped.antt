@@ -13,7 +13,7 @@ use Rattle.op_queue.specs.declared.operation.Progress.TheVariants.{Waiting, Runn
 use Rattle.op_queue.specs.declared.operation.Cancelled.{Cancelled as Cancellation}
 use Rattle.op_queue.specs.declared.operation.Cancelled.TheVariants.{Dropped, Flagged, Nothing}
 use Rattle.op_queue.specs.Queue.{Queue, after_cancel, cancel_of, operation_of, without}
-use Rattle.alone.specs.declared.running.Instance.{Instance}
+use Rattle.alone.specs.declared.active_entry.Instance.{Instance}
 use Rattle.alone.specs.Machine.{Machine, instance_at}
 use Rattle.alone.specs.Step.{cancelled, cancelled_by, dropped, instance_gone, is_unused, open_of_call, open_of_progress, unless_unused, waiting_open}
 use Rattle.alone.proofs.Totals.{bit, found_grows, found_passes, nothing_found, total, total_filter}

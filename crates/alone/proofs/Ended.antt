@@ -12,12 +12,12 @@ use Rattle.op_queue.specs.declared.operation.Operation.{Operation}
 use Rattle.op_queue.specs.Queue.{Queue, is_running, waits_for, without}
 use Rattle.alone.specs.declared.reply.Outputs.{Outputs}
 use Rattle.alone.specs.declared.reply.Reply.{Reply}
-use Rattle.alone.specs.declared.running.Instance.{Instance}
-use Rattle.alone.specs.declared.running.Running.{Running}
-use Rattle.alone.specs.declared.running.Stage.{Stage}
-use Rattle.alone.specs.declared.running.Stage.TheVariants as stages
+use Rattle.alone.specs.declared.active_entry.Instance.{Instance}
+use Rattle.alone.specs.declared.active_entry.ActiveEntry.{ActiveEntry}
+use Rattle.alone.specs.declared.active_entry.EntryPoint.{EntryPoint}
+use Rattle.alone.specs.declared.active_entry.EntryPoint.TheVariants as stages
 use Rattle.alone.specs.Machine.{Machine, is_number, put_instance}
-use Rattle.alone.specs.Step.{Stepped, after_session, answered, belongs_to, destroy_begins, destroying, instance_gone, masked_again, quiet}
+use Rattle.alone.specs.Step.{Stepped, after_session, answered, belongs_to, destroy_begins, destroying, instance_gone, masked_again, no_replies}
 use Rattle.alone.proofs.Totals.{bit, total_filter, total_le, total_zero}
 use Rattle.alone.proofs.Each.{each_both, each_filter}
 use Rattle.alone.proofs.Lists.{find_put, found_none, total_put}
@@ -63,7 +63,7 @@ left_none t i left = go t.sessions (not-true (has_session t i) (and_parts (not (
 
 -- ---- what a destroy entry serves is what the entry before it served
 
-serves_on : (p : Run → Bool) (i : ℕ) (op : Option ℕ) (stage : Stage) (reply : Option Reply) → weigh_served p i op stage ≤ weigh_served p i op (stages.Destroy reply)
+serves_on : (p : Run → Bool) (i : ℕ) (op : Option ℕ) (stage : EntryPoint) (reply : Option Reply) → weigh_served p i op stage ≤ weigh_served p i op (stages.Destroy reply)
 serves_on p i None stage reply = omega arith
 serves_on p i (Some op) (stages.Create session ps places) reply = omega arith
 serves_on p i (Some op) (stages.Start session places) reply = omega arith
@@ -80,7 +80,8 @@ module _ {A : Type 0} where
 
   -- ---- an operation is answered
 
-  answers_none : (m : Machine A) (inst : Instance A) (r : Running) (ss : List Session) → IsSoundMachine m → find (is_number inst.number) m.instances ≡ Some inst → inst.running ≡ Some r → r.op ≡ None
+  answers_none : (m : Machine A) (inst : Instance A) (r : ActiveEntry) (ss : List Session) → IsSoundMachine m → find (is_number inst.number) m.instances ≡ Some inst
+      → inst.running ≡ Some r → r.op ≡ None
       → IsLeft m.queue m.table ss (put_instance (idle inst) m.instances) → IsNearer inst.number m.queue m.instances m.queue (record m.table { sessions = ss }) (put_instance (idle inst) m.instances)
   answers_none m inst r ss h found running serves left =
       let i = inst.number in
@@ -94,7 +95,7 @@ module _ {A : Type 0} where
         less = λ _. omega (arith, before, after, left_positive r.waits (2 * (65536 - r.asks)));
       }
 
-  answers_some : (m : Machine A) (inst : Instance A) (r : Running) (op : ℕ) (ss : List Session) → IsSoundMachine m
+  answers_some : (m : Machine A) (inst : Instance A) (r : ActiveEntry) (op : ℕ) (ss : List Session) → IsSoundMachine m
       → find (is_number inst.number) m.instances ≡ Some inst → inst.running ≡ Some r → r.op ≡ Some op
       → IsLeft m.queue m.table ss (put_instance (idle inst) m.instances)
       → IsNearer inst.number m.queue m.instances (without m.queue op) (record m.table { sessions = ss }) (put_instance (idle inst) m.instances)
@@ -109,7 +110,7 @@ module _ {A : Type 0} where
         less = λ _. omega (arith, before, after, left_positive r.waits (2 * (65536 - r.asks)), filter_le (λ o. bit (waits_for i o)) (λ o. not (o.number == op)) m.queue.operations);
       }
 
-  answers : (m : Machine A) (inst : Instance A) (r : Running) (op : Option ℕ) (code : Code) (outputs : Outputs) (ss : List Session) → IsSoundMachine m
+  answers : (m : Machine A) (inst : Instance A) (r : ActiveEntry) (op : Option ℕ) (code : Code) (outputs : Outputs) (ss : List Session) → IsSoundMachine m
       → find (is_number inst.number) m.instances ≡ Some inst → inst.running ≡ Some r → r.op ≡ op
       → IsLeft m.queue m.table ss (put_instance (idle inst) m.instances) → IsTurned inst.number m (answered (record m { table = record m.table { sessions = ss } }) inst op code outputs)
   answers m inst r None code outputs ss h found running serves left = answers_none m inst r ss h found running serves left
@@ -118,7 +119,7 @@ module _ {A : Type 0} where
   -- ---- the sessions that a return leaves
 
   -- where an instance that held a session holds it no longer
-  lets_go : (m : Machine A) (inst new : Instance A) (r : Running) (c : SessionFacts) (ss : List Session) → IsSoundMachine m
+  lets_go : (m : Machine A) (inst new : Instance A) (r : ActiveEntry) (c : SessionFacts) (ss : List Session) → IsSoundMachine m
       → find (is_number new.number) m.instances ≡ Some inst → inst.running ≡ Some r → claim_of_stage inst.number r.stage ≡ Some c → claim_in new ≡ None
       → IsTable (record m.table { sessions = ss }) → AllByRecursion (λ s. is_dead s.state ≡ false → HasSlot m.table s.instance) ss → ((i : ℕ) → counting i ss ≤ counting i m.table.sessions)
       → ((p : SessionFacts → Bool) → sessions_of (both (not_of c.session) p) m.table.sessions ≤ sessions_of p ss) → IsLeft m.queue m.table ss (put_instance new m.instances)
@@ -131,7 +132,7 @@ module _ {A : Type 0} where
   }
 
   -- with its session gone
-  lets_gone : (m : Machine A) (inst new : Instance A) (r : Running) (c : SessionFacts) → IsSoundMachine m → find (is_number new.number) m.instances ≡ Some inst
+  lets_gone : (m : Machine A) (inst new : Instance A) (r : ActiveEntry) (c : SessionFacts) → IsSoundMachine m → find (is_number new.number) m.instances ≡ Some inst
       → inst.running ≡ Some r → claim_of_stage inst.number r.stage ≡ Some c → claim_in new ≡ None
       → IsLeft m.queue m.table (filter (λ s. not (s.number == c.session)) m.table.sessions) (put_instance new m.instances)
   lets_gone m inst new r c h found running claim none =
@@ -142,7 +143,7 @@ module _ {A : Type 0} where
       (λ p. removed_others p c.session m.table.sessions)
 
   -- with its session open
-  pub ends_open : (m : Machine A) (inst : Instance A) (r : Running) (op : Option ℕ) (code : Code) (outputs : Outputs) (c : SessionFacts) → IsSoundMachine m
+  pub ends_open : (m : Machine A) (inst : Instance A) (r : ActiveEntry) (op : Option ℕ) (code : Code) (outputs : Outputs) (c : SessionFacts) → IsSoundMachine m
       → find (is_number inst.number) m.instances ≡ Some inst → inst.running ≡ Some r → r.op ≡ op → claim_of_stage inst.number r.stage ≡ Some c
       → IsTurned inst.number m (answered (record m { table = state_set m.table c.session Open }) inst op code outputs)
   ends_open m inst r op code outputs c h found running serves claim =
@@ -157,7 +158,7 @@ module _ {A : Type 0} where
       (λ p. set_others p c.session Open m.table.sessions))
 
   -- with the sessions as they were
-  pub ends_invoke : (m : Machine A) (inst : Instance A) (r : Running) (op : Option ℕ) (code : Code) (outputs : Outputs) → IsSoundMachine m
+  pub ends_invoke : (m : Machine A) (inst : Instance A) (r : ActiveEntry) (op : Option ℕ) (code : Code) (outputs : Outputs) → IsSoundMachine m
       → find (is_number inst.number) m.instances ≡ Some inst → inst.running ≡ Some r → r.op ≡ op → claim_of_stage inst.number r.stage ≡ None
       → IsTurned inst.number m (answered m inst op code outputs)
   ends_invoke m inst r op code outputs h found running serves claim =
@@ -172,10 +173,10 @@ module _ {A : Type 0} where
 
   -- ---- the destroy entry begins
 
-  destroys_next : (m : Machine A) (inst : Instance A) (r : Running) (c : SessionFacts) (op : Option ℕ) (reply : Option Reply) → IsSoundMachine m
+  destroys_next : (m : Machine A) (inst : Instance A) (r : ActiveEntry) (c : SessionFacts) (op : Option ℕ) (reply : Option Reply) → IsSoundMachine m
       → find (is_number inst.number) m.instances ≡ Some inst → inst.running ≡ Some r → r.op ≡ op → claim_of_stage inst.number r.stage ≡ Some c
       → turns_behind r.stage ≡ 131074 → is_left (session_removed m.table c.session) inst.number ≡ true
-      → IsTurned inst.number m (quiet (destroying (record m { table = session_removed m.table c.session }) inst op reply))
+      → IsTurned inst.number m (no_replies (destroying (record m { table = session_removed m.table c.session }) inst op reply))
   destroys_next m inst r c op reply h found running serves claim behind left =
       let i = inst.number in
       let new : Instance A = destroyed inst op reply in
@@ -193,7 +194,7 @@ module _ {A : Type 0} where
         less = λ _. omega (arith, before, after, behind, left_positive r.waits (2 * (65536 - r.asks)));
       })
 
-  goes_with : (m : Machine A) (inst : Instance A) (r : Running) (c : SessionFacts) (op : Option ℕ) (code : Code) (outputs : Outputs) → IsSoundMachine m
+  goes_with : (m : Machine A) (inst : Instance A) (r : ActiveEntry) (c : SessionFacts) (op : Option ℕ) (code : Code) (outputs : Outputs) → IsSoundMachine m
       → find (is_number inst.number) m.instances ≡ Some inst → inst.running ≡ Some r → r.op ≡ op → claim_of_stage inst.number r.stage ≡ Some c
       → turns_behind r.stage ≡ 131074 → IsTurned inst.number m (after_session (record m { table = session_removed m.table c.session }) inst op code outputs)
   goes_with m inst r c op code outputs h found running serves claim behind =
@@ -201,13 +202,13 @@ module _ {A : Type 0} where
       (λ left. destroys_next m inst r c op _ h found running serves claim behind left)
       (λ _. answers m inst r op code outputs (filter (λ s. not (s.number == c.session)) m.table.sessions) h found running serves (lets_gone m inst (idle inst) r c h found running claim refl))
 
-  pub ends_failed : (m : Machine A) (inst : Instance A) (r : Running) (session : ℕ) (places : _) (op : Option ℕ) (code : Code) (outputs : Outputs)
+  pub ends_failed : (m : Machine A) (inst : Instance A) (r : ActiveEntry) (session : ℕ) (places : _) (op : Option ℕ) (code : Code) (outputs : Outputs)
       → IsSoundMachine m → find (is_number inst.number) m.instances ≡ Some inst → inst.running ≡ Some r → r.op ≡ op → r.stage ≡ stages.Start session places
       → IsTurned inst.number m (after_session (record m { table = session_removed m.table session }) inst op code outputs)
   ends_failed m inst r session places op code outputs h found running serves e =
       goes_with m inst r (facts session inst.number Opening) op code outputs h found running serves (ap (claim_of_stage inst.number) e) (ap turns_behind e)
 
-  pub ends_closed : (m : Machine A) (inst : Instance A) (r : Running) (session : ℕ) (op : Option ℕ) (code : Code) (outputs : Outputs) → IsSoundMachine m
+  pub ends_closed : (m : Machine A) (inst : Instance A) (r : ActiveEntry) (session : ℕ) (op : Option ℕ) (code : Code) (outputs : Outputs) → IsSoundMachine m
       → find (is_number inst.number) m.instances ≡ Some inst → inst.running ≡ Some r → r.op ≡ op → r.stage ≡ stages.Stop session
       → IsTurned inst.number m (after_session (record m { table = session_removed m.table session }) inst op code outputs)
   ends_closed m inst r session op code outputs h found running serves e =
@@ -216,7 +217,7 @@ module _ {A : Type 0} where
   -- where nothing waits
   pub begins_destroy : (m : Machine A) (inst : Instance A) → IsSoundMachine m → find (is_number inst.number) m.instances ≡ Some inst → inst.running ≡ None
       → is_left m.table inst.number ≡ true → (1 ≤ measure inst.number m.queue m.instances → ⊥)
-      → IsTurned inst.number m (quiet (destroying m inst None None))
+      → IsTurned inst.number m (no_replies (destroying m inst None None))
   begins_destroy m inst h found rests left none =
       let i = inst.number in
       let new : Instance A = destroyed inst None None in

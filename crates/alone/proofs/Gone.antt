@@ -9,7 +9,7 @@ use Rattle.instances.specs.Instances.{Table, instance_numbers, is_dead, ended, s
 use Rattle.instances.proofs.Changes.{ended_IsTable}
 use Rattle.op_queue.specs.Queue.{Queue}
 use Rattle.op_queue.proofs.Keeps.{filter_IsQueue}
-use Rattle.alone.specs.declared.running.Instance.{Instance}
+use Rattle.alone.specs.declared.active_entry.Instance.{Instance}
 use Rattle.alone.specs.Machine.{is_number}
 use Rattle.alone.specs.Step.{belongs_to}
 use Rattle.alone.proofs.Totals.{bit, total, total_filter, total_le}

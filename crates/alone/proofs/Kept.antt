@@ -3,7 +3,7 @@ use Rattle.app_api.specs.Behaviours.{Behaviour}
 use Rattle.std.proofs.Common.{ℕ, ◌≡◌, ◌&&◌, inl, Bool, true, false, cond, nat_le, List, Option, None, Some, refl, sym, subst}
 use Rattle.std.proofs.lemmas.Bool.{cond_both}
 use Rattle.tee_base.specs.declared.codes.Code.{Code}
-use Rattle.tee_base.specs.declared.limits.TheConstants.{ASKS}
+use Rattle.tee_base.specs.declared.limits.TheConstants.{MAX_ASKS}
 use Rattle.app_api.specs.declared.out.Outs.{Outs}
 use Rattle.app_api.specs.declared.ask.Ask.{Ask}
 use Rattle.app_api.specs.declared.ask.Ask.TheVariants as asked
@@ -14,13 +14,14 @@ use Rattle.op_queue.specs.declared.operation.Begun.{Begun}
 use Rattle.op_queue.specs.declared.operation.Cancelled.{Cancelled as Cancellation}
 use Rattle.op_queue.specs.declared.operation.Cancelled.TheVariants.{Dropped, Flagged, Nothing}
 use Rattle.op_queue.specs.Queue.{after_begin, after_cancel, begun_at, cancel_of, first_waiting, mask_set, operation_of, without}
-use Rattle.object_asks.specs.Asks.{Outcome, Answered, Returned, Panicked, Course, Settled, ComesToStore, Objects, Serving, Serves, Fails, Damaged, changes_store, course_in, object_course, outcome_in, refused}
+use Rattle.object_asks.specs.Asks.{Outcome, Answered, Returned, Panicked, Resolution, Settled, ComesToStore, Objects, Serving, Serves}
+use Rattle.object_asks.specs.Asks.{Fails, Damaged, changes_store, resolution_in, object_resolution, outcome_in, refused}
 use Rattle.tee_base.specs.declared.codes.TheConstants.Code.{STORAGE_NOT_AVAILABLE}
 use Rattle.crypto_ops.specs.Random.{random_from}
-use Rattle.object_asks.specs.KeyOf.{KeyCourse, KeySettled, KeyComesToStore, key_course}
-use Rattle.object_asks.specs.Keys.{generate_course, random_wanted}
+use Rattle.object_asks.specs.KeyOf.{KeyResolution, KeySettled, KeyComesToStore, key_resolution}
+use Rattle.object_asks.specs.Keys.{generate_resolution, random_wanted}
 use Rattle.object_asks.proofs.SoundAsks.{Goes, Leaves}
-use Rattle.operation_asks.specs.Asks.{CryptoState, operation_course}
+use Rattle.operation_asks.specs.Asks.{CryptoState, operation_resolution}
 use Rattle.operation_asks.specs.Asks as operations
 use Rattle.operation_asks.specs.Effects.{Effect}
 use Rattle.operation_asks.specs.Past.{key_effect}
@@ -31,19 +32,21 @@ use Rattle.alone.specs.declared.family.Family.{Family}
 use Rattle.alone.specs.declared.family.Family.TheVariants as families
 use Rattle.alone.specs.declared.reply.Outputs.{Outputs}
 use Rattle.alone.specs.declared.reply.Reply.{Reply}
-use Rattle.alone.specs.declared.running.Instance.{Instance}
-use Rattle.alone.specs.declared.running.Running.{Running}
-use Rattle.alone.specs.declared.running.Stage.{Stage}
-use Rattle.alone.specs.declared.running.Stage.TheVariants as stages
-use Rattle.alone.specs.declared.running.Waits.{Waits}
-use Rattle.alone.specs.declared.running.Waits.TheVariants as waits
-use Rattle.alone.specs.Asks.{course_after, course_in_family, entry_course, mask_course, mask_noted, mask_set_for, objects_of, with_objects}
-use Rattle.alone.specs.Crypto.{drawn_for, effected, generated, generation_course, given_by, keyed_by, operated_by, outcome_by, with_crypto}
+use Rattle.alone.specs.declared.active_entry.Instance.{Instance}
+use Rattle.alone.specs.declared.active_entry.ActiveEntry.{ActiveEntry}
+use Rattle.alone.specs.declared.active_entry.EntryPoint.{EntryPoint}
+use Rattle.alone.specs.declared.active_entry.EntryPoint.TheVariants as stages
+use Rattle.alone.specs.declared.active_entry.Waits.{Waits}
+use Rattle.alone.specs.declared.active_entry.Waits.TheVariants as waits
+use Rattle.alone.specs.Asks.{resolution_after, resolution_in_family, entry_resolution, mask_resolution, mask_noted, mask_set_for, objects_of, with_objects}
+use Rattle.alone.specs.Crypto.{drawn_for, effected, generated, generation_resolution, given_by, keyed_by, operated_by, outcome_by, with_crypto}
 use Rattle.alone.specs.Families.{family_of}
 use Rattle.alone.specs.Machine.{Machine, instance_at, with_instance}
 use Rattle.alone.specs.Places.{is_misuse, places_at}
-use Rattle.alone.specs.Step.{Stepped, acted, after_session, answered, begun_with, cancelled, cancelled_by, destroy_begins, destroying, dropped, instance_gone, is_success, is_unused, masked_again, returned, served, start_begun, store_left, turn_counted, turned_as, turned_at, turned_by, unless_unused, waiting_open, went_on}
-use Rattle.alone.proofs.Streams.{IsOfStream, LeavesStream, course_stream, drawn_stream}
+use Rattle.alone.specs.Step.{Stepped, after_ask, after_session, answered, begun_with, cancelled, cancelled_by, destroy_begins, destroying}
+use Rattle.alone.specs.Step.{dropped, instance_gone, is_success, is_unused, masked_again, returned, served, start_begun, store_left}
+use Rattle.alone.specs.Step.{turn_counted, turned_as, turned_at, turned_by, unless_unused, waiting_open, went_on}
+use Rattle.alone.proofs.Streams.{IsOfStream, LeavesStream, resolution_stream, drawn_stream}
 
 -- each change of which a turn, a cancellation and a teardown are made keeps it, behind the count of turns
 pub record IsKept {A : Type 0} (P : Machine A → Type 0) : Type 0 where
@@ -56,9 +59,9 @@ pub record IsKept {A : Type 0} (P : Machine A → Type 0) : Type 0 where
   pub removed : (m : Machine A) (session : ℕ) → P m → P (record m { table = session_removed m.table session })
   pub ending : (m : Machine A) (i : ℕ) → P m → P (record m { table = destroy_begun m.table i })
   pub gone : (m : Machine A) (i : ℕ) → P m → P (instance_gone m i)
-  pub objects : (m : Machine A) (i : ℕ) (ask : Ask) → P m → Goes (λ o. P (with_objects m o)) (object_course (objects_of m) i ask)
+  pub objects : (m : Machine A) (i : ℕ) (ask : Ask) → P m → Goes (λ o. P (with_objects m o)) (object_resolution (objects_of m) i ask)
   pub crypto : (m : Machine A) (s : CryptoState) → IsOfStream m.crypto.random s.random → P m → P (with_crypto m s)
-  pub made : (m : Machine A) (i object bits : ℕ) (random : ℕ → List ℕ) → P m → Goes (λ o. P (with_objects m o)) (generate_course (objects_of m) i object bits random)
+  pub made : (m : Machine A) (i object bits : ℕ) (random : ℕ → List ℕ) → P m → Goes (λ o. P (with_objects m o)) (generate_resolution (objects_of m) i object bits random)
 
 -- and where a call of the store fails, so does its loss
 abbrev pub IsKeptAs : {A : Type 0} → Serving → (Machine A → Type 0) → Type 0
@@ -115,19 +118,19 @@ module _ {A : Type 0} (P : Machine A → Type 0) (k : IsKept P) where
   outcome_kept m (Returned code outs) h = tt
   outcome_kept m Panicked h = tt
 
-  in_whole : (m : Machine A) (c : Course Objects) → Goes (λ o. P (with_objects m o)) c → Goes P (course_in (with_objects m) c)
+  in_whole : (m : Machine A) (c : Resolution Objects) → Goes (λ o. P (with_objects m o)) c → Goes P (resolution_in (with_objects m) c)
   in_whole m (Settled outcome) h = outcome_kept m outcome h
-  in_whole m (ComesToStore refused_ plain) h = (h.0, outcome_kept m plain h.1)
+  in_whole m (ComesToStore refused_ if_served) h = (h.0, outcome_kept m if_served h.1)
 
-  either_course : (b : Bool) (x y : Course (Machine A)) → Goes P x → Goes P y → Goes P (cond b x y)
-  either_course b x y here there = cond_both b x y (Goes P) (λ _. here) (λ _. there)
+  either_resolution : (b : Bool) (x y : Resolution (Machine A)) → Goes P x → Goes P y → Goes P (cond b x y)
+  either_resolution b x y here there = cond_both b x y (Goes P) (λ _. here) (λ _. there)
 
-  mask_kept : (m : Machine A) (r : Running) (value : Bool) (op : Option ℕ) → r.op ≡ op → P m → Goes P (mask_course m r value)
+  mask_kept : (m : Machine A) (r : ActiveEntry) (value : Bool) (op : Option ℕ) → r.op ≡ op → P m → Goes P (mask_resolution m r value)
   mask_kept m r value None e h = subst (λ (o : Option ℕ). P (record m { queue = mask_set_for m.queue o value })) (sym e) h
   mask_kept m r value (Some op) e h = subst (λ (o : Option ℕ). P (record m { queue = mask_set_for m.queue o value })) (sym e) (k.masked m op value h)
 
-  entry_kept : (m : Machine A) (r : Running) (ask : Ask) → P m → Goes P (entry_course m r ask)
-  entry_kept m r (asked.Return code outs) h = either_course (is_misuse (places_at r.stage) outs) _ _ tt tt
+  entry_kept : (m : Machine A) (r : ActiveEntry) (ask : Ask) → P m → Goes P (entry_resolution m r ask)
+  entry_kept m r (asked.Return code outs) h = either_resolution (is_misuse (places_at r.stage) outs) _ _ tt tt
   entry_kept m r asked.CancelFlag h = h
   entry_kept m r asked.CancelMask h = mask_kept m r true r.op refl h
   entry_kept m r asked.CancelUnmask h = mask_kept m r false r.op refl h
@@ -142,41 +145,41 @@ module _ {A : Type 0} (P : Machine A → Type 0) (k : IsKept P) where
   effected_kept : (m : Machine A) (e : Effect CryptoState) → IsOfStream m.crypto.random e.after.random → P m → Leaves P (effected m e)
   effected_kept m e stream h = told_kept (with_crypto m e.after) e.told (k.crypto m e.after stream h)
 
-  keyed_kept : (m : Machine A) (i op : ℕ) (c : KeyCourse) → P m → Goes P (keyed_by m i op c)
+  keyed_kept : (m : Machine A) (i op : ℕ) (c : KeyResolution) → P m → Goes P (keyed_by m i op c)
   keyed_kept m i op (KeySettled found) h = effected_kept m (key_effect m.crypto i op (given_by found)) (inl refl) h
-  keyed_kept m i op (KeyComesToStore plain) h = (h, effected_kept m (key_effect m.crypto i op (given_by plain)) (inl refl) h)
+  keyed_kept m i op (KeyComesToStore if_served) h = (h, effected_kept m (key_effect m.crypto i op (given_by if_served)) (inl refl) h)
 
-  operated_kept : (m : Machine A) (i : ℕ) (c : operations.Course CryptoState) → LeavesStream m.crypto.random c → P m → Goes P (operated_by m i c)
+  operated_kept : (m : Machine A) (i : ℕ) (c : operations.Resolution CryptoState) → LeavesStream m.crypto.random c → P m → Goes P (operated_by m i c)
   operated_kept m i (operations.Settled effect) stream h = effected_kept m effect stream h
-  operated_kept m i (operations.WantsKey op object) stream h = keyed_kept m i op (key_course (objects_of m) i object) h
+  operated_kept m i (operations.WantsKey op object) stream h = keyed_kept m i op (key_resolution (objects_of m) i object) h
 
   generated_kept : (m : Machine A) (i object bits : ℕ) → P m → Goes P (generated m i object bits)
   generated_kept m i object bits h =
       let wanted = random_wanted m.held i object bits in
       let drew = with_crypto m (drawn_for m.crypto wanted) in
-      in_whole drew (generate_course (objects_of m) i object bits (random_from m.crypto.random))
+      in_whole drew (generate_resolution (objects_of m) i object bits (random_from m.crypto.random))
       (k.made drew i object bits (random_from m.crypto.random) (k.crypto m (drawn_for m.crypto wanted) (drawn_stream m.crypto wanted) h))
 
-  generation_kept : (m : Machine A) (i : ℕ) (ask : Ask) → P m → Goes P (generation_course m i ask)
+  generation_kept : (m : Machine A) (i : ℕ) (ask : Ask) → P m → Goes P (generation_resolution m i ask)
   generation_kept m i (asked.KeyGenerate object bits) h = generated_kept m i object bits h
   generation_kept m i ask h = tt
 
-  family_kept : (m : Machine A) (i : ℕ) (r : Running) (ask : Ask) (family : Family) → P m → Goes P (course_in_family family m i r ask)
+  family_kept : (m : Machine A) (i : ℕ) (r : ActiveEntry) (ask : Ask) (family : Family) → P m → Goes P (resolution_in_family family m i r ask)
   family_kept m i r ask families.Entry h = entry_kept m r ask h
-  family_kept m i r ask families.Objects h = in_whole m (object_course (objects_of m) i ask) (k.objects m i ask h)
-  family_kept m i r ask families.Operations h = operated_kept m i (operation_course m.crypto i ask) (course_stream m.crypto i ask) h
+  family_kept m i r ask families.Objects h = in_whole m (object_resolution (objects_of m) i ask) (k.objects m i ask h)
+  family_kept m i r ask families.Operations h = operated_kept m i (operation_resolution m.crypto i ask) (resolution_stream m.crypto i ask) h
   family_kept m i r ask families.Generation h = generation_kept m i ask h
 
-  after_kept : (m : Machine A) (i : ℕ) (r : Running) (ask : Ask) → P m → Goes P (course_after m i r ask)
-  after_kept m i r ask h = either_course (nat_le ASKS r.asks) _ _ tt (family_kept m i r ask (family_of ask) h)
+  after_kept : (m : Machine A) (i : ℕ) (r : ActiveEntry) (ask : Ask) → P m → Goes P (resolution_after m i r ask)
+  after_kept m i r ask h = either_resolution (nat_le MAX_ASKS r.asks) _ _ tt (family_kept m i r ask (family_of ask) h)
 
-  served_kept : (serving : Serving) → IsKeptAs serving P → (m : Machine A) (ask : Ask) (c : Course (Machine A)) → Goes P c → Leaves P (served serving m ask c)
+  served_kept : (serving : Serving) → IsKeptAs serving P → (m : Machine A) (ask : Ask) (c : Resolution (Machine A)) → Goes P c → Leaves P (served serving m ask c)
   served_kept Serves loses m ask (Settled outcome) goes = goes
   served_kept Fails loses m ask (Settled outcome) goes = goes
   served_kept Damaged loses m ask (Settled outcome) goes = goes
-  served_kept Serves loses m ask (ComesToStore kept plain) goes = cond_both m.lost (refused kept STORAGE_NOT_AVAILABLE) plain (Leaves P) (λ _. goes.0) (λ _. goes.1)
-  served_kept Fails loses m ask (ComesToStore kept plain) goes = loses kept (cond (changes_store ask) (Some (store_left kept plain)) kept.in_doubt) goes.0
-  served_kept Damaged loses m ask (ComesToStore kept plain) goes = goes.0
+  served_kept Serves loses m ask (ComesToStore kept if_served) goes = cond_both m.lost (refused kept STORAGE_NOT_AVAILABLE) if_served (Leaves P) (λ _. goes.0) (λ _. goes.1)
+  served_kept Fails loses m ask (ComesToStore kept if_served) goes = loses kept (cond (changes_store ask) (Some (store_left kept if_served)) kept.in_doubt) goes.0
+  served_kept Damaged loses m ask (ComesToStore kept if_served) goes = goes.0
 
   -- ---- what a turn does
 
@@ -187,7 +190,7 @@ module _ {A : Type 0} (P : Machine A → Type 0) (k : IsKept P) where
   after_session_kept : (m : Machine A) (inst : Instance A) (op : Option ℕ) (code : Code) (outputs : Outputs) → P m → Ends (after_session m inst op code outputs)
   after_session_kept m inst op code outputs h = either (is_left m.table inst.number) _ _ (destroying_kept m inst op _ h) (answered_kept m inst op code outputs h)
 
-  returned_kept : (m : Machine A) (inst : Instance A) (op : Option ℕ) (stage : Stage) (code : Code) (outs : Outs) → P m → Ends (returned m inst op stage code outs)
+  returned_kept : (m : Machine A) (inst : Instance A) (op : Option ℕ) (stage : EntryPoint) (code : Code) (outs : Outs) → P m → Ends (returned m inst op stage code outs)
   returned_kept m inst op (stages.Create session ps places) code outs h =
       either (is_success code) _ _
       (k.put (record m { queue = masked_again m.queue op }) (record inst { created = true; running = Some (start_begun op session ps places) }) (masked_kept m op h))
@@ -200,7 +203,7 @@ module _ {A : Type 0} (P : Machine A → Type 0) (k : IsKept P) where
   returned_kept m inst op (stages.Stop session) code outs h = after_session_kept (record m { table = session_removed m.table session }) inst op _ _ (k.removed m session h)
   returned_kept m inst op (stages.Destroy reply) code outs h = k.gone m inst.number h
 
-  acted_kept : (m : Machine A) (inst : Instance A) (r : Running) (outcome : Outcome (Machine A)) → P m → Leaves P outcome → Ends (acted m inst r outcome)
+  acted_kept : (m : Machine A) (inst : Instance A) (r : ActiveEntry) (outcome : Outcome (Machine A)) → P m → Leaves P outcome → Ends (after_ask m inst r outcome)
   acted_kept m inst r (Answered after answer) h left = k.put after _ left
   acted_kept m inst r (Returned code outs) h left = returned_kept m inst r.op r.stage code outs h
   acted_kept m inst r Panicked h left = k.gone m inst.number h
@@ -210,13 +213,13 @@ module _ {A : Type 0} (P : Machine A → Type 0) (k : IsKept P) where
   begun_kept m inst (Some b) h = k.put m _ h
 
   module _ (behaviour : Behaviour A) (serving : Serving) (loses : IsKeptAs serving P) where
-    went_kept : (m : Machine A) (inst : Instance A) (r : Running) (w : Waits) → P m → Ends (went_on behaviour serving m inst r w)
+    went_kept : (m : Machine A) (inst : Instance A) (r : ActiveEntry) (w : Waits) → P m → Ends (went_on behaviour serving m inst r w)
     went_kept m inst r (waits.Given given) h = k.put m _ h
     went_kept m inst r (waits.Ask ask) h =
-        let c = course_after m inst.number r ask in
+        let c = resolution_after m inst.number r ask in
         acted_kept m inst (mask_noted r ask) (served serving m ask c) h (served_kept serving loses m ask c (after_kept m inst.number r ask h))
 
-    turned_by_kept : (m : Machine A) (inst : Instance A) (r : Option Running) → P m → Ends (turned_by behaviour serving m inst r)
+    turned_by_kept : (m : Machine A) (inst : Instance A) (r : Option ActiveEntry) → P m → Ends (turned_by behaviour serving m inst r)
     turned_by_kept m inst None h =
         let first = first_waiting m.queue inst.number in begun_kept (record m { queue = after_begin m.queue first }) inst (begun_at first) (k.begun m first h)
     turned_by_kept m inst (Some r) h = went_kept m inst r r.waits h

@@ -1,4 +1,5 @@
 pub mod Answered
+pub mod Aside
 pub mod Booted
 pub mod Born
 pub mod Called

@@ -1,8 +1,9 @@
 -- Lists of instances: the first of a number, and another in its place.
-use Rattle.std.proofs.Common.{ℕ, ◌≡◌, ◌<◌, ◌+◌, ◌==◌, ◌||◌, nat_eq, suc, zero, true, false, not, cond, List, [], ◌∷◌, None, Some, find, filter, map, length, get_or, set, refl, sym, ap, ◌∙◌, ⊎_elim, eq-eqb, arith}
+use Rattle.std.proofs.Common.{ℕ, ◌≡◌, ◌<◌, ◌+◌, ◌==◌, ◌||◌, nat_eq, suc, zero, true, false, not, cond, List, [], ◌∷◌, None, Some}
+use Rattle.std.proofs.Common.{find, filter, map, length, get_or, set, refl, sym, ap, ◌∙◌, ⊎_elim, eq-eqb, arith}
 use Rattle.std.specs.List.{list_any}
 use Rattle.std.proofs.lemmas.Bool.{cases_Bool, cond-true, cond-false, cond_both, eqb-true, ne_eqb, both_ways}
-use Rattle.alone.specs.declared.running.Instance.{Instance}
+use Rattle.alone.specs.declared.active_entry.Instance.{Instance}
 use Rattle.alone.specs.Machine.{is_number, put_instance}
 use Rattle.alone.proofs.Totals.{total, found_here, found_later, nothing_found}
 

@@ -8,12 +8,12 @@ use Rattle.op_queue.specs.declared.operation.Operation.{Operation}
 use Rattle.op_queue.specs.declared.operation.Progress.{Progress}
 use Rattle.op_queue.specs.declared.operation.Progress.TheVariants.{Waiting, Running as Runs}
 use Rattle.op_queue.specs.Queue.{Queue, is_running, waits_for}
-use Rattle.alone.specs.declared.running.Instance.{Instance}
-use Rattle.alone.specs.declared.running.Running.{Running}
-use Rattle.alone.specs.declared.running.Stage.{Stage}
-use Rattle.alone.specs.declared.running.Stage.TheVariants as stages
-use Rattle.alone.specs.declared.running.Waits.{Waits}
-use Rattle.alone.specs.declared.running.Waits.TheVariants as waits
+use Rattle.alone.specs.declared.active_entry.Instance.{Instance}
+use Rattle.alone.specs.declared.active_entry.ActiveEntry.{ActiveEntry}
+use Rattle.alone.specs.declared.active_entry.EntryPoint.{EntryPoint}
+use Rattle.alone.specs.declared.active_entry.EntryPoint.TheVariants as stages
+use Rattle.alone.specs.declared.active_entry.Waits.{Waits}
+use Rattle.alone.specs.declared.active_entry.Waits.TheVariants as waits
 use Rattle.alone.specs.Machine.{is_number}
 use Rattle.alone.proofs.Totals.{bit, total, having, having_once, found_here, found_later, nothing_found, total_both, total_map}
 use Rattle.alone.proofs.Each.{each_weaker}
@@ -28,7 +28,7 @@ turns_left (waits.Given given) more = more + 2
 turns_left (waits.Ask ask) more = more + 1
 
 -- behind create come start and destroy, and behind start and stop comes destroy
-abbrev pub turns_behind : Stage → ℕ
+abbrev pub turns_behind : EntryPoint → ℕ
 turns_behind (stages.Create session ps places) = 262148
 turns_behind (stages.Start session places) = 131074
 turns_behind (stages.Invoke session places) = 0
@@ -36,7 +36,7 @@ turns_behind (stages.Stop session) = 131074
 turns_behind (stages.Destroy reply) = 0
 
 -- an ask and its answer take two turns, and it makes 65,536 at most
-abbrev pub turns_for : Running → ℕ
+abbrev pub turns_for : ActiveEntry → ℕ
 turns_for r = turns_left r.waits (2 * (65536 - r.asks)) + turns_behind r.stage
 
 pub left_positive : (w : Waits) (k : ℕ) → 1 ≤ turns_left w k
@@ -47,19 +47,19 @@ left_most : (w : Waits) (k : ℕ) → turns_left w k ≤ k + 2
 left_most (waits.Given given) k = omega arith
 left_most (waits.Ask ask) k = omega arith
 
-behind_most : (stage : Stage) → turns_behind stage ≤ 262148
+behind_most : (stage : EntryPoint) → turns_behind stage ≤ 262148
 behind_most (stages.Create session ps places) = omega arith
 behind_most (stages.Start session places) = omega arith
 behind_most (stages.Invoke session places) = omega arith
 behind_most (stages.Stop session) = omega arith
 behind_most (stages.Destroy reply) = omega arith
 
-pub turns_most : (r : Running) → turns_for r ≤ 393222
+pub turns_most : (r : ActiveEntry) → turns_for r ≤ 393222
 turns_most r = omega (arith, left_most r.waits (2 * (65536 - r.asks)), behind_most r.stage)
 
 -- ---- an instance
 
-abbrev pub left_of : Option Running → ℕ
+abbrev pub left_of : Option ActiveEntry → ℕ
 left_of None = 0
 left_of (Some r) = turns_for r
 
@@ -75,7 +75,7 @@ waiting i os = total (λ o. bit (waits_for i o)) os
 abbrev pub measure : {A : Type 0} → ℕ → Queue → List (Instance A) → ℕ
 measure i q xs = 393223 * waiting i q.operations + left_in (find (is_number i) xs)
 
-left_of_most : (o : Option Running) → left_of o ≤ 393222
+left_of_most : (o : Option ActiveEntry) → left_of o ≤ 393222
 left_of_most None = omega arith
 left_of_most (Some r) = turns_most r
 
@@ -127,7 +127,7 @@ module _ {A : Type 0} where
       let alone = found_alone (λ (x : Instance A). weigh_in p x) i xs inst (instances_once q t xs h i) found (λ x other. elsewhere x.running x.number other) in
       omega (arith, here, alone, h.runs p)
     where
-      elsewhere : (o : Option Running) (k : ℕ) → (k == inst.number) ≡ false → weigh_entry (λ c. c.instance == inst.number) k o ≡ 0
+      elsewhere : (o : Option ActiveEntry) (k : ℕ) → (k == inst.number) ≡ false → weigh_entry (λ c. c.instance == inst.number) k o ≡ 0
       elsewhere o k other =
           omega (arith, entry_le (λ c. c.instance == inst.number) (λ c. false) k o (λ c same. omega (arith, ap (λ n. bit (n == inst.number)) same, ap bit other)), entry_none k o)
 
@@ -177,7 +177,7 @@ module _ {A : Type 0} where
   pub measure_none : (q : Queue) (t : Table) (xs : List (Instance A)) (i : ℕ) → IsSound q t xs → measure i q xs ≡ 0 → AllByRecursion (IsElsewhere i) q.operations
   measure_none q t xs i h none = at (find (is_number i) xs) refl
     where
-      runs_nothing : (inst : Instance A) (r : Option Running) → inst.running ≡ r → left_of r ≡ 0 → inst.running ≡ None
+      runs_nothing : (inst : Instance A) (r : Option ActiveEntry) → inst.running ≡ r → left_of r ≡ 0 → inst.running ≡ None
       runs_nothing inst None e zero = e
       runs_nothing inst (Some r) e zero = absurd (omega (arith, zero, left_positive r.waits (2 * (65536 - r.asks))))
 

@@ -1,5 +1,6 @@
 -- A call that waits leaves what holds of every machine.
-use Rattle.std.proofs.Common.{ℕ, ◌≡◌, ◌+◌, ◌≤◌, ◌<◌, ◌==◌, ◌&&◌, ◌||◌, ◌⊎◌, nat_eq, nat_le, Bool, true, false, not, cond, List, [], ◌∷◌, ◌++◌, find, map, length, count_by, Some, Result, Ok, Err, IfOk, is_some, refl, sym, ap, subst, ◌∙◌, ⊎_elim, inl, inr, eq-eqb, arith}
+use Rattle.std.proofs.Common.{ℕ, ◌≡◌, ◌+◌, ◌≤◌, ◌<◌, ◌==◌, ◌&&◌, ◌||◌, ◌⊎◌, nat_eq, nat_le, Bool, true, false, not, cond, List, [], ◌∷◌, ◌++◌, find, map, length}
+use Rattle.std.proofs.Common.{count_by, Some, Result, Ok, Err, IfOk, is_some, refl, sym, ap, subst, ◌∙◌, ⊎_elim, inl, inr, eq-eqb, arith}
 use Rattle.std.specs.List.{AllByRecursion, list_any}
 use Rattle.std.proofs.lemmas.Bool.{cases_Bool, cond_both, both_ways, eqb-true, and_parts, not-true}
 use Rattle.std.proofs.lemmas.Map.Views.{Contains-from_any}
@@ -7,7 +8,7 @@ use Rattle.app_api.specs.declared.call.Call.{Call}
 use Rattle.app_api.specs.declared.call.Call.TheVariants as calls
 use Rattle.app_api.specs.declared.param.Params.{Params}
 use Rattle.tee_base.specs.Numbers.{lowest_free}
-use Rattle.tee_base.specs.declared.limits.TheConstants.{INSTANCES, SESSIONS}
+use Rattle.tee_base.specs.declared.limits.TheConstants.{MAX_INSTANCES, MAX_SESSIONS}
 use Rattle.tee_base.proofs.LowestFree.{lowest_free-free}
 use Rattle.instances.specs.declared.session.Session.{Session}
 use Rattle.instances.specs.declared.session.Slot.{Slot}
@@ -16,13 +17,14 @@ use Rattle.instances.specs.declared.session.SessionState.{SessionState}
 use Rattle.instances.specs.declared.session.SessionState.TheVariants.{Opening, Open, Closing, Dead}
 use Rattle.instances.specs.declared.instances.Admission.{Admission}
 use Rattle.instances.specs.declared.instances.Refusal.{Refusal}
-use Rattle.instances.specs.Instances.{Table, IsTable, instance_numbers, session_numbers, session_of, is_dead, facts_of, admission_of, own_instance, shared_instance, has_session, busy, bad_state, entered, with_state, state_set, session_removed}
+use Rattle.instances.specs.Instances.{Table, IsTable, instance_numbers, session_numbers, session_of, is_dead, facts_of, admission_of, own_instance}
+use Rattle.instances.specs.Instances.{shared_instance, has_session, busy, bad_state, entered, with_state, state_set, session_removed}
 use Rattle.instances.proofs.Changes.{admission_IsAdmitted, entered_IsTable, state_set_IsTable, removed_IsTable}
 use Rattle.op_queue.specs.declared.operation.Operation.{Operation}
 use Rattle.op_queue.specs.declared.operation.Progress.TheVariants.{Waiting}
 use Rattle.op_queue.specs.Queue.{Queue, is_close, is_full, is_close_call, submitted, skipped}
 use Rattle.op_queue.proofs.Keeps.{submitted_IsQueue, skipped_IsQueue}
-use Rattle.alone.specs.declared.running.Instance.{Instance}
+use Rattle.alone.specs.declared.active_entry.Instance.{Instance}
 use Rattle.alone.specs.Step.{new_instance}
 use Rattle.alone.proofs.Totals.{bit, total, total_push, alike, found_has}
 use Rattle.alone.proofs.Each.{each_filter, each_map, each_both, each_weaker, each_more, numbers_push, or_later, still_there, now_there}
@@ -146,7 +148,7 @@ none_ends n (slot ∷ slots) no_place = ⊎_elim
 
 own_IsTo : (t : Table) → IfOk (own_instance t) (IsTo t)
 own_IsTo t =
-    cond_both (nat_le INSTANCES (length t.slots)) (Err busy)
+    cond_both (nat_le MAX_INSTANCES (length t.slots)) (Err busy)
     (Ok (record { session = lowest_free (session_numbers t); instance = lowest_free (instance_numbers t); new_instance = true })) (λ (r : Result Admission Refusal). IfOk r (IsTo t))
     (λ _. tt)
     (λ _. record { place = inl refl; free = none_ends (lowest_free (instance_numbers t)) t.slots (not_there (instance_numbers t)); lone = λ _. not_there (instance_numbers t) })
@@ -180,9 +182,9 @@ some_IsTo : (t : Table) (client label : ℕ) → IsTable t → IfOk (admission_o
 some_IsTo t client label table =
     let P : Result Admission Refusal → Type 0 = λ r. IfOk r (IsTo t) in
     let inner : Result Admission Refusal = cond t.properties.single (shared_instance t t.slots) (own_instance t) in
-    let middle : Result Admission Refusal = cond (nat_le SESSIONS (length t.sessions)) (Err busy) inner in
+    let middle : Result Admission Refusal = cond (nat_le MAX_SESSIONS (length t.sessions)) (Err busy) inner in
     cond_both (is_some (session_of t client label)) (Err bad_state) middle P (λ _. tt)
-    (λ _. cond_both (nat_le SESSIONS (length t.sessions)) (Err busy) inner P (λ _. tt)
+    (λ _. cond_both (nat_le MAX_SESSIONS (length t.sessions)) (Err busy) inner P (λ _. tt)
     (λ _. cond_both t.properties.single (shared_instance t t.slots) (own_instance t) P
     (λ single. shared_IsTo t t.slots refl (table.one_instance single) single)
     (λ _. own_IsTo t)))

@@ -3,26 +3,27 @@
 use Rattle.std.proofs.Common.{ℕ, ◌≡◌, ◌<◌, Bool, true, false, nat_le, refl}
 use Rattle.std.proofs.lemmas.Bool.{cond_both, leb-false}
 use Rattle.tee_base.specs.declared.codes.Code.{Code}
-use Rattle.tee_base.specs.declared.limits.TheConstants.{ASKS}
+use Rattle.tee_base.specs.declared.limits.TheConstants.{MAX_ASKS}
 use Rattle.app_api.specs.declared.ask.Ask.{Ask}
 use Rattle.app_api.specs.declared.ask.Ask.TheVariants as asked
 use Rattle.app_api.specs.declared.out.Outs.{Outs}
-use Rattle.object_asks.specs.Asks.{Outcome, Answered, Returned, Panicked, Course, Settled, ComesToStore, Serving, Serves, Fails, Damaged, Objects, course_in, object_course, outcome_in, refused}
+use Rattle.object_asks.specs.Asks.{Outcome, Answered, Returned, Panicked, Resolution, Settled, ComesToStore, Serving, Serves, Fails, Damaged, Objects, resolution_in}
+use Rattle.object_asks.specs.Asks.{object_resolution, outcome_in, refused}
 use Rattle.tee_base.specs.declared.codes.TheConstants.Code.{STORAGE_NOT_AVAILABLE}
 use Rattle.crypto_ops.specs.Random.{random_from}
-use Rattle.object_asks.specs.KeyOf.{KeyCourse, KeySettled, KeyComesToStore, key_course}
-use Rattle.object_asks.specs.Keys.{generate_course, random_wanted}
-use Rattle.operation_asks.specs.Asks.{CryptoState, operation_course}
+use Rattle.object_asks.specs.KeyOf.{KeyResolution, KeySettled, KeyComesToStore, key_resolution}
+use Rattle.object_asks.specs.Keys.{generate_resolution, random_wanted}
+use Rattle.operation_asks.specs.Asks.{CryptoState, operation_resolution}
 use Rattle.operation_asks.specs.Asks as operations
 use Rattle.operation_asks.specs.Past.{key_effect}
 use Rattle.operation_asks.specs.declared.outcome.Outcome.{Outcome as Told}
 use Rattle.operation_asks.specs.declared.outcome.Outcome.TheVariants as told
-use Rattle.alone.specs.Crypto.{drawn_for, generation_course, given_by, keyed_by, operated_by, outcome_by, with_crypto}
+use Rattle.alone.specs.Crypto.{drawn_for, generation_resolution, given_by, keyed_by, operated_by, outcome_by, with_crypto}
 use Rattle.alone.specs.declared.family.Family.{Family}
 use Rattle.alone.specs.declared.family.Family.TheVariants as families
-use Rattle.alone.specs.declared.running.Running.{Running}
-use Rattle.alone.specs.declared.running.Stage.{Stage}
-use Rattle.alone.specs.Asks.{course, course_after, course_in_family, entry_course, mask_course, objects_of, return_course, with_objects}
+use Rattle.alone.specs.declared.active_entry.ActiveEntry.{ActiveEntry}
+use Rattle.alone.specs.declared.active_entry.EntryPoint.{EntryPoint}
+use Rattle.alone.specs.Asks.{resolution, resolution_after, resolution_in_family, entry_resolution, mask_resolution, objects_of, return_resolution, with_objects}
 use Rattle.alone.specs.Families.{family_of}
 use Rattle.alone.specs.Machine.{Machine}
 use Rattle.alone.specs.Places.{is_misuse, places_at}
@@ -31,7 +32,7 @@ use Rattle.alone.proofs.Within.{IsWithin, within_mask_for, within_same}
 
 -- a machine that an answer leaves
 pub record IsLike {A : Type 0} (m : Machine A) (made : ℕ) (after : Machine A) : Type 0 where
-  pub few : made < ASKS
+  pub few : made < MAX_ASKS
   pub queue : IsWithin m.queue after.queue
   pub table : after.table ≡ m.table
   pub instances : after.instances ≡ m.instances
@@ -41,72 +42,72 @@ OutcomeLike m made (Answered after answer) = IsLike m made after
 OutcomeLike m made (Returned code outs) = Unit {0}
 OutcomeLike m made Panicked = Unit {0}
 
-abbrev CourseLike : {A : Type 0} → Machine A → ℕ → Course (Machine A) → Type 0
-CourseLike m made (Settled outcome) = OutcomeLike m made outcome
-CourseLike m made (ComesToStore kept plain) = IsLike m made kept × OutcomeLike m made plain
+abbrev ResolutionLike : {A : Type 0} → Machine A → ℕ → Resolution (Machine A) → Type 0
+ResolutionLike m made (Settled outcome) = OutcomeLike m made outcome
+ResolutionLike m made (ComesToStore kept if_served) = IsLike m made kept × OutcomeLike m made if_served
 
 module _ {A : Type 0} (m : Machine A) (made : ℕ) where
-  objects_like : (s : CryptoState) (o : Objects) → made < ASKS → IsLike m made (with_objects (with_crypto m s) o)
+  objects_like : (s : CryptoState) (o : Objects) → made < MAX_ASKS → IsLike m made (with_objects (with_crypto m s) o)
   objects_like s o few = record { few = few; queue = within_same m.queue; table = refl; instances = refl }
 
-  outcome_like : (s : CryptoState) (o : Outcome Objects) → made < ASKS → OutcomeLike m made (outcome_in (with_objects (with_crypto m s)) o)
+  outcome_like : (s : CryptoState) (o : Outcome Objects) → made < MAX_ASKS → OutcomeLike m made (outcome_in (with_objects (with_crypto m s)) o)
   outcome_like s (Answered after answer) few = objects_like s after few
   outcome_like s (Returned code outs) few = tt
   outcome_like s Panicked few = tt
 
-  course_in_like : (s : CryptoState) (c : Course Objects) → made < ASKS → CourseLike m made (course_in (with_objects (with_crypto m s)) c)
-  course_in_like s (Settled outcome) few = outcome_like s outcome few
-  course_in_like s (ComesToStore kept plain) few = (objects_like s kept few, outcome_like s plain few)
+  resolution_in_like : (s : CryptoState) (c : Resolution Objects) → made < MAX_ASKS → ResolutionLike m made (resolution_in (with_objects (with_crypto m s)) c)
+  resolution_in_like s (Settled outcome) few = outcome_like s outcome few
+  resolution_in_like s (ComesToStore kept if_served) few = (objects_like s kept few, outcome_like s if_served few)
 
-  crypto_like : (s : CryptoState) → made < ASKS → IsLike m made (with_crypto m s)
+  crypto_like : (s : CryptoState) → made < MAX_ASKS → IsLike m made (with_crypto m s)
   crypto_like s few = record { few = few; queue = within_same m.queue; table = refl; instances = refl }
 
-  told_like : (s : CryptoState) (t : Told) → made < ASKS → OutcomeLike m made (outcome_by (with_crypto m s) t)
+  told_like : (s : CryptoState) (t : Told) → made < MAX_ASKS → OutcomeLike m made (outcome_by (with_crypto m s) t)
   told_like s (told.Answered answer) few = crypto_like s few
   told_like s told.Panicked few = tt
 
-  keyed_like : (i op : ℕ) (c : KeyCourse) → made < ASKS → CourseLike m made (keyed_by m i op c)
+  keyed_like : (i op : ℕ) (c : KeyResolution) → made < MAX_ASKS → ResolutionLike m made (keyed_by m i op c)
   keyed_like i op (KeySettled found) few = let e = key_effect m.crypto i op (given_by found) in told_like e.after e.told few
-  keyed_like i op (KeyComesToStore plain) few = let e = key_effect m.crypto i op (given_by plain) in (crypto_like m.crypto few, told_like e.after e.told few)
+  keyed_like i op (KeyComesToStore if_served) few = let e = key_effect m.crypto i op (given_by if_served) in (crypto_like m.crypto few, told_like e.after e.told few)
 
-  operated_like : (i : ℕ) (c : operations.Course CryptoState) → made < ASKS → CourseLike m made (operated_by m i c)
+  operated_like : (i : ℕ) (c : operations.Resolution CryptoState) → made < MAX_ASKS → ResolutionLike m made (operated_by m i c)
   operated_like i (operations.Settled effect) few = told_like effect.after effect.told few
-  operated_like i (operations.WantsKey op object) few = keyed_like i op (key_course (objects_of m) i object) few
+  operated_like i (operations.WantsKey op object) few = keyed_like i op (key_resolution (objects_of m) i object) few
 
-  generation_like : (i : ℕ) (ask : Ask) → made < ASKS → CourseLike m made (generation_course m i ask)
+  generation_like : (i : ℕ) (ask : Ask) → made < MAX_ASKS → ResolutionLike m made (generation_resolution m i ask)
   generation_like i (asked.KeyGenerate object bits) few =
-      course_in_like (drawn_for m.crypto (random_wanted m.held i object bits)) (generate_course (objects_of m) i object bits (random_from m.crypto.random)) few
+      resolution_in_like (drawn_for m.crypto (random_wanted m.held i object bits)) (generate_resolution (objects_of m) i object bits (random_from m.crypto.random)) few
   generation_like i ask few = tt
 
-  return_like : (stage : Stage) (code : Code) (outs : Outs) → CourseLike m made (return_course stage code outs)
-  return_like stage code outs = cond_both (is_misuse (places_at stage) outs) (Settled Panicked) (Settled (Returned code outs)) (CourseLike m made) (λ _. tt) (λ _. tt)
+  return_like : (stage : EntryPoint) (code : Code) (outs : Outs) → ResolutionLike m made (return_resolution stage code outs)
+  return_like stage code outs = cond_both (is_misuse (places_at stage) outs) (Settled Panicked) (Settled (Returned code outs)) (ResolutionLike m made) (λ _. tt) (λ _. tt)
 
-  mask_like : (r : Running) (value : Bool) → made < ASKS → CourseLike m made (mask_course m r value)
+  mask_like : (r : ActiveEntry) (value : Bool) → made < MAX_ASKS → ResolutionLike m made (mask_resolution m r value)
   mask_like r value few = record { few = few; queue = within_mask_for m.queue r.op value; table = refl; instances = refl }
 
-  entry_like : (r : Running) (ask : Ask) → made < ASKS → CourseLike m made (entry_course m r ask)
+  entry_like : (r : ActiveEntry) (ask : Ask) → made < MAX_ASKS → ResolutionLike m made (entry_resolution m r ask)
   entry_like r (asked.Return code outs) few = return_like r.stage code outs
   entry_like r asked.CancelFlag few = record { few = few; queue = within_same m.queue; table = refl; instances = refl }
   entry_like r asked.CancelMask few = mask_like r true few
   entry_like r asked.CancelUnmask few = mask_like r false few
   entry_like r ask few = tt
 
-  family_like : (i : ℕ) (r : Running) (ask : Ask) (family : Family) → made < ASKS → CourseLike m made (course_in_family family m i r ask)
+  family_like : (i : ℕ) (r : ActiveEntry) (ask : Ask) (family : Family) → made < MAX_ASKS → ResolutionLike m made (resolution_in_family family m i r ask)
   family_like i r ask families.Entry few = entry_like r ask few
-  family_like i r ask families.Objects few = course_in_like m.crypto (object_course (objects_of m) i ask) few
-  family_like i r ask families.Operations few = operated_like i (operation_course m.crypto i ask) few
+  family_like i r ask families.Objects few = resolution_in_like m.crypto (object_resolution (objects_of m) i ask) few
+  family_like i r ask families.Operations few = operated_like i (operation_resolution m.crypto i ask) few
   family_like i r ask families.Generation few = generation_like i ask few
 
-  served_like : (serving : Serving) (ask : Ask) (c : Course (Machine A)) → CourseLike m made c → OutcomeLike m made (served serving m ask c)
+  served_like : (serving : Serving) (ask : Ask) (c : Resolution (Machine A)) → ResolutionLike m made c → OutcomeLike m made (served serving m ask c)
   served_like serving ask (Settled outcome) h = h
-  served_like Serves ask (ComesToStore kept plain) h = cond_both m.lost (refused kept STORAGE_NOT_AVAILABLE) plain (OutcomeLike m made) (λ _. h.0) (λ _. h.1)
-  served_like Fails ask (ComesToStore kept plain) h = record { few = h.0.few; queue = h.0.queue; table = h.0.table; instances = h.0.instances }
-  served_like Damaged ask (ComesToStore kept plain) h = h.0
+  served_like Serves ask (ComesToStore kept if_served) h = cond_both m.lost (refused kept STORAGE_NOT_AVAILABLE) if_served (OutcomeLike m made) (λ _. h.0) (λ _. h.1)
+  served_like Fails ask (ComesToStore kept if_served) h = record { few = h.0.few; queue = h.0.queue; table = h.0.table; instances = h.0.instances }
+  served_like Damaged ask (ComesToStore kept if_served) h = h.0
 
 module _ {A : Type 0} (m : Machine A) where
-  after_like : (i : ℕ) (r : Running) (ask : Ask) → CourseLike m r.asks (course_after m i r ask)
-  after_like i r ask = cond_both (nat_le ASKS r.asks) (Settled Panicked) (course m i r ask) (CourseLike m r.asks) (λ _. tt)
-      (λ few. family_like m r.asks i r ask (family_of ask) (leb-false ASKS r.asks few))
+  after_like : (i : ℕ) (r : ActiveEntry) (ask : Ask) → ResolutionLike m r.asks (resolution_after m i r ask)
+  after_like i r ask = cond_both (nat_le MAX_ASKS r.asks) (Settled Panicked) (resolution m i r ask) (ResolutionLike m r.asks) (λ _. tt)
+      (λ few. family_like m r.asks i r ask (family_of ask) (leb-false MAX_ASKS r.asks few))
 
-  pub ask_like : (serving : Serving) (i : ℕ) (r : Running) (ask : Ask) → OutcomeLike m r.asks (served serving m ask (course_after m i r ask))
-  ask_like serving i r ask = served_like m r.asks serving ask (course_after m i r ask) (after_like i r ask)
+  pub ask_like : (serving : Serving) (i : ℕ) (r : ActiveEntry) (ask : Ask) → OutcomeLike m r.asks (served serving m ask (resolution_after m i r ask))
+  ask_like serving i r ask = served_like m r.asks serving ask (resolution_after m i r ask) (after_like i r ask)

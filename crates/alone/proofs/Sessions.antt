@@ -1,5 +1,6 @@
 -- What operations hold, where sessions change.
-use Rattle.std.proofs.Common.{ℕ, ◌≡◌, ◌≢◌, ◌+◌, ◌≤◌, ◌==◌, ◌&&◌, ◌||◌, Bool, true, false, not, cond, List, find, filter, map, Option, None, Some, IfSome, is_some, refl, ap, subst, ◌∙◌, ⊎_elim, eq-eqb, arith}
+use Rattle.std.proofs.Common.{ℕ, ◌≡◌, ◌≢◌, ◌+◌, ◌≤◌, ◌==◌, ◌&&◌, ◌||◌, Bool, true, false, not, cond, List, find, filter, map}
+use Rattle.std.proofs.Common.{Option, None, Some, IfSome, is_some, refl, ap, subst, ◌∙◌, ⊎_elim, eq-eqb, arith}
 use Rattle.std.specs.List.{AllByRecursion}
 use Rattle.std.proofs.lemmas.Bool.{cases_Bool, cond-true, cond-false, cond_both, eqb-true, both_ways}
 use Rattle.instances.specs.declared.session.Session.{Session}
@@ -8,7 +9,7 @@ use Rattle.instances.specs.declared.session.SessionState.{SessionState}
 use Rattle.instances.specs.declared.session.SessionState.TheVariants.{Opening, Open, Closing, Dead}
 use Rattle.instances.specs.Instances.{Table, IsTable, facts_of, is_dead, with_state, stays_after_end, killed, state_after_end}
 use Rattle.op_queue.specs.declared.operation.Operation.{Operation}
-use Rattle.alone.specs.declared.running.Instance.{Instance}
+use Rattle.alone.specs.declared.active_entry.Instance.{Instance}
 use Rattle.alone.specs.Machine.{is_number, put_instance}
 use Rattle.alone.proofs.Totals.{bit, having, having_once, alike, found_counts, found_grows, total_both, total_map, total_filter, total_le, total_le_each}
 use Rattle.alone.proofs.Each.{each_weaker, none_passes, bit_split, bit_and, bit_when, bit_unless}

@@ -14,10 +14,10 @@ use Rattle.op_queue.specs.declared.operation.Operation.{Operation}
 use Rattle.op_queue.specs.declared.operation.Progress.{Progress}
 use Rattle.op_queue.specs.declared.operation.Progress.TheVariants.{Waiting, Running as Runs}
 use Rattle.op_queue.specs.Queue.{Queue, IsQueue, empty_queue}
-use Rattle.alone.specs.declared.running.Instance.{Instance}
-use Rattle.alone.specs.declared.running.Running.{Running}
-use Rattle.alone.specs.declared.running.Stage.{Stage}
-use Rattle.alone.specs.declared.running.Stage.TheVariants as stages
+use Rattle.alone.specs.declared.active_entry.Instance.{Instance}
+use Rattle.alone.specs.declared.active_entry.ActiveEntry.{ActiveEntry}
+use Rattle.alone.specs.declared.active_entry.EntryPoint.{EntryPoint}
+use Rattle.alone.specs.declared.active_entry.EntryPoint.TheVariants as stages
 use Rattle.alone.specs.Machine.{Machine, start}
 use Rattle.alone.proofs.Totals.{bit, total}
 use Rattle.alone.proofs.Calm.{IsCalm, sessions_of}
@@ -47,14 +47,14 @@ abbrev pub claim_of : Operation → Option SessionFacts
 claim_of o = claim_of_progress o.session o.instance o.progress
 
 -- what an entry holds that runs
-abbrev pub claim_of_stage : ℕ → Stage → Option SessionFacts
+abbrev pub claim_of_stage : ℕ → EntryPoint → Option SessionFacts
 claim_of_stage i (stages.Create session ps places) = Some (facts session i Opening)
 claim_of_stage i (stages.Start session places) = Some (facts session i Opening)
 claim_of_stage i (stages.Invoke session places) = None
 claim_of_stage i (stages.Stop session) = Some (facts session i Closing)
 claim_of_stage i (stages.Destroy reply) = None
 
-abbrev pub claim_of_entry : ℕ → Option Running → Option SessionFacts
+abbrev pub claim_of_entry : ℕ → Option ActiveEntry → Option SessionFacts
 claim_of_entry i None = None
 claim_of_entry i (Some r) = claim_of_stage i r.stage
 
@@ -105,18 +105,18 @@ abbrev pub runs_by : (Run → Bool) → List Operation → ℕ
 runs_by p os = total (λ o. weigh p (run_of o)) os
 
 -- what an entry may run: a destroy entry serves a close or another operation
-abbrev pub weigh_op : (Run → Bool) → ℕ → ℕ → Stage → ℕ
+abbrev pub weigh_op : (Run → Bool) → ℕ → ℕ → EntryPoint → ℕ
 weigh_op p i op (stages.Create session ps places) = bit (p (run op i false))
 weigh_op p i op (stages.Start session places) = bit (p (run op i false))
 weigh_op p i op (stages.Invoke session places) = bit (p (run op i false))
 weigh_op p i op (stages.Stop session) = bit (p (run op i true))
 weigh_op p i op (stages.Destroy reply) = bit (p (run op i true)) + bit (p (run op i false))
 
-abbrev pub weigh_served : (Run → Bool) → ℕ → Option ℕ → Stage → ℕ
+abbrev pub weigh_served : (Run → Bool) → ℕ → Option ℕ → EntryPoint → ℕ
 weigh_served p i None stage = 0
 weigh_served p i (Some op) stage = weigh_op p i op stage
 
-abbrev pub weigh_entry : (Run → Bool) → ℕ → Option Running → ℕ
+abbrev pub weigh_entry : (Run → Bool) → ℕ → Option ActiveEntry → ℕ
 weigh_entry p i None = 0
 weigh_entry p i (Some r) = weigh_served p i r.op r.stage
 
@@ -127,33 +127,33 @@ abbrev pub runs_in : {A : Type 0} → (Run → Bool) → List (Instance A) → �
 runs_in p xs = total (λ x. weigh_in p x) xs
 
 -- where each run of an instance that the one lets pass is let pass by the other
-op_le : (p q : Run → Bool) (i op : ℕ) (stage : Stage) → ((c : Run) → c.instance ≡ i → bit (p c) ≤ bit (q c)) → weigh_op p i op stage ≤ weigh_op q i op stage
+op_le : (p q : Run → Bool) (i op : ℕ) (stage : EntryPoint) → ((c : Run) → c.instance ≡ i → bit (p c) ≤ bit (q c)) → weigh_op p i op stage ≤ weigh_op q i op stage
 op_le p q i op (stages.Create session ps places) h = h (run op i false) refl
 op_le p q i op (stages.Start session places) h = h (run op i false) refl
 op_le p q i op (stages.Invoke session places) h = h (run op i false) refl
 op_le p q i op (stages.Stop session) h = h (run op i true) refl
 op_le p q i op (stages.Destroy reply) h = omega (arith, h (run op i true) refl, h (run op i false) refl)
 
-served_le : (p q : Run → Bool) (i : ℕ) (op : Option ℕ) (stage : Stage) → ((c : Run) → c.instance ≡ i → bit (p c) ≤ bit (q c)) → weigh_served p i op stage ≤ weigh_served q i op stage
+served_le : (p q : Run → Bool) (i : ℕ) (op : Option ℕ) (stage : EntryPoint) → ((c : Run) → c.instance ≡ i → bit (p c) ≤ bit (q c)) → weigh_served p i op stage ≤ weigh_served q i op stage
 served_le p q i None stage h = omega arith
 served_le p q i (Some op) stage h = op_le p q i op stage h
 
-pub entry_le : (p q : Run → Bool) (i : ℕ) (o : Option Running) → ((c : Run) → c.instance ≡ i → bit (p c) ≤ bit (q c)) → weigh_entry p i o ≤ weigh_entry q i o
+pub entry_le : (p q : Run → Bool) (i : ℕ) (o : Option ActiveEntry) → ((c : Run) → c.instance ≡ i → bit (p c) ≤ bit (q c)) → weigh_entry p i o ≤ weigh_entry q i o
 entry_le p q i None h = omega arith
 entry_le p q i (Some r) h = served_le p q i r.op r.stage h
 
-op_none : (i op : ℕ) (stage : Stage) → weigh_op (λ c. false) i op stage ≡ 0
+op_none : (i op : ℕ) (stage : EntryPoint) → weigh_op (λ c. false) i op stage ≡ 0
 op_none i op (stages.Create session ps places) = refl
 op_none i op (stages.Start session places) = refl
 op_none i op (stages.Invoke session places) = refl
 op_none i op (stages.Stop session) = refl
 op_none i op (stages.Destroy reply) = refl
 
-served_none : (i : ℕ) (op : Option ℕ) (stage : Stage) → weigh_served (λ c. false) i op stage ≡ 0
+served_none : (i : ℕ) (op : Option ℕ) (stage : EntryPoint) → weigh_served (λ c. false) i op stage ≡ 0
 served_none i None stage = refl
 served_none i (Some op) stage = op_none i op stage
 
-pub entry_none : (i : ℕ) (o : Option Running) → weigh_entry (λ c. false) i o ≡ 0
+pub entry_none : (i : ℕ) (o : Option ActiveEntry) → weigh_entry (λ c. false) i o ≡ 0
 entry_none i None = refl
 entry_none i (Some r) = served_none i r.op r.stage
 
@@ -235,14 +235,14 @@ claim_fits o = progress_fits o.session o.instance o.progress
 abbrev pub FitsIn : ℕ → SessionFacts → Type 0
 FitsIn i c = (c.instance ≡ i) × (is_held c.state ≡ true)
 
-stage_fits : (i : ℕ) (stage : Stage) → IfSome (claim_of_stage i stage) (FitsIn i)
+stage_fits : (i : ℕ) (stage : EntryPoint) → IfSome (claim_of_stage i stage) (FitsIn i)
 stage_fits i (stages.Create session ps places) = (refl, refl)
 stage_fits i (stages.Start session places) = (refl, refl)
 stage_fits i (stages.Invoke session places) = tt
 stage_fits i (stages.Stop session) = (refl, refl)
 stage_fits i (stages.Destroy reply) = tt
 
-entry_fits : (i : ℕ) (o : Option Running) → IfSome (claim_of_entry i o) (FitsIn i)
+entry_fits : (i : ℕ) (o : Option ActiveEntry) → IfSome (claim_of_entry i o) (FitsIn i)
 entry_fits i None = tt
 entry_fits i (Some r) = stage_fits i r.stage
 

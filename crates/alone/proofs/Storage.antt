@@ -7,45 +7,27 @@ use Rattle.instances.specs.Instances.{session_removed}
 use Rattle.op_queue.specs.declared.operation.Cancelled.{Cancelled as Cancellation}
 use Rattle.op_queue.specs.declared.operation.Cancelled.TheVariants.{Dropped, Flagged, Nothing}
 use Rattle.op_queue.specs.Queue.{after_cancel, cancel_of, operation_of}
-use Rattle.object_asks.specs.Asks.{Serves, Damaged, object_course}
-use Rattle.object_asks.specs.Keys.{generate_course}
+use Rattle.object_asks.specs.Asks.{Serves, Damaged}
 use Rattle.store_api.specs.Stores.{Store}
-use Rattle.alone.specs.Asks.{objects_of}
 use Rattle.alone.specs.Laws.{StorageStays}
 use Rattle.alone.specs.Machine.{Machine, instance_at}
 use Rattle.alone.specs.Step.{called, cancelled, cancelled_by, dropped, instance_gone, is_unused, turned_as, unless_unused, waiting_open}
-use Rattle.alone.proofs.Born.{goes_all}
-use Rattle.alone.proofs.Kept.{IsKept, turned_kept}
+use Rattle.alone.proofs.Aside.{Rests, rests_kept}
+use Rattle.alone.proofs.Kept.{turned_kept}
 use Rattle.alone.proofs.KeptByCalls.{IsKeptByCalls, called_kept}
 
+-- this store is in doubt, or none
+abbrev IsInDoubt : Option Store → ℕ → ℕ → Option Store → Type 0
+IsInDoubt store made booted doubt = doubt ≡ store
+
 module _ {A : Type 0} where
-  -- this store is in doubt, or none
-  abbrev IsInDoubt : Option Store → Machine A → Type 0
-  IsInDoubt doubt m = m.in_doubt ≡ doubt
-
-  doubt_kept : (doubt : Option Store) → IsKept (IsInDoubt doubt)
-  doubt_kept doubt = record {
-    put = λ m inst same. same;
-    begun = λ m o same. same;
-    cancel = λ m op c same. same;
-    masked = λ m op value same. same;
-    answered = λ m op same. same;
-    opened = λ m session same. same;
-    removed = λ m session same. same;
-    ending = λ m i same. same;
-    gone = λ m i same. same;
-    objects = λ m i ask same. goes_all (λ _. m.in_doubt ≡ doubt) (object_course (objects_of m) i ask) (λ _. same);
-    crypto = λ m s stream same. same;
-    made = λ m i object bits random same. goes_all (λ _. m.in_doubt ≡ doubt) (generate_course (objects_of m) i object bits random) (λ _. same);
-  }
-
   -- a turn in which no call of the store fails leaves the change in doubt
   pub turn_leaves_doubt : (behaviour : Behaviour A) (m : Machine A) (i : ℕ) → (turned_as behaviour Serves m i).machine.in_doubt ≡ m.in_doubt
-  turn_leaves_doubt behaviour m i = turned_kept (IsInDoubt m.in_doubt) (doubt_kept m.in_doubt) behaviour Serves tt m i refl
+  turn_leaves_doubt behaviour m i = let P = IsInDoubt m.in_doubt in turned_kept (Rests P) (rests_kept P) behaviour Serves tt m i refl
 
   -- nor does one in which what it reads is damaged
   pub damage_leaves_doubt : (behaviour : Behaviour A) (m : Machine A) (i : ℕ) → (turned_as behaviour Damaged m i).machine.in_doubt ≡ m.in_doubt
-  damage_leaves_doubt behaviour m i = turned_kept (IsInDoubt m.in_doubt) (doubt_kept m.in_doubt) behaviour Damaged tt m i refl
+  damage_leaves_doubt behaviour m i = let P = IsInDoubt m.in_doubt in turned_kept (Rests P) (rests_kept P) behaviour Damaged tt m i refl
 
   -- the storage is in the state in which it was
   abbrev IsSame : Store → Option Store → Bool → Machine A → Type 0

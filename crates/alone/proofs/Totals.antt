@@ -1,5 +1,6 @@
 -- Sums and counts over lists, element by element.
-use Rattle.std.proofs.Common.{ℕ, ◌≡◌, ◌≢◌, ◌+◌, ◌≤◌, ◌<◌, ◌==◌, suc, Bool, true, false, cond, List, [], ◌∷◌, ◌++◌, None, Some, find, filter, map, length, get_or, count_by, AllPairs, refl, sym, ap, subst, ◌∙◌, ⊎_elim, eq-eqb, arith}
+use Rattle.std.proofs.Common.{ℕ, ◌≡◌, ◌≢◌, ◌+◌, ◌≤◌, ◌<◌, ◌==◌, suc, Bool, true, false, cond, List, [], ◌∷◌, ◌++◌, None, Some, find, filter}
+use Rattle.std.proofs.Common.{map, length, get_or, count_by, AllPairs, refl, sym, ap, subst, ◌∙◌, ⊎_elim, eq-eqb, arith}
 use Rattle.std.specs.List.{AllByRecursion}
 use Rattle.std.proofs.lemmas.Bool.{cases_Bool, cond-true, cond-false, cond_both, eqb-true}
 use Rattle.std.proofs.lemmas.List.Recursion.{is_sum_by}

@@ -14,15 +14,16 @@ use Rattle.op_queue.specs.declared.operation.Progress.{Progress}
 use Rattle.op_queue.specs.declared.operation.Progress.TheVariants.{Waiting, Running as Runs}
 use Rattle.op_queue.specs.Queue.{is_close, is_running, waits_for, first_waiting, started, begun_at, begun_of, after_begin}
 use Rattle.object_asks.specs.Asks.{Outcome, Answered, Returned, Panicked, Serving}
-use Rattle.alone.specs.declared.running.Instance.{Instance}
-use Rattle.alone.specs.declared.running.Running.{Running}
-use Rattle.alone.specs.declared.running.Stage.{Stage}
-use Rattle.alone.specs.declared.running.Stage.TheVariants as stages
-use Rattle.alone.specs.declared.running.Waits.{Waits}
-use Rattle.alone.specs.declared.running.Waits.TheVariants as waits
-use Rattle.alone.specs.Asks.{course_after, mask_after, mask_noted}
+use Rattle.alone.specs.declared.active_entry.Instance.{Instance}
+use Rattle.alone.specs.declared.active_entry.ActiveEntry.{ActiveEntry}
+use Rattle.alone.specs.declared.active_entry.EntryPoint.{EntryPoint}
+use Rattle.alone.specs.declared.active_entry.EntryPoint.TheVariants as stages
+use Rattle.alone.specs.declared.active_entry.Waits.{Waits}
+use Rattle.alone.specs.declared.active_entry.Waits.TheVariants as waits
+use Rattle.alone.specs.Asks.{resolution_after, mask_after, mask_noted}
 use Rattle.alone.specs.Machine.{Machine, is_number, instance_at, put_instance, with_instance}
-use Rattle.alone.specs.Step.{acted, begun_with, destroying, first_entry, is_success, masked_again, quiet, returned, served, start_begun, turn_counted, turned_as, turned_at, turned_by, went_on}
+use Rattle.alone.specs.Step.{after_ask, begun_with, destroying, first_entry, is_success, masked_again, no_replies, returned, served, start_begun, turn_counted, turned_as}
+use Rattle.alone.specs.Step.{turned_at, turned_by, went_on}
 use Rattle.alone.proofs.Totals.{bit, found_passes}
 use Rattle.alone.proofs.Each.{each_map}
 use Rattle.alone.proofs.Lists.{found_number, find_put}
@@ -47,7 +48,7 @@ waits_no_more i os o e =
     never false = refl
 
 -- create and start serve alike
-start_serves : (p : Run → Bool) (i : ℕ) (op : Option ℕ) (stage : Stage) (session : ℕ) (ps : _) (places : _) → stage ≡ stages.Create session ps places
+start_serves : (p : Run → Bool) (i : ℕ) (op : Option ℕ) (stage : EntryPoint) (session : ℕ) (ps : _) (places : _) → stage ≡ stages.Create session ps places
     → weigh_served p i op stage ≤ weigh_served p i op (stages.Start session places)
 start_serves p i None stage session ps places e = omega arith
 start_serves p i (Some op) stage session ps places e = omega (arith, ap (weigh_served p i (Some op)) e)
@@ -69,7 +70,7 @@ module _ {A : Type 0} where
       }
 
   -- the same entry goes on
-  stays_in : (m : Machine A) (inst new : Instance A) (r s : Running) → IsSoundMachine m → find (is_number new.number) m.instances ≡ Some inst
+  stays_in : (m : Machine A) (inst new : Instance A) (r s : ActiveEntry) → IsSoundMachine m → find (is_number new.number) m.instances ≡ Some inst
       → new.number ≡ inst.number → inst.running ≡ Some r → new.running ≡ Some s → s.op ≡ r.op → s.stage ≡ r.stage
       → turns_left s.waits (2 * (65536 - s.asks)) < turns_left r.waits (2 * (65536 - r.asks)) → IsNearer new.number m.queue m.instances m.queue m.table (put_instance new m.instances)
   stays_in m inst new r s h found number running goes op stage less =
@@ -107,17 +108,17 @@ module _ {A : Type 0} where
 
   begins_at : (m : Machine A) (inst : Instance A) (o : Operation) → IsSoundMachine m → find (is_number inst.number) m.instances ≡ Some inst
       → inst.running ≡ None → first_waiting m.queue inst.number ≡ Some o → (progress : Progress) → o.progress ≡ progress → is_running progress ≡ false
-      → IsTurned inst.number m (quiet (begun_with (record m { queue = after_begin m.queue (Some o) }) inst (begun_of o progress)))
+      → IsTurned inst.number m (no_replies (begun_with (record m { queue = after_begin m.queue (Some o) }) inst (begun_of o progress)))
   begins_at m inst o h found idle first (Waiting call) e waiting_so = begins_call m inst o call h found idle first e
   begins_at m inst o h found idle first (Runs close cancelled masked) e waiting_so = absurd (both_ways _ waiting_so refl)
 
   begins : (m : Machine A) (inst : Instance A) → IsSoundMachine m → find (is_number inst.number) m.instances ≡ Some inst → inst.running ≡ None
       → (first : Option Operation) → first_waiting m.queue inst.number ≡ first
-      → IsTurned inst.number m (quiet (begun_with (record m { queue = after_begin m.queue first }) inst (begun_at first)))
+      → IsTurned inst.number m (no_replies (begun_with (record m { queue = after_begin m.queue first }) inst (begun_at first)))
   begins m inst h found idle None e =
       let i = inst.number in
       let none : 1 ≤ measure i m.queue m.instances → ⊥ = λ some. omega (arith, some, none_first i m.queue.operations e, ap left_in found, ap left_of idle) in
-      cond_both (inst.created && is_left m.table i) (destroying m inst None None) m (λ (after : Machine A). IsTurned i m (quiet after))
+      cond_both (inst.created && is_left m.table i) (destroying m inst None None) m (λ (after : Machine A). IsTurned i m (no_replies after))
       (λ begins_so. begins_destroy m inst h found idle ((and_parts inst.created (is_left m.table i) begins_so).1) none)
       (λ _. record {
         sound = h;
@@ -131,9 +132,10 @@ module _ {A : Type 0} where
 
   -- ---- an entry returns
 
-  creates : (m : Machine A) (inst : Instance A) (r : Running) (ask : Ask) → IsSoundMachine m → find (is_number inst.number) m.instances ≡ Some inst → inst.running ≡ Some r → r.waits ≡ waits.Ask ask
+  creates : (m : Machine A) (inst : Instance A) (r : ActiveEntry) (ask : Ask) → IsSoundMachine m → find (is_number inst.number) m.instances ≡ Some inst → inst.running ≡ Some r
+      → r.waits ≡ waits.Ask ask
       → (op : Option ℕ) (session : ℕ) (ps : _) (places : _) → r.op ≡ op → r.stage ≡ stages.Create session ps places
-      → IsTurned inst.number m (quiet (with_instance (record m { queue = masked_again m.queue op }) (record inst { created = true; running = Some (start_begun op session ps places) })))
+      → IsTurned inst.number m (no_replies (with_instance (record m { queue = masked_again m.queue op }) (record inst { created = true; running = Some (start_begun op session ps places) })))
   creates m inst r ask h found running w op session ps places serves e =
       let i = inst.number in
       let new : Instance A = record inst { created = true; running = Some (start_begun op session ps places) } in
@@ -146,8 +148,9 @@ module _ {A : Type 0} where
       (omega arith)
       (omega (arith, before)))
 
-  returns : (m : Machine A) (inst : Instance A) (r : Running) (ask : Ask) → IsSoundMachine m → find (is_number inst.number) m.instances ≡ Some inst → inst.running ≡ Some r → r.waits ≡ waits.Ask ask
-      → (op : Option ℕ) (stage : Stage) (code : Code) (outs : Outs) → r.op ≡ op → r.stage ≡ stage → IsTurned inst.number m (returned m inst op stage code outs)
+  returns : (m : Machine A) (inst : Instance A) (r : ActiveEntry) (ask : Ask) → IsSoundMachine m → find (is_number inst.number) m.instances ≡ Some inst → inst.running ≡ Some r
+      → r.waits ≡ waits.Ask ask
+      → (op : Option ℕ) (stage : EntryPoint) (code : Code) (outs : Outs) → r.op ≡ op → r.stage ≡ stage → IsTurned inst.number m (returned m inst op stage code outs)
   returns m inst r ask h found running w op (stages.Create session ps places) code outs serves e =
       cond_both (is_success code) _ _ (IsTurned inst.number m)
       (λ _. creates m inst r ask h found running w op session ps places serves e)
@@ -163,11 +166,11 @@ module _ {A : Type 0} where
 
   -- ---- an entry goes on
 
-  acts : (m : Machine A) (inst : Instance A) (r : Running) (ask : Ask) → IsSoundMachine m → find (is_number inst.number) m.instances ≡ Some inst → inst.running ≡ Some r → r.waits ≡ waits.Ask ask
-      → (o : Outcome (Machine A)) → OutcomeLike m r.asks o → IsTurned inst.number m (acted m inst (mask_noted r ask) o)
+  acts : (m : Machine A) (inst : Instance A) (r : ActiveEntry) (ask : Ask) → IsSoundMachine m → find (is_number inst.number) m.instances ≡ Some inst → inst.running ≡ Some r → r.waits ≡ waits.Ask ask
+      → (o : Outcome (Machine A)) → OutcomeLike m r.asks o → IsTurned inst.number m (after_ask m inst (mask_noted r ask) o)
   acts m inst r ask h found running w (Answered after answer) like =
       let i = inst.number in
-      let s : Running = record { op = r.op; stage = r.stage; waits = waits.Given (givens.Answer answer); asks = r.asks + 1; masked = mask_after r.masked ask } in
+      let s : ActiveEntry = record { op = r.op; stage = r.stage; waits = waits.Given (givens.Answer answer); asks = r.asks + 1; masked = mask_after r.masked ask } in
       let new : Instance A = record inst { running = Some s } in
       let before : turns_left r.waits (2 * (65536 - r.asks)) ≡ 2 * (65536 - r.asks) + 1 = ap (λ v. turns_left v (2 * (65536 - r.asks))) w in
       let done : IsNearer i m.queue m.instances m.queue m.table (put_instance new m.instances) = stays_in m inst new r s h found refl running refl refl refl (omega (arith, before, like.few)) in
@@ -180,16 +183,16 @@ module _ {A : Type 0} where
   acts m inst r ask h found running w Panicked like = fails m inst.number h
 
 module _ {A : Type 0} (behaviour : Behaviour A) (serving : Serving) where
-  runs_on : (m : Machine A) (inst : Instance A) (r : Running) → IsSoundMachine m → find (is_number inst.number) m.instances ≡ Some inst → inst.running ≡ Some r
+  runs_on : (m : Machine A) (inst : Instance A) (r : ActiveEntry) → IsSoundMachine m → find (is_number inst.number) m.instances ≡ Some inst → inst.running ≡ Some r
       → (w : Waits) → r.waits ≡ w → IsTurned inst.number m (went_on behaviour serving m inst r w)
   runs_on m inst r h found running (waits.Given given) e =
-      let s : Running = record { op = r.op; stage = r.stage; waits = waits.Ask (behaviour.asks inst.state given); asks = r.asks; masked = r.masked } in
+      let s : ActiveEntry = record { op = r.op; stage = r.stage; waits = waits.Ask (behaviour.asks inst.state given); asks = r.asks; masked = r.masked } in
       let new : Instance A = record inst { state = behaviour.next inst.state given; running = Some s } in
       let before : turns_left r.waits (2 * (65536 - r.asks)) ≡ 2 * (65536 - r.asks) + 2 = ap (λ v. turns_left v (2 * (65536 - r.asks))) e in
       stays_in m inst new r s h found refl running refl refl refl (omega (arith, before))
-  runs_on m inst r h found running (waits.Ask ask) e = acts m inst r ask h found running e (served serving m ask (course_after m inst.number r ask)) (ask_like m serving inst.number r ask)
+  runs_on m inst r h found running (waits.Ask ask) e = acts m inst r ask h found running e (served serving m ask (resolution_after m inst.number r ask)) (ask_like m serving inst.number r ask)
 
-  turns_by : (m : Machine A) (inst : Instance A) → IsSoundMachine m → find (is_number inst.number) m.instances ≡ Some inst → (running : Option Running)
+  turns_by : (m : Machine A) (inst : Instance A) → IsSoundMachine m → find (is_number inst.number) m.instances ≡ Some inst → (running : Option ActiveEntry)
       → inst.running ≡ running → IsTurned inst.number m (turned_by behaviour serving m inst running)
   turns_by m inst h found None e = begins m inst h found e (first_waiting m.queue inst.number) refl
   turns_by m inst h found (Some r) e = runs_on m inst r h found e r.waits refl

@@ -7,13 +7,13 @@ use Rattle.rand_chacha.specs.ChaCha.{ChaCha}
 use Rattle.crypto_ops.specs.Random.{moved, stream_at, words_for}
 use Rattle.instances.specs.declared.session.Slot.{Slot}
 use Rattle.instances.specs.Instances.{instance_numbers}
-use Rattle.object_asks.specs.Asks.{Serves, Fails, Damaged, Outcome, Answered, Returned, Panicked, Course, Settled, ComesToStore, Objects, object_course}
+use Rattle.object_asks.specs.Asks.{Serves, Fails, Damaged, Outcome, Answered, Returned, Panicked, Resolution, Settled, ComesToStore, Objects, object_resolution}
 use Rattle.object_asks.specs.Valid.{IsValidObjects}
-use Rattle.object_asks.specs.Keys.{generate_course}
-use Rattle.object_asks.proofs.SoundAsks.{AreSound, Goes, Leaves, course_sound, generate_sound, instance_closed_sound, nothing_sound}
+use Rattle.object_asks.specs.Keys.{generate_resolution}
+use Rattle.object_asks.proofs.SoundAsks.{AreSound, Goes, Leaves, resolution_sound, generate_sound, instance_closed_sound, nothing_sound}
 use Rattle.operation_asks.specs.Asks.{CryptoState}
 use Rattle.store_api.specs.Stores.{Store}
-use Rattle.alone.specs.declared.running.Instance.{Instance}
+use Rattle.alone.specs.declared.active_entry.Instance.{Instance}
 use Rattle.alone.specs.Asks.{objects_of, with_objects}
 use Rattle.alone.specs.Crypto.{with_crypto}
 use Rattle.alone.specs.Machine.{Machine, start}
@@ -56,9 +56,9 @@ outcome_fine m (Answered after answer) fine sound = over_objects m after fine so
 outcome_fine m (Returned code outs) fine sound = tt
 outcome_fine m Panicked fine sound = tt
 
-course_fine : {A : Type 0} (m : Machine A) (c : Course Objects) → IsFine m → Goes AreSound c → Goes (λ o. IsFine (with_objects m o)) c
-course_fine m (Settled outcome) fine sound = outcome_fine m outcome fine sound
-course_fine m (ComesToStore kept plain) fine sound = (over_objects m kept fine sound.0, outcome_fine m plain fine sound.1)
+resolution_fine : {A : Type 0} (m : Machine A) (c : Resolution Objects) → IsFine m → Goes AreSound c → Goes (λ o. IsFine (with_objects m o)) c
+resolution_fine m (Settled outcome) fine sound = outcome_fine m outcome fine sound
+resolution_fine m (ComesToStore kept if_served) fine sound = (over_objects m kept fine sound.0, outcome_fine m if_served fine sound.1)
 
 -- with other operations, and the stream or that one moved
 over_crypto : {A : Type 0} (m : Machine A) (s : CryptoState) → IsFine m → IsOfStream m.crypto.random s.random → IsFine (with_crypto m s)
@@ -92,9 +92,9 @@ module _ {A : Type 0} where
     removed = λ m session fine. fine;
     ending = λ m i fine. over_instances m m.instances _ fine (fine.instances ∙ sym (ending_numbers i m.table.slots));
     gone = gone_fine;
-    objects = λ m i ask fine. course_fine m (object_course (objects_of m) i ask) fine (course_sound (objects_of m) i ask fine.objects);
+    objects = λ m i ask fine. resolution_fine m (object_resolution (objects_of m) i ask) fine (resolution_sound (objects_of m) i ask fine.objects);
     crypto = λ m s stream fine. over_crypto m s fine stream;
-    made = λ m i object bits random fine. course_fine m (generate_course (objects_of m) i object bits random) fine (generate_sound (objects_of m) i object bits random fine.objects);
+    made = λ m i object bits random fine. resolution_fine m (generate_resolution (objects_of m) i object bits random) fine (generate_sound (objects_of m) i object bits random fine.objects);
   }
 
   calls_fine : IsKeptByCalls {A = A} IsFine IsFine

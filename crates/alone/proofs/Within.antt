@@ -9,7 +9,7 @@ use Rattle.op_queue.specs.declared.operation.Progress.{Progress}
 use Rattle.op_queue.specs.declared.operation.Progress.TheVariants.{Waiting, Running as Runs}
 use Rattle.op_queue.specs.Queue.{Queue, IsQueue, is_close, is_running, mask_set, masked_as, requested, waits_for, with_mask, with_request}
 use Rattle.op_queue.proofs.Keeps.{filter_IsQueue, map_IsQueue}
-use Rattle.alone.specs.declared.running.Instance.{Instance}
+use Rattle.alone.specs.declared.active_entry.Instance.{Instance}
 use Rattle.alone.specs.Asks.{mask_set_for}
 use Rattle.alone.specs.Step.{masked_again}
 use Rattle.alone.proofs.Totals.{bit, total_le, total_map}

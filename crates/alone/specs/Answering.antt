@@ -2,7 +2,7 @@
 -- few operations are unanswered.
 use Rattle.app_api.specs.Behaviours.{Behaviour}
 use Rattle.std.specs.Prelude.{ℕ, ◌≡◌, ◌≤◌, ◌+◌, true, not, length, count_by}
-use Rattle.tee_base.specs.declared.limits.TheConstants.{OPERATIONS, SESSIONS}
+use Rattle.tee_base.specs.declared.limits.TheConstants.{MAX_OPERATIONS, MAX_SESSIONS}
 use Rattle.app_api.specs.declared.call.Call.{Call}
 use Rattle.op_queue.specs.Queue.{is_close}
 use Rattle.alone.specs.Machine.{Machine}
@@ -16,7 +16,7 @@ CallIsAnswered behaviour marks m client call = is_answered (machine_after behavi
 
 -- few operations other than closes are unanswered, and at most a close for each session; no more than both in all, and for one instance
 pub record OperationsAreFew {A : Type 0} (m : Machine A) : Type 0 where
-  pub others : count_by (λ o. not (is_close o.progress)) m.queue.operations ≤ OPERATIONS
-  pub closes : count_by (λ o. is_close o.progress) m.queue.operations ≤ SESSIONS
-  pub all : length m.queue.operations ≤ OPERATIONS + SESSIONS
-  pub of_instance : (i : ℕ) → count_by (belongs_to i) m.queue.operations ≤ OPERATIONS + SESSIONS
+  pub others : count_by (λ o. not (is_close o.progress)) m.queue.operations ≤ MAX_OPERATIONS
+  pub closes : count_by (λ o. is_close o.progress) m.queue.operations ≤ MAX_SESSIONS
+  pub all : length m.queue.operations ≤ MAX_OPERATIONS + MAX_SESSIONS
+  pub of_instance : (i : ℕ) → count_by (belongs_to i) m.queue.operations ≤ MAX_OPERATIONS + MAX_SESSIONS

@@ -3,12 +3,12 @@
 use Rattle.std.specs.Prelude.{ℕ, Bool, true, false, nat_le, Option, None, Some, if◌then◌else◌}
 use Rattle.tee_base.specs.declared.codes.Code.{Code}
 use Rattle.tee_base.specs.declared.codes.TheConstants.Code.{CANCEL}
-use Rattle.tee_base.specs.declared.limits.TheConstants.{ASKS}
+use Rattle.tee_base.specs.declared.limits.TheConstants.{MAX_ASKS}
 use Rattle.app_api.specs.declared.ask.Ask.{Ask}
 use Rattle.app_api.specs.declared.ask.Ask.TheVariants as asked
 use Rattle.app_api.specs.declared.ask.Answer.TheVariants as answers
 use Rattle.app_api.specs.declared.out.Outs.{Outs}
-use Rattle.object_asks.specs.Asks.{Answered, Returned, Panicked, Course, Settled, course_in, object_course}
+use Rattle.object_asks.specs.Asks.{Answered, Returned, Panicked, Resolution, Settled, resolution_in, object_resolution}
 use Rattle.object_asks.specs.Serving.{plainly}
 use Rattle.object_asks.specs.declared.outcome.Ending.{Ending}
 use Rattle.object_asks.specs.declared.outcome.Outcome.TheVariants as outcomes
@@ -17,11 +17,11 @@ use Rattle.op_queue.specs.Queue.{Queue, flag_of, mask_at, mask_set}
 use Rattle.alone.specs.declared.family.Family.{Family}
 use Rattle.alone.specs.declared.family.Family.TheVariants as families
 use Rattle.alone.specs.declared.family.Family.TheVariants.{Entry}
-use Rattle.alone.specs.declared.running.Running.{Running}
-use Rattle.alone.specs.declared.running.Stage.{Stage}
+use Rattle.alone.specs.declared.active_entry.ActiveEntry.{ActiveEntry}
+use Rattle.alone.specs.declared.active_entry.EntryPoint.{EntryPoint}
 use Rattle.alone.specs.Families.{family_of}
 pub use Rattle.alone.specs.Machine.{objects_of, with_objects}
-use Rattle.alone.specs.Crypto.{operated, generation_course}
+use Rattle.alone.specs.Crypto.{operated, generation_resolution}
 use Rattle.alone.specs.Machine.{Machine}
 use Rattle.alone.specs.Places.{is_misuse, places_at}
 
@@ -47,8 +47,8 @@ mask_set_for q None masked = q
 mask_set_for q (Some op) masked = mask_set q op masked
 
 -- CancelMask and CancelUnmask answer the mask that was, and set it
-abbrev pub mask_course : {A : Type 0} → Machine A → Running → Bool → Course (Machine A)
-mask_course m r masked =
+abbrev pub mask_resolution : {A : Type 0} → Machine A → ActiveEntry → Bool → Resolution (Machine A)
+mask_resolution m r masked =
     Settled (Answered (record m { queue = mask_set_for m.queue r.op masked }) (answers.Truth (mask_for m.queue r.op r.masked)))
 
 -- the entry's own mask after an ask
@@ -58,39 +58,39 @@ mask_after masked asked.CancelUnmask = false
 mask_after masked ask = masked
 
 -- the entry that runs, with its own mask as it is after the ask
-abbrev pub mask_noted : Running → Ask → Running
+abbrev pub mask_noted : ActiveEntry → Ask → ActiveEntry
 mask_noted r ask = record { op = r.op; stage = r.stage; waits = r.waits; asks = r.asks; masked = mask_after r.masked ask }
 
 -- ---- the family
 
 -- what an entry returns, unless its outputs are misuse
-abbrev pub return_course : {S : Type 0} → Stage → Code → Outs → Course S
-return_course stage code outs = if is_misuse (places_at stage) outs then Settled Panicked else Settled (Returned code outs)
+abbrev pub return_resolution : {S : Type 0} → EntryPoint → Code → Outs → Resolution S
+return_resolution stage code outs = if is_misuse (places_at stage) outs then Settled Panicked else Settled (Returned code outs)
 
 -- an ask about the entry itself; one of another family doesn't come here
-abbrev pub entry_course : {A : Type 0} → Machine A → Running → Ask → Course (Machine A)
-entry_course m r (asked.Return code outs) = return_course r.stage code outs
-entry_course m r (asked.Panic code) = Settled Panicked
-entry_course m r asked.CancelFlag = Settled (Answered m (answers.Truth (flag_for m.queue r.op)))
-entry_course m r asked.CancelMask = mask_course m r true
-entry_course m r asked.CancelUnmask = mask_course m r false
-entry_course m r ask = Settled Panicked
+abbrev pub entry_resolution : {A : Type 0} → Machine A → ActiveEntry → Ask → Resolution (Machine A)
+entry_resolution m r (asked.Return code outs) = return_resolution r.stage code outs
+entry_resolution m r (asked.Panic code) = Settled Panicked
+entry_resolution m r asked.CancelFlag = Settled (Answered m (answers.Truth (flag_for m.queue r.op)))
+entry_resolution m r asked.CancelMask = mask_resolution m r true
+entry_resolution m r asked.CancelUnmask = mask_resolution m r false
+entry_resolution m r ask = Settled Panicked
 
 -- how an ask of a family goes
-abbrev pub course_in_family : {A : Type 0} → Family → Machine A → ℕ → Running → Ask → Course (Machine A)
-course_in_family Entry m i r ask = entry_course m r ask
-course_in_family families.Objects m i r ask = course_in (with_objects m) (object_course (objects_of m) i ask)
-course_in_family families.Operations m i r ask = operated m i ask
-course_in_family families.Generation m i r ask = generation_course m i ask
+abbrev pub resolution_in_family : {A : Type 0} → Family → Machine A → ℕ → ActiveEntry → Ask → Resolution (Machine A)
+resolution_in_family Entry m i r ask = entry_resolution m r ask
+resolution_in_family families.Objects m i r ask = resolution_in (with_objects m) (object_resolution (objects_of m) i ask)
+resolution_in_family families.Operations m i r ask = operated m i ask
+resolution_in_family families.Generation m i r ask = generation_resolution m i ask
 
 -- how the ask goes that an instance makes in this entry
-abbrev pub course : {A : Type 0} → Machine A → ℕ → Running → Ask → Course (Machine A)
-course m i r ask = course_in_family (family_of ask) m i r ask
+abbrev pub resolution : {A : Type 0} → Machine A → ℕ → ActiveEntry → Ask → Resolution (Machine A)
+resolution m i r ask = resolution_in_family (family_of ask) m i r ask
 
 -- the same where an entry that has made all its asks panics, whatever it asks
-abbrev pub course_after : {A : Type 0} → Machine A → ℕ → Running → Ask → Course (Machine A)
-course_after m i r ask = if nat_le ASKS r.asks then Settled Panicked else course m i r ask
+abbrev pub resolution_after : {A : Type 0} → Machine A → ℕ → ActiveEntry → Ask → Resolution (Machine A)
+resolution_after m i r ask = if nat_le MAX_ASKS r.asks then Settled Panicked else resolution m i r ask
 
 -- what comes of the return of an entry of this stage
-abbrev pub return_of : Stage → Code → Outs → Served
+abbrev pub return_of : EntryPoint → Code → Outs → Served
 return_of stage code outs = if is_misuse (places_at stage) outs then plainly outcomes.Panicked else plainly (outcomes.Returned (record { code = code; outs = outs }))

@@ -4,12 +4,12 @@ use Rattle.std.specs.Prelude.{ℕ, Bool, false, Option, None, Some}
 use Rattle.app_api.specs.declared.ask.Ask.{Ask}
 use Rattle.app_api.specs.declared.ask.Ask.TheVariants as asked
 use Rattle.crypto_ops.specs.Random.{random_from}
-use Rattle.object_asks.specs.Asks.{Outcome, Answered, Panicked, Course, Settled, ComesToStore, Objects, course_in}
-use Rattle.object_asks.specs.KeyOf.{KeyCourse, KeySettled, KeyComesToStore, key_comes_to_store, key_course}
-use Rattle.object_asks.specs.Keys.{generate_course, random_wanted}
+use Rattle.object_asks.specs.Asks.{Outcome, Answered, Panicked, Resolution, Settled, ComesToStore, Objects, resolution_in}
+use Rattle.object_asks.specs.KeyOf.{KeyResolution, KeySettled, KeyComesToStore, key_comes_to_store, key_resolution}
+use Rattle.object_asks.specs.Keys.{generate_resolution, random_wanted}
 use Rattle.object_asks.specs.declared.lending.KeyFound.{KeyFound}
 use Rattle.object_asks.specs.declared.lending.KeyFound.TheVariants as finds
-use Rattle.operation_asks.specs.Asks.{CryptoState, operation_course}
+use Rattle.operation_asks.specs.Asks.{CryptoState, operation_resolution}
 use Rattle.operation_asks.specs.Asks as operations
 use Rattle.operation_asks.specs.Effects.{Effect}
 use Rattle.operation_asks.specs.Past.{drawn, key_effect}
@@ -43,23 +43,23 @@ abbrev pub keyed : {A : Type 0} → Machine A → ℕ → ℕ → KeyFound → O
 keyed m i op found = effected m (key_effect m.crypto i op (given_by found))
 
 -- how that goes: as the look for the key does
-abbrev pub keyed_by : {A : Type 0} → Machine A → ℕ → ℕ → KeyCourse → Course (Machine A)
+abbrev pub keyed_by : {A : Type 0} → Machine A → ℕ → ℕ → KeyResolution → Resolution (Machine A)
 keyed_by m i op (KeySettled found) = Settled (keyed m i op found)
-keyed_by m i op (KeyComesToStore plain) = ComesToStore m (keyed m i op plain)
+keyed_by m i op (KeyComesToStore if_served) = ComesToStore m (keyed m i op if_served)
 
 -- how an ask about operations or random bytes goes: an object's key is looked for where it decides
-abbrev pub operated_by : {A : Type 0} → Machine A → ℕ → operations.Course CryptoState → Course (Machine A)
+abbrev pub operated_by : {A : Type 0} → Machine A → ℕ → operations.Resolution CryptoState → Resolution (Machine A)
 operated_by m i (operations.Settled effect) = Settled (effected m effect)
-operated_by m i (operations.WantsKey op object) = keyed_by m i op (key_course (objects_of m) i object)
+operated_by m i (operations.WantsKey op object) = keyed_by m i op (key_resolution (objects_of m) i object)
 
 -- how such an ask of this instance goes
-abbrev pub operated : {A : Type 0} → Machine A → ℕ → Ask → Course (Machine A)
-operated m i ask = operated_by m i (operation_course m.crypto i ask)
+abbrev pub operated : {A : Type 0} → Machine A → ℕ → Ask → Resolution (Machine A)
+operated m i ask = operated_by m i (operation_resolution m.crypto i ask)
 
 -- such an ask comes to the store
-abbrev pub key_reaches : Objects → ℕ → operations.Course CryptoState → Bool
+abbrev pub key_reaches : Objects → ℕ → operations.Resolution CryptoState → Bool
 key_reaches o i (operations.Settled effect) = false
-key_reaches o i (operations.WantsKey op object) = key_comes_to_store (key_course o i object)
+key_reaches o i (operations.WantsKey op object) = key_comes_to_store (key_resolution o i object)
 
 -- the stream behind the bytes that are wanted
 abbrev pub drawn_for : CryptoState → Option ℕ → CryptoState
@@ -67,12 +67,12 @@ drawn_for s None = s
 drawn_for s (Some count) = drawn s count
 
 -- KeyGenerate: the key is made of the next bytes of the stream, of which none is taken where it isn't made
-abbrev pub generated : {A : Type 0} → Machine A → ℕ → ℕ → ℕ → Course (Machine A)
+abbrev pub generated : {A : Type 0} → Machine A → ℕ → ℕ → ℕ → Resolution (Machine A)
 generated m i object bits =
-    course_in (with_objects (with_crypto m (drawn_for m.crypto (random_wanted m.held i object bits))))
-    (generate_course (objects_of m) i object bits (random_from m.crypto.random))
+    resolution_in (with_objects (with_crypto m (drawn_for m.crypto (random_wanted m.held i object bits))))
+    (generate_resolution (objects_of m) i object bits (random_from m.crypto.random))
 
 -- an ask for a key that is made; any other doesn't come here
-abbrev pub generation_course : {A : Type 0} → Machine A → ℕ → Ask → Course (Machine A)
-generation_course m i (asked.KeyGenerate object bits) = generated m i object bits
-generation_course m i ask = Settled Panicked
+abbrev pub generation_resolution : {A : Type 0} → Machine A → ℕ → Ask → Resolution (Machine A)
+generation_resolution m i (asked.KeyGenerate object bits) = generated m i object bits
+generation_resolution m i ask = Settled Panicked

@@ -1,6 +1,6 @@
 -- Where an instance is in a list of instances.
 use Rattle.std.specs.Prelude.{ℕ, ◌≡◌, ◌<◌, List, Some, find, length, slice_set, slice_index_or}
-use Rattle.alone.specs.declared.running.Instance.{Instance}
+use Rattle.alone.specs.declared.active_entry.Instance.{Instance}
 use Rattle.alone.specs.Machine.{is_number, put_instance}
 
 -- the first instance of this number is at this place

@@ -7,7 +7,7 @@ use Rattle.store_api.specs.Stores.{Store}
 use Rattle.object_asks.specs.Asks.{Objects}
 use Rattle.object_asks.specs.Held.{Held, nothing_held}
 use Rattle.operation_asks.specs.Asks.{CryptoState, no_operations}
-use Rattle.alone.specs.declared.running.Instance.{Instance}
+use Rattle.alone.specs.declared.active_entry.Instance.{Instance}
 
 -- one application's machine
 pub record Machine (A : Type 0) : Type 0 where

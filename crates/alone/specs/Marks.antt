@@ -1,7 +1,7 @@
 -- How the numbered turns of a machine go.
 use Rattle.std.specs.Prelude.{ℕ, ◌≡◌, ◌+◌, ◌≤◌, ◌<◌, Bool, false, ◌&&◌, if◌then◌else◌}
 use Rattle.alone.specs.Machine.{Machine}
-use Rattle.alone.specs.Step.{Event, Turned, TurnLost, Corrupted, Starved, may_stand}
+use Rattle.alone.specs.Step.{Event, Turned, TurnLost, Corrupted, Starved, is_enabled}
 
 -- by its number, whether a turn is marked as lost, as damaged, or as starved
 pub record Marks : Type 0 where
@@ -18,9 +18,9 @@ no_marks = record { lost = λ turn. false; corrupt = λ turn. false; starved = �
 unfoldable pub event_at : {A : Type 0} → Marks → Machine A → ℕ → Event
 event_at marks m i =
     let turn = m.turns + 1 in
-    if marks.lost turn && may_stand m (TurnLost i) then TurnLost i
-    else if marks.corrupt turn && may_stand m (Corrupted i) then Corrupted i
-    else if marks.starved turn && may_stand m (Starved i) then Starved i
+    if marks.lost turn && is_enabled m (TurnLost i) then TurnLost i
+    else if marks.corrupt turn && is_enabled m (Corrupted i) then Corrupted i
+    else if marks.starved turn && is_enabled m (Starved i) then Starved i
     else Turned i
 
 -- the turn of this number is marked alike

@@ -1,23 +1,23 @@
 -- Where outputs are delivered, and what a client is shown (TEE Client API 1.0, sections 3.2.3 and 4.5.6; TEE Internal Core API 1.3, section 4.3.6.4).
 use Rattle.std.specs.Prelude.{ℕ, min, ◌-◌, ◌^◌, Bool, false, ◌||◌, nat_le, nat_lt, List, [], if◌then◌else◌, length}
-use Rattle.tee_base.specs.declared.limits.TheConstants.{ASK_BYTES}
+use Rattle.tee_base.specs.declared.limits.TheConstants.{MAX_ASK_BYTES}
 use Rattle.app_api.specs.declared.param.Param.{Param}
 use Rattle.app_api.specs.declared.param.Params.{Params}
 use Rattle.app_api.specs.declared.param.Param.TheVariants as params
 use Rattle.app_api.specs.declared.out.Out.{Out}
 use Rattle.app_api.specs.declared.out.Outs.{Outs}
 use Rattle.app_api.specs.declared.out.Out.TheVariants as outs
-use Rattle.alone.specs.declared.places.Place.{Place}
-use Rattle.alone.specs.declared.places.Place.TheVariants as places
+use Rattle.alone.specs.declared.places.OutputSlot.{OutputSlot}
+use Rattle.alone.specs.declared.places.OutputSlot.TheVariants as places
 use Rattle.alone.specs.declared.places.Places.{Places}
-use Rattle.alone.specs.declared.running.Stage.{Stage}
-use Rattle.alone.specs.declared.running.Stage.TheVariants as stages
+use Rattle.alone.specs.declared.active_entry.EntryPoint.{EntryPoint}
+use Rattle.alone.specs.declared.active_entry.EntryPoint.TheVariants as stages
 use Rattle.alone.specs.declared.reply.Shown.{Shown}
 use Rattle.alone.specs.declared.reply.Shown.TheVariants as shown
 use Rattle.alone.specs.declared.reply.Outputs.{Outputs}
 
 -- the output position that a parameter is
-abbrev pub place_of : Param → Place
+abbrev pub place_of : Param → OutputSlot
 place_of params.Nothing = places.Nothing
 place_of (params.ValueIn a b) = places.Nothing
 place_of params.ValueOut = places.Value
@@ -53,7 +53,7 @@ memory_shown before room (outs.Mem bytes) = if nat_le (length bytes) room then s
 memory_shown before room (outs.Size n) = shown.Size n
 
 -- what is shown of an output at a position
-abbrev pub shown_at : Place → Out → Shown
+abbrev pub shown_at : OutputSlot → Out → Shown
 shown_at places.Nothing out = shown.Nothing
 shown_at places.Value out = value_shown 0 0 out
 shown_at (places.ValueInOut a b) out = value_shown a b out
@@ -72,7 +72,7 @@ is_small_size room (outs.Mem bytes) = false
 is_small_size room (outs.Size n) = nat_le n room
 
 -- the output is misuse at this position: a size for which its memory has the room
-abbrev pub is_misused_at : Place → Out → Bool
+abbrev pub is_misused_at : OutputSlot → Out → Bool
 is_misused_at places.Nothing out = false
 is_misused_at places.Value out = false
 is_misused_at (places.ValueInOut a b) out = false
@@ -83,7 +83,7 @@ is_misused_at (places.MemInOut bytes) out = is_small_size (length bytes) out
 abbrev pub is_too_long : Out → Bool
 is_too_long outs.Nothing = false
 is_too_long (outs.Value a b) = false
-is_too_long (outs.Mem bytes) = nat_lt ASK_BYTES (length bytes)
+is_too_long (outs.Mem bytes) = nat_lt MAX_ASK_BYTES (length bytes)
 is_too_long (outs.Size n) = false
 
 -- the outputs of a return are misuse
@@ -93,7 +93,7 @@ is_misuse ps os =
     || is_misused_at ps.p0 os.p0 || is_misused_at ps.p1 os.p1 || is_misused_at ps.p2 os.p2 || is_misused_at ps.p3 os.p3
 
 -- the output positions of the entry that runs
-abbrev pub places_at : Stage → Places
+abbrev pub places_at : EntryPoint → Places
 places_at (stages.Create session ps places) = no_places
 places_at (stages.Start session ps) = ps
 places_at (stages.Invoke session ps) = ps

@@ -2,7 +2,7 @@
 -- 4.5.5 to 4.5.7).
 use Rattle.app_api.specs.Behaviours.{Behaviour}
 use Rattle.std.specs.Prelude.{ℕ, zero, suc, List, [], ◌∷◌, ◌++◌, if◌then◌else◌}
-use Rattle.tee_base.specs.declared.limits.TheConstants.{CALL_TURNS}
+use Rattle.tee_base.specs.declared.limits.TheConstants.{MAX_CALL_TURNS}
 use Rattle.app_api.specs.declared.call.Call.{Call}
 use Rattle.alone.specs.declared.reply.Reply.{Reply}
 use Rattle.alone.specs.Machine.{Machine}
@@ -11,7 +11,7 @@ use Rattle.alone.specs.Step.{Event, Called, step, called, is_answered}
 
 -- how many turns a call line has at most
 unfoldable pub most_turns : ℕ
-most_turns = CALL_TURNS
+most_turns = MAX_CALL_TURNS
 
 -- behaviour has the application's two stated functions
 module _ {A : Type 0} (behaviour : Behaviour A) where

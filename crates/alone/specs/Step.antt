@@ -2,7 +2,8 @@
 -- Numbers of sections are those of TEE Internal Core API 1.3 (instances and sessions: 2.1.3; panics: 2.3.3; entry points: 4.3;
 -- cancellation: 4.10) and TEE Client API 1.0 (calls: 4.5.5 to 4.5.8; origins: 4.4.3).
 use Rattle.app_api.specs.Behaviours.{Behaviour}
-use Rattle.std.specs.Prelude.{ℕ, ◌+◌, ◌==◌, Bool, true, false, not, ◌&&◌, List, [], ◌∷◌, ◌++◌, Option, None, Some, Result, Ok, Err, is_some, nat_lt, option_map, option_to_list, if◌then◌else◌, filter, map}
+use Rattle.std.specs.Prelude.{ℕ, ◌+◌, ◌==◌, Bool, true, false, not, ◌&&◌, List, [], ◌∷◌, ◌++◌, Option, None, Some, Result, Ok}
+use Rattle.std.specs.Prelude.{Err, is_some, nat_lt, option_map, option_to_list, if◌then◌else◌, filter, map}
 use Rattle.tee_base.specs.declared.codes.Code.{Code}
 use Rattle.tee_base.specs.declared.codes.Origin.{Origin}
 use Rattle.tee_base.specs.declared.codes.Origin.TheVariants.{Api, Tee, App}
@@ -28,22 +29,24 @@ use Rattle.op_queue.specs.declared.operation.Cancelled.{Cancelled as Cancellatio
 use Rattle.op_queue.specs.declared.operation.Cancelled.TheVariants.{Dropped, Flagged, Nothing}
 use Rattle.op_queue.specs.declared.operation.Progress.{Progress}
 use Rattle.op_queue.specs.declared.operation.Progress.TheVariants as progress
-use Rattle.op_queue.specs.Queue.{Queue, is_full, submitted, skipped, first_waiting, begun_at, after_begin, without, operation_of, facts_of as operation_facts, cancel_of, after_cancel, mask_set, cleared, forgotten}
+use Rattle.op_queue.specs.Queue.{Queue, is_full, submitted, skipped, first_waiting, begun_at, after_begin, without, operation_of}
+use Rattle.op_queue.specs.Queue.{facts_of as operation_facts, cancel_of, after_cancel, mask_set, cleared, forgotten}
 use Rattle.operation_asks.specs.Asks.{instance_ended, no_operations}
 use Rattle.alone.specs.declared.reply.Outputs.{Outputs}
 use Rattle.alone.specs.declared.reply.Reply.{Reply}
 use Rattle.alone.specs.declared.places.Places.{Places}
-use Rattle.alone.specs.declared.running.Instance.{Instance}
-use Rattle.alone.specs.declared.running.Running.{Running}
-use Rattle.alone.specs.declared.running.Stage.{Stage}
-use Rattle.alone.specs.declared.running.Stage.TheVariants as stages
-use Rattle.alone.specs.declared.running.Waits.{Waits}
-use Rattle.alone.specs.declared.running.Waits.TheVariants as waits
+use Rattle.alone.specs.declared.active_entry.Instance.{Instance}
+use Rattle.alone.specs.declared.active_entry.ActiveEntry.{ActiveEntry}
+use Rattle.alone.specs.declared.active_entry.EntryPoint.{EntryPoint}
+use Rattle.alone.specs.declared.active_entry.EntryPoint.TheVariants as stages
+use Rattle.alone.specs.declared.active_entry.Waits.{Waits}
+use Rattle.alone.specs.declared.active_entry.Waits.TheVariants as waits
 use Rattle.store_api.specs.Stores.{Store}
-use Rattle.object_asks.specs.Asks.{Outcome, Answered, Returned, Panicked, Course, Settled, ComesToStore, Serving, Serves, Fails, Damaged, came_of, changes_store, comes_to_store, may_need_store, refused}
+use Rattle.object_asks.specs.Asks.{Outcome, Answered, Returned, Panicked, Resolution, Settled, ComesToStore, Serving, Serves, Fails}
+use Rattle.object_asks.specs.Asks.{Damaged, came_of, changes_store, comes_to_store, may_need_store, refused}
 use Rattle.tee_base.specs.declared.codes.TheConstants.Code.{SUCCESS, BAD_PARAMETERS, BAD_STATE, BUSY, OUT_OF_MEMORY, STORAGE_NOT_AVAILABLE, TARGET_DEAD}
 use Rattle.object_asks.specs.Held.{nothing_held, instance_closed}
-use Rattle.alone.specs.Asks.{cancel, course_after, mask_noted}
+use Rattle.alone.specs.Asks.{cancel, resolution_after, mask_noted}
 use Rattle.alone.specs.Machine.{Machine, is_number, instance_at, with_instance}
 use Rattle.alone.specs.Places.{places_of, delivered}
 use Rattle.alone.specs.Replies.{no_outputs}
@@ -56,8 +59,8 @@ pub record Stepped (A : Type 0) : Type 0 where
   pub instance : ℕ
 
 -- this machine, without a reply and without a call that waits
-abbrev pub quiet : {A : Type 0} → Machine A → Stepped A
-quiet m = record { machine = m; replies = []; instance = 0 }
+abbrev pub no_replies : {A : Type 0} → Machine A → Stepped A
+no_replies m = record { machine = m; replies = []; instance = 0 }
 
 -- the reply to the operation of this number
 abbrev pub reply_of : ℕ → Code → Origin → Outputs → Reply
@@ -204,8 +207,8 @@ dropped m (Some o) = unless_unused (record m { table = session_removed m.table o
 -- an operation that has not begun is answered, and never begins; one that runs is flagged; all else is ignored
 abbrev pub cancelled_by : {A : Type 0} → Machine A → ℕ → Option (ℕ × ℕ) → Cancellation → Stepped A
 cancelled_by m op o Dropped = record { machine = dropped m o; replies = reply_of op cancel Tee no_outputs ∷ []; instance = 0 }
-cancelled_by m op o Flagged = quiet m
-cancelled_by m op o Nothing = quiet m
+cancelled_by m op o Flagged = no_replies m
+cancelled_by m op o Nothing = no_replies m
 
 -- a client's request to cancel the operation
 unfoldable pub cancelled : {A : Type 0} → Machine A → ℕ → Stepped A
@@ -216,19 +219,19 @@ cancelled m op =
 -- ---- turns: begin
 
 -- an entry that begins: it has made no ask, and cancellation is masked
-abbrev pub entry_begun : Option ℕ → Stage → Entry → Running
+abbrev pub entry_begun : Option ℕ → EntryPoint → Entry → ActiveEntry
 entry_begun op stage entry = record { op = op; stage = stage; waits = waits.Given (givens.Entry entry); asks = 0; masked = true }
 
 -- the start entry of this session begins
-abbrev pub start_begun : Option ℕ → ℕ → Params → Places → Running
+abbrev pub start_begun : Option ℕ → ℕ → Params → Places → ActiveEntry
 start_begun op session ps places = entry_begun op (stages.Start session places) (entries.Start session ps)
 
 -- the destroy entry, and the reply that is given when it has returned
-abbrev pub destroy_begins : Option ℕ → Option Reply → Running
+abbrev pub destroy_begins : Option ℕ → Option Reply → ActiveEntry
 destroy_begins op reply = entry_begun op (stages.Destroy reply) entries.Destroy
 
 -- the first entry of an operation: an open's is create where the instance never ran it
-abbrev pub first_entry : Bool → ℕ → ℕ → Call → Running
+abbrev pub first_entry : Bool → ℕ → ℕ → Call → ActiveEntry
 first_entry false op session (calls.Open label ps) = entry_begun (Some op) (stages.Create session ps (places_of ps)) entries.Create
 first_entry true op session (calls.Open label ps) = start_begun (Some op) session ps (places_of ps)
 first_entry created op session (calls.Invoke label command ps) = entry_begun (Some op) (stages.Invoke session (places_of ps)) (entries.Invoke session command ps)
@@ -255,20 +258,24 @@ begun_with m inst None = idle m inst
 begun_with m inst (Some b) = with_instance m (record inst { running = Some (first_entry inst.created b.op b.session b.call) })
 
 -- the instance's waiting operation with the least number begins, if there is one
-abbrev pub begun : {A : Type 0} → Machine A → Instance A → Machine A
-begun m inst = let first = first_waiting m.queue inst.number in begun_with (record m { queue = after_begin m.queue first }) inst (begun_at first)
+abbrev pub with_next_begun : {A : Type 0} → Machine A → Instance A → Machine A
+with_next_begun m inst = let first = first_waiting m.queue inst.number in begun_with (record m { queue = after_begin m.queue first }) inst (begun_at first)
 
 -- ---- turns: think
 
 -- the application's step, and its ask waits
-abbrev pub thought : {A : Type 0} → Behaviour A → Machine A → Instance A → Running → Given → Machine A
-thought behaviour m inst r given = with_instance m (record inst { state = behaviour.next inst.state given; running = Some (record { op = r.op; stage = r.stage; waits = waits.Ask (behaviour.asks inst.state given); asks = r.asks; masked = r.masked }) })
+abbrev pub after_app_step : {A : Type 0} → Behaviour A → Machine A → Instance A → ActiveEntry → Given → Machine A
+after_app_step behaviour m inst r given = with_instance m (record inst {
+  state = behaviour.next inst.state given;
+  running =
+      Some (record { op = r.op; stage = r.stage; waits = waits.Ask (behaviour.asks inst.state given); asks = r.asks; masked = r.masked });
+})
 
 -- ---- turns: act
 
 -- the entry ends, its operation is answered where it has one, and its instance runs nothing
 abbrev pub answered : {A : Type 0} → Machine A → Instance A → Option ℕ → Code → Outputs → Stepped A
-answered m inst None code outputs = quiet (with_instance m (record inst { running = None }))
+answered m inst None code outputs = no_replies (with_instance m (record inst { running = None }))
 answered m inst (Some op) code outputs = record {
   machine = with_instance (record m { queue = without m.queue op }) (record inst { running = None });
   replies = reply_of op code App outputs ∷ [];
@@ -283,14 +290,14 @@ is_success code = code.0 == 0
 abbrev pub after_session : {A : Type 0} → Machine A → Instance A → Option ℕ → Code → Outputs → Stepped A
 after_session m inst op code outputs =
     if is_left m.table inst.number
-    then quiet (destroying m inst op (option_map (λ n. reply_of n code App outputs) op))
+    then no_replies (destroying m inst op (option_map (λ n. reply_of n code App outputs) op))
     else answered m inst op code outputs
 
 -- what a return does, by the entry that returns
-abbrev pub returned : {A : Type 0} → Machine A → Instance A → Option ℕ → Stage → Code → Outs → Stepped A
+abbrev pub returned : {A : Type 0} → Machine A → Instance A → Option ℕ → EntryPoint → Code → Outs → Stepped A
 returned m inst op (stages.Create session ps places) code outs =
     if is_success code
-    then quiet (with_instance (record m { queue = masked_again m.queue op }) (record inst { created = true; running = Some (start_begun op session ps places) }))
+    then no_replies (with_instance (record m { queue = masked_again m.queue op }) (record inst { created = true; running = Some (start_begun op session ps places) }))
     else torn_down m inst.number code App
 returned m inst op (stages.Start session places) code outs =
     if is_success code
@@ -301,10 +308,19 @@ returned m inst op (stages.Stop session) code outs = after_session (record m { t
 returned m inst op (stages.Destroy reply) code outs = record { machine = instance_gone m inst.number; replies = option_to_list reply; instance = 0 }
 
 -- the machine after the ask of the entry that runs: an answer is given next, and the ask is counted; a panic tears the instance down
-abbrev pub acted : {A : Type 0} → Machine A → Instance A → Running → Outcome (Machine A) → Stepped A
-acted m inst r (Answered after answer) = quiet (with_instance after (record inst { running = Some (record { op = r.op; stage = r.stage; waits = waits.Given (givens.Answer answer); asks = r.asks + 1; masked = r.masked }) }))
-acted m inst r (Returned code outs) = returned m inst r.op r.stage code outs
-acted m inst r Panicked = torn_down m inst.number TARGET_DEAD Tee
+abbrev pub after_ask : {A : Type 0} → Machine A → Instance A → ActiveEntry → Outcome (Machine A) → Stepped A
+after_ask m inst r (Answered after answer) = no_replies (with_instance after (record inst {
+  running = Some (record {
+    op = r.op;
+    stage = r.stage;
+    waits =
+        waits.Given (givens.Answer answer);
+    asks = r.asks + 1;
+    masked = r.masked;
+  });
+}))
+after_ask m inst r (Returned code outs) = returned m inst r.op r.stage code outs
+after_ask m inst r Panicked = torn_down m inst.number TARGET_DEAD Tee
 
 -- the store that the ask would have left
 abbrev pub store_left : {A : Type 0} → Machine A → Outcome (Machine A) → Store
@@ -314,30 +330,30 @@ store_left m Panicked = m.store
 
 -- the storage is lost, and where the ask was to change the store, what it would have left is in doubt
 abbrev pub lost_at : {A : Type 0} → Machine A → Bool → Outcome (Machine A) → Machine A
-lost_at m changes plain = record m { lost = true; in_doubt = if changes then Some (store_left m plain) else m.in_doubt }
+lost_at m changes if_served = record m { lost = true; in_doubt = if changes then Some (store_left m if_served) else m.in_doubt }
 
 -- what comes of the ask in a turn in which the store does so
-abbrev pub served : {A : Type 0} → Serving → Machine A → Ask → Course (Machine A) → Outcome (Machine A)
+abbrev pub served : {A : Type 0} → Serving → Machine A → Ask → Resolution (Machine A) → Outcome (Machine A)
 served serving m ask (Settled outcome) = outcome
-served Serves m ask (ComesToStore kept plain) = came_of Serves m.lost (ComesToStore kept plain)
-served Fails m ask (ComesToStore kept plain) = refused (lost_at kept (changes_store ask) plain) STORAGE_NOT_AVAILABLE
-served Damaged m ask (ComesToStore kept plain) = came_of Damaged m.lost (ComesToStore kept plain)
+served Serves m ask (ComesToStore kept if_served) = came_of Serves m.lost (ComesToStore kept if_served)
+served Fails m ask (ComesToStore kept if_served) = refused (lost_at kept (changes_store ask) if_served) STORAGE_NOT_AVAILABLE
+served Damaged m ask (ComesToStore kept if_served) = came_of Damaged m.lost (ComesToStore kept if_served)
 
 -- ---- a turn
 
 -- the entry goes on: the application is given what waits for it, or its ask is served
-abbrev pub went_on : {A : Type 0} → Behaviour A → Serving → Machine A → Instance A → Running → Waits → Stepped A
-went_on behaviour serving m inst r (waits.Given given) = quiet (thought behaviour m inst r given)
-went_on behaviour serving m inst r (waits.Ask ask) = acted m inst (mask_noted r ask) (served serving m ask (course_after m inst.number r ask))
+abbrev pub went_on : {A : Type 0} → Behaviour A → Serving → Machine A → Instance A → ActiveEntry → Waits → Stepped A
+went_on behaviour serving m inst r (waits.Given given) = no_replies (after_app_step behaviour m inst r given)
+went_on behaviour serving m inst r (waits.Ask ask) = after_ask m inst (mask_noted r ask) (served serving m ask (resolution_after m inst.number r ask))
 
 -- a turn of the instance: the entry that runs goes on, or the next operation begins where none runs
-abbrev pub turned_by : {A : Type 0} → Behaviour A → Serving → Machine A → Instance A → Option Running → Stepped A
-turned_by behaviour serving m inst None = quiet (begun m inst)
+abbrev pub turned_by : {A : Type 0} → Behaviour A → Serving → Machine A → Instance A → Option ActiveEntry → Stepped A
+turned_by behaviour serving m inst None = no_replies (with_next_begun m inst)
 turned_by behaviour serving m inst (Some r) = went_on behaviour serving m inst r r.waits
 
 -- a turn of an instance, where it is there; else nothing happens
 abbrev pub turned_at : {A : Type 0} → Behaviour A → Serving → Machine A → Option (Instance A) → Stepped A
-turned_at behaviour serving m None = quiet m
+turned_at behaviour serving m None = no_replies m
 turned_at behaviour serving m (Some inst) = turned_by behaviour serving m inst inst.running
 
 -- one turn more was made
@@ -364,17 +380,17 @@ is_answered m op = nat_lt op m.queue.next && not (is_some (option_map operation_
 -- ---- what waits in an instance
 
 -- a fact about the ask that waits, false where none does
-abbrev pub of_waits : (Running → Ask → Bool) → Running → Waits → Bool
+abbrev pub of_waits : (ActiveEntry → Ask → Bool) → ActiveEntry → Waits → Bool
 of_waits test r (waits.Given given) = false
 of_waits test r (waits.Ask ask) = test r ask
 
 -- the same of the entry that runs, false where none does
-abbrev pub of_running : (Running → Ask → Bool) → Option Running → Bool
+abbrev pub of_running : (ActiveEntry → Ask → Bool) → Option ActiveEntry → Bool
 of_running test None = false
 of_running test (Some r) = of_waits test r r.waits
 
 -- the same of an instance, false where it isn't there
-abbrev pub of_instance : {A : Type 0} → (Running → Ask → Bool) → Option (Instance A) → Bool
+abbrev pub of_instance : {A : Type 0} → (ActiveEntry → Ask → Bool) → Option (Instance A) → Bool
 of_instance test None = false
 of_instance test (Some inst) = of_running test inst.running
 
@@ -389,7 +405,7 @@ is_changing m i = of_instance (λ r ask. changes_store ask) (instance_at m i)
 -- an ask waits in the instance, the entry has not made all its asks, neither misuse nor a refusal stands before the store, and it
 -- comes to the store
 abbrev pub reaches : {A : Type 0} → Machine A → ℕ → Bool
-reaches m i = of_instance (λ r ask. comes_to_store (course_after m i r ask)) (instance_at m i)
+reaches m i = of_instance (λ r ask. comes_to_store (resolution_after m i r ask)) (instance_at m i)
 
 -- ---- the loss of the power
 
@@ -427,16 +443,16 @@ pub data Event : Type 0 where
   Starved : (instance : ℕ) → Event
   Restarted : (took : Bool) → Event
 
--- where each event may stand
-abbrev pub may_stand : {A : Type 0} → Machine A → Event → Bool
-may_stand m (Called client call) = true
-may_stand m (Cancelled op) = true
-may_stand m (Turned instance) = true
-may_stand m (TurnLost instance) = reaches m instance && not m.lost
-may_stand m (Corrupted instance) = reaches m instance && not m.lost
-may_stand m Lost = not m.lost
-may_stand m (Starved instance) = is_some (instance_at m instance)
-may_stand m (Restarted took) = true
+-- in which machines each event is enabled
+abbrev pub is_enabled : {A : Type 0} → Machine A → Event → Bool
+is_enabled m (Called client call) = true
+is_enabled m (Cancelled op) = true
+is_enabled m (Turned instance) = true
+is_enabled m (TurnLost instance) = reaches m instance && not m.lost
+is_enabled m (Corrupted instance) = reaches m instance && not m.lost
+is_enabled m Lost = not m.lost
+is_enabled m (Starved instance) = is_some (instance_at m instance)
+is_enabled m (Restarted took) = true
 
 -- one step; next and asks are the application's two functions
 abbrev pub step : {A : Type 0} → Behaviour A → Machine A → Event → Stepped A
@@ -445,6 +461,6 @@ step behaviour m (Cancelled op) = cancelled m op
 step behaviour m (Turned instance) = turned behaviour m instance
 step behaviour m (TurnLost instance) = turned_as behaviour Fails m instance
 step behaviour m (Corrupted instance) = turned_as behaviour Damaged m instance
-step behaviour m Lost = quiet (record m { lost = true })
+step behaviour m Lost = no_replies (record m { lost = true })
 step behaviour m (Starved instance) = starved m instance
-step behaviour m (Restarted took) = quiet (restarted m took)
+step behaviour m (Restarted took) = no_replies (restarted m took)

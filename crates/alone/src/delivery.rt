@@ -3,22 +3,22 @@
 ghost use Rattle.std.specs.Prelude.{◌≡◌, IfOk};
 ghost use Rattle.alone.specs.Places.{place_of, places_of, shown_at, delivered, is_misuse, is_misused_at, is_too_long, value_shown, memory_shown, size_of_bytes, is_small_size};
 
-use crate::places::{Place, Places};
+use crate::places::{OutputSlot, Places};
 use crate::reply::{Outputs, Shown};
 use app_api::{Out, Outs, Param, Params};
 use std::alloc::Global;
 use tee_base::{Bytes, NoMemory, limits};
 
 /// The output position that a parameter is. The bytes of a memory inout are copied.
-fn place(alloc: Global, param: &Param) -> Result<Place, NoMemory>
+fn place(alloc: Global, param: &Param) -> Result<OutputSlot, NoMemory>
     ensures { IfOk result (λ place. place ≡ place_of param.now) }
 {
     Ok(match param {
-        Param::Nothing | Param::ValueIn(_, _) | Param::MemIn(_) => Place::Nothing,
-        Param::ValueOut => Place::Value,
-        Param::ValueInOut(a, b) => Place::ValueInOut(*a, *b),
-        Param::MemOut(room) => Place::Mem(*room),
-        Param::MemInOut(bytes) => Place::MemInOut(bytes.copy(alloc)?),
+        Param::Nothing | Param::ValueIn(_, _) | Param::MemIn(_) => OutputSlot::Nothing,
+        Param::ValueOut => OutputSlot::Value,
+        Param::ValueInOut(a, b) => OutputSlot::ValueInOut(*a, *b),
+        Param::MemOut(room) => OutputSlot::Mem(*room),
+        Param::MemInOut(bytes) => OutputSlot::MemInOut(bytes.copy(alloc)?),
     })
 }
 
@@ -39,7 +39,7 @@ fn is_too_long(out: &Out) -> bool
     ensures { result ≡ is_too_long out.now }
 {
     match out {
-        Out::Mem(bytes) => bytes.len() > limits::ASK_BYTES as usize,
+        Out::Mem(bytes) => bytes.len() > limits::MAX_ASK_BYTES as usize,
         _ => false,
     }
 }
@@ -54,12 +54,12 @@ fn is_small_size(room: usize, out: &Out) -> bool
     }
 }
 
-fn is_misused(place: &Place, out: &Out) -> bool
+fn is_misused(place: &OutputSlot, out: &Out) -> bool
     ensures { result ≡ is_misused_at place.now out.now }
 {
     match place {
-        Place::Mem(room) => is_small_size(*room as usize, out),
-        Place::MemInOut(bytes) => is_small_size(bytes.len(), out),
+        OutputSlot::Mem(room) => is_small_size(*room as usize, out),
+        OutputSlot::MemInOut(bytes) => is_small_size(bytes.len(), out),
         _ => false,
     }
 }
@@ -115,15 +115,15 @@ fn shown_memory(before: Bytes, room: usize, out: Out) -> Shown
 }
 
 /// What is shown of an output at its position.
-fn shown(alloc: Global, place: Place, out: Out) -> Shown
+fn shown(alloc: Global, place: OutputSlot, out: Out) -> Shown
     ensures { result ≡ shown_at place out }
 {
     match place {
-        Place::Nothing => Shown::Nothing,
-        Place::Value => shown_value(0, 0, out),
-        Place::ValueInOut(a, b) => shown_value(a, b, out),
-        Place::Mem(room) => shown_memory(Bytes::empty(alloc), room as usize, out),
-        Place::MemInOut(bytes) => {
+        OutputSlot::Nothing => Shown::Nothing,
+        OutputSlot::Value => shown_value(0, 0, out),
+        OutputSlot::ValueInOut(a, b) => shown_value(a, b, out),
+        OutputSlot::Mem(room) => shown_memory(Bytes::empty(alloc), room as usize, out),
+        OutputSlot::MemInOut(bytes) => {
             let room = bytes.len();
             shown_memory(bytes, room, out)
         }

@@ -5,10 +5,10 @@ ghost use Rattle.alone.specs.Places.{is_misuse, places_at};
 ghost use Rattle.alone.specs.Step.{destroy_begins, entry_begun, first_entry, start_begun};
 ghost use Rattle.alone.specs.Asks.{return_of};
 
+use crate::active_entry::{ActiveEntry, EntryPoint, Waits};
 use crate::delivery::{is_misuse, places_of};
 use crate::places::Places;
 use crate::reply::Reply;
-use crate::running::{Running, Stage, Waits};
 use app_api::{Call, Entry, Given, Outs, Params};
 use object_asks::{Ending, Outcome, Served, panicked};
 use op_queue::Begun;
@@ -16,10 +16,10 @@ use std::alloc::Global;
 use tee_base::{Code, NoMemory};
 
 /// An entry that begins: it has made no ask, and cancellation is masked.
-fn entry_begun(op: Option<u64>, stage: Stage, entry: Entry) -> Running
+fn entry_begun(op: Option<u64>, stage: EntryPoint, entry: Entry) -> ActiveEntry
     ensures { result ≡ entry_begun op stage entry }
 {
-    Running {
+    ActiveEntry {
         op,
         stage,
         waits: Waits::Given(Given::Entry(entry)),
@@ -29,25 +29,25 @@ fn entry_begun(op: Option<u64>, stage: Stage, entry: Entry) -> Running
 }
 
 /// A start entry that begins.
-pub fn start_entry(op: Option<u64>, session: u8, params: Params, places: Places) -> Running
+pub fn start_entry(op: Option<u64>, session: u8, params: Params, places: Places) -> ActiveEntry
     ensures { result ≡ start_begun op session params places }
 {
     entry_begun(
         op,
-        Stage::Start { session, places },
+        EntryPoint::Start { session, places },
         Entry::Start { session, params },
     )
 }
 
 /// A destroy entry that begins, with the reply that is given when it has returned.
-pub fn destroy_entry(op: Option<u64>, reply: Option<Reply>) -> Running
+pub fn destroy_entry(op: Option<u64>, reply: Option<Reply>) -> ActiveEntry
     ensures { result ≡ destroy_begins op reply }
 {
-    entry_begun(op, Stage::Destroy { reply }, Entry::Destroy)
+    entry_begun(op, EntryPoint::Destroy { reply }, Entry::Destroy)
 }
 
 /// The first entry of an operation.
-pub fn first_entry(alloc: Global, created: bool, begun: Begun) -> Result<Running, NoMemory>
+pub fn first_entry(alloc: Global, created: bool, begun: Begun) -> Result<ActiveEntry, NoMemory>
     ensures { IfOk result (λ running.
         running ≡ first_entry created begun.op begun.session begun.call) }
 {
@@ -59,7 +59,7 @@ pub fn first_entry(alloc: Global, created: bool, begun: Begun) -> Result<Running
             if created {
                 return Ok(start_entry(op, session, params, places));
             }
-            let stage = Stage::Create {
+            let stage = EntryPoint::Create {
                 session,
                 params,
                 places,
@@ -74,7 +74,7 @@ pub fn first_entry(alloc: Global, created: bool, begun: Begun) -> Result<Running
             let places = places_of(alloc, &params)?;
             Ok(entry_begun(
                 op,
-                Stage::Invoke { session, places },
+                EntryPoint::Invoke { session, places },
                 Entry::Invoke {
                     session,
                     command,
@@ -82,24 +82,30 @@ pub fn first_entry(alloc: Global, created: bool, begun: Begun) -> Result<Running
                 },
             ))
         }
-        Call::Close { .. } => Ok(entry_begun(op, Stage::Stop { session }, Entry::Stop { session })),
+        Call::Close { .. } => Ok(entry_begun(
+            op,
+            EntryPoint::Stop { session },
+            Entry::Stop { session },
+        )),
     }
 }
 
 /// Whether the outputs are misuse at the entry that returns them.
-fn is_misused(stage: &Stage, outs: &Outs) -> bool
+fn is_misused(stage: &EntryPoint, outs: &Outs) -> bool
     ensures { result ≡ is_misuse (places_at stage.now) outs.now }
 {
     match stage {
-        Stage::Start { places, .. } | Stage::Invoke { places, .. } => is_misuse(places, outs),
-        Stage::Create { .. } | Stage::Stop { .. } | Stage::Destroy { .. } => {
+        EntryPoint::Start { places, .. } | EntryPoint::Invoke { places, .. } => is_misuse(
+            places, outs,
+        ),
+        EntryPoint::Create { .. } | EntryPoint::Stop { .. } | EntryPoint::Destroy { .. } => {
             is_misuse(&Places::none(), outs)
         }
     }
 }
 
 /// What comes of the return of an entry.
-pub fn returned(stage: &Stage, code: Code, outs: Outs) -> Served
+pub fn returned(stage: &EntryPoint, code: Code, outs: Outs) -> Served
     ensures { result ≡ return_of stage.now code outs }
 {
     if is_misused(stage, &outs) {

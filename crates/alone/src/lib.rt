@@ -2,6 +2,7 @@
 //! is proved of every machine that events can lead to.
 #![tactic(auto)]
 
+mod active_entry;
 mod answering;
 mod delivery;
 mod entries;
@@ -11,10 +12,10 @@ mod place;
 mod places;
 mod power;
 mod reply;
-mod running;
 mod turn;
 mod validity;
 
+pub use active_entry::{ActiveEntry, EntryPoint, Instance, Waits};
 pub use answering::{call_lines_are_answered, operations_are_few};
 pub use app_api::Call;
 pub use delivery::{deliver, is_misuse, places_of};
@@ -26,9 +27,8 @@ pub use laws::{
 };
 pub use object_asks::Ending;
 pub use place::place_of;
-pub use places::{Place, Places};
+pub use places::{OutputSlot, Places};
 pub use power::Power;
 pub use reply::{Outputs, REPLIES, Replies, Reply, Shown};
-pub use running::{Instance, Running, Stage, Waits};
 pub use turn::TurnKind;
 pub use validity::machines_stay_valid;

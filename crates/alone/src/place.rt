@@ -4,7 +4,7 @@ ghost use Rattle.std.specs.Prelude.{◌≡◌, IfSome, IfNone, None, find};
 ghost use Rattle.alone.specs.InList.{IsPlace};
 ghost use Rattle.alone.specs.Machine.{is_number};
 
-use crate::running::Instance;
+use crate::active_entry::Instance;
 
 /// The place of the instance of this number.
 pub fn place_of<A>(instances: &[Instance<A>], number: u8) -> Option<usize>

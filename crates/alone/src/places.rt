@@ -7,7 +7,7 @@ use tee_base::Bytes;
 
 /// What may be delivered at one position (TEE Internal Core API 1.3, section 4.3.6.4).
 #[derive(Debug, Drop)]
-pub enum Place {
+pub enum OutputSlot {
     /// No output is delivered here.
     Nothing,
     Value,
@@ -22,10 +22,10 @@ pub enum Place {
 /// The four positions of a call.
 #[derive(Debug, Drop)]
 pub struct Places {
-    pub p0: Place,
-    pub p1: Place,
-    pub p2: Place,
-    pub p3: Place,
+    pub p0: OutputSlot,
+    pub p1: OutputSlot,
+    pub p2: OutputSlot,
+    pub p3: OutputSlot,
 }
 
 impl Places {
@@ -34,10 +34,10 @@ impl Places {
         ensures { result ≡ no_places }
     {
         Places {
-            p0: Place::Nothing,
-            p1: Place::Nothing,
-            p2: Place::Nothing,
-            p3: Place::Nothing,
+            p0: OutputSlot::Nothing,
+            p1: OutputSlot::Nothing,
+            p2: OutputSlot::Nothing,
+            p3: OutputSlot::Nothing,
         }
     }
 }

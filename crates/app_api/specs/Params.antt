@@ -1,6 +1,6 @@
 -- Parameters of a call: their kinds, and the sizes of memory references.
 use Rattle.std.specs.Prelude.{ℕ, Bool, List, [], ◌∷◌, Option, length, position, nat_lt}
-use Rattle.tee_base.specs.declared.limits.TheConstants.{ASK_BYTES}
+use Rattle.tee_base.specs.declared.limits.TheConstants.{MAX_ASK_BYTES}
 use Rattle.app_api.specs.declared.param.Param.{Param}
 use Rattle.app_api.specs.declared.param.Param.TheVariants.{Nothing, ValueIn, ValueOut, ValueInOut, MemIn, MemOut, MemInOut}
 use Rattle.app_api.specs.declared.param.Params.{Params}
@@ -27,7 +27,7 @@ size_of (MemInOut bytes) = length bytes
 
 -- a memory reference of more than an ask may bring
 abbrev pub is_oversized : Param → Bool
-is_oversized p = nat_lt ASK_BYTES (size_of p)
+is_oversized p = nat_lt MAX_ASK_BYTES (size_of p)
 
 -- the four in order
 abbrev pub params_of : Params → List Param

@@ -72,7 +72,7 @@ fn are_apart<A>(earlier: &[Host<A>], host: &Host<A>) -> bool
 pub fn hosts_fit<A: Application>(hosts: &[Host<A>]) -> bool
     ensures { IsTrue result ↔ HostsFit hosts.now }
 {
-    if hosts.is_empty() || hosts.len() > limits::HOSTS {
+    if hosts.is_empty() || hosts.len() > limits::MAX_HOSTS {
         return false;
     }
     for (index, host) in hosts.iter().enumerate() {

@@ -51,7 +51,7 @@ impl Param {
     fn is_too_large(&self) -> bool
         ensures { result ≡ is_oversized self.now }
     {
-        self.size() > limits::ASK_BYTES as usize
+        self.size() > limits::MAX_ASK_BYTES as usize
     }
 }
 

@@ -14,8 +14,8 @@ use Rattle.crypto_ops.specs.Random.{random_from}
 use Rattle.store_api.specs.Stores.{Store}
 use Rattle.store_api.specs.Keeping.{CrashLeaves, Keeper, LeavesJust, Status}
 use Rattle.object_asks.specs.Asks.{changes_store}
-use Rattle.object_asks.specs.Courses.{Outcome, Answered, Returned, Panicked, Course, Settled, ComesToStore, Serving, Serves, Fails, Damaged, course_in, refused}
-use Rattle.object_asks.specs.KeyOf.{IsKeyServed, KeyCourse, KeySettled, KeyComesToStore, RefusesUnlessPlain, key_came_of, key_comes_to_store, key_course}
+use Rattle.object_asks.specs.Resolutions.{Outcome, Answered, Returned, Panicked, Resolution, Settled, ComesToStore, Serving, Serves, Fails, Damaged, resolution_in, refused}
+use Rattle.object_asks.specs.KeyOf.{IsKeyServed, KeyResolution, KeySettled, KeyComesToStore, RefusesUnlessPlain, key_came_of, key_comes_to_store, key_resolution}
 use Rattle.object_asks.specs.Keys.{generated_of, random_wanted}
 use Rattle.object_asks.specs.Serving.{CrashTurns, EndsUnchanged, HasStatus, IsKept, Meets, SaysChange, UnlessAnswered, UnlessInDoubt, objects_in, plainly, serving_of}
 use Rattle.object_asks.specs.declared.lending.KeyFound.{KeyFound}
@@ -27,7 +27,7 @@ use Rattle.object_asks.specs.declared.turn.TurnKind.{TurnKind}
 use Rattle.object_asks.specs.declared.turn.TurnKind.TheVariants.{Plain, Lost, Corrupted}
 use Rattle.object_asks.proofs.Crashes.{idle_crash, only_old}
 use Rattle.object_asks.proofs.ServingLemmas.{by_nothing, ends_with}
-use Rattle.operation_asks.specs.Asks.{CryptoState, operation_course}
+use Rattle.operation_asks.specs.Asks.{CryptoState, operation_resolution}
 use Rattle.operation_asks.specs.Asks as operations
 use Rattle.operation_asks.specs.Effects.{Effect}
 use Rattle.operation_asks.specs.Kept.{state_of}
@@ -36,10 +36,10 @@ use Rattle.operation_asks.specs.declared.outcome.Outcome.{Outcome as Told}
 use Rattle.operation_asks.specs.declared.outcome.Outcome.TheVariants as told
 use Rattle.operation_asks.specs.Represents.{left_by, told_by}
 use Rattle.operation_asks.specs.declared.operations.Operations.{Operations}
-use Rattle.operation_asks.specs.declared.outcome.Asked.TheVariants as tells
-use Rattle.operation_asks.proofs.Panics.{CourseKeeps, key_effect_keeps}
+use Rattle.operation_asks.specs.declared.outcome.CryptoOutcome.TheVariants as tells
+use Rattle.operation_asks.proofs.Panics.{ResolutionKeeps, key_effect_keeps}
 use Rattle.alone.specs.declared.family.Family.TheVariants as families
-use Rattle.alone.specs.Crypto.{drawn_for, effected, generated, generation_course, given_by, key_reaches, keyed, keyed_by, operated, operated_by, outcome_by, with_crypto}
+use Rattle.alone.specs.Crypto.{drawn_for, effected, generated, generation_resolution, given_by, key_reaches, keyed, keyed_by, operated, operated_by, outcome_by, with_crypto}
 use Rattle.alone.specs.Families.{family_of}
 use Rattle.alone.specs.Machine.{Machine, objects_of, with_objects}
 use Rattle.alone.specs.Step.{lost_at, served, torn_down}
@@ -79,14 +79,14 @@ effected_left {A} old new store doubt effect told.Panicked is state rest keeps =
 -- ---- the key that an object gives
 
 -- where the store serves or is damaged, the operation is given what the look found
-serves_key : {A : Type 0} (m : Machine A) (i op object : ℕ) (c : KeyCourse) → served Serves m (asked.OpSetKey op object) (keyed_by m i op c) ≡ keyed m i op (key_came_of Serves m.lost c)
+serves_key : {A : Type 0} (m : Machine A) (i op object : ℕ) (c : KeyResolution) → served Serves m (asked.OpSetKey op object) (keyed_by m i op c) ≡ keyed m i op (key_came_of Serves m.lost c)
 serves_key m i op object (KeySettled found) = refl
-serves_key m i op object (KeyComesToStore plain) =
-    elim m.lost as (λ b. cond b (refused m STORAGE_NOT_AVAILABLE) (keyed m i op plain) ≡ keyed m i op (cond b (finds.Refused STORAGE_NOT_AVAILABLE) plain)) [ true ↦ refl | false ↦ refl ]
+serves_key m i op object (KeyComesToStore if_served) =
+    elim m.lost as (λ b. cond b (refused m STORAGE_NOT_AVAILABLE) (keyed m i op if_served) ≡ keyed m i op (cond b (finds.Refused STORAGE_NOT_AVAILABLE) if_served)) [ true ↦ refl | false ↦ refl ]
 
-damaged_key : {A : Type 0} (m : Machine A) (i op object : ℕ) (c : KeyCourse) → served Damaged m (asked.OpSetKey op object) (keyed_by m i op c) ≡ keyed m i op (key_came_of Damaged m.lost c)
+damaged_key : {A : Type 0} (m : Machine A) (i op object : ℕ) (c : KeyResolution) → served Damaged m (asked.OpSetKey op object) (keyed_by m i op c) ≡ keyed m i op (key_came_of Damaged m.lost c)
 damaged_key m i op object (KeySettled found) = refl
-damaged_key m i op object (KeyComesToStore plain) = refl
+damaged_key m i op object (KeyComesToStore if_served) = refl
 
 found_left : {A : Type 0} (old new : AppSide A) (store doubt : Store) (i op : ℕ) (found : KeyFound) (t : Told) → t ≡ (key_effect (state_of old.operations) i op (given_by found)).told
     → state_of new.operations ≡ (key_effect (state_of old.operations) i op (given_by found)).after → new ≡ record old { operations = new.operations }
@@ -112,7 +112,7 @@ lost_key {A} old new store doubt i op changes found t refuses is state rest says
           ∙ ap (λ (side : AppSide A). Answered (machine_over side store doubt) R) (sym rest),
     )
 
-pub keyed_left : {A : Type 0} (old new : AppSide A) (ko kn doubt : Store) (i op object : ℕ) (kind : TurnKind) (found : KeyFound) (t : Told) (c : KeyCourse)
+pub keyed_left : {A : Type 0} (old new : AppSide A) (ko kn doubt : Store) (i op object : ℕ) (kind : TurnKind) (found : KeyFound) (t : Told) (c : KeyResolution)
     → kn ≡ ko → found ≡ key_came_of (serving_of kind) old.lost c → t ≡ (key_effect (state_of old.operations) i op (given_by found)).told
     → state_of new.operations ≡ (key_effect (state_of old.operations) i op (given_by found)).after → new ≡ noted (record old { operations = new.operations }) kind
     → Meets kind (key_comes_to_store c) → SaysChange kind false
@@ -128,7 +128,7 @@ keyed_left {A} old new ko kn doubt i op object Corrupted found t c same came is 
     (subst (λ (o : Outcome (Machine A)). IsLeft (outcome_of t) o new ko doubt m) (ap (λ (f : KeyFound). keyed m i op f) came ∙ sym (damaged_key m i op object c))
     (found_left old new ko doubt i op found t is state rest))
 keyed_left old new ko kn doubt i op object (Lost changes) found t (KeySettled f) same came is state rest reaches says = absurd (let e : false ≡ true = reaches in cc)
-keyed_left {A} old new ko kn doubt i op object (Lost changes) found t (KeyComesToStore plain) same came is state rest reaches says =
+keyed_left {A} old new ko kn doubt i op object (Lost changes) found t (KeyComesToStore if_served) same came is state rest reaches says =
     let m : Machine A = machine_over old ko doubt in
     subst (λ (k : Store). IsLeft (outcome_of t) (refused (record m { lost = true }) STORAGE_NOT_AVAILABLE) new k doubt m) (sym same)
     (lost_key old new ko doubt i op changes found t came is state rest says)
@@ -140,13 +140,14 @@ as_before {A} old new same =
     ap (λ (side : AppSide A). machine_of side) same.rest ∙ ap (λ (s : CryptoState). with_crypto (machine_of old) s) same.state
 
 -- how it goes, by how many bytes are wanted
-abbrev made_of : {A : Type 0} → Machine A → ℕ → ℕ → Option ℕ → Course (Machine A)
-made_of m i object wanted = course_in (with_objects (with_crypto m (drawn_for m.crypto wanted))) (generated_of (objects_of m) i object (random_from m.crypto.random) wanted)
+abbrev made_of : {A : Type 0} → Machine A → ℕ → ℕ → Option ℕ → Resolution (Machine A)
+made_of m i object wanted = resolution_in (with_objects (with_crypto m (drawn_for m.crypto wanted))) (generated_of (objects_of m) i object (random_from m.crypto.random) wanted)
 
 made_in : {A : Type 0} (old new : AppSide A) (store doubt : Store) (i object bits : ℕ) (serving : Serving) (wanted : Option ℕ)
     → state_of new.operations ≡ drawn_for (state_of old.operations) wanted
     → new ≡ record old { held = held_by old.held i object (state_of old.operations).random wanted; operations = new.operations }
-    → IsLeft (told_of_key wanted).outcome (served serving (machine_over old store doubt) (asked.KeyGenerate object bits) (made_of (machine_over old store doubt) i object wanted)) new store doubt (machine_over old store doubt)
+    → IsLeft (told_of_key wanted).outcome (served serving (machine_over old store doubt) (asked.KeyGenerate object bits) (made_of (machine_over old store doubt) i object wanted))
+    new store doubt (machine_over old store doubt)
 made_in {A} old new store doubt i object bits serving None state rest =
     let m : Machine A = machine_over old store doubt in
     (refl, ap (λ (side : AppSide A). machine_over side store doubt) rest ∙ ap (λ (s : CryptoState). with_crypto m s) state)
@@ -159,7 +160,8 @@ made_in {A} old new store doubt i object bits serving (Some count) state rest =
     )
 
 pub made_left : {A : Type 0} (old new : AppSide A) (store doubt : Store) (i object bits : ℕ) (done : Served) → IsMade i object bits done old new
-    → IsLeft done.outcome (served (serving_of done.kind) (machine_over old store doubt) (asked.KeyGenerate object bits) (generated (machine_over old store doubt) i object bits)) new store doubt (machine_over old store doubt)
+    → IsLeft done.outcome (served (serving_of done.kind) (machine_over old store doubt) (asked.KeyGenerate object bits) (generated (machine_over old store doubt) i object bits))
+    new store doubt (machine_over old store doubt)
 made_left {A} old new store doubt i object bits done made =
     let m : Machine A = machine_over old store doubt in
     let wanted = random_wanted old.held i object bits in
@@ -175,7 +177,8 @@ after_look (Lost false) fact says holds = holds
 after_look Corrupted fact says holds = holds
 
 module _ {D : Type 0} (K : Keeper D) where
-  pub key_crash : (kind : TurnKind) (in_doubt : Option Store) (old new : D) → SaysChange kind false → K.contents new ≡ K.contents old → CrashLeaves K (K.contents old) old new → CrashTurns K kind in_doubt old new
+  pub key_crash : (kind : TurnKind) (in_doubt : Option Store) (old new : D) → SaysChange kind false → K.contents new ≡ K.contents old → CrashLeaves K (K.contents old) old new →
+      CrashTurns K kind in_doubt old new
   key_crash kind in_doubt old new says same crash = record {
     any_moment = weaker K.moment K.left_since old new _ _ (λ o e. only_old kind in_doubt (K.contents old) (K.contents new) o e) crash.any_moment;
     afterwards = after_look kind _ says (subst (λ c. LeavesJust K new c) (sym same) crash.afterwards);
@@ -206,45 +209,53 @@ noted_operations old Corrupted = refl
 
 -- ---- an ask about operations, as a whole
 
-pub settled_left : {A : Type 0} (old new : AppSide A) (store doubt : Store) (serving : Serving) (i : ℕ) (ask : Ask) (c : operations.Course CryptoState) (t : Told)
-    → told_by c ≡ tells.Settled t → state_of new.operations ≡ left_by (state_of old.operations) c → new ≡ record old { operations = new.operations } → CourseKeeps (state_of old.operations) c
+pub settled_left : {A : Type 0} (old new : AppSide A) (store doubt : Store) (serving : Serving) (i : ℕ) (ask : Ask) (c : operations.Resolution CryptoState) (t : Told)
+    → told_by c ≡ tells.Settled t → state_of new.operations ≡ left_by (state_of old.operations) c → new ≡ record old { operations = new.operations } → ResolutionKeeps (state_of old.operations) c
     → IsLeft (outcome_of t) (served serving (machine_over old store doubt) ask (operated_by (machine_over old store doubt) i c)) new store doubt (machine_over old store doubt)
 settled_left old new store doubt serving i ask (operations.Settled effect) t is state rest keeps =
     effected_left old new store doubt effect t (sym (let e : tells.Settled effect.told ≡ tells.Settled t = is in cc)) state rest keeps
 settled_left old new store doubt serving i ask (operations.WantsKey op object) t is state rest keeps = absurd (let e : tells.WantsKey op object ≡ tells.Settled t = is in cc)
 
-pub wants_is : (c : operations.Course CryptoState) (op object : ℕ) → told_by c ≡ tells.WantsKey op object → c ≡ operations.WantsKey op object
+pub wants_is : (c : operations.Resolution CryptoState) (op object : ℕ) → told_by c ≡ tells.WantsKey op object → c ≡ operations.WantsKey op object
 wants_is (operations.Settled effect) op object is = absurd (let e : tells.Settled effect.told ≡ tells.WantsKey op object = is in cc)
 wants_is (operations.WantsKey o b) op object is = let e : tells.WantsKey o b ≡ tells.WantsKey op object = is in cc
 
 -- asks that change the store alike are served alike
-served_alike : {A : Type 0} (serving : Serving) (m : Machine A) (ask other : Ask) (c : Course (Machine A)) → changes_store ask ≡ changes_store other → served serving m ask c ≡ served serving m other c
+served_alike : {A : Type 0} (serving : Serving) (m : Machine A) (ask other : Ask) (c : Resolution (Machine A)) → changes_store ask ≡ changes_store other
+    → served serving m ask c ≡ served serving m other c
 served_alike serving m ask other (Settled outcome) same = refl
-served_alike Serves m ask other (ComesToStore kept plain) same = refl
-served_alike Damaged m ask other (ComesToStore kept plain) same = refl
-served_alike Fails m ask other (ComesToStore kept plain) same = ap (λ (b : Bool). refused (lost_at kept b plain) STORAGE_NOT_AVAILABLE) same
+served_alike Serves m ask other (ComesToStore kept if_served) same = refl
+served_alike Damaged m ask other (ComesToStore kept if_served) same = refl
+served_alike Fails m ask other (ComesToStore kept if_served) same = ap (λ (b : Bool). refused (lost_at kept b if_served) STORAGE_NOT_AVAILABLE) same
 
 module _ {D : Type 0} (K : Keeper D) where
   -- the key of an object was wanted, and given
   pub wanted_whole : {A : Type 0} (old after : AppSide A) (ops : Operations) (i op object : ℕ) (ask : Ask) (result : Result Served WantOfMemory) (o n : D)
-      → operation_course (state_of old.operations) i ask ≡ operations.WantsKey op object → family_of ask ≡ families.Operations → state_of ops ≡ state_of old.operations
-      → CarriesOut K (λ serving m. served serving m (asked.OpSetKey op object) (keyed_by m i op (key_course (objects_of m) i object))) (key_comes_to_store (key_course (objects_in old.held (K.contents o)) i object)) false i result (record old { operations = ops }) after o n
-      → CarriesOut K (λ serving m. served serving m ask (operated m i ask)) (key_reaches (objects_in old.held (K.contents o)) i (operation_course (state_of old.operations) i ask)) false i result old after o n
+      → operation_resolution (state_of old.operations) i ask ≡ operations.WantsKey op object → family_of ask ≡ families.Operations → state_of ops ≡ state_of old.operations
+      → CarriesOut K (λ serving m. served serving m (asked.OpSetKey op object) (keyed_by m i op (key_resolution (objects_of m) i object)))
+      (key_comes_to_store (key_resolution (objects_in old.held (K.contents o)) i object)) false i result (record old { operations = ops }) after o n
+      → CarriesOut K (λ serving m. served serving m ask (operated m i ask)) (key_reaches (objects_in old.held (K.contents o)) i (operation_resolution (state_of old.operations) i ask))
+      false i result old after o n
   wanted_whole {A} old after ops i op object ask result o n wants family state h =
       let mid : AppSide A = record old { operations = ops } in
       let store = (K.contents o).store in
       let machine : (doubt : Store) → machine_over mid store doubt ≡ machine_over old store doubt = λ doubt. ap (λ (s : CryptoState). with_crypto (machine_over old store doubt) s) state in
-      let same : (serving : Serving) (doubt : Store) → served serving (machine_over mid store doubt) (asked.OpSetKey op object) (keyed_by (machine_over mid store doubt) i op (key_course (objects_of (machine_over mid store doubt)) i object))
+      let same : (serving : Serving) (doubt : Store) → served serving (machine_over mid store doubt) (asked.OpSetKey op object)
+      (keyed_by (machine_over mid store doubt) i op (key_resolution (objects_of (machine_over mid store doubt)) i object))
       ≡ served serving (machine_over old store doubt) ask (operated (machine_over old store doubt) i ask) =
       λ serving doubt.
-      ap (λ (m : Machine A). served serving m (asked.OpSetKey op object) (keyed_by m i op (key_course (objects_of m) i object))) (machine doubt)
-      ∙ sym (ap (λ (c : operations.Course CryptoState). served serving (machine_over old store doubt) ask (operated_by (machine_over old store doubt) i c)) wants
-      ∙ served_alike serving (machine_over old store doubt) ask (asked.OpSetKey op object) (keyed_by (machine_over old store doubt) i op (key_course (objects_of (machine_over old store doubt)) i object)) (changes_nothing ask family)) in
+      ap (λ (m : Machine A). served serving m (asked.OpSetKey op object) (keyed_by m i op (key_resolution (objects_of m) i object))) (machine doubt)
+      ∙ sym (ap (λ (c : operations.Resolution CryptoState). served serving (machine_over old store doubt) ask (operated_by (machine_over old store doubt) i c)) wants
+      ∙ served_alike serving (machine_over old store doubt) ask (asked.OpSetKey op object) (keyed_by (machine_over old store doubt) i op
+      (key_resolution (objects_of (machine_over old store doubt)) i object)) (changes_nothing ask family)) in
       record {
         left = IfOk-weaker result _ _ (λ done f model lost doubt.
-            subst (λ (m : Machine A). IsLeft done.outcome (served (serving_of done.kind) (machine_over old store doubt) ask (operated (machine_over old store doubt) i ask)) after (K.contents n).store doubt m) (machine doubt)
-            (subst (λ (x : Outcome (Machine A)). IsLeft done.outcome x after (K.contents n).store doubt (machine_over mid store doubt)) (same (serving_of done.kind) doubt) (f model lost doubt))) h.left;
-        kind = subst (λ (c : operations.Course CryptoState). IfOk result (λ done. IsTurnOf K done.kind (key_reaches (objects_in old.held (K.contents o)) i c) false (is_lost old) (is_lost after) o n)) (sym wants) h.kind;
+            subst (λ (m : Machine A). IsLeft done.outcome (served (serving_of done.kind) (machine_over old store doubt) ask (operated (machine_over old store doubt) i ask)) after
+            (K.contents n).store doubt m) (machine doubt)
+            (subst (λ (x : Outcome (Machine A)). IsLeft done.outcome x after (K.contents n).store doubt (machine_over mid store doubt)) (same (serving_of done.kind) doubt)
+            (f model lost doubt))) h.left;
+        kind = subst (λ (c : operations.Resolution CryptoState). IfOk result (λ done. IsTurnOf K done.kind (key_reaches (objects_in old.held (K.contents o)) i c) false (is_lost old)
+            (is_lost after) o n)) (sym wants) h.kind;
         crash = IfOk-weaker result _ _ (λ done f honest just doubt.
             subst (λ (x : Outcome (Machine A)). CrashTurns K done.kind (in_doubt_by x) o n) (same (serving_of done.kind) doubt) (f honest just doubt)) h.crash;
         ends = h.ends;
@@ -278,18 +289,19 @@ generated_plain {A} i ask done old new same = record {
   instances = ap (λ (s : AppSide A). s.instances) same.1;
 }
 
-panicked_left : {A : Type 0} (old new : AppSide A) (store doubt : Store) (done : Served) → done ≡ plainly outcomes.Panicked → new ≡ old → IsLeft done.outcome Panicked new store doubt (machine_over old store doubt)
+panicked_left : {A : Type 0} (old new : AppSide A) (store doubt : Store) (done : Served) → done ≡ plainly outcomes.Panicked → new ≡ old →
+    IsLeft done.outcome Panicked new store doubt (machine_over old store doubt)
 panicked_left {A} old new store doubt done is same =
     subst (λ (d : Served). IsLeft d.outcome Panicked new store doubt (machine_over old store doubt)) (sym is) (refl, ap (λ (s : AppSide A). machine_over s store doubt) same)
 
 generated_left : {A : Type 0} (old new : AppSide A) (store doubt : Store) (i : ℕ) (ask : Ask) (done : Served) → IsGenerated i ask done old new
-    → IsLeft done.outcome (served (serving_of done.kind) (machine_over old store doubt) ask (generation_course (machine_over old store doubt) i ask)) new store doubt (machine_over old store doubt)
+    → IsLeft done.outcome (served (serving_of done.kind) (machine_over old store doubt) ask (generation_resolution (machine_over old store doubt) i ask)) new store doubt (machine_over old store doubt)
 generated_left old new store doubt i (asked.KeyGenerate object bits) done made = made_left old new store doubt i object bits done made
 generated_left old new store doubt i ask done same = panicked_left old new store doubt done same.0 same.1
 
 module _ {D : Type 0} (K : Keeper D) where
   pub generated_whole : {A : Type 0} (old new : AppSide A) (i : ℕ) (ask : Ask) (result : Result Served WantOfMemory) (o : D) → Generates i ask result old new
-      → CarriesOut K (λ serving m. served serving m ask (generation_course m i ask)) false (changes_store ask) i result old new o o
+      → CarriesOut K (λ serving m. served serving m ask (generation_resolution m i ask)) false (changes_store ask) i result old new o o
   generated_whole {A} old new i ask (Ok done) o h =
       let plain = generated_plain i ask done old new h.made in
       record {

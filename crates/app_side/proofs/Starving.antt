@@ -7,7 +7,8 @@ use Rattle.object_asks.specs.Serving.{CrashTurns}
 use Rattle.object_asks.specs.declared.turn.TurnKind.TheVariants.{Plain}
 use Rattle.object_asks.proofs.Crashes.{only_old}
 
-pub starving_crash : {D : Type 0} (K : Keeper D) (in_doubt : Option Store) (old new : D) → K.contents new ≡ K.contents old → CrashLeaves K (K.contents old) old new → CrashTurns K Plain in_doubt old new
+pub starving_crash : {D : Type 0} (K : Keeper D) (in_doubt : Option Store) (old new : D) → K.contents new ≡ K.contents old → CrashLeaves K (K.contents old) old new →
+    CrashTurns K Plain in_doubt old new
 starving_crash K in_doubt old new same leaves = record {
   any_moment = weaker K.moment K.left_since old new _ _ (λ o e. only_old Plain in_doubt (K.contents old) (K.contents new) o e) leaves.any_moment;
   afterwards = subst (λ (c : Contents). LeavesJust K new c) (sym same) leaves.afterwards;

@@ -15,9 +15,9 @@ use Rattle.instances.specs.Instances.{admission_of, is_left, session_removed, st
 use Rattle.op_queue.specs.declared.operation.Begun.{Begun}
 use Rattle.op_queue.specs.Queue.{is_full, first_waiting, begun_at, after_begin, after_cancel, cancel_of, operation_of}
 use Rattle.store_api.specs.Stores.{Store, empty_store}
-use Rattle.alone.specs.declared.running.Instance.{Instance}
-use Rattle.alone.specs.declared.running.Stage.{Stage}
-use Rattle.alone.specs.declared.running.Stage.TheVariants as stages
+use Rattle.alone.specs.declared.active_entry.Instance.{Instance}
+use Rattle.alone.specs.declared.active_entry.EntryPoint.{EntryPoint}
+use Rattle.alone.specs.declared.active_entry.EntryPoint.TheVariants as stages
 use Rattle.alone.specs.Machine.{Machine}
 use Rattle.alone.specs.Asks.{cancel}
 use Rattle.alone.specs.Machine.{instance_at}
@@ -27,7 +27,8 @@ use Rattle.alone.specs.declared.reply.Outputs.{Outputs}
 use Rattle.tee_base.specs.declared.codes.Origin.{Origin}
 use Rattle.tee_base.specs.declared.codes.Origin.TheVariants.{Tee}
 use Rattle.tee_base.specs.declared.codes.TheConstants.Code.{SUCCESS}
-use Rattle.alone.specs.Step.{Stepped, after_session, answered, begun, begun_with, called, called_open, cancelled, cancelled_by, closed_at, closed_in, dropped, idle, invoked_at, invoked_in, is_success, is_unused, known, opened_as, quiet, reply_of, returned, torn_down, waiting_open}
+use Rattle.alone.specs.Step.{Stepped, after_session, answered, with_next_begun, begun_with, called, called_open, cancelled, cancelled_by, closed_at, closed_in, dropped, idle}
+use Rattle.alone.specs.Step.{invoked_at, invoked_in, is_success, is_unused, known, opened_as, no_replies, reply_of, returned, torn_down, waiting_open}
 use Rattle.op_queue.specs.declared.operation.Cancelled.{Cancelled as Cancellation}
 use Rattle.op_queue.specs.declared.operation.Cancelled.TheVariants.{Dropped, Flagged, Nothing}
 use Rattle.app_side.specs.declared.side.AppSide.{AppSide}
@@ -37,43 +38,51 @@ use Rattle.app_side.specs.Represents.{Represents, doubtful, machine_of, machine_
 abbrev pub step_over : {A : Type 0} → Store → Option Store → Stepped A → Stepped A
 step_over store doubt s = record s { machine = over store doubt s.machine }
 
-opened_over : {A : Type 0} (store : Store) (doubt : Option Store) (m : Machine A) (client label : ℕ) (ps : Params) (r : Result Admission Refusal) → opened_as (over store doubt m) client label ps r ≡ step_over store doubt (opened_as m client label ps r)
+opened_over : {A : Type 0} (store : Store) (doubt : Option Store) (m : Machine A) (client label : ℕ) (ps : Params) (r : Result Admission Refusal) →
+    opened_as (over store doubt m) client label ps r ≡ step_over store doubt (opened_as m client label ps r)
 opened_over store doubt m client label ps (Err refusal) = refl
 opened_over store doubt m client label ps (Ok a) = refl
 
 -- a choice is the same on both sides
-chosen : {A : Type 0} (store : Store) (doubt : Option Store) (b : Bool) (x y : Stepped A) (x2 y2 : Stepped A) → x2 ≡ step_over store doubt x → y2 ≡ step_over store doubt y → cond b x2 y2 ≡ step_over store doubt (cond b x y)
+chosen : {A : Type 0} (store : Store) (doubt : Option Store) (b : Bool) (x y : Stepped A) (x2 y2 : Stepped A) → x2 ≡ step_over store doubt x → y2 ≡ step_over store doubt y →
+    cond b x2 y2 ≡ step_over store doubt (cond b x y)
 chosen store doubt true x y x2 y2 ex ey = ex
 chosen store doubt false x y x2 y2 ex ey = ey
 
-open_over : {A : Type 0} (store : Store) (doubt : Option Store) (m : Machine A) (client label : ℕ) (ps : Params) → called_open (over store doubt m) client label ps ≡ step_over store doubt (called_open m client label ps)
+open_over : {A : Type 0} (store : Store) (doubt : Option Store) (m : Machine A) (client label : ℕ) (ps : Params) →
+    called_open (over store doubt m) client label ps ≡ step_over store doubt (called_open m client label ps)
 open_over store doubt m client label ps =
     chosen store doubt (is_some (first_oversized ps)) _ _ _ _ refl
     (chosen store doubt (is_some (known m client label)) _ _ _ _ refl
     (chosen store doubt (is_full m.queue) _ _ _ _ refl
     (opened_over store doubt m client label ps (admission_of m.table client label))))
 
-invoke_at_over : {A : Type 0} (store : Store) (doubt : Option Store) (m : Machine A) (client : ℕ) (call : Call) (s : SessionFacts) (state : SessionState) → invoked_at (over store doubt m) client call s state ≡ step_over store doubt (invoked_at m client call s state)
+invoke_at_over : {A : Type 0} (store : Store) (doubt : Option Store) (m : Machine A) (client : ℕ) (call : Call) (s : SessionFacts) (state : SessionState) →
+    invoked_at (over store doubt m) client call s state ≡ step_over store doubt (invoked_at m client call s state)
 invoke_at_over store doubt m client call s Opening = refl
 invoke_at_over store doubt m client call s Closing = refl
 invoke_at_over store doubt m client call s Dead = refl
 invoke_at_over store doubt m client call s Open = chosen store doubt (is_full m.queue) _ _ _ _ refl refl
 
-invoke_in_over : {A : Type 0} (store : Store) (doubt : Option Store) (m : Machine A) (client : ℕ) (call : Call) (o : Option SessionFacts) → invoked_in (over store doubt m) client call o ≡ step_over store doubt (invoked_in m client call o)
+invoke_in_over : {A : Type 0} (store : Store) (doubt : Option Store) (m : Machine A) (client : ℕ) (call : Call) (o : Option SessionFacts) →
+    invoked_in (over store doubt m) client call o ≡ step_over store doubt (invoked_in m client call o)
 invoke_in_over store doubt m client call None = refl
 invoke_in_over store doubt m client call (Some s) = invoke_at_over store doubt m client call s s.state
 
-close_at_over : {A : Type 0} (store : Store) (doubt : Option Store) (m : Machine A) (client label : ℕ) (s : SessionFacts) (state : SessionState) → closed_at (over store doubt m) client label s state ≡ step_over store doubt (closed_at m client label s state)
+close_at_over : {A : Type 0} (store : Store) (doubt : Option Store) (m : Machine A) (client label : ℕ) (s : SessionFacts) (state : SessionState) →
+    closed_at (over store doubt m) client label s state ≡ step_over store doubt (closed_at m client label s state)
 close_at_over store doubt m client label s Opening = refl
 close_at_over store doubt m client label s Closing = refl
 close_at_over store doubt m client label s Dead = refl
 close_at_over store doubt m client label s Open = refl
 
-close_in_over : {A : Type 0} (store : Store) (doubt : Option Store) (m : Machine A) (client label : ℕ) (o : Option SessionFacts) → closed_in (over store doubt m) client label o ≡ step_over store doubt (closed_in m client label o)
+close_in_over : {A : Type 0} (store : Store) (doubt : Option Store) (m : Machine A) (client label : ℕ) (o : Option SessionFacts) →
+    closed_in (over store doubt m) client label o ≡ step_over store doubt (closed_in m client label o)
 close_in_over store doubt m client label None = refl
 close_in_over store doubt m client label (Some s) = close_at_over store doubt m client label s s.state
 
-pub called_over : {A : Type 0} (store : Store) (doubt : Option Store) (m : Machine A) (client : ℕ) (call : Call) → called (over store doubt m) client call ≡ step_over store doubt (called m client call)
+pub called_over : {A : Type 0} (store : Store) (doubt : Option Store) (m : Machine A) (client : ℕ) (call : Call) → called (over store doubt m) client call ≡ step_over store doubt
+    (called m client call)
 unfolding called
 called_over store doubt m client (calls.Open label ps) = open_over store doubt m client label ps
 called_over store doubt m client (calls.Invoke label command ps) =
@@ -81,28 +90,33 @@ called_over store doubt m client (calls.Invoke label command ps) =
 called_over store doubt m client (calls.Close label) = close_in_over store doubt m client label (known m client label)
 
 -- a choice of machines is the same on both sides
-chosen_machine : {A : Type 0} (store : Store) (doubt : Option Store) (b : Bool) (x y x2 y2 : Machine A) → x2 ≡ over store doubt x → y2 ≡ over store doubt y → cond b x2 y2 ≡ over store doubt (cond b x y)
+chosen_machine : {A : Type 0} (store : Store) (doubt : Option Store) (b : Bool) (x y x2 y2 : Machine A) → x2 ≡ over store doubt x → y2 ≡ over store doubt y →
+    cond b x2 y2 ≡ over store doubt (cond b x y)
 chosen_machine store doubt true x y x2 y2 ex ey = ex
 chosen_machine store doubt false x y x2 y2 ex ey = ey
 
 pub idle_over : {A : Type 0} (store : Store) (doubt : Option Store) (m : Machine A) (inst : Instance A) → idle (over store doubt m) inst ≡ over store doubt (idle m inst)
 idle_over store doubt m inst = chosen_machine store doubt (inst.created && is_left m.table inst.number) _ _ _ _ refl refl
 
-begun_with_over : {A : Type 0} (store : Store) (doubt : Option Store) (m : Machine A) (inst : Instance A) (o : Option Begun) → begun_with (over store doubt m) inst o ≡ over store doubt (begun_with m inst o)
+begun_with_over : {A : Type 0} (store : Store) (doubt : Option Store) (m : Machine A) (inst : Instance A) (o : Option Begun) →
+    begun_with (over store doubt m) inst o ≡ over store doubt (begun_with m inst o)
 begun_with_over store doubt m inst None = idle_over store doubt m inst
 begun_with_over store doubt m inst (Some b) = refl
 
-pub begun_over : {A : Type 0} (store : Store) (doubt : Option Store) (m : Machine A) (inst : Instance A) → begun (over store doubt m) inst ≡ over store doubt (begun m inst)
+pub begun_over : {A : Type 0} (store : Store) (doubt : Option Store) (m : Machine A) (inst : Instance A) → with_next_begun (over store doubt m) inst ≡ over store doubt (with_next_begun m inst)
 begun_over store doubt m inst = begun_with_over store doubt (record m { queue = after_begin m.queue (first_waiting m.queue inst.number) }) inst (begun_at (first_waiting m.queue inst.number))
 
-answered_over : {A : Type 0} (store : Store) (doubt : Option Store) (m : Machine A) (inst : Instance A) (op : Option ℕ) (code : Code) (outputs : Outputs) → answered (over store doubt m) inst op code outputs ≡ step_over store doubt (answered m inst op code outputs)
+answered_over : {A : Type 0} (store : Store) (doubt : Option Store) (m : Machine A) (inst : Instance A) (op : Option ℕ) (code : Code) (outputs : Outputs) →
+    answered (over store doubt m) inst op code outputs ≡ step_over store doubt (answered m inst op code outputs)
 answered_over store doubt m inst None code outputs = refl
 answered_over store doubt m inst (Some op) code outputs = refl
 
-after_session_over : {A : Type 0} (store : Store) (doubt : Option Store) (m : Machine A) (inst : Instance A) (op : Option ℕ) (code : Code) (outputs : Outputs) → after_session (over store doubt m) inst op code outputs ≡ step_over store doubt (after_session m inst op code outputs)
+after_session_over : {A : Type 0} (store : Store) (doubt : Option Store) (m : Machine A) (inst : Instance A) (op : Option ℕ) (code : Code) (outputs : Outputs) →
+    after_session (over store doubt m) inst op code outputs ≡ step_over store doubt (after_session m inst op code outputs)
 after_session_over store doubt m inst op code outputs = chosen store doubt (is_left m.table inst.number) _ _ _ _ refl (answered_over store doubt m inst op code outputs)
 
-pub returned_over : {A : Type 0} (store : Store) (doubt : Option Store) (m : Machine A) (inst : Instance A) (op : Option ℕ) (stage : Stage) (code : Code) (outs : Outs) → returned (over store doubt m) inst op stage code outs ≡ step_over store doubt (returned m inst op stage code outs)
+pub returned_over : {A : Type 0} (store : Store) (doubt : Option Store) (m : Machine A) (inst : Instance A) (op : Option ℕ) (stage : EntryPoint) (code : Code) (outs : Outs) →
+    returned (over store doubt m) inst op stage code outs ≡ step_over store doubt (returned m inst op stage code outs)
 returned_over store doubt m inst op (stages.Create session ps places) code outs = chosen store doubt (is_success code) _ _ _ _ refl refl
 returned_over store doubt m inst op (stages.Start session places) code outs =
     chosen store doubt (is_success code) _ _ _ _
@@ -112,7 +126,8 @@ returned_over store doubt m inst op (stages.Invoke session places) code outs = a
 returned_over store doubt m inst op (stages.Stop session) code outs = after_session_over store doubt (record m { table = session_removed m.table session }) inst op SUCCESS no_outputs
 returned_over store doubt m inst op (stages.Destroy reply) code outs = refl
 
-pub torn_over : {A : Type 0} (store : Store) (doubt : Option Store) (m : Machine A) (i : ℕ) (code : Code) (origin : Origin) → torn_down (over store doubt m) i code origin ≡ step_over store doubt (torn_down m i code origin)
+pub torn_over : {A : Type 0} (store : Store) (doubt : Option Store) (m : Machine A) (i : ℕ) (code : Code) (origin : Origin) →
+    torn_down (over store doubt m) i code origin ≡ step_over store doubt (torn_down m i code origin)
 torn_over store doubt m i code origin = refl
 
 dropped_over : {A : Type 0} (store : Store) (doubt : Option Store) (m : Machine A) (o : Option (ℕ × ℕ)) → dropped (over store doubt m) o ≡ over store doubt (dropped m o)
@@ -121,8 +136,14 @@ dropped_over {A} store doubt m (Some o) =
     let left : Machine A = record m { table = session_removed m.table o.0 } in
     chosen_machine store doubt (is_unused left o.1 (instance_at left o.1)) _ _ _ _ refl refl
 
-cancelled_by_over : {A : Type 0} (store : Store) (doubt : Option Store) (m : Machine A) (op : ℕ) (o : Option (ℕ × ℕ)) (c : Cancellation) → cancelled_by (over store doubt m) op o c ≡ step_over store doubt (cancelled_by m op o c)
-cancelled_by_over {A} store doubt m op o Dropped = ap (λ (x : Machine A). (let s : Stepped A = record { machine = x; replies = reply_of op cancel Tee no_outputs ∷ []; instance = 0 } in s)) (dropped_over store doubt m o)
+cancelled_by_over : {A : Type 0} (store : Store) (doubt : Option Store) (m : Machine A) (op : ℕ) (o : Option (ℕ × ℕ)) (c : Cancellation) →
+    cancelled_by (over store doubt m) op o c ≡ step_over store doubt (cancelled_by m op o c)
+cancelled_by_over {A} store doubt m op o Dropped = ap (λ (x : Machine A). (let s : Stepped A = record {
+  machine = x;
+  replies = reply_of op cancel Tee no_outputs ∷ [];
+  instance =
+      0;
+} in s)) (dropped_over store doubt m o)
 cancelled_by_over store doubt m op o Flagged = refl
 cancelled_by_over store doubt m op o Nothing = refl
 
@@ -139,12 +160,15 @@ some_of true store = refl
 some_of false store = refl
 
 -- a step that leaves the objects leaves whether there are others in doubt
-doubt_stays : {A : Type 0} (old new : AppSide A) (f : Machine A → Stepped A) → ((store : Store) (doubt : Option Store) (m : Machine A) → f (over store doubt m) ≡ step_over store doubt (f m)) → machine_of new ≡ (f (machine_of old)).machine → new.in_doubt ≡ old.in_doubt
+doubt_stays : {A : Type 0} (old new : AppSide A) (f : Machine A → Stepped A) → ((store : Store) (doubt : Option Store) (m : Machine A) →
+    f (over store doubt m) ≡ step_over store doubt (f m)) → machine_of new ≡ (f (machine_of old)).machine → new.in_doubt ≡ old.in_doubt
 doubt_stays {A} old new f law is =
-    sym (some_of new.in_doubt empty_store) ∙ ap (λ (m : Machine A). is_some m.in_doubt) is ∙ ap (λ (s : Stepped A). is_some s.machine.in_doubt) (law empty_store (doubtful old.in_doubt empty_store) (machine_of old)) ∙ some_of old.in_doubt empty_store
+    sym (some_of new.in_doubt empty_store) ∙ ap (λ (m : Machine A). is_some m.in_doubt) is ∙ ap (λ (s : Stepped A). is_some s.machine.in_doubt)
+    (law empty_store (doubtful old.in_doubt empty_store) (machine_of old)) ∙ some_of old.in_doubt empty_store
 
 -- such a step over any objects
-pub stands_over : {A : Type 0} (old new : AppSide A) (f : Machine A → Stepped A) → ((store : Store) (doubt : Option Store) (m : Machine A) → f (over store doubt m) ≡ step_over store doubt (f m)) → machine_of new ≡ (f (machine_of old)).machine
+pub stands_over : {A : Type 0} (old new : AppSide A) (f : Machine A → Stepped A) → ((store : Store) (doubt : Option Store) (m : Machine A) →
+    f (over store doubt m) ≡ step_over store doubt (f m)) → machine_of new ≡ (f (machine_of old)).machine
     → (store doubt : Store) → machine_over new store doubt ≡ (f (machine_over old store doubt)).machine
 stands_over {A} old new f law is store doubt =
     ap (λ (b : Bool). over store (doubtful b doubt) (machine_of new)) (doubt_stays old new f law is)
@@ -152,27 +176,33 @@ stands_over {A} old new f law is store doubt =
     ∙ ap (λ (s : Stepped A). s.machine) (sym (law store (doubtful old.in_doubt doubt) (machine_of old)))
 
 -- and what it replies
-pub replies_over : {A : Type 0} (old : AppSide A) (f : Machine A → Stepped A) → ((store : Store) (doubt : Option Store) (m : Machine A) → f (over store doubt m) ≡ step_over store doubt (f m)) → (store doubt : Store) → (f (machine_of old)).replies ≡ (f (machine_over old store doubt)).replies
+pub replies_over : {A : Type 0} (old : AppSide A) (f : Machine A → Stepped A) → ((store : Store) (doubt : Option Store) (m : Machine A) →
+    f (over store doubt m) ≡ step_over store doubt (f m)) → (store doubt : Store) → (f (machine_of old)).replies ≡ (f (machine_over old store doubt)).replies
 replies_over {A} old f law store doubt = ap (λ (s : Stepped A). s.replies) (sym (law store (doubtful old.in_doubt doubt) (machine_of old)))
 
-pub instance_over : {A : Type 0} (old : AppSide A) (f : Machine A → Stepped A) → ((store : Store) (doubt : Option Store) (m : Machine A) → f (over store doubt m) ≡ step_over store doubt (f m)) → (store doubt : Store) → (f (machine_of old)).instance ≡ (f (machine_over old store doubt)).instance
+pub instance_over : {A : Type 0} (old : AppSide A) (f : Machine A → Stepped A) → ((store : Store) (doubt : Option Store) (m : Machine A) →
+    f (over store doubt m) ≡ step_over store doubt (f m)) → (store doubt : Store) → (f (machine_of old)).instance ≡ (f (machine_over old store doubt)).instance
 instance_over {A} old f law store doubt = ap (λ (s : Stepped A). s.instance) (sym (law store (doubtful old.in_doubt doubt) (machine_of old)))
 
-store_over : {A : Type 0} (old : AppSide A) (f : Machine A → Stepped A) → ((store : Store) (doubt : Option Store) (m : Machine A) → f (over store doubt m) ≡ step_over store doubt (f m)) → (store doubt : Store) → (f (machine_over old store doubt)).machine.store ≡ store
+store_over : {A : Type 0} (old : AppSide A) (f : Machine A → Stepped A) → ((store : Store) (doubt : Option Store) (m : Machine A) →
+    f (over store doubt m) ≡ step_over store doubt (f m)) → (store doubt : Store) → (f (machine_over old store doubt)).machine.store ≡ store
 store_over {A} old f law store doubt = ap (λ (s : Stepped A). s.machine.store) (law store (doubtful old.in_doubt doubt) (machine_of old))
 
 -- a step over any objects of a value that stands for a machine
-pub step_stands : {A : Type 0} (old new : AppSide A) (f : Machine A → Stepped A) → ((store : Store) (doubt : Option Store) (m : Machine A) → f (over store doubt m) ≡ step_over store doubt (f m)) → machine_of new ≡ (f (machine_of old)).machine
+pub step_stands : {A : Type 0} (old new : AppSide A) (f : Machine A → Stepped A) → ((store : Store) (doubt : Option Store) (m : Machine A) →
+    f (over store doubt m) ≡ step_over store doubt (f m)) → machine_of new ≡ (f (machine_of old)).machine
     → (m : Machine A) → Represents old m → Represents new (f m).machine
 step_stands {A} old new f law is m stands =
     let here : machine_over new m.store stands.doubt ≡ (f m).machine = stands_over old new f law is m.store stands.doubt ∙ ap (λ (x : Machine A). (f x).machine) (sym stands.parts) in
     let kept : m.store ≡ (f m).machine.store = sym (store_over old f law m.store stands.doubt) ∙ ap (λ (x : Machine A). (f x).machine.store) (sym stands.parts) in
     record { doubt = stands.doubt; parts = sym here ∙ ap (λ (s : Store). machine_over new s stands.doubt) kept }
 
-pub step_replies : {A : Type 0} (old : AppSide A) (f : Machine A → Stepped A) → ((store : Store) (doubt : Option Store) (m : Machine A) → f (over store doubt m) ≡ step_over store doubt (f m)) → (m : Machine A) → Represents old m → (f (machine_of old)).replies ≡ (f m).replies
+pub step_replies : {A : Type 0} (old : AppSide A) (f : Machine A → Stepped A) → ((store : Store) (doubt : Option Store) (m : Machine A) →
+    f (over store doubt m) ≡ step_over store doubt (f m)) → (m : Machine A) → Represents old m → (f (machine_of old)).replies ≡ (f m).replies
 step_replies {A} old f law m stands = replies_over old f law m.store stands.doubt ∙ ap (λ (x : Machine A). (f x).replies) (sym stands.parts)
 
-pub step_instance : {A : Type 0} (old : AppSide A) (f : Machine A → Stepped A) → ((store : Store) (doubt : Option Store) (m : Machine A) → f (over store doubt m) ≡ step_over store doubt (f m)) → (m : Machine A) → Represents old m → (f (machine_of old)).instance ≡ (f m).instance
+pub step_instance : {A : Type 0} (old : AppSide A) (f : Machine A → Stepped A) → ((store : Store) (doubt : Option Store) (m : Machine A) →
+    f (over store doubt m) ≡ step_over store doubt (f m)) → (m : Machine A) → Represents old m → (f (machine_of old)).instance ≡ (f m).instance
 step_instance {A} old f law m stands = instance_over old f law m.store stands.doubt ∙ ap (λ (x : Machine A). (f x).instance) (sym stands.parts)
 
 -- ---- a call leaves whether the storage is lost
@@ -208,10 +238,11 @@ closed_in_lost m client label (Some s) = closed_lost m client label s s.state
 pub called_lost : {A : Type 0} (m : Machine A) (client : ℕ) (call : Call) → (called m client call).machine.lost ≡ m.lost
 unfolding called
 called_lost m client (calls.Open label ps) =
-    stays_lost m.lost (is_some (first_oversized ps)) _ _ refl (stays_lost m.lost (is_some (known m client label)) _ _ refl (stays_lost m.lost (is_full m.queue) _ _ refl (opened_lost m client label ps (admission_of m.table client label))))
+    stays_lost m.lost (is_some (first_oversized ps)) _ _ refl (stays_lost m.lost (is_some (known m client label)) _ _ refl
+    (stays_lost m.lost (is_full m.queue) _ _ refl (opened_lost m client label ps (admission_of m.table client label))))
 called_lost m client (calls.Invoke label command ps) = stays_lost m.lost (is_some (first_oversized ps)) _ _ refl (invoked_in_lost m client (calls.Invoke label command ps) (known m client label))
 called_lost m client (calls.Close label) = closed_in_lost m client label (known m client label)
 
 -- the machine is as it was
 pub same_stands : {A : Type 0} (old new : AppSide A) → machine_of new ≡ machine_of old → (m : Machine A) → Represents old m → Represents new m
-same_stands {A} old new same m stands = step_stands old new (λ (x : Machine A). quiet x) (λ s d x. refl) same m stands
+same_stands {A} old new same m stands = step_stands old new (λ (x : Machine A). no_replies x) (λ s d x. refl) same m stands

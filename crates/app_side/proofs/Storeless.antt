@@ -38,7 +38,8 @@ no_keeper = record {
 empty_within : IsWithinLimits empty_store
 empty_within = let none = are_none [] refl in subst IsWithinLimits none.store none.kept.limits
 
-refused_call : {X : Type 0} (b : Bool) (r : Result X StoreAnswer) (n : ℕ) (old new : Status) → old.lost ≡ b → IsRefusalOf b r → new ≡ record old { change_attempts = old.change_attempts + n } → IsCall no_keeper n r old new
+refused_call : {X : Type 0} (b : Bool) (r : Result X StoreAnswer) (n : ℕ) (old new : Status) → old.lost ≡ b → IsRefusalOf b r →
+    new ≡ record old { change_attempts = old.change_attempts + n } → IsCall no_keeper n r old new
 refused_call {X} true r n old new lost is same = rw (is, same) (record {
   model = λ h. h;
   still = λ _ _. refl;
@@ -83,7 +84,8 @@ refused_reads {X} stated Bounds r s is = record {
   crash = λ h. absurd h;
 }
 
-pub refused_applies : {X : Type 0} (c : Change) (r : Result X StoreAnswer) (old new : Status) → IsRefusalOf old.lost r → new ≡ record old { change_attempts = old.change_attempts + 1 } → Applies no_keeper c r old new
+pub refused_applies : {X : Type 0} (c : Change) (r : Result X StoreAnswer) (old new : Status) → IsRefusalOf old.lost r →
+    new ≡ record old { change_attempts = old.change_attempts + 1 } → Applies no_keeper c r old new
 refused_applies {X} c r old new is same = record {
   applied = λ _. refused_applied old.lost r _ _ is;
   call = refused_call old.lost r 1 old new refl is same;
@@ -117,7 +119,8 @@ module _ {A : Type 0} (behaviour : Behaviour A) (i : ℕ) (replies : List Reply)
   needs m stands storeless = ap (λ (x : Machine A). needs_store x i) stands.parts ∙ storeless
 
   -- the step over no objects, and over those of the machine
-  same : (kind : TurnKind) → IsStoreless kind → (m : Machine A) → needs_store m i ≡ false → step behaviour (with_store empty_store m) (event_of kind i) ≡ step_with_store empty_store (step behaviour m (event_of kind i))
+  same : (kind : TurnKind) → IsStoreless kind → (m : Machine A) → needs_store m i ≡ false → step behaviour (with_store empty_store m)
+      (event_of kind i) ≡ step_with_store empty_store (step behaviour m (event_of kind i))
   same Plain is m e = turned_over empty_store behaviour m i e
   same Starved is m e = refl
   same (Lost changes) is m e = absurd is

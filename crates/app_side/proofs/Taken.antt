@@ -2,8 +2,8 @@
 use Rattle.app_api.specs.Behaviours.{Behaviour}
 use Rattle.std.proofs.Common.{ℕ, ◌≡◌, List, Option, None, Some, find, get_or, get_or-set_same, length-set, set, set-set, sym, subst, ◌∙◌, ap, arith}
 use Rattle.object_asks.specs.Asks.{Serving}
-use Rattle.alone.specs.declared.running.Instance.{Instance}
-use Rattle.alone.specs.declared.running.Running.{Running}
+use Rattle.alone.specs.declared.active_entry.Instance.{Instance}
+use Rattle.alone.specs.declared.active_entry.ActiveEntry.{ActiveEntry}
 use Rattle.alone.specs.InList.{IsPlace}
 use Rattle.alone.specs.Machine.{Machine, is_number, put_instance}
 use Rattle.alone.specs.Step.{Stepped, turned_by, went_on}
@@ -27,7 +27,7 @@ pub found_there : {A : Type 0} (i : ℕ) (xs : List (Instance A)) (place : ℕ) 
 found_there {A} i xs place new old same = ap (find (is_number i)) (sym (old.put new same)) ∙ find_put i new old.some.0 xs same old.some.1
 
 -- what holds of a turn whose running entry was taken out of its instance first
-pub go_on_turned : {A : Type 0} (behaviour : Behaviour A) (serving : Serving) (m : Machine A) (i place : ℕ) (x : Instance A) (left : Option Running) (r : Running) (P : Stepped A → Type 0)
+pub go_on_turned : {A : Type 0} (behaviour : Behaviour A) (serving : Serving) (m : Machine A) (i place : ℕ) (x : Instance A) (left : Option ActiveEntry) (r : ActiveEntry) (P : Stepped A → Type 0)
     → IsPlace i m.instances place → x ≡ get_or m.instances place x → left ≡ None → x.running ≡ Some r
     → P (went_on behaviour serving (record m { instances = set m.instances place (record x { running = left }) }) (record x { running = left }) r r.waits)
     → (inst : Instance A) → find (is_number i) m.instances ≡ Some inst → P (turned_by behaviour serving m inst inst.running)
@@ -37,7 +37,7 @@ go_on_turned {A} behaviour serving m i place x left r P at here none runs steps 
     let both : Some x ≡ Some inst = sym there ∙ found in
     let same : x ≡ inst = cc in
     let at_none : P (went_on behaviour serving (record m { instances = set m.instances place (emptied x) }) (emptied x) r r.waits)
-    = subst (λ (o : Option Running). P (went_on behaviour serving (record m { instances = set m.instances place (record x { running = o }) }) (record x { running = o }) r r.waits)) none steps in
+    = subst (λ (o : Option ActiveEntry). P (went_on behaviour serving (record m { instances = set m.instances place (record x { running = o }) }) (record x { running = o }) r r.waits)) none steps in
     let taken_steps : P (went_on behaviour serving (taken m x) (emptied x) r r.waits)
     = subst (λ (xs : List (Instance A)). P (went_on behaviour serving (record m { instances = xs }) (emptied x) r r.waits)) (sym (at.put (emptied x) numbered)) at_none in
     let goes : went_on behaviour serving (taken m x) (emptied x) r r.waits ≡ turned_by behaviour serving m inst inst.running

@@ -6,7 +6,7 @@ use Rattle.op_queue.specs.declared.operation.Operation.{Operation}
 use Rattle.op_queue.specs.Queue.{Queue, IsQueue, after_begin, cleared, first_waiting}
 use Rattle.op_queue.proofs.Started.{started_numbers, started_of_instance}
 use Rattle.alone.specs.declared.reply.Reply.{Reply}
-use Rattle.alone.specs.declared.running.Instance.{Instance}
+use Rattle.alone.specs.declared.active_entry.Instance.{Instance}
 use Rattle.alone.specs.InList.{IsPlace}
 use Rattle.alone.specs.Machine.{Machine}
 use Rattle.alone.specs.Replies.{no_outputs}
@@ -39,7 +39,8 @@ begun_numbers q i (Some o) = started_numbers q i o
 abbrev left_with : {A : Type 0} → Machine A → ℕ → Code → Origin → Queue → List Reply → Stepped A
 left_with m i code origin q replies = let s = torn_down m i code origin in record s { machine = record s.machine { queue = q }; replies = replies }
 
-pub begun_torn : {A : Type 0} (m : Machine A) (i : ℕ) (code : Code) (origin : Origin) → IsQueue m.queue → torn_down (record m { queue = after_begin m.queue (first_waiting m.queue i) }) i code origin ≡ torn_down m i code origin
+pub begun_torn : {A : Type 0} (m : Machine A) (i : ℕ) (code : Code) (origin : Origin) → IsQueue m.queue →
+    torn_down (record m { queue = after_begin m.queue (first_waiting m.queue i) }) i code origin ≡ torn_down m i code origin
 begun_torn m i code origin h =
     let q = m.queue in
     let o = first_waiting q i in
@@ -51,7 +52,8 @@ begun_torn m i code origin h =
     ∙ sym (replies_by code origin (mine q)))
 
 -- an instance that has changed in its place
-pub set_torn : {A : Type 0} (m : Machine A) (i place : ℕ) (new : Instance A) (code : Code) (origin : Origin) → IsPlace i m.instances place → new.number ≡ i → torn_down (record m { instances = set m.instances place new }) i code origin ≡ torn_down m i code origin
+pub set_torn : {A : Type 0} (m : Machine A) (i place : ℕ) (new : Instance A) (code : Code) (origin : Origin) → IsPlace i m.instances place → new.number ≡ i →
+    torn_down (record m { instances = set m.instances place new }) i code origin ≡ torn_down m i code origin
 set_torn {A} m i place new code origin at same =
     ap (λ (xs : List (Instance A)). torn_down (record m { instances = xs }) i code origin) (sym (at.put new same))
     ∙ ap (λ (xs : List (Instance A)). let s = torn_down m i code origin in record s { machine = record s.machine { instances = xs } }) (filter_put i new m.instances same)

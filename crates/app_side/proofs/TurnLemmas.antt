@@ -7,20 +7,20 @@ use Rattle.app_api.specs.declared.ask.Ask.{Ask}
 use Rattle.op_queue.specs.declared.operation.Begun.{Begun}
 use Rattle.op_queue.specs.Queue.{first_waiting, begun_at, after_begin}
 use Rattle.store_api.specs.Keeping.{Keeper, Status}
-use Rattle.alone.specs.declared.running.Stage.{Stage}
-use Rattle.alone.specs.declared.running.Stage.TheVariants as stages
+use Rattle.alone.specs.declared.active_entry.EntryPoint.{EntryPoint}
+use Rattle.alone.specs.declared.active_entry.EntryPoint.TheVariants as stages
 use Rattle.app_api.specs.declared.ask.Answer.{Answer}
 use Rattle.app_api.specs.declared.ask.Given.{Given}
 use Rattle.app_api.specs.declared.ask.Given.TheVariants as givens
 use Rattle.store_api.specs.Stores.{Store}
 use Rattle.alone.specs.declared.reply.Reply.{Reply}
 use Rattle.object_asks.specs.declared.outcome.Ending.{Ending}
-use Rattle.alone.specs.declared.running.Instance.{Instance}
-use Rattle.alone.specs.declared.running.Running.{Running}
-use Rattle.alone.specs.declared.running.Waits.TheVariants as waits
+use Rattle.alone.specs.declared.active_entry.Instance.{Instance}
+use Rattle.alone.specs.declared.active_entry.ActiveEntry.{ActiveEntry}
+use Rattle.alone.specs.declared.active_entry.Waits.TheVariants as waits
 use Rattle.object_asks.specs.declared.turn.TurnKind.{TurnKind}
 use Rattle.object_asks.specs.declared.turn.TurnKind.TheVariants.{Plain, Lost, Corrupted}
-use Rattle.object_asks.specs.Courses.{Outcome, Answered, comes_to_store}
+use Rattle.object_asks.specs.Resolutions.{Outcome, Answered, comes_to_store}
 use Rattle.tee_base.specs.declared.codes.TheConstants.Code.{SUCCESS}
 use Rattle.tee_base.specs.declared.codes.Origin.{Origin}
 use Rattle.instances.specs.declared.session.SessionState.TheVariants.{Open}
@@ -28,10 +28,11 @@ use Rattle.instances.specs.Instances.{is_left, session_removed, state_set}
 use Rattle.alone.specs.Places.{delivered}
 use Rattle.alone.specs.Replies.{no_outputs}
 use Rattle.alone.specs.declared.reply.Outputs.{Outputs}
-use Rattle.alone.specs.Asks.{course_after, objects_of}
+use Rattle.alone.specs.Asks.{resolution_after, objects_of}
 use Rattle.alone.specs.Kinds.{kind_by}
 use Rattle.alone.specs.Machine.{Machine, is_number, with_instance}
-use Rattle.alone.specs.Step.{Stepped, acted, after_session, answered, begun, begun_with, destroying, idle, is_success, is_changing, may_stand, of_instance, of_running, of_waits, reaches, quiet, returned, step, thought, torn_down, turned_as}
+use Rattle.alone.specs.Step.{Stepped, after_ask, after_session, answered, with_next_begun, begun_with, destroying, idle, is_success, is_changing, is_enabled}
+use Rattle.alone.specs.Step.{of_instance, of_running, of_waits, reaches, no_replies, returned, step, after_app_step, torn_down, turned_as}
 use Rattle.app_side.specs.declared.side.AppSide.{AppSide}
 use Rattle.app_side.specs.Asking.{changing, reaching}
 use Rattle.operation_asks.specs.Kept.{state_of}
@@ -39,25 +40,30 @@ use Rattle.app_side.specs.Represents.{IsStep, IsTurned, Represents, event_of, ma
 use Rattle.object_asks.specs.Serving.{HasStatus, Meets, SaysChange, TriesOnce, serving_of}
 use Rattle.app_side.specs.Serving.{IfStarved, IsTurnOf}
 use Rattle.app_side.proofs.Carried.{reaching_is}
-use Rattle.alone.specs.declared.running.Waits.{Waits}
+use Rattle.alone.specs.declared.active_entry.Waits.{Waits}
 use Rattle.std.specs.Prelude.{◌&&◌, not}
 use Rattle.app_side.proofs.Stored.{begun_over, replies_over, returned_over, stands_over, torn_over}
 
-pub begins : {A : Type 0} (old new : AppSide A) (given : List Reply) (inst : Instance A) (store doubt : Store) → machine_of new ≡ begun (machine_of old) inst → given ≡ (quiet (machine_of new)).replies → IsStep new store given (quiet (begun (machine_over old store doubt) inst))
+pub begins : {A : Type 0} (old new : AppSide A) (given : List Reply) (inst : Instance A) (store doubt : Store) → machine_of new ≡ with_next_begun (machine_of old) inst →
+    given ≡ (no_replies (machine_of new)).replies → IsStep new store given (no_replies (with_next_begun (machine_over old store doubt) inst))
 begins {A} old new given inst store doubt is none = record {
   doubt = doubt;
-  machine = stands_over old new (λ (m : Machine A). quiet (begun m inst)) (λ s d m. ap quiet (begun_over s d m inst)) is store doubt;
+  machine = stands_over old new (λ (m : Machine A). no_replies (with_next_begun m inst)) (λ s d m. ap no_replies (begun_over s d m inst)) is store doubt;
   replies = none;
 }
 
-pub thinks : {A : Type 0} (behaviour : Behaviour A) (old new : AppSide A) (given : List Reply) (inst : Instance A) (r : Running) (g : Given) (store doubt : Store) → machine_of new ≡ thought behaviour (machine_of old) inst r g → given ≡ (quiet (machine_of new)).replies → IsStep new store given (quiet (thought behaviour (machine_over old store doubt) inst r g))
+pub thinks : {A : Type 0} (behaviour : Behaviour A) (old new : AppSide A) (given : List Reply) (inst : Instance A) (r : ActiveEntry) (g : Given) (store doubt : Store) →
+    machine_of new ≡ after_app_step behaviour (machine_of old) inst r g → given ≡ (no_replies (machine_of new)).replies →
+    IsStep new store given (no_replies (after_app_step behaviour (machine_over old store doubt) inst r g))
 thinks {A} behaviour old new given inst r g store doubt is none = record {
   doubt = doubt;
-  machine = stands_over old new (λ (m : Machine A). quiet (thought behaviour m inst r g)) (λ s d m. refl) is store doubt;
+  machine = stands_over old new (λ (m : Machine A). no_replies (after_app_step behaviour m inst r g)) (λ s d m. refl) is store doubt;
   replies = none;
 }
 
-pub returns : {A : Type 0} (old new : AppSide A) (given : List Reply) (inst : Instance A) (op : Option ℕ) (stage : Stage) (ending : Ending) (m : Machine A) (store doubt : Store) → IsTurned new given (returned (machine_of old) inst op stage ending.code ending.outs) → machine_over old store doubt ≡ m → IsStep new store given (returned m inst op stage ending.code ending.outs)
+pub returns : {A : Type 0} (old new : AppSide A) (given : List Reply) (inst : Instance A) (op : Option ℕ) (stage : EntryPoint) (ending : Ending) (m : Machine A) (store doubt : Store) →
+    IsTurned new given (returned (machine_of old) inst op stage ending.code ending.outs) → machine_over old store doubt ≡ m →
+    IsStep new store given (returned m inst op stage ending.code ending.outs)
 returns {A} old new given inst op stage ending m store doubt is same = subst (λ (x : Machine A). IsStep new store given (returned x inst op stage ending.code ending.outs)) same (record {
   doubt = doubt;
   machine = stands_over old new (λ (x : Machine A). returned x inst op stage ending.code ending.outs) (λ s d x. returned_over s d x inst op stage ending.code ending.outs) is.machine store doubt;
@@ -65,7 +71,8 @@ returns {A} old new given inst op stage ending m store doubt is same = subst (λ
 })
 
 -- an instance that is torn down
-pub tears : {A : Type 0} (old new : AppSide A) (given : List Reply) (i : ℕ) (code : Code) (origin : Origin) (m : Machine A) (store doubt : Store) → IsTurned new given (torn_down (machine_of old) i code origin) → machine_over old store doubt ≡ m → IsStep new store given (torn_down m i code origin)
+pub tears : {A : Type 0} (old new : AppSide A) (given : List Reply) (i : ℕ) (code : Code) (origin : Origin) (m : Machine A) (store doubt : Store) →
+    IsTurned new given (torn_down (machine_of old) i code origin) → machine_over old store doubt ≡ m → IsStep new store given (torn_down m i code origin)
 tears {A} old new given i code origin m store doubt is same = subst (λ (x : Machine A). IsStep new store given (torn_down x i code origin)) same (record {
   doubt = doubt;
   machine = stands_over old new (λ (x : Machine A). torn_down x i code origin) (λ s d x. torn_over s d x i code origin) is.machine store doubt;
@@ -73,16 +80,16 @@ tears {A} old new given i code origin m store doubt is same = subst (λ (x : Mac
 })
 
 -- the running entry that is given this answer next
-abbrev pub answered_next : {A : Type 0} → Instance A → Running → Answer → Instance A
+abbrev pub answered_next : {A : Type 0} → Instance A → ActiveEntry → Answer → Instance A
 answered_next inst r answer = record inst { running = Some (record { op = r.op; stage = r.stage; waits = waits.Given (givens.Answer answer); asks = r.asks + 1; masked = r.masked }) }
 
-pub answers : {A : Type 0} (old new : AppSide A) (given : List Reply) (inst : Instance A) (r : Running) (answer : Answer) (store after : Store) (stated : Outcome (Machine A))
-    → machine_of new ≡ with_instance (machine_of old) (answered_next inst r answer) → given ≡ (quiet (machine_of new)).replies → stated ≡ Answered (machine_over old store after) answer
-    → (m : Machine A) → IsStep new store given (acted m inst r stated)
+pub answers : {A : Type 0} (old new : AppSide A) (given : List Reply) (inst : Instance A) (r : ActiveEntry) (answer : Answer) (store after : Store) (stated : Outcome (Machine A))
+    → machine_of new ≡ with_instance (machine_of old) (answered_next inst r answer) → given ≡ (no_replies (machine_of new)).replies → stated ≡ Answered (machine_over old store after) answer
+    → (m : Machine A) → IsStep new store given (after_ask m inst r stated)
 answers {A} old new given inst r answer store after stated is none same m =
-    subst (λ (o : Outcome (Machine A)). IsStep new store given (acted m inst r o)) (sym same) (record {
+    subst (λ (o : Outcome (Machine A)). IsStep new store given (after_ask m inst r o)) (sym same) (record {
       doubt = after;
-      machine = stands_over old new (λ (x : Machine A). quiet (with_instance x (answered_next inst r answer))) (λ s d x. refl) is store after;
+      machine = stands_over old new (λ (x : Machine A). no_replies (with_instance x (answered_next inst r answer))) (λ s d x. refl) is store after;
       replies = none;
     })
 
@@ -120,7 +127,7 @@ step_represents new store given s is = record { doubt = is.doubt; parts = sym is
 
 -- ---- the loss of the storage, and which ask waits
 
-pub none_of : (o : Option Running) → is_some o ≡ false → o ≡ None
+pub none_of : (o : Option ActiveEntry) → is_some o ≡ false → o ≡ None
 none_of None e = refl
 none_of (Some r) e = absurd (let f : true ≡ false = e in cc)
 
@@ -135,7 +142,7 @@ begun_with_lost : {A : Type 0} (m : Machine A) (inst : Instance A) (o : Option B
 begun_with_lost m inst None = idle_lost m inst
 begun_with_lost m inst (Some b) = refl
 
-pub begun_lost : {A : Type 0} (m : Machine A) (inst : Instance A) → (begun m inst).lost ≡ m.lost
+pub begun_lost : {A : Type 0} (m : Machine A) (inst : Instance A) → (with_next_begun m inst).lost ≡ m.lost
 begun_lost m inst = begun_with_lost (record m { queue = after_begin m.queue (first_waiting m.queue inst.number) }) inst (begun_at (first_waiting m.queue inst.number))
 
 -- whichever way a test turns out
@@ -150,7 +157,7 @@ answered_lost m inst (Some op) code outputs = refl
 after_session_lost : {A : Type 0} (m : Machine A) (inst : Instance A) (op : Option ℕ) (code : Code) (outputs : Outputs) → (after_session m inst op code outputs).machine.lost ≡ m.lost
 after_session_lost m inst op code outputs = either_lost m.lost (is_left m.table inst.number) _ _ refl (answered_lost m inst op code outputs)
 
-pub returned_lost : {A : Type 0} (m : Machine A) (inst : Instance A) (op : Option ℕ) (stage : Stage) (code : Code) (outs : Outs) → (returned m inst op stage code outs).machine.lost ≡ m.lost
+pub returned_lost : {A : Type 0} (m : Machine A) (inst : Instance A) (op : Option ℕ) (stage : EntryPoint) (code : Code) (outs : Outs) → (returned m inst op stage code outs).machine.lost ≡ m.lost
 returned_lost m inst op (stages.Create session ps places) code outs = either_lost m.lost (is_success code) _ _ refl refl
 returned_lost m inst op (stages.Start session places) code outs =
     either_lost m.lost (is_success code)
@@ -162,43 +169,51 @@ returned_lost m inst op (stages.Invoke session places) code outs = answered_lost
 returned_lost m inst op (stages.Stop session) code outs = after_session_lost (record m { table = session_removed m.table session }) inst op SUCCESS no_outputs
 returned_lost m inst op (stages.Destroy reply) code outs = refl
 
-pub turned_lost : {A : Type 0} (old new : AppSide A) (given : List Reply) (inst : Instance A) (op : Option ℕ) (stage : Stage) (code : Code) (outs : Outs) → IsTurned new given (returned (machine_of old) inst op stage code outs) → old.lost ≡ new.lost
+pub turned_lost : {A : Type 0} (old new : AppSide A) (given : List Reply) (inst : Instance A) (op : Option ℕ) (stage : EntryPoint) (code : Code) (outs : Outs) →
+    IsTurned new given (returned (machine_of old) inst op stage code outs) → old.lost ≡ new.lost
 turned_lost {A} old new given inst op stage code outs is = sym (ap (λ (m : Machine A). m.lost) is.machine ∙ returned_lost (machine_of old) inst op stage code outs)
 
 pub torn_lost : {A : Type 0} (old new : AppSide A) (given : List Reply) (i : ℕ) (code : Code) (origin : Origin) → IsTurned new given (torn_down (machine_of old) i code origin) → old.lost ≡ new.lost
 torn_lost {A} old new given i code origin is = sym (ap (λ (m : Machine A). m.lost) is.machine)
 
-of_waits_same : (one other : Running → Ask → Bool) (r : Running) (w : Waits) → ((r : Running) (ask : Ask) → one r ask ≡ other r ask) → of_waits one r w ≡ of_waits other r w
+of_waits_same : (one other : ActiveEntry → Ask → Bool) (r : ActiveEntry) (w : Waits) → ((r : ActiveEntry) (ask : Ask) → one r ask ≡ other r ask) → of_waits one r w ≡ of_waits other r w
 of_waits_same one other r (waits.Given given) same = refl
 of_waits_same one other r (waits.Ask ask) same = same r ask
 
-of_running_same : (one other : Running → Ask → Bool) (o : Option Running) → ((r : Running) (ask : Ask) → one r ask ≡ other r ask) → of_running one o ≡ of_running other o
+of_running_same : (one other : ActiveEntry → Ask → Bool) (o : Option ActiveEntry) → ((r : ActiveEntry) (ask : Ask) → one r ask ≡ other r ask) → of_running one o ≡ of_running other o
 of_running_same one other None same = refl
 of_running_same one other (Some r) same = of_waits_same one other r r.waits same
 
-of_instance_same : {A : Type 0} (one other : Running → Ask → Bool) (o : Option (Instance A)) → ((r : Running) (ask : Ask) → one r ask ≡ other r ask) → of_instance one o ≡ of_instance other o
+of_instance_same : {A : Type 0} (one other : ActiveEntry → Ask → Bool) (o : Option (Instance A)) → ((r : ActiveEntry) (ask : Ask) → one r ask ≡ other r ask) → of_instance one o ≡ of_instance other o
 of_instance_same one other None same = refl
 of_instance_same one other (Some inst) same = of_running_same one other inst.running same
 
 both_true : (a b : Bool) → a ≡ true → b ≡ false → (a && not b) ≡ true
 both_true a b ha hb = rw (ha, hb) refl
 
-reaches_is : {A : Type 0} (old : AppSide A) (store doubt : Store) (i : ℕ) → of_instance (reaching (objects_of (machine_over old store doubt)) (state_of old.operations) i) (find (is_number i) old.instances.items) ≡ reaches (machine_over old store doubt) i
-reaches_is old store doubt i = of_instance_same _ (λ r ask. comes_to_store (course_after (machine_over old store doubt) i r ask)) (find (is_number i) old.instances.items) (λ r ask. reaching_is (machine_over old store doubt) i r ask)
+reaches_is : {A : Type 0} (old : AppSide A) (store doubt : Store) (i : ℕ) → of_instance (reaching (objects_of (machine_over old store doubt)) (state_of old.operations) i)
+    (find (is_number i) old.instances.items) ≡ reaches (machine_over old store doubt) i
+reaches_is old store doubt i = of_instance_same _ (λ r ask. comes_to_store (resolution_after (machine_over old store doubt) i r ask)) (find (is_number i) old.instances.items)
+    (λ r ask. reaching_is (machine_over old store doubt) i r ask)
 
 -- the event of a turn may stand
 pub turn_may_stand : {A : Type 0} (old : AppSide A) (store : Store) (kind : TurnKind) (i : ℕ) (before after : Status) → old.lost ≡ before.lost → HasStatus kind before after
-    → Meets kind (of_instance (reaching (record { store = store; held = old.held }) (state_of old.operations) i) (find (is_number i) old.instances.items)) → (m : Machine A) → Represents old m → m.store ≡ store → may_stand m (event_of (kind_by kind) i) ≡ true
+    → Meets kind (of_instance (reaching (record { store = store; held = old.held }) (state_of old.operations) i) (find (is_number i) old.instances.items)) → (m : Machine A) →
+    Represents old m → m.store ≡ store → is_enabled m (event_of (kind_by kind) i) ≡ true
 turn_may_stand old store Plain i before after same stands meets m of_m kept = refl
 turn_may_stand {A} old store (Lost changes) i before after same stands meets m of_m kept =
-    subst (λ (x : Machine A). (reaches x i && not x.lost) ≡ true) (sym (of_m.parts ∙ ap (λ (s : Store). machine_over old s of_m.doubt) kept)) (both_true _ _ (sym (reaches_is old store of_m.doubt i) ∙ meets) (same ∙ stands.cause.0))
+    subst (λ (x : Machine A). (reaches x i && not x.lost) ≡ true) (sym (of_m.parts ∙ ap (λ (s : Store). machine_over old s of_m.doubt) kept))
+    (both_true _ _ (sym (reaches_is old store of_m.doubt i) ∙ meets) (same ∙ stands.cause.0))
 turn_may_stand {A} old store Corrupted i before after same stands meets m of_m kept =
-    subst (λ (x : Machine A). (reaches x i && not x.lost) ≡ true) (sym (of_m.parts ∙ ap (λ (s : Store). machine_over old s of_m.doubt) kept)) (both_true _ _ (sym (reaches_is old store of_m.doubt i) ∙ meets) (same ∙ stands.cause.0))
+    subst (λ (x : Machine A). (reaches x i && not x.lost) ≡ true) (sym (of_m.parts ∙ ap (λ (s : Store). machine_over old s of_m.doubt) kept))
+    (both_true _ _ (sym (reaches_is old store of_m.doubt i) ∙ meets) (same ∙ stands.cause.0))
 
-pub turn_change : {A : Type 0} (old : AppSide A) (kind : TurnKind) (i : ℕ) → SaysChange kind (of_instance changing (find (is_number i) old.instances.items)) → (m : Machine A) → Represents old m → SaysChange kind (is_changing m i)
+pub turn_change : {A : Type 0} (old : AppSide A) (kind : TurnKind) (i : ℕ) → SaysChange kind (of_instance changing (find (is_number i) old.instances.items)) → (m : Machine A) →
+    Represents old m → SaysChange kind (is_changing m i)
 turn_change {A} old kind i says m of_m = subst (λ (x : Machine A). SaysChange kind (is_changing x i)) (sym of_m.parts) says
 
-pub turn_tried : {A : Type 0} (old : AppSide A) (i : ℕ) (before after : Status) → TriesOnce (of_instance changing (find (is_number i) old.instances.items)) before after → (m : Machine A) → Represents old m → TriesOnce (is_changing m i) before after
+pub turn_tried : {A : Type 0} (old : AppSide A) (i : ℕ) (before after : Status) → TriesOnce (of_instance changing (find (is_number i) old.instances.items)) before after →
+    (m : Machine A) → Represents old m → TriesOnce (is_changing m i) before after
 turn_tried {A} old i before after tried m of_m = subst (λ (x : Machine A). TriesOnce (is_changing x i) before after) (sym of_m.parts) tried
 
 module _ {D : Type 0} (K : Keeper D) where

@@ -1,21 +1,21 @@
 -- An entry that asks, taken apart.
 use Rattle.std.specs.Prelude.{ℕ, ◌+◌, not, nat_le, ◌&&◌, Bool, false}
-use Rattle.tee_base.specs.declared.limits.TheConstants.{ASKS}
+use Rattle.tee_base.specs.declared.limits.TheConstants.{MAX_ASKS}
 use Rattle.app_api.specs.Behaviours.{Behaviour}
 use Rattle.app_api.specs.declared.ask.Answer.{Answer}
 use Rattle.app_api.specs.declared.ask.Ask.{Ask}
 use Rattle.app_api.specs.declared.ask.Given.TheVariants as givens
 use Rattle.store_api.specs.Keeping.{Contents}
-use Rattle.object_asks.specs.Asks.{Objects, Serving, changes_store, comes_to_store, object_course}
+use Rattle.object_asks.specs.Asks.{Objects, Serving, changes_store, comes_to_store, object_resolution}
 use Rattle.object_asks.specs.Serving.{objects_in}
-use Rattle.operation_asks.specs.Asks.{CryptoState, operation_course}
+use Rattle.operation_asks.specs.Asks.{CryptoState, operation_resolution}
 use Rattle.operation_asks.specs.Kept.{state_of}
 use Rattle.alone.specs.Crypto.{key_reaches}
 use Rattle.alone.specs.declared.family.Family.{Family}
 use Rattle.alone.specs.declared.family.Family.TheVariants as families
-use Rattle.alone.specs.declared.running.Instance.{Instance}
-use Rattle.alone.specs.declared.running.Running.{Running}
-use Rattle.alone.specs.declared.running.Waits.TheVariants as waits
+use Rattle.alone.specs.declared.active_entry.Instance.{Instance}
+use Rattle.alone.specs.declared.active_entry.ActiveEntry.{ActiveEntry}
+use Rattle.alone.specs.declared.active_entry.Waits.TheVariants as waits
 use Rattle.alone.specs.Families.{family_of}
 use Rattle.alone.specs.Machine.{Machine}
 use Rattle.alone.specs.Step.{Stepped, went_on}
@@ -23,11 +23,11 @@ use Rattle.app_side.specs.declared.side.AppSide.{AppSide}
 use Rattle.app_side.specs.declared.turns.Entered.{Entered}
 
 -- the running entry that waits with this ask
-abbrev pub asking : Entered → Ask → Running
+abbrev pub asking : Entered → Ask → ActiveEntry
 asking e ask = record { op = e.op; stage = e.stage; waits = waits.Ask ask; asks = e.asks; masked = e.masked }
 
 -- the running entry that is given this answer next, masked so
-abbrev pub given_next : Entered → Bool → Answer → Running
+abbrev pub given_next : Entered → Bool → Answer → ActiveEntry
 given_next e masked answer = record { op = e.op; stage = e.stage; waits = waits.Given (givens.Answer answer); asks = e.asks + 1; masked = masked }
 
 -- a turn in which the instance's ask is carried out
@@ -37,18 +37,18 @@ asked_turn behaviour serving m inst e ask = went_on behaviour serving m inst (as
 -- an ask of this family comes to the store: one about objects, or one for a key that an object gives
 abbrev pub reaching_in_family : Family → Objects → CryptoState → ℕ → Ask → Bool
 reaching_in_family families.Entry o s i ask = false
-reaching_in_family families.Objects o s i ask = comes_to_store (object_course o i ask)
-reaching_in_family families.Operations o s i ask = key_reaches o i (operation_course s i ask)
+reaching_in_family families.Objects o s i ask = comes_to_store (object_resolution o i ask)
+reaching_in_family families.Operations o s i ask = key_reaches o i (operation_resolution s i ask)
 reaching_in_family families.Generation o s i ask = false
 
 -- the ask that an instance makes in this entry comes to the store
-abbrev pub reaching : Objects → CryptoState → ℕ → Running → Ask → Bool
-reaching o s i r ask = not (nat_le ASKS r.asks) && reaching_in_family (family_of ask) o s i ask
+abbrev pub reaching : Objects → CryptoState → ℕ → ActiveEntry → Ask → Bool
+reaching o s i r ask = not (nat_le MAX_ASKS r.asks) && reaching_in_family (family_of ask) o s i ask
 
 -- the same of an entry taken apart
 abbrev pub comes : {A : Type 0} → AppSide A → ℕ → Contents → Entered → Ask → Bool
 comes side i contents e ask = reaching (objects_in side.held contents) (state_of side.operations) i (asking e ask) ask
 
 -- the ask is to change the store
-abbrev pub changing : Running → Ask → Bool
+abbrev pub changing : ActiveEntry → Ask → Bool
 changing r ask = changes_store ask

@@ -9,13 +9,13 @@ use Rattle.object_asks.specs.declared.outcome.Outcome.{Outcome as Result_of}
 use Rattle.object_asks.specs.declared.outcome.Outcome.TheVariants as outcomes
 use Rattle.object_asks.specs.declared.turn.TurnKind.{TurnKind as StoreKind}
 use Rattle.object_asks.specs.declared.turn.TurnKind.TheVariants as store_kinds
-use Rattle.object_asks.specs.Asks.{Course, Outcome, Answered, Returned, Panicked, Serving, Settled}
+use Rattle.object_asks.specs.Asks.{Resolution, Outcome, Answered, Returned, Panicked, Serving, Settled}
 use Rattle.object_asks.specs.Serving.{CrashTurns, EndsUnchanged, HasStatus, IsKept, IsUndamaged, Meets, SaysChange, ShowsDamage, TriesOnce, UnlessAnswered, serving_of}
 use Rattle.alone.specs.declared.reply.Reply.{Reply}
 use Rattle.alone.specs.declared.turn.TurnKind.{TurnKind}
 use Rattle.alone.specs.declared.turn.TurnKind.TheVariants as kinds
 use Rattle.alone.specs.Machine.{Machine, is_number}
-use Rattle.alone.specs.Step.{Stepped, is_changing, may_stand, step as step_of, turn_counted}
+use Rattle.alone.specs.Step.{Stepped, is_changing, is_enabled, step as step_of, turn_counted}
 use Rattle.app_side.specs.declared.side.AppSide.{AppSide}
 use Rattle.app_side.specs.Represents.{IsLeft, IsStep, IsTornAlike, Represents, StarvesAlike, event_of, is_lost, machine_of, machine_over, store_kind}
 
@@ -33,13 +33,13 @@ in_doubt_by (Returned code outs) = None
 in_doubt_by Panicked = None
 
 -- what came of an ask about the entry itself: the stated outcome over the value, in which at most the queue has changed
-abbrev pub IsEntryOutcome : {A : Type 0} → Result_of → Course (Machine A) → AppSide A → AppSide A → Type 0
+abbrev pub IsEntryOutcome : {A : Type 0} → Result_of → Resolution (Machine A) → AppSide A → AppSide A → Type 0
 IsEntryOutcome (outcomes.Answered answer) stated before after = stated ≡ Settled (Answered (machine_of after) answer)
 IsEntryOutcome (outcomes.Returned ending) stated before after = (stated ≡ Settled (Returned ending.code ending.outs)) × (after ≡ before)
 IsEntryOutcome outcomes.Panicked stated before after = (stated ≡ Settled Panicked) × (after ≡ before)
 
 -- an ask about the entry itself was served: the turn is plain, the outcome the stated one, and at most the queue has changed
-pub record IsEntryServed {A : Type 0} (served : Served) (stated : Course (Machine A)) (before after : AppSide A) : Type 0 where
+pub record IsEntryServed {A : Type 0} (served : Served) (stated : Resolution (Machine A)) (before after : AppSide A) : Type 0 where
   pub kind : served.kind ≡ store_kinds.Plain
   pub outcome : IsEntryOutcome served.outcome stated before after
   pub rest : after ≡ record before { queue = after.queue }
@@ -58,7 +58,8 @@ module _ {D : Type 0} (K : Keeper D) where
 
   -- an ask that was carried out, where stated says what comes of it for a machine when the store does so: what it leaves, or that
   -- there was no memory, and the value is as it was
-  pub record CarriesOut {A : Type 0} (stated : Serving → Machine A → Outcome (Machine A)) (comes changes : Bool) (instance : ℕ) (result : Result Served NoMemory) (before after : AppSide A) (old new : D) : Type 0 where
+  pub record CarriesOut {A : Type 0} (stated : Serving → Machine A → Outcome (Machine A)) (comes changes : Bool) (instance : ℕ) (result : Result Served NoMemory)
+      (before after : AppSide A) (old new : D) : Type 0 where
     pub left : IfOk result (λ done. K.has_model old → is_lost before ≡ (K.status old).lost → (doubt : Store)
         → IsLeft done.outcome (stated (serving_of done.kind) (machine_over before (K.contents old).store doubt)) after (K.contents new).store doubt (machine_over before (K.contents old).store doubt))
     pub kind : IfOk result (λ done. IsTurnOf done.kind comes changes (is_lost before) (is_lost after) old new)
@@ -72,7 +73,8 @@ module _ {D : Type 0} (K : Keeper D) where
 
   -- a turn, or a part of one, where stated is its step for a machine when the store does so: the step and its replies, how the
   -- store did, or that there was no memory; then tearing the instance down gives the same as before
-  pub record TakesTurn {A : Type 0} (stated : Serving → Machine A → Stepped A) (comes changes : Bool) (instance : ℕ) (result : Result StoreKind NoMemory) (before after : AppSide A) (replies : List Reply) (old new : D) : Type 0 where
+  pub record TakesTurn {A : Type 0} (stated : Serving → Machine A → Stepped A) (comes changes : Bool) (instance : ℕ) (result : Result StoreKind NoMemory) (before after : AppSide A)
+      (replies : List Reply) (old new : D) : Type 0 where
     pub step : IfOk result (λ kind. K.has_model old → is_lost before ≡ (K.status old).lost → (doubt : Store)
         → IsStep after (K.contents new).store replies (stated (serving_of kind) (machine_over before (K.contents old).store doubt)))
     pub kind : IfOk result (λ kind. IsTurnOf kind comes changes (is_lost before) (is_lost after) old new)
@@ -83,7 +85,8 @@ module _ {D : Type 0} (K : Keeper D) where
     pub starves : OnErr result (StarvesAlike instance after replies (machine_of before))
 
   -- a turn as a whole: it is counted also where there was no memory, which an instance alone wants that is there
-  pub record AdvancesTurn {A : Type 0} (stated : Serving → Machine A → Stepped A) (comes changes : Bool) (instance : ℕ) (result : Result StoreKind NoMemory) (before after : AppSide A) (replies : List Reply) (old new : D) : Type 0 where
+  pub record AdvancesTurn {A : Type 0} (stated : Serving → Machine A → Stepped A) (comes changes : Bool) (instance : ℕ) (result : Result StoreKind NoMemory)
+      (before after : AppSide A) (replies : List Reply) (old new : D) : Type 0 where
     pub step : IfOk result (λ kind. K.has_model old → is_lost before ≡ (K.status old).lost → (doubt : Store)
         → IsStep after (K.contents new).store replies (stated (serving_of kind) (machine_over before (K.contents old).store doubt)))
     pub kind : IfOk result (λ kind. IsTurnOf kind comes changes (is_lost before) (is_lost after) old new)
@@ -104,7 +107,7 @@ module _ {D : Type 0} (K : Keeper D) where
     pub told : K.has_model old → (m : Machine A) → Represents before m → m.store ≡ (K.contents old).store
         → replies ≡ (step_of behaviour m (event_of kind instance)).replies
     pub stands : K.has_model old → (m : Machine A) → Represents before m → m.store ≡ (K.contents old).store
-        → may_stand m (event_of kind instance) ≡ true
+        → is_enabled m (event_of kind instance) ≡ true
     -- a lost turn says whether a change is in doubt
     pub change : (m : Machine A) → Represents before m → SaysChange (store_kind kind) (is_changing m instance)
     -- it is lost exactly where a call of the store failed, and damaged exactly where one told of damage

@@ -69,7 +69,7 @@ impl<A: Application> AppSide<A> {
     ) -> Result<Called, NoMemory>
         requires room { self.old.queue.next < 2 ^ 63 }
         requires accepted { is_full self.old.queue ≡ false }
-        requires admitted { admission_of self.old.table client label ≡ Ok admission }
+        requires admitted { admission_of self.old.sessions client label ≡ Ok admission }
         requires shared { admission.new_instance ≡ false }
         ensures ok { IfOk result (λ waiting.
             IsCalled self.new waiting self.old.queue.next
@@ -78,7 +78,7 @@ impl<A: Application> AppSide<A> {
     {
         let call = Call::Open { label, params };
         let waiting = self.wait_for(client, admission.instance, admission.session, call)?;
-        self.table.enter(client, label, admission);
+        self.sessions.enter(client, label, admission);
         Ok(waiting)
     }
 
@@ -92,7 +92,7 @@ impl<A: Application> AppSide<A> {
     ) -> Result<Called, NoMemory>
         requires room { self.old.queue.next < 2 ^ 63 }
         requires accepted { is_full self.old.queue ≡ false }
-        requires admitted { admission_of self.old.table client label ≡ Ok admission }
+        requires admitted { admission_of self.old.sessions client label ≡ Ok admission }
         requires own { admission.new_instance ≡ true }
         ensures ok { IfOk result (λ waiting.
             IsCalled self.new waiting self.old.queue.next
@@ -109,7 +109,7 @@ impl<A: Application> AppSide<A> {
         let call = Call::Open { label, params };
         match self.wait_for(client, admission.instance, admission.session, call) {
             Ok(waiting) => {
-                self.table.enter(client, label, admission);
+                self.sessions.enter(client, label, admission);
                 Ok(waiting)
             }
             Err(answer) => {
@@ -129,13 +129,13 @@ impl<A: Application> AppSide<A> {
         if params.check().is_err() {
             return Ok(self.refuse(Code::BAD_PARAMETERS, Origin::Api));
         }
-        if self.table.find(client, label).is_some() {
+        if self.sessions.find(client, label).is_some() {
             return Ok(self.refuse(Code::BAD_STATE, Origin::Api));
         }
         if self.queue.is_full() {
             return Ok(self.refuse(Code::BUSY, Origin::Tee));
         }
-        match self.table.admit(client, label) {
+        match self.sessions.admit(client, label) {
             Ok(admission) if admission.new_instance => self.enter_new(
                 client, label, params, admission,
             ),
@@ -160,7 +160,7 @@ impl<A: Application> AppSide<A> {
         if params.check().is_err() {
             return Ok(self.refuse(Code::BAD_PARAMETERS, Origin::Api));
         }
-        let Some(known) = self.table.find(client, label) else {
+        let Some(known) = self.sessions.find(client, label) else {
             return Ok(self.refuse(Code::BAD_STATE, Origin::Api));
         };
         match known.state {
@@ -190,7 +190,7 @@ impl<A: Application> AppSide<A> {
             client label (known (machine_of self.old) client label))) }
         ensures err { OnErr result (machine_of self.new ≡ machine_of self.old) }
     {
-        let Some(known) = self.table.find(client, label) else {
+        let Some(known) = self.sessions.find(client, label) else {
             return Ok(self.refuse(Code::BAD_STATE, Origin::Api));
         };
         match known.state {
@@ -199,7 +199,7 @@ impl<A: Application> AppSide<A> {
                 Origin::Api,
             )),
             SessionState::Dead => {
-                self.table.remove(known.session);
+                self.sessions.remove(known.session);
                 Ok(self.refuse(Code::SUCCESS, Origin::Tee))
             }
             SessionState::Open => {
@@ -209,7 +209,7 @@ impl<A: Application> AppSide<A> {
                     known.session,
                     Call::Close { label },
                 )?;
-                self.table.set(known.session, SessionState::Closing);
+                self.sessions.set(known.session, SessionState::Closing);
                 Ok(waiting)
             }
         }

@@ -47,7 +47,7 @@ impl<A: Application> AppSide<A> {
     {
         match place_of(self.instances.as_slice(), number) {
             None => false,
-            Some(place) => !self.instances[place].created && !self.table.has_session(number),
+            Some(place) => !self.instances[place].created && !self.sessions.has_session(number),
         }
     }
 
@@ -58,7 +58,7 @@ impl<A: Application> AppSide<A> {
         let Some((session, instance)) = waiting else {
             return;
         };
-        self.table.remove(session);
+        self.sessions.remove(session);
         if self.is_unused(instance) {
             self.end_instance(instance);
         }

@@ -2,9 +2,9 @@
 
 ghost use Rattle.std.specs.Prelude.{◌≡◌, false, IfOk, OnErr};
 ghost use Rattle.app_api.specs.declared.ask.Ask.TheVariants.{OpSetKey};
-ghost use Rattle.object_asks.specs.KeyOf.{key_comes_to_store, key_course};
+ghost use Rattle.object_asks.specs.KeyOf.{key_comes_to_store, key_resolution};
 ghost use Rattle.object_asks.specs.Serving.{objects_in};
-ghost use Rattle.operation_asks.specs.Asks.{operation_course};
+ghost use Rattle.operation_asks.specs.Asks.{operation_resolution};
 ghost use Rattle.operation_asks.specs.Kept.{state_of};
 ghost use Rattle.alone.specs.Crypto.{given_by, key_reaches, keyed_by, operated};
 ghost use Rattle.alone.specs.Families.{family_of};
@@ -17,7 +17,7 @@ ghost use Rattle.app_side.specs.Serving.{CarriesOut};
 use crate::side::AppSide;
 use app_api::{Answer, Application, Ask};
 use object_asks::{KeyFound, Outcome, Served, answered, generate, key_of, panicked, random_wanted};
-use operation_asks::{Asked, KeyGiven, Outcome as Told};
+use operation_asks::{CryptoOutcome, KeyGiven, Outcome as Told};
 use store_api::AppStore;
 use tee_base::NoMemory;
 
@@ -53,9 +53,10 @@ impl<A: Application> AppSide<A> {
     ) -> Result<Served, NoMemory>
         ensures { CarriesOut T.keeper
             (λ serving m. served serving m (OpSetKey op object)
-            (keyed_by m instance op (key_course (objects_of m) instance object)))
+            (keyed_by m instance op (key_resolution (objects_of m) instance object)))
             (key_comes_to_store
-            (key_course (objects_in self.old.held (T.keeper.contents store.old)) instance object))
+            (key_resolution (objects_in self.old.held (T.keeper.contents store.old))
+            instance object))
             false instance result self.old self.new store.old store.new }
     {
         let looked = key_of(self.alloc, &self.held, store, instance, object)?;
@@ -80,12 +81,12 @@ impl<A: Application> AppSide<A> {
         ensures { CarriesOut T.keeper
             (λ serving m. served serving m ask (operated m instance ask))
             (key_reaches (objects_in self.old.held (T.keeper.contents store.old)) instance
-            (operation_course (state_of self.old.operations) instance ask))
+            (operation_resolution (state_of self.old.operations) instance ask))
             false instance result self.old self.new store.old store.new }
     {
         match self.operations.serve(self.alloc, instance, ask)? {
-            Asked::Settled(told) => Ok(Served::plain(outcome_of(told))),
-            Asked::WantsKey { op, object } => self.give_key(store, instance, op, object),
+            CryptoOutcome::Settled(told) => Ok(Served::plain(outcome_of(told))),
+            CryptoOutcome::WantsKey { op, object } => self.give_key(store, instance, op, object),
         }
     }
 

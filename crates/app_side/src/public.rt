@@ -45,7 +45,7 @@ impl<A: Application> AppSide<A> {
             application,
             seed,
             boot: 0,
-            table: Instances::new(host.properties),
+            sessions: Instances::new(host.properties),
             instances: Vec::new(alloc),
             queue: OpQueue::new(alloc),
             turns: 0,
@@ -227,7 +227,7 @@ impl<A: Application> AppSide<A> {
         ensures lost { is_lost self.new ≡ false }
     {
         self.boot += 1;
-        self.table.reset();
+        self.sessions.reset();
         self.instances.clear();
         self.queue.forget();
         self.held = Held::new(self.alloc);

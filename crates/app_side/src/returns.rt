@@ -2,14 +2,16 @@
 
 ghost use Rattle.std.specs.Prelude.{◌≡◌, ℕ, ◌<◌, [], true, if◌then◌else◌, Some, Option, option_map, find};
 ghost use Rattle.instances.specs.Instances.{state_set, session_removed};
-ghost use Rattle.alone.specs.declared.running.Instance.{Instance};
+ghost use Rattle.alone.specs.declared.active_entry.Instance.{Instance};
 ghost use Rattle.alone.specs.Machine.{is_number, with_instance};
 ghost use Rattle.alone.specs.Step.{after_session, answered, destroying, is_success, masked_again, reply_of, returned, start_begun};
 ghost use Rattle.alone.specs.InList.{IsPlace};
 ghost use Rattle.app_side.specs.Represents.{machine_of, IsTurned};
 
 use crate::side::AppSide;
-use alone::{Ending, Outputs, Places, Replies, Reply, Stage, deliver, destroy_entry, start_entry};
+use alone::{
+    Ending, EntryPoint, Outputs, Places, Replies, Reply, deliver, destroy_entry, start_entry,
+};
 use app_api::{Application, Params};
 use instances::SessionState;
 use tee_base::{Code, Origin};
@@ -88,7 +90,7 @@ impl<A: Application> AppSide<A> {
             → machine_of self.new ≡ destroying (machine_of self.old) inst op reply }
     {
         self.mask_again(op);
-        self.table.begin_destroy(number);
+        self.sessions.begin_destroy(number);
         self.instances[place].running = Some(destroy_entry(op, reply));
     }
 
@@ -108,7 +110,7 @@ impl<A: Application> AppSide<A> {
             → IsTurned self.new replies.new
             (after_session (machine_of self.old) inst op code outputs) }
     {
-        if self.table.is_left(number) {
+        if self.sessions.is_left(number) {
             self.destroy(place, number, op, reply_to(op, code, outputs));
             return;
         }
@@ -157,18 +159,18 @@ impl<A: Application> AppSide<A> {
         ensures { (inst : Instance A) → find (is_number number) self.old.instances.items ≡ Some inst
             → IsTurned self.new replies.new (if is_success code
             then answered (record (machine_of self.old)
-            { table = state_set self.old.table session SessionState.Open })
+            { table = state_set self.old.sessions session SessionState.Open })
             inst op code outputs
             else after_session (record (machine_of self.old)
-            { table = session_removed self.old.table session })
+            { table = session_removed self.old.sessions session })
             inst op code outputs) }
     {
         if is_success(code) {
-            self.table.set(session, SessionState::Open);
+            self.sessions.set(session, SessionState::Open);
             self.answer(place, number, op, code, outputs, replies);
             return;
         }
-        self.table.remove(session);
+        self.sessions.remove(session);
         self.after_session(place, number, op, code, outputs, replies);
     }
 
@@ -178,7 +180,7 @@ impl<A: Application> AppSide<A> {
         place: usize,
         number: u8,
         op: Option<u64>,
-        stage: Stage,
+        stage: EntryPoint,
         ending: Ending,
         replies: &mut Replies,
     )
@@ -191,7 +193,7 @@ impl<A: Application> AppSide<A> {
     {
         let code = ending.code;
         match stage {
-            Stage::Create {
+            EntryPoint::Create {
                 session,
                 params,
                 places,
@@ -202,20 +204,20 @@ impl<A: Application> AppSide<A> {
                     self.tear_down(number, code, Origin::App, replies);
                 }
             }
-            Stage::Start { session, places } => {
+            EntryPoint::Start { session, places } => {
                 let outputs = deliver(self.alloc, places, ending.outs);
                 self.end_start(place, number, op, session, code, outputs, replies);
             }
-            Stage::Invoke { places, .. } => {
+            EntryPoint::Invoke { places, .. } => {
                 let outputs = deliver(self.alloc, places, ending.outs);
                 self.answer(place, number, op, code, outputs, replies);
             }
-            Stage::Stop { session } => {
-                self.table.remove(session);
+            EntryPoint::Stop { session } => {
+                self.sessions.remove(session);
                 let outputs = Outputs::nothing();
                 self.after_session(place, number, op, Code::SUCCESS, outputs, replies);
             }
-            Stage::Destroy { reply } => {
+            EntryPoint::Destroy { reply } => {
                 self.end_instance(number);
                 if let Some(reply) = reply {
                     replies.push(reply);

@@ -5,7 +5,7 @@ ghost use Rattle.object_asks.specs.Asks.{changes_store};
 ghost use Rattle.object_asks.specs.Serving.{objects_in};
 ghost use Rattle.operation_asks.specs.Kept.{state_of};
 ghost use Rattle.alone.specs.Families.{family_of};
-ghost use Rattle.alone.specs.Asks.{course, entry_course, flag_for, mask_for, mask_set_for};
+ghost use Rattle.alone.specs.Asks.{resolution, entry_resolution, flag_for, mask_for, mask_set_for};
 ghost use Rattle.alone.specs.Step.{served};
 ghost use Rattle.app_side.specs.Asking.{asking, reaching_in_family};
 ghost use Rattle.app_side.specs.Represents.{machine_of, noted};
@@ -57,7 +57,7 @@ impl<A: Application> AppSide<A> {
     /// Serves an ask about the entry itself. One of another family doesn't come here.
     fn serve_entry(&mut self, entry: &Entered, ask: Ask) -> Served
         ensures { IsEntryServed result
-            (entry_course (machine_of self.old) (asking entry.now ask) ask) self.old self.new }
+            (entry_resolution (machine_of self.old) (asking entry.now ask) ask) self.old self.new }
     {
         match ask {
             Ask::Return { code, outs } => returned(&entry.stage, code, outs),
@@ -81,7 +81,7 @@ impl<A: Application> AppSide<A> {
         ask: Ask,
     ) -> Result<Served, NoMemory>
         ensures { CarriesOut T.keeper
-            (λ serving m. served serving m ask (course m instance (asking entry.now ask) ask))
+            (λ serving m. served serving m ask (resolution m instance (asking entry.now ask) ask))
             (reaching_in_family (family_of ask)
             (objects_in self.old.held (T.keeper.contents store.old))
             (state_of self.old.operations) instance ask)

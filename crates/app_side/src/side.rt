@@ -18,7 +18,7 @@ pub struct AppSide<A> {
     pub(crate) seed: [u8; 32],
     /// How often the power was lost.
     pub(crate) boot: u32,
-    pub(crate) table: Instances,
+    pub(crate) sessions: Instances,
     pub(crate) instances: Vec<Instance<A>>,
     pub(crate) queue: OpQueue,
     pub(crate) turns: u64,

@@ -1,7 +1,7 @@
 //! How an instance ends.
 
 ghost use Rattle.std.specs.Prelude.{◌≡◌, ◌≤◌, ◌+◌, [], map, filter, length, not};
-ghost use Rattle.tee_base.specs.declared.limits.TheConstants.{OPERATIONS, SESSIONS};
+ghost use Rattle.tee_base.specs.declared.limits.TheConstants.{MAX_OPERATIONS, MAX_SESSIONS};
 ghost use Rattle.alone.specs.Machine.{is_number};
 ghost use Rattle.alone.specs.Replies.{no_outputs};
 ghost use Rattle.alone.specs.Step.{belongs_to, instance_gone, reply_of, torn_down};
@@ -21,7 +21,7 @@ fn answer_all(
     origin: Origin,
     replies: &mut Replies,
 )
-    requires few { length operations.now ≤ OPERATIONS + SESSIONS }
+    requires few { length operations.now ≤ MAX_OPERATIONS + MAX_SESSIONS }
     requires none { replies.old ≡ [] }
     ensures { replies.new ≡ map (λ o. reply_of o.number code origin no_outputs)
         (filter (belongs_to instance) operations.now) }
@@ -52,7 +52,7 @@ impl<A: Application> AppSide<A> {
         ensures { machine_of self.new ≡ instance_gone (machine_of self.old) number }
     {
         self.queue.clear(number);
-        self.table.end(number);
+        self.sessions.end(number);
         self.held.close_instance(number);
         self.operations.end_instance(number);
         leave_out(&mut self.instances, number);

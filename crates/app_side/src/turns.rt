@@ -3,19 +3,19 @@
 ghost use Rattle.std.specs.Prelude.{◌≡◌, ℕ, ◌<◌, ◌^◌, ◌+◌, [], OnOk, OnErr, Some, find, length};
 ghost use Rattle.object_asks.specs.Asks.{changes_store};
 ghost use Rattle.object_asks.specs.Serving.{objects_in};
-ghost use Rattle.alone.specs.declared.running.Instance.{Instance};
-ghost use Rattle.alone.specs.declared.running.Waits.{Waits};
+ghost use Rattle.alone.specs.declared.active_entry.Instance.{Instance};
+ghost use Rattle.alone.specs.declared.active_entry.Waits.{Waits};
 ghost use Rattle.alone.specs.Asks.{mask_after};
 ghost use Rattle.operation_asks.specs.Kept.{state_of};
 ghost use Rattle.alone.specs.Machine.{is_number, with_instance};
-ghost use Rattle.alone.specs.Step.{begun, idle, of_instance, of_waits, thought, turned_as, turned_by, went_on};
+ghost use Rattle.alone.specs.Step.{with_next_begun, idle, of_instance, of_waits, after_app_step, turned_as, turned_by, went_on};
 ghost use Rattle.alone.specs.InList.{IsPlace};
 ghost use Rattle.app_side.specs.Represents.{machine_of, IsTornAlike};
 ghost use Rattle.app_side.specs.Serving.{AdvancesTurn, TakesTurn};
 ghost use Rattle.app_side.specs.Asking.{asked_turn, changing, comes, given_next, reaching};
 
 use crate::side::AppSide;
-use alone::{Replies, Running, Stage, Waits, first_entry, place_of};
+use alone::{ActiveEntry, EntryPoint, Replies, Waits, first_entry, place_of};
 use app_api::{Answer, Application, Ask, Given};
 use object_asks::{Outcome, Served, TurnKind};
 use store_api::AppStore;
@@ -25,7 +25,7 @@ use tee_base::{Code, NoMemory, Origin, limits};
 #[derive(Debug, Drop)]
 pub(crate) struct Entered {
     pub(crate) op: Option<u64>,
-    pub(crate) stage: Stage,
+    pub(crate) stage: EntryPoint,
     pub(crate) asks: u32,
     pub(crate) masked: bool,
 }
@@ -48,7 +48,7 @@ impl<A: Application> AppSide<A> {
         ensures { (inst : Instance A) → find (is_number number) self.old.instances.items ≡ Some inst
             → machine_of self.new ≡ idle (machine_of self.old) inst }
     {
-        if self.instances[place].created && self.table.is_left(number) {
+        if self.instances[place].created && self.sessions.is_left(number) {
             self.destroy(place, number, None, None);
         }
     }
@@ -58,7 +58,7 @@ impl<A: Application> AppSide<A> {
         requires { IsPlace number self.old.instances.items place }
         ensures ok { OnOk result ((inst : Instance A)
             → find (is_number number) self.old.instances.items ≡ Some inst
-            → machine_of self.new ≡ begun (machine_of self.old) inst) }
+            → machine_of self.new ≡ with_next_begun (machine_of self.old) inst) }
         ensures err { OnErr result (IsTornAlike number self.new (machine_of self.old)) }
     {
         self.queue.bounds();
@@ -88,7 +88,7 @@ impl<A: Application> AppSide<A> {
         ensures ok { OnOk result ((inst : Instance A)
             → find (is_number number) self.old.instances.items ≡ Some inst → (waits : Waits)
             → machine_of self.new
-            ≡ thought A.behaviour (machine_of self.old) inst
+            ≡ after_app_step A.behaviour (machine_of self.old) inst
             (record {
               op = entry.op;
               stage = entry.stage;
@@ -102,7 +102,7 @@ impl<A: Application> AppSide<A> {
         let alloc = self.alloc;
         let current = &mut self.instances[place];
         let ask = current.state.step(alloc, given)?;
-        current.running = Some(Running {
+        current.running = Some(ActiveEntry {
             op: entry.op,
             stage: entry.stage,
             waits: Waits::Ask(ask),
@@ -127,7 +127,7 @@ impl<A: Application> AppSide<A> {
             → machine_of self.new ≡ with_instance (machine_of self.old)
             (record inst { running = Some (given_next entry masked answer) }) }
     {
-        self.instances[place].running = Some(Running {
+        self.instances[place].running = Some(ActiveEntry {
             op: entry.op,
             stage: entry.stage,
             waits: Waits::Given(Given::Answer(answer)),
@@ -153,7 +153,7 @@ impl<A: Application> AppSide<A> {
             (comes self.old number (T.keeper.contents store.old) entry ask)
             (changes_store ask) number result self.old self.new replies.new store.old store.new }
     {
-        if entry.asks >= limits::ASKS {
+        if entry.asks >= limits::MAX_ASKS {
             self.tear_down(number, Code::TARGET_DEAD, Origin::Tee, replies);
             return Ok(TurnKind::Plain);
         }
@@ -175,7 +175,7 @@ impl<A: Application> AppSide<A> {
         store: &mut T,
         place: usize,
         number: u8,
-        running: Running,
+        running: ActiveEntry,
         replies: &mut Replies,
     ) -> Result<TurnKind, NoMemory>
         requires place { IsPlace number self.old.instances.items place }
@@ -190,7 +190,7 @@ impl<A: Application> AppSide<A> {
             (of_waits changing running running.waits)
             number result self.old self.new replies.new store.old store.new }
     {
-        let Running {
+        let ActiveEntry {
             op,
             stage,
             waits,

@@ -8,7 +8,7 @@ ghost use Rattle.app_side.specs.Represents.{Represents};
 ghost use Rattle.app_side.specs.Storeless.{wants_store};
 
 use crate::side::AppSide;
-use alone::{Running, Waits, place_of};
+use alone::{ActiveEntry, Waits, place_of};
 use app_api::{Application, Ask};
 
 /// Whether the ask may need the store.
@@ -35,12 +35,12 @@ fn may_need_store(ask: &Ask) -> bool
 }
 
 /// Whether the entry waits with an ask that may need the store.
-fn waits_for_store(running: &Option<Running>) -> bool
+fn waits_for_store(running: &Option<ActiveEntry>) -> bool
     ensures { result ≡ of_running (λ r ask. may_need_store ask) running.now }
 {
     match running {
         Some(
-            Running {
+            ActiveEntry {
                 waits: Waits::Ask(ask),
                 ..
             },

@@ -24,11 +24,14 @@ starts v P now = record {
 }
 
 -- one call more
-pub goes_on : (first old new : View) (P : Outcome → Type 0) → LeavesOnly moment left_since first old P → Passes old new → ((c : Outcome) → IsLeft new.state c → P c) → LeavesOnly moment left_since first new P
+pub goes_on : (first old new : View) (P : Outcome → Type 0) → LeavesOnly moment left_since first old P → Passes old new → ((c : Outcome) → IsLeft new.state c → P c) →
+    LeavesOnly moment left_since first new P
 goes_on first old new P run time now =
     let count : moment new ≡ moment old + 1 = ap length time.past ∙ omega arith in
     let back : (t : ℕ) (c : Outcome) → left_since new t c → left_since old t c ⊎ P c =
-    λ t c left. ⊎_elim (λ (l : IsLeft new.state c). inr (now c l)) (λ (w : WasLeft new.past t c). inl (⊎_elim (λ (h : (t ≤ length old.past) × IsLeft old.state c). inl h.1) (λ (w' : WasLeft old.past t c). inr w') (subst (λ (past : List Moment). WasLeft past t c) time.past w))) left in
+    λ t c left. ⊎_elim (λ (l : IsLeft new.state c). inr (now c l)) (λ (w : WasLeft new.past t c). inl
+    (⊎_elim (λ (h : (t ≤ length old.past) × IsLeft old.state c). inl h.1) (λ (w' : WasLeft old.past t c). inr w')
+    (subst (λ (past : List Moment). WasLeft past t c) time.past w))) left in
     record {
       later = omega (arith, run.later, count);
       each = λ c left. ⊎_elim (run.each c) (λ (p : P c). p) (back (moment first) c left);
@@ -105,7 +108,8 @@ module _ (open_at : ℕ → Bool) (base : ℕ → List ℕ) (low high : ℕ) whe
         let told = counted.counter in same_blocks counted.blocks (omega (arith, is.least, told.0)) (omega (arith, is.greatest, told.0, told.1))
 
 -- within and after an advance the counter may be one greater
-pub base-advanced : (open_at : ℕ → Bool) (base : ℕ → List ℕ) (low high : ℕ) (old new : Moment) (result : Result ℕ BoardFailed) → IsBase open_at base low high old → Advanced result old new → IsBase open_at base low (high + 1) new
+pub base-advanced : (open_at : ℕ → Bool) (base : ℕ → List ℕ) (low high : ℕ) (old new : Moment) (result : Result ℕ BoardFailed) → IsBase open_at base low high old →
+    Advanced result old new → IsBase open_at base low (high + 1) new
 base-advanced open_at base low high old new (Ok n) is advanced =
     let raised = advanced.counter in
     record {
@@ -126,7 +130,8 @@ base-advanced open_at base low high old new (Err e) is advanced =
     }
 
 -- more open blocks, and more room for the counter
-pub base-wider : (open_at open_at' : ℕ → Bool) (base : ℕ → List ℕ) (low high high' : ℕ) (m : Moment) → ((k : ℕ) → open_at' k ≡ false → open_at k ≡ false) → high ≤ high' → IsBase open_at base low high m → IsBase open_at' base low high' m
+pub base-wider : (open_at open_at' : ℕ → Bool) (base : ℕ → List ℕ) (low high high' : ℕ) (m : Moment) → ((k : ℕ) → open_at' k ≡ false → open_at k ≡ false) → high ≤ high' →
+    IsBase open_at base low high m → IsBase open_at' base low high' m
 base-wider open_at open_at' base low high high' m more room is = record {
   reads = λ k shut. is.reads k (more k shut);
   durable = λ k shut. is.durable k (more k shut);

@@ -1,5 +1,6 @@
 -- What the loops over the blocks keep.
-use Rattle.std.proofs.Common.{◌≡◌, ◌≢◌, ◌<◌, ◌≤◌, ◌+◌, ◌/◌, ◌%◌, ◌^◌, ℕ, Bool, true, false, cond, List, [], ◌∷◌, zero, suc, length, get_or, Vec, vec_len, sym, ap, ◌∙◌, refl, add-one, add-zero, arith, below_more}
+use Rattle.std.proofs.Common.{◌≡◌, ◌≢◌, ◌<◌, ◌≤◌, ◌+◌, ◌/◌, ◌%◌, ◌^◌, ℕ, Bool, true, false, cond, List, [], ◌∷◌, zero, suc, length}
+use Rattle.std.proofs.Common.{get_or, Vec, vec_len, sym, ap, ◌∙◌, refl, add-one, add-zero, arith, below_more}
 use Rattle.std.proofs.Math.Nat.{div-one, div-div-eq-div-mul, pow-suc}
 use Rattle.std.specs.declared.alloc.Global.{Global}
 use Rattle.boards.specs.Disk.{IsWhole, Puts, durable_of, pending_of, offered_of}
@@ -115,7 +116,8 @@ module _ (at digits left : ℕ) (old mid : Disk) (below : LandedBelow at digits 
         size = puts.size ∙ below.size;
         rest = rest_taken digits left at (pending_of old) was below.rest;
         done = below_more _ _ (λ k h. puts.pending k (others k h) ∙ below.done k h) puts.settled;
-        image = below_more _ _ (λ k h. puts.elsewhere k (others k h) ∙ below.image k h) (puts.here ∙ taken ∙ sym (ap (λ b. cond b (landed (digit_at digits (pending_of old) at) (durable_of old at) (offered_of old at)) (durable_of old at)) was));
+        image = below_more _ _ (λ k h. puts.elsewhere k (others k h) ∙ below.image k h) (puts.here ∙ taken
+            ∙ sym (ap (λ b. cond b (landed (digit_at digits (pending_of old) at) (durable_of old at) (offered_of old at)) (durable_of old at)) was));
         blocks = below_more _ _ (λ k h p. ap length (puts.elsewhere k (others k h)) ∙ below.blocks k h p) (λ p. puts.block);
         pending = λ k h. puts.pending k (others' k h) ∙ below.pending k (omega arith);
         durable = λ k h. puts.elsewhere k (others' k h) ∙ below.durable k (omega arith);

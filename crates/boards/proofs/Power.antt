@@ -24,7 +24,8 @@ landed_counter-greatest false pick n = omega arith
 abbrev pub settled_disk : Disk → ℕ → Disk
 settled_disk old pick = record old { counter = landed_counter old.unsettled pick old.counter; unsettled = false }
 
-module _ (pick digits : ℕ) (old mid new : Disk) (settled : mid ≡ settled_disk old pick) (number : digits ≡ digits_of old.unsettled pick) (whole : IsWhole new) (image : (k : ℕ) → durable_of new k ≡ landed_image digits (pending_of mid) (durable_of mid) (offered_of mid) k) (pending : (k : ℕ) → pending_of new k ≡ false) where
+module _ (pick digits : ℕ) (old mid new : Disk) (settled : mid ≡ settled_disk old pick) (number : digits ≡ digits_of old.unsettled pick) (whole : IsWhole new)
+    (image : (k : ℕ) → durable_of new k ≡ landed_image digits (pending_of mid) (durable_of mid) (offered_of mid) k) (pending : (k : ℕ) → pending_of new k ≡ false) where
   picked : (k : ℕ) → durable_of new k ≡ landed_image (digits_of old.unsettled pick) (pending_of old) (durable_of old) (offered_of old) k
   picked k =
       image k
@@ -34,14 +35,16 @@ module _ (pick digits : ℕ) (old mid new : Disk) (settled : mid ≡ settled_dis
   pub power_image : (k : ℕ) → reads_of new k ≡ landed_image (digits_of old.unsettled pick) (pending_of old) (durable_of old) (offered_of old) k
   power_image k = whole.as_read k (pending k) ∙ picked k
 
-  pub powered : ((k : ℕ) → pending_of mid k ≡ true → length (durable_of new k) ≡ 1024) → new.counter ≡ mid.counter → new.unsettled ≡ mid.unsettled → new.faults ≡ mid.faults → new.orders ≡ mid.orders → Powered (state_of old) (state_of new)
+  pub powered : ((k : ℕ) → pending_of mid k ≡ true → length (durable_of new k) ≡ 1024) → new.counter ≡ mid.counter → new.unsettled ≡ mid.unsettled → new.faults ≡ mid.faults →
+      new.orders ≡ mid.orders → Powered (state_of old) (state_of new)
   powered blocks counter unsettled faults orders =
       let n : new.counter ≡ landed_counter old.unsettled pick old.counter = counter ∙ ap (λ (d : Disk). d.counter) settled in
       let none : new.unsettled ≡ false = unsettled ∙ ap (λ (d : Disk). d.unsettled) settled in
       record {
         left = record { image = durable_of new; counter = new.counter; faults = new.faults; orders = new.orders };
         may = record {
-          kept = λ k p. image k ∙ ap (λ (d : Disk). landed_image digits (pending_of d) (durable_of d) (offered_of d) k) settled ∙ ap (λ b. cond b (landed (digit_at digits (pending_of old) k) (durable_of old k) (offered_of old k)) (durable_of old k)) p;
+          kept = λ k p. image k ∙ ap (λ (d : Disk). landed_image digits (pending_of d) (durable_of d) (offered_of d) k) settled
+              ∙ ap (λ b. cond b (landed (digit_at digits (pending_of old) k) (durable_of old k) (offered_of old k)) (durable_of old k)) p;
           any = λ k p. blocks k (ap (λ (d : Disk). pending_of d k) settled ∙ p);
           counter = record {
             least = rw n (landed_counter-least old.unsettled pick old.counter);

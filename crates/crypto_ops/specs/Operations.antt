@@ -1,8 +1,10 @@
 -- Cryptographic operations: what each is, and what each call answers and leaves (TEE Internal Core API 1.3, sections 6.2 to 6.6).
-use Rattle.std.specs.Prelude.{ℕ, ◌+◌, ◌*◌, ◌==◌, ◌&&◌, ◌||◌, ◌≡◌, ◌≤◌, ◌<◌, not, nat_lt, Bool, true, false, List, [], ◌++◌, length, drop, replicate, bit_and, Option, None, Some, is_none, Result, Ok, Err, is_ok, IsTrue, if◌then◌else◌}
-use Rattle.tee_base.specs.declared.limits.TheConstants.{ASK_BYTES}
+use Rattle.std.specs.Prelude.{ℕ, ◌+◌, ◌==◌, ◌&&◌, ◌||◌, ◌≡◌, ◌≤◌, ◌<◌, not, nat_lt, Bool, true, false, List, [], ◌++◌, length, drop}
+use Rattle.std.specs.Prelude.{replicate, bit_and, Option, None, Some, is_none, Result, Ok, Err, is_ok, IsTrue, if◌then◌else◌}
+use Rattle.tee_base.specs.declared.limits.TheConstants.{MAX_ASK_BYTES}
 use Rattle.std.specs.Str.{bytes_eq}
 use Rattle.tee_base.specs.KeySizes.{size_fits}
+use Rattle.secret.specs.Bits.{bits_of}
 use Rattle.aes_modes.specs.declared.modes.Mode as modes
 use Rattle.aes_modes.specs.declared.modes.Mode.TheVariants.{Ecb, Cbc, Ctr}
 use Rattle.aes_modes.specs.Conversion.{Conversion, text_of, extended, needed_of, ends_within}
@@ -46,17 +48,13 @@ abbrev pub key_bytes : Option (List ℕ) → List ℕ
 key_bytes None = []
 key_bytes (Some key) = key
 
--- how many bits these bytes have
-abbrev pub bits_of : List ℕ → ℕ
-bits_of bytes = 8 * length bytes
-
 -- the size of the key in bits, 0 without one
 abbrev pub key_bits : Option (List ℕ) → ℕ
 key_bits key = bits_of (key_bytes key)
 
 -- more bytes than a call may bring, or more room than it may offer
 abbrev pub is_too_much : ℕ → Bool
-is_too_much count = nat_lt ASK_BYTES count
+is_too_much count = nat_lt MAX_ASK_BYTES count
 
 -- no key, where the algorithm wants one
 abbrev pub lacks_key : CryptoOperation → Bool

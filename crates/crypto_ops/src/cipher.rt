@@ -1,7 +1,7 @@
 //! Ciphers: AES in ECB, CBC and CTR (TEE Internal Core API 1.3, section 6.4).
 
 ghost use Rattle.std.specs.Prelude.{◌≡◌, ◌+◌, ◌≤◌, ◌++◌, length, IfOk, IfErr, OnOk, OnErr, if◌then◌else◌};
-ghost use Rattle.tee_base.specs.declared.limits.TheConstants.{ASK_BYTES};
+ghost use Rattle.tee_base.specs.declared.limits.TheConstants.{MAX_ASK_BYTES};
 ghost use Rattle.aes_modes.specs.Conversion.{Conversion, text_of, extended, needed_of, ends_within};
 ghost use Rattle.aes_modes.specs.Stream as streams;
 ghost use Rattle.crypto_ops.specs.Operations.{CryptoOperation, is_vector, first_vector, part_of, content_within, cipher_init_answer, cipher_begun, text_so_far, continued, cipher_update_answer, cipher_final_answer, restarted, after_ok, Answers, IsNoMemoryOrShort};
@@ -32,17 +32,17 @@ fn first_vector(mode: Mode, iv: &[u8]) -> Option<[u8; 16]>
 
 /// How many bytes the stream gives for so many more of its message.
 fn needed_for(stream: &Stream, count: usize) -> usize
-    requires { count ≤ ASK_BYTES }
-    ensures small { result ≤ ASK_BYTES }
+    requires { count ≤ MAX_ASK_BYTES }
+    ensures small { result ≤ MAX_ASK_BYTES }
     ensures needed { (c : Conversion) → streams.Represents stream.now c
         → result ≡ needed_of c count }
 {
-    stream.needed(count).min(limits::ASK_BYTES as usize)
+    stream.needed(count).min(limits::MAX_ASK_BYTES as usize)
 }
 
 /// Whether the stream's message would end within a block that its mode needs whole.
 fn is_incomplete(stream: &Stream, bytes: &[u8]) -> bool
-    requires { length bytes.now ≤ ASK_BYTES }
+    requires { length bytes.now ≤ MAX_ASK_BYTES }
     ensures { (c : Conversion) → streams.Represents stream.now c
         → result ≡ ends_within c.mode (length c.message + length bytes.now) }
 {
@@ -52,7 +52,7 @@ fn is_incomplete(stream: &Stream, bytes: &[u8]) -> bool
 
 /// Memory for so many bytes, where there is room for them.
 fn memory_for(alloc: Global, needed: usize, room: u32) -> Result<Vec<u8>, OpAnswer>
-    requires { needed ≤ ASK_BYTES }
+    requires { needed ≤ MAX_ASK_BYTES }
     ensures ok { IfOk result (λ memory. (length memory.items ≡ needed) × (needed ≤ room)) }
     ensures err { IfErr result (λ answer. IsNoMemoryOrShort room needed answer) }
 {
@@ -67,7 +67,7 @@ fn memory_for(alloc: Global, needed: usize, room: u32) -> Result<Vec<u8>, OpAnsw
 
 /// Takes more bytes of the stream's message, and gives the next part of its text.
 fn converted(alloc: Global, stream: &mut Stream, bytes: &[u8], room: u32) -> Result<Bytes, OpAnswer>
-    requires { length bytes.now ≤ ASK_BYTES }
+    requires { length bytes.now ≤ MAX_ASK_BYTES }
     ensures answer { (c : Conversion) → streams.Represents stream.old c
         → Answers result
         (content_within room (needed_of c (length bytes.now)) (part_of c bytes.now)) }

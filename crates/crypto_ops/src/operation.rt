@@ -2,17 +2,19 @@
 
 ghost use Rattle.std.specs.Prelude.{◌≡◌, ◌≤◌, length};
 ghost use Rattle.std.specs.Bool.{OnTrue};
-ghost use Rattle.tee_base.specs.declared.limits.TheConstants.{SECRET_BYTES};
-ghost use Rattle.crypto_ops.specs.Operations.{CryptoOperation, allocated, about_of, key_bits, lacks_key, reset_answer, restarted, set_key_answer, keyed, clear_key_answer, unkeyed, may_change_key, is_same_algorithm, copy_answer, copied, after_ok, is_too_much, is_active, bits_of};
+ghost use Rattle.tee_base.specs.declared.limits.TheConstants.{MAX_SECRET_BYTES};
+ghost use Rattle.crypto_ops.specs.Operations.{CryptoOperation, allocated, about_of, key_bits, lacks_key, reset_answer, restarted, set_key_answer, keyed, clear_key_answer, unkeyed, may_change_key, is_same_algorithm, copy_answer, copied, after_ok, is_too_much, is_active};
+ghost use Rattle.secret.specs.Bits.{bits_of};
 ghost use Rattle.crypto_ops.specs.Represents.{Represents, IsAllocated};
 ghost use Rattle.crypto_ops.specs.Algorithms as table;
 
 use crate::about::OpAbout;
 use crate::algorithm::{Algorithm, algorithm_at};
 use crate::answer::OpAnswer;
-use crate::keys::{Secret, secret_fits, size_fits};
+use crate::keys::secret_fits;
 use aes_modes::Stream;
 use mac_digest::{Digester, Mac};
+use secret::{Secret, size_fits};
 use tee_base::limits;
 
 /// A cryptographic operation (TEE Internal Core API 1.3, section 6.2): what it computes, its key and its state.
@@ -51,7 +53,7 @@ impl State {
 pub(crate) fn is_too_much(count: usize) -> bool
     ensures { result ≡ is_too_much count }
 {
-    count > limits::ASK_BYTES as usize
+    count > limits::MAX_ASK_BYTES as usize
 }
 
 impl Operation {
@@ -217,7 +219,7 @@ fn greatest_fits(algorithm: Algorithm, max_bits: u32) -> bool
 /// Whether a key of this kind and secret serves the algorithm.
 fn key_fits(algorithm: Algorithm, kind: u32, secret: &[u8]) -> bool
     ensures table { result ≡ table.key_fits (table.key_kind algorithm) kind (bits_of secret.now) }
-    ensures small { OnTrue result (length secret.now ≤ SECRET_BYTES) }
+    ensures small { OnTrue result (length secret.now ≤ MAX_SECRET_BYTES) }
 {
     match algorithm.key_kind() {
         Some(own) => kind == own && secret_fits(own, secret),

@@ -1,9 +1,10 @@
 -- What an image holds within a commit, over the form of the leaves.
-use Rattle.std.proofs.Common.{◌≡◌, ◌≢◌, ◌≤◌, ◌<◌, ◌+◌, ◌^◌, ◌%◌, ◌==◌, ◌&&◌, ◌∙◌, if◌then◌else◌, ℕ, zero, suc, Bool, true, false, List, [], Option, Some, None, Result, Ok, Err, OnErr, nat_lt, is_none, replicate, refl, sym, ap, subst, inl, inr, ⊎_elim, arith}
+use Rattle.std.proofs.Common.{◌≡◌, ◌≢◌, ◌≤◌, ◌<◌, ◌+◌, ◌^◌, ◌%◌, ◌==◌, ◌&&◌, ◌∙◌, if◌then◌else◌, ℕ, zero, suc, Bool, true, false, List, [], Option, Some}
+use Rattle.std.proofs.Common.{None, Result, Ok, Err, OnErr, nat_lt, is_none, replicate, refl, sym, ap, subst, inl, inr, ⊎_elim, arith}
 use Rattle.std.proofs.lemmas.Bool.{cases_lt, false≢true}
 use Rattle.std.proofs.lemmas.Bool.Decides.{nat_tests}
 use Rattle.tee_base.specs.Crash.{LeavesOnly}
-use Rattle.tee_base.specs.declared.limits.TheConstants.{BLOCK_BYTES, HOSTS, LEAVES}
+use Rattle.tee_base.specs.declared.limits.TheConstants.{BLOCK_BYTES, MAX_HOSTS, LEAVES}
 use Rattle.tee_base.proofs.Crash.{joined, weaker}
 use Rattle.store_api.specs.Volumes.{Held}
 use Rattle.board.specs.Moment.{Outcome, Moment, View, IsLeft, moment, left_since}
@@ -59,11 +60,11 @@ all_below_all (suc n) p each =
     rw (rest, last) refl
 
 -- a leaf's numbers are within their ranges
-pub region_below : (r l : ℕ) → is_leaf r l ≡ true → r < HOSTS
-region_below r l e = let t : nat_lt r HOSTS ≡ true = first_true (nat_lt r HOSTS) (nat_lt l LEAVES) e in grind (arith, nat_tests)
+pub region_below : (r l : ℕ) → is_leaf r l ≡ true → r < MAX_HOSTS
+region_below r l e = let t : nat_lt r MAX_HOSTS ≡ true = first_true (nat_lt r MAX_HOSTS) (nat_lt l LEAVES) e in grind (arith, nat_tests)
 
 pub leaf_below : (r l : ℕ) → is_leaf r l ≡ true → l < LEAVES
-leaf_below r l e = let t : nat_lt l LEAVES ≡ true = second_true (nat_lt r HOSTS) (nat_lt l LEAVES) e in grind (arith, nat_tests)
+leaf_below r l e = let t : nat_lt l LEAVES ≡ true = second_true (nat_lt r MAX_HOSTS) (nat_lt l LEAVES) e in grind (arith, nat_tests)
 
 -- leaves with a sequence, part by part
 some_held : (leaves : ℕ → ℕ → List ℕ) (n : ℕ) (h : Held) → leaves ≡ h.leaves → n ≡ h.sequence → Some (record { leaves = leaves; sequence = n }) ≡ Some h
@@ -113,7 +114,7 @@ module _ (f : Form) (framed : IsFramed f) (key : List ℕ) where
   pub sealed_same : (root : TreeEntry) (base image : ℕ → List ℕ) → SameUsed f key root base image → is_sealed f key image root ≡ is_sealed f key base root
   unfolding is_sealed
   sealed_same root base image same =
-      all_below_same HOSTS _ _ (λ r hr. all_below_same LEAVES _ _ (λ l hl. ap is_none (framed.same_damage key root base image r l same hr hl)))
+      all_below_same MAX_HOSTS _ _ (λ r hr. all_below_same LEAVES _ _ (λ l hl. ap is_none (framed.same_damage key root base image r l same hr hl)))
 
   leaf_same : (root : TreeEntry) (base image : ℕ → List ℕ) → SameUsed f key root base image → (r l : ℕ) → leaves_of f key image root r l ≡ leaves_of f key base root r l
   unfolding leaves_of
@@ -141,7 +142,7 @@ module _ (f : Form) (framed : IsFramed f) (key : List ℕ) where
   pub zero_sealed : (root : TreeEntry) (image : ℕ → List ℕ) → root.sequence ≡ 0 → is_sealed f key image root ≡ true
   unfolding is_sealed
   zero_sealed root image none =
-      all_below_all HOSTS _ (λ r hr. all_below_all LEAVES _ (λ l hl. ap is_none (framed.no_damage key root image r l none hr hl)))
+      all_below_all MAX_HOSTS _ (λ r hr. all_below_all LEAVES _ (λ l hl. ap is_none (framed.no_damage key root image r l none hr hl)))
 
   -- an image that opens so, and has the blocks of the root, holds this
   pub holds_by : (o : Result (Option Found) OpenAnswer) (root : TreeEntry) (h : Held) (base image : ℕ → List ℕ) → OpensTo h.sequence root o
@@ -487,11 +488,11 @@ none_is (Some a) e = absurd (let f : false ≡ true = e in cc)
 
 -- each leaf under a root that seals it has no damage
 pub sealed_each : (f : Form) (key : List ℕ) (root : TreeEntry) (image : ℕ → List ℕ) → is_sealed f key image root ≡ true
-    → (r l : ℕ) → r < HOSTS → l < LEAVES → f.damage key image root r l ≡ None
+    → (r l : ℕ) → r < MAX_HOSTS → l < LEAVES → f.damage key image root r l ≡ None
 unfolding is_sealed
 sealed_each f key root image sealed r l hr hl =
     none_is (f.damage key image root r l)
-    (all_below_each LEAVES (λ l. is_none (f.damage key image root r l)) (all_below_each HOSTS (λ r. all_below LEAVES (λ l. is_none (f.damage key image root r l))) sealed r hr) l hl)
+    (all_below_each LEAVES (λ l. is_none (f.damage key image root r l)) (all_below_each MAX_HOSTS (λ r. all_below LEAVES (λ l. is_none (f.damage key image root r l))) sealed r hr) l hl)
 
 -- a fact that holds whatever is answered
 pub on_err : {A E : Type 0} (r : Result A E) (P : Type 0) → P → OnErr r P

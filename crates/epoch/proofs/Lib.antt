@@ -1,4 +1,5 @@
 pub mod CommitLemmas
+pub mod CommitStages
 pub mod FindLemmas
 pub mod HeaderLemmas
 pub mod MountLemmas

@@ -1,5 +1,6 @@
 -- What a board holds that is opened, over the form of the leaves.
-use Rattle.std.proofs.Common.{◌≡◌, ◌≢◌, ◌≤◌, ◌<◌, ◌+◌, ◌^◌, ◌%◌, ◌==◌, ◌&&◌, ◌∙◌, if◌then◌else◌, ℕ, Bool, true, false, List, [], ◌∷◌, length, Option, Some, None, Result, Ok, Err, IfOk, IfErr, nat_lt, refl, sym, ap, subst, inl, inr, ⊎_elim, arith}
+use Rattle.std.proofs.Common.{◌≡◌, ◌≢◌, ◌≤◌, ◌<◌, ◌+◌, ◌^◌, ◌%◌, ◌==◌, ◌&&◌, ◌∙◌, if◌then◌else◌, ℕ, Bool, true, false, List, [], ◌∷◌, length, Option}
+use Rattle.std.proofs.Common.{Some, None, Result, Ok, Err, IfOk, IfErr, IfSome, nat_lt, refl, sym, ap, subst, inl, inr, ⊎_elim, arith}
 use Rattle.std.proofs.lemmas.Bool.{cases_lt}
 use Rattle.std.proofs.lemmas.Bool.Decides.{nat_tests}
 use Rattle.tee_base.specs.Crash.{LeavesOnly, read_as}
@@ -13,9 +14,9 @@ use Rattle.board.proofs.Runs.{goes_on, run_starts, starts}
 use Rattle.epoch.specs.Commits.{IsMounted, OpensTo}
 use Rattle.epoch.specs.Finding.{Finds, IsSettledAt, OpensBelow, sequence_of}
 use Rattle.epoch.specs.Forms.{Form, IsFramed, blank_leaves, held, held_by, held_of, is_sealed, leaves_of}
-use Rattle.epoch.specs.Mounting.{AreInUse, IsHolding, MightBe, Mounts, MountsAfterPower, MountsAgain, MountsTo, after_found}
-use Rattle.epoch.specs.Mounts.{IsInUse, IsRefusal, after_opening, opened_by}
-use Rattle.epoch.specs.Opening.{answer_at, header_answer, opening_by, opening_of, opens_as}
+use Rattle.epoch.specs.Mounting.{AreSound, IsHolding, MightBe, Mounts, MountsAfterPower, MountsAgain, MountsTo, after_found}
+use Rattle.epoch.specs.Mounts.{IsAdmitted, IsLeftSound, IsRefusal, IsRuledBy, after_opening, opened_by}
+use Rattle.epoch.specs.Opening.{IsRuled, answer_at, header_answer, opening_by, opening_of, opens_as}
 use Rattle.epoch.specs.Past.{KeepsPast}
 use Rattle.epoch.specs.Slots.{slot_of}
 use Rattle.epoch.specs.declared.answer.OpenAnswer.{OpenAnswer}
@@ -95,20 +96,24 @@ pub held_opening : (f : Form) (key : List ℕ) (image : ℕ → List ℕ) (n m :
 unfolding held
 held_opening f key image n m e = ap (held_by f key image) e
 
--- a volume in use isn't blank: a header counts
-in_use_by : (f : Form) (key : List ℕ) (image : ℕ → List ℕ) (h : Held) (o : Result (Option Found) OpenAnswer) → HeldAs f key image h o → 0 < h.sequence → (found : Found) × (o ≡ Ok (Some found))
-in_use_by f key image h (Ok None) is used = absurd (let zero = is.1 in omega arith)
-in_use_by f key image h (Ok (Some found)) is used = (found, refl)
-in_use_by f key image h (Err answer) is used = absurd is
+-- one image opens alike at two counters at which it is sound: to one header, or as a blank board, where both are 0
+opens_alike : (f : Form) (key : List ℕ) (image : ℕ → List ℕ) (n m : ℕ) (a b : Held) (x y : Result (Option Found) OpenAnswer)
+    → opening_of f.version key image n ≡ x → opening_of f.version key image m ≡ y → HeldAs f key image a x → HeldAs f key image b y
+    → opening_of f.version key image m ≡ opening_of f.version key image n
+opens_alike f key image n m a b (Ok None) (Ok None) one two is is' = two ∙ sym one
+opens_alike f key image n m a b (Ok None) (Ok (Some found)) one two is is' = absurd (never_found f.version key image n m found one two)
+opens_alike f key image n m a b (Ok (Some found)) (Ok None) one two is is' = absurd (never_found f.version key image m n found two one)
+opens_alike f key image n m a b (Ok (Some found)) (Ok (Some other)) one two is is' =
+    let same : other ≡ found = same_found f.version key image n m found other one two in
+    two ∙ ap (λ (w : Found). let r : Result (Option Found) OpenAnswer = Ok (Some w) in r) same ∙ sym one
+opens_alike f key image n m a b (Ok found) (Err answer) one two is is' = absurd is'
+opens_alike f key image n m a b (Err answer) y one two is is' = absurd is
 
--- what a board in use holds is the same at each counter
-pub one_held : (f : Form) (key : List ℕ) (image : ℕ → List ℕ) (n m : ℕ) (a b : Held) → held f key image n ≡ Some a → 0 < a.sequence → held f key image m ≡ Some b → 0 < b.sequence
-    → held f key image m ≡ held f key image n
-one_held f key image n m a b one used two used' =
-    let x = in_use_by f key image a (opening_of f.version key image n) (holds_as f key image n a one) used in
-    let y = in_use_by f key image b (opening_of f.version key image m) (holds_as f key image m b two) used' in
-    let same : y.0 ≡ x.0 = same_found f.version key image n m x.0 y.0 x.1 y.1 in
-    held_opening f key image m n (y.1 ∙ ap (λ (w : Found). let r : Result (Option Found) OpenAnswer = Ok (Some w) in r) same ∙ sym x.1)
+-- what a sound board holds is the same at each counter
+pub one_held : (f : Form) (key : List ℕ) (image : ℕ → List ℕ) (n m : ℕ) (a b : Held) → held f key image n ≡ Some a → held f key image m ≡ Some b → held f key image m ≡ held f key image n
+one_held f key image n m a b one two =
+    held_opening f key image m n
+    (opens_alike f key image n m a b (opening_of f.version key image n) (opening_of f.version key image m) refl refl (holds_as f key image n a one) (holds_as f key image m b two))
 
 -- what a crash left has a counter that fits
 was_fits : (past : List Moment) (t : ℕ) (c : Outcome) → WasLeft past t c → c.counter < 2 ^ 64
@@ -190,7 +195,8 @@ module _ (f : Form) (h : Held) (old new : View) (holding : IsHolding f old.key h
   leaves_by (Ok (Some found)) e is =
       let two = opens_at_two f.version old.key old.state.reads old.state.counter found e in
       let bounds : (high : ℕ) → found.header.sequence ≤ high → BoundsBy f old.key old.state high
-      = λ high le other opens. (let same : other.header.sequence ≡ found.header.sequence = ap (λ (w : Found). w.header.sequence) (same_found f.version old.key old.state.reads old.state.counter old.state.counter found other e opens) in omega (arith, same, le)) in
+      = λ high le other opens. (let same : other.header.sequence ≡ found.header.sequence = ap (λ (w : Found). w.header.sequence)
+      (same_found f.version old.key old.state.reads old.state.counter old.state.counter found other e opens) in omega (arith, same, le)) in
       ⊎_elim
       (λ (under : found.header.sequence < old.state.counter + old.state.slack).
       leaves_high (old.state.counter + old.state.slack) (omega arith) (bounds (old.state.counter + old.state.slack) (omega (arith, under))) within)
@@ -305,7 +311,8 @@ module _ (f : Form) (framed : IsFramed f) (version : ℕ) (same : f.version ≡ 
       let answers : Ok found ≡ header_answer (opening_of f.version old.key old.state.reads finds.counter) = finds.ruled (λ w. cc) ∙ ap header_answer (opens_large finds.counter) in
       let is = holds_as f old.key old.state.reads finds.counter h (holding.each finds.counter finds.among) in (
         (
-          mounts_by f framed old.key h old.state new.state holding.as_read holding.pending blocks finds.counter (opening_of f.version old.key old.state.reads finds.counter) refl is found answers settled,
+          mounts_by f framed old.key h old.state new.state holding.as_read holding.pending blocks finds.counter (opening_of f.version old.key old.state.reads finds.counter) refl is
+              found answers settled,
           after_by finds.counter finds.among (opening_of f.version old.key old.state.reads finds.counter) refl is found answers,
         ),
         tt,
@@ -345,10 +352,10 @@ left_as_read v is n among = record {
   orders = refl;
 }
 
--- what is in use is something
-in_use_now : (o : Option Held) → IsInUse o → (h : Held) × (o ≡ Some h) × (0 < h.sequence)
-in_use_now (Some h) used = (h, refl, used)
-in_use_now None used = absurd used
+-- what is sound holds something
+sound_now : (o : Option Held) → IsLeftSound o → (h : Held) × (o ≡ Some h)
+sound_now (Some h) sound = (h, refl)
+sound_now None sound = absurd sound
 
 module _ (f : Form) (old : View) (is : IsConsistent old) where
   counter_now : IsCounter old.state old.state.counter
@@ -388,17 +395,17 @@ module _ (f : Form) (old : View) (is : IsConsistent old) where
   after_sync ok mid answered synced =
       goes_on old old mid (MightBe f old.key old.state) (starts old (MightBe f old.key old.state) (λ c left. (c, left, refl))) answered.time (synced_left ok mid synced)
 
-  module _ (used : AreInUse f old) where
+  module _ (sound : AreSound f old) where
     -- what reads give now
-    unfoldable now_held : (h : Held) × (held f old.key old.state.reads old.state.counter ≡ Some h) × (0 < h.sequence)
+    unfoldable now_held : (h : Held) × (held f old.key old.state.reads old.state.counter ≡ Some h)
     unfolding outcome_as_read
-    now_held = in_use_now (held f old.key old.state.reads old.state.counter) (used (outcome_as_read old.state old.state.counter) (left_as_read old is old.state.counter counter_now))
+    now_held = sound_now (held f old.key old.state.reads old.state.counter) (sound (outcome_as_read old.state old.state.counter) (left_as_read old is old.state.counter counter_now))
 
     each_held : (n : ℕ) → IsCounter old.state n → held f old.key old.state.reads n ≡ Some now_held.0
     unfolding outcome_as_read
     each_held n among =
-        let x = in_use_now (held f old.key old.state.reads n) (used (outcome_as_read old.state n) (left_as_read old is n among)) in
-        one_held f old.key old.state.reads old.state.counter n now_held.0 x.0 now_held.1 now_held.2 x.1 x.2 ∙ now_held.1
+        let x = sound_now (held f old.key old.state.reads n) (sound (outcome_as_read old.state n) (left_as_read old is n among)) in
+        one_held f old.key old.state.reads old.state.counter n now_held.0 x.0 now_held.1 x.1 ∙ now_held.1
 
     -- after the sync whichever counter is told, this is held
     synced_holds : (mid : View) → mid.key ≡ old.key → Synced true old.state mid.state → IsHolding f mid.key now_held.0 mid.state
@@ -423,13 +430,13 @@ module _ (f : Form) (old : View) (is : IsConsistent old) where
     again_failed mid answered synced = record {
       chosen = now_held.0;
       among = among_now;
-      in_use = now_held.2;
       mounted = tt;
       failed = refl;
       leaves = after_sync false mid answered synced;
     }
 
-    mounted_under : (key : List ℕ) (m : Moment) (result : Result (Option Header) OpenAnswer) (E : Option Header → Type 0) → key ≡ old.key → IfOk result (λ found. MountsTo f key now_held.0 m found × E found)
+    mounted_under : (key : List ℕ) (m : Moment) (result : Result (Option Header) OpenAnswer) (E : Option Header → Type 0) → key ≡ old.key →
+        IfOk result (λ found. MountsTo f key now_held.0 m found × E found)
         → IfOk result (λ found. MountsTo f old.key now_held.0 m found)
     mounted_under key m (Ok found) E same mounted = subst (λ (k : List ℕ). MountsTo f k now_held.0 m found) same mounted.0
     mounted_under key m (Err answer) E same mounted = tt
@@ -442,7 +449,6 @@ module _ (f : Form) (old : View) (is : IsConsistent old) where
         record {
           chosen = now_held.0;
           among = among_now;
-          in_use = now_held.2;
           mounted = mounted_under mid.key new.state result (λ header. after_found header now_held.0 ≡ after_opening f mid now_held.0) key found.mounted;
           failed = found.failed;
           leaves = joined moment left_since old mid new (MightBe f old.key old.state) (after_sync true mid answered synced)
@@ -461,8 +467,8 @@ module _ (f : Form) (old mid : View) (key : mid.key ≡ old.key) (time : Passes 
   might_be : (c : Outcome) → MightBe f mid.key mid.state c → MightBe f old.key old.state c
   might_be c might = (powered.left, powered.may, ap (λ (k : List ℕ). held_of f k c) (sym key) ∙ might.2 ∙ power_left might.0 might.1)
 
-  pub power_in_use : AreInUse f old → AreInUse f mid
-  power_in_use used c left = subst IsInUse (sym (power_left c left)) (used powered.left powered.may)
+  pub power_sound : AreSound f old → AreSound f mid
+  power_sound sound c left = subst IsLeftSound (sym (power_left c left)) (sound powered.left powered.may)
 
   mounted_back : (h : Held) (m : Moment) (result : Result (Option Header) OpenAnswer) → IfOk result (λ found. MountsTo f mid.key h m found) → IfOk result (λ found. MountsTo f old.key h m found)
   mounted_back h m (Ok found) mounted = subst (λ (k : List ℕ). MountsTo f k h m found) key mounted
@@ -475,7 +481,6 @@ module _ (f : Form) (old mid : View) (key : mid.key ≡ old.key) (time : Passes 
         again = record {
           chosen = again.chosen;
           among = (powered.left, powered.may, chosen);
-          in_use = again.in_use;
           mounted = mounted_back again.chosen new.state result again.mounted;
           failed = again.failed;
           leaves = joined moment left_since old mid new (MightBe f old.key old.state)
@@ -488,24 +493,67 @@ module _ (f : Form) (old mid : View) (key : mid.key ≡ old.key) (time : Passes 
             ap (λ (k : List ℕ). held_of f k c) (sym key) ∙ might.2 ∙ power_left might.0 might.1 ∙ chosen;
       }
 
--- a refusal over a board that has the same size and key, and reads so
+-- what the rule says of a board that has the same size and key, and reads so
 module _ (f : Form) (old mid : View) (size : mid.size ≡ old.size) (key : mid.key ≡ old.key) (image base : ℕ → List ℕ) (counter n : ℕ) (reads : image ≡ base) (count : counter ≡ n) where
-  same_rule : (why : OpenAnswer) → opens_as f.version BOARD_BLOCKS mid.size mid.key image counter ≡ Err why → opens_as f.version BOARD_BLOCKS old.size old.key base n ≡ Err why
-  same_rule why e = rw (sym size, sym key, sym reads, sym count) e
+  same_rule : opens_as f.version BOARD_BLOCKS old.size old.key base n ≡ opens_as f.version BOARD_BLOCKS mid.size mid.key image counter
+  same_rule = rw (sym size, sym key, sym reads, sym count) refl
 
   refusal_moved : (why : OpenAnswer) → IsRefusal f mid image counter why → IsRefusal f old base n why
-  refusal_moved (TooSmall m) e = same_rule (TooSmall m) e
-  refusal_moved (NoVolume m) e = same_rule (NoVolume m) e
-  refusal_moved (BadHeader slot found kept) e = same_rule (BadHeader slot found kept) e
-  refusal_moved (UnknownVersion m) e = same_rule (UnknownVersion m) e
-  refusal_moved (Rollback s m) e = same_rule (Rollback s m) e
-  refusal_moved (Ahead s m) e = same_rule (Ahead s m) e
+  refusal_moved (TooSmall m) e = same_rule ∙ e
+  refusal_moved (NoVolume m) e = same_rule ∙ e
+  refusal_moved (BadHeader slot found kept) e = same_rule ∙ e
+  refusal_moved (UnknownVersion m) e = same_rule ∙ e
+  refusal_moved (Rollback s m) e = same_rule ∙ e
+  refusal_moved (Ahead s m) e = same_rule ∙ e
   refusal_moved Failed e = tt
   refusal_moved NoMemory e = tt
 
-  pub refused_so : {A : Type 0} (result : Result A OpenAnswer) → IfErr result (λ why. IsRefusal f mid image counter why) → IfErr result (λ why. IsRefusal f old base n why)
-  refused_so (Ok done) refused = tt
-  refused_so (Err why) refused = refusal_moved why refused
+  pub ruled_so : (result : Result (Option Header) OpenAnswer) → IsRuledBy f mid image counter result → IsRuledBy f old base n result
+  ruled_so (Ok found) ruled = (tt, ap header_answer same_rule ∙ ruled.1)
+  ruled_so (Err why) ruled = (refusal_moved why ruled.0, tt)
+
+-- a refusal told without the slot is the rule's
+refused_as : (rule : Result (Option Found) OpenAnswer) (why : OpenAnswer) → (let refused : Result (Option Header) OpenAnswer = Err why in refused ≡ header_answer rule) → rule ≡ Err why
+refused_as (Ok found) why e = absurd (cc)
+refused_as (Err other) why e = cc
+
+-- an answer that is the rule's, where no call of the board failed
+module _ (f : Form) (version : ℕ) (same : f.version ≡ version) (view : View) (image : ℕ → List ℕ) (counter : ℕ) where
+  version_as : opens_as version VOLUME_BLOCKS view.size view.key image counter ≡ opens_as f.version BOARD_BLOCKS view.size view.key image counter
+  version_as = rw same refl
+
+  refusal_as : (why : OpenAnswer)
+      → (let refused : Result (Option Header) OpenAnswer = Err why in IsRuled refused (opens_as f.version BOARD_BLOCKS view.size view.key image counter)) → IsRefusal f view image counter why
+  refusal_as (TooSmall m) ruled = refused_as _ _ (ruled (λ w. cc))
+  refusal_as (NoVolume m) ruled = refused_as _ _ (ruled (λ w. cc))
+  refusal_as (BadHeader slot found kept) ruled = refused_as _ _ (ruled (λ w. cc))
+  refusal_as (UnknownVersion m) ruled = refused_as _ _ (ruled (λ w. cc))
+  refusal_as (Rollback s m) ruled = refused_as _ _ (ruled (λ w. cc))
+  refusal_as (Ahead s m) ruled = refused_as _ _ (ruled (λ w. cc))
+  refusal_as Failed ruled = tt
+  refusal_as NoMemory ruled = tt
+
+  ruled_as : (result : Result (Option Header) OpenAnswer) → IsRuled result (opens_as f.version BOARD_BLOCKS view.size view.key image counter) → IsRuledBy f view image counter result
+  ruled_as (Ok found) ruled = (tt, sym (ruled (λ w. cc)))
+  ruled_as (Err why) ruled = (refusal_as why ruled, tt)
+
+  pub ruled_by : (result : Result (Option Header) OpenAnswer) → IsRuled result (opens_as version VOLUME_BLOCKS view.size view.key image counter) → IsRuledBy f view image counter result
+  ruled_by result ruled = ruled_as result (subst (IsRuled result) version_as ruled)
+
+-- where the rule opens with this header, or with none, a volume of its sequence is admitted
+admitted_as : (rule : Result (Option Found) OpenAnswer) (sequence : ℕ) (found : Option Header) → header_answer rule ≡ Ok found → IfSome found (λ header. header.sequence ≡ sequence)
+    → (one : Option Found) × (rule ≡ Ok one) × IfSome one (λ w. w.header.sequence ≡ sequence)
+admitted_as (Ok None) sequence found answers is = (None, refl, tt)
+admitted_as (Ok (Some w)) sequence found answers is =
+    let some : found ≡ Some w.header = cc in
+    let same : IfSome (Some w.header) (λ header. header.sequence ≡ sequence) = subst (λ (o : Option Header). IfSome o (λ header. header.sequence ≡ sequence)) some is in
+    (Some w, refl, same)
+admitted_as (Err answer) sequence found answers is = absurd (cc)
+
+pub admitted_by : (f : Form) (view : View) (image : ℕ → List ℕ) (counter sequence : ℕ) (found : Option Header)
+    → header_answer (opens_as f.version BOARD_BLOCKS view.size view.key image counter) ≡ Ok found → IfSome found (λ header. header.sequence ≡ sequence)
+    → IsAdmitted f view image counter sequence
+admitted_by f view image counter sequence found answers is = admitted_as (opens_as f.version BOARD_BLOCKS view.size view.key image counter) sequence found answers is
 
 -- a reopening that ends before its sync is done
 pub stopped : {f : Form} {result failed : Result (Option Header) OpenAnswer} {old new : View} → result ≡ failed → MountsAgain f failed old new → MountsAgain f result old new
@@ -572,8 +620,8 @@ pub past_above : (f : Form) (old new : View) → new.key ≡ old.key → KeepsPa
 past_above f old new key kept t o le left = (left.0, kept.past t left.0 le left.1, left.2 ∙ ap (λ (k : List ℕ). held_of f k left.0) (sym key))
 
 -- what a volume's crash may leave now, on its board
-pub board_in_use : (f : Form) (view : View) → ((o : Option Held) → read_as (held_of f view.key) (left_since view) (moment view) o → IsInUse o) → AreInUse f view
-board_in_use f view used c left = used (held_of f view.key c) (c, inl left, refl)
+pub board_sound : (f : Form) (view : View) → ((o : Option Held) → read_as (held_of f view.key) (left_since view) (moment view) o → IsLeftSound o) → AreSound f view
+board_sound f view sound c left = sound (held_of f view.key c) (c, inl left, refl)
 
 -- no crash before now was at this moment or later
 none_now : (past : List Moment) (t : ℕ) (c : Outcome) → length past ≤ t → WasLeft past t c → ⊥
@@ -585,5 +633,6 @@ none_now (m ∷ past) t c late was =
 pub rests_above : (f : Form) (key : List ℕ) (view : View) (h : Held) → view.key ≡ key → ((c : Outcome) → IsLeft view.state c → held_of f key c ≡ Some h)
     → (o : Option Held) → read_as (held_of f view.key) (left_since view) (moment view) o → o ≡ Some h
 rests_above f key view h same each o left =
-    let now : IsLeft view.state left.0 = ⊎_elim (λ (x : IsLeft view.state left.0). x) (λ (was : WasLeft view.past (moment view) left.0). absurd (none_now view.past (moment view) left.0 (omega arith) was)) left.1 in
+    let now : IsLeft view.state left.0 = ⊎_elim (λ (x : IsLeft view.state left.0). x) (λ (was : WasLeft view.past (moment view) left.0). absurd
+    (none_now view.past (moment view) left.0 (omega arith) was)) left.1 in
     left.2 ∙ ap (λ (k : List ℕ). held_of f k left.0) same ∙ each left.0 now

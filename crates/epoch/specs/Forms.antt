@@ -1,7 +1,7 @@
 -- What the leaves of a volume are, over a form that says how they lie on a board: what an image holds, and when it is
 -- sound.
 use Rattle.std.specs.Prelude.{◌≡◌, ◌<◌, ℕ, zero, suc, ◌%◌, ◌==◌, ◌&&◌, nat_lt, is_none, if◌then◌else◌, Bool, true, false, List, [], Option, None, Some, Result, Ok, Err, replicate}
-use Rattle.tee_base.specs.declared.limits.TheConstants.{BLOCK_BYTES, HOSTS, LEAVES}
+use Rattle.tee_base.specs.declared.limits.TheConstants.{BLOCK_BYTES, MAX_HOSTS, LEAVES}
 use Rattle.store_api.specs.declared.answer.Mismatch.{Mismatch}
 use Rattle.store_api.specs.Volumes.{Held}
 use Rattle.board.specs.Moment.{Outcome}
@@ -28,12 +28,12 @@ all_below (suc n) test = all_below n test && test n
 
 -- there is a leaf of this number in a region of this number
 abbrev pub is_leaf : ℕ → ℕ → Bool
-is_leaf region leaf = nat_lt region HOSTS && nat_lt leaf LEAVES
+is_leaf region leaf = nat_lt region MAX_HOSTS && nat_lt leaf LEAVES
 
 -- no two tags on the way to any leaf differ: the root seals its leaves
 unfoldable pub is_sealed : Form → List ℕ → (ℕ → List ℕ) → TreeEntry → Bool
 is_sealed f key image root =
-    all_below HOSTS (λ region.
+    all_below MAX_HOSTS (λ region.
     all_below LEAVES (λ leaf. is_none (f.damage key image root region leaf)))
 
 -- the leaves under a root; there is nothing where there is no leaf
@@ -74,18 +74,18 @@ SameUsed f key root base image = (k : ℕ) → f.uses key base root k ≡ true �
 pub record IsFramed (f : Form) : Type 0 where
   -- the leaves and their damage rest on the blocks that the root uses, and on nothing else
   pub same_damage : (key : List ℕ) (root : TreeEntry) (base image : ℕ → List ℕ) (region leaf : ℕ)
-      → SameUsed f key root base image → region < HOSTS → leaf < LEAVES
+      → SameUsed f key root base image → region < MAX_HOSTS → leaf < LEAVES
       → f.damage key image root region leaf ≡ f.damage key base root region leaf
   pub same_leaf : (key : List ℕ) (root : TreeEntry) (base image : ℕ → List ℕ) (region leaf : ℕ)
-      → SameUsed f key root base image → region < HOSTS → leaf < LEAVES
+      → SameUsed f key root base image → region < MAX_HOSTS → leaf < LEAVES
       → f.leaf key image root region leaf ≡ f.leaf key base root region leaf
   -- these lie behind the slots
   pub behind : (key : List ℕ) (root : TreeEntry) (image : ℕ → List ℕ) (k : ℕ) → k < 4
       → f.uses key image root k ≡ false
   -- a root of sequence 0 stands for zeros
   pub no_damage : (key : List ℕ) (root : TreeEntry) (image : ℕ → List ℕ) (region leaf : ℕ)
-      → root.sequence ≡ 0 → region < HOSTS → leaf < LEAVES
+      → root.sequence ≡ 0 → region < MAX_HOSTS → leaf < LEAVES
       → f.damage key image root region leaf ≡ None
   pub zeros : (key : List ℕ) (root : TreeEntry) (image : ℕ → List ℕ) (region leaf : ℕ)
-      → root.sequence ≡ 0 → region < HOSTS → leaf < LEAVES
+      → root.sequence ≡ 0 → region < MAX_HOSTS → leaf < LEAVES
       → f.leaf key image root region leaf ≡ replicate BLOCK_BYTES 0

@@ -1,12 +1,12 @@
 -- What is found by a search for the header that counts, over the form of the leaves: on a board that holds this, after a
 -- sync, and after a loss of power.
-use Rattle.std.specs.Prelude.{◌≡◌, ◌<◌, ℕ, false, List, Option, Some, None, Result, IfErr, IfOk}
+use Rattle.std.specs.Prelude.{◌≡◌, ℕ, false, List, Option, Some, None, Result, IfErr, IfOk}
 use Rattle.tee_base.specs.Crash.{LeavesOnly}
 use Rattle.store_api.specs.Volumes.{Held}
 use Rattle.board.specs.Moment.{IsCounter, IsLeft, Moment, Outcome, View, left_since, moment}
 use Rattle.epoch.specs.Commits.{IsMounted}
 use Rattle.epoch.specs.Forms.{Form, held, held_of}
-use Rattle.epoch.specs.Mounts.{IsInUse, after_opening}
+use Rattle.epoch.specs.Mounts.{IsLeftSound, after_opening}
 use Rattle.epoch.specs.declared.answer.OpenAnswer.{OpenAnswer}
 use Rattle.epoch.specs.declared.answer.OpenAnswer.TheVariants as answers
 use Rattle.epoch.specs.declared.header.Header.{Header}
@@ -38,9 +38,9 @@ pub record Mounts (f : Form) (h : Held) (result : Result (Option Header) OpenAns
   pub failed : IfErr result (λ why. why ≡ answers.Failed)
   pub leaves : LeavesOnly moment left_since old new (λ c. held_of f old.key c ≡ Some h)
 
--- all that a crash may leave now was formatted
-abbrev pub AreInUse : Form → View → Type 0
-AreInUse f view = (c : Outcome) → IsLeft view.state c → IsInUse (held_of f view.key c)
+-- all that a crash may leave now is sound
+abbrev pub AreSound : Form → View → Type 0
+AreSound f view = (c : Outcome) → IsLeft view.state c → IsLeftSound (held_of f view.key c)
 
 -- a crash left what holds the same as something that it might have left then
 abbrev pub MightBe : Form → List ℕ → Moment → Outcome → Type 0
@@ -51,7 +51,6 @@ pub record MountsAgain (f : Form) (result : Result (Option Header) OpenAnswer)
     (old new : View) : Type 0 where
   pub chosen : Held
   pub among : (c : Outcome) × IsLeft old.state c × (held_of f old.key c ≡ Some chosen)
-  pub in_use : 0 < chosen.sequence
   pub mounted : IfOk result (λ found. MountsTo f old.key chosen new.state found)
   pub failed : IfErr result (λ why. why ≡ answers.Failed)
   pub leaves : LeavesOnly moment left_since old new (MightBe f old.key old.state)

@@ -1,14 +1,15 @@
 -- What the opening of a volume on a board promises, and its reopening, a loss of power and a fuse, over the form of the
 -- leaves.
-use Rattle.std.specs.Prelude.{◌≡◌, ◌≤◌, ◌<◌, ◌⊎◌, ◌+◌, ◌%◌, ◌^◌, ℕ, List, [], false, true, Option, Some, None, Result, Ok, Err, IfErr, IfOk, OnErr}
+use Rattle.std.specs.Prelude.{◌≡◌, ◌≤◌, ◌⊎◌, ◌+◌, ◌%◌, ◌^◌, ℕ, List, ◌∷◌, false, true, Option, Some, None, Result, Ok, Err, IfErr, IfOk, IfSome, OnErr}
 use Rattle.tee_base.specs.Crash.{LeavesOnly, read_as}
 use Rattle.tee_base.specs.declared.limits.TheConstants.{BOARD_BLOCKS}
 use Rattle.store_api.specs.Volumes.{Held, RestsAt, VolumeKeeper}
 use Rattle.board.specs.Moment.{Outcome, View, left_since, moment}
 use Rattle.epoch.specs.Forms.{Form, held_of}
-use Rattle.epoch.specs.Opening.{opening_of, opens_as}
+use Rattle.epoch.specs.Opening.{header_answer, opening_of, opens_as}
 use Rattle.epoch.specs.declared.answer.OpenAnswer.{OpenAnswer}
 use Rattle.epoch.specs.declared.answer.OpenAnswer.TheVariants as answers
+use Rattle.epoch.specs.declared.header.Header.{Header}
 use Rattle.epoch.specs.declared.rule.Found.{Found}
 
 -- what is held once a board that opens so was opened: one that was blank was formatted, to the sequence 1
@@ -22,10 +23,10 @@ abbrev pub after_opening : Form → View → Held → Held
 after_opening f view held =
     opened_by (opening_of f.version view.key view.state.reads view.state.counter) held
 
--- a crash left a volume that was formatted
-abbrev pub IsInUse : Option Held → Type 0
-IsInUse (Some held) = 0 < held.sequence
-IsInUse None = ⊥
+-- a crash left a sound volume
+abbrev pub IsLeftSound : Option Held → Type 0
+IsLeftSound (Some held) = Unit {0}
+IsLeftSound None = ⊥
 
 -- a refusal is the opening rule's, of a board over this image and this counter; a failure and want of memory are no such
 -- refusals
@@ -34,6 +35,19 @@ IsRefusal f view image counter answers.Failed = Unit {0}
 IsRefusal f view image counter answers.NoMemory = Unit {0}
 IsRefusal f view image counter why =
     opens_as f.version BOARD_BLOCKS view.size view.key image counter ≡ Err why
+
+-- the opening rule opens a board over this image and this counter, and where a header counts, it has this sequence
+abbrev pub IsAdmitted : Form → View → (ℕ → List ℕ) → ℕ → ℕ → Type 0
+IsAdmitted f view image counter sequence = (found : Option Found)
+    × (opens_as f.version BOARD_BLOCKS view.size view.key image counter ≡ Ok found)
+    × IfSome found (λ one. one.header.sequence ≡ sequence)
+
+-- what a search for the header answers is the rule's, over this image and this counter
+abbrev pub IsRuledBy : Form → View → (ℕ → List ℕ) → ℕ → Result (Option Header) OpenAnswer
+    → Type 0
+IsRuledBy f view image counter result = IfErr result (λ why. IsRefusal f view image counter why)
+    × IfOk result (λ found. header_answer
+    (opens_as f.version BOARD_BLOCKS view.size view.key image counter) ≡ Ok found)
 
 -- a call of the board failed, or there was no memory
 abbrev pub IsKeptFromOpening : OpenAnswer → Type 0
@@ -58,17 +72,17 @@ module _ {V : Type 0} (K : VolumeKeeper V) where
   pub record IsSeenOn (f : Form) (volume : V) (view : View) : Type 0 where
     pub faults : (K.condition volume).faults ≡ view.state.faults
     pub foundation : (K.condition volume).foundation
-        ≡ record { place = []; orders = view.state.orders; ordered = view.ordered }
+        ≡ record { place = view.size ∷ view.key; orders = view.state.orders; ordered = view.ordered }
     pub moment : K.moment volume ≡ moment view
     pub left : (t : ℕ) (o : Option Held) → K.left_since volume t o
         → read_as (held_of f view.key) (left_since view) t o
     pub left_back : (t : ℕ) (c : Outcome) → left_since view t c
         → K.left_since volume t (held_of f view.key c)
 
-  -- all that a crash may leave now was formatted
-  abbrev pub IsAlwaysInUse : V → Type 0
-  IsAlwaysInUse volume =
-      (o : Option Held) → K.left_since volume (K.moment volume) o → IsInUse o
+  -- all that a crash may leave now is sound
+  abbrev pub IsAlwaysSound : V → Type 0
+  IsAlwaysSound volume =
+      (o : Option Held) → K.left_since volume (K.moment volume) o → IsLeftSound o
 
   -- a crash leaves nothing that it might not have left before, and nothing of the past is forgotten
   pub record LeavesAsBefore (old new : V) : Type 0 where

@@ -1,13 +1,13 @@
 //! What a board holds that is opened, over the form of the leaves: found at first, after a sync, after a loss of power.
-ghost use Rattle.std.specs.Prelude.{◌≡◌, ◌≢◌, ◌≤◌, ℕ, true, Err, IsTrue, IfErr, OnOk};
+ghost use Rattle.std.specs.Prelude.{◌≡◌, ◌≢◌, ◌≤◌, ℕ, true, Err, IsTrue, OnOk};
 ghost use Rattle.tee_base.specs.Faults.{Rose};
 ghost use Rattle.store_api.specs.Volumes.{Held};
 ghost use Rattle.board.specs.Moment.{IsCounter, IsLeft, Outcome};
 ghost use Rattle.board.specs.Steps.{CallRun};
 ghost use Rattle.epoch.specs.Commits.{StaysSettled};
 ghost use Rattle.epoch.specs.Forms.{Form, IsFramed};
-ghost use Rattle.epoch.specs.Mounting.{AreInUse, IsHolding, Mounts, MountsAfterPower, MountsAgain};
-ghost use Rattle.epoch.specs.Mounts.{IsRefusal, OrderRun};
+ghost use Rattle.epoch.specs.Mounting.{AreSound, IsHolding, Mounts, MountsAfterPower, MountsAgain};
+ghost use Rattle.epoch.specs.Mounts.{IsRuledBy, OrderRun};
 ghost use Rattle.epoch.specs.Past.{KeepsPast};
 ghost use Rattle.epoch.specs.declared.answer.OpenAnswer.TheVariants as answers;
 
@@ -31,14 +31,12 @@ pub fn mount<B: Board>(board: &mut B, version: u32) -> Result<Option<Header>, Op
     ensures past { B.honest board.old → KeepsPast (B.view board.old) (B.view board.new) }
     ensures settled { B.honest board.old
         → StaysSettled (B.view board.old).state (B.view board.new).state }
-    // whatever the board: refused by the rule over what it tells, at some counter
+    // whatever the board: by the rule over what it tells, at some counter
     ensures rule { IsTrue B.tells_reads → (counter : ℕ) × ((f : Form) → f.version ≡ version
-        → IfErr result (λ why. IsRefusal f (B.view board.old) (B.view board.old).state.reads
-        counter why)) }
+        → IsRuledBy f (B.view board.old) (B.view board.old).state.reads counter result) }
     ensures exact { B.honest board.old → (counter : ℕ)
         × IsCounter (B.view board.old).state counter × ((f : Form) → f.version ≡ version
-        → IfErr result (λ why. IsRefusal f (B.view board.old) (B.view board.old).state.reads
-        counter why)) }
+        → IsRuledBy f (B.view board.old) (B.view board.old).state.reads counter result) }
     ensures holds { B.honest board.old → (f : Form) (h : Held) → IsFramed f
         → f.version ≡ version → VOLUME_BLOCKS ≤ (B.view board.old).size
         → IsHolding f (B.view board.old).key h (B.view board.old).state
@@ -63,11 +61,10 @@ pub fn mount_again<B: Board>(board: &mut B, version: u32) -> Result<Option<Heade
         → StaysSettled (B.view board.old).state (B.view board.new).state }
     ensures exact { B.honest board.old → (counter : ℕ)
         × IsCounter (B.view board.old).state counter × ((f : Form) → f.version ≡ version
-        → IfErr result (λ why. IsRefusal f (B.view board.old) (B.view board.old).state.reads
-        counter why)) }
+        → IsRuledBy f (B.view board.old) (B.view board.old).state.reads counter result) }
     ensures again { B.honest board.old → (f : Form) → IsFramed f
         → f.version ≡ version → VOLUME_BLOCKS ≤ (B.view board.old).size
-        → AreInUse f (B.view board.old)
+        → AreSound f (B.view board.old)
         → MountsAgain f result (B.view board.old) (B.view board.new) }
 {
     board.sync()?;
@@ -94,10 +91,10 @@ pub fn mount_after_power<B: Board>(
         → StaysSettled (B.view board.old).state (B.view board.new).state }
     ensures exact { B.honest board.old → (c : Outcome) × IsLeft (B.view board.old).state c
         × ((f : Form) → f.version ≡ version
-        → IfErr result (λ why. IsRefusal f (B.view board.old) c.image c.counter why)) }
+        → IsRuledBy f (B.view board.old) c.image c.counter result) }
     ensures again { B.honest board.old → (f : Form) → IsFramed f
         → f.version ≡ version → VOLUME_BLOCKS ≤ (B.view board.old).size
-        → AreInUse f (B.view board.old)
+        → AreSound f (B.view board.old)
         → MountsAfterPower f result (B.view board.old) (B.view board.new) }
 {
     board.power(pick);

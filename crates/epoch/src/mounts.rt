@@ -7,7 +7,7 @@ ghost use Rattle.board.specs.Moment.{IsCounter, IsLeft, Outcome};
 ghost use Rattle.board.specs.Runs.{Rests};
 ghost use Rattle.board.specs.Steps.{CallRun};
 ghost use Rattle.epoch.specs.Forms.{Form, held};
-ghost use Rattle.epoch.specs.Mounts.{IsAlwaysInUse, IsBack, IsKeptFromOpening, IsOrdered, IsRefusal, IsSeenOn, LeavesOpening, OpensAfterPower, OpensAgain, OrderRun, after_opening};
+ghost use Rattle.epoch.specs.Mounts.{IsAdmitted, IsAlwaysSound, IsBack, IsKeptFromOpening, IsOrdered, IsRefusal, IsSeenOn, LeavesOpening, OpensAfterPower, OpensAgain, OrderRun, after_opening};
 ghost use Rattle.epoch.specs.declared.answer.OpenAnswer.TheVariants as answers;
 
 use crate::answer::{OpenAnswer, Unopened};
@@ -34,13 +34,17 @@ pub trait BoardVolume<B: Board>: Volume + Sized {
         ensures back { IfErr result (λ u. CallRun true (B.view board) (B.view u.board)) }
         ensures cause { IfErr result (λ u. u.why ≡ answers.Failed
             → Rose (B.view board).state.faults (B.view u.board).state.faults) }
-        // whatever the board: refused by the rule over what it tells, at some counter
+        // whatever the board: by the rule over what it tells, at some counter
         ensures rule { IsTrue B.tells_reads → (counter : ℕ)
             × IfErr result (λ u. IsRefusal form (B.view board)
-            (B.view board).state.reads counter u.why) }
+            (B.view board).state.reads counter u.why)
+            × IfOk result (λ v. IsAdmitted form (B.view board) (B.view board).state.reads counter
+            (Self.keeper.held v).sequence) }
         ensures exact { B.honest board → (counter : ℕ) × IsCounter (B.view board).state counter
             × IfErr result (λ u. IsRefusal form (B.view board)
-            (B.view board).state.reads counter u.why) }
+            (B.view board).state.reads counter u.why)
+            × IfOk result (λ v. IsAdmitted form (B.view board) (B.view board).state.reads counter
+            (Self.keeper.held v).sequence) }
         ensures honest { B.honest board → IfOk result (λ v. B.honest (board_of v)) }
         ensures honest_back { B.honest board → IfErr result (λ u. B.honest u.board) }
         // a board at rest with a sound image is opened, unless a call failed or there was no memory
@@ -57,7 +61,7 @@ pub trait BoardVolume<B: Board>: Volume + Sized {
             × LeavesOpening form h (B.view board) (B.view u.board)) };
 
     /// Opens the board again, after what a failed commit may have left pending is made durable, and answers the
-    /// sequence.
+    /// sequence. It formats nothing, and so leaves what is held as it was found.
     ///
     /// # Errors
     ///
@@ -72,8 +76,10 @@ pub trait BoardVolume<B: Board>: Volume + Sized {
         ensures exact { B.honest (board_of self.old) → (counter : ℕ)
             × IsCounter (B.view (board_of self.old)).state counter
             × IfErr result (λ why. IsRefusal form (B.view (board_of self.old))
-            (B.view (board_of self.old)).state.reads counter why) }
-        ensures opened { B.honest (board_of self.old) → IsAlwaysInUse Self.keeper self.old
+            (B.view (board_of self.old)).state.reads counter why)
+            × IfOk result (λ sequence. IsAdmitted form (B.view (board_of self.old))
+            (B.view (board_of self.old)).state.reads counter sequence) }
+        ensures opened { B.honest (board_of self.old) → IsAlwaysSound Self.keeper self.old
             → OpensAgain Self.keeper result self.old self.new };
 
     /// A loss of power of the board, which is then opened again, as `reopen` does.
@@ -92,8 +98,10 @@ pub trait BoardVolume<B: Board>: Volume + Sized {
         ensures exact { B.honest (board_of self.old) → (c : Outcome)
             × IsLeft (B.view (board_of self.old)).state c
             × IfErr result (λ why. IsRefusal form (B.view (board_of self.old)) c.image c.counter
-            why) }
-        ensures opened { B.honest (board_of self.old) → IsAlwaysInUse Self.keeper self.old
+            why)
+            × IfOk result (λ sequence. IsAdmitted form (B.view (board_of self.old)) c.image
+            c.counter sequence) }
+        ensures opened { B.honest (board_of self.old) → IsAlwaysSound Self.keeper self.old
             → OpensAfterPower Self.keeper result self.old self.new };
 
     /// Lets so many calls of the board pass, as the board's `fuse` does.

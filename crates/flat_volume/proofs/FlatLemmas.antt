@@ -1,8 +1,9 @@
 -- What the copies of a commit hold once they are written, and which blocks they are.
-use Rattle.std.proofs.Common.{◌≡◌, ◌≢◌, ◌<◌, ◌+◌, ◌-◌, ◌*◌, ◌/◌, ◌%◌, ◌==◌, ◌&&◌, ◌||◌, ◌∙◌, if◌then◌else◌, not, ℕ, Bool, true, false, List, [], ◌∷◌, Option, None, Some, nat_lt, is_none, bytes_eq, length, refl, sym, ap, subst, arith}
+use Rattle.std.proofs.Common.{◌≡◌, ◌≢◌, ◌<◌, ◌+◌, ◌-◌, ◌*◌, ◌/◌, ◌%◌, ◌==◌, ◌&&◌, ◌||◌, ◌∙◌, if◌then◌else◌, not, ℕ, Bool, true, false, List, []}
+use Rattle.std.proofs.Common.{◌∷◌, Option, None, Some, nat_lt, is_none, bytes_eq, length, refl, sym, ap, subst, arith}
 use Rattle.std.proofs.lemmas.Bool.Decides.{nat_tests}
 use Rattle.std.proofs.lemmas.Slice.Eq.{bytes_eq-Decides}
-use Rattle.tee_base.specs.declared.limits.TheConstants.{HOSTS, LEAVES}
+use Rattle.tee_base.specs.declared.limits.TheConstants.{MAX_HOSTS, LEAVES}
 use Rattle.store_api.specs.declared.answer.Mismatch.{Mismatch}
 use Rattle.store_api.specs.declared.leaves.Leaf.{Leaf}
 use Rattle.board.specs.declared.TheConstants.{BLOCK}
@@ -65,7 +66,7 @@ second_none (Some tags) b e = absurd (cc)
 -- a root that seals its leaves has a table without damage
 pub entries_sealed : (key : List ℕ) (reads : ℕ → List ℕ) (root : TreeEntry) → is_sealed flat key reads root ≡ true → AreSealed key (table_in reads root) reads
 entries_sealed key reads root sealed n below =
-    let region : n / 256 < HOSTS = omega arith in
+    let region : n / 256 < MAX_HOSTS = omega arith in
     let leaf : n % 256 < LEAVES = omega arith in
     let same : 256 * (n / 256) + n % 256 ≡ n = omega arith in
     subst (λ (m : ℕ). leaf_damage key reads (FIRST_LEAF + m) (entry_of (table_in reads root) m) ≡ None) same
@@ -122,7 +123,7 @@ module _ (key : List ℕ) (mid new : ℕ → List ℕ) (root : TreeEntry) (table
 
   new_sealed : is_sealed flat key new root ≡ true
   unfolding is_sealed
-  new_sealed = all_below_all HOSTS _ (λ r hr. all_below_all LEAVES _ (λ l hl. is_none_of (number_of r l) (let b : 256 * r + l < 4096 = omega arith in b)))
+  new_sealed = all_below_all MAX_HOSTS _ (λ r hr. all_below_all LEAVES _ (λ l hl. is_none_of (number_of r l) (let b : 256 * r + l < 4096 = omega arith in b)))
 
   by_leaf : (r l : ℕ) → leaves_by key table new r l ≡ leaves_by key table mid r l
   unfolding leaves_by

@@ -1,10 +1,11 @@
 -- How the leaves change when one of them is written into its spare copy.
-use Rattle.std.proofs.Common.{◌≡◌, ◌≢◌, ◌≤◌, ◌<◌, ◌+◌, ◌-◌, ◌*◌, ◌⊎◌, ◌==◌, ◌∙◌, if◌then◌else◌, ℕ, Bool, true, false, List, [], ◌∷◌, None, nat_lt, length, drop, refl, sym, ap, subst, ⊎_elim, inl, inr, arith}
+use Rattle.std.proofs.Common.{◌≡◌, ◌≢◌, ◌≤◌, ◌<◌, ◌+◌, ◌-◌, ◌*◌, ◌⊎◌, ◌==◌, ◌∙◌, if◌then◌else◌, ℕ, Bool, true, false, List, []}
+use Rattle.std.proofs.Common.{◌∷◌, None, nat_lt, length, drop, refl, sym, ap, subst, ⊎_elim, inl, inr, arith}
 use Rattle.std.specs.List.{list_all}
 use Rattle.std.proofs.lemmas.Bool.{cases_eq}
 use Rattle.std.proofs.lemmas.List.{drop_all}
 use Rattle.std.proofs.lemmas.Bool.Decides.{nat_tests}
-use Rattle.tee_base.specs.declared.limits.TheConstants.{HOSTS, LEAVES}
+use Rattle.tee_base.specs.declared.limits.TheConstants.{MAX_HOSTS, LEAVES}
 use Rattle.store_api.specs.declared.leaves.Leaf.{Leaf}
 use Rattle.store_api.specs.Ascending.{is_ascending}
 use Rattle.store_api.specs.Volumes.{leaf_after, replaced}
@@ -65,7 +66,7 @@ absent (leaf ∷ rest) l bytes above =
 same_number : (r l region leaf : ℕ) → l < 256 → leaf < 256 → number_of r l ≡ number_of region leaf → (r ≡ region) × (l ≡ leaf)
 same_number r l region leaf one two same = (omega arith, omega arith)
 
-module _ (key told tnew : List ℕ) (old new : ℕ → List ℕ) (region : ℕ) (leaf : Leaf) (rest : List Leaf) (region_in : region < HOSTS) (leaf_in : leaf.number < LEAVES)
+module _ (key told tnew : List ℕ) (old new : ℕ → List ℕ) (region : ℕ) (leaf : Leaf) (rest : List Leaf) (region_in : region < MAX_HOSTS) (leaf_in : leaf.number < LEAVES)
     (elsewhere : (k : ℕ) → k ≢ spare_block told (number_of region leaf.number) → new k ≡ old k)
     (others : (n : ℕ) → n ≢ number_of region leaf.number → entry_of tnew n ≡ entry_of told n)
     (text : leaf_text key new (FIRST_LEAF + number_of region leaf.number) (entry_of tnew (number_of region leaf.number)) ≡ leaf.bytes)
@@ -86,7 +87,7 @@ module _ (key told tnew : List ℕ) (old new : ℕ → List ℕ) (region : ℕ) 
 
   is_this : is_leaf region leaf.number ≡ true
   is_this =
-      let one : nat_lt region HOSTS ≡ true = grind (arith, nat_tests) in
+      let one : nat_lt region MAX_HOSTS ≡ true = grind (arith, nat_tests) in
       let two : nat_lt leaf.number LEAVES ≡ true = grind (arith, nat_tests) in
       rw (one, two) refl
 
@@ -153,7 +154,7 @@ rest_ascends leaf rest e = second_true (list_all (λ (later : Leaf). nat_lt leaf
 
 -- one leaf more: all that the loop over the leaves keeps
 module _ (told tnew : List ℕ) (region : ℕ) (leaf : Leaf) (rest : List Leaf) (number : ℕ)
-    (region_in : region < HOSTS) (leaf_in : leaf.number < LEAVES) (is_number : number ≡ number_of region leaf.number)
+    (region_in : region < MAX_HOSTS) (leaf_in : leaf.number < LEAVES) (is_number : number ≡ number_of region leaf.number)
     (others : (n : ℕ) → n ≢ number → entry_of tnew n ≡ entry_of told n) (ascending : is_ascending (leaf ∷ rest) ≡ true) where
   others_of : (n : ℕ) → n ≢ number_of region leaf.number → entry_of tnew n ≡ entry_of told n
   others_of n ne = others n (λ e. ne (e ∙ is_number))

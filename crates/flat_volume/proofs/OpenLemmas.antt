@@ -1,30 +1,33 @@
 -- What the opening of a flat volume leaves, over what was found on its board.
-use Rattle.std.proofs.Common.{◌≡◌, ◌+◌, ◌⊎◌, ◌==◌, ◌∙◌, if◌then◌else◌, ℕ, Bool, true, false, List, [], Option, Some, None, Result, Ok, Err, IfErr, IfOk, OnErr, refl, sym, ap, subst, inl, arith, ◌<◌, ⊎_elim}
+use Rattle.std.proofs.Common.{◌≡◌, ◌+◌, ◌⊎◌, ◌==◌, ◌∙◌, if◌then◌else◌, ℕ, Bool, true, false, List, [], Option, Some, None, Result}
+use Rattle.std.proofs.Common.{Ok, Err, IfErr, IfOk, IfSome, refl, sym, ap, subst, inl, arith, ⊎_elim}
 use Rattle.std.specs.Result.{IsErr}
 use Rattle.std.proofs.lemmas.Bool.{false≢true}
 use Rattle.std.proofs.lemmas.Bool.Decides.{nat_tests}
 use Rattle.tee_base.specs.Crash.{LeavesOnly}
 use Rattle.tee_base.proofs.Crash.{joined, weaker}
 use Rattle.store_api.specs.Volumes.{Held, leaf_after, replaced}
-use Rattle.board.specs.Moment.{View, left_since, moment, Moment}
+use Rattle.board.specs.Moment.{View, left_since, moment}
 use Rattle.board.proofs.Runs.{starts}
 use Rattle.seal.specs.declared.keys.Keys.{Keys}
 use Rattle.epoch.specs.Commits.{BeforeOrAfter, IsMounted, next_held}
+use Rattle.epoch.specs.Finding.{sequence_of}
 use Rattle.epoch.specs.Forms.{held_of}
 use Rattle.epoch.specs.Mounting.{MountsTo, after_found}
-use Rattle.epoch.specs.Mounts.{IsKeptFromOpening, after_opening, IsRefusal}
+use Rattle.epoch.specs.Mounts.{IsAdmitted, IsKeptFromOpening, IsRefusal, IsRuledBy, after_opening}
 use Rattle.epoch.specs.declared.answer.OpenAnswer.{OpenAnswer}
 use Rattle.epoch.specs.declared.answer.OpenAnswer.TheVariants.{Failed, NoMemory}
 use Rattle.epoch.specs.declared.header.Header.{Header}
 use Rattle.epoch.specs.declared.header.TreeEntry.{TreeEntry}
-use Rattle.epoch.proofs.MountLemmas.{mounted_left}
+use Rattle.epoch.proofs.MountLemmas.{admitted_by, mounted_left}
 use Rattle.flat_volume.specs.Change.{ChecksFlat, FitsFlat}
 use Rattle.flat_volume.specs.Flat.{flat, table_damage, table_in, zero_table}
 use Rattle.flat_volume.specs.Frame.{flat_framed}
 use Rattle.flat_volume.specs.Keeping.{IsKept, IsOpen, held_now}
-use Rattle.flat_volume.specs.Opens.{Opens}
+use Rattle.flat_volume.specs.Opens.{Opens, root_of}
 use Rattle.flat_volume.specs.declared.table.Table.{Table}
 use Rattle.flat_volume.specs.declared.volume.Opened.{Opened}
+use Rattle.flat_volume.specs.declared.write.TheConstants.{NO_ROOT}
 
 -- what is held under a root that a board is mounted with
 pub held_is : (view : View) (root : TreeEntry) (sequence : ℕ) (h : Held) → IsMounted flat view.key root h view.state → sequence ≡ h.sequence → held_now view root sequence ≡ h
@@ -46,23 +49,31 @@ rests_so view root h after mounted =
 none_kept : (table : Option Table) (reads : ℕ → List ℕ) (root : TreeEntry) → table ≡ None → IsKept table reads root
 none_kept table reads root none = subst (λ (t : Option Table). IsKept t reads root) (sym none) tt
 
--- a header that was found
-pub opens_found : (view : View) (o : Opened) (header : Header) (h : Held) → o.root ≡ header.root → o.sequence ≡ header.sequence → o.table ≡ None
-    → MountsTo flat view.key h view.state (Some header) → Opens h h (Ok o) view view
-opens_found view o header h root sequence table mounts =
-    let mounted : IsMounted flat view.key o.root h view.state = subst (λ (r : TreeEntry). IsMounted flat view.key r h view.state) (sym root) mounts.1 in
-    record {
-      opened = open_with view o.root o.sequence o.table h mounted (sequence ∙ sym mounts.0) (none_kept o.table view.state.reads o.root table);
-      failed = tt;
-      leaves = rests_so view o.root h h mounted;
-    }
+-- a board is mounted with the root of what was found, and with its sequence
+mounted_found : (view : View) (h : Held) (found : Option Header) → MountsTo flat view.key h view.state found
+    → IsMounted flat view.key (root_of found) h view.state × (sequence_of found ≡ h.sequence)
+mounted_found view h None mounts = (mounts.1 NO_ROOT refl, sym mounts.0)
+mounted_found view h (Some header) mounts = (mounts.1, sym mounts.0)
 
--- the same where what was found is told by an equation
-pub opens_some : (view : View) (o : Opened) (header : Header) (found : Option Header) (h : Held) → found ≡ Some header → o.root ≡ header.root → o.sequence ≡ header.sequence → o.table ≡ None
+-- so it is open where that is taken up
+pub open_found : (view : View) (o : Opened) (found : Option Header) (h : Held) → o.root ≡ root_of found → o.sequence ≡ sequence_of found → o.table ≡ None
+    → MountsTo flat view.key h view.state found → IsOpen view o.root o.sequence o.table × (held_now view o.root o.sequence ≡ h)
+open_found view o found h root sequence table mounts =
+    let is = mounted_found view h found mounts in
+    open_with view o.root o.sequence o.table h (subst (λ (r : TreeEntry). IsMounted flat view.key r h view.state) (sym root) is.0) (sequence ∙ is.1)
+    (none_kept o.table view.state.reads o.root table)
+
+-- a header that was found is taken up
+pub opens_found : (view : View) (o : Opened) (header : Header) (found : Option Header) (h : Held) → found ≡ Some header → o.root ≡ root_of found → o.sequence ≡ sequence_of found → o.table ≡ None
     → MountsTo flat view.key h view.state found → Opens h (after_found found h) (Ok o) view view
-opens_some view o header found h is root sequence table mounts =
-    subst (λ (f : Option Header). Opens h (after_found f h) (Ok o) view view) (sym is)
-    (opens_found view o header h root sequence table (subst (MountsTo flat view.key h view.state) is mounts))
+opens_found view o header found h is root sequence table mounts =
+    let open_so = open_found view o found h root sequence table mounts in
+    let same : after_found found h ≡ h = ap (λ (f : Option Header). after_found f h) is in
+    record {
+      opened = (open_so.0, open_so.1 ∙ sym same);
+      failed = tt;
+      leaves = rests_so view (root_of found) h (after_found found h) (mounted_found view h found mounts).0;
+    }
 
 -- a blank board that wasn't formatted, since there was no memory
 pub opens_without : (view : View) (root : TreeEntry) (result : Result Opened OpenAnswer) (h after : Held) → IsMounted flat view.key root h view.state
@@ -145,7 +156,8 @@ opens_joined old mid new found result h key mounts run opens =
       opened = last'.opened;
       failed = last'.failed;
       leaves = joined moment left_since old mid new (λ c. (held_of flat old.key c ≡ Some h) ⊎ (held_of flat old.key c ≡ Some (after_opening flat old h)))
-          (weaker moment left_since old mid (λ c. held_of flat old.key c ≡ Some h) (λ c. (held_of flat old.key c ≡ Some h) ⊎ (held_of flat old.key c ≡ Some (after_opening flat old h))) (λ c e. inl e) run)
+          (weaker moment left_since old mid (λ c. held_of flat old.key c ≡ Some h) (λ c. (held_of flat old.key c ≡ Some h) ⊎
+          (held_of flat old.key c ≡ Some (after_opening flat old h))) (λ c e. inl e) run)
           (subst (λ (k : List ℕ). LeavesOnly moment left_since mid new (λ c. (held_of flat k c ≡ Some h) ⊎ (held_of flat k c ≡ Some (after_opening flat old h)))) key last'.leaves);
     }
 
@@ -168,31 +180,22 @@ pub not_ok : {A : Type 0} (result : Result A OpenAnswer) (P : A → Type 0) → 
 not_ok (Ok x) P fails = absurd (false≢true fails)
 not_ok (Err why) P fails = tt
 
-pub surely : {A : Type 0} (result : Result A OpenAnswer) (P : Type 0) → OnErr result ⊥ → IfOk result (λ x. P) → P
-surely (Ok x) P fine fact = fact
-surely (Err why) P fine fact = absurd fine
-
-pub not_err : {A : Type 0} (result : Result A OpenAnswer) (P : Type 0) → OnErr result ⊥ → OnErr result P
-not_err (Ok x) P fine = tt
-not_err (Err why) P fine = absurd fine
-
-pub never : {A : Type 0} (result : Result A OpenAnswer) (P : OpenAnswer → Type 0) → OnErr result ⊥ → IfErr result P
-never (Ok x) P fine = tt
-never (Err why) P fine = absurd fine
-
-pub always : {A : Type 0} (result : Result A OpenAnswer) (P : Type 0) → P → IfOk result (λ x. P)
-always (Ok x) P fact = fact
-always (Err why) P fact = tt
-
--- what was in use isn't blank
-pub some_found : (key : List ℕ) (h : Held) (m : Moment) (found : Option Header) → MountsTo flat key h m found → 0 < h.sequence → (header : Header) × (found ≡ Some header)
-some_found key h m None mounts used = absurd (let zero = mounts.0 in omega arith)
-some_found key h m (Some header) mounts used = (header, refl)
-
--- why a board isn't opened once a header was found is no refusal
-pub kept_refusal : (view : View) (image : ℕ → List ℕ) (n : ℕ) (why : OpenAnswer) → IsKeptFromOpening why → IsRefusal flat view image n why
+-- why a board isn't opened once the rule opens it is no refusal
+kept_refusal : (view : View) (image : ℕ → List ℕ) (n : ℕ) (why : OpenAnswer) → IsKeptFromOpening why → IsRefusal flat view image n why
 kept_refusal view image n why kept =
     ⊎_elim
     (λ (e : why ≡ Failed). subst (IsRefusal flat view image n) (sym e) tt)
     (λ (e : why ≡ NoMemory). subst (IsRefusal flat view image n) (sym e) tt)
     kept
+
+-- what was found has this sequence, if it is a header
+pub if_found : (found : Option Header) (sequence : ℕ) → sequence ≡ sequence_of found → IfSome found (λ header. header.sequence ≡ sequence)
+if_found None sequence is = tt
+if_found (Some header) sequence is = sym is
+
+-- what was found by the rule, and then taken up or not, is so by the rule
+pub ruled_opening : (view : View) (image : ℕ → List ℕ) (n : ℕ) (found : Option Header) (result : Result Opened OpenAnswer) → IsRuledBy flat view image n (Ok found)
+    → IfErr result (λ why. IsKeptFromOpening why) → IfOk result (λ o. IfSome found (λ header. header.sequence ≡ o.sequence))
+    → IfErr result (λ why. IsRefusal flat view image n why) × IfOk result (λ o. IsAdmitted flat view image n o.sequence)
+ruled_opening view image n found (Ok o) ruled kept at = (tt, admitted_by flat view image n o.sequence found ruled.1 at)
+ruled_opening view image n found (Err why) ruled kept at = (kept_refusal view image n why kept, tt)

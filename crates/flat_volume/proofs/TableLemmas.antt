@@ -63,7 +63,8 @@ pub entry_here : (at : ℕ) (entry : TreeEntry) (bytes old new : List ℕ) → I
 entry_here at entry bytes old new is fits patch small_copy small_sequence =
     let whole : part at 64 new ≡ bytes = subst (λ (n : ℕ). part at n new ≡ bytes) is.long (ap (part at (length bytes)) patch ∙ part_here at bytes old (omega (arith, is.long, fits))) in
     let copy : from_le_bytes w64 (part at 8 new) ≡ entry.copy
-    = ap (from_le_bytes w64) (ap (λ (k : ℕ). part k 8 new) (from_start at) ∙ sym (part_part at 64 0 8 new (omega arith)) ∙ ap (part 0 8) whole ∙ is.copy) ∙ from_le_bytes-to_le_bytes_8 entry.copy small_copy in
+    = ap (from_le_bytes w64) (ap (λ (k : ℕ). part k 8 new) (from_start at) ∙ sym (part_part at 64 0 8 new (omega arith)) ∙ ap (part 0 8) whole ∙ is.copy)
+    ∙ from_le_bytes-to_le_bytes_8 entry.copy small_copy in
     let sequence : from_le_bytes w64 (part (at + 8) 8 new) ≡ entry.sequence
     = ap (from_le_bytes w64) (sym (part_part at 64 8 8 new (omega arith)) ∙ ap (part 8 8) whole ∙ is.sequence) ∙ from_le_bytes-to_le_bytes_8 entry.sequence small_sequence in
     let iv : part (at + 16) 16 new ≡ entry.iv = sym (part_part at 64 16 16 new (omega arith)) ∙ ap (part 16 16) whole ∙ is.iv in

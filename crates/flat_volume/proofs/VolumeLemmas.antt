@@ -1,9 +1,9 @@
 -- What a volume that is open keeps while its board is read, and what its calls answer.
-use Rattle.std.proofs.Common.{◌≡◌, ◌≢◌, ◌≤◌, ◌<◌, ◌+◌, ◌-◌, ◌^◌, ◌∙◌, if◌then◌else◌, ℕ, true, false, List, [], Option, Some, None, Result, Ok, Err, nat_lt, refl, sym, ap, subst, inl, arith}
+use Rattle.std.proofs.Common.{◌≡◌, ◌≢◌, ◌≤◌, ◌<◌, ◌+◌, ◌-◌, ◌^◌, ◌∙◌, if◌then◌else◌, ℕ, true, false, List, ◌∷◌, Option, Some, None, Result, Ok, Err, nat_lt, refl, sym, ap, subst, inl, arith}
 use Rattle.std.proofs.lemmas.Bool.Decides.{nat_tests}
 use Rattle.tee_base.specs.Crash.{LeavesOnly, read_as}
 use Rattle.tee_base.specs.Faults.{Rose}
-use Rattle.tee_base.specs.declared.limits.TheConstants.{HOSTS, LEAVES}
+use Rattle.tee_base.specs.declared.limits.TheConstants.{MAX_HOSTS, LEAVES}
 use Rattle.tee_base.proofs.Crash.{joined, weaker}
 use Rattle.store_api.specs.declared.answer.Mismatch.{Mismatch}
 use Rattle.store_api.specs.declared.leaves.Leaf.{Leaf}
@@ -231,14 +231,14 @@ err_undamaged A B answers.Failed damage shows none = tt
 err_undamaged A B answers.NoMemory damage shows none = tt
 
 -- there is a leaf of these numbers
-pub leaf_is : (region leaf : ℕ) → region < HOSTS → leaf < LEAVES → is_leaf region leaf ≡ true
+pub leaf_is : (region leaf : ℕ) → region < MAX_HOSTS → leaf < LEAVES → is_leaf region leaf ≡ true
 leaf_is region leaf r l =
-    let one : nat_lt region HOSTS ≡ true = grind (arith, nat_tests) in
+    let one : nat_lt region MAX_HOSTS ≡ true = grind (arith, nat_tests) in
     let two : nat_lt leaf LEAVES ≡ true = grind (arith, nat_tests) in
     rw (one, two) refl
 
 -- the bytes of a leaf, and its damage, by its number among all
-pub text_of : (view : View) (root : TreeEntry) (region leaf number : ℕ) → region < HOSTS → leaf < LEAVES → number ≡ number_of region leaf
+pub text_of : (view : View) (root : TreeEntry) (region leaf number : ℕ) → region < MAX_HOSTS → leaf < LEAVES → number ≡ number_of region leaf
     → leaf_text view.key view.state.reads (FIRST_LEAF + number) (entry_of (table_in view.state.reads root) number)
     ≡ leaves_of flat view.key view.state.reads root region leaf
 unfolding leaves_of
@@ -246,7 +246,7 @@ text_of view root region leaf number r l is =
     let there : is_leaf region leaf ≡ true = leaf_is region leaf r l in
     rw (there, is) refl
 
-pub damage_of : (table : Option Table) (view : View) (root : TreeEntry) (region leaf number : ℕ) → region < HOSTS → leaf < LEAVES → number ≡ number_of region leaf
+pub damage_of : (table : Option Table) (view : View) (root : TreeEntry) (region leaf number : ℕ) → region < MAX_HOSTS → leaf < LEAVES → number ≡ number_of region leaf
     → path_damage view.key (table_now table view.state.reads root) view.state.reads root number ≡ damage_now table view root region leaf
 unfolding damage_now
 damage_of table view root region leaf number r l is =
@@ -254,7 +254,7 @@ damage_of table view root region leaf number r l is =
     rw (there, is) refl
 
 -- a damage of the table is one of each leaf
-pub table_shows : (table : Option Table) (view : View) (root : TreeEntry) (region : ℕ) (tags : Mismatch) → region < HOSTS
+pub table_shows : (table : Option Table) (view : View) (root : TreeEntry) (region : ℕ) (tags : Mismatch) → region < MAX_HOSTS
     → table_damage view.key (table_now table view.state.reads root) root ≡ Some tags → damage_now table view root region 0 ≡ Some tags
 table_shows table view root region tags r shows =
     sym (damage_of table view root region 0 (number_of region 0) r (omega arith) refl)
@@ -305,10 +305,11 @@ read_replaces region named e before old new is key only shows =
           (reads_crash old new before.root before.sequence before.table is only);
     }
 
--- a run of calls makes no order to what the volume stands on
+-- a run of calls keeps what the volume stands on: a board of this size and key, and its orders
 pub foundation_same : (old new : View) → CallRun true old new
-    → ◌≡◌ {A = Foundation} (record { place = []; orders = new.state.orders; ordered = new.ordered }) (record { place = []; orders = old.state.orders; ordered = old.ordered })
-foundation_same old new run = λ i. record { place = []; orders = run.orders i; ordered = run.ordered i }
+    → ◌≡◌ {A = Foundation} (record { place = new.size ∷ new.key; orders = new.state.orders; ordered = new.ordered })
+    (record { place = old.size ∷ old.key; orders = old.state.orders; ordered = old.ordered })
+foundation_same old new run = λ i. record { place = run.size i ∷ run.key i; orders = run.orders i; ordered = run.ordered i }
 
 -- what counts of a table after a read
 pub tables_same : (table table' : Option Table) (old new : View) (root : TreeEntry) → new.state.reads ≡ old.state.reads
@@ -323,7 +324,7 @@ crash_read old new root sequence table is key only =
     (reads_crash old new root sequence table is only)
 
 -- the bytes that were read are those that are held
-pub text_read : (view : View) (root : TreeEntry) (sequence : ℕ) (table : Option Table) (region leaf number : ℕ) (bytes : List ℕ) → IsOpen view root sequence table → region < HOSTS → leaf < LEAVES
+pub text_read : (view : View) (root : TreeEntry) (sequence : ℕ) (table : Option Table) (region leaf number : ℕ) (bytes : List ℕ) → IsOpen view root sequence table → region < MAX_HOSTS → leaf < LEAVES
     → number ≡ number_of region leaf → bytes ≡ leaf_text view.key view.state.reads (FIRST_LEAF + number) (entry_of (table_now table view.state.reads root) number)
     → bytes ≡ leaves_of flat view.key view.state.reads root region leaf
 text_read view root sequence table region leaf number bytes is r l at read =
@@ -331,7 +332,7 @@ text_read view root sequence table region leaf number bytes is r l at read =
     ∙ text_of view root region leaf number r l at
 
 -- damage that a commit answers is one of a leaf at its return
-pub err_shows : (A B : Type 0) (e : LeafAnswer) (view : View) (key : List ℕ) (root : TreeEntry) (region : ℕ) (table : Option Table) → view.key ≡ key → table ≡ None → region < HOSTS
+pub err_shows : (A B : Type 0) (e : LeafAnswer) (view : View) (key : List ℕ) (root : TreeEntry) (region : ℕ) (table : Option Table) → view.key ≡ key → table ≡ None → region < MAX_HOSTS
     → IfMismatch {A = A} (Err e) (λ tags. table_damage key (table_in view.state.reads root) root ≡ Some tags)
     → IfMismatch {A = B} (Err e) (λ tags. (number : ℕ) × (number < LEAVES) × (damage_now table view root region number ≡ Some tags))
 err_shows A B answers.Lost view key root region table same none r shows = tt

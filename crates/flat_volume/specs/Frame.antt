@@ -3,13 +3,14 @@ use Rattle.std.proofs.Common.{◌≡◌, ◌≤◌, ◌<◌, ◌+◌, ◌-◌, �
 use Rattle.std.specs.Int.{w64, from_le_bytes}
 use Rattle.std.proofs.lemmas.Bool.Decides.{nat_tests}
 use Rattle.std.proofs.lemmas.List.{drop-replicate, take-replicate}
-use Rattle.tee_base.specs.declared.limits.TheConstants.{BLOCK_BYTES, HOSTS, LEAVES}
+use Rattle.tee_base.specs.declared.limits.TheConstants.{BLOCK_BYTES, MAX_HOSTS, LEAVES}
 use Rattle.store_api.specs.declared.answer.Mismatch.{Mismatch}
 use Rattle.epoch.specs.Forms.{IsFramed, SameUsed}
 use Rattle.epoch.specs.Parts.{part}
 use Rattle.epoch.specs.declared.header.TreeEntry.{TreeEntry}
 use Rattle.flat_volume.specs.declared.places.TheConstants.{FIRST_LEAF, FIRST_TABLE, TABLE_BLOCKS, TABLE_BYTES, ENTRY_BYTES, ALL_LEAVES}
-use Rattle.flat_volume.specs.Flat.{block_at, copy_of, entry_of, first_damage, flat, flat_uses, joined_below, leaf_damage, leaf_text, needs_copy, number_of, path_damage, table_damage, table_in, zero_table, zeros_of}
+use Rattle.flat_volume.specs.Flat.{block_at, copy_of, entry_of, first_damage, flat, flat_uses, joined_below, leaf_damage, leaf_text}
+use Rattle.flat_volume.specs.Flat.{needs_copy, number_of, path_damage, table_damage, table_in, zero_table, zeros_of}
 
 -- a copy is 0 or 1
 pub copy_below : (copy : ℕ) → copy_of copy < 2
@@ -126,7 +127,7 @@ pub zero_entry : (n : ℕ) → n < ALL_LEAVES → (entry_of zero_table n).sequen
 zero_entry n below = ap (from_le_bytes w64) (part_zeros (ENTRY_BYTES * n + 8) 8 TABLE_BYTES (omega arith))
 
 -- a leaf's number is below that of all
-pub number_below : (r l : ℕ) → r < HOSTS → l < LEAVES → number_of r l < ALL_LEAVES
+pub number_below : (r l : ℕ) → r < MAX_HOSTS → l < LEAVES → number_of r l < ALL_LEAVES
 number_below r l region leaf = omega arith
 
 pub zero_in : (image : ℕ → List ℕ) (root : TreeEntry) → root.sequence ≡ 0 → table_in image root ≡ zero_table

@@ -32,7 +32,8 @@ pub rests_open : (view : View) (root : TreeEntry) (sequence : ℕ) (table : Opti
     → (o : Option Held) → read_as (held_of flat view.key) (left_since view) (moment view) o → o ≡ Some (held_now view root sequence)
 rests_open view root sequence table is o left =
     let c : Outcome = left.0 in
-    let now : IsLeft view.state left.0 = ⊎_elim (λ (now : IsLeft view.state left.0). now) (λ (was : WasLeft view.past (moment view) left.0). absurd (none_now view.past (moment view) left.0 (omega arith) was)) left.1 in
+    let now : IsLeft view.state left.0 = ⊎_elim (λ (now : IsLeft view.state left.0). now) (λ (was : WasLeft view.past (moment view) left.0). absurd
+    (none_now view.past (moment view) left.0 (omega arith) was)) left.1 in
     let rests = is.mounted.rests in
     let image : (k : ℕ) → left.0.image k ≡ view.state.reads k = λ k. now.kept k (rests.pending k) ∙ sym (rests.as_read k) in
     let whole : left.0.image ≡ view.state.reads = λ i k. image k i in
@@ -51,7 +52,8 @@ pub sound_open : (view : View) (root : TreeEntry) (sequence : ℕ) (table : Opti
     → (region leaf : ℕ) → damage_now table view root region leaf ≡ None
 unfolding damage_now
 sound_open view root sequence table is region leaf =
-    elim (is_leaf region leaf) as (λ b. is_leaf region leaf ≡ b → (if b then path_damage view.key (table_now table view.state.reads root) view.state.reads root (number_of region leaf) else None) ≡ None) [
+    elim (is_leaf region leaf) as (λ b. is_leaf region leaf ≡ b → (if b then path_damage view.key (table_now table view.state.reads root) view.state.reads root
+    (number_of region leaf) else None) ≡ None) [
       | true ↦ λ e.
           ap (λ (t : List ℕ). path_damage view.key t view.state.reads root (number_of region leaf)) (kept_table table view.state.reads root is.kept)
           ∙ sealed_each flat view.key root view.state.reads is.mounted.sealed region leaf (region_below region leaf e) (leaf_below region leaf e)

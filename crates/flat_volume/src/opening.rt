@@ -1,20 +1,21 @@
 //! How a flat volume is opened and formatted, and opened again.
-ghost use Rattle.std.specs.Prelude.{◌≡◌, ◌≤◌, ◌<◌, ℕ, true, false, None, Some, Err, IsTrue, IfOk, IfErr, OnOk, OnErr, refl};
+ghost use Rattle.std.specs.Prelude.{◌≡◌, ◌≤◌, ◌<◌, ℕ, true, false, None, Some, Err, IsTrue, IfOk, IfErr, IfSome, OnOk, OnErr, refl};
 ghost use Rattle.tee_base.specs.Faults.{Rose};
 ghost use Rattle.tee_base.specs.declared.limits.TheConstants.{BOARD_BLOCKS};
 ghost use Rattle.store_api.specs.Volumes.{Held};
 ghost use Rattle.board.specs.Moment.{IsCounter};
 ghost use Rattle.board.specs.Runs.{Rests};
 ghost use Rattle.board.specs.Steps.{CallRun};
+ghost use Rattle.epoch.specs.Finding.{sequence_of};
 ghost use Rattle.epoch.specs.Forms.{held};
 ghost use Rattle.epoch.specs.Mounting.{MountsTo, after_found};
-ghost use Rattle.epoch.specs.Mounts.{IsKeptFromOpening, IsRefusal, after_opening};
+ghost use Rattle.epoch.specs.Mounts.{IsAdmitted, IsKeptFromOpening, IsRefusal, after_opening};
 ghost use Rattle.epoch.specs.Past.{KeepsPast};
 ghost use Rattle.epoch.specs.declared.answer.OpenAnswer.TheVariants as refusals;
 ghost use Rattle.epoch.specs.declared.header.Header.{Header as Kept};
 ghost use Rattle.flat_volume.specs.Flat.{flat, zero_table};
 ghost use Rattle.flat_volume.specs.Keeping.{IsOpen, IsVerified, held_now};
-ghost use Rattle.flat_volume.specs.Opens.{Opens};
+ghost use Rattle.flat_volume.specs.Opens.{Opens, root_of};
 
 use crate::table::Table;
 use crate::volume::{FlatVolume, Opened};
@@ -37,10 +38,14 @@ fn open_board<B: Board>(alloc: Global, board: &mut B) -> Result<Opened, OpenAnsw
     ensures honest { B.honest board.old → B.honest board.new }
     ensures rule { IsTrue B.tells_reads → (counter : ℕ)
         × IfErr result (λ why. IsRefusal flat (B.view board.old)
-        (B.view board.old).state.reads counter why) }
+        (B.view board.old).state.reads counter why)
+        × IfOk result (λ o. IsAdmitted flat (B.view board.old)
+        (B.view board.old).state.reads counter o.sequence) }
     ensures exact { B.honest board.old → (counter : ℕ) × IsCounter (B.view board.old).state counter
         × IfErr result (λ why. IsRefusal flat (B.view board.old)
-        (B.view board.old).state.reads counter why) }
+        (B.view board.old).state.reads counter why)
+        × IfOk result (λ o. IsAdmitted flat (B.view board.old)
+        (B.view board.old).state.reads counter o.sequence) }
     ensures opens { B.honest board.old → (n : ℕ) (h : Held) → Rests n (B.view board.old).state
         → BOARD_BLOCKS ≤ (B.view board.old).size
         → held flat (B.view board.old).key (B.view board.old).state.reads n ≡ Some h
@@ -67,25 +72,31 @@ fn take_up<B: Board>(
     ensures past { B.honest board.old → KeepsPast (B.view board.old) (B.view board.new) }
     ensures same { (header : Kept) → found ≡ Some header
         → (B.view board.new ≡ B.view board.old) × OnErr result ⊥ }
+    ensures sequence { IfOk result (λ o. IfSome found (λ header. header.sequence ≡ o.sequence)) }
     ensures opens { B.honest board.old → (h : Held)
         → MountsTo flat (B.view board.old).key h (B.view board.old).state found
         → Opens h (after_found found h) result (B.view board.old) (B.view board.new) }
 {
     match found {
-        Some(header) => Ok(opened_at(header)),
+        Some(_) => Ok(opened_at(found)),
         None => format_board(alloc, board),
     }
 }
 
-/// The root and the sequence of a header. Its table isn't read yet.
-fn opened_at(header: Header) -> Opened
-    ensures root { result.root ≡ header.root }
-    ensures sequence { result.sequence ≡ header.sequence }
+/// The root and the sequence of the header that was found; where none counts, no root, at the sequence 0. The table isn't
+/// read yet.
+fn opened_at(found: Option<Header>) -> Opened
+    ensures root { result.root ≡ root_of found }
+    ensures sequence { result.sequence ≡ sequence_of found }
     ensures table { result.table ≡ None }
 {
+    let (root, sequence) = match found {
+        Some(header) => (header.root, header.sequence),
+        None => (NO_ROOT, 0),
+    };
     Opened {
-        root: header.root,
-        sequence: header.sequence,
+        root,
+        sequence,
         table: None,
     }
 }
@@ -132,42 +143,28 @@ fn blank_table(alloc: Global) -> Result<Table, OpenAnswer>
 }
 
 impl<B: Board + Drop> FlatVolume<B> {
-    /// Takes up what was found on the board of a lost volume. The table is read again when it is needed.
-    ///
-    /// # Errors
-    ///
-    /// `Failed` where a call of the board failed, and `NoMemory`, where it is formatted. The volume stays lost.
-    fn resume(&mut self, found: Option<Header>) -> Result<u64, OpenAnswer>
-        requires { self.old.lost ≡ true }
-        ensures calls { CallRun true (B.view self.old.board) (B.view self.new.board) }
-        ensures cause { result ≡ Err refusals.Failed
-            → Rose (B.view self.old.board).state.faults (B.view self.new.board).state.faults }
-        ensures kept { IfErr result (λ why. IsKeptFromOpening why) }
-        ensures works { IfOk result (λ sequence. self.new.lost ≡ false) }
-        ensures lost { OnErr result (self.new.lost ≡ true) }
-        ensures sequence { IfOk result (λ sequence. self.new.sequence ≡ sequence) }
-        ensures honest { B.honest self.old.board → B.honest self.new.board }
-        ensures past { B.honest self.old.board
-            → KeepsPast (B.view self.old.board) (B.view self.new.board) }
-        ensures same { (header : Kept) → found ≡ Some header
-            → (B.view self.new.board ≡ B.view self.old.board) × OnErr result ⊥ }
-        ensures opened { B.honest self.old.board → (h : Held)
+    /// Takes up what was found on the board of a lost volume, and gives the sequence. Where no header counts, the volume is
+    /// empty, at the sequence 0, and nothing is written. The table is read again when it is needed.
+    fn resume(&mut self, found: Option<Header>) -> u64
+        ensures board { self.new.board ≡ self.old.board }
+        ensures works { self.new.lost ≡ false }
+        ensures sequence { self.new.sequence ≡ result }
+        ensures found { result ≡ sequence_of found }
+        ensures opened { (h : Held)
             → MountsTo flat (B.view self.old.board).key h (B.view self.old.board).state found
-            → IfOk result (λ sequence.
-            IsOpen (B.view self.new.board) self.new.root self.new.sequence self.new.table
-            × (held_now (B.view self.new.board) self.new.root self.new.sequence
-            ≡ after_found found h)) }
+            → IsOpen (B.view self.new.board) self.new.root self.new.sequence self.new.table
+            × (held_now (B.view self.new.board) self.new.root self.new.sequence ≡ h) }
     {
         let Opened {
             root,
             sequence,
             table,
-        } = take_up(self.alloc, &mut self.board, found)?;
+        } = opened_at(found);
         self.root = root;
         self.sequence = sequence;
         self.table = table;
         self.lost = false;
-        Ok(sequence)
+        sequence
     }
 }
 
@@ -210,13 +207,13 @@ impl<B: Board + Drop> BoardVolume<B> for FlatVolume<B> {
     fn reopen(&mut self) -> Result<u64, OpenAnswer> {
         self.lost = true;
         let found = mount_again(&mut self.board, FLAT_VERSION)?;
-        self.resume(found)
+        Ok(self.resume(found))
     }
 
     fn power(&mut self, pick: u64) -> Result<u64, OpenAnswer> {
         self.lost = true;
         let found = mount_after_power(&mut self.board, pick, FLAT_VERSION)?;
-        self.resume(found)
+        Ok(self.resume(found))
     }
 
     fn fuse(&mut self, calls: u32) {

@@ -1,8 +1,10 @@
-//! A flat volume on boards in memory: formatting, commits, each failure of a call within a commit, and older images.
+//! A flat volume on boards in memory: formatting, commits, each failure of a call within a commit, a header of sequence 0,
+//! and older images.
 use crate::FlatVolume;
+use crate::write::NO_ROOT;
 use board::Board;
 use boards::MemBoard;
-use epoch::{BoardVolume, OpenAnswer};
+use epoch::{BoardVolume, FLAT_VERSION, Header, OpenAnswer, flip, lay};
 use std::alloc::Global;
 use std::process::Abort;
 use std::test::Fail;
@@ -100,6 +102,36 @@ fn a_commit_is_found_at_the_next_opening(rt: HostRuntime) -> Result<(), Fail> {
         assert_eq!(rt; volume.reopen()?, 4);
         is_filled(&rt, &mut volume, 0x33)?;
         assert_eq!(rt; volume.into_board().counter()?, 4);
+    }
+    Ok(())
+}
+
+/// An image with a header of sequence 0, whose root stands for zeros.
+fn image_of_zero(alloc: Global) -> Result<Bytes, Fail> {
+    let header = Header {
+        version: FLAT_VERSION,
+        sequence: 0,
+        root: NO_ROOT,
+    };
+    let mut board = MemBoard::blank(alloc, KEY, BLOCKS)?;
+    lay(&mut board, &header)?;
+    flip(&mut board, 0)?;
+    Ok(board.image(alloc)?)
+}
+
+#[test]
+fn a_header_of_sequence_0_is_opened(rt: HostRuntime) -> Result<(), Fail> {
+    let image = image_of_zero(rt.alloc())?;
+    for pick in [0, 1] {
+        let board = board_of(&rt, rt.alloc(), &image, 0)?;
+        let mut volume = opened(rt.alloc(), board)?;
+        assert_eq!(rt; volume.sequence(), 0);
+        assert_eq!(rt; volume.reopen()?, 0);
+        is_filled(&rt, &mut volume, 0)?;
+        assert_eq!(rt; volume.power(pick)?, 0);
+        assert_eq!(rt; replace(rt.alloc(), &mut volume, 0x11)?, Ok(1));
+        assert_eq!(rt; volume.power(pick)?, 1);
+        is_filled(&rt, &mut volume, 0x11)?;
     }
     Ok(())
 }

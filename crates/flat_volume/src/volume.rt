@@ -1,9 +1,9 @@
 //! A flat volume on a board.
-ghost use Rattle.std.specs.Prelude.{◌≡◌, ◌≢◌, ◌≤◌, ◌<◌, ◌+◌, ◌-◌, ◌^◌, ◌⊎◌, true, false, [], Option, Some, Err, IsTrue, IfOk};
+ghost use Rattle.std.specs.Prelude.{◌≡◌, ◌≢◌, ◌≤◌, ◌<◌, ◌+◌, ◌-◌, ◌^◌, ◌⊎◌, true, false, ◌∷◌, Option, Some, Err, IsTrue, IfOk};
 ghost use Rattle.std.proofs.Props.{props};
 ghost use Rattle.tee_base.specs.Crash.{read_as};
 ghost use Rattle.tee_base.specs.Faults.{Rose};
-ghost use Rattle.tee_base.specs.declared.limits.TheConstants.{BOARD_BLOCKS, HOSTS};
+ghost use Rattle.tee_base.specs.declared.limits.TheConstants.{BOARD_BLOCKS, MAX_HOSTS};
 ghost use Rattle.store_api.specs.Volumes.{IfMismatch};
 ghost use Rattle.store_api.specs.declared.leaves.LeafAnswer.TheVariants as answers;
 ghost use Rattle.board.specs.Moment.{moment, left_since};
@@ -64,7 +64,7 @@ fn replace<B: Board>(
     leaves: &Leaves,
 ) -> Result<Opened, LeafAnswer>
     requires size { VOLUME_BLOCKS ≤ (B.view board.old).size }
-    requires region { region < HOSTS }
+    requires region { region < MAX_HOSTS }
     requires sequence { opened.sequence + 1 < 2 ^ 64 }
     ensures calls { CallRun true (B.view board.old) (B.view board.new) }
     ensures cause { result ≡ Err answers.Failed
@@ -146,7 +146,7 @@ impl<B: Board + Drop> Volume for FlatVolume<B> {
         lost = v.lost;
         faults = (B.view v.board).state.faults;
         foundation = record {
-          place = [];
+          place = (B.view v.board).size ∷ (B.view v.board).key;
           orders = (B.view v.board).state.orders;
           ordered = (B.view v.board).ordered;
         };

@@ -1,6 +1,6 @@
 //! What a commit of a flat volume writes: the copies of its leaves, and the whole table.
 ghost use Rattle.std.specs.Prelude.{◌≡◌, ◌≢◌, ◌≤◌, ◌<◌, ◌+◌, ◌-◌, ◌*◌, ◌^◌, ℕ, Bool, true, List, None, IfOk, OnOk, is_ok};
-ghost use Rattle.tee_base.specs.declared.limits.TheConstants.{BOARD_BLOCKS, HOSTS};
+ghost use Rattle.tee_base.specs.declared.limits.TheConstants.{BOARD_BLOCKS, MAX_HOSTS};
 ghost use Rattle.store_api.specs.Ascending.{is_ascending};
 ghost use Rattle.store_api.specs.Volumes.{replaced};
 ghost use Rattle.board.specs.Moment.{View};
@@ -97,7 +97,7 @@ fn write_leaves<B: Board>(
     sequence: u64,
 ) -> Result<(), BoardFailed>
     requires size { VOLUME_BLOCKS ≤ (B.view board.old).size }
-    requires region { region < HOSTS }
+    requires region { region < MAX_HOSTS }
     requires ascending { is_ascending leaves.now ≡ true }
     requires sequence { 0 < sequence }
     ensures calls { CallRun (is_ok result) (B.view board.old) (B.view board.new) }

@@ -1,5 +1,6 @@
 -- The first handle of a number: where it is found, and what a change of it leaves.
-use Rattle.std.proofs.Common.{◌≡◌, ◌<◌, ◌+◌, ℕ, zero, suc, Bool, true, false, List, None, Some, [], ◌∷◌, length, get_or, set, find, position, nat_lt, sum_by, option_map, refl, sym, ap, ◌∙◌, ⊎_elim, arith}
+use Rattle.std.proofs.Common.{◌≡◌, ◌<◌, ◌+◌, ℕ, zero, suc, Bool, true, false, List, None, Some, [], ◌∷◌, length, get_or, set}
+use Rattle.std.proofs.Common.{find, position, nat_lt, sum_by, option_map, refl, sym, ap, ◌∙◌, ⊎_elim, arith}
 use Rattle.std.specs.List.{position_or_len}
 use Rattle.std.specs.Option.{option_and_then}
 use Rattle.std.proofs.lemmas.Bool.{cases_Bool, cond-true, ltb-false}
@@ -12,7 +13,8 @@ use Rattle.handle_table.specs.declared.handle.Entry.{Entry}
 use Rattle.handle_table.specs.Handles.{share_of, entry_share, change_first, entry_sought, sought, entry_moved, moved}
 use Rattle.handle_table.proofs.Counts.{weight, weight_of}
 
-first_changed : {X : Type 0} (q : X → Bool) (f : X → X) (xs : List X) (i : ℕ) (d : X) → i < length xs → q (get_or xs i d) ≡ true → ((k : ℕ) → k < i → q (get_or xs k d) ≡ false) → set xs i (f (get_or xs i d)) ≡ change_first q f xs
+first_changed : {X : Type 0} (q : X → Bool) (f : X → X) (xs : List X) (i : ℕ) (d : X) → i < length xs → q (get_or xs i d) ≡ true → ((k : ℕ) → k < i → q (get_or xs k d) ≡ false) →
+    set xs i (f (get_or xs i d)) ≡ change_first q f xs
 first_changed q f [] i d inside here before = absurd (omega (arith, inside))
 first_changed q f (x ∷ xs) zero d inside here before = rw here refl
 first_changed q f (x ∷ xs) (suc i) d inside here before =
@@ -91,7 +93,8 @@ moved_share : (to : List ℕ) (h : Handle) → share_of (moved to h) ≡ option_
 moved_share to (Persistent id flags position) = refl
 moved_share to Transient = refl
 
-pub sum_moved : (p : Share → Bool) (q : Entry → Bool) (to : List ℕ) (xs : List Entry) → sum_by (weight_of p) (change_first q (entry_moved to) xs) + weight p (option_and_then entry_share (find q xs)) ≡ sum_by (weight_of p) xs + weight p (option_map (on_other to) (option_and_then entry_share (find q xs)))
+pub sum_moved : (p : Share → Bool) (q : Entry → Bool) (to : List ℕ) (xs : List Entry) → sum_by (weight_of p) (change_first q (entry_moved to) xs) + weight p
+    (option_and_then entry_share (find q xs)) ≡ sum_by (weight_of p) xs + weight p (option_map (on_other to) (option_and_then entry_share (find q xs)))
 sum_moved p q to [] = refl
 sum_moved p q to (x ∷ xs) =
     ⊎_elim

@@ -14,7 +14,8 @@ any_or : (b rest : Bool) (n : ℕ) → rest ≡ nat_lt 0 n → (b || rest) ≡ n
 any_or true rest n e = sym (lt-ltb 0 (cond true 1 0 + n) (omega arith))
 any_or false rest n e = let z : n ≡ 0 + n = omega arith in e ∙ ap (λ m. nat_lt 0 m) z
 
-any_cons : (p : Flags → Bool) (on : Bool) (s : Share) (ss : List Share) (n : ℕ) → list_any p (map (λ s. s.flags) ss) ≡ nat_lt 0 n → list_any p (map (λ s. s.flags) (cond on (s ∷ ss) ss)) ≡ nat_lt 0 (cond (on && p s.flags) 1 0 + n)
+any_cons : (p : Flags → Bool) (on : Bool) (s : Share) (ss : List Share) (n : ℕ) → list_any p (map (λ s. s.flags) ss) ≡ nat_lt 0 n →
+    list_any p (map (λ s. s.flags) (cond on (s ∷ ss) ss)) ≡ nat_lt 0 (cond (on && p s.flags) 1 0 + n)
 any_cons p true s ss n e = any_or (p s.flags) (list_any p (map (λ s. s.flags) ss)) n e
 any_cons p false s ss n e = let z : n ≡ 0 + n = omega arith in e ∙ ap (λ m. nat_lt 0 m) z
 

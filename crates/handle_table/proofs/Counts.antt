@@ -1,5 +1,6 @@
 -- Shares that are noted, counted by any test.
-use Rattle.std.proofs.Common.{◌≡◌, ◌<◌, ◌≤◌, ◌+◌, ℕ, Bool, true, false, not, cond, List, Option, None, Some, [], ◌∷◌, ◌++◌, length, get_or, take, filter, position, count_by, sum_by, IsTrue, refl, sym, ap, ◌∙◌, ⊎_elim, arith}
+use Rattle.std.proofs.Common.{◌≡◌, ◌<◌, ◌≤◌, ◌+◌, ℕ, Bool, true, false, not, cond, List, Option, None, Some, [], ◌∷◌, ◌++◌, length, get_or}
+use Rattle.std.proofs.Common.{take, filter, position, count_by, sum_by, IsTrue, refl, sym, ap, ◌∙◌, ⊎_elim, arith}
 use Rattle.std.specs.List.{cons_option}
 use Rattle.std.specs.Option.{option_to_list}
 use Rattle.std.proofs.lemmas.Bool.{cases_Bool, and_from, eq-eqb}
@@ -76,15 +77,30 @@ gone_le false n = omega arith
 abbrev pub Remains : (Entry → Bool) → List Share → List Entry → ℕ → Type 0
 Remains gone shares handles i = (p : Share → Bool) → count_by p shares + sum_by (weight_gone gone p) (take i handles) ≡ sum_by (weight_of p) handles
 
-pub remains_held : (gone : Entry → Bool) (shares : List Share) (handles : List Entry) (i : ℕ) (x : Entry) → Remains gone shares handles i → i < length handles → x ≡ get_or handles i x → IsTrue (is_held shares x.handle)
+pub remains_held : (gone : Entry → Bool) (shares : List Share) (handles : List Entry) (i : ℕ) (x : Entry) → Remains gone shares handles i → i < length handles →
+    x ≡ get_or handles i x → IsTrue (is_held shares x.handle)
 remains_held gone shares handles i x inv inside read =
-    held_from_weight shares x.handle (λ p. omega (arith, inv p, sum_by_more_le_part (weight_gone gone p) (weight_of p) handles i x inside (λ e. gone_le (gone e) (weight_of p e)), ap (weight_of p) read))
+    held_from_weight shares x.handle (λ p. omega (
+      arith,
+      inv p,
+      sum_by_more_le_part (weight_gone gone p) (weight_of p) handles i x inside (λ e. gone_le (gone e) (weight_of p e)),
+      ap (weight_of p) read,
+    ))
 
-pub remains_gone : (gone : Entry → Bool) (shares after : List Share) (handles : List Entry) (i : ℕ) (x : Entry) → Remains gone shares handles i → i < length handles → x ≡ get_or handles i x → gone x ≡ true → Forgets shares after x.handle → Remains gone after handles (i + 1)
+pub remains_gone : (gone : Entry → Bool) (shares after : List Share) (handles : List Entry) (i : ℕ) (x : Entry) → Remains gone shares handles i → i < length handles →
+    x ≡ get_or handles i x → gone x ≡ true → Forgets shares after x.handle → Remains gone after handles (i + 1)
 remains_gone gone shares after handles i x inv inside read test change p =
-    omega (arith, inv p, sum_by_more (weight_gone gone p) handles i x inside, ap (weight_gone gone p) read, ap {B = ℕ} (λ b. cond b (weight_of p x) 0) test, count-forgotten p shares after x.handle change)
+    omega (
+      arith,
+      inv p,
+      sum_by_more (weight_gone gone p) handles i x inside,
+      ap (weight_gone gone p) read,
+      ap {B = ℕ} (λ b. cond b (weight_of p x) 0) test,
+      count-forgotten p shares after x.handle change,
+    )
 
-pub remains_kept : (gone : Entry → Bool) (shares : List Share) (handles : List Entry) (i : ℕ) (x : Entry) → Remains gone shares handles i → i < length handles → x ≡ get_or handles i x → gone x ≡ false → Remains gone shares handles (i + 1)
+pub remains_kept : (gone : Entry → Bool) (shares : List Share) (handles : List Entry) (i : ℕ) (x : Entry) → Remains gone shares handles i → i < length handles →
+    x ≡ get_or handles i x → gone x ≡ false → Remains gone shares handles (i + 1)
 remains_kept gone shares handles i x inv inside read test p =
     omega (arith, inv p, sum_by_more (weight_gone gone p) handles i x inside, ap (weight_gone gone p) read, ap {B = ℕ} (λ b. cond b (weight_of p x) 0) test)
 
@@ -102,6 +118,7 @@ sum_split t w (x ∷ xs) =
     omega (arith, sum_by-cons f x xs, ap {B = ℕ} (λ b. cond b (w x) 0) no, ap (sum_by w) kept, sum_by-cons w x (filter rest xs), sum_by-cons w x xs, sum_split t w xs))
     (cases_Bool (t x))
 
-pub remains_all : (gone : Entry → Bool) (shares : List Share) (handles : List Entry) (i : ℕ) → Remains gone shares handles i → length handles ≤ i → HoldsFor shares (shares_of (filter (λ e. not (gone e)) handles))
+pub remains_all : (gone : Entry → Bool) (shares : List Share) (handles : List Entry) (i : ℕ) → Remains gone shares handles i → length handles ≤ i →
+    HoldsFor shares (shares_of (filter (λ e. not (gone e)) handles))
 remains_all gone shares handles i inv past p =
     omega (arith, inv p, ap (sum_by (weight_gone gone p)) (take_all i handles past), sum_split gone (weight_of p) handles, count-shares_of p (filter (λ e. not (gone e)) handles))

@@ -1,11 +1,12 @@
 -- The object handles of one application, of all its instances (TEE Internal Core API 1.3, sections 5.5 and 5.7).
-use Rattle.std.specs.Prelude.{ℕ, ◌≡◌, ◌≤◌, ◌==◌, nat_le, Bool, true, false, not, ◌&&◌, List, [], ◌∷◌, ◌++◌, Option, None, Some, if◌then◌else◌, option_map, option_to_list, find, filter, filter_map, map, count_by}
+use Rattle.std.specs.Prelude.{ℕ, ◌≡◌, ◌≤◌, ◌==◌, nat_le, Bool, true, false, not, ◌&&◌, List, [], ◌∷◌, ◌++◌, Option, None, Some}
+use Rattle.std.specs.Prelude.{if◌then◌else◌, option_map, option_to_list, find, filter, filter_map, map, count_by}
 use Rattle.std.specs.List.{list_any}
 use Rattle.std.specs.Option.{option_and_then}
 use Rattle.std.specs.Str.{bytes_eq}
 use Rattle.tee_base.specs.Numbers.{lowest_free}
 use Rattle.tee_base.specs.declared.codes.Flags.{Flags}
-use Rattle.tee_base.specs.declared.limits.TheConstants.{HANDLES}
+use Rattle.tee_base.specs.declared.limits.TheConstants.{MAX_HANDLES}
 use Rattle.share_rules.specs.declared.index.Share.{Share}
 use Rattle.share_rules.specs.Sharing.{Gains, conflict, is_noted}
 use Rattle.handle_table.specs.declared.handle.Handle.{Handle}
@@ -68,7 +69,7 @@ is_at instance number e = (e.instance == instance) && (e.number == number)
 
 -- the instance has as many handles as it may have
 abbrev pub is_full : Table → ℕ → Bool
-is_full t instance = nat_le HANDLES (count_by (is_of instance) t.handles)
+is_full t instance = nat_le MAX_HANDLES (count_by (is_of instance) t.handles)
 
 -- the instance has a handle of this number
 abbrev pub is_there : Table → ℕ → ℕ → Bool
@@ -185,5 +186,5 @@ Forgets old new Transient = new ≡ old
 
 -- what each table keeps: at most sixteen handles of an instance, and exactly their shares are noted
 pub record IsTable (shares : List Share) (t : Table) : Type 0 where
-  pub few : (instance : ℕ) → count_by (is_of instance) t.handles ≤ HANDLES
+  pub few : (instance : ℕ) → count_by (is_of instance) t.handles ≤ MAX_HANDLES
   pub noted : HoldsFor shares (noted t)

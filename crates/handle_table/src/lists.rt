@@ -6,7 +6,7 @@ ghost use Rattle.handle_table.specs.Handles.{is_of, is_at, goes, free_number, sh
 use crate::handle::{Closing, Entry, Handle, Rename};
 use arrayvec::ArrayVec;
 use share_rules::{Share, ShareIndex};
-use tee_base::limits::HANDLES;
+use tee_base::limits::MAX_HANDLES;
 use tee_base::{Bytes, Flags, NoMemory, find_lowest_free};
 
 /// How many handles are of the instance.
@@ -18,10 +18,10 @@ pub fn count_of(handles: &[Entry], instance: u8) -> usize
 
 /// The lowest number of the instance that is free.
 pub fn free_number(handles: &[Entry], instance: u8) -> u8
-    requires { count_by (is_of instance) handles.now ≤ HANDLES }
+    requires { count_by (is_of instance) handles.now ≤ MAX_HANDLES }
     ensures { result ≡ free_number handles.now instance }
 {
-    let mut taken = ArrayVec::<u8, HANDLES>::new();
+    let mut taken = ArrayVec::<u8, MAX_HANDLES>::new();
     for entry in handles {
         if entry.instance == instance {
             taken.push(entry.number);
@@ -47,7 +47,7 @@ pub fn flags_at(handles: &[Entry], instance: u8, number: u32) -> Option<Flags>
 
 /// Adds a handle under the lowest free number of its instance.
 pub fn add(handles: &mut Vec<Entry>, instance: u8, handle: Handle) -> Result<u32, NoMemory>
-    requires { count_by (is_of instance) handles.old.items ≤ HANDLES }
+    requires { count_by (is_of instance) handles.old.items ≤ MAX_HANDLES }
     ensures ok { IfOk result (λ n.
         (n ≡ free_number handles.old.items instance)
         × (handles.new.items

@@ -62,7 +62,7 @@ impl HandleTable {
     pub fn is_full(&self, instance: u8) -> bool
         ensures { result ≡ is_full self.now instance }
     {
-        lists::count_of(self.handles.as_slice(), instance) >= limits::HANDLES
+        lists::count_of(self.handles.as_slice(), instance) >= limits::MAX_HANDLES
     }
 
     /// Adds a handle on a persistent object, at its first byte, and answers its number: the lowest from 1 on that is

@@ -6,7 +6,7 @@ use Rattle.std.proofs.lemmas.List.Quantifiers.{all_pairs_push}
 use Rattle.std.proofs.lemmas.List.Kept.{AllPairs-filter}
 use Rattle.std.proofs.lemmas.List.Sums.{length-filter, count_by-le-length}
 use Rattle.tee_base.specs.Numbers.{lowest_free}
-use Rattle.tee_base.specs.declared.limits.TheConstants.{INSTANCES, SESSIONS}
+use Rattle.tee_base.specs.declared.limits.TheConstants.{MAX_INSTANCES, MAX_SESSIONS}
 use Rattle.tee_base.proofs.LowestFree.{lowest_free-free, lowest_free-positive, lowest_free-near}
 use Rattle.instances.specs.declared.session.Session.{Session}
 use Rattle.instances.specs.declared.session.Slot.{Slot}
@@ -29,7 +29,10 @@ not_taken number xs n k d e inside same =
 pub Fits-push : {X : Type 0} (number : X → ℕ) (most : ℕ) (xs : List X) (y : X) → Fits number most xs → number y ≡ lowest_free (map number xs) → length xs < most → Fits number most (xs ++ y ∷ [])
 Fits-push number most xs y old e room = record {
   few = omega (arith, length_push xs y);
-  numbers = All-push (λ x. (1 ≤ number x) × (number x ≤ most)) xs y old.numbers (omega (arith, e, lowest_free-positive (map number xs)), omega (arith, e, lowest_free-near (map number xs), length-map xs number));
+  numbers = All-push (λ x. (1 ≤ number x) × (number x ≤ most)) xs y old.numbers (
+    omega (arith, e, lowest_free-positive (map number xs)),
+    omega (arith, e, lowest_free-near (map number xs), length-map xs number),
+  );
   apart = all_pairs_push (λ x y. number x ≢ number y) xs y old.apart (λ k d inside. not_taken number xs (number y) k d e inside);
 }
 
@@ -46,7 +49,8 @@ Fits-map number most f xs same old =
     let place : (k : ℕ) (d : _) → k < length xs → number (get_or (map f xs) k d) ≡ number (get_or xs k d) = λ k d inside. ap number (get_or-map f xs k d d inside) ∙ same (get_or xs k d) in
     record {
       few = omega (arith, length-map xs f, old.few);
-      numbers = All-map (λ x. (1 ≤ number x) × (number x ≤ most)) f xs (All-weaker (λ x. (1 ≤ number x) × (number x ≤ most)) (λ x. (1 ≤ number (f x)) × (number (f x) ≤ most)) (λ x h. (omega (arith, same x, h.0), omega (arith, same x, h.1))) xs old.numbers);
+      numbers = All-map (λ x. (1 ≤ number x) × (number x ≤ most)) f xs (All-weaker (λ x. (1 ≤ number x) × (number x ≤ most)) (λ x. (1 ≤ number (f x)) × (number (f x) ≤ most))
+          (λ x h. (omega (arith, same x, h.0), omega (arith, same x, h.1))) xs old.numbers);
       apart = λ i j d lt inside. let within : j < length xs = omega (arith, length-map xs f) in λ e. old.apart i j d lt within (sym (place i d (omega arith)) ∙ e ∙ place j d within);
     }
 
@@ -56,14 +60,14 @@ number_of_slot slot = slot.number
 abbrev pub number_of : Session → ℕ
 number_of s = s.number
 
-pub slots_Fits : (t : Table) → IsTable t → Fits number_of_slot INSTANCES t.slots
+pub slots_Fits : (t : Table) → IsTable t → Fits number_of_slot MAX_INSTANCES t.slots
 slots_Fits t old = record { few = old.few_slots; numbers = old.instance_numbers; apart = old.slots_apart }
 
-pub sessions_Fits : (t : Table) → IsTable t → Fits number_of SESSIONS t.sessions
+pub sessions_Fits : (t : Table) → IsTable t → Fits number_of MAX_SESSIONS t.sessions
 sessions_Fits t old = record { few = old.few_sessions; numbers = old.session_numbers; apart = old.sessions_apart }
 
 -- a table of such lists
-pub IsTable-from_Fits : (t : Table) → Fits number_of_slot INSTANCES t.slots → Fits number_of SESSIONS t.sessions → (t.properties.single ≡ true → length t.slots ≤ 1) → IsTable t
+pub IsTable-from_Fits : (t : Table) → Fits number_of_slot MAX_INSTANCES t.slots → Fits number_of MAX_SESSIONS t.sessions → (t.properties.single ≡ true → length t.slots ≤ 1) → IsTable t
 IsTable-from_Fits t slots sessions one = record {
   few_slots = slots.few;
   few_sessions = sessions.few;

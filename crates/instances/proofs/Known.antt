@@ -33,7 +33,8 @@ facts_are_there t client label facts e =
     let there : (o : Option Session) → session_of t client label ≡ o → Some facts ≡ option_map facts_of o → has_number t facts.session ≡ true =
     λ o. elim o as (λ v. session_of t client label ≡ v → Some facts ≡ option_map facts_of v → has_number t facts.session ≡ true) [
       | None ↦ λ known told. (let never : Some facts ≡ None = told in cc)
-      | Some s ↦ λ known told. (let both : Some facts ≡ Some (facts_of s) = told in let same : facts ≡ facts_of s = cc in subst (λ (n : ℕ). has_number t n ≡ true) (sym (ap (λ (f : SessionFacts). f.session) same)) (session_is_there t client label s known))
+      | Some s ↦ λ known told. (let both : Some facts ≡ Some (facts_of s) = told in let same : facts ≡ facts_of s = cc in
+          subst (λ (n : ℕ). has_number t n ≡ true) (sym (ap (λ (f : SessionFacts). f.session) same)) (session_is_there t client label s known))
     ] in
     there (session_of t client label) refl e
 
@@ -65,4 +66,5 @@ has_number-state_set t number n state = among_map (with_state number state) n t.
 
 pub has_number-removed : (t : Table) (number n : ℕ) → n ≢ number → has_number (session_removed t number) n ≡ has_number t n
 has_number-removed t number n apart =
-    any-filter_same (λ (s : Session). s.number == n) (λ (s : Session). not (s.number == number)) true (λ s e. ap not (ne_eqb s.number number (λ same. apart (sym (eqb-true s.number n e) ∙ same)))) t.sessions
+    any-filter_same (λ (s : Session). s.number == n) (λ (s : Session). not (s.number == number)) true
+    (λ s e. ap not (ne_eqb s.number number (λ same. apart (sym (eqb-true s.number n e) ∙ same)))) t.sessions

@@ -1,10 +1,11 @@
 -- Instances and sessions of one application (TEE Internal Core API 1.3, sections 2.1.3 and 4.5; TEE Client API 1.0, section 4.5.5).
-use Rattle.std.specs.Prelude.{ℕ, ◌≡◌, ◌≢◌, ◌≤◌, ◌==◌, nat_le, Bool, true, false, not, ◌&&◌, ◌||◌, List, [], ◌∷◌, ◌++◌, Option, None, Some, is_some, Result, Ok, Err, if◌then◌else◌, find, filter, map, length, All, AllPairs}
+use Rattle.std.specs.Prelude.{ℕ, ◌≡◌, ◌≢◌, ◌≤◌, ◌==◌, nat_le, Bool, true, false, not, ◌&&◌, ◌||◌, List, [], ◌∷◌, ◌++◌, Option, None, Some}
+use Rattle.std.specs.Prelude.{is_some, Result, Ok, Err, if◌then◌else◌, find, filter, map, length, All, AllPairs}
 use Rattle.std.specs.List.{list_any}
 use Rattle.tee_base.specs.Numbers.{lowest_free}
 use Rattle.tee_base.specs.declared.codes.Origin.TheVariants.{Api, Tee}
 use Rattle.tee_base.specs.declared.codes.TheConstants.Code.{BUSY, BAD_STATE}
-use Rattle.tee_base.specs.declared.limits.TheConstants.{INSTANCES, SESSIONS}
+use Rattle.tee_base.specs.declared.limits.TheConstants.{MAX_INSTANCES, MAX_SESSIONS}
 use Rattle.app_api.specs.declared.host.Properties.{Properties}
 use Rattle.instances.specs.declared.session.Session.{Session}
 use Rattle.instances.specs.declared.session.Slot.{Slot}
@@ -82,7 +83,7 @@ busy = record { code = BUSY; origin = Tee }
 -- an instance of its own: the lowest free number of four
 abbrev pub own_instance : Table → Result Admission Refusal
 own_instance t =
-    if nat_le INSTANCES (length t.slots) then Err busy
+    if nat_le MAX_INSTANCES (length t.slots) then Err busy
     else Ok (record { session = lowest_free (session_numbers t); instance = lowest_free (instance_numbers t); new_instance = true })
 
 -- the one instance: it takes no second session unless it is multi, and none once its destroy entry has begun
@@ -96,7 +97,7 @@ shared_instance t (slot ∷ slots) =
 abbrev pub admission_of : Table → ℕ → ℕ → Result Admission Refusal
 admission_of t client label =
     if is_some (session_of t client label) then Err bad_state
-    else if nat_le SESSIONS (length t.sessions) then Err busy
+    else if nat_le MAX_SESSIONS (length t.sessions) then Err busy
     else if t.properties.single then shared_instance t t.slots
     else own_instance t
 
@@ -166,10 +167,10 @@ SlotsApart slot other = slot.number ≢ other.number
 -- what each table keeps: at most four instances, numbered from 1 to 4, and one of an application that is single;
 -- at most eight sessions, numbered from 1 to 8; and no number twice
 pub record IsTable (t : Table) : Type 0 where
-  pub few_slots : length t.slots ≤ INSTANCES
-  pub few_sessions : length t.sessions ≤ SESSIONS
-  pub instance_numbers : All (λ slot. (1 ≤ slot.number) × (slot.number ≤ INSTANCES)) t.slots
-  pub session_numbers : All (λ s. (1 ≤ s.number) × (s.number ≤ SESSIONS)) t.sessions
+  pub few_slots : length t.slots ≤ MAX_INSTANCES
+  pub few_sessions : length t.sessions ≤ MAX_SESSIONS
+  pub instance_numbers : All (λ slot. (1 ≤ slot.number) × (slot.number ≤ MAX_INSTANCES)) t.slots
+  pub session_numbers : All (λ s. (1 ≤ s.number) × (s.number ≤ MAX_SESSIONS)) t.sessions
   pub slots_apart : AllPairs SlotsApart t.slots
   pub sessions_apart : AllPairs AreApart t.sessions
   pub one_instance : t.properties.single ≡ true → length t.slots ≤ 1

@@ -5,7 +5,7 @@ use crate::tables;
 use app_api::Properties;
 use arrayvec::ArrayVec;
 use std::marker::Model;
-use tee_base::limits::{INSTANCES, SESSIONS};
+use tee_base::limits::{MAX_INSTANCES, MAX_SESSIONS};
 use tee_base::{Code, Origin};
 
 /// Where an open is admitted to.
@@ -53,8 +53,8 @@ impl Refusal {
 #[derive(Debug, Drop)]
 pub struct Instances {
     properties: Properties,
-    slots: ArrayVec<Slot, INSTANCES>,
-    sessions: ArrayVec<Session, SESSIONS>,
+    slots: ArrayVec<Slot, MAX_INSTANCES>,
+    sessions: ArrayVec<Session, MAX_SESSIONS>,
 }
 
 impl Model for Instances {
@@ -97,7 +97,7 @@ impl Instances {
         if self.find(client, label).is_some() {
             return Err(Refusal::label_in_use());
         }
-        if self.sessions.len() >= SESSIONS {
+        if self.sessions.len() >= MAX_SESSIONS {
             return Err(Refusal::busy());
         }
         if !self.properties.single {
@@ -110,7 +110,7 @@ impl Instances {
     fn admit_to_own(&self) -> Result<Admission, Refusal>
         ensures { result ≡ own_instance self.now }
     {
-        if self.slots.len() >= INSTANCES {
+        if self.slots.len() >= MAX_INSTANCES {
             return Err(Refusal::busy());
         }
         Ok(Admission {

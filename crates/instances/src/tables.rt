@@ -2,21 +2,21 @@
 
 ghost use Rattle.std.specs.Prelude.{◌≡◌, ◌==◌, ◌≤◌, ◌<◌, [], ◌∷◌, ◌++◌, true, false, if◌then◌else◌, not, filter, map, find, option_map, length};
 ghost use Rattle.tee_base.specs.Numbers.{lowest_free};
-ghost use Rattle.tee_base.specs.declared.limits.TheConstants.{INSTANCES, SESSIONS};
+ghost use Rattle.tee_base.specs.declared.limits.TheConstants.{MAX_INSTANCES, MAX_SESSIONS};
 ghost use Rattle.instances.specs.Instances.{is_known_as, facts_of, with_state, with_ending, stays_after_end, killed};
 
 use crate::instances::Admission;
 use crate::session::{Session, SessionFacts, SessionState, Slot};
 use arrayvec::ArrayVec;
 use tee_base::find_lowest_free;
-use tee_base::limits::{INSTANCES, SESSIONS};
+use tee_base::limits::{MAX_INSTANCES, MAX_SESSIONS};
 
 /// The lowest session number that is free.
 pub fn free_session(sessions: &[Session]) -> u8
-    requires { length sessions.now ≤ SESSIONS }
+    requires { length sessions.now ≤ MAX_SESSIONS }
     ensures { result ≡ lowest_free (map (λ s. s.number) sessions.now) }
 {
-    let mut taken = ArrayVec::<u8, SESSIONS>::new();
+    let mut taken = ArrayVec::<u8, MAX_SESSIONS>::new();
     for session in sessions {
         taken.push(session.number);
     }
@@ -25,10 +25,10 @@ pub fn free_session(sessions: &[Session]) -> u8
 
 /// The lowest instance number that is free.
 pub fn free_instance(slots: &[Slot]) -> u8
-    requires { length slots.now ≤ INSTANCES }
+    requires { length slots.now ≤ MAX_INSTANCES }
     ensures { result ≡ lowest_free (map (λ slot. slot.number) slots.now) }
 {
-    let mut taken = ArrayVec::<u8, INSTANCES>::new();
+    let mut taken = ArrayVec::<u8, MAX_INSTANCES>::new();
     for slot in slots {
         taken.push(slot.number);
     }
@@ -36,8 +36,8 @@ pub fn free_instance(slots: &[Slot]) -> u8
 }
 
 /// Adds the instance that an open was admitted to, where it is new.
-pub fn add_instance(slots: &mut ArrayVec<Slot, INSTANCES>, admission: Admission)
-    requires { admission.new_instance ≡ true → length slots.old.items < INSTANCES }
+pub fn add_instance(slots: &mut ArrayVec<Slot, MAX_INSTANCES>, admission: Admission)
+    requires { admission.new_instance ≡ true → length slots.old.items < MAX_INSTANCES }
     ensures { slots.new.items
         ≡ (if admission.new_instance
         then slots.old.items ++ record { number = admission.instance; ending = false } ∷ []
@@ -66,11 +66,11 @@ pub fn with_state(
     sessions: &[Session],
     number: u8,
     state: SessionState,
-) -> ArrayVec<Session, SESSIONS>
-    requires { length sessions.now ≤ SESSIONS }
+) -> ArrayVec<Session, MAX_SESSIONS>
+    requires { length sessions.now ≤ MAX_SESSIONS }
     ensures { result.items ≡ map (with_state number state) sessions.now }
 {
-    let mut after = ArrayVec::<Session, SESSIONS>::new();
+    let mut after = ArrayVec::<Session, MAX_SESSIONS>::new();
     for session in sessions {
         after.push(session.with_state(number, state));
     }
@@ -78,11 +78,11 @@ pub fn with_state(
 }
 
 /// The sessions but the one of this number.
-pub fn without_session(sessions: &[Session], number: u8) -> ArrayVec<Session, SESSIONS>
-    requires { length sessions.now ≤ SESSIONS }
+pub fn without_session(sessions: &[Session], number: u8) -> ArrayVec<Session, MAX_SESSIONS>
+    requires { length sessions.now ≤ MAX_SESSIONS }
     ensures { result.items ≡ filter (λ s. not (s.number == number)) sessions.now }
 {
-    let mut after = ArrayVec::<Session, SESSIONS>::new();
+    let mut after = ArrayVec::<Session, MAX_SESSIONS>::new();
     for session in sessions {
         if session.number != number {
             after.push(*session);
@@ -92,11 +92,11 @@ pub fn without_session(sessions: &[Session], number: u8) -> ArrayVec<Session, SE
 }
 
 /// The slots, with the destroy entry of this instance begun.
-pub fn with_ending(slots: &[Slot], instance: u8) -> ArrayVec<Slot, INSTANCES>
-    requires { length slots.now ≤ INSTANCES }
+pub fn with_ending(slots: &[Slot], instance: u8) -> ArrayVec<Slot, MAX_INSTANCES>
+    requires { length slots.now ≤ MAX_INSTANCES }
     ensures { result.items ≡ map (with_ending instance) slots.now }
 {
-    let mut after = ArrayVec::<Slot, INSTANCES>::new();
+    let mut after = ArrayVec::<Slot, MAX_INSTANCES>::new();
     for slot in slots {
         after.push(slot.with_ending(instance));
     }
@@ -104,11 +104,11 @@ pub fn with_ending(slots: &[Slot], instance: u8) -> ArrayVec<Slot, INSTANCES>
 }
 
 /// The slots but the one of this instance.
-pub fn without_slot(slots: &[Slot], instance: u8) -> ArrayVec<Slot, INSTANCES>
-    requires { length slots.now ≤ INSTANCES }
+pub fn without_slot(slots: &[Slot], instance: u8) -> ArrayVec<Slot, MAX_INSTANCES>
+    requires { length slots.now ≤ MAX_INSTANCES }
     ensures { result.items ≡ filter (λ slot. not (slot.number == instance)) slots.now }
 {
-    let mut after = ArrayVec::<Slot, INSTANCES>::new();
+    let mut after = ArrayVec::<Slot, MAX_INSTANCES>::new();
     for slot in slots {
         if slot.number != instance {
             after.push(*slot);
@@ -118,12 +118,12 @@ pub fn without_slot(slots: &[Slot], instance: u8) -> ArrayVec<Slot, INSTANCES>
 }
 
 /// The sessions once the instance has ended.
-pub fn after_end(sessions: &[Session], instance: u8) -> ArrayVec<Session, SESSIONS>
-    requires { length sessions.now ≤ SESSIONS }
+pub fn after_end(sessions: &[Session], instance: u8) -> ArrayVec<Session, MAX_SESSIONS>
+    requires { length sessions.now ≤ MAX_SESSIONS }
     ensures { result.items
         ≡ map (killed instance) (filter (stays_after_end instance) sessions.now) }
 {
-    let mut after = ArrayVec::<Session, SESSIONS>::new();
+    let mut after = ArrayVec::<Session, MAX_SESSIONS>::new();
     for session in sessions {
         let mut session = *session;
         if session.instance == instance {

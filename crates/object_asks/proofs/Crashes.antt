@@ -33,7 +33,8 @@ module _ {D : Type 0} (K : Keeper D) where
   -- a turn without a call of the store
   pub idle_crash : (kind : TurnKind) (in_doubt : Option Store) (old : D) → LeavesJust K old (K.contents old) → CrashTurns K kind in_doubt old old
   idle_crash kind in_doubt old just = record {
-    any_moment = started K.moment K.left_since old (LeftByTurn kind in_doubt (K.contents old) (K.contents old)) (λ o left. only_old kind in_doubt (K.contents old) (K.contents old) o (just.only o left));
+    any_moment = started K.moment K.left_since old (LeftByTurn kind in_doubt (K.contents old) (K.contents old))
+        (λ o left. only_old kind in_doubt (K.contents old) (K.contents old) o (just.only o left));
     afterwards = whatever kind _ just;
   }
 
@@ -49,6 +50,7 @@ module _ {D : Type 0} (K : Keeper D) where
 
   pub in_any : (kind : TurnKind) (in_doubt : Option Store) (old new : D) → CrashTurns K kind None old new → CrashTurns K kind in_doubt old new
   in_any kind in_doubt old new crash = record {
-    any_moment = weaker K.moment K.left_since old new (LeftByTurn kind None (K.contents old) (K.contents new)) (LeftByTurn kind in_doubt (K.contents old) (K.contents new)) (λ o left. none_any kind in_doubt (K.contents old) (K.contents new) o left) crash.any_moment;
+    any_moment = weaker K.moment K.left_since old new (LeftByTurn kind None (K.contents old) (K.contents new)) (LeftByTurn kind in_doubt (K.contents old) (K.contents new))
+        (λ o left. none_any kind in_doubt (K.contents old) (K.contents new) o left) crash.any_moment;
     afterwards = crash.afterwards;
   }

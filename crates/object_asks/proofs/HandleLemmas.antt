@@ -1,5 +1,6 @@
 -- Lists of handles: what holds of each, and what is found.
-use Rattle.std.proofs.Common.{ℕ, ◌≡◌, ◌==◌, Bool, true, false, not, cond, ◌&&◌, ◌||◌, List, [], ◌∷◌, ◌++◌, Option, None, Some, IfSome, nat_eq, length, map, filter, find, is_some, option_map, refl, sym, ap, subst, ◌∙◌}
+use Rattle.std.proofs.Common.{ℕ, ◌≡◌, ◌==◌, Bool, true, false, not, cond, ◌&&◌, ◌||◌, List, [], ◌∷◌, ◌++◌, Option, None, Some, IfSome}
+use Rattle.std.proofs.Common.{nat_eq, length, map, filter, find, is_some, option_map, refl, sym, ap, subst, ◌∙◌}
 use Rattle.std.specs.List.{list_all, list_any, cons_option}
 use Rattle.std.proofs.lemmas.List.{append-nil}
 use Rattle.std.proofs.lemmas.Bool.{both_ways, leb-true, eqb-true, eq-eqb}
@@ -13,7 +14,7 @@ use Rattle.handle_table.specs.declared.handle.Entry.{Entry}
 use Rattle.handle_table.specs.declared.handle.Handle.{Handle}
 use Rattle.handle_table.specs.declared.handle.Handle.TheVariants.{Persistent, Transient}
 use Rattle.handle_table.specs.Handles.{added, change_first, closed, entry_is_on, entry_sought, free_number, handle_at, is_at, is_of, is_on, is_open, is_there, may_open, share_of, shares_of, sought}
-use Rattle.object_asks.specs.Handles.{settled}
+use Rattle.object_asks.specs.Handles.{without_rename}
 use Rattle.object_asks.specs.Handles.{HasIdentifier, entry_has_identifier, has_identifier}
 
 -- ---- what holds of each handle
@@ -43,7 +44,8 @@ sought_keeps to Transient = refl
 pub all_sought : (test : Entry → Bool) (to : ℕ) (hs : List Entry) → list_all entry_has_identifier (change_first test (entry_sought to) hs) ≡ list_all entry_has_identifier hs
 all_sought test to [] = refl
 all_sought test to (e ∷ hs) =
-    elim (test e) as (λ b. list_all entry_has_identifier (cond b (entry_sought to e ∷ hs) (e ∷ change_first test (entry_sought to) hs)) ≡ (entry_has_identifier e && list_all entry_has_identifier hs)) [
+    elim (test e) as (λ b. list_all entry_has_identifier (cond b (entry_sought to e ∷ hs) (e ∷ change_first test (entry_sought to) hs)) ≡
+    (entry_has_identifier e && list_all entry_has_identifier hs)) [
       | true ↦ ap (λ b. b && list_all entry_has_identifier hs) (sought_keeps to e.handle)
       | false ↦ ap (λ b. entry_has_identifier e && b) (all_sought test to hs)
     ]
@@ -70,7 +72,7 @@ handle_of : (o : Option Entry) (h : Handle) → option_map (λ e. e.handle) o �
 handle_of None h here each = absurd (let e : None ≡ Some h = here in cc)
 handle_of (Some x) h here each = let same : x.handle ≡ h = cc in subst (λ (y : Handle). HasIdentifier y) same (each x refl)
 
-pub handle_has : (hs : List Entry) (i n : ℕ) (h : Handle) → list_all entry_has_identifier hs ≡ true → handle_at (settled hs) i n ≡ Some h → HasIdentifier h
+pub handle_has : (hs : List Entry) (i n : ℕ) (h : Handle) → list_all entry_has_identifier hs ≡ true → handle_at (without_rename hs) i n ≡ Some h → HasIdentifier h
 handle_has hs i n h all here = handle_of (find (is_at i n) hs) h here (λ x found. find_has (is_at i n) hs x all found)
 
 pub find_any : (test : Entry → Bool) (hs : List Entry) → is_some (find test hs) ≡ list_any test hs
@@ -81,11 +83,12 @@ mapped : (o : Option Entry) → is_some (option_map (λ e. e.handle) o) ≡ is_s
 mapped None = refl
 mapped (Some e) = refl
 
-pub handle_there : (hs : List Entry) (i n : ℕ) → is_some (handle_at (settled hs) i n) ≡ is_there (settled hs) i n
+pub handle_there : (hs : List Entry) (i n : ℕ) → is_some (handle_at (without_rename hs) i n) ≡ is_there (without_rename hs) i n
 handle_there hs i n = mapped (find (is_at i n) hs) ∙ find_any (is_at i n) hs
 
 -- what a look-up answers, by whatever it hands out
-pub result_has : {B : Type 0} (f : B → Handle) (o : Option B) (hs : List Entry) (i n : ℕ) → list_all entry_has_identifier hs ≡ true → option_map f o ≡ handle_at (settled hs) i n → IfSome o (λ b. HasIdentifier (f b))
+pub result_has : {B : Type 0} (f : B → Handle) (o : Option B) (hs : List Entry) (i n : ℕ) → list_all entry_has_identifier hs ≡ true → option_map f o ≡ handle_at (without_rename hs) i n →
+    IfSome o (λ b. HasIdentifier (f b))
 result_has f None hs i n all here = tt
 result_has f (Some b) hs i n all here = handle_has hs i n (f b) all (sym here)
 
@@ -93,13 +96,17 @@ result_some : {B : Type 0} (f : B → Handle) (o : Option B) → is_some (option
 result_some f None = refl
 result_some f (Some b) = refl
 
-pub result_there : {B : Type 0} (f : B → Handle) (o : Option B) (hs : List Entry) (i n : ℕ) → option_map f o ≡ handle_at (settled hs) i n → is_some o ≡ is_there (settled hs) i n
+pub result_there : {B : Type 0} (f : B → Handle) (o : Option B) (hs : List Entry) (i n : ℕ) → option_map f o ≡ handle_at (without_rename hs) i n → is_some o ≡ is_there (without_rename hs) i n
 result_there f o hs i n here = sym (result_some f o) ∙ ap is_some here ∙ handle_there hs i n
 
 -- ---- a handle that is added and closed again
 
 eqb_sym : (m n : ℕ) → (m == n) ≡ (n == m)
-eqb_sym m n = elim (m == n) as (λ b. (m == n) ≡ b → b ≡ (n == m)) [ true ↦ λ e. sym (eq-eqb n m (sym (eqb-true m n e))) | false ↦ λ e. elim (n == m) as (λ b. (n == m) ≡ b → false ≡ b) [ true ↦ λ f. absurd (both_ways _ e (eq-eqb m n (sym (eqb-true n m f)))) | false ↦ λ f. refl ] refl ] refl
+eqb_sym m n = elim (m == n) as (λ b. (m == n) ≡ b → b ≡ (n == m)) [
+  | true ↦ λ e. sym (eq-eqb n m (sym (eqb-true m n e)))
+  | false ↦ λ e. elim (n == m) as
+      (λ b. (n == m) ≡ b → false ≡ b) [ true ↦ λ f. absurd (both_ways _ e (eq-eqb m n (sym (eqb-true n m f)))) | false ↦ λ f. refl ] refl
+] refl
 
 pub or_first : (a b : Bool) → (a || b) ≡ false → a ≡ false
 or_first true b h = h
@@ -109,7 +116,8 @@ pub or_second : (a b : Bool) → (a || b) ≡ false → b ≡ false
 or_second true b h = absurd (both_ways _ h refl)
 or_second false b h = h
 
-kept_one : (mine : Bool) (n k : ℕ) (e : Entry) (hs rest : List Entry) → (list_any (nat_eq n) (map (λ e. e.number) (cond mine (e ∷ hs) hs)) ≡ false) → k ≡ e.number → (list_any (nat_eq n) (map (λ e. e.number) hs) ≡ false → rest ≡ rest) → (mine && (k == n)) ≡ false
+kept_one : (mine : Bool) (n k : ℕ) (e : Entry) (hs rest : List Entry) → (list_any (nat_eq n) (map (λ e. e.number) (cond mine (e ∷ hs) hs)) ≡ false) → k ≡ e.number →
+    (list_any (nat_eq n) (map (λ e. e.number) hs) ≡ false → rest ≡ rest) → (mine && (k == n)) ≡ false
 kept_one true n k e hs rest none same later = eqb_sym k n ∙ ap (λ m. n == m) same ∙ or_first _ _ none
 kept_one false n k e hs rest none same later = refl
 
@@ -133,7 +141,7 @@ absent i n (e ∷ hs) none =
 pub free_absent : (hs : List Entry) (i : ℕ) → list_any (is_at i (free_number hs i)) hs ≡ false
 free_absent hs i = absent i (free_number hs i) hs (lowest_free-untaken (map (λ e. e.number) (filter (is_of i) hs)))
 
-pub closed_again : (hs : List Entry) (i : ℕ) (h : Handle) → (closed (added (settled hs) i h) i (free_number hs i)).handles ≡ hs
+pub closed_again : (hs : List Entry) (i : ℕ) (h : Handle) → (closed (added (without_rename hs) i h) i (free_number hs i)).handles ≡ hs
 closed_again hs i h =
     let n = free_number hs i in
     let new : Entry = record { instance = i; number = n; handle = h } in
@@ -155,7 +163,7 @@ on_none : (id : List ℕ) (hs : List Entry) → list_any (entry_is_on id) hs ≡
 on_none id [] none = refl
 on_none id (e ∷ hs) none = on_more id e.handle (shares_of hs) (or_first _ _ none) (on_none id hs (or_second _ _ none))
 
-pub closed_opens : (hs : List Entry) (id : List ℕ) (flags : Flags) → is_open (settled hs) id ≡ false → may_open (settled hs) id flags ≡ true
+pub closed_opens : (hs : List Entry) (id : List ℕ) (flags : Flags) → is_open (without_rename hs) id ≡ false → may_open (without_rename hs) id flags ≡ true
 closed_opens hs id flags none = ap (λ fs. not (conflicts (uses_of (flags ∷ fs)))) (on_none id hs none)
 
 -- a handle that was added is there
@@ -163,5 +171,6 @@ any_end : (test : Entry → Bool) (hs : List Entry) (e : Entry) → test e ≡ t
 any_end test [] e here = rw here refl
 any_end test (x ∷ hs) e here = elim (test x) as (λ b. (b || list_any test (hs ++ e ∷ [])) ≡ true) [ true ↦ refl | false ↦ any_end test hs e here ]
 
-pub added_there : (hs : List Entry) (i : ℕ) (h : Handle) → is_there (added (settled hs) i h) i (free_number hs i) ≡ true
-added_there hs i h = any_end (is_at i (free_number hs i)) hs (record { instance = i; number = free_number hs i; handle = h }) (both _ _ (eq-eqb i i refl) (eq-eqb (free_number hs i) (free_number hs i) refl))
+pub added_there : (hs : List Entry) (i : ℕ) (h : Handle) → is_there (added (without_rename hs) i h) i (free_number hs i) ≡ true
+added_there hs i h = any_end (is_at i (free_number hs i)) hs (record { instance = i; number = free_number hs i; handle = h })
+    (both _ _ (eq-eqb i i refl) (eq-eqb (free_number hs i) (free_number hs i) refl))

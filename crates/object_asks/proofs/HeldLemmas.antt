@@ -1,5 +1,6 @@
 -- Keys and the handles on them belong together, and what keeps it.
-use Rattle.std.proofs.Common.{ℕ, ◌≡◌, nat_le, length, ◌+◌, ◌<◌, ◌≤◌, Option, None, Some, find, option_map, sum_by, ◌==◌, ◌&&◌, ◌||◌, Bool, true, false, not, cond, List, [], ◌∷◌, ◌++◌, map, filter, count_by, arith, refl, sym, ap, ◌∙◌, ⊎_elim, Result, Ok, Err, IfOk, OnErr, subst}
+use Rattle.std.proofs.Common.{ℕ, ◌≡◌, nat_le, length, ◌+◌, ◌<◌, ◌≤◌, Option, None, Some, find, option_map, sum_by, ◌==◌, ◌&&◌, ◌||◌, Bool, true, false, not, cond}
+use Rattle.std.proofs.Common.{List, [], ◌∷◌, ◌++◌, map, filter, count_by, arith, refl, sym, ap, ◌∙◌, ⊎_elim, Result, Ok, Err, IfOk, OnErr, subst}
 use Rattle.std.specs.List.{list_all, list_any}
 use Rattle.std.proofs.lemmas.Bool.{cases_Bool, eqb-true}
 use Rattle.std.proofs.lemmas.List.Filters.{sum_by-filter_both}
@@ -13,9 +14,10 @@ use Rattle.handle_table.specs.declared.handle.Entry.{Entry}
 use Rattle.handle_table.specs.declared.handle.Handle.{Handle}
 use Rattle.handle_table.specs.declared.handle.Handle.TheVariants.{Persistent, Transient}
 use Rattle.handle_table.specs.Handles.{change_first, entry_moved, entry_sought, free_number, handle_at, is_at, moved, sought}
-use Rattle.object_asks.specs.Handles.{entry_has_identifier, has_identifier, settled}
+use Rattle.object_asks.specs.Handles.{entry_has_identifier, has_identifier, without_rename}
 use Rattle.transient_obj.specs.Keys.{Key}
-use Rattle.object_asks.specs.Held.{BelongTogether, Held, NumberedKey, NumberedList, handle_added, handle_closed, is_in_memory, is_transient, key_place, key_places, memory_places, place_of, is_list_at, is_list_of, with_key}
+use Rattle.object_asks.specs.Held.{BelongTogether, Held, NumberedKey, NumberedList, handle_added, handle_closed, is_in_memory, is_transient}
+use Rattle.object_asks.specs.Held.{key_place, key_places, memory_places, place_of, is_list_at, is_list_of, with_key}
 use Rattle.object_asks.proofs.HandleLemmas.{both, closed_again, first_true, free_absent, or_first, or_second, second_true}
 
 -- the places of what stays, by a test of places
@@ -63,7 +65,8 @@ memory_sought : (test : Entry → Bool) (to : ℕ) (hs : List Entry) → memory_
 memory_sought test to [] = refl
 memory_sought test to (e ∷ hs) =
     ⊎_elim
-    (λ (yes : test e ≡ true). rw yes (ap (λ b. map place_of (cond b (entry_sought to e ∷ filter is_in_memory hs) (filter is_in_memory hs))) (sought_in_memory to e.handle) ∙ same_place (is_transient e.handle) to e (filter is_in_memory hs)))
+    (λ (yes : test e ≡ true). rw yes (ap (λ b. map place_of (cond b (entry_sought to e ∷ filter is_in_memory hs) (filter is_in_memory hs))) (sought_in_memory to e.handle)
+    ∙ same_place (is_transient e.handle) to e (filter is_in_memory hs)))
     (λ (no : test e ≡ false). rw no (more_places (is_transient e.handle) e _ _ (memory_sought test to hs)))
     (cases_Bool (test e))
 
@@ -128,7 +131,8 @@ found_goes q t (x ∷ xs) e here passes =
     (λ first same.
     let one : w x ≡ 1 = ap w same ∙ ap (λ b. cond b 1 0) passes in
     let rest : count_by t (filter (λ x. not (q x)) xs) ≤ count_by t xs = omega (arith, sum_by-filter_both (λ y. not (q y)) (λ y. not (not (q y))) (λ y. refl) w xs) in
-    let gone : count_by t (filter (λ x. not (q x)) (x ∷ xs)) ≡ count_by t (filter (λ x. not (q x)) xs) = ap (λ b. sum_by w (cond (not b) (x ∷ filter (λ x. not (q x)) xs) (filter (λ x. not (q x)) xs))) first in
+    let gone : count_by t (filter (λ x. not (q x)) (x ∷ xs)) ≡ count_by t (filter (λ x. not (q x)) xs) =
+    ap (λ b. sum_by w (cond (not b) (x ∷ filter (λ x. not (q x)) xs) (filter (λ x. not (q x)) xs))) first in
     omega (arith, sum_by-cons w x xs, one, rest, gone))
     (λ other later.
     let stays : count_by t (filter (λ x. not (q x)) (x ∷ xs)) ≡ w x + count_by t (filter (λ x. not (q x)) xs) =
@@ -139,7 +143,7 @@ entry_found : (o : Option Entry) (h : Handle) → option_map (λ e. e.handle) o 
 entry_found None h here = absurd (let f : None ≡ Some h = here in cc)
 entry_found (Some e) h here = (e, refl, (let same : e.handle ≡ h = cc in same))
 
-pub handle_found : (hs : List Entry) (i n : ℕ) (h : Handle) → handle_at (settled hs) i n ≡ Some h → (e : Entry) × (find (is_at i n) hs ≡ Some e) × (e.handle ≡ h)
+pub handle_found : (hs : List Entry) (i n : ℕ) (h : Handle) → handle_at (without_rename hs) i n ≡ Some h → (e : Entry) × (find (is_at i n) hs ≡ Some e) × (e.handle ≡ h)
 handle_found hs i n h here = entry_found (find (is_at i n) hs) h here
 
 -- ---- a handle on another identifier
@@ -152,7 +156,8 @@ sum_first q g w (x ∷ xs) e here =
     let moved : sum_by w (change_first q g (x ∷ xs)) ≡ w (g x) + sum_by w xs = ap (λ b. sum_by w (cond b (g x ∷ xs) (x ∷ change_first q g xs))) first ∙ sum_by-cons w (g x) xs in
     omega (arith, moved, sum_by-cons w x xs, ap w same, ap (λ (y : Entry). w (g y)) same))
     (λ other later.
-    let stays : sum_by w (change_first q g (x ∷ xs)) ≡ w x + sum_by w (change_first q g xs) = ap (λ b. sum_by w (cond b (g x ∷ xs) (x ∷ change_first q g xs))) other ∙ sum_by-cons w x (change_first q g xs) in
+    let stays : sum_by w (change_first q g (x ∷ xs)) ≡ w x + sum_by w (change_first q g xs) = ap (λ b. sum_by w (cond b (g x ∷ xs) (x ∷ change_first q g xs))) other
+    ∙ sum_by-cons w x (change_first q g xs) in
     omega (arith, stays, sum_by-cons w x xs, sum_first q g w xs e later))
 
 moved_in_memory : (to : List ℕ) (h : Handle) → is_transient (moved to h) ≡ is_transient h
@@ -167,7 +172,8 @@ memory_moved : (test : Entry → Bool) (to : List ℕ) (hs : List Entry) → mem
 memory_moved test to [] = refl
 memory_moved test to (e ∷ hs) =
     ⊎_elim
-    (λ (yes : test e ≡ true). rw yes (ap (λ b. map place_of (cond b (entry_moved to e ∷ filter is_in_memory hs) (filter is_in_memory hs))) (moved_in_memory to e.handle) ∙ moved_place (is_transient e.handle) to e (filter is_in_memory hs)))
+    (λ (yes : test e ≡ true). rw yes (ap (λ b. map place_of (cond b (entry_moved to e ∷ filter is_in_memory hs) (filter is_in_memory hs))) (moved_in_memory to e.handle)
+    ∙ moved_place (is_transient e.handle) to e (filter is_in_memory hs)))
     (λ (no : test e ≡ false). rw no (more_places (is_transient e.handle) e _ _ (memory_moved test to hs)))
     (cases_Bool (test e))
 
@@ -178,7 +184,8 @@ moved_has : (to : List ℕ) (h : Handle) → nat_le (length to) 64 ≡ true → 
 moved_has to (Persistent id flags position) short = short
 moved_has to Transient short = refl
 
-pub all_moved : (test : Entry → Bool) (to : List ℕ) (hs : List Entry) → nat_le (length to) 64 ≡ true → list_all entry_has_identifier hs ≡ true → list_all entry_has_identifier (change_first test (entry_moved to) hs) ≡ true
+pub all_moved : (test : Entry → Bool) (to : List ℕ) (hs : List Entry) → nat_le (length to) 64 ≡ true → list_all entry_has_identifier hs ≡ true →
+    list_all entry_has_identifier (change_first test (entry_moved to) hs) ≡ true
 all_moved test to [] short all = refl
 all_moved test to (e ∷ hs) short all =
     elim (test e) as (λ b. list_all entry_has_identifier (cond b (entry_moved to e ∷ hs) (e ∷ change_first test (entry_moved to) hs)) ≡ true) [
@@ -188,10 +195,12 @@ all_moved test to (e ∷ hs) short all =
 
 -- ---- enumerators
 
-walk_counts : (test : NumberedList → Bool) (walk : Walk) (t : NumberedList → Bool) (ls : List NumberedList) → ((l : NumberedList) → t (with_walk walk l) ≡ t l) → count_by t (change_first test (with_walk walk) ls) ≡ count_by t ls
+walk_counts : (test : NumberedList → Bool) (walk : Walk) (t : NumberedList → Bool) (ls : List NumberedList) → ((l : NumberedList) → t (with_walk walk l) ≡ t l) →
+    count_by t (change_first test (with_walk walk) ls) ≡ count_by t ls
 walk_counts test walk t ls same = sum_change test (with_walk walk) (λ l. cond (t l) 1 0) (λ l. ap (λ b. cond b 1 0) (same l)) ls
 
-pub few_walked : (instance number : ℕ) (walk : Walk) (ls : List NumberedList) (i : ℕ) → count_by (is_list_of i) ls ≤ 4 → count_by (is_list_of i) (change_first (is_list_at instance number) (with_walk walk) ls) ≤ 4
+pub few_walked : (instance number : ℕ) (walk : Walk) (ls : List NumberedList) (i : ℕ) → count_by (is_list_of i) ls ≤ 4 →
+    count_by (is_list_of i) (change_first (is_list_at instance number) (with_walk walk) ls) ≤ 4
 few_walked instance number walk ls i few = omega (arith, few, walk_counts (is_list_at instance number) walk (is_list_of i) ls (λ l. refl))
 
 abbrev newcomer : ℕ → ℕ → NumberedList
@@ -202,11 +211,13 @@ few_pushed instance n ls i room few =
     let w : NumberedList → ℕ = λ l. cond (is_list_of i l) 1 0 in
     let push = sum_by_push w ls (newcomer instance n) in
     ⊎_elim
-    (λ (mine : (instance == i) ≡ true). let at : count_by (is_list_of instance) ls ≡ count_by (is_list_of i) ls = ap (λ k. count_by (is_list_of k) ls) (eqb-true instance i mine) in let one : w (newcomer instance n) ≡ 1 = ap (λ b. cond b 1 0) mine in omega (arith, push, one, room, at))
+    (λ (mine : (instance == i) ≡ true). let at : count_by (is_list_of instance) ls ≡ count_by (is_list_of i) ls = ap (λ k. count_by (is_list_of k) ls) (eqb-true instance i mine) in
+    let one : w (newcomer instance n) ≡ 1 = ap (λ b. cond b 1 0) mine in omega (arith, push, one, room, at))
     (λ (other : (instance == i) ≡ false). let none : w (newcomer instance n) ≡ 0 = ap (λ b. cond b 1 0) other in omega (arith, push, none, few))
     (cases_Bool (instance == i))
 
-pub few_added : {E : Type 0} (r : Result ℕ E) (instance : ℕ) (free : ℕ) (ls now : List NumberedList) → IfOk r (λ n. (n ≡ free) × (now ≡ ls ++ record { instance = instance; number = n; walk = Idle } ∷ [])) → OnErr r (now ≡ ls)
+pub few_added : {E : Type 0} (r : Result ℕ E) (instance : ℕ) (free : ℕ) (ls now : List NumberedList) →
+    IfOk r (λ n. (n ≡ free) × (now ≡ ls ++ record { instance = instance; number = n; walk = Idle } ∷ [])) → OnErr r (now ≡ ls)
     → count_by (is_list_of instance) ls < 4 → ((i : ℕ) → count_by (is_list_of i) ls ≤ 4) → (i : ℕ) → count_by (is_list_of i) now ≤ 4
 few_added (Ok n) instance free ls now made same room few i = subst (λ (xs : List NumberedList). count_by (is_list_of i) xs ≤ 4) (sym made.1) (few_pushed instance n ls i room (few i))
 few_added (Err e) instance free ls now made same room few i = subst (λ (xs : List NumberedList). count_by (is_list_of i) xs ≤ 4) (sym same) (few i)
@@ -225,7 +236,8 @@ places_set test key (k ∷ ks) =
 memory_more : (hs : List Entry) (e : Entry) → is_transient e.handle ≡ true → memory_places (hs ++ e ∷ []) ≡ memory_places hs ++ place_of e ∷ []
 memory_more [] e here = rw here refl
 memory_more (x ∷ hs) e here =
-    elim (is_transient x.handle) as (λ b. map place_of (cond b (x ∷ filter is_in_memory (hs ++ e ∷ [])) (filter is_in_memory (hs ++ e ∷ []))) ≡ map place_of (cond b (x ∷ filter is_in_memory hs) (filter is_in_memory hs)) ++ place_of e ∷ []) [
+    elim (is_transient x.handle) as (λ b. map place_of (cond b (x ∷ filter is_in_memory (hs ++ e ∷ [])) (filter is_in_memory (hs ++ e ∷ []))) ≡ map place_of
+    (cond b (x ∷ filter is_in_memory hs) (filter is_in_memory hs)) ++ place_of e ∷ []) [
       | true ↦ ap (λ rest. place_of x ∷ rest) (memory_more hs e here)
       | false ↦ memory_more hs e here
     ]
@@ -234,6 +246,7 @@ places_more : (ks : List NumberedKey) (k : NumberedKey) → key_places (ks ++ k 
 places_more [] k = refl
 places_more (x ∷ ks) k = ap (λ rest. key_place x ∷ rest) (places_more ks k)
 
-pub together_more : (hs : List Entry) (ks : List NumberedKey) (i n : ℕ) (key : Key) → BelongTogether hs ks → BelongTogether (hs ++ record { instance = i; number = n; handle = Transient } ∷ []) (ks ++ record { instance = i; number = n; key = key } ∷ [])
+pub together_more : (hs : List Entry) (ks : List NumberedKey) (i n : ℕ) (key : Key) → BelongTogether hs ks →
+    BelongTogether (hs ++ record { instance = i; number = n; handle = Transient } ∷ []) (ks ++ record { instance = i; number = n; key = key } ∷ [])
 together_more hs ks i n key together =
     places_more ks (record { instance = i; number = n; key = key }) ∙ ap (λ ps. ps ++ (i, n) ∷ []) together ∙ sym (memory_more hs (record { instance = i; number = n; handle = Transient }) refl)

@@ -11,19 +11,19 @@ use Rattle.object_asks.specs.declared.lending.KeyFound.TheVariants as finds
 use Rattle.object_asks.specs.declared.lending.KeyServed.{KeyServed}
 use Rattle.object_asks.specs.declared.turn.TurnKind.TheVariants.{Plain}
 use Rattle.tee_base.specs.declared.codes.TheConstants.Code.{STORAGE_NOT_AVAILABLE}
-use Rattle.object_asks.specs.Courses.{Serves, code_of}
-use Rattle.object_asks.specs.KeyOf.{IsKeyServed, KeyComesToStore, KeyCourse, KeySettled, TellsKey, found_by, key_came_of, key_plainly, key_told}
+use Rattle.object_asks.specs.Resolutions.{Serves, code_of}
+use Rattle.object_asks.specs.KeyOf.{IsKeyServed, KeyComesToStore, KeyResolution, KeySettled, TellsKey, found_by, key_came_of, key_plainly, key_told}
 use Rattle.object_asks.specs.Serving.{EndsUnchanged, HasStatus, IsKept, StaysBeside, kind_of}
 use Rattle.object_asks.specs.Sources.{IsObjectKey, stored_key}
 use Rattle.object_asks.proofs.Crashes.{idle_keeps}
 use Rattle.object_asks.proofs.ServingLemmas.{by_nothing, stays}
 
 -- where the store isn't lost, and where it is
-serves : (lost : Bool) (plain : KeyFound) → lost ≡ false → key_came_of Serves lost (KeyComesToStore plain) ≡ plain
-serves lost plain e = rw e refl
+serves : (lost : Bool) (if_served : KeyFound) → lost ≡ false → key_came_of Serves lost (KeyComesToStore if_served) ≡ if_served
+serves lost if_served e = rw e refl
 
-keeps : (lost : Bool) (plain : KeyFound) → lost ≡ true → key_came_of Serves lost (KeyComesToStore plain) ≡ finds.Refused STORAGE_NOT_AVAILABLE
-keeps lost plain e = rw e refl
+keeps : (lost : Bool) (if_served : KeyFound) → lost ≡ true → key_came_of Serves lost (KeyComesToStore if_served) ≡ finds.Refused STORAGE_NOT_AVAILABLE
+keeps lost if_served e = rw e refl
 
 abbrev told_as : StoreAnswer → KeyServed
 told_as e = record { kind = kind_of false e; found = finds.Refused (code_of e) }
@@ -56,11 +56,12 @@ module _ {D : Type 0} (K : Keeper D) where
     crash = (by_nothing K old).crash;
   }
 
-  pub tells_settled : (served : KeyServed) (course : KeyCourse) (found : KeyFound) (old : D) → served ≡ key_plainly found → course ≡ KeySettled found → TellsKey K (Ok served) course old old
-  tells_settled served course found old is same = rw (is, same) (record { served = settled_key found old; tried = refl; want = tt })
+  pub tells_settled : (served : KeyServed) (resolution : KeyResolution) (found : KeyFound) (old : D) → served ≡ key_plainly found → resolution ≡ KeySettled found
+      → TellsKey K (Ok served) resolution old old
+  tells_settled served resolution found old is same = rw (is, same) (record { served = settled_key found old; tried = refl; want = tt })
 
-  pub tells_nothing : (course : KeyCourse) (old : D) (e : WantOfMemory) → TellsKey K (Err e) course old old
-  tells_nothing course old e = record { served = tt; tried = refl; want = by_nothing K old }
+  pub tells_nothing : (resolution : KeyResolution) (old : D) (e : WantOfMemory) → TellsKey K (Err e) resolution old old
+  tells_nothing resolution old e = record { served = tt; tried = refl; want = by_nothing K old }
 
   module _ (id : List ℕ) (old new : D) where
     abbrev looks : Result ObjectKey StoreAnswer → Type 0
@@ -69,8 +70,8 @@ module _ {D : Type 0} (K : Keeper D) where
     abbrev stored : Result ObjectKey StoreAnswer
     stored = stored_key (K.contents old).store id
 
-    abbrev course : KeyCourse
-    course = KeyComesToStore (found_by stored)
+    abbrev resolution : KeyResolution
+    resolution = KeyComesToStore (found_by stored)
 
     kept_by : (given : Result ObjectKey StoreAnswer) → looks given → IsKept K old new
     kept_by given read = record {
@@ -82,11 +83,13 @@ module _ {D : Type 0} (K : Keeper D) where
     }
 
     -- the standing after a look that served, or found the store lost
-    plain_status : (given : Result ObjectKey StoreAnswer) (lost : Bool) → (K.status old).lost ≡ lost → (K.status new).lost ≡ lost → (K.status new).damage_reports ≡ (K.status old).damage_reports + 0 → looks given → HasStatus Plain (K.status old) (K.status new)
+    plain_status : (given : Result ObjectKey StoreAnswer) (lost : Bool) → (K.status old).lost ≡ lost → (K.status new).lost ≡ lost →
+        (K.status new).damage_reports ≡ (K.status old).damage_reports + 0 → looks given → HasStatus Plain (K.status old) (K.status new)
     plain_status given lost before after reports read = record { cause = after ∙ sym before; later = read.call.cause.later; foundation = read.call.cause.foundation; reports = reports }
 
     -- the store refuses
-    refused_key : (e : StoreAnswer) → (K.has_model old → stored ≡ Err e) → (K.status old).lost ≡ false → HasStatus Plain (K.status old) (K.status new) → looks (Err e) → IsKeyServed K (key_plainly (finds.Refused (code_of e))) course old new
+    refused_key : (e : StoreAnswer) → (K.has_model old → stored ≡ Err e) → (K.status old).lost ≡ false → HasStatus Plain (K.status old) (K.status new) → looks (Err e) →
+        IsKeyServed K (key_plainly (finds.Refused (code_of e))) resolution old new
     refused_key e answer works stands read = record {
       outcome = λ t. sym (serves (K.status old).lost (found_by stored) works ∙ ap found_by (answer t));
       same = read.same;
@@ -100,7 +103,7 @@ module _ {D : Type 0} (K : Keeper D) where
       crash = read.crash;
     }
 
-    told_key : (given : Result ObjectKey StoreAnswer) → looks given → IfSome (key_told given) (λ served. IsKeyServed K served course old new)
+    told_key : (given : Result ObjectKey StoreAnswer) → looks given → IfSome (key_told given) (λ served. IsKeyServed K served resolution old new)
     told_key (Ok key) read = record {
       outcome = λ t. sym (serves (K.status old).lost (found_by stored) read.call.cause.cause.0 ∙ ap found_by (read.answer t));
       same = read.same;
@@ -113,9 +116,12 @@ module _ {D : Type 0} (K : Keeper D) where
       keeps = kept_by (Ok key) read;
       crash = read.crash;
     }
-    told_key (Err stores.NotFound) read = refused_key stores.NotFound read.answer read.call.cause.cause.0 (plain_status (Err stores.NotFound) false read.call.cause.cause.0 read.call.cause.cause.1 read.call.cause.reports read) read
-    told_key (Err stores.Exists) read = refused_key stores.Exists read.answer read.call.cause.cause.0 (plain_status (Err stores.Exists) false read.call.cause.cause.0 read.call.cause.cause.1 read.call.cause.reports read) read
-    told_key (Err stores.NoSpace) read = refused_key stores.NoSpace read.answer read.call.cause.cause.0 (plain_status (Err stores.NoSpace) false read.call.cause.cause.0 read.call.cause.cause.1 read.call.cause.reports read) read
+    told_key (Err stores.NotFound) read = refused_key stores.NotFound read.answer read.call.cause.cause.0
+        (plain_status (Err stores.NotFound) false read.call.cause.cause.0 read.call.cause.cause.1 read.call.cause.reports read) read
+    told_key (Err stores.Exists) read = refused_key stores.Exists read.answer read.call.cause.cause.0
+        (plain_status (Err stores.Exists) false read.call.cause.cause.0 read.call.cause.cause.1 read.call.cause.reports read) read
+    told_key (Err stores.NoSpace) read = refused_key stores.NoSpace read.answer read.call.cause.cause.0
+        (plain_status (Err stores.NoSpace) false read.call.cause.cause.0 read.call.cause.cause.1 read.call.cause.reports read) read
     told_key (Err stores.Lost) read = record {
       outcome = λ t. sym (keeps (K.status old).lost (found_by stored) read.call.cause.cause.0);
       same = read.same;
@@ -180,10 +186,10 @@ module _ {D : Type 0} (K : Keeper D) where
     wants given (Err e) lack read = ends (subst looks (untold given lack) read)
 
     -- a look that came to the store
-    pub tells_read : (given : Result ObjectKey StoreAnswer) (result : Result KeyServed WantOfMemory) (whole : KeyCourse)
-        → IfOk result (λ served. key_told given ≡ Some served) → OnErr result (key_told given ≡ None) → whole ≡ course → looks given → TellsKey K result whole old new
+    pub tells_read : (given : Result ObjectKey StoreAnswer) (result : Result KeyServed WantOfMemory) (whole : KeyResolution)
+        → IfOk result (λ served. key_told given ≡ Some served) → OnErr result (key_told given ≡ None) → whole ≡ resolution → looks given → TellsKey K result whole old new
     tells_read given result whole told lack same read = rw same (record {
-      served = IfOk-weaker result _ _ (λ served t. subst (λ (o : Option KeyServed). IfSome o (λ s. IsKeyServed K s course old new)) t (told_key given read)) told;
+      served = IfOk-weaker result _ _ (λ served t. subst (λ (o : Option KeyServed). IfSome o (λ s. IsKeyServed K s resolution old new)) t (told_key given read)) told;
       tried = omega (arith, read.call.attempts);
       want = wants given result lack read;
     })

@@ -16,7 +16,7 @@ use Rattle.object_asks.specs.Sources.{stored_key}
 use Rattle.object_asks.specs.declared.turn.TurnKind.{TurnKind}
 use Rattle.object_asks.specs.declared.outcome.Outcome.{Outcome as Result_of}
 use Rattle.object_asks.specs.declared.outcome.Outcome.TheVariants as outcomes
-use Rattle.object_asks.specs.Courses.{Objects, Outcome}
+use Rattle.object_asks.specs.Resolutions.{Objects, Outcome}
 use Rattle.object_asks.specs.Held.{Held}
 use Rattle.object_asks.specs.Serving.{CrashTurns, EndsUnchanged, Gives, IsGiven, IsKept, LeftByTurn, StaysBeside, TriesOnce, UnlessAnswered, kind_by, left_by, objects_in}
 use Rattle.object_asks.proofs.Crashes.{only_old}
@@ -67,7 +67,8 @@ differ_exists A e = cc
 differ_space : (A : Type 0) → (let r : Result A StoreAnswer = Err stores.NotFound in r ≡ Err stores.NoSpace) → ⊥
 differ_space A e = cc
 
-both_of : (o : Option Object) (facts : Facts) (secret : List ℕ) → with_object o (λ x. Ok (facts_of x)) ≡ Ok facts → with_object o (λ x. Ok x.secret) ≡ Ok secret → with_object {A = ObjectKey} o (λ x. Ok (record { kind = x.kind; usage = x.usage; secret = x.secret })) ≡ Ok (record { kind = facts.kind; usage = facts.usage; secret = secret })
+both_of : (o : Option Object) (facts : Facts) (secret : List ℕ) → with_object o (λ x. Ok (facts_of x)) ≡ Ok facts → with_object o (λ x. Ok x.secret) ≡ Ok secret →
+    with_object {A = ObjectKey} o (λ x. Ok (record { kind = x.kind; usage = x.usage; secret = x.secret })) ≡ Ok (record { kind = facts.kind; usage = facts.usage; secret = secret })
 both_of None facts secret one two = absurd (err_ok _ _ one)
 both_of (Some x) facts secret one two =
     let same : facts_of x ≡ facts = cc in
@@ -177,26 +178,30 @@ module _ {D : Type 0} (K : Keeper D) where
           leaves_after old mid new one (honest_model old h) first (two.crash (one.honest h) (just_after old mid one (honest_model old h) first));
     }
 
-    ends_given : (result : Result Result_of StoreAnswer) (old mid new : D) → Looked old mid → IfOk result (λ outcome. UnlessAnswered outcome (EndsUnchanged K mid new)) → IfOk result (λ outcome. UnlessAnswered outcome (EndsUnchanged K old new))
+    ends_given : (result : Result Result_of StoreAnswer) (old mid new : D) → Looked old mid → IfOk result (λ outcome. UnlessAnswered outcome (EndsUnchanged K mid new)) →
+        IfOk result (λ outcome. UnlessAnswered outcome (EndsUnchanged K old new))
     ends_given (Ok (outcomes.Answered answer)) old mid new one two = tt
     ends_given (Ok (outcomes.Returned ending)) old mid new one two = ends_after old mid new one two
     ends_given (Ok outcomes.Panicked) old mid new one two = ends_after old mid new one two
     ends_given (Err e) old mid new one two = tt
 
-    turns_after : (kind : TurnKind) (doubt in_doubt : Option Store) (old mid new : D) → Looked old mid → K.has_model old → doubt ≡ in_doubt → CrashLeaves K (K.contents old) old mid → CrashTurns K kind doubt mid new → CrashTurns K kind in_doubt old new
+    turns_after : (kind : TurnKind) (doubt in_doubt : Option Store) (old mid new : D) → Looked old mid → K.has_model old → doubt ≡ in_doubt →
+        CrashLeaves K (K.contents old) old mid → CrashTurns K kind doubt mid new → CrashTurns K kind in_doubt old new
     turns_after kind doubt in_doubt old mid new one there agree first second =
         let P : Remains → Type 0 = LeftByTurn kind in_doubt (K.contents old) (K.contents new) in
-        let two : LeavesOnly K.moment K.left_since mid new (LeftByTurn kind doubt (K.contents old) (K.contents new)) = subst (λ c. LeavesOnly K.moment K.left_since mid new (LeftByTurn kind doubt c (K.contents new))) (one.same there) second.any_moment in
+        let two : LeavesOnly K.moment K.left_since mid new (LeftByTurn kind doubt (K.contents old) (K.contents new)) =
+        subst (λ c. LeavesOnly K.moment K.left_since mid new (LeftByTurn kind doubt c (K.contents new))) (one.same there) second.any_moment in
         record {
-          any_moment = joined K.moment K.left_since old mid new P (weaker K.moment K.left_since old mid (λ o. o ≡ Some (K.contents old)) P (λ o e. only_old kind in_doubt (K.contents old) (K.contents new) o e) first.any_moment)
+          any_moment = joined K.moment K.left_since old mid new P (weaker K.moment K.left_since old mid (λ o. o ≡ Some (K.contents old)) P
+              (λ o e. only_old kind in_doubt (K.contents old) (K.contents new) o e) first.any_moment)
               (subst (λ d. LeavesOnly K.moment K.left_since mid new (LeftByTurn kind d (K.contents old) (K.contents new))) agree two);
           afterwards = second.afterwards;
         }
 
     -- what comes to the store after a read, as if it came at once
-    pub given_after : (result : Result Result_of StoreAnswer) (seen plain : Outcome Objects) (changes : Bool) (held kept left : Held) (old mid new : D)
-        → Looked old mid → (K.has_model old → seen ≡ plain) → IsGiven K result seen changes held kept left mid new → IsGiven K result plain changes held kept left old new
-    given_after result seen plain changes held kept left old mid new one agree two = record {
+    pub given_after : (result : Result Result_of StoreAnswer) (seen if_served : Outcome Objects) (changes : Bool) (held kept left : Held) (old mid new : D)
+        → Looked old mid → (K.has_model old → seen ≡ if_served) → IsGiven K result seen changes held kept left mid new → IsGiven K result if_served changes held kept left old new
+    given_after result seen if_served changes held kept left old mid new one agree two = record {
       gives = λ t. subst (λ p. Gives result p (objects_in held (K.contents old)) (objects_in kept (K.contents old)) (objects_in left (K.contents new))) (agree t)
           (subst (λ c. Gives result seen (objects_in held c) (objects_in kept c) (objects_in left (K.contents new))) (one.same t) (two.gives (one.model t)));
       cause = λ e. has_cause_after result old mid new one (two.cause e);
@@ -209,10 +214,12 @@ module _ {D : Type 0} (K : Keeper D) where
       keeps = kept_after old mid new one two.keeps;
       crash = λ h just.
           let first = one.crash h just in
-          turns_after (kind_by changes result) (left_by seen) (left_by plain) old mid new one (honest_model old h) (ap left_by (agree (honest_model old h))) first (two.crash (one.honest h) (just_after old mid one (honest_model old h) first));
+          turns_after (kind_by changes result) (left_by seen) (left_by if_served) old mid new one (honest_model old h) (ap left_by (agree (honest_model old h))) first
+          (two.crash (one.honest h) (just_after old mid one (honest_model old h) first));
     }
 
-    pub call_after : {A : Type 0} (result : Result A StoreAnswer) (old mid new : D) → Looked old mid → (K.has_model old → K.contents mid ≡ K.contents old) → IsCall K 0 result mid new → IsCall K 0 result old new
+    pub call_after : {A : Type 0} (result : Result A StoreAnswer) (old mid new : D) → Looked old mid → (K.has_model old → K.contents mid ≡ K.contents old) →
+        IsCall K 0 result mid new → IsCall K 0 result old new
     call_after result old mid new one same two = record {
       model = λ t. two.model (one.model t);
       still = λ t lost. two.still (one.model t) lost ∙ same t;
@@ -245,7 +252,19 @@ module _ {D : Type 0} (K : Keeper D) where
     answer = λ t. agree (K.contents old).store (read.answer t);
     same = read.same;
     bounds = bounds;
-    call = record { model = read.call.model; still = read.call.still; limits = read.call.limits; cause = record { cause = read.call.cause.cause; later = read.call.cause.later; foundation = read.call.cause.foundation; reports = read.call.cause.reports }; attempts = read.call.attempts; damage = tt; honest = λ h. ((read.call.honest h).0, tt); quiet = read.call.quiet; past = read.call.past };
+    call = record {
+      model = read.call.model;
+      still = read.call.still;
+      limits = read.call.limits;
+      cause =
+          record { cause = read.call.cause.cause; later = read.call.cause.later; foundation = read.call.cause.foundation; reports = read.call.cause.reports };
+      attempts =
+          read.call.attempts;
+      damage = tt;
+      honest = λ h. ((read.call.honest h).0, tt);
+      quiet = read.call.quiet;
+      past = read.call.past;
+    };
     crash = read.crash;
   }
 
@@ -260,7 +279,13 @@ module _ {D : Type 0} (K : Keeper D) where
       model = read.call.model;
       still = read.call.still;
       limits = read.call.limits;
-      cause = record { cause = cause_of A B e (K.status old) (K.status new) read.call.cause.cause; later = read.call.cause.later; foundation = read.call.cause.foundation; reports = read.call.cause.reports ∙ ap (λ n. (K.status old).damage_reports + n) (reports_of A B e) };
+      cause = record {
+        cause = cause_of A B e (K.status old) (K.status new) read.call.cause.cause;
+        later = read.call.cause.later;
+        foundation = read.call.cause.foundation;
+        reports =
+            read.call.cause.reports ∙ ap (λ n. (K.status old).damage_reports + n) (reports_of A B e);
+      };
       attempts = read.call.attempts;
       damage = damage_of A B e (K.damage new) read.call.damage;
       honest = λ h. ((read.call.honest h).0, damage_of A B e (λ answer. ⊥) (read.call.honest h).1);
@@ -273,7 +298,8 @@ module _ {D : Type 0} (K : Keeper D) where
 -- ---- of the same object
 
 -- what isn't there isn't there, whatever is asked of it
-pub not_there : {A B : Type 0} (o : Option Object) (f : Object → A) (g : Object → B) (e : StoreAnswer) → Answers {A = A} (Err e) (with_object o (λ x. Ok (f x))) → Answers {A = B} (Err e) (with_object o (λ x. Ok (g x)))
+pub not_there : {A B : Type 0} (o : Option Object) (f : Object → A) (g : Object → B) (e : StoreAnswer) → Answers {A = A} (Err e) (with_object o (λ x. Ok (f x))) →
+    Answers {A = B} (Err e) (with_object o (λ x. Ok (g x)))
 not_there None f g stores.NotFound told = refl
 not_there {A} None f g stores.Exists told = absurd (differ_exists A told)
 not_there {A} None f g stores.NoSpace told = absurd (differ_space A told)
@@ -287,5 +313,6 @@ not_there o f g (stores.Garbled leaf) told = tt
 not_there o f g stores.NoMemory told = tt
 
 -- kind and usage by the one read, the secret by the other
-pub key_of_both : (store : Store) (id : List ℕ) (facts : Facts) (secret : List ℕ) → found store id ≡ Ok facts → secret_at store id ≡ Ok secret → stored_key store id ≡ Ok (record { kind = facts.kind; usage = facts.usage; secret = secret })
+pub key_of_both : (store : Store) (id : List ℕ) (facts : Facts) (secret : List ℕ) → found store id ≡ Ok facts → secret_at store id ≡ Ok secret →
+    stored_key store id ≡ Ok (record { kind = facts.kind; usage = facts.usage; secret = secret })
 key_of_both store id facts secret one two = both_of (object_at store id) facts secret one two

@@ -15,9 +15,10 @@ use Rattle.handle_table.specs.Handles.{free_number, is_full}
 use Rattle.object_asks.specs.declared.source.KeySource.{KeySource}
 use Rattle.object_asks.specs.declared.source.KeySource.TheVariants.{NoKey, InMemory, InStore}
 use Rattle.object_asks.specs.Asks.{Answered, Objects, holding, is_too_much, outcome_in, refused, without_store}
-use Rattle.object_asks.specs.Handles.{settled}
+use Rattle.object_asks.specs.Handles.{without_rename}
 use Rattle.object_asks.specs.Held.{is_key_at, key_added, key_set, transient_at}
-use Rattle.object_asks.specs.Keys.{copied_by, copied_from, copied_in, copy_course, copy_from, copy_to, generate_course, generated_of, generated_on, is_extractable, new_key, new_key_by, populate_on, populated_by, random_wanted, reset_key, restrict_key, restrict_on, secret_by, secret_course, secret_from, secret_told}
+use Rattle.object_asks.specs.Keys.{copied_by, copied_from, copied_in, copy_resolution, copy_from, copy_to, generate_resolution, generated_of, generated_on, is_extractable, new_key, new_key_by}
+use Rattle.object_asks.specs.Keys.{populate_on, populated_by, random_wanted, reset_key, restrict_key, restrict_on, secret_by, secret_resolution, secret_from, secret_told}
 use Rattle.object_asks.specs.Sources.{key_source, stored_key}
 use Rattle.object_asks.proofs.HeldLemmas.{places_set, together_more}
 use Rattle.object_asks.proofs.SoundHandles.{memory_sound}
@@ -36,7 +37,8 @@ added_key_sound o i key sound =
 new_by_sound : (o : Objects) (i : ℕ) (r : Result Key KeyAnswer) → AreSound o → Goes AreSound (without_store o (new_key_by o.held i r))
 new_by_sound o i (Err answer) sound = sound
 new_by_sound o i (Ok key) sound =
-    cond_both (is_full (settled o.held.handles) i) (refused o.held BUSY) (Answered (key_added o.held i key) (answers.Number (free_number o.held.handles i))) (λ outcome. Goes AreSound (without_store o outcome)) (λ _. sound) (λ _. added_key_sound o i key sound)
+    cond_both (is_full (without_rename o.held.handles) i) (refused o.held BUSY) (Answered (key_added o.held i key) (answers.Number (free_number o.held.handles i)))
+    (λ outcome. Goes AreSound (without_store o outcome)) (λ _. sound) (λ _. added_key_sound o i key sound)
 
 pub new_key_sound : (o : Objects) (i kind max_bits : ℕ) → AreSound o → Goes AreSound (without_store o (new_key o.held i kind max_bits))
 new_key_sound o i kind max_bits sound = new_by_sound o i (allocated kind max_bits) sound
@@ -70,7 +72,7 @@ secret_from_sound o room NoKey sound = tt
 secret_from_sound o room (InMemory key) sound = secret_told_sound o room key sound
 secret_from_sound o room (InStore id) sound = (sound, secret_by_sound o room (stored_key o.store id) sound)
 
-pub secret_sound : (o : Objects) (i object room : ℕ) → AreSound o → Goes AreSound (secret_course o i object room)
+pub secret_sound : (o : Objects) (i object room : ℕ) → AreSound o → Goes AreSound (secret_resolution o i object room)
 secret_sound o i object room sound = turn (is_too_much room) _ _ tt (λ _. secret_from_sound o room (key_source o.held i object) sound)
 
 copied_by_sound : (o : Objects) (i to : ℕ) (after : Key) (r : Result (Unit {0}) KeyAnswer) → AreSound o → Leaves AreSound (outcome_in (holding o) (copied_by o.held i to after r))
@@ -93,7 +95,7 @@ copy_to_sound : (o : Objects) (i to from : ℕ) (key : Option Key) → AreSound 
 copy_to_sound o i to from None sound = tt
 copy_to_sound o i to from (Some key) sound = turn (is_some key.secret) _ _ tt (λ _. copy_from_sound o i to key (key_source o.held i from) sound)
 
-pub copy_sound : (o : Objects) (i to from : ℕ) → AreSound o → Goes AreSound (copy_course o i to from)
+pub copy_sound : (o : Objects) (i to from : ℕ) → AreSound o → Goes AreSound (copy_resolution o i to from)
 copy_sound o i to from sound = copy_to_sound o i to from (transient_at o.held i to) sound
 
 restrict_key_sound : (o : Objects) (i object usage : ℕ) (key : Option Key) → AreSound o → Goes AreSound (without_store o (restrict_key o.held i object usage key))
@@ -113,5 +115,5 @@ generated_of_sound : (o : Objects) (i object : ℕ) (random : ℕ → List ℕ) 
 generated_of_sound o i object random None sound = tt
 generated_of_sound o i object random (Some n) sound = generated_on_sound o i object (random n) (transient_at o.held i object) sound
 
-pub generate_sound : (o : Objects) (i object bits : ℕ) (random : ℕ → List ℕ) → AreSound o → Goes AreSound (generate_course o i object bits random)
+pub generate_sound : (o : Objects) (i object bits : ℕ) (random : ℕ → List ℕ) → AreSound o → Goes AreSound (generate_resolution o i object bits random)
 generate_sound o i object bits random sound = generated_of_sound o i object random (random_wanted o.held i object bits) sound

@@ -9,7 +9,7 @@ use Rattle.object_asks.specs.Asks.{Answered, Objects, done, holding, private_sto
 use Rattle.tee_base.specs.declared.codes.TheConstants.Code.{BUSY}
 use Rattle.app_api.specs.declared.ask.Answer.TheVariants as answers
 use Rattle.object_asks.specs.Held.{NumberedList, walk_at}
-use Rattle.object_asks.specs.Lists.{free_list, free_of, free_on, given_next, has_all_lists, list_added, list_freed, new_list, next_course, reset_on, start_course, started_by, walked}
+use Rattle.object_asks.specs.Lists.{free_list, free_of, free_on, given_next, has_all_lists, list_added, list_freed, new_list, next_resolution, reset_on, start_resolution, started_by, walked}
 use Rattle.object_asks.proofs.SoundObjects.{AreSound, Goes, Leaves, turn}
 
 -- with other enumerators
@@ -18,7 +18,8 @@ lists_sound o lists sound = record { stored = sound.stored; sole = sound.sole; t
 
 pub new_list_sound : (o : Objects) (i : ℕ) → AreSound o → Goes AreSound (without_store o (new_list o.held i))
 new_list_sound o i sound =
-    elim (has_all_lists o.held.lists i) as (λ b. Goes AreSound (without_store o (cond b (refused o.held BUSY) (Answered (list_added o.held i) (answers.Number (free_list o.held.lists i)))))) [ true ↦ sound | false ↦ lists_sound o (list_added o.held i).lists sound ]
+    elim (has_all_lists o.held.lists i) as (λ b. Goes AreSound (without_store o (cond b (refused o.held BUSY)
+    (Answered (list_added o.held i) (answers.Number (free_list o.held.lists i)))))) [ true ↦ sound | false ↦ lists_sound o (list_added o.held i).lists sound ]
 
 free_on_sound : (o : Objects) (i list : ℕ) (w : Option Walk) → AreSound o → Goes AreSound (without_store o (free_on o.held i list w))
 free_on_sound o i list None sound = tt
@@ -26,7 +27,8 @@ free_on_sound o i list (Some walk) sound = lists_sound o (list_freed o.held i li
 
 pub free_list_sound : (o : Objects) (i list : ℕ) → AreSound o → Goes AreSound (without_store o (free_of o.held i list))
 free_list_sound o i list sound =
-    elim (list == 0) as (λ b. Goes AreSound (without_store o (cond b (done o.held) (free_on o.held i list (walk_at o.held i list))))) [ true ↦ sound | false ↦ free_on_sound o i list (walk_at o.held i list) sound ]
+    elim (list == 0) as (λ b. Goes AreSound (without_store o (cond b (done o.held) (free_on o.held i list (walk_at o.held i list)))))
+    [ true ↦ sound | false ↦ free_on_sound o i list (walk_at o.held i list) sound ]
 
 pub reset_list_sound : (o : Objects) (i list : ℕ) (w : Option Walk) → AreSound o → Goes AreSound (without_store o (reset_on o.held i list w))
 reset_list_sound o i list None sound = tt
@@ -36,7 +38,7 @@ started_by_sound : (o : Objects) (i list : ℕ) (r : Result Listed StoreAnswer) 
 started_by_sound o i list (Ok listed) sound = lists_sound o (walked o.held i list (Started None)).lists sound
 started_by_sound o i list (Err answer) sound = sound
 
-pub start_list_sound : (o : Objects) (i list storage : ℕ) (w : Option Walk) → AreSound o → Goes AreSound (start_course o i list storage w)
+pub start_list_sound : (o : Objects) (i list storage : ℕ) (w : Option Walk) → AreSound o → Goes AreSound (start_resolution o i list storage w)
 start_list_sound o i list storage None sound = tt
 start_list_sound o i list storage (Some walk) sound =
     turn (not (storage == private_storage)) _ _ sound (λ _. (sound, started_by_sound o i list (next_after o.store None) sound))
@@ -45,7 +47,7 @@ given_next_sound : (o : Objects) (i list : ℕ) (r : Result Listed StoreAnswer) 
 given_next_sound o i list (Ok listed) sound = lists_sound o (walked o.held i list (Started (Some listed.id))).lists sound
 given_next_sound o i list (Err answer) sound = sound
 
-pub next_list_sound : (o : Objects) (i list : ℕ) (w : Option Walk) → AreSound o → Goes AreSound (next_course o i list w)
+pub next_list_sound : (o : Objects) (i list : ℕ) (w : Option Walk) → AreSound o → Goes AreSound (next_resolution o i list w)
 next_list_sound o i list None sound = tt
 next_list_sound o i list (Some Idle) sound = sound
 next_list_sound o i list (Some (Started last)) sound = (sound, given_next_sound o i list (next_after o.store last) sound)

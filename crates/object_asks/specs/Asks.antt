@@ -1,9 +1,11 @@
 -- What comes of an ask: one definition for each family of asks, in it one for each ask, with its misuse first, then its refusals
 -- in their order, then its answer (TEE Internal Core API 1.3, chapter 5). Here are the asks about handles on objects.
-pub use Rattle.object_asks.specs.Courses.{Outcome, Answered, Returned, Panicked, Course, Settled, ComesToStore, refused, done, comes_to_store, outcome_in, course_in, Objects, holding, over_store, without_store, Serving, Serves, Fails, Damaged, came_of, is_long_identifier, is_too_much, private_storage, has_unknown_bits, overwrites, kept_flags, code_of}
+pub use Rattle.object_asks.specs.Resolutions.{Outcome, Answered, Returned, Panicked, Resolution, Settled, ComesToStore, refused, done, comes_to_store, outcome_in}
+pub use Rattle.object_asks.specs.Resolutions.{resolution_in, Objects, holding, over_store, without_store, Serving, Serves, Fails, Damaged, came_of, is_long_identifier}
+pub use Rattle.object_asks.specs.Resolutions.{is_too_much, private_storage, has_unknown_bits, overwrites, kept_flags, code_of}
 use Rattle.std.specs.Prelude.{ℕ, ◌+◌, ◌*◌, ◌==◌, ℤ, pos, negsuc, ◌+ℤ◌, min, nat_lt, Bool, true, false, not, ◌||◌, List, [], length, Option, None, Some, Result, Ok, Err, if◌then◌else◌}
 use Rattle.tee_base.specs.declared.codes.Flags.{Flags}
-use Rattle.tee_base.specs.declared.limits.TheConstants.{POSITION}
+use Rattle.tee_base.specs.declared.limits.TheConstants.{MAX_POSITION}
 use Rattle.app_api.specs.declared.ask.Ask.{Ask}
 use Rattle.app_api.specs.declared.ask.Ask.TheVariants as asked
 use Rattle.app_api.specs.declared.ask.Answer.TheVariants as answers
@@ -20,10 +22,10 @@ use Rattle.handle_table.specs.declared.handle.Handle.TheVariants.{Persistent, Tr
 use Rattle.handle_table.specs.Handles.{free_number, handle_at, is_full, is_open, is_there, may_open}
 use Rattle.object_asks.specs.declared.source.KeySource.{KeySource}
 use Rattle.tee_base.specs.declared.codes.TheConstants.Code.{ITEM_NOT_FOUND, ACCESS_CONFLICT, BUSY, OVERFLOW}
-use Rattle.object_asks.specs.Handles.{settled}
+use Rattle.object_asks.specs.Handles.{without_rename}
 use Rattle.object_asks.specs.Held.{handle_added, handle_closed, handle_renamed, handle_sought, key_at, secret_bits, transient_at, walk_at}
-use Rattle.object_asks.specs.Keys.{copy_course, new_key, populate_on, reset_key, restrict_on, secret_course}
-use Rattle.object_asks.specs.Lists.{free_of, new_list, next_course, reset_on, start_course}
+use Rattle.object_asks.specs.Keys.{copy_resolution, new_key, populate_on, reset_key, restrict_on, secret_resolution}
+use Rattle.object_asks.specs.Lists.{free_of, new_list, next_resolution, reset_on, start_resolution}
 use Rattle.object_asks.specs.Sources.{attr_source, is_no_key, key_given}
 
 -- the five asks that change the store
@@ -63,14 +65,14 @@ numbered o i id flags = Answered (holding o (handle_added o.held i id flags)) (a
 abbrev pub opened_by : Objects → ℕ → List ℕ → Flags → Result Facts StoreAnswer → Outcome Objects
 opened_by o i id flags (Err answer) = refused o (code_of answer)
 opened_by o i id flags (Ok facts) =
-    if may_open (settled o.held.handles) id flags then numbered o i id flags else refused o ACCESS_CONFLICT
+    if may_open (without_rename o.held.handles) id flags then numbered o i id flags else refused o ACCESS_CONFLICT
 
 -- how ObjOpen goes: too long an identifier and unknown flags are misuse
-abbrev pub open_course : Objects → ℕ → ℕ → List ℕ → ℕ → Course Objects
-open_course o i storage id flags =
+abbrev pub open_resolution : Objects → ℕ → ℕ → List ℕ → ℕ → Resolution Objects
+open_resolution o i storage id flags =
     if is_long_identifier id || has_unknown_bits flags then Settled Panicked
     else if not (storage == private_storage) then Settled (refused o ITEM_NOT_FOUND)
-    else if is_full (settled o.held.handles) i then Settled (refused o BUSY)
+    else if is_full (without_rename o.held.handles) i then Settled (refused o BUSY)
     else ComesToStore o (opened_by o i id (kept_flags flags) (found o.store id))
 
 -- a new object with what a key object gives
@@ -85,7 +87,7 @@ created_by o i id flags (Ok store) = numbered (over_store o store) i id flags
 -- ObjCreate with this key object: no handle is open on the identifier
 abbrev pub created : Objects → ℕ → List ℕ → ℕ → List ℕ → ObjectKey → Outcome Objects
 created o i id flags content key =
-    if is_open (settled o.held.handles) id then refused o ACCESS_CONFLICT
+    if is_open (without_rename o.held.handles) id then refused o ACCESS_CONFLICT
     else created_by o i id (kept_flags flags) (change o.store (put_of id key content (overwrites flags)))
 
 -- ObjCreate with the key object that its attributes gave, or with the refusal that they gave
@@ -94,22 +96,22 @@ created_with o i id flags content (Err answer) = refused o (code_of answer)
 created_with o i id flags content (Ok key) = created o i id flags content key
 
 -- how ObjCreate goes with attributes of this source: too long a content and attributes without a key are misuse
-abbrev pub create_by : Objects → ℕ → ℕ → List ℕ → ℕ → List ℕ → KeySource → Course Objects
+abbrev pub create_by : Objects → ℕ → ℕ → List ℕ → ℕ → List ℕ → KeySource → Resolution Objects
 create_by o i storage id flags content source =
     if is_long_identifier id || is_too_much (length content) || has_unknown_bits flags || is_no_key source then Settled Panicked
     else if not (storage == private_storage) then Settled (refused o ITEM_NOT_FOUND)
-    else if is_full (settled o.held.handles) i then Settled (refused o BUSY)
+    else if is_full (without_rename o.held.handles) i then Settled (refused o BUSY)
     else ComesToStore o (created_with o i id flags content (key_given o.store source))
 
 -- how ObjCreate goes, with the attributes of the instance's object of this number
-abbrev pub create_course : Objects → ℕ → ℕ → List ℕ → ℕ → ℕ → List ℕ → Course Objects
-create_course o i storage id flags attr content = create_by o i storage id flags content (attr_source o.held i attr)
+abbrev pub create_resolution : Objects → ℕ → ℕ → List ℕ → ℕ → ℕ → List ℕ → Resolution Objects
+create_resolution o i storage id flags attr content = create_by o i storage id flags content (attr_source o.held i attr)
 
 -- ObjClose: of either sort of handle
-abbrev pub close_course : Objects → ℕ → ℕ → Course Objects
-close_course o i object =
+abbrev pub close_resolution : Objects → ℕ → ℕ → Resolution Objects
+close_resolution o i object =
     if object == 0 then Settled (done o)
-    else if not (is_there (settled o.held.handles) i object) then Settled Panicked
+    else if not (is_there (without_rename o.held.handles) i object) then Settled Panicked
     else Settled (done (holding o (handle_closed o.held i object)))
 
 -- ObjDelete: the object and the handle go; the handle in the refused case too
@@ -118,7 +120,7 @@ deleted_by o (Err answer) = refused o (code_of answer)
 deleted_by o (Ok store) = done (over_store o store)
 
 -- how ObjDelete goes on this handle: it is misuse without ACCESS_WRITE_META
-abbrev pub delete_on : Objects → ℕ → ℕ → Option Handle → Course Objects
+abbrev pub delete_on : Objects → ℕ → ℕ → Option Handle → Resolution Objects
 delete_on o i object None = Settled Panicked
 delete_on o i object (Some Transient) = Settled Panicked
 delete_on o i object (Some (Persistent id flags position)) =
@@ -126,10 +128,10 @@ delete_on o i object (Some (Persistent id flags position)) =
     else let left = holding o (handle_closed o.held i object) in ComesToStore left (deleted_by left (change o.store (Delete id)))
 
 -- how ObjDelete goes: number 0 is no handle, and nothing is done
-abbrev pub delete_course : Objects → ℕ → ℕ → Course Objects
-delete_course o i object =
+abbrev pub delete_resolution : Objects → ℕ → ℕ → Resolution Objects
+delete_resolution o i object =
     if object == 0 then Settled (done o)
-    else delete_on o i object (handle_at (settled o.held.handles) i object)
+    else delete_on o i object (handle_at (without_rename o.held.handles) i object)
 
 -- ObjRename: no object has that identifier, and none is open under it; its own is one that has it
 abbrev pub renamed_by : Objects → ℕ → ℕ → List ℕ → Result Store StoreAnswer → Outcome Objects
@@ -139,14 +141,14 @@ renamed_by o i object to (Ok store) = done (record { store = store; held = handl
 -- ObjRename: no handle is open on the new identifier
 abbrev pub renamed : Objects → ℕ → ℕ → List ℕ → List ℕ → Outcome Objects
 renamed o i object id to =
-    if is_open (settled o.held.handles) to then refused o ACCESS_CONFLICT
+    if is_open (without_rename o.held.handles) to then refused o ACCESS_CONFLICT
     else renamed_by o i object to (change o.store (Rename id to))
 
 -- how ObjRename goes on this handle: it is misuse without ACCESS_WRITE_META
-abbrev pub rename_course : Objects → ℕ → ℕ → List ℕ → Option Handle → Course Objects
-rename_course o i object to None = Settled Panicked
-rename_course o i object to (Some Transient) = Settled Panicked
-rename_course o i object to (Some (Persistent id flags position)) =
+abbrev pub rename_resolution : Objects → ℕ → ℕ → List ℕ → Option Handle → Resolution Objects
+rename_resolution o i object to None = Settled Panicked
+rename_resolution o i object to (Some Transient) = Settled Panicked
+rename_resolution o i object to (Some (Persistent id flags position)) =
     if is_long_identifier to || not (has_bit access_write_meta flags) then Settled Panicked
     else ComesToStore o (renamed o i object id to)
 
@@ -162,14 +164,14 @@ told_of_object o flags position (Ok facts) =
     Answered o (answers.Object facts.kind (8 * facts.secret) (8 * facts.secret) facts.usage facts.length position flags.0)
 
 -- how ObjInfo goes on this handle
-abbrev pub info_course : Objects → ℕ → ℕ → Option Handle → Course Objects
-info_course o i object None = Settled Panicked
-info_course o i object (Some Transient) = Settled (key_info o (key_at o.held i object))
-info_course o i object (Some (Persistent id flags position)) = ComesToStore o (told_of_object o flags position (found o.store id))
+abbrev pub info_resolution : Objects → ℕ → ℕ → Option Handle → Resolution Objects
+info_resolution o i object None = Settled Panicked
+info_resolution o i object (Some Transient) = Settled (key_info o (key_at o.held i object))
+info_resolution o i object (Some (Persistent id flags position)) = ComesToStore o (told_of_object o flags position (found o.store id))
 
 -- the handle goes on from here; a position stays within 32 bits, and no object reaches so far
 abbrev pub moved_to : Objects → ℕ → ℕ → ℕ → Objects
-moved_to o i object position = holding o (handle_sought o.held i object (min position POSITION))
+moved_to o i object position = holding o (handle_sought o.held i object (min position MAX_POSITION))
 
 -- ObjRead: the bytes from the position on, and the handle stands behind them
 abbrev pub read_by : Objects → ℕ → ℕ → ℕ → Result (List ℕ) StoreAnswer → Outcome Objects
@@ -177,10 +179,10 @@ read_by o i object position (Err answer) = refused o (code_of answer)
 read_by o i object position (Ok bytes) = Answered (moved_to o i object (position + length bytes)) (answers.Content bytes)
 
 -- how ObjRead goes on this handle: it is misuse without ACCESS_READ, and a read of no bytes doesn't come to the store
-abbrev pub read_course : Objects → ℕ → ℕ → ℕ → Option Handle → Course Objects
-read_course o i object count None = Settled Panicked
-read_course o i object count (Some Transient) = Settled Panicked
-read_course o i object count (Some (Persistent id flags position)) =
+abbrev pub read_resolution : Objects → ℕ → ℕ → ℕ → Option Handle → Resolution Objects
+read_resolution o i object count None = Settled Panicked
+read_resolution o i object count (Some Transient) = Settled Panicked
+read_resolution o i object count (Some (Persistent id flags position)) =
     if is_too_much count || not (has_bit access_read flags) then Settled Panicked
     else if count == 0 then Settled (Answered o (answers.Content []))
     else ComesToStore o (read_by o i object position (read_at o.store id position count))
@@ -191,13 +193,13 @@ written_by o i object to (Err answer) = refused o (code_of answer)
 written_by o i object to (Ok store) = done (moved_to (over_store o store) i object to)
 
 -- how ObjWrite goes on this handle: it is misuse without ACCESS_WRITE, and a write of no bytes doesn't come to the store
-abbrev pub write_course : Objects → ℕ → ℕ → List ℕ → Option Handle → Course Objects
-write_course o i object bytes None = Settled Panicked
-write_course o i object bytes (Some Transient) = Settled Panicked
-write_course o i object bytes (Some (Persistent id flags position)) =
+abbrev pub write_resolution : Objects → ℕ → ℕ → List ℕ → Option Handle → Resolution Objects
+write_resolution o i object bytes None = Settled Panicked
+write_resolution o i object bytes (Some Transient) = Settled Panicked
+write_resolution o i object bytes (Some (Persistent id flags position)) =
     if is_too_much (length bytes) || not (has_bit access_write flags) then Settled Panicked
     else if length bytes == 0 then Settled (done o)
-    else if nat_lt POSITION (position + length bytes) then Settled (refused o OVERFLOW)
+    else if nat_lt MAX_POSITION (position + length bytes) then Settled (refused o OVERFLOW)
     else ComesToStore o (written_by o i object (position + length bytes) (change o.store (Write id position bytes)))
 
 -- ObjTruncate: extended by zeros; positions stay
@@ -206,16 +208,16 @@ truncated_by o (Err answer) = refused o (code_of answer)
 truncated_by o (Ok store) = done (over_store o store)
 
 -- how ObjTruncate goes on this handle: it is misuse without ACCESS_WRITE
-abbrev pub truncate_course : Objects → ℕ → ℕ → ℕ → Option Handle → Course Objects
-truncate_course o i object n None = Settled Panicked
-truncate_course o i object n (Some Transient) = Settled Panicked
-truncate_course o i object n (Some (Persistent id flags position)) =
+abbrev pub truncate_resolution : Objects → ℕ → ℕ → ℕ → Option Handle → Resolution Objects
+truncate_resolution o i object n None = Settled Panicked
+truncate_resolution o i object n (Some Transient) = Settled Panicked
+truncate_resolution o i object n (Some (Persistent id flags position)) =
     if not (has_bit access_write flags) then Settled Panicked
     else ComesToStore o (truncated_by o (change o.store (Truncate id n)))
 
 -- ObjSeek: from the start, the position or the end; below 0 it is 0
 abbrev pub landed : ℤ → Option ℕ
-landed (pos n) = if nat_lt POSITION n then None else Some n
+landed (pos n) = if nat_lt MAX_POSITION n then None else Some n
 landed (negsuc n) = Some 0
 
 -- the handle stands where it landed; beyond the greatest position it stays, and the ask is refused
@@ -233,36 +235,36 @@ moved_from_end o i object offset (Err answer) = refused o (code_of answer)
 moved_from_end o i object offset (Ok facts) = moved_by o i object facts.length offset
 
 -- how ObjSeek goes on this handle: another base than start, position and end is misuse
-abbrev pub seek_course : Objects → ℕ → ℕ → ℤ → ℕ → Option Handle → Course Objects
-seek_course o i object offset whence None = Settled Panicked
-seek_course o i object offset whence (Some Transient) = Settled Panicked
-seek_course o i object offset whence (Some (Persistent id flags position)) =
+abbrev pub seek_resolution : Objects → ℕ → ℕ → ℤ → ℕ → Option Handle → Resolution Objects
+seek_resolution o i object offset whence None = Settled Panicked
+seek_resolution o i object offset whence (Some Transient) = Settled Panicked
+seek_resolution o i object offset whence (Some (Persistent id flags position)) =
     if whence == 0 then Settled (moved_by o i object 0 offset)
     else if whence == 1 then Settled (moved_by o i object position offset)
     else if whence == 2 then ComesToStore o (moved_from_end o i object offset (found o.store id))
     else Settled Panicked
 
 -- the asks about objects, enumerators and keys, but KeyGenerate, which rests on random bytes; an ask of another family doesn't come here
-unfoldable pub object_course : Objects → ℕ → Ask → Course Objects
-object_course o i (asked.ObjOpen storage id flags) = open_course o i storage id flags
-object_course o i (asked.ObjCreate storage id flags attr content) = create_course o i storage id flags attr content
-object_course o i (asked.ObjClose object) = close_course o i object
-object_course o i (asked.ObjDelete object) = delete_course o i object
-object_course o i (asked.ObjRename object to) = rename_course o i object to (handle_at (settled o.held.handles) i object)
-object_course o i (asked.ObjInfo object) = info_course o i object (handle_at (settled o.held.handles) i object)
-object_course o i (asked.ObjRead object count) = read_course o i object count (handle_at (settled o.held.handles) i object)
-object_course o i (asked.ObjWrite object bytes) = write_course o i object bytes (handle_at (settled o.held.handles) i object)
-object_course o i (asked.ObjTruncate object n) = truncate_course o i object n (handle_at (settled o.held.handles) i object)
-object_course o i (asked.ObjSeek object offset whence) = seek_course o i object offset whence (handle_at (settled o.held.handles) i object)
-object_course o i asked.EnumNew = without_store o (new_list o.held i)
-object_course o i (asked.EnumFree list) = without_store o (free_of o.held i list)
-object_course o i (asked.EnumReset list) = without_store o (reset_on o.held i list (walk_at o.held i list))
-object_course o i (asked.EnumStart list storage) = start_course o i list storage (walk_at o.held i list)
-object_course o i (asked.EnumNext list) = next_course o i list (walk_at o.held i list)
-object_course o i (asked.KeyNew kind max_bits) = without_store o (new_key o.held i kind max_bits)
-object_course o i (asked.KeyPopulate object secret) = without_store o (populate_on o.held i object secret (transient_at o.held i object))
-object_course o i (asked.KeyReset object) = without_store o (reset_key o.held i object (transient_at o.held i object))
-object_course o i (asked.KeySecret object room) = secret_course o i object room
-object_course o i (asked.KeyCopy to from) = copy_course o i to from
-object_course o i (asked.KeyRestrict object usage) = without_store o (restrict_on o.held i object usage (handle_at (settled o.held.handles) i object))
-object_course o i ask = Settled Panicked
+unfoldable pub object_resolution : Objects → ℕ → Ask → Resolution Objects
+object_resolution o i (asked.ObjOpen storage id flags) = open_resolution o i storage id flags
+object_resolution o i (asked.ObjCreate storage id flags attr content) = create_resolution o i storage id flags attr content
+object_resolution o i (asked.ObjClose object) = close_resolution o i object
+object_resolution o i (asked.ObjDelete object) = delete_resolution o i object
+object_resolution o i (asked.ObjRename object to) = rename_resolution o i object to (handle_at (without_rename o.held.handles) i object)
+object_resolution o i (asked.ObjInfo object) = info_resolution o i object (handle_at (without_rename o.held.handles) i object)
+object_resolution o i (asked.ObjRead object count) = read_resolution o i object count (handle_at (without_rename o.held.handles) i object)
+object_resolution o i (asked.ObjWrite object bytes) = write_resolution o i object bytes (handle_at (without_rename o.held.handles) i object)
+object_resolution o i (asked.ObjTruncate object n) = truncate_resolution o i object n (handle_at (without_rename o.held.handles) i object)
+object_resolution o i (asked.ObjSeek object offset whence) = seek_resolution o i object offset whence (handle_at (without_rename o.held.handles) i object)
+object_resolution o i asked.EnumNew = without_store o (new_list o.held i)
+object_resolution o i (asked.EnumFree list) = without_store o (free_of o.held i list)
+object_resolution o i (asked.EnumReset list) = without_store o (reset_on o.held i list (walk_at o.held i list))
+object_resolution o i (asked.EnumStart list storage) = start_resolution o i list storage (walk_at o.held i list)
+object_resolution o i (asked.EnumNext list) = next_resolution o i list (walk_at o.held i list)
+object_resolution o i (asked.KeyNew kind max_bits) = without_store o (new_key o.held i kind max_bits)
+object_resolution o i (asked.KeyPopulate object secret) = without_store o (populate_on o.held i object secret (transient_at o.held i object))
+object_resolution o i (asked.KeyReset object) = without_store o (reset_key o.held i object (transient_at o.held i object))
+object_resolution o i (asked.KeySecret object room) = secret_resolution o i object room
+object_resolution o i (asked.KeyCopy to from) = copy_resolution o i to from
+object_resolution o i (asked.KeyRestrict object usage) = without_store o (restrict_on o.held i object usage (handle_at (without_rename o.held.handles) i object))
+object_resolution o i ask = Settled Panicked

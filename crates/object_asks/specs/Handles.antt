@@ -1,6 +1,6 @@
 -- What holds of an application's handles between two events.
 use Rattle.std.specs.Prelude.{Bool, true, nat_le, List, None, length}
-use Rattle.tee_base.specs.declared.limits.TheConstants.{IDENTIFIER_BYTES}
+use Rattle.tee_base.specs.declared.limits.TheConstants.{MAX_IDENTIFIER_BYTES}
 use Rattle.handle_table.specs.declared.handle.Entry.{Entry}
 use Rattle.handle_table.specs.declared.handle.Handle.{Handle}
 use Rattle.handle_table.specs.declared.handle.Handle.TheVariants.{Persistent, Transient}
@@ -8,8 +8,8 @@ use Rattle.handle_table.specs.Handles.{Table}
 use Rattle.store_api.specs.Limits.{IsIdentifier}
 
 -- the handles as a table in which no rename is pending: between two events none ever is
-abbrev pub settled : List Entry → Table
-settled handles = record { handles = handles; pending = None }
+abbrev pub without_rename : List Entry → Table
+without_rename handles = record { handles = handles; pending = None }
 
 -- the identifier, where there is one, has at most 64 bytes
 abbrev pub HasIdentifier : Handle → Type 0
@@ -18,7 +18,7 @@ HasIdentifier Transient = Unit {0}
 
 -- the same as a test
 abbrev pub has_identifier : Handle → Bool
-has_identifier (Persistent id flags position) = nat_le (length id) IDENTIFIER_BYTES
+has_identifier (Persistent id flags position) = nat_le (length id) MAX_IDENTIFIER_BYTES
 has_identifier Transient = true
 
 -- the same of an entry's handle

@@ -3,7 +3,7 @@ use Rattle.std.specs.Prelude.{ℕ, ◌≡◌, ◌<◌, ◌≤◌, ◌*◌, ◌==
 use Rattle.std.specs.List.{list_all}
 use Rattle.std.specs.Str.{bytes_eq}
 use Rattle.tee_base.specs.declared.codes.Flags.{Flags}
-use Rattle.tee_base.specs.declared.limits.TheConstants.{ENUMERATORS}
+use Rattle.tee_base.specs.declared.limits.TheConstants.{MAX_ENUMERATORS}
 use Rattle.share_rules.specs.Sharing.{access_write_meta, has as has_bit}
 use Rattle.handle_table.specs.declared.handle.Entry.{Entry}
 use Rattle.handle_table.specs.declared.handle.Handle.{Handle}
@@ -13,7 +13,7 @@ use Rattle.object_asks.specs.declared.numbered.NumberedKey.{NumberedKey as Decla
 use Rattle.object_asks.specs.declared.numbered.NumberedList.{NumberedList as DeclaredList}
 use Rattle.object_asks.specs.declared.numbered.Walk.{Walk}
 use Rattle.transient_obj.specs.Keys.{Key}
-use Rattle.object_asks.specs.Handles.{entry_has_identifier, settled}
+use Rattle.object_asks.specs.Handles.{entry_has_identifier, without_rename}
 
 -- a key in memory with its instance and the number of its handle
 abbrev pub NumberedKey : Type 0
@@ -72,14 +72,14 @@ transient_on h instance number (Some Transient) = key_at h instance number
 
 -- the key that the instance's handle of this number is on, if there is such a handle and it is on a key
 abbrev pub transient_at : Held → ℕ → ℕ → Option Key
-transient_at h instance number = transient_on h instance number (handle_at (settled h.handles) instance number)
+transient_at h instance number = transient_on h instance number (handle_at (without_rename h.handles) instance number)
 
 -- ---- changes of keys
 
 -- a new key, with a handle on it under the lowest free number of the instance
 abbrev pub key_added : Held → ℕ → Key → Held
 key_added h instance key = record h {
-  handles = (added (settled h.handles) instance Transient).handles;
+  handles = (added (without_rename h.handles) instance Transient).handles;
   keys = h.keys ++ record { instance = instance; number = free_number h.handles instance; key = key } ∷ [];
 }
 
@@ -95,11 +95,11 @@ key_set h instance number key = record h { keys = change_first (is_key_at instan
 
 -- a new handle on a persistent object, at its first byte, under the lowest free number of the instance
 abbrev pub handle_added : Held → ℕ → List ℕ → Flags → Held
-handle_added h instance id flags = record h { handles = (added (settled h.handles) instance (Persistent id flags 0)).handles }
+handle_added h instance id flags = record h { handles = (added (without_rename h.handles) instance (Persistent id flags 0)).handles }
 
 -- the handle goes on from this position
 abbrev pub handle_sought : Held → ℕ → ℕ → ℕ → Held
-handle_sought h instance number to = record h { handles = (sought_at (settled h.handles) instance number to).handles }
+handle_sought h instance number to = record h { handles = (sought_at (without_rename h.handles) instance number to).handles }
 
 -- the handle is on this identifier now
 abbrev pub handle_renamed : Held → ℕ → ℕ → List ℕ → Held
@@ -108,14 +108,14 @@ handle_renamed h instance number to = record h { handles = renamed (record { ins
 -- the handle goes, and with it the object in memory that it is on
 abbrev pub handle_closed : Held → ℕ → ℕ → Held
 handle_closed h instance number = record h {
-  handles = (closed (settled h.handles) instance number).handles;
+  handles = (closed (without_rename h.handles) instance number).handles;
   keys = filter (λ k. not (is_key_at instance number k)) h.keys;
 }
 
 -- the instance's handles, keys and enumerators go; all others stay
 abbrev pub instance_closed : Held → ℕ → Held
 instance_closed h instance = record {
-  handles = (all_closed (settled h.handles) instance).handles;
+  handles = (all_closed (without_rename h.handles) instance).handles;
   keys = filter (λ k. not (is_key_of instance k)) h.keys;
   lists = filter (λ l. not (is_list_of instance l)) h.lists;
 }
@@ -159,7 +159,7 @@ is_meta_writer id (Some handle) = writes_meta_on id handle
 
 -- the instance's handle of this number is on the object, and has ACCESS_WRITE_META
 abbrev pub may_rename : Held → ℕ → ℕ → List ℕ → Bool
-may_rename h instance number id = is_meta_writer id (handle_at (settled h.handles) instance number)
+may_rename h instance number id = is_meta_writer id (handle_at (without_rename h.handles) instance number)
 
 -- how many handles are on the object
 abbrev pub ones_on : List ℕ → List Entry → ℕ
@@ -184,4 +184,4 @@ pub record IsHeld (t : Table) (keys : List NumberedKey) (lists : List NumberedLi
   pub identifiers : list_all entry_has_identifier t.handles ≡ true
   pub sole : AreSole t.handles
   pub together : BelongTogether t.handles keys
-  pub few_lists : (instance : ℕ) → count_by (is_list_of instance) lists ≤ ENUMERATORS
+  pub few_lists : (instance : ℕ) → count_by (is_list_of instance) lists ≤ MAX_ENUMERATORS

@@ -15,14 +15,14 @@ use Rattle.object_asks.specs.declared.turn.TurnKind.{TurnKind}
 use Rattle.object_asks.specs.declared.turn.TurnKind.TheVariants.{Plain, Lost, Corrupted}
 use Rattle.tee_base.specs.declared.codes.Code.{Code}
 use Rattle.tee_base.specs.declared.codes.TheConstants.Code.{CORRUPT_OBJECT, STORAGE_NOT_AVAILABLE}
-use Rattle.object_asks.specs.Courses.{Objects, Serving, Serves, Fails, Damaged, code_of}
+use Rattle.object_asks.specs.Resolutions.{Objects, Serving, Serves, Fails, Damaged, code_of}
 use Rattle.object_asks.specs.Serving.{EndsUnchanged, HasStatus, IsKept, IsUndamaged, Meets, SaysChange, ShowsDamage, kind_of, serving_of}
 use Rattle.object_asks.specs.Sources.{key_source, stored_key}
 
--- how the look for a key goes: it is settled without the store, or comes to it, and plain is what the store's answer gives
-pub data KeyCourse : Type 0 where
-  KeySettled : (found : KeyFound) → KeyCourse
-  KeyComesToStore : (plain : KeyFound) → KeyCourse
+-- how the look for a key goes: it is settled without the store, or comes to it, and if_served is what the store's answer gives
+pub data KeyResolution : Type 0 where
+  KeySettled : (found : KeyFound) → KeyResolution
+  KeyComesToStore : (if_served : KeyFound) → KeyResolution
 
 -- an object that the store hasn't got gives its refusal
 abbrev pub found_by : Result ObjectKey StoreAnswer → KeyFound
@@ -30,26 +30,26 @@ found_by (Ok key) = finds.Key key
 found_by (Err answer) = finds.Refused (code_of answer)
 
 -- misuse where there is no such object or it isn't initialised; the store is lost or damaged for a persistent one alone
-abbrev pub key_course_of : Store → KeySource → KeyCourse
-key_course_of store NoKey = KeySettled finds.NoKey
-key_course_of store (InMemory key) = KeySettled (finds.Key key)
-key_course_of store (InStore id) = KeyComesToStore (found_by (stored_key store id))
+abbrev pub key_resolution_of : Store → KeySource → KeyResolution
+key_resolution_of store NoKey = KeySettled finds.NoKey
+key_resolution_of store (InMemory key) = KeySettled (finds.Key key)
+key_resolution_of store (InStore id) = KeyComesToStore (found_by (stored_key store id))
 
 -- how the look goes for the key of the instance's object of this number
-abbrev pub key_course : Objects → ℕ → ℕ → KeyCourse
-key_course o i object = key_course_of o.store (key_source o.held i object)
+abbrev pub key_resolution : Objects → ℕ → ℕ → KeyResolution
+key_resolution o i object = key_resolution_of o.store (key_source o.held i object)
 
 -- the look comes to the store
-abbrev pub key_comes_to_store : KeyCourse → Bool
+abbrev pub key_comes_to_store : KeyResolution → Bool
 key_comes_to_store (KeySettled found) = false
-key_comes_to_store (KeyComesToStore plain) = true
+key_comes_to_store (KeyComesToStore if_served) = true
 
 -- what comes of it
-abbrev pub key_came_of : Serving → Bool → KeyCourse → KeyFound
+abbrev pub key_came_of : Serving → Bool → KeyResolution → KeyFound
 key_came_of serving lost (KeySettled found) = found
-key_came_of Serves lost (KeyComesToStore plain) = if lost then finds.Refused STORAGE_NOT_AVAILABLE else plain
-key_came_of Fails lost (KeyComesToStore plain) = finds.Refused STORAGE_NOT_AVAILABLE
-key_came_of Damaged lost (KeyComesToStore plain) = finds.Refused CORRUPT_OBJECT
+key_came_of Serves lost (KeyComesToStore if_served) = if lost then finds.Refused STORAGE_NOT_AVAILABLE else if_served
+key_came_of Fails lost (KeyComesToStore if_served) = finds.Refused STORAGE_NOT_AVAILABLE
+key_came_of Damaged lost (KeyComesToStore if_served) = finds.Refused CORRUPT_OBJECT
 
 -- a look in which the store had no part, or served, found this
 abbrev pub key_plainly : KeyFound → KeyServed
@@ -68,13 +68,13 @@ RefusesUnlessPlain (Lost changes) found = (code : Code) × (found ≡ finds.Refu
 RefusesUnlessPlain Corrupted found = (code : Code) × (found ≡ finds.Refused code)
 
 module _ {D : Type 0} (K : Keeper D) where
-  -- a look that was served, of this course; what is kept stays
-  pub record IsKeyServed (served : KeyServed) (course : KeyCourse) (old new : D) : Type 0 where
-    pub outcome : K.has_model old → served.found ≡ key_came_of (serving_of served.kind) (K.status old).lost course
+  -- a look that was served, of this resolution; what is kept stays
+  pub record IsKeyServed (served : KeyServed) (resolution : KeyResolution) (old new : D) : Type 0 where
+    pub outcome : K.has_model old → served.found ≡ key_came_of (serving_of served.kind) (K.status old).lost resolution
     pub same : K.has_model old → K.contents new ≡ K.contents old
     pub refuses : RefusesUnlessPlain served.kind served.found
     -- a lost or damaged look comes to the store
-    pub reaches : K.has_model old → Meets served.kind (key_comes_to_store course)
+    pub reaches : K.has_model old → Meets served.kind (key_comes_to_store resolution)
     pub change : SaysChange served.kind false
     pub status : HasStatus served.kind (K.status old) (K.status new)
     pub damage : ShowsDamage served.kind (K.damage new)
@@ -83,7 +83,7 @@ module _ {D : Type 0} (K : Keeper D) where
     pub crash : K.honest old → LeavesJust K old (K.contents old) → CrashLeaves K (K.contents old) old new
 
   -- it is served, or there is no memory for it; no change is tried
-  pub record TellsKey (result : Result KeyServed WantOfMemory) (course : KeyCourse) (old new : D) : Type 0 where
-    pub served : IfOk result (λ served. IsKeyServed served course old new)
+  pub record TellsKey (result : Result KeyServed WantOfMemory) (resolution : KeyResolution) (old new : D) : Type 0 where
+    pub served : IfOk result (λ served. IsKeyServed served resolution old new)
     pub tried : (K.status new).change_attempts ≡ (K.status old).change_attempts
     pub want : OnErr result (EndsUnchanged K old new)

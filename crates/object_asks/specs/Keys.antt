@@ -15,8 +15,8 @@ use Rattle.handle_table.specs.declared.handle.Handle.TheVariants.{Persistent, Tr
 use Rattle.handle_table.specs.Handles.{free_number, is_full}
 use Rattle.object_asks.specs.declared.source.KeySource.{KeySource}
 use Rattle.object_asks.specs.declared.source.KeySource.TheVariants.{NoKey, InMemory, InStore}
-use Rattle.object_asks.specs.Courses.{Outcome, Answered, Panicked, Course, Settled, ComesToStore, Objects, code_of, done, holding, is_too_much, outcome_in, refused, without_store}
-use Rattle.object_asks.specs.Handles.{settled}
+use Rattle.object_asks.specs.Resolutions.{Outcome, Answered, Panicked, Resolution, Settled, ComesToStore, Objects, code_of, done, holding, is_too_much, outcome_in, refused, without_store}
+use Rattle.object_asks.specs.Handles.{without_rename}
 use Rattle.object_asks.specs.Held.{Held, key_added, key_set, transient_at}
 use Rattle.object_asks.specs.Sources.{key_source, stored_key}
 
@@ -24,7 +24,7 @@ use Rattle.object_asks.specs.Sources.{key_source, stored_key}
 abbrev pub new_key_by : Held → ℕ → Result Key KeyAnswer → Outcome Held
 new_key_by h i (Err answer) = refused h NOT_SUPPORTED
 new_key_by h i (Ok key) =
-    if is_full (settled h.handles) i then refused h BUSY
+    if is_full (without_rename h.handles) i then refused h BUSY
     else Answered (key_added h i key) (answers.Number (free_number h.handles i))
 
 -- KeyNew of this kind and this greatest size
@@ -65,14 +65,14 @@ secret_by o room (Err answer) = refused o (code_of answer)
 secret_by o room (Ok key) = secret_told o room key
 
 -- how KeySecret goes on an object of this source
-abbrev pub secret_from : Objects → ℕ → KeySource → Course Objects
+abbrev pub secret_from : Objects → ℕ → KeySource → Resolution Objects
 secret_from o room NoKey = Settled Panicked
 secret_from o room (InMemory key) = Settled (secret_told o room key)
 secret_from o room (InStore id) = ComesToStore o (secret_by o room (stored_key o.store id))
 
 -- how KeySecret goes: more room than an ask may want is misuse
-abbrev pub secret_course : Objects → ℕ → ℕ → ℕ → Course Objects
-secret_course o i object room =
+abbrev pub secret_resolution : Objects → ℕ → ℕ → ℕ → Resolution Objects
+secret_resolution o i object room =
     if is_too_much room then Settled Panicked else secret_from o room (key_source o.held i object)
 
 -- KeyCopy: to isn't initialised, of the same kind, and large enough
@@ -90,19 +90,19 @@ copied_in o i to key (Err answer) = refused o (code_of answer)
 copied_in o i to key (Ok from) = outcome_in (holding o) (copied_from o.held i to key from)
 
 -- how KeyCopy goes from an object of this source
-abbrev pub copy_from : Objects → ℕ → ℕ → Key → KeySource → Course Objects
+abbrev pub copy_from : Objects → ℕ → ℕ → Key → KeySource → Resolution Objects
 copy_from o i to key NoKey = Settled Panicked
 copy_from o i to key (InMemory from) = without_store o (copied_from o.held i to key from)
 copy_from o i to key (InStore id) = ComesToStore o (copied_in o i to key (stored_key o.store id))
 
 -- how KeyCopy goes to the key that is there: it is misuse where there is none, or an initialised one
-abbrev pub copy_to : Objects → ℕ → ℕ → ℕ → Option Key → Course Objects
+abbrev pub copy_to : Objects → ℕ → ℕ → ℕ → Option Key → Resolution Objects
 copy_to o i to from None = Settled Panicked
 copy_to o i to from (Some key) = if is_some key.secret then Settled Panicked else copy_from o i to key (key_source o.held i from)
 
 -- how KeyCopy goes between the instance's objects of these numbers
-abbrev pub copy_course : Objects → ℕ → ℕ → ℕ → Course Objects
-copy_course o i to from = copy_to o i to from (transient_at o.held i to)
+abbrev pub copy_resolution : Objects → ℕ → ℕ → ℕ → Resolution Objects
+copy_resolution o i to from = copy_to o i to from (transient_at o.held i to)
 
 -- KeyRestrict: its usages among these
 abbrev pub restrict_key : Held → ℕ → ℕ → ℕ → Option Key → Outcome Held
@@ -138,10 +138,10 @@ abbrev pub generated : Held → ℕ → ℕ → List ℕ → Held
 generated h i object secret = generated_on h i object secret (transient_at h i object)
 
 -- random gives the next so many random bytes
-abbrev pub generated_of : Objects → ℕ → ℕ → (ℕ → List ℕ) → Option ℕ → Course Objects
+abbrev pub generated_of : Objects → ℕ → ℕ → (ℕ → List ℕ) → Option ℕ → Resolution Objects
 generated_of o i object random None = Settled Panicked
 generated_of o i object random (Some n) = Settled (done (holding o (generated o.held i object (random n))))
 
 -- how KeyGenerate goes
-abbrev pub generate_course : Objects → ℕ → ℕ → ℕ → (ℕ → List ℕ) → Course Objects
-generate_course o i object bits random = generated_of o i object random (random_wanted o.held i object bits)
+abbrev pub generate_resolution : Objects → ℕ → ℕ → ℕ → (ℕ → List ℕ) → Resolution Objects
+generate_resolution o i object bits random = generated_of o i object random (random_wanted o.held i object bits)

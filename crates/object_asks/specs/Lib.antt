@@ -1,5 +1,5 @@
 pub mod Asks
-pub mod Courses
+pub mod Resolutions
 pub mod Handles
 pub mod Held
 pub mod KeyOf

@@ -3,7 +3,7 @@
 use Rattle.std.specs.Prelude.{ℕ, ◌==◌, nat_le, Bool, not, List, [], ◌∷◌, ◌++◌, Option, None, Some, Result, Ok, Err, if◌then◌else◌, filter, map, count_by}
 use Rattle.tee_base.specs.Numbers.{lowest_free}
 use Rattle.tee_base.specs.declared.codes.TheConstants.Code.{BUSY, ITEM_NOT_FOUND}
-use Rattle.tee_base.specs.declared.limits.TheConstants.{ENUMERATORS}
+use Rattle.tee_base.specs.declared.limits.TheConstants.{MAX_ENUMERATORS}
 use Rattle.app_api.specs.declared.ask.Answer.TheVariants as answers
 use Rattle.store_api.specs.declared.answer.StoreAnswer.{StoreAnswer}
 use Rattle.store_api.specs.declared.object.Listed.{Listed}
@@ -11,7 +11,7 @@ use Rattle.store_api.specs.Stores.{next_after}
 use Rattle.handle_table.specs.Handles.{change_first}
 use Rattle.object_asks.specs.declared.numbered.Walk.{Walk}
 use Rattle.object_asks.specs.declared.numbered.Walk.TheVariants.{Idle, Started}
-use Rattle.object_asks.specs.Courses.{Outcome, Answered, Panicked, Course, Settled, ComesToStore, Objects, code_of, done, holding, private_storage, refused}
+use Rattle.object_asks.specs.Resolutions.{Outcome, Answered, Panicked, Resolution, Settled, ComesToStore, Objects, code_of, done, holding, private_storage, refused}
 use Rattle.object_asks.specs.Held.{Held, NumberedList, is_list_at, is_list_of, walk_at}
 
 -- ---- changes of enumerators
@@ -22,7 +22,7 @@ free_list lists instance = lowest_free (map (λ l. l.number) (filter (is_list_of
 
 -- the instance has as many enumerators as it may have
 abbrev pub has_all_lists : List NumberedList → ℕ → Bool
-has_all_lists lists instance = nat_le ENUMERATORS (count_by (is_list_of instance) lists)
+has_all_lists lists instance = nat_le MAX_ENUMERATORS (count_by (is_list_of instance) lists)
 
 -- a new enumerator, not started, under the lowest free number of the instance
 abbrev pub list_added : Held → ℕ → Held
@@ -68,9 +68,9 @@ started_by o i list (Err answer) = refused o (code_of answer)
 started_by o i list (Ok listed) = done (holding o (walked o.held i list (Started None)))
 
 -- how EnumStart goes: it is misuse where there is no such enumerator
-abbrev pub start_course : Objects → ℕ → ℕ → ℕ → Option Walk → Course Objects
-start_course o i list storage None = Settled Panicked
-start_course o i list storage (Some walk) =
+abbrev pub start_resolution : Objects → ℕ → ℕ → ℕ → Option Walk → Resolution Objects
+start_resolution o i list storage None = Settled Panicked
+start_resolution o i list storage (Some walk) =
     if not (storage == private_storage) then Settled (refused o ITEM_NOT_FOUND)
     else ComesToStore o (started_by o i list (next_after o.store None))
 
@@ -82,7 +82,7 @@ given_next o i list (Ok listed) =
     (answers.Found listed.id listed.facts.kind listed.facts.usage listed.facts.length)
 
 -- how EnumNext goes: one that isn't started finds nothing
-abbrev pub next_course : Objects → ℕ → ℕ → Option Walk → Course Objects
-next_course o i list None = Settled Panicked
-next_course o i list (Some Idle) = Settled (refused o ITEM_NOT_FOUND)
-next_course o i list (Some (Started last)) = ComesToStore o (given_next o i list (next_after o.store last))
+abbrev pub next_resolution : Objects → ℕ → ℕ → Option Walk → Resolution Objects
+next_resolution o i list None = Settled Panicked
+next_resolution o i list (Some Idle) = Settled (refused o ITEM_NOT_FOUND)
+next_resolution o i list (Some (Started last)) = ComesToStore o (given_next o i list (next_after o.store last))

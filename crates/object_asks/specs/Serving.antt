@@ -11,7 +11,7 @@ use Rattle.store_api.specs.Stores.{Store}
 use Rattle.object_asks.specs.Held.{Held}
 use Rattle.object_asks.specs.declared.turn.TurnKind.{TurnKind}
 use Rattle.object_asks.specs.declared.turn.TurnKind.TheVariants.{Plain, Lost, Corrupted}
-use Rattle.object_asks.specs.Asks.{Outcome, Answered, Returned, Panicked, Course, Objects, Serving, Serves, Fails, Damaged, came_of, code_of, Settled, ComesToStore, comes_to_store, refused}
+use Rattle.object_asks.specs.Asks.{Outcome, Answered, Returned, Panicked, Resolution, Objects, Serving, Serves, Fails, Damaged, came_of, code_of, Settled, ComesToStore, comes_to_store, refused}
 use Rattle.object_asks.specs.declared.outcome.Outcome.{Outcome as Result_of}
 use Rattle.object_asks.specs.declared.outcome.Outcome.TheVariants as outcomes
 use Rattle.object_asks.specs.declared.outcome.Served.{Served}
@@ -54,15 +54,15 @@ IsOutcome (outcomes.Answered answer) stated before after = stated ≡ Answered a
 IsOutcome (outcomes.Returned ending) stated before after = (stated ≡ Returned ending.code ending.outs) × (after ≡ before)
 IsOutcome outcomes.Panicked stated before after = (stated ≡ Panicked) × (after ≡ before)
 
--- what the store's answer gives: an outcome, or a refusal, which leaves what the course says of one; so does what keeps the store
+-- what the store's answer gives: an outcome, or a refusal, which leaves what the resolution says of one; so does what keeps the store
 -- from serving, but want of memory
 abbrev pub Gives : Result Result_of StoreAnswer → Outcome Objects → Objects → Objects → Objects → Type 0
-Gives (Ok outcome) plain before kept after = IsOutcome outcome plain before after
-Gives (Err NotFound) plain before kept after = (plain ≡ refused kept (code_of NotFound)) × (after ≡ kept)
-Gives (Err Exists) plain before kept after = (plain ≡ refused kept (code_of Exists)) × (after ≡ kept)
-Gives (Err NoSpace) plain before kept after = (plain ≡ refused kept (code_of NoSpace)) × (after ≡ kept)
-Gives (Err NoMemory) plain before kept after = Unit {0}
-Gives (Err answer) plain before kept after = after ≡ kept
+Gives (Ok outcome) if_served before kept after = IsOutcome outcome if_served before after
+Gives (Err NotFound) if_served before kept after = (if_served ≡ refused kept (code_of NotFound)) × (after ≡ kept)
+Gives (Err Exists) if_served before kept after = (if_served ≡ refused kept (code_of Exists)) × (after ≡ kept)
+Gives (Err NoSpace) if_served before kept after = (if_served ≡ refused kept (code_of NoSpace)) × (after ≡ kept)
+Gives (Err NoMemory) if_served before kept after = Unit {0}
+Gives (Err answer) if_served before kept after = after ≡ kept
 
 -- a fact that holds where the entry ends
 abbrev pub UnlessAnswered : Result_of → Type 0 → Type 0
@@ -129,9 +129,9 @@ left_by (Returned code outs) = None
 left_by Panicked = None
 
 -- the store that an ask would leave where it comes to the store
-abbrev pub would_leave : Course Objects → Option Store
+abbrev pub would_leave : Resolution Objects → Option Store
 would_leave (Settled outcome) = None
-would_leave (ComesToStore refused plain) = left_by plain
+would_leave (ComesToStore refused if_served) = left_by if_served
 
 -- a crash leaves what was kept, or this store in its place, with a greater number
 abbrev pub IsOldOr : Contents → Store → Remains → Type 0
@@ -178,8 +178,8 @@ module _ {D : Type 0} (K : Keeper D) where
 
   -- an ask that came to the store, from what was held: what the store's answer gave, of this plain outcome, where a refusal leaves
   -- this of what is held
-  pub record IsGiven (result : Result Result_of StoreAnswer) (plain : Outcome Objects) (changes : Bool) (held kept left : Held) (old new : D) : Type 0 where
-    pub gives : K.has_model old → Gives result plain (objects_in held (K.contents old)) (objects_in kept (K.contents old)) (objects_in left (K.contents new))
+  pub record IsGiven (result : Result Result_of StoreAnswer) (if_served : Outcome Objects) (changes : Bool) (held kept left : Held) (old new : D) : Type 0 where
+    pub gives : K.has_model old → Gives result if_served (objects_in held (K.contents old)) (objects_in kept (K.contents old)) (objects_in left (K.contents new))
     pub cause : ¬ (result ≡ Err NoMemory) → HasCause result (K.status old) (K.status new)
     pub tried : TriesOnce changes (K.status old) (K.status new)
     pub stays : result ≡ Err NoMemory → left ≡ held
@@ -188,22 +188,22 @@ module _ {D : Type 0} (K : Keeper D) where
     pub damage : TellsDamage result (K.damage new)
     pub honest : K.honest old → K.honest new × IsIntact result
     pub keeps : IsKept old new
-    pub crash : K.honest old → LeavesJust K old (K.contents old) → CrashTurns (kind_by changes result) (left_by plain) old new
+    pub crash : K.honest old → LeavesJust K old (K.contents old) → CrashTurns (kind_by changes result) (left_by if_served) old new
 
-  -- an ask that was served, of this course
-  pub record IsServed (served : Served) (course : Course Objects) (changes : Bool) (held left : Held) (old new : D) : Type 0 where
+  -- an ask that was served, of this resolution
+  pub record IsServed (served : Served) (resolution : Resolution Objects) (changes : Bool) (held left : Held) (old new : D) : Type 0 where
     -- the outcome is the stated one, over the store that the keeper has
-    pub outcome : K.has_model old → IsOutcome served.outcome (came_of (serving_of served.kind) (K.status old).lost course) (objects_in held (K.contents old)) (objects_in left (K.contents new))
+    pub outcome : K.has_model old → IsOutcome served.outcome (came_of (serving_of served.kind) (K.status old).lost resolution) (objects_in held (K.contents old)) (objects_in left (K.contents new))
     -- an ask that ends the entry leaves what is kept
     pub ends : UnlessAnswered served.outcome (EndsUnchanged old new)
     -- a lost or damaged turn comes to the store
-    pub reaches : K.has_model old → Meets served.kind (comes_to_store course)
+    pub reaches : K.has_model old → Meets served.kind (comes_to_store resolution)
     pub change : SaysChange served.kind changes
     pub status : HasStatus served.kind (K.status old) (K.status new)
     pub damage : ShowsDamage served.kind (K.damage new)
     pub honest : K.honest old → K.honest new × IsUndamaged served.kind
     pub keeps : IsKept old new
-    pub crash : K.honest old → LeavesJust K old (K.contents old) → CrashTurns served.kind (would_leave course) old new
+    pub crash : K.honest old → LeavesJust K old (K.contents old) → CrashTurns served.kind (would_leave resolution) old new
 
   -- an ask that finds no memory: what is held and the store are as they were
   pub record FindsNoMemory (held left : Held) (old new : D) : Type 0 where
@@ -211,7 +211,7 @@ module _ {D : Type 0} (K : Keeper D) where
     pub store : EndsUnchanged old new
 
   -- what becomes of an ask: it is served, or there is no memory for it; at most one change is tried
-  pub record ServesAsk (result : Result Served WantOfMemory) (course : Course Objects) (changes : Bool) (held left : Held) (old new : D) : Type 0 where
-    pub served : IfOk result (λ served. IsServed served course changes held left old new)
+  pub record ServesAsk (result : Result Served WantOfMemory) (resolution : Resolution Objects) (changes : Bool) (held left : Held) (old new : D) : Type 0 where
+    pub served : IfOk result (λ served. IsServed served resolution changes held left old new)
     pub tried : TriesOnce changes (K.status old) (K.status new)
     pub want : OnErr result (FindsNoMemory held left old new)

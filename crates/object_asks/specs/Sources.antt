@@ -1,7 +1,7 @@
 -- Where the kind, the usage and the secret of an object come from: an object of either sort gives them to another, or to an operation.
 use Rattle.std.specs.Prelude.{ℕ, ◌==◌, ◌≤◌, Bool, true, false, List, [], Option, None, Some, Result, Ok, Err, if◌then◌else◌, length}
 use Rattle.tee_base.specs.declared.keys.TheConstants.{KIND_DATA}
-use Rattle.tee_base.specs.declared.limits.TheConstants.{SECRET_BYTES}
+use Rattle.tee_base.specs.declared.limits.TheConstants.{MAX_SECRET_BYTES}
 use Rattle.transient_obj.specs.Keys.{Key, every_usage}
 use Rattle.transient_obj.specs.declared.object_key.ObjectKey.{ObjectKey}
 use Rattle.store_api.specs.declared.answer.StoreAnswer.{StoreAnswer}
@@ -13,7 +13,7 @@ use Rattle.handle_table.specs.declared.handle.Handle.TheVariants.{Persistent, Tr
 use Rattle.handle_table.specs.Handles.{handle_at}
 use Rattle.object_asks.specs.declared.source.KeySource.{KeySource}
 use Rattle.object_asks.specs.declared.source.KeySource.TheVariants.{NoKey, InMemory, InStore}
-use Rattle.object_asks.specs.Handles.{settled}
+use Rattle.object_asks.specs.Handles.{without_rename}
 use Rattle.object_asks.specs.Held.{Held, key_at}
 
 -- a key in memory gives them where it is initialised
@@ -34,7 +34,7 @@ source_on h i object (Some (Persistent id flags position)) = InStore id
 
 -- where the instance's object of this number gives them from
 abbrev pub key_source : Held → ℕ → ℕ → KeySource
-key_source h i object = source_on h i object (handle_at (settled h.handles) i object)
+key_source h i object = source_on h i object (handle_at (without_rename h.handles) i object)
 
 -- the attributes of a new object: those of the kind DATA without a secret and with every usage, or an object's
 abbrev pub attr_source : Held → ℕ → ℕ → KeySource
@@ -66,4 +66,4 @@ key_given store (InStore id) = stored_key store id
 
 -- a secret within its limit
 abbrev pub IsObjectKey : ObjectKey → Type 0
-IsObjectKey key = length key.secret ≤ SECRET_BYTES
+IsObjectKey key = length key.secret ≤ MAX_SECRET_BYTES

@@ -1,7 +1,7 @@
 -- What holds of an application's objects between two events.
 use Rattle.std.specs.Prelude.{ℕ, ◌≡◌, ◌<◌, true, List}
 use Rattle.store_api.specs.Stores.{has}
-use Rattle.object_asks.specs.Courses.{Answered, ComesToStore, Course, Objects, Outcome, Panicked, Returned, Settled}
+use Rattle.object_asks.specs.Resolutions.{Answered, ComesToStore, Resolution, Objects, Outcome, Panicked, Returned, Settled}
 use Rattle.object_asks.specs.Held.{AreSole, BelongTogether, ones_on}
 
 -- each identifier that a handle is on is in the store; a handle with ACCESS_WRITE_META is alone on its identifier; each key in memory
@@ -17,7 +17,7 @@ Leaves P (Answered after answer) = P after
 Leaves P (Returned code outs) = Unit {0}
 Leaves P Panicked = Unit {0}
 
--- what the course leaves meets it, whatever the store does
-abbrev pub Goes : {S : Type 0} → (S → Type 0) → Course S → Type 0
+-- what the resolution leaves meets it, whatever the store does
+abbrev pub Goes : {S : Type 0} → (S → Type 0) → Resolution S → Type 0
 Goes P (Settled outcome) = Leaves P outcome
-Goes P (ComesToStore refused plain) = P refused × Leaves P plain
+Goes P (ComesToStore refused if_served) = P refused × Leaves P if_served

@@ -3,7 +3,7 @@
 ghost use Rattle.std.specs.Prelude.{◌≡◌, List, ℕ, Option, None as no_last, false, IfOk, OnErr, option_copied};
 ghost use Rattle.store_api.specs.Stores.{next_after};
 ghost use Rattle.object_asks.specs.Held.{walk_at};
-ghost use Rattle.object_asks.specs.Lists.{free_of, given_next, new_list, next_course, reset_on, start_course, started_by};
+ghost use Rattle.object_asks.specs.Lists.{free_of, given_next, new_list, next_resolution, reset_on, start_resolution, started_by};
 ghost use Rattle.object_asks.specs.Serving.{IsGiven, IsOutcome, ServesAsk, objects_in};
 
 use crate::checks::PRIVATE;
@@ -79,7 +79,7 @@ pub fn start<T: AppStore>(
 ) -> Result<Served, NoMemory>
     ensures { let before = objects_in held.old (T.keeper.contents store.old)
         in ServesAsk T.keeper result
-        (start_course before instance list storage (walk_at held.old instance list))
+        (start_resolution before instance list storage (walk_at held.old instance list))
         false held.old held.new store.old store.new }
 {
     let Some(_walk) = held.walk(instance, list) else {
@@ -156,7 +156,7 @@ pub fn next<T: AppStore>(
 ) -> Result<Served, NoMemory>
     ensures { let before = objects_in held.old (T.keeper.contents store.old)
         in ServesAsk T.keeper result
-        (next_course before instance list (walk_at held.old instance list))
+        (next_resolution before instance list (walk_at held.old instance list))
         false held.old held.new store.old store.new }
 {
     match held.walk(instance, list) {

@@ -34,7 +34,7 @@ impl Held {
     ghost use Rattle.std.specs.Prelude.{◌≡◌, IsTrue, IfOk, OnOk, OnErr, IfSome, option_map, is_some, false};
     ghost use Rattle.handle_table.specs.Handles.{may_open, is_open, is_full, is_there, free_number, handle_at};
     ghost use Rattle.store_api.specs.Limits.{IsIdentifier};
-    ghost use Rattle.object_asks.specs.Handles.{settled, HasIdentifier};
+    ghost use Rattle.object_asks.specs.Handles.{without_rename, HasIdentifier};
     ghost use Rattle.object_asks.specs.Held.{nothing_held, handle_added, handle_sought, handle_closed, instance_closed, key_added, key_at, key_set, may_rename, transient_at, walk_at};
     ghost use Rattle.object_asks.specs.Lists.{free_list, has_all_lists, list_added, list_freed, walked};
     ghost use Rattle.object_asks.specs.Sources.{HasSource, key_source};
@@ -57,21 +57,21 @@ impl Held {
 
     /// Whether a handle of any instance is on the object.
     pub(crate) fn is_open(&self, id: &[u8]) -> bool
-        ensures { result ≡ is_open (settled self.now.handles) id.now }
+        ensures { result ≡ is_open (without_rename self.now.handles) id.now }
     {
         self.table.is_open(id)
     }
 
     /// Whether a handle with these flags may be opened on the object, beside those of all instances.
     pub(crate) fn may_open(&self, id: &[u8], flags: Flags) -> bool
-        ensures { result ≡ may_open (settled self.now.handles) id.now flags }
+        ensures { result ≡ may_open (without_rename self.now.handles) id.now flags }
     {
         self.table.may_open(id, flags)
     }
 
     /// Whether the instance has 16 handles.
     pub(crate) fn is_full(&self, instance: u8) -> bool
-        ensures { result ≡ is_full (settled self.now.handles) instance }
+        ensures { result ≡ is_full (without_rename self.now.handles) instance }
     {
         self.table.is_full(instance)
     }
@@ -79,9 +79,10 @@ impl Held {
     /// What the instance's handle of this number is for.
     pub(crate) fn get(&self, instance: u8, number: u32) -> Option<&Handle>
         ensures handle { option_map (λ handle. handle.now) result
-            ≡ handle_at (settled self.now.handles) instance number }
+            ≡ handle_at (without_rename self.now.handles) instance number }
         ensures identifier { IfSome result (λ handle. HasIdentifier handle.now) }
-        ensures there { is_some result ≡ is_there (settled self.now.handles) instance number }
+        ensures there { is_some result
+            ≡ is_there (without_rename self.now.handles) instance number }
     {
         self.table.get(instance, number)
     }
@@ -105,7 +106,7 @@ impl Held {
 
     /// Adds a key with a handle on it, and answers its number. Want of memory changes nothing.
     pub(crate) fn add_key(&mut self, instance: u8, key: Transient) -> Result<u32, NoMemory>
-        requires { is_full (settled self.old.handles) instance ≡ false }
+        requires { is_full (without_rename self.old.handles) instance ≡ false }
         ensures number { IfOk result (λ n. n ≡ free_number self.old.handles instance) }
         ensures ok { OnOk result (self.new ≡ key_added self.old instance key) }
         ensures unchanged { OnErr result (self.new ≡ self.old) }
@@ -148,7 +149,7 @@ impl Held {
 
     /// Whether the instance has a handle of this number.
     pub(crate) fn is_there(&self, instance: u8, number: u32) -> bool
-        ensures { result ≡ is_there (settled self.now.handles) instance number }
+        ensures { result ≡ is_there (without_rename self.now.handles) instance number }
     {
         self.get(instance, number).is_some()
     }
@@ -156,8 +157,8 @@ impl Held {
     /// Adds a handle at the object's first byte, and answers its number. Want of memory changes nothing.
     pub(crate) fn add(&mut self, instance: u8, id: &[u8], flags: Flags) -> Result<u32, NoMemory>
         requires identifier { IsIdentifier id.now }
-        requires may_open { IsTrue (may_open (settled self.old.handles) id.now flags) }
-        requires room { is_full (settled self.old.handles) instance ≡ false }
+        requires may_open { IsTrue (may_open (without_rename self.old.handles) id.now flags) }
+        requires room { is_full (without_rename self.old.handles) instance ≡ false }
         ensures number { IfOk result (λ n. n ≡ free_number self.old.handles instance) }
         ensures ok { OnOk result (self.new ≡ handle_added self.old instance id.now flags) }
         // Closed again, it leaves all as it was.
@@ -173,7 +174,7 @@ impl Held {
 
     /// Sets where the next read or write of the handle begins.
     pub(crate) fn seek(&mut self, instance: u8, number: u32, position: u32)
-        requires { IsTrue (is_there (settled self.old.handles) instance number) }
+        requires { IsTrue (is_there (without_rename self.old.handles) instance number) }
         ensures { self.new ≡ handle_sought self.old instance number position }
     {
         self.table.seek(instance, number, position);
@@ -191,7 +192,7 @@ impl Held {
         requires id { IsIdentifier id }
         requires to { IsIdentifier to }
         requires meta { IsTrue (may_rename self.old instance number id) }
-        requires free { is_open (settled self.old.handles) to ≡ false }
+        requires free { is_open (without_rename self.old.handles) to ≡ false }
         ensures { let before = objects_in self.old (T.keeper.contents store.old)
             in IsGiven T.keeper result
             (renamed_by before instance number to
@@ -213,7 +214,7 @@ impl Held {
 
     /// Closes the handle. A key that it is on goes with it.
     pub(crate) fn close(&mut self, instance: u8, number: u32)
-        requires { IsTrue (is_there (settled self.old.handles) instance number) }
+        requires { IsTrue (is_there (without_rename self.old.handles) instance number) }
         ensures { self.new ≡ handle_closed self.old instance number }
     {
         self.table.close(instance, number);
@@ -224,7 +225,7 @@ impl Held {
     pub(crate) fn has_all_lists(&self, instance: u8) -> bool
         ensures { result ≡ has_all_lists self.now.lists instance }
     {
-        walks::count_of(self.lists.as_slice(), instance) >= limits::ENUMERATORS
+        walks::count_of(self.lists.as_slice(), instance) >= limits::MAX_ENUMERATORS
     }
 
     /// Adds an enumerator, and answers its number. Want of memory changes nothing.

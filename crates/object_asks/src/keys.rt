@@ -5,9 +5,9 @@ ghost use Rattle.store_api.specs.Keeping.{Contents};
 ghost use Rattle.store_api.specs.Limits.{IsIdentifier};
 ghost use Rattle.transient_obj.specs.Keys.{Key};
 ghost use Rattle.handle_table.specs.Handles.{handle_at};
-ghost use Rattle.object_asks.specs.Handles.{settled};
+ghost use Rattle.object_asks.specs.Handles.{without_rename};
 ghost use Rattle.object_asks.specs.Held.{Held as HeldValue, transient_at};
-ghost use Rattle.object_asks.specs.Keys.{copied_from, copied_in, copy_course, copy_from, generated, new_key, populate_on, random_wanted, reset_key, restrict_on, secret_by, secret_course, secret_from, secret_told};
+ghost use Rattle.object_asks.specs.Keys.{copied_from, copied_in, copy_resolution, copy_from, generated, new_key, populate_on, random_wanted, reset_key, restrict_on, secret_by, secret_resolution, secret_from, secret_told};
 ghost use Rattle.object_asks.specs.Sources.{HasSource, stored_key};
 ghost use Rattle.object_asks.specs.Serving.{IsGiven, IsOutcome, ServesAsk, objects_in};
 
@@ -75,7 +75,7 @@ pub fn reset(held: &mut Held, instance: u8, object: u32) -> Outcome
 pub fn restrict(held: &mut Held, instance: u8, object: u32, usage: u32) -> Outcome
     ensures { IsOutcome result
         (restrict_on held.old instance object usage
-        (handle_at (settled held.old.handles) instance object))
+        (handle_at (without_rename held.old.handles) instance object))
         held.old held.new }
 {
     match held.get(instance, object) {
@@ -161,7 +161,7 @@ pub fn secret<T: AppStore>(
     room: u32,
 ) -> Result<Served, NoMemory>
     ensures { let before = objects_in held.old (T.keeper.contents store.old)
-        in ServesAsk T.keeper result (secret_course before instance object room)
+        in ServesAsk T.keeper result (secret_resolution before instance object room)
         false held.old held.new store.old store.new }
 {
     if is_too_much(room as usize) {
@@ -239,7 +239,7 @@ pub fn copy<T: AppStore>(
     from: u32,
 ) -> Result<Served, NoMemory>
     ensures { let before = objects_in held.old (T.keeper.contents store.old)
-        in ServesAsk T.keeper result (copy_course before instance to from)
+        in ServesAsk T.keeper result (copy_resolution before instance to from)
         false held.old held.new store.old store.new }
 {
     let Some(key) = held.transient(instance, to) else {

@@ -3,9 +3,9 @@
 ghost use Rattle.std.specs.Prelude.{ℕ, List};
 ghost use Rattle.app_api.specs.declared.ask.Ask.{Ask as AnyAsk};
 ghost use Rattle.store_api.specs.Stores.{Store};
-ghost use Rattle.object_asks.specs.Asks.{Objects, holding, object_course};
+ghost use Rattle.object_asks.specs.Asks.{Objects, holding, object_resolution};
 ghost use Rattle.object_asks.specs.Held.{instance_closed, nothing_held};
-ghost use Rattle.object_asks.specs.Keys.{generate_course};
+ghost use Rattle.object_asks.specs.Keys.{generate_resolution};
 ghost use Rattle.object_asks.specs.Valid.{Goes, IsValidObjects};
 
 /// Valid objects stay valid: at each ask, however the store does, and where an instance goes. It does nothing.
@@ -13,9 +13,9 @@ pub fn objects_stay_valid()
     ensures none { (store : Store)
         → IsValidObjects (record { store = store; held = nothing_held }) }
     ensures ask { (o : Objects) (i : ℕ) (ask : AnyAsk) → IsValidObjects o
-        → Goes IsValidObjects (object_course o i ask) }
+        → Goes IsValidObjects (object_resolution o i ask) }
     ensures generate { (o : Objects) (i object bits : ℕ) (random : ℕ → List ℕ) → IsValidObjects o
-        → Goes IsValidObjects (generate_course o i object bits random) }
+        → Goes IsValidObjects (generate_resolution o i object bits random) }
     ensures closing { (o : Objects) (i : ℕ) → IsValidObjects o
         → IsValidObjects (holding o (instance_closed o.held i)) }
 {}

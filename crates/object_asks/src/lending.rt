@@ -1,7 +1,7 @@
 //! What an object of either sort gives to an operation as its key.
 
 ghost use Rattle.std.specs.Prelude.{◌≡◌, IfOk, OnErr, None, Some};
-ghost use Rattle.object_asks.specs.KeyOf.{TellsKey, key_course, key_course_of, key_plainly, key_told};
+ghost use Rattle.object_asks.specs.KeyOf.{TellsKey, key_resolution, key_resolution_of, key_plainly, key_told};
 ghost use Rattle.object_asks.specs.Serving.{objects_in};
 ghost use Rattle.object_asks.specs.Sources.{HasSource};
 
@@ -61,8 +61,8 @@ fn tell(given: Result<ObjectKey, StoreAnswer>) -> Result<KeyServed, NoMemory>
 #[tactic(auto, using(crate::proofs::KeyLemmas::tells_settled))]
 fn from_source<T: AppStore>(store: &mut T, source: KeySource) -> Result<KeyServed, NoMemory>
     requires { HasSource source }
-    ensures { TellsKey T.keeper result (key_course_of (T.keeper.contents store.old).store source)
-        store.old store.new }
+    ensures { TellsKey T.keeper result
+        (key_resolution_of (T.keeper.contents store.old).store source) store.old store.new }
 {
     match source {
         KeySource::NoKey => Ok(plainly(KeyFound::NoKey)),
@@ -85,7 +85,7 @@ pub fn key_of<T: AppStore>(
     object: u32,
 ) -> Result<KeyServed, NoMemory>
     ensures { let before = objects_in held.now (T.keeper.contents store.old)
-        in TellsKey T.keeper result (key_course before instance object) store.old store.new }
+        in TellsKey T.keeper result (key_resolution before instance object) store.old store.new }
 {
     let source = held.source(alloc, instance, object)?;
     from_source(store, source)

@@ -6,10 +6,10 @@ ghost use Rattle.store_api.specs.Limits.{IsIdentifier};
 ghost use Rattle.store_api.specs.Stores.{found, change};
 ghost use Rattle.store_api.specs.declared.change.Change.TheVariants.{Delete as deletion, Rename as renaming};
 ghost use Rattle.handle_table.specs.Handles.{handle_at, is_alone, is_open, is_there};
-ghost use Rattle.object_asks.specs.Handles.{settled};
+ghost use Rattle.object_asks.specs.Handles.{without_rename};
 ghost use Rattle.tee_base.specs.declared.codes.TheConstants.Code.{ACCESS_CONFLICT};
 ghost use Rattle.object_asks.specs.Held.{Held as HeldValue, handle_closed, may_rename};
-ghost use Rattle.object_asks.specs.Asks.{Serves, came_of, close_course, delete_course, deleted_by, delete_on, holding, info_course, key_info, refused, rename_course, renamed, renamed_by, told_of_object};
+ghost use Rattle.object_asks.specs.Asks.{Serves, came_of, close_resolution, delete_resolution, deleted_by, delete_on, holding, info_resolution, key_info, refused, rename_resolution, renamed, renamed_by, told_of_object};
 ghost use Rattle.object_asks.specs.Serving.{IsGiven, IsOutcome, ServesAsk, objects_in};
 
 use crate::checks::{has_bit, is_long_identifier};
@@ -27,7 +27,7 @@ use transient_obj::Transient;
 pub fn close(held: &mut Held, instance: u8, object: u32) -> Served
     ensures kind { result.kind ≡ TurnKind.Plain }
     ensures outcome { (contents : Contents) (lost : Bool) → IsOutcome result.outcome
-        (came_of Serves lost (close_course (objects_in held.old contents) instance object))
+        (came_of Serves lost (close_resolution (objects_in held.old contents) instance object))
         (objects_in held.old contents) (objects_in held.new contents) }
 {
     if object == 0 {
@@ -49,7 +49,7 @@ fn delete_through<T: AppStore>(
     id: Bytes,
 ) -> Result<Outcome, StoreAnswer>
     requires id { IsIdentifier id }
-    requires there { IsTrue (is_there (settled held.old.handles) instance object) }
+    requires there { IsTrue (is_there (without_rename held.old.handles) instance object) }
     ensures { let before = objects_in held.old (T.keeper.contents store.old)
         in let kept = handle_closed held.old instance object
         in IsGiven T.keeper result
@@ -78,7 +78,7 @@ pub fn delete<T: AppStore>(
     object: u32,
 ) -> Result<Served, NoMemory>
     ensures { let before = objects_in held.old (T.keeper.contents store.old)
-        in ServesAsk T.keeper result (delete_course before instance object)
+        in ServesAsk T.keeper result (delete_resolution before instance object)
         true held.old held.new store.old store.new }
 {
     if object == 0 {
@@ -128,8 +128,8 @@ pub fn rename<T: AppStore>(
 ) -> Result<Served, NoMemory>
     ensures { let before = objects_in held.old (T.keeper.contents store.old)
         in ServesAsk T.keeper result
-        (rename_course before instance object to
-        (handle_at (settled held.old.handles) instance object))
+        (rename_resolution before instance object to
+        (handle_at (without_rename held.old.handles) instance object))
         true held.old held.new store.old store.new }
 {
     let Some(Handle::Persistent { id, flags, .. }) = held.get(instance, object) else {
@@ -203,8 +203,8 @@ pub fn info<T: AppStore>(
 ) -> Result<Served, NoMemory>
     ensures { let before = objects_in held.old (T.keeper.contents store.old)
         in ServesAsk T.keeper result
-        (info_course before instance object
-        (handle_at (settled held.old.handles) instance object))
+        (info_resolution before instance object
+        (handle_at (without_rename held.old.handles) instance object))
         false held.old held.new store.old store.new }
 {
     match held.get(instance, object) {

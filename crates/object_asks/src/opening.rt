@@ -2,16 +2,16 @@
 //! what the store gives (TEE Internal Core API 1.3, section 5.7).
 
 ghost use Rattle.std.specs.Prelude.{◌≡◌, ◌≤◌, List, ℕ, false, true, length, IfOk};
-ghost use Rattle.tee_base.specs.declared.limits.TheConstants.{ASK_BYTES};
+ghost use Rattle.tee_base.specs.declared.limits.TheConstants.{MAX_ASK_BYTES};
 ghost use Rattle.store_api.specs.Limits.{IsIdentifier};
 ghost use Rattle.store_api.specs.Stores.{found, change};
 ghost use Rattle.store_api.specs.Keeping.{Reads};
 ghost use Rattle.handle_table.specs.Handles.{is_full, is_open};
-ghost use Rattle.object_asks.specs.Handles.{settled};
+ghost use Rattle.object_asks.specs.Handles.{without_rename};
 ghost use Rattle.tee_base.specs.declared.codes.TheConstants.Code.{ACCESS_CONFLICT};
 ghost use Rattle.object_asks.specs.Held.{Held as HeldValue};
 ghost use Rattle.object_asks.specs.Sources.{HasSource, IsObjectKey, attr_source, is_no_key, key_given, stored_key};
-ghost use Rattle.object_asks.specs.Asks.{created, created_by, created_with, create_by, create_course, kept_flags, open_course, opened_by, overwrites, put_of, refused};
+ghost use Rattle.object_asks.specs.Asks.{created, created_by, created_with, create_by, create_resolution, kept_flags, open_resolution, opened_by, overwrites, put_of, refused};
 ghost use Rattle.object_asks.specs.Serving.{IsGiven, ServesAsk, objects_in};
 
 use crate::checks::{
@@ -35,7 +35,7 @@ fn open_found<T: AppStore>(
     flags: Flags,
 ) -> Result<Outcome, StoreAnswer>
     requires id { IsIdentifier id.now }
-    requires room { is_full (settled held.old.handles) instance ≡ false }
+    requires room { is_full (without_rename held.old.handles) instance ≡ false }
     ensures { let before = objects_in held.old (T.keeper.contents store.old)
         in IsGiven T.keeper result
         (opened_by before instance id.now flags (found before.store id.now))
@@ -59,7 +59,7 @@ pub fn open<T: AppStore>(
     flags: u32,
 ) -> Result<Served, NoMemory>
     ensures { let before = objects_in held.old (T.keeper.contents store.old)
-        in ServesAsk T.keeper result (open_course before instance storage id.now flags)
+        in ServesAsk T.keeper result (open_resolution before instance storage id.now flags)
         false held.old held.new store.old store.new }
 {
     if is_long_identifier(id) || has_unknown_bits(flags) {
@@ -121,9 +121,9 @@ fn create_closed<T: AppStore>(
     key: &ObjectKey,
 ) -> Result<Outcome, StoreAnswer>
     requires id { IsIdentifier id }
-    requires content { length content ≤ ASK_BYTES }
-    requires room { is_full (settled held.old.handles) instance ≡ false }
-    requires closed { is_open (settled held.old.handles) id ≡ false }
+    requires content { length content ≤ MAX_ASK_BYTES }
+    requires room { is_full (without_rename held.old.handles) instance ≡ false }
+    requires closed { is_open (without_rename held.old.handles) id ≡ false }
     ensures { let before = objects_in held.old (T.keeper.contents store.old)
         in IsGiven T.keeper result
         (created_by before instance id (kept_flags flags)
@@ -160,8 +160,8 @@ fn create_object<T: AppStore>(
     key: &ObjectKey,
 ) -> Result<Outcome, StoreAnswer>
     requires id { IsIdentifier id }
-    requires content { length content ≤ ASK_BYTES }
-    requires room { is_full (settled held.old.handles) instance ≡ false }
+    requires content { length content ≤ MAX_ASK_BYTES }
+    requires room { is_full (without_rename held.old.handles) instance ≡ false }
     ensures { let before = objects_in held.old (T.keeper.contents store.old)
         in IsGiven T.keeper result
         (created before instance id flags content key.now)
@@ -185,8 +185,8 @@ fn create_from<T: AppStore>(
     attr: &[u8],
 ) -> Result<Outcome, StoreAnswer>
     requires id { IsIdentifier id }
-    requires content { length content ≤ ASK_BYTES }
-    requires room { is_full (settled held.old.handles) instance ≡ false }
+    requires content { length content ≤ MAX_ASK_BYTES }
+    requires room { is_full (without_rename held.old.handles) instance ≡ false }
     requires attr { IsIdentifier attr.now }
     ensures { let before = objects_in held.old (T.keeper.contents store.old)
         in IsGiven T.keeper result
@@ -209,8 +209,8 @@ fn create_with<T: AppStore>(
     source: &KeySource,
 ) -> Result<Outcome, StoreAnswer>
     requires id { IsIdentifier id }
-    requires content { length content ≤ ASK_BYTES }
-    requires room { is_full (settled held.old.handles) instance ≡ false }
+    requires content { length content ≤ MAX_ASK_BYTES }
+    requires room { is_full (without_rename held.old.handles) instance ≡ false }
     requires source { HasSource source.now }
     requires key { is_no_key source.now ≡ false }
     ensures { let before = objects_in held.old (T.keeper.contents store.old)
@@ -302,7 +302,7 @@ pub fn create<T: AppStore>(
 ) -> Result<Served, NoMemory>
     ensures { let before = objects_in held.old (T.keeper.contents store.old)
         in ServesAsk T.keeper result
-        (create_course before instance storage id flags attr content)
+        (create_resolution before instance storage id flags attr content)
         true held.old held.new store.old store.new }
 {
     let source = attr_source(held, alloc, instance, attr)?;

@@ -1,7 +1,7 @@
 //! Asks, each to the function that serves it.
 
 ghost use Rattle.std.specs.Prelude.{◌≡◌};
-ghost use Rattle.object_asks.specs.Asks.{changes_store, object_course};
+ghost use Rattle.object_asks.specs.Asks.{changes_store, object_resolution};
 ghost use Rattle.object_asks.specs.Serving.{ServesAsk, objects_in};
 
 use crate::held::Held;
@@ -18,7 +18,7 @@ use tee_base::NoMemory;
 /// # Errors
 ///
 /// NoMemory changes nothing.
-#[tactic(auto, using(crate::proofs::ServingLemmas::serves_held), unfolding(crate::specs::Asks::object_course))]
+#[tactic(auto, using(crate::proofs::ServingLemmas::serves_held), unfolding(crate::specs::Asks::object_resolution))]
 pub fn serve<T: AppStore>(
     alloc: Global,
     held: &mut Held,
@@ -27,7 +27,7 @@ pub fn serve<T: AppStore>(
     ask: Ask,
 ) -> Result<Served, NoMemory>
     ensures { let before = objects_in held.old (T.keeper.contents store.old)
-        in ServesAsk T.keeper result (object_course before instance ask)
+        in ServesAsk T.keeper result (object_resolution before instance ask)
         (changes_store ask) held.old held.new store.old store.new }
 {
     match ask {

@@ -2,13 +2,13 @@
 //! sections 5.5.1 and 5.9).
 
 ghost use Rattle.std.specs.Prelude.{◌≡◌, ◌≤◌, ◌+◌, ℤ, pos, ◌+ℤ◌, false, true, IsTrue, length};
-ghost use Rattle.tee_base.specs.declared.limits.TheConstants.{ASK_BYTES, POSITION};
+ghost use Rattle.tee_base.specs.declared.limits.TheConstants.{MAX_ASK_BYTES, MAX_POSITION};
 ghost use Rattle.store_api.specs.Limits.{IsIdentifier};
 ghost use Rattle.store_api.specs.Stores.{found, read_at, change};
 ghost use Rattle.store_api.specs.declared.change.Change.TheVariants.{Write as write_at, Truncate as truncate_to};
 ghost use Rattle.handle_table.specs.Handles.{handle_at, is_there};
-ghost use Rattle.object_asks.specs.Handles.{settled};
-ghost use Rattle.object_asks.specs.Asks.{landed, moved_by, moved_from_end, read_by, read_course, seek_course, truncate_course, truncated_by, write_course, written_by};
+ghost use Rattle.object_asks.specs.Handles.{without_rename};
+ghost use Rattle.object_asks.specs.Asks.{landed, moved_by, moved_from_end, read_by, read_resolution, seek_resolution, truncate_resolution, truncated_by, write_resolution, written_by};
 ghost use Rattle.store_api.specs.Keeping.{Contents};
 ghost use Rattle.object_asks.specs.Serving.{IsGiven, IsOutcome, ServesAsk, objects_in};
 
@@ -39,8 +39,8 @@ fn read_on<T: AppStore>(
     count: u32,
 ) -> Result<Outcome, StoreAnswer>
     requires id { IsIdentifier id }
-    requires count { count ≤ ASK_BYTES }
-    requires there { IsTrue (is_there (settled held.old.handles) instance object) }
+    requires count { count ≤ MAX_ASK_BYTES }
+    requires there { IsTrue (is_there (without_rename held.old.handles) instance object) }
     ensures { let before = objects_in held.old (T.keeper.contents store.old)
         in IsGiven T.keeper result
         (read_by before instance object position (read_at before.store id position count))
@@ -62,8 +62,8 @@ pub fn read<T: AppStore>(
 ) -> Result<Served, NoMemory>
     ensures { let before = objects_in held.old (T.keeper.contents store.old)
         in ServesAsk T.keeper result
-        (read_course before instance object count
-        (handle_at (settled held.old.handles) instance object))
+        (read_resolution before instance object count
+        (handle_at (without_rename held.old.handles) instance object))
         false held.old held.new store.old store.new }
 {
     let Some(
@@ -101,9 +101,9 @@ fn write_through<T: AppStore>(
     bytes: Bytes,
 ) -> Result<Outcome, StoreAnswer>
     requires id { IsIdentifier id }
-    requires bytes { length bytes ≤ ASK_BYTES }
-    requires within { position + length bytes ≤ POSITION }
-    requires there { IsTrue (is_there (settled held.old.handles) instance object) }
+    requires bytes { length bytes ≤ MAX_ASK_BYTES }
+    requires within { position + length bytes ≤ MAX_POSITION }
+    requires there { IsTrue (is_there (without_rename held.old.handles) instance object) }
     ensures { let before = objects_in held.old (T.keeper.contents store.old)
         in IsGiven T.keeper result
         (written_by before instance object (position + length bytes)
@@ -131,8 +131,8 @@ pub fn write<T: AppStore>(
 ) -> Result<Served, NoMemory>
     ensures { let before = objects_in held.old (T.keeper.contents store.old)
         in ServesAsk T.keeper result
-        (write_course before instance object bytes
-        (handle_at (settled held.old.handles) instance object))
+        (write_resolution before instance object bytes
+        (handle_at (without_rename held.old.handles) instance object))
         true held.old held.new store.old store.new }
 {
     let Some(
@@ -190,8 +190,8 @@ pub fn truncate<T: AppStore>(
 ) -> Result<Served, NoMemory>
     ensures { let before = objects_in held.old (T.keeper.contents store.old)
         in ServesAsk T.keeper result
-        (truncate_course before instance object length
-        (handle_at (settled held.old.handles) instance object))
+        (truncate_resolution before instance object length
+        (handle_at (without_rename held.old.handles) instance object))
         true held.old held.new store.old store.new }
 {
     let Some(Handle::Persistent { id, flags, .. }) = held.get(instance, object) else {
@@ -217,7 +217,7 @@ fn landed(base: u32, offset: i64) -> Option<u32>
 
 /// Moves the handle from here.
 fn move_from(held: &mut Held, instance: u8, object: u32, base: u32, offset: i64) -> Outcome
-    requires { IsTrue (is_there (settled held.old.handles) instance object) }
+    requires { IsTrue (is_there (without_rename held.old.handles) instance object) }
     ensures { (contents : Contents) → IsOutcome result
         (moved_by (objects_in held.old contents) instance object base offset)
         (objects_in held.old contents) (objects_in held.new contents) }
@@ -241,7 +241,7 @@ fn move_from_end<T: AppStore>(
     offset: i64,
 ) -> Result<Outcome, StoreAnswer>
     requires id { IsIdentifier id }
-    requires there { IsTrue (is_there (settled held.old.handles) instance object) }
+    requires there { IsTrue (is_there (without_rename held.old.handles) instance object) }
     ensures { let before = objects_in held.old (T.keeper.contents store.old)
         in IsGiven T.keeper result
         (moved_from_end before instance object offset (found before.store id))
@@ -263,8 +263,8 @@ pub fn seek<T: AppStore>(
 ) -> Result<Served, NoMemory>
     ensures { let before = objects_in held.old (T.keeper.contents store.old)
         in ServesAsk T.keeper result
-        (seek_course before instance object offset whence
-        (handle_at (settled held.old.handles) instance object))
+        (seek_resolution before instance object offset whence
+        (handle_at (without_rename held.old.handles) instance object))
         false held.old held.new store.old store.new }
 {
     let Some(Handle::Persistent { id, position, .. }) = held.get(instance, object) else {

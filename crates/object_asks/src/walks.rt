@@ -1,7 +1,7 @@
 //! The enumerators of all instances, each read or changed by one scan.
 
 ghost use Rattle.std.specs.Prelude.{◌≡◌, ◌≤◌, ◌++◌, ◌∷◌, [], IfOk, OnErr, count_by, filter, find, not, option_map, position};
-ghost use Rattle.tee_base.specs.declared.limits.TheConstants.{ENUMERATORS};
+ghost use Rattle.tee_base.specs.declared.limits.TheConstants.{MAX_ENUMERATORS};
 ghost use Rattle.handle_table.specs.Handles.{change_first};
 ghost use Rattle.object_asks.specs.declared.numbered.Walk.TheVariants.{Idle as not_started};
 ghost use Rattle.object_asks.specs.Held.{is_list_at, is_list_of};
@@ -9,7 +9,7 @@ ghost use Rattle.object_asks.specs.Lists.{free_list, with_walk};
 
 use crate::numbered::{NumberedList, Walk};
 use arrayvec::ArrayVec;
-use tee_base::limits::ENUMERATORS;
+use tee_base::limits::MAX_ENUMERATORS;
 use tee_base::{NoMemory, find_lowest_free};
 
 /// How many enumerators are of the instance.
@@ -21,10 +21,10 @@ pub fn count_of(lists: &[NumberedList], instance: u8) -> usize
 
 /// The lowest number of the instance that is free.
 fn free_number(lists: &[NumberedList], instance: u8) -> u8
-    requires { count_by (is_list_of instance) lists.now ≤ ENUMERATORS }
+    requires { count_by (is_list_of instance) lists.now ≤ MAX_ENUMERATORS }
     ensures { result ≡ free_list lists.now instance }
 {
-    let mut taken = ArrayVec::<u8, ENUMERATORS>::new();
+    let mut taken = ArrayVec::<u8, MAX_ENUMERATORS>::new();
     for list in lists {
         if list.instance == instance {
             taken.push(list.number);
@@ -35,7 +35,7 @@ fn free_number(lists: &[NumberedList], instance: u8) -> u8
 
 /// Adds an enumerator that isn't started, under the lowest free number of its instance.
 pub fn add(lists: &mut Vec<NumberedList>, instance: u8) -> Result<u32, NoMemory>
-    requires { count_by (is_list_of instance) lists.old.items ≤ ENUMERATORS }
+    requires { count_by (is_list_of instance) lists.old.items ≤ MAX_ENUMERATORS }
     ensures ok { IfOk result (λ n. (n ≡ free_list lists.old.items instance)
         × (lists.new.items ≡ lists.old.items
         ++ record { instance = instance; number = n; walk = not_started } ∷ [])) }

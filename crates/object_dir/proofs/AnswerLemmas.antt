@@ -12,10 +12,10 @@ use Rattle.store_api.specs.Stores.{Store}
 use Rattle.store_api.specs.Volumes.{Condition, IfMismatch, IsNumbered, LeafCause}
 use Rattle.region_plan.specs.Reading.{IfCorrupt, IfGarbled, ReadCause, refusal_of}
 use Rattle.object_dir.specs.Changing.{done_of}
-use Rattle.object_dir.specs.Directories.{damage_told, status_with}
+use Rattle.object_dir.specs.Directories.{damage_reports, status_with}
 
 -- damage is told of by the same refusals
-pub reports_of : {A : Type 0} (result : Result A StoreAnswer) → damage_told (refusal_of result) ≡ damage_in result
+pub reports_of : {A : Type 0} (result : Result A StoreAnswer) → damage_reports (refusal_of result) ≡ damage_in result
 reports_of (Ok a) = refl
 reports_of (Err NotFound) = refl
 reports_of (Err Exists) = refl

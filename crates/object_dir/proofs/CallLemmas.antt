@@ -11,7 +11,7 @@ use Rattle.region_plan.specs.Layout.{version_one}
 use Rattle.region_plan.specs.Reading.{IfGarbled, ReadsOnly, refusal_of}
 use Rattle.region_plan.specs.Regions.{breaks}
 use Rattle.object_dir.specs.Changing.{IsRegionCall}
-use Rattle.object_dir.specs.Directories.{damage_of, damage_told, dir_keeper}
+use Rattle.object_dir.specs.Directories.{damage_of, damage_reports, dir_keeper}
 use Rattle.object_dir.specs.Regions.{HasStore, kept_in, number_of, region_keeper, remains_in, store_in}
 use Rattle.object_dir.specs.declared.directory.ObjectDir.{ObjectDir}
 use Rattle.object_dir.specs.declared.region.Region.{Region}
@@ -55,14 +55,16 @@ module _ {V : Type 0} (K : VolumeKeeper V) where
     same_outcome o = ap (λ (k : ℕ). remains_in k o) (same_number K old.region new.region call.foundation)
 
     -- a call on a region is a call of its store
-    pub store_call : (HasStore K old.region → HasStore K new.region) → (HasStore K old.region → IsTrue (K.condition new.region.volume.now).lost → kept_in K new.region ≡ kept_in K old.region) → IfGarbled (refusal_of result) (λ leaf. leaf < LEAVES)
-        → new.damage_reports ≡ old.damage_reports + damage_told (refusal_of result) → new.change_attempts ≡ old.change_attempts + tried → IsCall (dir_keeper K) tried result old new
+    pub store_call : (HasStore K old.region → HasStore K new.region) → (HasStore K old.region → IsTrue (K.condition new.region.volume.now).lost →
+        kept_in K new.region ≡ kept_in K old.region) → IfGarbled (refusal_of result) (λ leaf. leaf < LEAVES)
+        → new.damage_reports ≡ old.damage_reports + damage_reports (refusal_of result) → new.change_attempts ≡ old.change_attempts + tried → IsCall (dir_keeper K) tried result old new
     store_call stands still few reports attempts = record {
       model = stands;
       still = still;
       limits = λ has. (kept_limits K old.region has, kept_limits K new.region (stands has));
       cause = record {
-        cause = cause_of result ((region_keeper K).condition old.region) ((region_keeper K).condition new.region) old.damage_reports old.change_attempts new.damage_reports new.change_attempts call.cause;
+        cause = cause_of result ((region_keeper K).condition old.region) ((region_keeper K).condition new.region) old.damage_reports old.change_attempts new.damage_reports
+            new.change_attempts call.cause;
         later = call.later;
         foundation = call.foundation;
         reports = reports ∙ ap (λ (k : ℕ). old.damage_reports + k) (reports_of result);
@@ -99,4 +101,5 @@ module _ {V : Type 0} (K : VolumeKeeper V) where
     -- a run of the volume, as a run of the store
     pub of_store : (P : Remains → Type 0) → LeavesOnly (region_keeper K).moment (region_keeper K).left_since old.region new.region (λ o. P (remains_in new.region.number o))
         → LeavesOnly (dir_keeper K).moment (dir_keeper K).left_since old new P
-    of_store P run = mapped (region_keeper K).moment (region_keeper K).left_since (λ (d : ObjectDir V). d.region) (λ (d : ObjectDir V) (o : Option Held). remains_in d.region.number o) old new P same_outcome run
+    of_store P run = mapped (region_keeper K).moment (region_keeper K).left_since (λ (d : ObjectDir V). d.region)
+        (λ (d : ObjectDir V) (o : Option Held). remains_in d.region.number o) old new P same_outcome run

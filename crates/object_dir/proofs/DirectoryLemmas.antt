@@ -12,7 +12,7 @@ use Rattle.store_api.specs.Volumes.{Condition, Held, RestsAt, VolumeKeeper}
 use Rattle.region_plan.specs.Layout.{version_one}
 use Rattle.region_plan.specs.Reading.{IfGarbled, ReadCause, ReadsRegion, refusal_of}
 use Rattle.object_dir.specs.Changing.{ChangesRegion, IsRegionCall}
-use Rattle.object_dir.specs.Directories.{damage_told, dir_keeper}
+use Rattle.object_dir.specs.Directories.{damage_reports, dir_keeper}
 use Rattle.object_dir.specs.Regions.{HasStore, kept_in, number_of, region_keeper, remains_in, store_in}
 use Rattle.object_dir.specs.declared.directory.ObjectDir.{ObjectDir}
 use Rattle.object_dir.proofs.AnswerLemmas.{left_before, not_both}
@@ -59,7 +59,7 @@ module _ {V : Type 0} (K : VolumeKeeper V) where
   -- a call that reads the objects of a region
   module _ (earlier : (v : V) (t u : ℕ) (o : Option Held) → t ≤ u → K.left_since v u o → K.left_since v t o) {A : Type 0} (stated : Store → Result A StoreAnswer) (Bounds : A → Type 0)
       (result : Result A StoreAnswer) (old new : ObjectDir V) (few : IfGarbled (refusal_of result) (λ leaf. leaf < LEAVES))
-      (reports : new.damage_reports ≡ old.damage_reports + damage_told (refusal_of result)) (attempts : new.change_attempts ≡ old.change_attempts)
+      (reports : new.damage_reports ≡ old.damage_reports + damage_reports (refusal_of result)) (attempts : new.change_attempts ≡ old.change_attempts)
       (read : ReadsRegion (region_keeper K) number_of version_one stated Bounds result old.region new.region) where
     read_call : IsRegionCall K (refusal_of result) old.region new.region
     read_call = from_reads K (refusal_of result) old.region new.region read.reads read.garbled
@@ -67,7 +67,8 @@ module _ {V : Type 0} (K : VolumeKeeper V) where
     read_leaves : HasStore K old.region → (K.condition old.region.volume.now).lost ≡ false → LeavesOnly (dir_keeper K).moment (dir_keeper K).left_since old new (λ o. o ≡ Some (kept_in K old.region))
     read_leaves has works =
         of_store K result 0 old new read_call (λ o. o ≡ Some (kept_in K old.region))
-        (weaker (region_keeper K).moment (region_keeper K).left_since old.region new.region (λ o. o ≡ Some (K.held old.region.volume.now)) (λ o. remains_in new.region.number o ≡ Some (kept_in K old.region))
+        (weaker (region_keeper K).moment (region_keeper K).left_since old.region new.region (λ o. o ≡ Some (K.held old.region.volume.now))
+        (λ o. remains_in new.region.number o ≡ Some (kept_in K old.region))
         (λ o is. ap (λ (k : ℕ). remains_in k o) read.reads.same_region
         ∙ (ap (λ (x : Option Held). remains_in old.region.number x) is ∙ reads_back old.region.number (K.held old.region.volume.now) has.stands))
         (read.reads.crash has.honest works))
@@ -95,13 +96,14 @@ module _ {V : Type 0} (K : VolumeKeeper V) where
       same = λ has. same_contents new.region.number old.region.number (K.held new.region.volume.now) (K.held old.region.volume.now) read.reads.same_region (read.reads.same has.honest);
       bounds = read.bounds;
       call = store_call K result 0 old new read_call (reads_stand K (refusal_of result) old.region new.region read.reads)
-          (λ has lost. same_contents new.region.number old.region.number (K.held new.region.volume.now) (K.held old.region.volume.now) read.reads.same_region (read.reads.same has.honest)) few reports (let e = attempts in omega arith);
+          (λ has lost. same_contents new.region.number old.region.number (K.held new.region.volume.now) (K.held old.region.volume.now) read.reads.same_region
+          (read.reads.same has.honest)) few reports (let e = attempts in omega arith);
       crash = read_crash;
     }
 
   -- a call that changes the objects of a region
   module _ (rests : (v : V) → K.honest v → (K.condition v).lost ≡ false → RestsAt K v (K.held v)) (c : Change) (result : Result (Unit {0}) StoreAnswer) (old new : ObjectDir V)
-      (few : IfGarbled (refusal_of result) (λ leaf. leaf < LEAVES)) (reports : new.damage_reports ≡ old.damage_reports + damage_told (refusal_of result))
+      (few : IfGarbled (refusal_of result) (λ leaf. leaf < LEAVES)) (reports : new.damage_reports ≡ old.damage_reports + damage_reports (refusal_of result))
       (attempts : new.change_attempts ≡ old.change_attempts + 1) (made : ChangesRegion K c result old.region new.region) where
     -- afterwards a crash leaves what is kept
     made_just : HasStore K new.region → (K.condition new.region.volume.now).lost ≡ false → LeavesJust (dir_keeper K) new (kept_in K new.region)
@@ -136,23 +138,24 @@ module _ {V : Type 0} (K : VolumeKeeper V) where
     store_applies = record {
       applied = made.applied;
       call = store_call K result 1 old new made.call made.stands
-          (λ has lost. still_when_lost result ((region_keeper K).condition old.region) ((region_keeper K).condition new.region) (change (kept_in K old.region).store c) (kept_in K old.region) (kept_in K new.region) lost made.call.cause (made.applied has)) few reports attempts;
+          (λ has lost. still_when_lost result ((region_keeper K).condition old.region) ((region_keeper K).condition new.region) (change (kept_in K old.region).store c)
+          (kept_in K old.region) (kept_in K new.region) lost made.call.cause (made.applied has)) few reports attempts;
       crash = made_crash;
     }
 
   -- the same where a refusal was noted
   pub reads_noted : (earlier : (v : V) (t u : ℕ) (o : Option Held) → t ≤ u → K.left_since v u o → K.left_since v t o) {A : Type 0} (stated : Store → Result A StoreAnswer) (Bounds : A → Type 0)
       (result : Result A StoreAnswer) (old new : ObjectDir V) (why : Option StoreAnswer)
-      → why ≡ refusal_of result → IfGarbled why (λ leaf. leaf < LEAVES) → new.damage_reports ≡ old.damage_reports + damage_told why → new.change_attempts ≡ old.change_attempts
+      → why ≡ refusal_of result → IfGarbled why (λ leaf. leaf < LEAVES) → new.damage_reports ≡ old.damage_reports + damage_reports why → new.change_attempts ≡ old.change_attempts
       → ReadsRegion (region_keeper K) number_of version_one stated Bounds result old.region new.region → Reads (dir_keeper K) stated Bounds result old new
   reads_noted earlier stated Bounds result old new why is few reports attempts read =
       store_reads earlier stated Bounds result old new (subst (λ (w : Option StoreAnswer). IfGarbled w (λ leaf. leaf < LEAVES)) is few)
-      (reports ∙ ap (λ (w : Option StoreAnswer). old.damage_reports + damage_told w) is) attempts read
+      (reports ∙ ap (λ (w : Option StoreAnswer). old.damage_reports + damage_reports w) is) attempts read
 
   pub applies_noted : (rests : (v : V) → K.honest v → (K.condition v).lost ≡ false → RestsAt K v (K.held v)) (c : Change) (result : Result (Unit {0}) StoreAnswer) (old new : ObjectDir V)
       (why : Option StoreAnswer)
-      → why ≡ refusal_of result → IfGarbled why (λ leaf. leaf < LEAVES) → new.damage_reports ≡ old.damage_reports + damage_told why → new.change_attempts ≡ old.change_attempts + 1
+      → why ≡ refusal_of result → IfGarbled why (λ leaf. leaf < LEAVES) → new.damage_reports ≡ old.damage_reports + damage_reports why → new.change_attempts ≡ old.change_attempts + 1
       → ChangesRegion K c result old.region new.region → Applies (dir_keeper K) c result old new
   applies_noted rests c result old new why is few reports attempts made =
       store_applies rests c result old new (subst (λ (w : Option StoreAnswer). IfGarbled w (λ leaf. leaf < LEAVES)) is few)
-      (reports ∙ ap (λ (w : Option StoreAnswer). old.damage_reports + damage_told w) is) attempts made
+      (reports ∙ ap (λ (w : Option StoreAnswer). old.damage_reports + damage_reports w) is) attempts made

@@ -14,10 +14,10 @@ use Rattle.object_dir.specs.declared.region.Region.{Region}
 use Rattle.object_dir.specs.declared.directory.ObjectDir.{ObjectDir}
 
 -- how often a refusal tells of damage
-abbrev pub damage_told : Option StoreAnswer → ℕ
-damage_told (Some (Corrupt tags)) = 1
-damage_told (Some (Garbled leaf)) = 1
-damage_told _ = 0
+abbrev pub damage_reports : Option StoreAnswer → ℕ
+damage_reports (Some (Corrupt tags)) = 1
+damage_reports (Some (Garbled leaf)) = 1
+damage_reports _ = 0
 
 -- what is known of a store over a region of this condition
 abbrev pub status_with : Condition → ℕ → ℕ → Status

@@ -4,9 +4,9 @@ ghost use Rattle.std.specs.Prelude.{◌≡◌, ◌≤◌, ◌<◌, ◌+◌, opti
 ghost use Rattle.store_api.specs.Keeping.{Reads, Applies, damage_in};
 ghost use Rattle.store_api.specs.Limits.{IsIdentifier, IsChange, AreFacts, IsSecret, IsPart, IsListed};
 ghost use Rattle.store_api.specs.Stores.{found, secret_at, read_at, next_after as next_of};
-ghost use Rattle.tee_base.specs.declared.limits.TheConstants.{ASK_BYTES, HOSTS, LEAVES};
+ghost use Rattle.tee_base.specs.declared.limits.TheConstants.{MAX_ASK_BYTES, MAX_HOSTS, LEAVES};
 ghost use Rattle.region_plan.specs.Reading.{refusal_of, IfGarbled};
-ghost use Rattle.object_dir.specs.Directories.{dir_keeper, damage_told, BreaksRule, IsIdle, IsOneCommit};
+ghost use Rattle.object_dir.specs.Directories.{dir_keeper, damage_reports, BreaksRule, IsIdle, IsOneCommit};
 
 use crate::changing::change_region;
 use crate::region::Region;
@@ -27,7 +27,7 @@ fn refusal<A>(answer: &Result<A, StoreAnswer>) -> Option<StoreAnswer>
 
 /// Counts a refusal that tells of damage.
 fn note(reports: &mut Tally, why: Option<StoreAnswer>)
-    ensures count { reports.new ≡ reports.old + damage_told why }
+    ensures count { reports.new ≡ reports.old + damage_reports why }
     ensures leaf { IfGarbled why (λ leaf. leaf < LEAVES) }
 {
     match why {
@@ -49,7 +49,7 @@ pub struct ObjectDir<'v, V> {
 impl<'v, V: Volume> ObjectDir<'v, V> {
     /// The objects of a region of a volume. It takes no memory; its calls take theirs from this allocator.
     pub fn of(alloc: Global, volume: &'v mut V, region: u8) -> ObjectDir<'v, V>
-        requires { region < HOSTS }
+        requires { region < MAX_HOSTS }
         ensures volume { result.region.volume.now ≡ volume.old }
         ensures same_reference { result.region.volume.ghost_name ≡ volume.entry.ghost_name }
         ensures region { result.region.number ≡ region }
@@ -111,7 +111,7 @@ impl<V: Volume> AppStore for ObjectDir<'_, V> {
 
     fn read(&mut self, id: &[u8], from: u32, count: u32) -> Result<Bytes, StoreAnswer>
         requires id { IsIdentifier id.now }
-        requires count { count ≤ ASK_BYTES }
+        requires count { count ≤ MAX_ASK_BYTES }
         ensures reads { Reads (dir_keeper V.keeper) (λ store. read_at store id.now from count)
             (IsPart count) result self.old self.new }
         ensures garbled { BreaksRule V.keeper (refusal_of result) self.old }

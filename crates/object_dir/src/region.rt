@@ -1,7 +1,7 @@
 //! One region of a volume.
 
 ghost use Rattle.std.specs.Prelude.{◌<◌};
-ghost use Rattle.tee_base.specs.declared.limits.TheConstants.{HOSTS};
+ghost use Rattle.tee_base.specs.declared.limits.TheConstants.{MAX_HOSTS};
 
 use region_plan::LeafSource;
 use store_api::{LeafAnswer, Leaves, StoreAnswer, Volume};
@@ -12,7 +12,7 @@ use tee_base::limits::BLOCK_BYTES;
 pub(crate) struct Region<'v, V> {
     pub volume: &'v mut V,
     pub number: u8,
-    ghost fits: { number < HOSTS },
+    ghost fits: { number < MAX_HOSTS },
 }
 
 impl<V: Volume> LeafSource for Region<'_, V> {

@@ -7,7 +7,7 @@ use Rattle.std.proofs.lemmas.List.Quantifiers.{all_pairs_push}
 use Rattle.std.proofs.lemmas.List.Kept.{AllPairs-filter}
 use Rattle.std.proofs.lemmas.List.Filters.{sum_by-filter_both}
 use Rattle.std.proofs.lemmas.List.Sums.{sum_by_push, sum_by-cons}
-use Rattle.tee_base.specs.declared.limits.TheConstants.{SESSIONS, OPERATIONS}
+use Rattle.tee_base.specs.declared.limits.TheConstants.{MAX_SESSIONS, MAX_OPERATIONS}
 use Rattle.app_api.specs.declared.call.Call.{Call}
 use Rattle.op_queue.specs.declared.operation.Operation.{Operation}
 use Rattle.op_queue.specs.declared.operation.Progress.{Progress}
@@ -36,19 +36,23 @@ all_counted (x ∷ xs) =
     omega (arith, all_counted xs, one (closes x), sum_by-cons (λ (o : Operation). cond (is_other o) 1 0) x xs, sum_by-cons (λ (o : Operation). cond (closes o) 1 0) x xs)
 
 -- no queue has more operations than both counts allow
-pub all_few : (q : Queue) → IsQueue q → length q.operations ≤ OPERATIONS + SESSIONS
+pub all_few : (q : Queue) → IsQueue q → length q.operations ≤ MAX_OPERATIONS + MAX_SESSIONS
 all_few q old = omega (arith, old.few, old.closes, all_counted q.operations)
 
 -- a change that leaves each number, and whether it is a close
-pub map_IsQueue : (q : Queue) (f : Operation → Operation) → ((o : Operation) → (f o).number ≡ o.number) → ((o : Operation) → is_close (f o).progress ≡ is_close o.progress) → IsQueue q → IsQueue (record q { operations = map f q.operations })
+pub map_IsQueue : (q : Queue) (f : Operation → Operation) → ((o : Operation) → (f o).number ≡ o.number) → ((o : Operation) → is_close (f o).progress ≡ is_close o.progress) →
+    IsQueue q → IsQueue (record q { operations = map f q.operations })
 map_IsQueue q f number close old =
-    let place : (k : ℕ) (d : Operation) → k < length q.operations → (get_or (map f q.operations) k d).number ≡ (get_or q.operations k d).number = λ k d inside. ap (λ (o : Operation). o.number) (get_or-map f q.operations k d d inside) ∙ number (get_or q.operations k d) in
+    let place : (k : ℕ) (d : Operation) → k < length q.operations → (get_or (map f q.operations) k d).number ≡ (get_or q.operations k d).number =
+    λ k d inside. ap (λ (o : Operation). o.number) (get_or-map f q.operations k d d inside) ∙ number (get_or q.operations k d) in
     record {
       first = old.first;
       few = omega (arith, count_same is_other f q.operations (λ o. ap not (close o)), old.few);
       closes = omega (arith, count_same closes f q.operations close, old.closes);
-      numbers = All-map (λ (o : Operation). (1 ≤ o.number) × (o.number < q.next)) f q.operations (All-weaker (λ (o : Operation). (1 ≤ o.number) × (o.number < q.next)) (λ (o : Operation). (1 ≤ (f o).number) × ((f o).number < q.next)) (λ o h. (omega (arith, number o, h.0), omega (arith, number o, h.1))) q.operations old.numbers);
-      ordered = λ i j d lt inside. let within : j < length q.operations = omega (arith, length-map q.operations f) in omega (arith, old.ordered i j d lt within, place i d (omega arith), place j d within);
+      numbers = All-map (λ (o : Operation). (1 ≤ o.number) × (o.number < q.next)) f q.operations (All-weaker (λ (o : Operation). (1 ≤ o.number) × (o.number < q.next))
+          (λ (o : Operation). (1 ≤ (f o).number) × ((f o).number < q.next)) (λ o h. (omega (arith, number o, h.0), omega (arith, number o, h.1))) q.operations old.numbers);
+      ordered = λ i j d lt inside. let within : j < length q.operations = omega (arith, length-map q.operations f) in
+          omega (arith, old.ordered i j d lt within, place i d (omega arith), place j d within);
     }
 
 pub filter_IsQueue : (q : Queue) (p : Operation → Bool) → IsQueue q → IsQueue (record q { operations = filter p q.operations })
@@ -65,28 +69,32 @@ skipped_IsQueue q old = record {
   first = omega (arith, old.first);
   few = old.few;
   closes = old.closes;
-  numbers = All-weaker (λ (o : Operation). (1 ≤ o.number) × (o.number < q.next)) (λ (o : Operation). (1 ≤ o.number) × (o.number < q.next + 1)) (λ o h. (h.0, omega (arith, h.1))) q.operations old.numbers;
+  numbers = All-weaker (λ (o : Operation). (1 ≤ o.number) × (o.number < q.next)) (λ (o : Operation). (1 ≤ o.number) × (o.number < q.next + 1)) (λ o h. (h.0, omega (arith, h.1)))
+      q.operations old.numbers;
   ordered = old.ordered;
 }
 
-room : (q : Queue) (close : Bool) → (is_full q && not close) ≡ false → IsQueue q → count_by is_other q.operations + cond (not close) 1 0 ≤ OPERATIONS
+room : (q : Queue) (close : Bool) → (is_full q && not close) ≡ false → IsQueue q → count_by is_other q.operations + cond (not close) 1 0 ≤ MAX_OPERATIONS
 room q true free old = omega (arith, old.few)
 room q false free old =
     let full : (b : Bool) → (b && true) ≡ false → b ≡ false = λ b. elim b as (λ v. (v && true) ≡ false → v ≡ false) [ true ↦ λ e. e | false ↦ λ e. refl ] in
     omega (arith, leb-false _ _ (full (is_full q) free))
 
-room_for_close : (q : Queue) (close : Bool) → (close ≡ true → count_by closes q.operations < SESSIONS) → IsQueue q → count_by closes q.operations + cond close 1 0 ≤ SESSIONS
+room_for_close : (q : Queue) (close : Bool) → (close ≡ true → count_by closes q.operations < MAX_SESSIONS) → IsQueue q → count_by closes q.operations + cond close 1 0 ≤ MAX_SESSIONS
 room_for_close q true free old = omega (arith, free refl)
 room_for_close q false free old = omega (arith, old.closes)
 
-pub submitted_IsQueue : (q : Queue) (client instance session : ℕ) (call : Call) → (is_full q && not (is_close_call call)) ≡ false → (is_close_call call ≡ true → count_by closes q.operations < SESSIONS) → IsQueue q → IsQueue (submitted q client instance session call)
+pub submitted_IsQueue : (q : Queue) (client instance session : ℕ) (call : Call) → (is_full q && not (is_close_call call)) ≡ false →
+    (is_close_call call ≡ true → count_by closes q.operations < MAX_SESSIONS) → IsQueue q → IsQueue (submitted q client instance session call)
 submitted_IsQueue q client instance session call free few_closes old =
     let o : Operation = record { number = q.next; client = client; session = session; instance = instance; progress = Waiting call } in
     record {
       first = omega (arith, old.first);
       few = omega (arith, sum_by_push (λ (o : Operation). cond (is_other o) 1 0) q.operations o, room q (is_close_call call) free old);
       closes = omega (arith, sum_by_push (λ (o : Operation). cond (closes o) 1 0) q.operations o, room_for_close q (is_close_call call) few_closes old);
-      numbers = All-push (λ (o : Operation). (1 ≤ o.number) × (o.number < q.next + 1)) q.operations o (All-weaker (λ (o : Operation). (1 ≤ o.number) × (o.number < q.next)) (λ (o : Operation). (1 ≤ o.number) × (o.number < q.next + 1)) (λ o h. (h.0, omega (arith, h.1))) q.operations old.numbers) (old.first, omega arith);
+      numbers = All-push (λ (o : Operation). (1 ≤ o.number) × (o.number < q.next + 1)) q.operations o
+          (All-weaker (λ (o : Operation). (1 ≤ o.number) × (o.number < q.next)) (λ (o : Operation). (1 ≤ o.number) × (o.number < q.next + 1)) (λ o h. (h.0, omega (arith, h.1)))
+          q.operations old.numbers) (old.first, omega arith);
       ordered = all_pairs_push ComesBefore q.operations o old.ordered (λ k d inside. (old.numbers k d inside).1);
     }
 

@@ -1,5 +1,7 @@
 -- A place in a list of operations: what is found there, one entry changed, and one taken out.
-use Rattle.std.proofs.Common.{◌≡◌, ◌≢◌, ◌<◌, ◌+◌, ◌==◌, ℕ, zero, suc, Bool, true, false, not, cond, List, [], ◌∷◌, ◌++◌, Option, None, Some, length, get_or, set, take, drop, map, filter, find, position, remove, nat_lt, AllPairs, refl, sym, ap, subst, ◌∙◌, ◌⊎◌, ⊎_elim, drop-cons, arith, length-set, length-take, length-drop, get_or-set_same, get_or-set_other}
+use Rattle.std.proofs.Common.{◌≡◌, ◌≢◌, ◌<◌, ◌+◌, ◌==◌, ℕ, zero, suc, Bool, true, false, not, cond, List, [], ◌∷◌, ◌++◌, Option, None, Some, length}
+use Rattle.std.proofs.Common.{get_or, set, take, drop, map, filter, find, position, remove, nat_lt, AllPairs, refl, sym, ap, subst, ◌∙◌, ◌⊎◌, ⊎_elim}
+use Rattle.std.proofs.Common.{drop-cons, arith, length-set, length-take, length-drop, get_or-set_same, get_or-set_other}
 use Rattle.std.specs.List.{position_or_len}
 use Rattle.std.proofs.lemmas.Bool.{ne_eqb, cases_Bool, cases_eq, cases_order, ltb-false, eqb-true, cond-true, cond-false}
 use Rattle.std.proofs.lemmas.List.{get_or-map, length-map, same_lists, get_or_read, get_or-take, get_or-drop, take-append-drop}
@@ -60,7 +62,8 @@ only_here xs i k d ordered here there other same =
     (cases_order k i)
 
 -- a change of the operation of one number is a change at its place
-pub one_changed : (f : Operation → Operation) (n : ℕ) → ((o : Operation) → (o.number == n) ≡ false → f o ≡ o) → (xs : List Operation) (i : ℕ) (x y : Operation) → AllPairs ComesBefore xs → i < length xs → x ≡ get_or xs i x → x.number ≡ n → y ≡ f x → set xs i y ≡ map f xs
+pub one_changed : (f : Operation → Operation) (n : ℕ) → ((o : Operation) → (o.number == n) ≡ false → f o ≡ o) → (xs : List Operation) (i : ℕ) (x y : Operation) →
+    AllPairs ComesBefore xs → i < length xs → x ≡ get_or xs i x → x.number ≡ n → y ≡ f x → set xs i y ≡ map f xs
 one_changed f n others xs i x y ordered inside read number changed =
     same_lists (set xs i y) (map f xs) (omega (arith, length-set xs i y, length-map xs f))
     (λ k d lt.
@@ -82,11 +85,14 @@ all_stay p (x ∷ xs) passes =
     rw here (ap (λ ys. x ∷ ys) (all_stay p xs (λ k d lt. passes (suc k) d (omega arith))))
 
 -- the list without a place has what a filter leaves that passes all others
-pub one_removed : {X : Type 0} (p : X → Bool) (xs : List X) (i : ℕ) (d : X) → i < length xs → p (get_or xs i d) ≡ false → ((k : ℕ) (e : X) → k < length xs → k ≢ i → p (get_or xs k e) ≡ true) → remove xs i ≡ filter p xs
+pub one_removed : {X : Type 0} (p : X → Bool) (xs : List X) (i : ℕ) (d : X) → i < length xs → p (get_or xs i d) ≡ false →
+    ((k : ℕ) (e : X) → k < length xs → k ≢ i → p (get_or xs k e) ≡ true) → remove xs i ≡ filter p xs
 one_removed p xs i d inside here others =
     let x : _ = get_or xs i d in
-    let front : filter p (take i xs) ≡ take i xs = all_stay p (take i xs) (λ k e lt. let near : k < i = omega (arith, length-take i xs) in let far : k ≢ i = omega arith in ap p (get_or-take i xs k e near) ∙ others k e (omega arith) far) in
-    let back : filter p (drop (suc i) xs) ≡ drop (suc i) xs = all_stay p (drop (suc i) xs) (λ k e lt. let past : suc i + k < length xs = omega (arith, length-drop (suc i) xs) in let far : suc i + k ≢ i = omega arith in ap p (get_or-drop (suc i) xs k e) ∙ others (suc i + k) e past far) in
+    let front : filter p (take i xs) ≡ take i xs = all_stay p (take i xs) (λ k e lt. let near : k < i = omega (arith, length-take i xs) in let far : k ≢ i = omega arith in
+    ap p (get_or-take i xs k e near) ∙ others k e (omega arith) far) in
+    let back : filter p (drop (suc i) xs) ≡ drop (suc i) xs = all_stay p (drop (suc i) xs) (λ k e lt. let past : suc i + k < length xs = omega (arith, length-drop (suc i) xs) in
+    let far : suc i + k ≢ i = omega arith in ap p (get_or-drop (suc i) xs k e) ∙ others (suc i + k) e past far) in
     let whole : xs ≡ take i xs ++ (x ∷ drop (suc i) xs) = sym (take-append-drop i xs) ∙ ap (λ ys. take i xs ++ ys) (drop-cons xs i d inside) in
     let middle : filter p (x ∷ drop (suc i) xs) ≡ drop (suc i) xs = rw here back in
     let split : filter p (take i xs ++ (x ∷ drop (suc i) xs)) ≡ filter p (take i xs) ++ filter p (x ∷ drop (suc i) xs) = filter-append p (take i xs) (x ∷ drop (suc i) xs) in
@@ -111,13 +117,16 @@ other_stays f n o e = cond-false (o.number == n) (f o) o e
 
 -- ---- the changes of the calls
 
-pub started_here : (op : ℕ) (xs : List Operation) (i : ℕ) (x y : Operation) → AllPairs ComesBefore xs → i < length xs → x ≡ get_or xs i x → x.number ≡ op → y ≡ started op x → set xs i y ≡ map (started op) xs
+pub started_here : (op : ℕ) (xs : List Operation) (i : ℕ) (x y : Operation) → AllPairs ComesBefore xs → i < length xs → x ≡ get_or xs i x → x.number ≡ op → y ≡ started op x →
+    set xs i y ≡ map (started op) xs
 started_here op = one_changed (started op) op (λ o e. other_stays (λ (o : Operation). record o { progress = Running (is_close o.progress) false true }) op o e)
 
-pub requested_here : (op : ℕ) (xs : List Operation) (i : ℕ) (x y : Operation) → AllPairs ComesBefore xs → i < length xs → x ≡ get_or xs i x → x.number ≡ op → y ≡ requested op x → set xs i y ≡ map (requested op) xs
+pub requested_here : (op : ℕ) (xs : List Operation) (i : ℕ) (x y : Operation) → AllPairs ComesBefore xs → i < length xs → x ≡ get_or xs i x → x.number ≡ op → y ≡ requested op x →
+    set xs i y ≡ map (requested op) xs
 requested_here op = one_changed (requested op) op (λ o e. other_stays (λ (o : Operation). record o { progress = with_request o.progress }) op o e)
 
-pub masked_here : (op : ℕ) (value : Bool) (xs : List Operation) (i : ℕ) (x y : Operation) → AllPairs ComesBefore xs → i < length xs → x ≡ get_or xs i x → x.number ≡ op → y ≡ masked_as op value x → set xs i y ≡ map (masked_as op value) xs
+pub masked_here : (op : ℕ) (value : Bool) (xs : List Operation) (i : ℕ) (x y : Operation) → AllPairs ComesBefore xs → i < length xs → x ≡ get_or xs i x → x.number ≡ op →
+    y ≡ masked_as op value x → set xs i y ≡ map (masked_as op value) xs
 masked_here op value = one_changed (masked_as op value) op (λ o e. other_stays (λ (o : Operation). record o { progress = with_mask value o.progress }) op o e)
 
 -- ---- what the scan for a number tells
@@ -135,12 +144,14 @@ the_operation q now op i x same at read = ap (λ (w : Queue). operation_of w op)
 its_number : (op : ℕ) (xs : List Operation) (i : ℕ) (x : Operation) → position (λ o. o.number == op) xs ≡ Some i → x ≡ get_or xs i x → x.number ≡ op
 its_number op xs i x at read = eqb-true _ _ (place_passes (λ (o : Operation). o.number == op) xs i x at read)
 
-pub masks : (q : Queue) (op i : ℕ) (value : Bool) (x y : Operation) → IsQueue q → position (λ o. o.number == op) q.operations ≡ Some i → x ≡ get_or q.operations i x → y ≡ masked_as x.number value x → set q.operations i y ≡ map (masked_as op value) q.operations
+pub masks : (q : Queue) (op i : ℕ) (value : Bool) (x y : Operation) → IsQueue q → position (λ o. o.number == op) q.operations ≡ Some i → x ≡ get_or q.operations i x →
+    y ≡ masked_as x.number value x → set q.operations i y ≡ map (masked_as op value) q.operations
 masks q op i value x y old at read changed =
     let number : x.number ≡ op = its_number op q.operations i x at read in
     masked_here op value q.operations i x y old.ordered (place_inside (λ (o : Operation). o.number == op) q.operations i x at) read number (changed ∙ ap (λ n. masked_as n value x) number)
 
-pub requests : (q : Queue) (op i : ℕ) (x y : Operation) → IsQueue q → position (λ o. o.number == op) q.operations ≡ Some i → x ≡ get_or q.operations i x → y ≡ requested x.number x → set q.operations i y ≡ map (requested op) q.operations
+pub requests : (q : Queue) (op i : ℕ) (x y : Operation) → IsQueue q → position (λ o. o.number == op) q.operations ≡ Some i → x ≡ get_or q.operations i x →
+    y ≡ requested x.number x → set q.operations i y ≡ map (requested op) q.operations
 requests q op i x y old at read changed =
     let number : x.number ≡ op = its_number op q.operations i x at read in
     requested_here op q.operations i x y old.ordered (place_inside (λ (o : Operation). o.number == op) q.operations i x at) read number (changed ∙ ap (λ n. requested n x) number)

@@ -5,7 +5,8 @@ use Rattle.app_api.specs.declared.call.Call.{Call}
 use Rattle.op_queue.specs.declared.operation.Operation.{Operation}
 use Rattle.op_queue.specs.declared.operation.Progress.{Progress}
 use Rattle.op_queue.specs.declared.operation.Progress.TheVariants.{Waiting, Running}
-use Rattle.op_queue.specs.Queue.{Queue, operation_of, runs, if_operation, is_running, is_close, submitted, without, waits_for, first_waiting, started, after_begin, requested, with_request, masked_as, with_mask, mask_set}
+use Rattle.op_queue.specs.Queue.{Queue, operation_of, runs, if_operation, is_running, is_close, submitted, without, waits_for}
+use Rattle.op_queue.specs.Queue.{first_waiting, started, after_begin, requested, with_request, masked_as, with_mask, mask_set}
 
 abbrev pub runs_in : List Operation → ℕ → Bool
 runs_in xs op = if_operation (find (λ o. o.number == op) xs) false (λ o. is_running o.progress)
@@ -17,7 +18,8 @@ runs_is_there q op e =
     step (operation_of q op) e
 
 -- a change that leaves the numbers and what runs
-runs_map : (f : Operation → Operation) (op : ℕ) (xs : List Operation) → ((o : Operation) → (f o).number ≡ o.number) → ((o : Operation) → is_running o.progress ≡ true → is_running (f o).progress ≡ true) → runs_in xs op ≡ true → runs_in (map f xs) op ≡ true
+runs_map : (f : Operation → Operation) (op : ℕ) (xs : List Operation) → ((o : Operation) → (f o).number ≡ o.number) →
+    ((o : Operation) → is_running o.progress ≡ true → is_running (f o).progress ≡ true) → runs_in xs op ≡ true → runs_in (map f xs) op ≡ true
 runs_map f op [] number on h = h
 runs_map f op (x ∷ xs) number on h =
     let same : ((f x).number == op) ≡ (x.number == op) = ap (λ n. n == op) (number x) in
@@ -95,7 +97,8 @@ runs-mask_set q op other value h =
 started_runs : (n : ℕ) (p : Operation → Bool) (xs : List Operation) (o : Operation) → find p xs ≡ Some o → o.number ≡ n → runs_in (map (started n) xs) n ≡ true
 started_runs n p [] o e number = let never : None ≡ Some o = e in cc
 started_runs n p (x ∷ xs) o e number =
-    let same : (b : Bool) → (cond b (record x { progress = Running (is_close x.progress) false true }) x).number ≡ x.number = λ b. same_number b (record x { progress = Running (is_close x.progress) false true }) x refl in
+    let same : (b : Bool) → (cond b (record x { progress = Running (is_close x.progress) false true }) x).number ≡ x.number =
+    λ b. same_number b (record x { progress = Running (is_close x.progress) false true }) x refl in
     ⊎_elim
     (λ (yes : (x.number == n) ≡ true). rw (yes, yes) refl)
     (λ (no : (x.number == n) ≡ false).

@@ -50,7 +50,8 @@ and_first : (a b : Bool) → (a && b) ≡ true → a ≡ true
 and_first true b e = refl
 and_first false b e = e
 
-others_stay : (i : ℕ) (xs : List Operation) (o : Operation) → AllPairs ComesBefore xs → find (waits_for i) xs ≡ Some o → filter (λ x. not (is_of i x)) (map (started o.number) xs) ≡ filter (λ x. not (is_of i x)) xs
+others_stay : (i : ℕ) (xs : List Operation) (o : Operation) → AllPairs ComesBefore xs → find (waits_for i) xs ≡ Some o →
+    filter (λ x. not (is_of i x)) (map (started o.number) xs) ≡ filter (λ x. not (is_of i x)) xs
 others_stay i [] o ordered e = refl
 others_stay i (x ∷ xs) o ordered e =
     let above : All (λ y. x.number < y.number) xs = λ k d inside. ordered zero (suc k) d (omega arith) (omega arith) in
@@ -92,5 +93,6 @@ same_numbers n i (x ∷ xs) =
     (cases_Bool (is_of i x))
 
 -- an operation that begins leaves the numbers of each instance's operations
-pub started_numbers : (q : Queue) (i : ℕ) (o : Operation) → map (λ o. o.number) (filter (λ o. o.instance == i) (after_begin q (Some o)).operations) ≡ map (λ o. o.number) (filter (λ o. o.instance == i) q.operations)
+pub started_numbers : (q : Queue) (i : ℕ) (o : Operation) → map (λ o. o.number) (filter (λ o. o.instance == i) (after_begin q (Some o)).operations) ≡ map (λ o. o.number)
+    (filter (λ o. o.instance == i) q.operations)
 started_numbers q i o = same_numbers o.number i q.operations

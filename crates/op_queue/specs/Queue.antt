@@ -1,6 +1,7 @@
 -- Client operations of one application, and their cancellation (TEE Client API 1.0, sections 4.5.5 to 4.5.8; TEE Internal Core API 1.3, section 4.10).
-use Rattle.std.specs.Prelude.{ℕ, ◌+◌, ◌≤◌, ◌<◌, ◌==◌, nat_le, nat_lt, Bool, true, false, not, ◌&&◌, List, [], ◌∷◌, ◌++◌, Option, None, Some, option_map, if◌then◌else◌, find, filter, map, count_by, All, AllPairs}
-use Rattle.tee_base.specs.declared.limits.TheConstants.{SESSIONS, OPERATIONS}
+use Rattle.std.specs.Prelude.{ℕ, ◌+◌, ◌≤◌, ◌<◌, ◌==◌, nat_le, nat_lt, Bool, true, false, not, ◌&&◌, List, [], ◌∷◌, ◌++◌, Option}
+use Rattle.std.specs.Prelude.{None, Some, option_map, if◌then◌else◌, find, filter, map, count_by, All, AllPairs}
+use Rattle.tee_base.specs.declared.limits.TheConstants.{MAX_SESSIONS, MAX_OPERATIONS}
 use Rattle.app_api.specs.declared.call.Call.{Call}
 use Rattle.app_api.specs.declared.call.Call.TheVariants.{Open, Invoke, Close}
 use Rattle.op_queue.specs.declared.operation.Operation.{Operation}
@@ -38,7 +39,7 @@ is_running (Running close cancelled masked) = true
 
 -- as many operations other than closes are unanswered as there may be
 abbrev pub is_full : Queue → Bool
-is_full q = nat_le OPERATIONS (count_by (λ o. not (is_close o.progress)) q.operations)
+is_full q = nat_le MAX_OPERATIONS (count_by (λ o. not (is_close o.progress)) q.operations)
 
 -- one more operation, which waits
 abbrev pub submitted : Queue → ℕ → ℕ → ℕ → Call → Queue
@@ -170,7 +171,7 @@ ComesBefore o later = o.number < later.number
 -- with numbers in ascending order from 1 on, all of them below the next
 pub record IsQueue (q : Queue) : Type 0 where
   pub first : 1 ≤ q.next
-  pub few : count_by (λ o. not (is_close o.progress)) q.operations ≤ OPERATIONS
-  pub closes : count_by (λ o. is_close o.progress) q.operations ≤ SESSIONS
+  pub few : count_by (λ o. not (is_close o.progress)) q.operations ≤ MAX_OPERATIONS
+  pub closes : count_by (λ o. is_close o.progress) q.operations ≤ MAX_SESSIONS
   pub numbers : All (λ o. (1 ≤ o.number) × (o.number < q.next)) q.operations
   pub ordered : AllPairs ComesBefore q.operations

@@ -1,7 +1,7 @@
 //! The queue.
 
 ghost use Rattle.std.specs.Prelude.{◌≡◌, ◌≤◌, ◌+◌, ◌^◌, ◌&&◌, ◌↔◌, IsTrue, IfOk, OnErr, Ok, Err, true, false, not, option_map, length};
-ghost use Rattle.tee_base.specs.declared.limits.TheConstants.{SESSIONS, OPERATIONS};
+ghost use Rattle.tee_base.specs.declared.limits.TheConstants.{MAX_SESSIONS, MAX_OPERATIONS};
 
 use crate::operation::{
     Begun, Cancelled, OpFacts, Operation, Progress, QueueAnswer, is_close_call,
@@ -45,7 +45,7 @@ impl OpQueue {
     /// A law: what the queue keeps.
     pub fn bounds(&self)
         ensures kept { IsQueue self.now }
-        ensures all { length self.now.operations ≤ OPERATIONS + SESSIONS }
+        ensures all { length self.now.operations ≤ MAX_OPERATIONS + MAX_SESSIONS }
     {
         let _ = &self.next;
     }
@@ -73,12 +73,12 @@ impl OpQueue {
         ensures unchanged { OnErr result (self.new ≡ self.old) }
     {
         if !is_close_call(&call)
-            && scans::count_others(self.operations.as_slice()) >= limits::OPERATIONS
+            && scans::count_others(self.operations.as_slice()) >= limits::MAX_OPERATIONS
         {
             return Err(QueueAnswer::Full);
         }
         if is_close_call(&call)
-            && scans::count_closes(self.operations.as_slice()) >= limits::SESSIONS
+            && scans::count_closes(self.operations.as_slice()) >= limits::MAX_SESSIONS
         {
             return Err(QueueAnswer::NoMemory);
         }
@@ -229,7 +229,7 @@ impl OpQueue {
     pub fn is_full(&self) -> bool
         ensures { result ≡ is_full self.now }
     {
-        scans::count_others(self.operations.as_slice()) >= limits::OPERATIONS
+        scans::count_others(self.operations.as_slice()) >= limits::MAX_OPERATIONS
     }
 
     /// The unanswered operations, in ascending order of their numbers.

@@ -1,5 +1,6 @@
 -- What an ask does to values that are operations, one by one.
-use Rattle.std.proofs.Common.{◌≡◌, ◌-◌, ◌<◌, ◌≤◌, ◌==◌, ◌≢◌, ℕ, zero, suc, Bool, true, false, not, ◌||◌, ⊎_elim, List, Option, None, Some, Result, Ok, Err, [], ◌∷◌, ◌++◌, length, get_or, set, filter, map, count_by, nat_le, nat_lt, IsTrue, refl, sym, ap, subst, ◌∙◌, arith, eq-eqb}
+use Rattle.std.proofs.Common.{◌≡◌, ◌-◌, ◌<◌, ◌≤◌, ◌==◌, ◌≢◌, ℕ, zero, suc, Bool, true, false, not, ◌||◌, ⊎_elim, List, Option, None, Some, Result, Ok, Err, [], ◌∷◌}
+use Rattle.std.proofs.Common.{◌++◌, length, get_or, set, filter, map, count_by, nat_le, nat_lt, IsTrue, refl, sym, ap, subst, ◌∙◌, arith, eq-eqb}
 use Rattle.std.specs.Prelude.{IfOk, OnErr}
 use Rattle.std.proofs.lemmas.Result.{IfOk-weaker}
 use Rattle.std.proofs.lemmas.List.Quantifiers.{position-Some}
@@ -17,17 +18,19 @@ use Rattle.crypto_ops.specs.declared.operation.Operation.{Operation}
 use Rattle.crypto_ops.specs.declared.algorithm.Algorithm.{Algorithm}
 use Rattle.crypto_ops.specs.declared.answer.OpAnswer.{OpAnswer}
 use Rattle.crypto_ops.specs.Algorithms.{is_digest, algorithm_number, mode_number, key_kind}
-use Rattle.crypto_ops.specs.Operations.{may_change_key, clear_key_answer, unkeyed, is_active, CryptoOperation, KeyFits, KeyOfKind, after_ok, copy_answer, copied, keyed, set_key_answer, key_bits, bits_of, is_same_algorithm}
+use Rattle.crypto_ops.specs.Operations.{may_change_key, clear_key_answer, unkeyed, is_active, CryptoOperation, KeyFits, KeyOfKind, after_ok}
+use Rattle.crypto_ops.specs.Operations.{copy_answer, copied, keyed, set_key_answer, key_bits, is_same_algorithm}
+use Rattle.secret.specs.Bits.{bits_of}
 use Rattle.crypto_ops.specs.Represents.{Represents, IsAllocated}
 use Rattle.operation_asks.specs.declared.outcome.Outcome.{Outcome}
 use Rattle.operation_asks.specs.declared.outcome.Outcome.TheVariants.{Answered, Panicked}
-use Rattle.operation_asks.specs.declared.outcome.Asked.TheVariants as asked
+use Rattle.operation_asks.specs.declared.outcome.CryptoOutcome.TheVariants as asked
 use Rattle.operation_asks.specs.declared.table.Entry.{Entry}
 use Rattle.operation_asks.specs.Effects.{Effect, told_refusal, told_done}
 use Rattle.operation_asks.specs.OneOperation.{one_effect}
 use Rattle.operation_asks.specs.Table.{NumberedOperation, changed, is_full, free_number, operation_at, freed}
-use Rattle.operation_asks.specs.Asks.{Course, Settled, WantsKey, course_in, set_key_course, new_by, free_effect, on_operation, copy_effect, key_set}
-use Rattle.operation_asks.specs.Represents.{IsEntry, AreOperations, IsEffect, IsCourse, told_by, left_by, has_number, has_instance}
+use Rattle.operation_asks.specs.Asks.{Resolution, Settled, WantsKey, resolution_in, set_key_resolution, new_by, free_effect, on_operation, copy_effect, key_set}
+use Rattle.operation_asks.specs.Represents.{IsEntry, AreOperations, IsEffect, IsResolution, told_by, left_by, has_number, has_instance}
 use Rattle.operation_asks.proofs.TableLemmas.{Slot, slot, slot_at, some_none, count_same, numbers_same, freed_same, push_same}
 
 pub same_some : {X : Type 0} (a b : X) → Some a ≡ Some b → a ≡ b
@@ -38,10 +41,10 @@ pub with_told : {V S : Type 0} (IsValue : V → S → Type 0) (told stated : Out
     → told ≡ stated → IsEffect IsValue stated effect new → IsEffect IsValue told effect new
 with_told IsValue told stated effect new same h = record { told_is = same ∙ h.told_is; leaves = h.leaves }
 
-pub with_settled : {V S : Type 0} (IsValue : V → S → Type 0) (told stated : Outcome) (course : Course S) (old : S) (new : V)
-    → told ≡ stated → IsCourse IsValue (asked.Settled stated) course old new
-    → IsCourse IsValue (asked.Settled told) course old new
-with_settled IsValue told stated course old new same h = record { told_is = ap asked.Settled same ∙ h.told_is; leaves = h.leaves }
+pub with_settled : {V S : Type 0} (IsValue : V → S → Type 0) (told stated : Outcome) (resolution : Resolution S) (old : S) (new : V)
+    → told ≡ stated → IsResolution IsValue (asked.Settled stated) resolution old new
+    → IsResolution IsValue (asked.Settled told) resolution old new
+with_settled IsValue told stated resolution old new same h = record { told_is = ap asked.Settled same ∙ h.told_is; leaves = h.leaves }
 
 sub-self : (n : ℕ) → n - n ≡ 0
 sub-self n = omega arith
@@ -151,17 +154,17 @@ key_slot i n values os k v key answer w s e r =
 
 pub begin_none : (i op object : ℕ) (values : List Entry) (os : List NumberedOperation)
     → AreOperations values os → operation_at os i op ≡ None
-    → IsCourse AreOperations (asked.Settled Panicked) (set_key_course os i op object) os values
+    → IsResolution AreOperations (asked.Settled Panicked) (set_key_resolution os i op object) os values
 begin_none i op object values os are none = rw none (record { told_is = refl; leaves = are })
 
 pub begin_refused : (i op object : ℕ) (values : List Entry) (os : List NumberedOperation) (k : ℕ) (v : Entry) (s : Slot i op values os k v)
     → AreOperations values os → may_change_key s.operation ≡ false
-    → IsCourse AreOperations (asked.Settled Panicked) (set_key_course os i op object) os values
+    → IsResolution AreOperations (asked.Settled Panicked) (set_key_resolution os i op object) os values
 begin_refused i op object values os k v s are barred = rw (s.found, barred) (record { told_is = refl; leaves = are })
 
 pub begin_wants : (i op object : ℕ) (values : List Entry) (os : List NumberedOperation) (k : ℕ) (v : Entry) (s : Slot i op values os k v)
     → AreOperations values os → may_change_key s.operation ≡ true → (object == 0) ≡ false
-    → IsCourse AreOperations (asked.WantsKey op object) (set_key_course os i op object) os values
+    → IsResolution AreOperations (asked.WantsKey op object) (set_key_resolution os i op object) os values
 begin_wants i op object values os k v s are allowed some = rw (s.found, allowed, some) (record { told_is = refl; leaves = are })
 
 may_clear : (o : CryptoOperation) → may_change_key o ≡ true → clear_key_answer o ≡ Ok tt
@@ -174,7 +177,7 @@ may_clear o allowed =
 pub begin_cleared : (i op object : ℕ) (values : List Entry) (os : List NumberedOperation) (k : ℕ) (v : Entry) (answer : Result (Unit {0}) OpAnswer) (w : Operation) (s : Slot i op values os k v)
     → may_change_key s.operation ≡ true → object ≡ 0 → answer ≡ clear_key_answer s.operation
     → Represents w (after_ok answer s.operation (unkeyed s.operation))
-    → IsCourse AreOperations (asked.Settled (told_done answer)) (set_key_course os i op object) os (set values k (record v { operation = w }))
+    → IsResolution AreOperations (asked.Settled (told_done answer)) (set_key_resolution os i op object) os (set values k (record v { operation = w }))
 begin_cleared i op object values os k v answer w s allowed zero_ e r =
     let fine : answer ≡ Ok tt = e ∙ may_clear s.operation allowed in
     rw (s.found, allowed, zero_) (record {
@@ -290,11 +293,11 @@ copy_itself i to from (v ∷ vs) os k are at_to at_from =
 
 -- ---- of a larger whole
 
-pub told_in : {S W : Type 0} (put : S → W) (course : Course S) → told_by (course_in put course) ≡ told_by course
+pub told_in : {S W : Type 0} (put : S → W) (resolution : Resolution S) → told_by (resolution_in put resolution) ≡ told_by resolution
 told_in put (Settled effect) = refl
 told_in put (WantsKey op object) = refl
 
-pub left_in : {S W : Type 0} (put : S → W) (s : S) (course : Course S)
-    → left_by (put s) (course_in put course) ≡ put (left_by s course)
+pub left_in : {S W : Type 0} (put : S → W) (s : S) (resolution : Resolution S)
+    → left_by (put s) (resolution_in put resolution) ≡ put (left_by s resolution)
 left_in put s (Settled effect) = refl
 left_in put s (WantsKey op object) = refl

@@ -16,7 +16,8 @@ use Rattle.operation_asks.specs.declared.outcome.KeyGiven.TheVariants as gives
 use Rattle.operation_asks.specs.declared.outcome.Outcome.{Outcome}
 use Rattle.operation_asks.specs.declared.outcome.Outcome.TheVariants.{Answered, Panicked}
 use Rattle.operation_asks.proofs.AskLemmas.{same_some}
-use Rattle.operation_asks.specs.Asks.{CryptoState, Course, Settled, WantsKey, copy_between, copy_effect, course_in, free_by, free_effect, key_set, new_by, on_found, on_operation, operation_course, random_effect, set_key_course, set_key_effect, set_key_on, with_operations}
+use Rattle.operation_asks.specs.Asks.{CryptoState, Resolution, Settled, WantsKey, copy_between, copy_effect, resolution_in, free_by, free_effect, key_set, new_by, on_found}
+use Rattle.operation_asks.specs.Asks.{on_operation, operation_resolution, random_effect, set_key_resolution, set_key_effect, set_key_on, with_operations}
 use Rattle.operation_asks.specs.Effects.{Effect, answered, content_by, done, done_by, effect_in, panicked, refused, told_content, told_done, told_refusal}
 use Rattle.operation_asks.specs.OneOperation.{one_effect}
 use Rattle.operation_asks.specs.Past.{key_effect}
@@ -26,9 +27,9 @@ use Rattle.operation_asks.specs.Table.{NumberedOperation, added, changed, free_n
 abbrev pub KeepsAtPanic : {S : Type 0} → S → Effect S → Type 0
 KeepsAtPanic s e = e.told ≡ Panicked → e.after ≡ s
 
-abbrev pub CourseKeeps : {S : Type 0} → S → Course S → Type 0
-CourseKeeps s (Settled effect) = KeepsAtPanic s effect
-CourseKeeps s (WantsKey op object) = Unit {0}
+abbrev pub ResolutionKeeps : {S : Type 0} → S → Resolution S → Type 0
+ResolutionKeeps s (Settled effect) = KeepsAtPanic s effect
+ResolutionKeeps s (WantsKey op object) = Unit {0}
 
 either : {S : Type 0} (s : S) (b : Bool) (x y : Effect S) → KeepsAtPanic s x → KeepsAtPanic s y → KeepsAtPanic s (cond b x y)
 either s b x y here there = cond_both b x y (KeepsAtPanic s) (λ _. here) (λ _. there)
@@ -112,11 +113,11 @@ copy_keeps os i to None source found e = refl
 copy_keeps os i to (Some target) None found e = refl
 copy_keeps os i to (Some target) (Some source) found e = placed os i to target (done_by (copy_answer target source) target (copied target source)) found (by_done _ target _) e
 
-set_keeps : (os : List NumberedOperation) (i n object : ℕ) (o : Option CryptoOperation) → CourseKeeps os (set_key_on os i n object o)
+set_keeps : (os : List NumberedOperation) (i n object : ℕ) (o : Option CryptoOperation) → ResolutionKeeps os (set_key_on os i n object o)
 set_keeps os i n object None = λ e. refl
 set_keeps os i n object (Some o) =
-    cond_both (not (may_change_key o)) (Settled (panicked os)) (cond (object == 0) (Settled (done (changed i n (unkeyed o) os))) (WantsKey n object)) (CourseKeeps os) (λ _ e. refl)
-    (λ _. cond_both (object == 0) (Settled (done (changed i n (unkeyed o) os))) (WantsKey n object) (CourseKeeps os) (λ _ e. absurd (let h : Answered answers.Done ≡ Panicked = e in cc)) (λ _. tt))
+    cond_both (not (may_change_key o)) (Settled (panicked os)) (cond (object == 0) (Settled (done (changed i n (unkeyed o) os))) (WantsKey n object)) (ResolutionKeeps os) (λ _ e. refl)
+    (λ _. cond_both (object == 0) (Settled (done (changed i n (unkeyed o) os))) (WantsKey n object) (ResolutionKeeps os) (λ _ e. absurd (let h : Answered answers.Done ≡ Panicked = e in cc)) (λ _. tt))
 
 key_keeps : (os : List NumberedOperation) (i n : ℕ) (key : ObjectKey) (o : Option CryptoOperation) → operation_at os i n ≡ o → KeepsAtPanic os (key_set os i n key o)
 key_keeps os i n key None found e = refl
@@ -127,9 +128,9 @@ key_keeps os i n key (Some o) found e = placed os i n o (done_by (set_key_answer
 in_state : (s : CryptoState) (e : Effect (List NumberedOperation)) → KeepsAtPanic s.operations e → KeepsAtPanic s (effect_in (with_operations s) e)
 in_state s e keeps told = ap (λ (os : List NumberedOperation). with_operations s os) (keeps told)
 
-course_in_state : (s : CryptoState) (c : Course (List NumberedOperation)) → CourseKeeps s.operations c → CourseKeeps s (course_in (with_operations s) c)
-course_in_state s (Settled effect) keeps = in_state s effect keeps
-course_in_state s (WantsKey op object) keeps = tt
+resolution_in_state : (s : CryptoState) (c : Resolution (List NumberedOperation)) → ResolutionKeeps s.operations c → ResolutionKeeps s (resolution_in (with_operations s) c)
+resolution_in_state s (Settled effect) keeps = in_state s effect keeps
+resolution_in_state s (WantsKey op object) keeps = tt
 
 random_keeps : (s : CryptoState) (count : ℕ) → KeepsAtPanic s.random (random_effect s.random count)
 random_keeps s count =
@@ -137,25 +138,25 @@ random_keeps s count =
     (λ e. absurd (let h : Answered (answers.Content (random_from s.random count)) ≡ Panicked = e in cc))
 
 -- an ask that panics leaves the operations and the stream as they were
-pub course_keeps : (s : CryptoState) (i : ℕ) (ask : Ask) → CourseKeeps s (operation_course s i ask)
-unfolding operation_course
-course_keeps s i (asked.Random count) = λ e. ap (λ (r : ChaCha). record s { random = r }) (random_keeps s count e)
-course_keeps s i (asked.OpNew alg mode max_bits) = in_state s _ (refusal_keeps s.operations i (allocated alg mode max_bits))
-course_keeps s i (asked.OpFree op) = in_state s _ (free_keeps s.operations i op)
-course_keeps s i (asked.OpSetKey op object) = course_in_state s _ (set_keeps s.operations i op object (operation_at s.operations i op))
-course_keeps s i (asked.OpCopy to from) = in_state s _ (copy_keeps s.operations i to (operation_at s.operations i to) (operation_at s.operations i from) refl)
-course_keeps s i (asked.OpInfo op) = in_state s _ (on_keeps s.operations i op (asked.OpInfo op) (operation_at s.operations i op) refl)
-course_keeps s i (asked.OpReset op) = in_state s _ (on_keeps s.operations i op (asked.OpReset op) (operation_at s.operations i op) refl)
-course_keeps s i (asked.CipherInit op iv) = in_state s _ (on_keeps s.operations i op (asked.CipherInit op iv) (operation_at s.operations i op) refl)
-course_keeps s i (asked.CipherUpdate op bytes room) = in_state s _ (on_keeps s.operations i op (asked.CipherUpdate op bytes room) (operation_at s.operations i op) refl)
-course_keeps s i (asked.CipherFinal op bytes room) = in_state s _ (on_keeps s.operations i op (asked.CipherFinal op bytes room) (operation_at s.operations i op) refl)
-course_keeps s i (asked.MacInit op) = in_state s _ (on_keeps s.operations i op (asked.MacInit op) (operation_at s.operations i op) refl)
-course_keeps s i (asked.MacUpdate op bytes) = in_state s _ (on_keeps s.operations i op (asked.MacUpdate op bytes) (operation_at s.operations i op) refl)
-course_keeps s i (asked.MacFinal op bytes room) = in_state s _ (on_keeps s.operations i op (asked.MacFinal op bytes room) (operation_at s.operations i op) refl)
-course_keeps s i (asked.MacCompare op bytes mac) = in_state s _ (on_keeps s.operations i op (asked.MacCompare op bytes mac) (operation_at s.operations i op) refl)
-course_keeps s i (asked.DigestUpdate op bytes) = in_state s _ (on_keeps s.operations i op (asked.DigestUpdate op bytes) (operation_at s.operations i op) refl)
-course_keeps s i (asked.DigestFinal op bytes room) = in_state s _ (on_keeps s.operations i op (asked.DigestFinal op bytes room) (operation_at s.operations i op) refl)
-course_keeps s i ask = λ e. refl
+pub resolution_keeps : (s : CryptoState) (i : ℕ) (ask : Ask) → ResolutionKeeps s (operation_resolution s i ask)
+unfolding operation_resolution
+resolution_keeps s i (asked.Random count) = λ e. ap (λ (r : ChaCha). record s { random = r }) (random_keeps s count e)
+resolution_keeps s i (asked.OpNew alg mode max_bits) = in_state s _ (refusal_keeps s.operations i (allocated alg mode max_bits))
+resolution_keeps s i (asked.OpFree op) = in_state s _ (free_keeps s.operations i op)
+resolution_keeps s i (asked.OpSetKey op object) = resolution_in_state s _ (set_keeps s.operations i op object (operation_at s.operations i op))
+resolution_keeps s i (asked.OpCopy to from) = in_state s _ (copy_keeps s.operations i to (operation_at s.operations i to) (operation_at s.operations i from) refl)
+resolution_keeps s i (asked.OpInfo op) = in_state s _ (on_keeps s.operations i op (asked.OpInfo op) (operation_at s.operations i op) refl)
+resolution_keeps s i (asked.OpReset op) = in_state s _ (on_keeps s.operations i op (asked.OpReset op) (operation_at s.operations i op) refl)
+resolution_keeps s i (asked.CipherInit op iv) = in_state s _ (on_keeps s.operations i op (asked.CipherInit op iv) (operation_at s.operations i op) refl)
+resolution_keeps s i (asked.CipherUpdate op bytes room) = in_state s _ (on_keeps s.operations i op (asked.CipherUpdate op bytes room) (operation_at s.operations i op) refl)
+resolution_keeps s i (asked.CipherFinal op bytes room) = in_state s _ (on_keeps s.operations i op (asked.CipherFinal op bytes room) (operation_at s.operations i op) refl)
+resolution_keeps s i (asked.MacInit op) = in_state s _ (on_keeps s.operations i op (asked.MacInit op) (operation_at s.operations i op) refl)
+resolution_keeps s i (asked.MacUpdate op bytes) = in_state s _ (on_keeps s.operations i op (asked.MacUpdate op bytes) (operation_at s.operations i op) refl)
+resolution_keeps s i (asked.MacFinal op bytes room) = in_state s _ (on_keeps s.operations i op (asked.MacFinal op bytes room) (operation_at s.operations i op) refl)
+resolution_keeps s i (asked.MacCompare op bytes mac) = in_state s _ (on_keeps s.operations i op (asked.MacCompare op bytes mac) (operation_at s.operations i op) refl)
+resolution_keeps s i (asked.DigestUpdate op bytes) = in_state s _ (on_keeps s.operations i op (asked.DigestUpdate op bytes) (operation_at s.operations i op) refl)
+resolution_keeps s i (asked.DigestFinal op bytes room) = in_state s _ (on_keeps s.operations i op (asked.DigestFinal op bytes room) (operation_at s.operations i op) refl)
+resolution_keeps s i ask = λ e. refl
 
 -- so does the rest of an ask for a key
 pub key_effect_keeps : (s : CryptoState) (i op : ℕ) (given : KeyGiven) → KeepsAtPanic s (key_effect s i op given)

@@ -27,14 +27,14 @@ abbrev pub no_operations : List ℕ → ℕ → ℕ → CryptoState
 no_operations seed application boot = record { operations = []; random = stream_at seed application boot 0 }
 
 -- how an ask goes: its effect is settled; or the key of this object decides, with which this operation is to be given a key
-pub data Course (S : Type 0) : Type 0 where
-  Settled : (effect : Effect S) → Course S
-  WantsKey : (op object : ℕ) → Course S
+pub data Resolution (S : Type 0) : Type 0 where
+  Settled : (effect : Effect S) → Resolution S
+  WantsKey : (op object : ℕ) → Resolution S
 
 -- the same of a larger whole, whose part this is
-abbrev pub course_in : {S W : Type 0} → (S → W) → Course S → Course W
-course_in put (Settled effect) = Settled (effect_in put effect)
-course_in put (WantsKey op object) = WantsKey op object
+abbrev pub resolution_in : {S W : Type 0} → (S → W) → Resolution S → Resolution W
+resolution_in put (Settled effect) = Settled (effect_in put effect)
+resolution_in put (WantsKey op object) = WantsKey op object
 
 -- other operations of the application
 abbrev pub with_operations : CryptoState → List NumberedOperation → CryptoState
@@ -90,7 +90,7 @@ copy_effect os i to from = copy_between os i to (operation_at os i to) (operatio
 
 -- OpSetKey before an object is looked at: the operation is no digest and not active; object 0 takes the key away, and the key of
 -- any other decides
-abbrev pub set_key_on : List NumberedOperation → ℕ → ℕ → ℕ → Option CryptoOperation → Course (List NumberedOperation)
+abbrev pub set_key_on : List NumberedOperation → ℕ → ℕ → ℕ → Option CryptoOperation → Resolution (List NumberedOperation)
 set_key_on os i op object None = Settled (panicked os)
 set_key_on os i op object (Some o) =
     if not (may_change_key o) then Settled (panicked os)
@@ -98,8 +98,8 @@ set_key_on os i op object (Some o) =
     else WantsKey op object
 
 -- OpSetKey before an object is looked at, over the number that the application gives
-abbrev pub set_key_course : List NumberedOperation → ℕ → ℕ → ℕ → Course (List NumberedOperation)
-set_key_course os i op object = set_key_on os i op object (operation_at os i op)
+abbrev pub set_key_resolution : List NumberedOperation → ℕ → ℕ → ℕ → Resolution (List NumberedOperation)
+set_key_resolution os i op object = set_key_on os i op object (operation_at os i op)
 
 -- OpSetKey over the key that the object gives: of the operation's kind, of a size that fits and isn't above the greatest, with the
 -- usage that the mode needs
@@ -126,47 +126,47 @@ random_effect stream count =
 -- ---- the family
 
 -- how an ask goes that touches operations alone
-abbrev pub of_operations : CryptoState → Effect (List NumberedOperation) → Course CryptoState
+abbrev pub of_operations : CryptoState → Effect (List NumberedOperation) → Resolution CryptoState
 of_operations s effect = Settled (effect_in (with_operations s) effect)
 
 -- how an ask goes that touches the random stream alone
-abbrev pub of_random : CryptoState → Effect ChaCha → Course CryptoState
+abbrev pub of_random : CryptoState → Effect ChaCha → Resolution CryptoState
 of_random s effect = Settled (effect_in (λ random. record s { random = random }) effect)
 
 -- how an ask goes; an ask of another family doesn't come here
-unfoldable pub operation_course : CryptoState → ℕ → Ask → Course CryptoState
-operation_course s i (asked.Random count) = of_random s (random_effect s.random count)
-operation_course s i (asked.OpNew alg mode max_bits) = of_operations s (new_effect s.operations i alg mode max_bits)
-operation_course s i (asked.OpFree op) = of_operations s (free_effect s.operations i op)
-operation_course s i (asked.OpInfo op) = of_operations s (on_operation s.operations i op (asked.OpInfo op))
-operation_course s i (asked.OpReset op) = of_operations s (on_operation s.operations i op (asked.OpReset op))
-operation_course s i (asked.OpSetKey op object) = course_in (with_operations s) (set_key_course s.operations i op object)
-operation_course s i (asked.OpCopy to from) = of_operations s (copy_effect s.operations i to from)
-operation_course s i (asked.CipherInit op iv) = of_operations s (on_operation s.operations i op (asked.CipherInit op iv))
-operation_course s i (asked.CipherUpdate op bytes room) =
+unfoldable pub operation_resolution : CryptoState → ℕ → Ask → Resolution CryptoState
+operation_resolution s i (asked.Random count) = of_random s (random_effect s.random count)
+operation_resolution s i (asked.OpNew alg mode max_bits) = of_operations s (new_effect s.operations i alg mode max_bits)
+operation_resolution s i (asked.OpFree op) = of_operations s (free_effect s.operations i op)
+operation_resolution s i (asked.OpInfo op) = of_operations s (on_operation s.operations i op (asked.OpInfo op))
+operation_resolution s i (asked.OpReset op) = of_operations s (on_operation s.operations i op (asked.OpReset op))
+operation_resolution s i (asked.OpSetKey op object) = resolution_in (with_operations s) (set_key_resolution s.operations i op object)
+operation_resolution s i (asked.OpCopy to from) = of_operations s (copy_effect s.operations i to from)
+operation_resolution s i (asked.CipherInit op iv) = of_operations s (on_operation s.operations i op (asked.CipherInit op iv))
+operation_resolution s i (asked.CipherUpdate op bytes room) =
     of_operations s (on_operation s.operations i op (asked.CipherUpdate op bytes room))
-operation_course s i (asked.CipherFinal op bytes room) =
+operation_resolution s i (asked.CipherFinal op bytes room) =
     of_operations s (on_operation s.operations i op (asked.CipherFinal op bytes room))
-operation_course s i (asked.MacInit op) = of_operations s (on_operation s.operations i op (asked.MacInit op))
-operation_course s i (asked.MacUpdate op bytes) = of_operations s (on_operation s.operations i op (asked.MacUpdate op bytes))
-operation_course s i (asked.MacFinal op bytes room) =
+operation_resolution s i (asked.MacInit op) = of_operations s (on_operation s.operations i op (asked.MacInit op))
+operation_resolution s i (asked.MacUpdate op bytes) = of_operations s (on_operation s.operations i op (asked.MacUpdate op bytes))
+operation_resolution s i (asked.MacFinal op bytes room) =
     of_operations s (on_operation s.operations i op (asked.MacFinal op bytes room))
-operation_course s i (asked.MacCompare op bytes mac) =
+operation_resolution s i (asked.MacCompare op bytes mac) =
     of_operations s (on_operation s.operations i op (asked.MacCompare op bytes mac))
-operation_course s i (asked.DigestUpdate op bytes) =
+operation_resolution s i (asked.DigestUpdate op bytes) =
     of_operations s (on_operation s.operations i op (asked.DigestUpdate op bytes))
-operation_course s i (asked.DigestFinal op bytes room) =
+operation_resolution s i (asked.DigestFinal op bytes room) =
     of_operations s (on_operation s.operations i op (asked.DigestFinal op bytes room))
-operation_course s i ask = Settled (panicked s)
+operation_resolution s i ask = Settled (panicked s)
 
--- what comes of a course, where key_of is what the object of a number gives
-abbrev pub came_of : CryptoState → ℕ → (ℕ → KeyGiven) → Course CryptoState → Effect CryptoState
+-- what comes of a resolution, where key_of is what the object of a number gives
+abbrev pub came_of : CryptoState → ℕ → (ℕ → KeyGiven) → Resolution CryptoState → Effect CryptoState
 came_of s i key_of (Settled effect) = effect
 came_of s i key_of (WantsKey op object) = effect_in (with_operations s) (set_key_effect s.operations i op (key_of object))
 
 -- an ask as a whole
 abbrev pub operation_effect : CryptoState → ℕ → (ℕ → KeyGiven) → Ask → Effect CryptoState
-operation_effect s i key_of ask = came_of s i key_of (operation_course s i ask)
+operation_effect s i key_of ask = came_of s i key_of (operation_resolution s i ask)
 
 -- an instance ends: its operations go
 abbrev pub instance_ended : CryptoState → ℕ → CryptoState

@@ -6,7 +6,8 @@ use Rattle.app_api.specs.declared.ask.Ask.TheVariants as asked
 use Rattle.app_api.specs.declared.ask.Answer.{Answer}
 use Rattle.app_api.specs.declared.ask.Answer.TheVariants as answers
 use Rattle.crypto_ops.specs.declared.about.OpAbout.{OpAbout}
-use Rattle.crypto_ops.specs.Operations.{CryptoOperation, about_of, reset_answer, restarted, cipher_init_answer, cipher_begun, cipher_update_answer, cipher_final_answer, continued, mac_init_answer, mac_begun, mac_update_answer, mac_final_answer, mac_compare_answer, compared, digest_update_answer, digest_final_answer}
+use Rattle.crypto_ops.specs.Operations.{CryptoOperation, about_of, reset_answer, restarted, cipher_init_answer, cipher_begun, cipher_update_answer, cipher_final_answer, continued}
+use Rattle.crypto_ops.specs.Operations.{mac_init_answer, mac_begun, mac_update_answer, mac_final_answer, mac_compare_answer, compared, digest_update_answer, digest_final_answer}
 use Rattle.operation_asks.specs.Effects.{Effect, answered, panicked, told_done, done_by, content_by}
 
 -- the answer that tells of an operation

@@ -5,7 +5,7 @@ use Rattle.operation_asks.specs.declared.past.Did.{Did}
 use Rattle.operation_asks.specs.declared.past.Did.TheVariants.{Began, Asked, KeySet, Drew, Ended}
 use Rattle.operation_asks.specs.declared.outcome.KeyGiven.{KeyGiven}
 use Rattle.operation_asks.specs.Represents.{left_by}
-use Rattle.operation_asks.specs.Asks.{CryptoState, no_operations, operation_course, set_key_effect, with_operations, instance_ended}
+use Rattle.operation_asks.specs.Asks.{CryptoState, no_operations, operation_resolution, set_key_effect, with_operations, instance_ended}
 use Rattle.operation_asks.specs.Effects.{Effect, effect_in}
 
 -- the rest of an ask for a key, over what the object gives
@@ -19,7 +19,7 @@ drawn s count = record s { random = moved s.random count }
 -- what one thing that was done leaves
 abbrev pub after_one : Did → CryptoState → CryptoState
 after_one (Began seed application boot) s = no_operations seed.value application boot
-after_one (Asked instance ask) s = left_by s (operation_course s instance ask.value)
+after_one (Asked instance ask) s = left_by s (operation_resolution s instance ask.value)
 after_one (KeySet instance op given) s = (key_effect s instance op given.value).after
 after_one (Drew count) s = drawn s count
 after_one (Ended instance) s = instance_ended s instance

@@ -2,14 +2,14 @@
 use Rattle.std.specs.Prelude.{ℕ, ◌≡◌, ◌==◌, ◌&&◌, Bool, List}
 use Rattle.std.specs.List.{AllZip}
 use Rattle.crypto_ops.specs.Represents as operations
-use Rattle.operation_asks.specs.declared.outcome.Asked.{Asked}
-use Rattle.operation_asks.specs.declared.outcome.Asked.TheVariants as asked
+use Rattle.operation_asks.specs.declared.outcome.CryptoOutcome.{CryptoOutcome}
+use Rattle.operation_asks.specs.declared.outcome.CryptoOutcome.TheVariants as asked
 use Rattle.operation_asks.specs.declared.outcome.Outcome.{Outcome}
 use Rattle.operation_asks.specs.declared.table.Entry.{Entry}
 use Rattle.operation_asks.specs.declared.crypto.Crypto.{Crypto}
 use Rattle.operation_asks.specs.Effects.{Effect}
 use Rattle.operation_asks.specs.Table.{NumberedOperation}
-use Rattle.operation_asks.specs.Asks.{CryptoState, Course, Settled, WantsKey}
+use Rattle.operation_asks.specs.Asks.{CryptoState, Resolution, Settled, WantsKey}
 
 -- the value is this operation, of this instance and number
 pub record IsEntry (value : Entry) (o : NumberedOperation) : Type 0 where
@@ -39,17 +39,17 @@ pub record IsEffect {V : Type 0} {S : Type 0} (IsValue : V → S → Type 0) (to
   pub told_is : told ≡ effect.told
   pub leaves : IsValue new effect.after
 
--- what is told of a course
-abbrev pub told_by : {S : Type 0} → Course S → Asked
+-- what is told of a resolution
+abbrev pub told_by : {S : Type 0} → Resolution S → CryptoOutcome
 told_by (Settled effect) = asked.Settled effect.told
 told_by (WantsKey op object) = asked.WantsKey op object
 
 -- what it leaves of this state
-abbrev pub left_by : {S : Type 0} → S → Course S → S
+abbrev pub left_by : {S : Type 0} → S → Resolution S → S
 left_by s (Settled effect) = effect.after
 left_by s (WantsKey op object) = s
 
--- it was told as stated, and the value is what the course leaves
-pub record IsCourse {V : Type 0} {S : Type 0} (IsValue : V → S → Type 0) (told : Asked) (course : Course S) (old : S) (new : V) : Type 0 where
-  pub told_is : told ≡ told_by course
-  pub leaves : IsValue new (left_by old course)
+-- it was told as stated, and the value is what the resolution leaves
+pub record IsResolution {V : Type 0} {S : Type 0} (IsValue : V → S → Type 0) (told : CryptoOutcome) (resolution : Resolution S) (old : S) (new : V) : Type 0 where
+  pub told_is : told ≡ told_by resolution
+  pub leaves : IsValue new (left_by old resolution)

@@ -1,7 +1,7 @@
 -- The operations of one application, of all its instances, by their numbers (TEE Internal Core API 1.3, section 6.2).
 use Rattle.std.specs.Prelude.{ℕ, ◌==◌, nat_le, Bool, not, ◌&&◌, List, [], ◌∷◌, ◌++◌, Option, option_map, if◌then◌else◌, find, filter, map, count_by}
 use Rattle.tee_base.specs.Numbers.{lowest_free}
-use Rattle.tee_base.specs.declared.limits.TheConstants.{CRYPTO_OPERATIONS}
+use Rattle.tee_base.specs.declared.limits.TheConstants.{MAX_CRYPTO_OPERATIONS}
 use Rattle.crypto_ops.specs.Operations.{CryptoOperation}
 
 -- an operation with its instance and its number
@@ -24,7 +24,7 @@ operation_at operations instance number = option_map (λ o. o.operation) (find (
 
 -- the instance has as many operations as it may have
 abbrev pub is_full : List NumberedOperation → ℕ → Bool
-is_full operations instance = nat_le CRYPTO_OPERATIONS (count_by (is_of instance) operations)
+is_full operations instance = nat_le MAX_CRYPTO_OPERATIONS (count_by (is_of instance) operations)
 
 -- the lowest number of the instance that is free
 abbrev pub free_number : List NumberedOperation → ℕ → ℕ

@@ -1,6 +1,6 @@
 //! The operations and the random stream of one application.
 
-use crate::outcome::{Asked, KeyGiven, Outcome};
+use crate::outcome::{CryptoOutcome, KeyGiven, Outcome};
 use crate::table::{self, Entry};
 use app_api::{Answer, Ask};
 use crypto_ops::Stream;
@@ -17,9 +17,9 @@ pub struct Crypto {
 impl Crypto {
     ghost use Rattle.std.specs.Prelude.{◌≡◌, ℕ, IfOk, OnOk, OnErr};
     ghost use Rattle.crypto_ops.specs.Random.{random_from, moved};
-    ghost use Rattle.operation_asks.specs.Asks.{CryptoState, no_operations, of_operations, of_random, random_effect, new_effect, free_effect, on_operation, copy_effect, course_in, set_key_course, set_key_effect, with_operations, operation_course, instance_ended};
+    ghost use Rattle.operation_asks.specs.Asks.{CryptoState, no_operations, of_operations, of_random, random_effect, new_effect, free_effect, on_operation, copy_effect, resolution_in, set_key_resolution, set_key_effect, with_operations, operation_resolution, instance_ended};
     ghost use Rattle.operation_asks.specs.Effects.{effect_in};
-    ghost use Rattle.operation_asks.specs.Represents.{Represents, IsCourse, IsEffect};
+    ghost use Rattle.operation_asks.specs.Represents.{Represents, IsResolution, IsEffect};
 
     /// No operations, and the stream of the application in this boot at its first word. It takes no memory.
     pub fn new(alloc: Global, seed: [u8; 32], application: u8, boot: u32) -> Crypto
@@ -37,11 +37,16 @@ impl Crypto {
     /// # Errors
     ///
     /// NoMemory changes nothing, and takes no word of the random stream.
-    #[tactic(auto, unfolding(crate::specs::Asks::operation_course))]
-    pub fn serve(&mut self, alloc: Global, instance: u8, ask: Ask) -> Result<Asked, NoMemory>
+    #[tactic(auto, unfolding(crate::specs::Asks::operation_resolution))]
+    pub fn serve(
+        &mut self,
+        alloc: Global,
+        instance: u8,
+        ask: Ask,
+    ) -> Result<CryptoOutcome, NoMemory>
         ensures served { (s : CryptoState) → Represents self.old s
             → IfOk result (λ told.
-            IsCourse Represents told (operation_course s instance ask) s self.new) }
+            IsResolution Represents told (operation_resolution s instance ask) s self.new) }
         ensures want { (s : CryptoState) → Represents self.old s
             → OnErr result (Represents self.new s) }
     {
@@ -66,7 +71,7 @@ impl Crypto {
             Ask::MacCompare { op, .. } => self.on_operation(alloc, instance, *op, &ask),
             Ask::DigestUpdate { op, .. } => self.on_operation(alloc, instance, *op, &ask),
             Ask::DigestFinal { op, .. } => self.on_operation(alloc, instance, *op, &ask),
-            _ => Ok(Asked::Settled(Outcome::Panicked)),
+            _ => Ok(CryptoOutcome::Settled(Outcome::Panicked)),
         }
     }
 
@@ -105,18 +110,18 @@ impl Crypto {
         table::free_all(&mut self.operations, instance);
     }
 
-    fn random(&mut self, alloc: Global, count: u32) -> Result<Asked, NoMemory>
+    fn random(&mut self, alloc: Global, count: u32) -> Result<CryptoOutcome, NoMemory>
         ensures served { (s : CryptoState) → Represents self.old s
             → IfOk result (λ told.
-            IsCourse Represents told (of_random s (random_effect s.random count)) s self.new) }
+            IsResolution Represents told (of_random s (random_effect s.random count)) s self.new) }
         ensures want { (s : CryptoState) → Represents self.old s
             → OnErr result (Represents self.new s) }
     {
-        if count > limits::ASK_BYTES {
-            return Ok(Asked::Settled(Outcome::Panicked));
+        if count > limits::MAX_ASK_BYTES {
+            return Ok(CryptoOutcome::Settled(Outcome::Panicked));
         }
         let bytes = self.random.take(alloc, count)?;
-        Ok(Asked::Settled(Outcome::Answered(Answer::Content(bytes))))
+        Ok(CryptoOutcome::Settled(Outcome::Answered(Answer::Content(bytes))))
     }
 
     fn create(
@@ -125,24 +130,24 @@ impl Crypto {
         alg: u32,
         mode: u32,
         max_bits: u32,
-    ) -> Result<Asked, NoMemory>
+    ) -> Result<CryptoOutcome, NoMemory>
         ensures served { (s : CryptoState) → Represents self.old s
             → IfOk result (λ told.
-            IsCourse Represents told (of_operations s
+            IsResolution Represents told (of_operations s
             (new_effect s.operations instance alg mode max_bits)) s self.new) }
         ensures want { (s : CryptoState) → Represents self.old s
             → OnErr result (Represents self.new s) }
     {
         let outcome = table::create(&mut self.operations, instance, alg, mode, max_bits)?;
-        Ok(Asked::Settled(outcome))
+        Ok(CryptoOutcome::Settled(outcome))
     }
 
-    fn free(&mut self, instance: u8, op: u32) -> Asked
+    fn free(&mut self, instance: u8, op: u32) -> CryptoOutcome
         ensures { (s : CryptoState) → Represents self.old s
-            → IsCourse Represents result
+            → IsResolution Represents result
             (of_operations s (free_effect s.operations instance op)) s self.new }
     {
-        Asked::Settled(table::free(&mut self.operations, instance, op))
+        CryptoOutcome::Settled(table::free(&mut self.operations, instance, op))
     }
 
     fn on_operation(
@@ -151,31 +156,31 @@ impl Crypto {
         instance: u8,
         op: u32,
         ask: &Ask,
-    ) -> Result<Asked, NoMemory>
+    ) -> Result<CryptoOutcome, NoMemory>
         ensures served { (s : CryptoState) → Represents self.old s
             → IfOk result (λ told.
-            IsCourse Represents told (of_operations s
+            IsResolution Represents told (of_operations s
             (on_operation s.operations instance op ask.now)) s self.new) }
         ensures want { (s : CryptoState) → Represents self.old s
             → OnErr result (Represents self.new s) }
     {
         let outcome = table::serve_one(alloc, &mut self.operations, instance, op, ask)?;
-        Ok(Asked::Settled(outcome))
+        Ok(CryptoOutcome::Settled(outcome))
     }
 
-    fn copy(&mut self, instance: u8, to: u32, from: u32) -> Asked
+    fn copy(&mut self, instance: u8, to: u32, from: u32) -> CryptoOutcome
         ensures { (s : CryptoState) → Represents self.old s
-            → IsCourse Represents result
+            → IsResolution Represents result
             (of_operations s (copy_effect s.operations instance to from)) s self.new }
     {
-        Asked::Settled(table::copy(&mut self.operations, instance, to, from))
+        CryptoOutcome::Settled(table::copy(&mut self.operations, instance, to, from))
     }
 
-    fn begin_set_key(&mut self, instance: u8, op: u32, object: u32) -> Asked
+    fn begin_set_key(&mut self, instance: u8, op: u32, object: u32) -> CryptoOutcome
         ensures { (s : CryptoState) → Represents self.old s
-            → IsCourse Represents result
-            (course_in (with_operations s)
-            (set_key_course s.operations instance op object)) s self.new }
+            → IsResolution Represents result
+            (resolution_in (with_operations s)
+            (set_key_resolution s.operations instance op object)) s self.new }
     {
         table::begin_set_key(&mut self.operations, instance, op, object)
     }

@@ -11,4 +11,4 @@ mod table;
 mod tests;
 
 pub use operations::Operations;
-pub use outcome::{Asked, KeyGiven, Outcome};
+pub use outcome::{CryptoOutcome, KeyGiven, Outcome};

@@ -4,7 +4,7 @@ ghost use Rattle.operation_asks.specs.Past.{state_after};
 ghost use Rattle.operation_asks.specs.Represents.{Represents};
 
 use crate::crypto::Crypto;
-use crate::outcome::{Asked, KeyGiven, Outcome};
+use crate::outcome::{CryptoOutcome, KeyGiven, Outcome};
 use crate::past::{Did, Past};
 use app_api::Ask;
 use std::alloc::Global;
@@ -23,7 +23,7 @@ pub struct Operations {
 impl Operations {
     ghost use Rattle.std.specs.Prelude.{◌≡◌, IfOk, OnOk, OnErr};
     ghost use Rattle.crypto_ops.specs.Random.{random_from};
-    ghost use Rattle.operation_asks.specs.Asks.{no_operations, operation_course, instance_ended};
+    ghost use Rattle.operation_asks.specs.Asks.{no_operations, operation_resolution, instance_ended};
     ghost use Rattle.operation_asks.specs.Kept.{state_of};
     ghost use Rattle.operation_asks.specs.Past.{drawn, key_effect};
     ghost use Rattle.operation_asks.specs.Represents.{told_by, left_by};
@@ -49,11 +49,16 @@ impl Operations {
     /// # Errors
     ///
     /// NoMemory changes nothing, and takes no word of the random stream.
-    pub fn serve(&mut self, alloc: Global, instance: u8, ask: Ask) -> Result<Asked, NoMemory>
+    pub fn serve(
+        &mut self,
+        alloc: Global,
+        instance: u8,
+        ask: Ask,
+    ) -> Result<CryptoOutcome, NoMemory>
         ensures told { IfOk result (λ told.
-            told ≡ told_by (operation_course (state_of self.old) instance ask)) }
+            told ≡ told_by (operation_resolution (state_of self.old) instance ask)) }
         ensures left { OnOk result (state_of self.new
-            ≡ left_by (state_of self.old) (operation_course (state_of self.old) instance ask)) }
+            ≡ left_by (state_of self.old) (operation_resolution (state_of self.old) instance ask)) }
         ensures want { OnErr result (state_of self.new ≡ state_of self.old) }
     {
         let asked = Did::Asked {

@@ -21,7 +21,7 @@ pub enum Outcome {
 
 /// How an ask went.
 #[derive(Debug, Drop)]
-pub enum Asked {
+pub enum CryptoOutcome {
     /// It was served.
     Settled(Outcome),
     /// The key of this object decides, by `Crypto::set_key`. Nothing has changed.

@@ -1,19 +1,19 @@
 //! The operations of all instances, by their numbers: the asks that make, end, copy and use them.
 
 ghost use Rattle.std.specs.Prelude.{ℕ, ◌≡◌, ◌≤◌, ◌<◌, ◌≢◌, ◌++◌, ◌∷◌, [], List, IfOk, OnErr, count_by, filter, map, not, position, length};
-ghost use Rattle.tee_base.specs.declared.limits.TheConstants.{CRYPTO_OPERATIONS};
+ghost use Rattle.tee_base.specs.declared.limits.TheConstants.{MAX_CRYPTO_OPERATIONS};
 ghost use Rattle.tee_base.specs.Numbers.{lowest_free};
 ghost use Rattle.operation_asks.specs.Table.{NumberedOperation, operation_at, all_freed};
-ghost use Rattle.operation_asks.specs.Asks.{set_key_course, key_set, new_effect, free_effect, on_operation, copy_effect, set_key_effect};
-ghost use Rattle.operation_asks.specs.Represents.{AreOperations, IsEffect, IsCourse, has_number, has_instance};
+ghost use Rattle.operation_asks.specs.Asks.{set_key_resolution, key_set, new_effect, free_effect, on_operation, copy_effect, set_key_effect};
+ghost use Rattle.operation_asks.specs.Represents.{AreOperations, IsEffect, IsResolution, has_number, has_instance};
 
 use crate::one;
-use crate::outcome::{Asked, KeyGiven, Outcome, done, refused, told_done, told_refusal};
+use crate::outcome::{CryptoOutcome, KeyGiven, Outcome, done, refused, told_done, told_refusal};
 use app_api::{Answer, Ask};
 use arrayvec::ArrayVec;
 use crypto_ops::Operation;
 use std::alloc::Global;
-use tee_base::limits::CRYPTO_OPERATIONS;
+use tee_base::limits::MAX_CRYPTO_OPERATIONS;
 use tee_base::{Code, NoMemory, find_lowest_free};
 use transient_obj::ObjectKey;
 
@@ -53,11 +53,11 @@ pub fn place_of(entries: &[Entry], instance: u8, number: u32) -> Option<usize>
 
 /// The lowest number of the instance that is free.
 fn free_number(entries: &[Entry], instance: u8) -> u8
-    requires { count_by (has_instance instance) entries.now ≤ CRYPTO_OPERATIONS }
+    requires { count_by (has_instance instance) entries.now ≤ MAX_CRYPTO_OPERATIONS }
     ensures { result ≡ lowest_free
         (map (λ e. e.number) (filter (has_instance instance) entries.now)) }
 {
-    let mut taken = ArrayVec::<u8, CRYPTO_OPERATIONS>::new();
+    let mut taken = ArrayVec::<u8, MAX_CRYPTO_OPERATIONS>::new();
     for entry in entries {
         if entry.instance == instance {
             taken.push(entry.number);
@@ -83,7 +83,7 @@ pub fn create(
         Ok(operation) => operation,
         Err(answer) => return Ok(told_refusal(answer)),
     };
-    if count_of(entries.as_slice(), instance) >= CRYPTO_OPERATIONS {
+    if count_of(entries.as_slice(), instance) >= MAX_CRYPTO_OPERATIONS {
         return Ok(refused(Code::BUSY));
     }
     let number = free_number(entries.as_slice(), instance);
@@ -184,21 +184,21 @@ fn copy_between(entries: &mut [Entry], target: usize, source: usize) -> Outcome
 }
 
 /// Takes the key of the instance's operation away, or says that the key of the object decides.
-pub fn begin_set_key(entries: &mut Vec<Entry>, instance: u8, op: u32, object: u32) -> Asked
+pub fn begin_set_key(entries: &mut Vec<Entry>, instance: u8, op: u32, object: u32) -> CryptoOutcome
     ensures { (os : List NumberedOperation) → AreOperations entries.old.items os
-        → IsCourse AreOperations result
-        (set_key_course os instance op object) os entries.new.items }
+        → IsResolution AreOperations result
+        (set_key_resolution os instance op object) os entries.new.items }
 {
     let Some(place) = place_of(entries.as_slice(), instance, op) else {
-        return Asked::Settled(Outcome::Panicked);
+        return CryptoOutcome::Settled(Outcome::Panicked);
     };
     if !entries[place].operation.may_change_key() {
-        return Asked::Settled(Outcome::Panicked);
+        return CryptoOutcome::Settled(Outcome::Panicked);
     }
     if object != 0 {
-        return Asked::WantsKey { op, object };
+        return CryptoOutcome::WantsKey { op, object };
     }
-    Asked::Settled(told_done(entries[place].operation.clear_key()))
+    CryptoOutcome::Settled(told_done(entries[place].operation.clear_key()))
 }
 
 /// Gives the instance's operation this key.

@@ -1,6 +1,6 @@
 //! Each ask with an Ok, with each refusal and with each misuse; published vectors in pieces.
 
-use crate::{Asked, KeyGiven, Operations, Outcome};
+use crate::{CryptoOutcome, KeyGiven, Operations, Outcome};
 use app_api::{Answer, Ask};
 use std::alloc::Global;
 use std::process::Abort;
@@ -132,7 +132,7 @@ fn served(
     crypto: &mut Operations,
     instance: u8,
     what: Do<'_>,
-) -> Result<Asked, Fail> {
+) -> Result<CryptoOutcome, Fail> {
     match what {
         Do::Key(op, kind, usage, secret) => {
             assert!(rt; secret.len() <= 128);
@@ -141,12 +141,12 @@ fn served(
                 usage,
                 secret: Secret::from_slice(secret),
             };
-            Ok(Asked::Settled(crypto.set_key(instance, op, KeyGiven::Key(key))))
+            Ok(CryptoOutcome::Settled(crypto.set_key(instance, op, KeyGiven::Key(key))))
         }
-        Do::NoKey(op) => Ok(Asked::Settled(crypto.set_key(instance, op, KeyGiven::NoKey))),
+        Do::NoKey(op) => Ok(CryptoOutcome::Settled(crypto.set_key(instance, op, KeyGiven::NoKey))),
         Do::Gone(op) => {
             let given = KeyGiven::Refused(Code::STORAGE_NOT_AVAILABLE);
-            Ok(Asked::Settled(crypto.set_key(instance, op, given)))
+            Ok(CryptoOutcome::Settled(crypto.set_key(instance, op, given)))
         }
         _ => {
             let ask = ask(alloc, what)?;
@@ -155,14 +155,16 @@ fn served(
     }
 }
 
-fn shown(asked: &Asked) -> Told<'_> {
+fn shown(asked: &CryptoOutcome) -> Told<'_> {
     match asked {
-        Asked::Settled(Outcome::Answered(Answer::Done)) => Told::Done,
-        Asked::Settled(Outcome::Answered(Answer::Number(number))) => Told::Number(*number),
-        Asked::Settled(Outcome::Answered(Answer::Content(bytes))) => Told::Bytes(bytes.as_slice()),
-        Asked::Settled(Outcome::Answered(Answer::Short(needed))) => Told::Short(*needed),
-        Asked::Settled(Outcome::Answered(Answer::Refused(code))) => Told::Refused(*code),
-        Asked::Settled(
+        CryptoOutcome::Settled(Outcome::Answered(Answer::Done)) => Told::Done,
+        CryptoOutcome::Settled(Outcome::Answered(Answer::Number(number))) => Told::Number(*number),
+        CryptoOutcome::Settled(Outcome::Answered(Answer::Content(bytes))) => Told::Bytes(
+            bytes.as_slice(),
+        ),
+        CryptoOutcome::Settled(Outcome::Answered(Answer::Short(needed))) => Told::Short(*needed),
+        CryptoOutcome::Settled(Outcome::Answered(Answer::Refused(code))) => Told::Refused(*code),
+        CryptoOutcome::Settled(
             Outcome::Answered(
                 Answer::About {
                     alg,
@@ -173,8 +175,8 @@ fn shown(asked: &Asked) -> Told<'_> {
                 },
             ),
         ) => Told::About(*alg, *mode, *max_bits, *key_bits, *active),
-        Asked::Settled(Outcome::Panicked) => Told::Panicked,
-        Asked::WantsKey { op, object } => Told::Wants(*op, *object),
+        CryptoOutcome::Settled(Outcome::Panicked) => Told::Panicked,
+        CryptoOutcome::WantsKey { op, object } => Told::Wants(*op, *object),
         _ => Told::Other,
     }
 }

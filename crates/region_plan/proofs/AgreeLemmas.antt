@@ -1,5 +1,6 @@
 -- Regions that agree on the leaves in use stand for the same store.
-use Rattle.std.proofs.Common.{◌≡◌, ℕ, zero, suc, ◌+◌, ◌-◌, ◌*◌, ◌/◌, ◌%◌, ◌<◌, ◌≤◌, Bool, true, false, cond, not, List, [], ◌∷◌, map, get_or, take, drop, Option, None, Some, Ok, find, refl, sym, ◌∙◌, ap, subst, arith, nat_le}
+use Rattle.std.proofs.Common.{◌≡◌, ℕ, zero, suc, ◌+◌, ◌-◌, ◌*◌, ◌/◌, ◌%◌, ◌<◌, ◌≤◌, Bool, true, false, cond, not, List, [], ◌∷◌, map}
+use Rattle.std.proofs.Common.{get_or, take, drop, Option, None, Some, Ok, find, refl, sym, ◌∙◌, ap, subst, arith, nat_le}
 use Rattle.std.specs.Prelude.{◌&&◌, ◌||◌, ◌==◌, if◌then◌else◌, nat_lt}
 use Rattle.std.specs.List.{range_with_len, filter, list_any, list_all, count_by, All}
 use Rattle.std.specs.Int.{w32, from_le_bytes}
@@ -15,7 +16,8 @@ use Rattle.region_plan.specs.Parts.{part, are_zero}
 use Rattle.region_plan.specs.Entries.{entry_at, entry_of, entry_number, form_of, is_inode, is_data_of, is_data_at, is_well_formed}
 use Rattle.region_plan.specs.Inodes.{four_at, length_in, identifier_in, secret_in, is_inode_leaf}
 use Rattle.region_plan.specs.Laws.{AgreeInUse}
-use Rattle.region_plan.specs.Regions.{numbers, is_doubled, has_one, is_past, has_data, is_padded, breaks, leaf_of, byte_in, byte_at, content_of, object_of, inode_numbers, store_of, first_broken, unless_broken, region_of, data_leaves}
+use Rattle.region_plan.specs.Regions.{numbers, is_doubled, has_one, is_past, has_data, is_padded, breaks, leaf_of, byte_in, byte_at, content_of}
+use Rattle.region_plan.specs.Regions.{object_of, inode_numbers, store_of, first_broken, unless_broken, region_of, data_leaves}
 use Rattle.region_plan.specs.declared.entry.Entry.{Entry}
 use Rattle.region_plan.specs.declared.entry.TheConstants.{INODE, DATA}
 use Rattle.region_plan.specs.declared.inode.TheConstants.{USAGE_AT}
@@ -146,8 +148,10 @@ module _ (L : Layout) (leaves others : ℕ → List ℕ) (agree : AgreeInUse L l
   doubled_same i below is = any_agree _ _ i 0 (λ j le lt.
       let lower : j < L.leaves = omega (arith, below, lt) in
       ap (λ b. b && bytes_eq (identifier_in (others j)) (identifier_in (others i))) (inode_same j lower)
-      ∙ elim (is_inode L leaves j) as (λ b. is_inode L leaves j ≡ b → (b && bytes_eq (identifier_in (others j)) (identifier_in (others i))) ≡ (b && bytes_eq (identifier_in (leaves j)) (identifier_in (leaves i)))) [
-        | true ↦ λ t. ap (λ (x : List ℕ). bytes_eq (identifier_in x) (identifier_in (others i))) (at_inode j lower t) ∙ ap (λ (x : List ℕ). bytes_eq (identifier_in (leaves j)) (identifier_in x)) (at_inode i below is)
+      ∙ elim (is_inode L leaves j) as (λ b. is_inode L leaves j ≡ b → (b && bytes_eq (identifier_in (others j)) (identifier_in (others i))) ≡
+      (b && bytes_eq (identifier_in (leaves j)) (identifier_in (leaves i)))) [
+        | true ↦ λ t. ap (λ (x : List ℕ). bytes_eq (identifier_in x) (identifier_in (others i))) (at_inode j lower t)
+            ∙ ap (λ (x : List ℕ). bytes_eq (identifier_in (leaves j)) (identifier_in x)) (at_inode i below is)
         | false ↦ λ t. refl
       ] refl)
 
@@ -173,7 +177,8 @@ module _ (L : Layout) (leaves others : ℕ → List ℕ) (agree : AgreeInUse L l
   unfolding is_padded
   padded_same i below same owner =
       ap (λ (e : Entry). is_past L others e.inode i || are_zero (drop (length_in (others e.inode) - 1024 * e.index) (take 1024 (others i)))) (entry_same i below)
-      ∙ ap (λ b. b || are_zero (drop (length_in (others (entry_at L leaves i).inode) - 1024 * (entry_at L leaves i).index) (take 1024 (others i)))) (past_same (entry_at L leaves i).inode i owner below)
+      ∙ ap (λ b. b || are_zero (drop (length_in (others (entry_at L leaves i).inode) - 1024 * (entry_at L leaves i).index) (take 1024 (others i))))
+      (past_same (entry_at L leaves i).inode i owner below)
       ∙ ap (λ (x : List ℕ). is_past L leaves (entry_at L leaves i).inode i || are_zero (drop (length_in x - 1024 * (entry_at L leaves i).index) (take 1024 (others i)))) owner
       ∙ ap (λ (x : List ℕ). is_past L leaves (entry_at L leaves i).inode i || are_zero (drop (length_in (leaves (entry_at L leaves i).inode) - 1024 * (entry_at L leaves i).index) (take 1024 x))) same
 
@@ -182,7 +187,8 @@ module _ (L : Layout) (leaves others : ℕ → List ℕ) (agree : AgreeInUse L l
   unfolding is_well_formed
   owner_is i formed is later =
       let kind : (entry_at L leaves i).kind ≡ 2 = eqb-true (entry_at L leaves i).kind 2 is in
-      let form : form_of i (entry_at L leaves i) (is_inode L leaves (entry_at L leaves i).inode) ≡ true = subst (λ b. (if b then entry_number L leaves i == 0 else form_of i (entry_at L leaves i) (is_inode L leaves (entry_at L leaves i).inode)) ≡ true) later formed in
+      let form : form_of i (entry_at L leaves i) (is_inode L leaves (entry_at L leaves i).inode) ≡ true =
+      subst (λ b. (if b then entry_number L leaves i == 0 else form_of i (entry_at L leaves i) (is_inode L leaves (entry_at L leaves i).inode)) ≡ true) later formed in
       of_form i (entry_at L leaves i) _ kind form
     where
       of_form : (i : ℕ) (e : Entry) (b : Bool) → e.kind ≡ 2 → form_of i e b ≡ true → b ≡ true
@@ -192,7 +198,8 @@ module _ (L : Layout) (leaves others : ℕ → List ℕ) (agree : AgreeInUse L l
   map_free : (i : ℕ) → is_well_formed L leaves i ≡ true → nat_lt i L.map_leaves ≡ true → ((entry_at L leaves i).kind == DATA) ≡ false
   unfolding is_well_formed entry_at
   map_free i formed is =
-      let zero' : (entry_number L leaves i == 0) ≡ true = subst (λ b. (if b then entry_number L leaves i == 0 else form_of i (entry_of L (entry_number L leaves i)) (is_inode L leaves (entry_of L (entry_number L leaves i)).inode)) ≡ true) is formed in
+      let zero' : (entry_number L leaves i == 0) ≡ true = subst (λ b. (if b then entry_number L leaves i == 0 else form_of i (entry_of L (entry_number L leaves i))
+      (is_inode L leaves (entry_of L (entry_number L leaves i)).inode)) ≡ true) is formed in
       let none : entry_number L leaves i ≡ 0 = eqb-true (entry_number L leaves i) 0 zero' in
       let kind : (entry_of L (entry_number L leaves i)).kind ≡ 0 = omega (arith, none) in
       ap (λ (k : ℕ). k == DATA) kind
@@ -200,12 +207,16 @@ module _ (L : Layout) (leaves others : ℕ → List ℕ) (agree : AgreeInUse L l
   breaks_same : (i : ℕ) → i < L.leaves → breaks L others i ≡ breaks L leaves i
   unfolding breaks
   breaks_same i below =
-      ap (λ b. not b || ((is_inode L others i && not (is_inode_leaf (others i) && (not (is_doubled L others i) && has_data L others i))) || (((entry_at L others i).kind == DATA) && not (is_padded L others i)))) (formed_same i below)
-      ∙ ap (λ b. not (is_well_formed L leaves i) || ((b && not (is_inode_leaf (others i) && (not (is_doubled L others i) && has_data L others i))) || (((entry_at L others i).kind == DATA) && not (is_padded L others i)))) (inode_same i below)
-      ∙ ap (λ (e : Entry). not (is_well_formed L leaves i) || ((is_inode L leaves i && not (is_inode_leaf (others i) && (not (is_doubled L others i) && has_data L others i))) || ((e.kind == DATA) && not (is_padded L others i)))) (entry_same i below)
+      ap (λ b. not b || ((is_inode L others i && not (is_inode_leaf (others i) && (not (is_doubled L others i) && has_data L others i))) ||
+      (((entry_at L others i).kind == DATA) && not (is_padded L others i)))) (formed_same i below)
+      ∙ ap (λ b. not (is_well_formed L leaves i) || ((b && not (is_inode_leaf (others i) && (not (is_doubled L others i) && has_data L others i))) ||
+      (((entry_at L others i).kind == DATA) && not (is_padded L others i)))) (inode_same i below)
+      ∙ ap (λ (e : Entry). not (is_well_formed L leaves i) || ((is_inode L leaves i && not (is_inode_leaf (others i) && (not (is_doubled L others i) && has_data L others i))) ||
+      ((e.kind == DATA) && not (is_padded L others i)))) (entry_same i below)
       ∙ three_same (is_well_formed L leaves i) (is_inode L leaves i) ((entry_at L leaves i).kind == DATA) _ _ _ _ inodes datas
     where
-      inodes : is_inode L leaves i ≡ true → (is_inode_leaf (others i) && (not (is_doubled L others i) && has_data L others i)) ≡ (is_inode_leaf (leaves i) && (not (is_doubled L leaves i) && has_data L leaves i))
+      inodes : is_inode L leaves i ≡ true → (is_inode_leaf (others i) && (not (is_doubled L others i) && has_data L others i)) ≡
+          (is_inode_leaf (leaves i) && (not (is_doubled L leaves i) && has_data L leaves i))
       inodes is =
           ap (λ (x : List ℕ). is_inode_leaf x && (not (is_doubled L others i) && has_data L others i)) (at_inode i below is)
           ∙ ap (λ b. is_inode_leaf (leaves i) && (not b && has_data L others i)) (doubled_same i below is)
@@ -259,7 +270,8 @@ module _ (L : Layout) (leaves others : ℕ → List ℕ) (agree : AgreeInUse L l
   unfolding store_of
   store_same =
       ap (λ (ns : List ℕ). finite.from_entries (map (λ i. (identifier_in (others i), object_of L others i)) ns)) inodes_same
-      ∙ ap finite.from_entries (map_agree (λ i. (identifier_in (leaves i), object_of L leaves i)) (λ i. (identifier_in (others i), object_of L others i)) (λ i. (i < L.leaves) × (is_inode L leaves i ≡ true)) (inode_numbers L leaves) all_inodes
+      ∙ ap finite.from_entries (map_agree (λ i. (identifier_in (leaves i), object_of L leaves i)) (λ i. (identifier_in (others i), object_of L others i))
+      (λ i. (i < L.leaves) × (is_inode L leaves i ≡ true)) (inode_numbers L leaves) all_inodes
       (λ i met.
       let same = at_inode i met.0 met.1 in
       ap (λ (o : Object). (identifier_in (others i), o)) (object_same i same) ∙ ap (λ (x : List ℕ). (identifier_in x, object_of L leaves i)) same))

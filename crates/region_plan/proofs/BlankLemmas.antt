@@ -68,7 +68,8 @@ module _ (leaves : ℕ → List ℕ) (blank : IsBlank version_one leaves) where
 
   unbroken : (i : ℕ) → i < 256 → breaks version_one leaves i ≡ false
   unfolding breaks
-  unbroken i below = clear (is_well_formed version_one leaves i) (is_inode version_one leaves i) ((entry_at version_one leaves i).kind == DATA) _ _ (formed i below) (no_inode i below) (ap (λ (e : Entry). e.kind == DATA) (entry_free i below))
+  unbroken i below = clear (is_well_formed version_one leaves i) (is_inode version_one leaves i) ((entry_at version_one leaves i).kind == DATA) _ _ (formed i below)
+      (no_inode i below) (ap (λ (e : Entry). e.kind == DATA) (entry_free i below))
 
   none_broken : first_broken version_one leaves ≡ None
   unfolding first_broken numbers

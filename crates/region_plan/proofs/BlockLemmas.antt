@@ -1,5 +1,6 @@
 -- The content that the data of an object holds.
-use Rattle.std.proofs.Common.{◌≡◌, ◌≢◌, ℕ, zero, suc, ◌+◌, ◌-◌, ◌*◌, ◌/◌, ◌%◌, ◌<◌, ◌≤◌, min, max, Bool, true, false, cond, not, List, [], ◌∷◌, length, take, drop, map, get_or, Some, find, refl, sym, ◌∙◌, ap, subst, arith, nat_le}
+use Rattle.std.proofs.Common.{◌≡◌, ◌≢◌, ℕ, zero, suc, ◌+◌, ◌-◌, ◌*◌, ◌/◌, ◌%◌, ◌<◌, ◌≤◌, min, max, Bool, true, false, cond, not, List, [], ◌∷◌}
+use Rattle.std.proofs.Common.{length, take, drop, map, get_or, Some, find, refl, sym, ◌∙◌, ap, subst, arith, nat_le}
 use Rattle.std.specs.Prelude.{◌&&◌, ◌||◌, ◌==◌, if◌then◌else◌, nat_lt}
 use Rattle.std.specs.List.{range_with_len}
 use Rattle.std.proofs.lemmas.Bool.{eqb-true, eq-eqb, ltb-true, ltb-false, leb-true, leb-false, lt-ltb, le-ltb, and_from}
@@ -42,7 +43,8 @@ past_end (y ∷ b) (suc j) le = past_end b j (omega arith)
 pub map_range : {X : Type 0} (f g : ℕ → X) (n a : ℕ) → ((p : ℕ) → a ≤ p → p < a + n → f p ≡ g p) → map f (range_with_len a n) ≡ map g (range_with_len a n)
 map_range f g zero a same = refl
 map_range {X = X} f g (suc n) a same =
-    ap (λ (x : X). x ∷ map f (range_with_len (a + 1) n)) (same a (omega arith) (omega arith)) ∙ ap (λ (l : List X). g a ∷ l) (map_range f g n (a + 1) (λ p low high. same p (omega arith) (omega arith)))
+    ap (λ (x : X). x ∷ map f (range_with_len (a + 1) n)) (same a (omega arith) (omega arith)) ∙ ap (λ (l : List X). g a ∷ l)
+    (map_range f g n (a + 1) (λ p low high. same p (omega arith) (omega arith)))
 
 pub only_found : (p : ℕ → Bool) (n a k : ℕ) → a ≤ k → k < a + n → p k ≡ true → ((j : ℕ) → a ≤ j → j < a + n → p j ≡ true → j ≡ k) → find p (range_with_len a n) ≡ Some k
 only_found p zero a k low high is only = absurd (omega arith)
@@ -66,10 +68,12 @@ module _ (leaves : ℕ → List ℕ) (n : ℕ) (each : HasEach leaves n (data_le
 
   byte_is : (x k p : ℕ) → p / 1024 ≡ x → x < data_leaves (length_in (leaves n)) → k < 256 → is_data_at version_one leaves n x k ≡ true → byte_at version_one leaves n p ≡ get_or (leaves k) (p % 1024) 0
   unfolding byte_at
-  byte_is x k p at inside below is = ap (λ (y : ℕ). byte_in version_one leaves (leaf_of version_one leaves n y) (p % 1024)) at ∙ ap (λ r. byte_in version_one leaves r (p % 1024)) (leaf_is x k inside below is)
+  byte_is x k p at inside below is = ap (λ (y : ℕ). byte_in version_one leaves (leaf_of version_one leaves n y) (p % 1024)) at
+      ∙ ap (λ r. byte_in version_one leaves r (p % 1024)) (leaf_is x k inside below is)
 
   -- the content is another one of that length whose leaves these are
-  pub content_is : (content : List ℕ) → length content ≡ length_in (leaves n) → ((k : ℕ) → k < 256 → is_data_of version_one leaves n k ≡ true → IsLeafOf content (entry_at version_one leaves k).index (leaves k))
+  pub content_is : (content : List ℕ) → length content ≡ length_in (leaves n) → ((k : ℕ) → k < 256 → is_data_of version_one leaves n k ≡ true →
+      IsLeafOf content (entry_at version_one leaves k).index (leaves k))
       → content_of version_one leaves n ≡ map (λ p. get_or content p 0) (range_with_len 0 (length_in (leaves n)))
   unfolding content_of
   content_is content long held = map_range (λ at. byte_at version_one leaves n at) (λ p. get_or content p 0) (length_in (leaves n)) 0 (λ p low high.
@@ -93,12 +97,14 @@ module _ (leaves : ℕ → List ℕ) (n : ℕ) (each : HasEach leaves n (data_le
             let at : (1024 * (entry_at version_one leaves k).index + j) / 1024 ≡ (entry_at version_one leaves k).index = omega arith in
             let rest : (1024 * (entry_at version_one leaves k).index + j) % 1024 ≡ j = omega arith in
             let byte = byte_is (entry_at version_one leaves k).index k (1024 * (entry_at version_one leaves k).index + j) at (each.before k below is) below (and_from _ _ is (eq-eqb _ _ refl)) in
-            sym (get_or-map-range_with_len (λ p. byte_at version_one leaves n p) 0 (length_in (leaves n)) (1024 * (entry_at version_one leaves k).index + j) (1024 * (entry_at version_one leaves k).index + j) 0 inside (omega arith)
+            sym (get_or-map-range_with_len (λ p. byte_at version_one leaves n p) 0 (length_in (leaves n)) (1024 * (entry_at version_one leaves k).index + j)
+            (1024 * (entry_at version_one leaves k).index + j) 0 inside (omega arith)
             ∙ byte ∙ ap (λ (q : ℕ). get_or (leaves k) q 0) rest)
         | false ↦ λ e.
             let past : length_in (leaves n) ≤ 1024 * (entry_at version_one leaves k).index + j = ltb-false _ _ e in
             zeros_at 1024 (length_in (leaves n) - 1024 * (entry_at version_one leaves k).index) (leaves k) j (padded k below is) (omega (arith, past)) less
-            ∙ sym (past_end (map (λ at. byte_at version_one leaves n at) (range_with_len 0 (length_in (leaves n)))) (1024 * (entry_at version_one leaves k).index + j) (omega (arith, past, length-map-range_with_len (λ at. byte_at version_one leaves n at) 0 (length_in (leaves n)))))
+            ∙ sym (past_end (map (λ at. byte_at version_one leaves n at) (range_with_len 0 (length_in (leaves n)))) (1024 * (entry_at version_one leaves k).index + j)
+            (omega (arith, past, length-map-range_with_len (λ at. byte_at version_one leaves n at) 0 (length_in (leaves n)))))
       ] refl
 
 -- a leaf of an edited content
@@ -109,7 +115,8 @@ module _ (edit : Edit) (old : List ℕ) (long : length old ≡ edit.kept) where
       let parts = or_none (nat_lt edit.length edit.kept && nat_lt edit.length (1024 * x + 1024)) _ untouched in
       let unwritten = ltb-false (max edit.at (1024 * x)) (min (1024 * x + 1024) (edit.at + length edit.bytes.now)) parts.1 in
       elim (nat_le edit.length (1024 * x + j)) as (λ b. nat_le edit.length (1024 * x + j) ≡ b
-      → (if b then 0 else if nat_le edit.at (1024 * x + j) && nat_lt (1024 * x + j - edit.at) (length edit.bytes.now) then get_or edit.bytes.now (1024 * x + j - edit.at) 0 else get_or old (1024 * x + j) 0) ≡ get_or old (1024 * x + j) 0) [
+      → (if b then 0 else if nat_le edit.at (1024 * x + j) && nat_lt (1024 * x + j - edit.at) (length edit.bytes.now) then get_or edit.bytes.now (1024 * x + j - edit.at) 0 else
+      get_or old (1024 * x + j) 0) ≡ get_or old (1024 * x + j) 0) [
         | true ↦ λ e.
             let short : edit.length ≤ 1024 * x + j = leb-true _ _ e in
             let uncut : edit.kept ≤ edit.length = not_cut short parts.0 in
@@ -122,7 +129,8 @@ module _ (edit : Edit) (old : List ℕ) (long : length old ≡ edit.kept) where
       or_none false b e = (refl, e)
 
       not_cut : edit.length ≤ 1024 * x + j → (nat_lt edit.length edit.kept && nat_lt edit.length (1024 * x + 1024)) ≡ false → edit.kept ≤ edit.length
-      not_cut short cut = ltb-false edit.length edit.kept (first (nat_lt edit.length edit.kept) (nat_lt edit.length (1024 * x + 1024)) (lt-ltb edit.length (1024 * x + 1024) (omega (arith, short, less))) cut)
+      not_cut short cut = ltb-false edit.length edit.kept (first (nat_lt edit.length edit.kept) (nat_lt edit.length (1024 * x + 1024))
+          (lt-ltb edit.length (1024 * x + 1024) (omega (arith, short, less))) cut)
         where
           first : (a b : Bool) → b ≡ true → (a && b) ≡ false → a ≡ false
           first true b is e = absurd (let f : true ≡ false = sym is ∙ e in cc)
@@ -137,7 +145,8 @@ module _ (edit : Edit) (old : List ℕ) (long : length old ≡ edit.kept) where
           each true true e f = absurd (let one = leb-true _ _ e in let two = ltb-true _ _ f in omega (arith, one, two, apart, less))
 
   -- the leaf of what was kept becomes the leaf of what it becomes
-  pub leaf_edited : (x : ℕ) (b new : List ℕ) → (x < data_leaves edit.kept → IsLeafOf old x b) → IsEditedLeaf edit x b new → (j : ℕ) → j < 1024 → get_or new j 0 ≡ byte_after edit (1024 * x + j) (get_or old (1024 * x + j) 0)
+  pub leaf_edited : (x : ℕ) (b new : List ℕ) → (x < data_leaves edit.kept → IsLeafOf old x b) → IsEditedLeaf edit x b new → (j : ℕ) → j < 1024 →
+      get_or new j 0 ≡ byte_after edit (1024 * x + j) (get_or old (1024 * x + j) 0)
   leaf_edited x b new was edited j less =
       elim (nat_lt x (data_leaves edit.kept)) as (λ t. nat_lt x (data_leaves edit.kept) ≡ t → get_or new j 0 ≡ byte_after edit (1024 * x + j) (get_or old (1024 * x + j) 0)) [
         | true ↦ λ t.
@@ -202,14 +211,16 @@ true_not_false : {A : Type 0} {b : Bool} → b ≡ true → b ≡ false → A
 true_not_false is isnt = absurd (let f : true ≡ false = sym is ∙ isnt in cc)
 
 -- a leaf that was there, and is written
-pub touched_leaf : (edit : Edit) (index blocks : ℕ) (block old new : List ℕ) (touched : Bool) → blocks ≡ data_leaves edit.kept → index < blocks → touched ≡ is_touched edit index → touched ≡ true → block ≡ old
+pub touched_leaf : (edit : Edit) (index blocks : ℕ) (block old new : List ℕ) (touched : Bool) → blocks ≡ data_leaves edit.kept → index < blocks → touched ≡ is_touched edit index →
+    touched ≡ true → block ≡ old
     → ((k : ℕ) → k < 1024 → get_or new k 0 ≡ byte_after edit (1024 * index + k) (get_or block k 0)) → IsEditedLeaf edit index old new
 touched_leaf edit index blocks block old new touched many inside told is same written =
     let there : nat_lt index (data_leaves edit.kept) ≡ true = lt-ltb index (data_leaves edit.kept) (omega (arith, inside, many)) in
     let not_left : is_left edit index ≡ false = ap (λ b. b && not (is_touched edit index)) there ∙ ap not (sym told ∙ is) in
     record {
       left = λ e. true_not_false e not_left;
-      changed = λ e k less. written k less ∙ ap (λ (x : List ℕ). byte_after edit (1024 * index + k) (get_or x k 0)) same ∙ sym (ap (λ b. byte_after edit (1024 * index + k) (cond b (get_or old k 0) 0)) there);
+      changed = λ e k less. written k less ∙ ap (λ (x : List ℕ). byte_after edit (1024 * index + k) (get_or x k 0)) same
+          ∙ sym (ap (λ b. byte_after edit (1024 * index + k) (cond b (get_or old k 0) 0)) there);
     }
 
 -- a leaf that wasn't there
@@ -220,5 +231,6 @@ fresh_leaf edit index blocks block old new many past zeros written =
     let not_left : is_left edit index ≡ false = ap (λ b. b && not (is_touched edit index)) absent in
     record {
       left = λ e. true_not_false e not_left;
-      changed = λ e k less. written k less ∙ ap (λ (x : ℕ). byte_after edit (1024 * index + k) x) (zeros k less) ∙ sym (ap (λ b. byte_after edit (1024 * index + k) (cond b (get_or old k 0) 0)) absent);
+      changed = λ e k less. written k less ∙ ap (λ (x : ℕ). byte_after edit (1024 * index + k) x) (zeros k less)
+          ∙ sym (ap (λ b. byte_after edit (1024 * index + k) (cond b (get_or old k 0) 0)) absent);
     }

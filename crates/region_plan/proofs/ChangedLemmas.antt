@@ -21,7 +21,8 @@ use Rattle.region_plan.proofs.FrameLemmas.{Framed, inode_stays, inode_was, objec
 pub record IsChanged (leaves after : ℕ → List ℕ) (n : ℕ) (store : Store) : Type 0 where
   pub here : is_inode version_one after n ≡ true → object_at store (identifier_in (after n)) ≡ Some (object_of version_one after n)
   pub gone : is_inode version_one leaves n ≡ true → (is_inode version_one after n ≡ true → identifier_in (after n) ≢ identifier_in (leaves n)) → object_at store (identifier_in (leaves n)) ≡ None
-  pub beside : (q : List ℕ) → (is_inode version_one after n ≡ true → q ≢ identifier_in (after n)) → (is_inode version_one leaves n ≡ true → q ≢ identifier_in (leaves n)) → object_at store q ≡ object_at (store_of version_one leaves) q
+  pub beside : (q : List ℕ) → (is_inode version_one after n ≡ true → q ≢ identifier_in (after n)) → (is_inode version_one leaves n ≡ true → q ≢ identifier_in (leaves n)) →
+      object_at store q ≡ object_at (store_of version_one leaves) q
 
 both_or : (a : Bool) (x y : List ℕ) → (a && bytes_eq x y) ≡ false → a ≡ true → y ≢ x
 both_or a x y isnt is same = (let f : true ≡ false = sym ((bytes_eq-Decides x y).1 (sym same)) ∙ sym (ap (λ b. b && bytes_eq x y) is) ∙ isnt in cc)
@@ -43,7 +44,8 @@ module _ (leaves after : ℕ → List ℕ) (n : ℕ) (below : n < 256) (sound : 
       ] refl
 
   -- what an identifier of neither is of
-  same_at : (q : List ℕ) → (is_inode version_one after n ≡ true → q ≢ identifier_in (after n)) → (is_inode version_one leaves n ≡ true → q ≢ identifier_in (leaves n)) → At q ≡ object_at (store_of version_one leaves) q
+  same_at : (q : List ℕ) → (is_inode version_one after n ≡ true → q ≢ identifier_in (after n)) → (is_inode version_one leaves n ≡ true → q ≢ identifier_in (leaves n)) →
+      At q ≡ object_at (store_of version_one leaves) q
   same_at q not_now not_then =
       elim (object_at (store_of version_one leaves) q) as (λ r. object_at (store_of version_one leaves) q ≡ r → At q ≡ r) [
         | Some o ↦ λ e.
@@ -59,7 +61,8 @@ module _ (leaves after : ℕ → List ℕ) (n : ℕ) (below : n < 256) (sound : 
                   let other = eqb-false m n t in
                   let was = inode_was leaves after n sound frame m low other inode in
                   let id_was : identifier_in (leaves m) ≡ q = sym (ap identifier_in (inode_stays leaves after n sound frame m low other was).1) ∙ id in
-                  let held : object_at (store_of version_one leaves) q ≡ Some (object_of version_one leaves m) = ap (object_at (store_of version_one leaves)) (sym id_was) ∙ held_at version_one leaves sound m low was in
+                  let held : object_at (store_of version_one leaves) q ≡ Some (object_of version_one leaves m) = ap (object_at (store_of version_one leaves)) (sym id_was)
+                  ∙ held_at version_one leaves sound m low was in
                   let never : ◌≡◌ {A = Option Object} None (Some (object_of version_one leaves m)) = sym e ∙ held in
                   cc
             ] refl)
@@ -73,25 +76,27 @@ module _ (leaves after : ℕ → List ℕ) (n : ℕ) (below : n < 256) (sound : 
               let parts = and_both _ _ e in
               let id : identifier_in (after n) ≡ q = (bytes_eq-Decides (identifier_in (after n)) q).0 parts.1 in
               subst (λ (x : List ℕ). At x ≡ object_at store x) id (held_at version_one after now n below parts.0 ∙ sym (changed.here parts.0))
-          | false ↦ λ e. elim (is_inode version_one leaves n && bytes_eq (identifier_in (leaves n)) q) as (λ b. (is_inode version_one leaves n && bytes_eq (identifier_in (leaves n)) q) ≡ b → At q ≡ object_at store q) [
-            | true ↦ λ f.
-                let parts = and_both _ _ f in
-                let id : identifier_in (leaves n) ≡ q = (bytes_eq-Decides (identifier_in (leaves n)) q).0 parts.1 in
-                let not_now = both_or (is_inode version_one after n) (identifier_in (after n)) q e in
-                nothing_at q (λ m low inode is.
-                elim (m == n) as (λ b. (m == n) ≡ b → ⊥) [
-                  | true ↦ λ t. (let same : m ≡ n = eqb-true m n t in not_now (subst (λ (k : ℕ). is_inode version_one after k ≡ true) same inode) (sym is ∙ ap (λ (k : ℕ). identifier_in (after k)) same))
-                  | false ↦ λ t.
-                      let other = eqb-false m n t in
-                      let was = inode_was leaves after n sound frame m low other inode in
-                      other (sound.apart m n low below was parts.0 (sym (ap identifier_in (inode_stays leaves after n sound frame m low other was).1) ∙ is ∙ sym id))
-                ] refl)
-                ∙ sym (ap (object_at store) (sym id) ∙ changed.gone parts.0 (λ inode same. not_now inode (sym id ∙ sym same)))
-            | false ↦ λ f.
-                let not_now = both_or (is_inode version_one after n) (identifier_in (after n)) q e in
-                let not_then = both_or (is_inode version_one leaves n) (identifier_in (leaves n)) q f in
-                same_at q not_now not_then ∙ sym (changed.beside q not_now not_then)
-          ] refl
+          | false ↦ λ e. elim (is_inode version_one leaves n && bytes_eq (identifier_in (leaves n)) q) as
+              (λ b. (is_inode version_one leaves n && bytes_eq (identifier_in (leaves n)) q) ≡ b → At q ≡ object_at store q) [
+                | true ↦ λ f.
+                    let parts = and_both _ _ f in
+                    let id : identifier_in (leaves n) ≡ q = (bytes_eq-Decides (identifier_in (leaves n)) q).0 parts.1 in
+                    let not_now = both_or (is_inode version_one after n) (identifier_in (after n)) q e in
+                    nothing_at q (λ m low inode is.
+                    elim (m == n) as (λ b. (m == n) ≡ b → ⊥) [
+                      | true ↦ λ t. (let same : m ≡ n = eqb-true m n t in not_now (subst (λ (k : ℕ). is_inode version_one after k ≡ true) same inode)
+                          (sym is ∙ ap (λ (k : ℕ). identifier_in (after k)) same))
+                      | false ↦ λ t.
+                          let other = eqb-false m n t in
+                          let was = inode_was leaves after n sound frame m low other inode in
+                          other (sound.apart m n low below was parts.0 (sym (ap identifier_in (inode_stays leaves after n sound frame m low other was).1) ∙ is ∙ sym id))
+                    ] refl)
+                    ∙ sym (ap (object_at store) (sym id) ∙ changed.gone parts.0 (λ inode same. not_now inode (sym id ∙ sym same)))
+                | false ↦ λ f.
+                    let not_now = both_or (is_inode version_one after n) (identifier_in (after n)) q e in
+                    let not_then = both_or (is_inode version_one leaves n) (identifier_in (leaves n)) q f in
+                    same_at q not_now not_then ∙ sym (changed.beside q not_now not_then)
+              ] refl
         ] refl
 
     -- the region stands for the changed store

@@ -87,7 +87,8 @@ module _ (L : Layout) (leaves : ℕ → List ℕ) where
   pub past_wrong : (inode i : ℕ) → i < L.leaves → is_data_of L leaves inode i ≡ true → data_leaves (length_in (leaves inode)) ≤ (entry_at L leaves i).index → has_data L leaves inode ≡ false
   unfolding has_data numbers
   past_wrong inode i below of_inode past =
-      let here : is_past L leaves inode i ≡ true = ap (λ b. b && nat_le (data_leaves (length_in (leaves inode))) (entry_at L leaves i).index) of_inode ∙ le-leb (data_leaves (length_in (leaves inode))) (entry_at L leaves i).index past in
+      let here : is_past L leaves inode i ≡ true = ap (λ b. b && nat_le (data_leaves (length_in (leaves inode))) (entry_at L leaves i).index) of_inode
+      ∙ le-leb (data_leaves (length_in (leaves inode))) (entry_at L leaves i).index past in
       and_right _ _ (ap not (list_any_at (λ j. is_past L leaves inode j) (range_with_len 0 L.leaves) i 0 (omega (arith, below, length-range_with_len 0 L.leaves))
       (ap (λ (x : ℕ). is_past L leaves inode x) (in_range i L.leaves below) ∙ here)))
 
@@ -97,7 +98,8 @@ module _ (L : Layout) (leaves : ℕ → List ℕ) where
   unfolding leaf_of numbers
   elsewhere_wrong inode i below of_inode before other =
       let x : ℕ = (entry_at L leaves i).index in
-      let here : is_data_at L leaves inode (entry_at L leaves i).index i ≡ true = ap (λ b. b && ((entry_at L leaves i).index == (entry_at L leaves i).index)) of_inode ∙ eq-eqb (entry_at L leaves i).index (entry_at L leaves i).index refl in
+      let here : is_data_at L leaves inode (entry_at L leaves i).index i ≡ true = ap (λ b. b && ((entry_at L leaves i).index == (entry_at L leaves i).index)) of_inode
+      ∙ eq-eqb (entry_at L leaves i).index (entry_at L leaves i).index refl in
       index_wrong inode (entry_at L leaves i).index before
       (elim (has_one L leaves inode (entry_at L leaves i).index) as (λ b. has_one L leaves inode (entry_at L leaves i).index ≡ b → b ≡ false) [
         | true ↦ λ e. absurd (other (one_found (λ j. is_data_at L leaves inode (entry_at L leaves i).index j) L.leaves 0 i (omega arith) (omega arith) here (eqb-true _ 1 e)))
@@ -116,11 +118,14 @@ pub of_inode : (leaves : ℕ → List ℕ) (inode i : ℕ) (e : Entry) → e ≡
 of_inode leaves inode i e is kind owner =
     ap (λ (x : Entry). (x.kind == DATA) && (x.inode == inode)) (sym is) ∙ and_from (e.kind == DATA) (e.inode == inode) (eq-eqb e.kind 2 kind) (eq-eqb e.inode inode owner)
 
-pub past_entry : (leaves : ℕ → List ℕ) (inode i blocks : ℕ) (e : Entry) → i < 256 → e ≡ entry_at version_one leaves i → e.kind ≡ 2 → e.inode ≡ inode → blocks ≡ data_leaves (length_in (leaves inode)) → blocks ≤ e.index → has_data version_one leaves inode ≡ false
+pub past_entry : (leaves : ℕ → List ℕ) (inode i blocks : ℕ) (e : Entry) → i < 256 → e ≡ entry_at version_one leaves i → e.kind ≡ 2 → e.inode ≡ inode →
+    blocks ≡ data_leaves (length_in (leaves inode)) → blocks ≤ e.index → has_data version_one leaves inode ≡ false
 past_entry leaves inode i blocks e below is kind owner long past =
-    past_wrong version_one leaves inode i below (of_inode leaves inode i e is kind owner) (subst (λ (x : Entry). data_leaves (length_in (leaves inode)) ≤ x.index) is (subst (λ (n : ℕ). n ≤ e.index) long past))
+    past_wrong version_one leaves inode i below (of_inode leaves inode i e is kind owner) (subst (λ (x : Entry). data_leaves (length_in (leaves inode)) ≤ x.index) is
+    (subst (λ (n : ℕ). n ≤ e.index) long past))
 
-pub elsewhere_entry : (leaves : ℕ → List ℕ) (inode i blocks : ℕ) (e : Entry) (r : Option ℕ) → i < 256 → e ≡ entry_at version_one leaves i → e.kind ≡ 2 → e.inode ≡ inode → blocks ≡ data_leaves (length_in (leaves inode)) → e.index < blocks
+pub elsewhere_entry : (leaves : ℕ → List ℕ) (inode i blocks : ℕ) (e : Entry) (r : Option ℕ) → i < 256 → e ≡ entry_at version_one leaves i → e.kind ≡ 2 → e.inode ≡ inode →
+    blocks ≡ data_leaves (length_in (leaves inode)) → e.index < blocks
     → r ≡ leaf_of version_one leaves inode e.index → (r ≡ Some i → ⊥) → has_data version_one leaves inode ≡ false
 elsewhere_entry leaves inode i blocks e r below is kind owner long before found other =
     elsewhere_wrong version_one leaves inode i below (of_inode leaves inode i e is kind owner)
@@ -128,7 +133,8 @@ elsewhere_entry leaves inode i blocks e r below is kind owner long before found 
     (λ same. other (found ∙ ap (λ (x : Entry). leaf_of version_one leaves inode x.index) is ∙ same))
 
 -- an inode that was read has the identifier of one before it
-pub doubled_from : (leaves : ℕ → List ℕ) (n : ℕ) (block : List ℕ) (inode : Inode) (id : List ℕ) (before : List Inode) (r : Bool) → block ≡ leaves n → inode ≡ inode_of n block → id ≡ inode.id → before ≡ inodes_below version_one leaves n
+pub doubled_from : (leaves : ℕ → List ℕ) (n : ℕ) (block : List ℕ) (inode : Inode) (id : List ℕ) (before : List Inode) (r : Bool) → block ≡ leaves n → inode ≡ inode_of n block →
+    id ≡ inode.id → before ≡ inodes_below version_one leaves n
     → r ≡ not (list_any (λ x. bytes_eq x.id id) before) → r ≡ false → is_doubled version_one leaves n ≡ true
 doubled_from leaves n block inode id before r read is named earlier told isnt =
     let id_is : id ≡ identifier_in (leaves n) = named ∙ ap (λ (x : Inode). x.id) is ∙ ap (λ (b : List ℕ). (inode_of n b).id) read ∙ told_id version_one leaves n in

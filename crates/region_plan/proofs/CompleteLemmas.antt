@@ -103,9 +103,11 @@ module _ (L : Layout) (leaves : ℕ → List ℕ) (n blocks : ℕ) (placed : (i 
         and_from _ _
         (all_of (λ x. has_one L leaves n x) (data_leaves (length_in (leaves n))) 0 (λ x low high.
         eq-eqb _ 1 (counted (λ i. is_data_at L leaves n x i) 0 L.leaves ∙ one x (omega (arith, long)) (omega (arith, long, few, more)))))
-        (not_from_false _ (none_of (λ i. is_past L leaves n i) L.leaves 0 (λ k low high. past_not k (omega arith) (is_data_of L leaves n k) (nat_le (data_leaves (length_in (leaves n))) (entry_at L leaves k).index) refl refl)))
+        (not_from_false _ (none_of (λ i. is_past L leaves n i) L.leaves 0 (λ k low high. past_not k (omega arith) (is_data_of L leaves n k)
+        (nat_le (data_leaves (length_in (leaves n))) (entry_at L leaves k).index) refl refl)))
       where
         past_not : (k : ℕ) → k < L.leaves → (b c : Bool) → is_data_of L leaves n k ≡ b → nat_le (data_leaves (length_in (leaves n))) (entry_at L leaves k).index ≡ c → (b && c) ≡ false
         past_not k below false c of past = refl
         past_not k below true false of past = refl
-        past_not k below true true of past = absurd (let first = (placed k below of).before in let two : data_leaves (length_in (leaves n)) ≤ (entry_at L leaves k).index = leb-true _ _ past in omega (arith, first, two, long))
+        past_not k below true true of past = absurd (let first = (placed k below of).before in let two : data_leaves (length_in (leaves n)) ≤ (entry_at L leaves k).index =
+            leb-true _ _ past in omega (arith, first, two, long))

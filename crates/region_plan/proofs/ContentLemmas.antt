@@ -1,5 +1,6 @@
 -- The content of an object, piece by piece.
-use Rattle.std.proofs.Common.{◌≡◌, ℕ, zero, suc, ◌+◌, ◌-◌, ◌*◌, ◌/◌, ◌%◌, ◌<◌, ◌≤◌, min, Bool, true, false, cond, List, [], ◌∷◌, ◌++◌, map, length, get_or, take, drop, None, Some, Result, Ok, Err, find, refl, sym, ◌∙◌, ap, subst, arith, nat_le}
+use Rattle.std.proofs.Common.{◌≡◌, ℕ, zero, suc, ◌+◌, ◌-◌, ◌*◌, ◌/◌, ◌%◌, ◌<◌, ◌≤◌, min, Bool, true, false, cond, List, [], ◌∷◌, ◌++◌, map, length}
+use Rattle.std.proofs.Common.{get_or, take, drop, None, Some, Result, Ok, Err, find, refl, sym, ◌∙◌, ap, subst, arith, nat_le}
 use Rattle.std.specs.Prelude.{IsTrue, IfOk, ◌&&◌, ◌||◌, ◌==◌}
 use Rattle.std.specs.List.{range_with_len, count_by}
 use Rattle.std.proofs.Math.Seq.{drop-cons}
@@ -179,12 +180,14 @@ module _ (L : Layout) (leaves : ℕ → List ℕ) where
 
   -- a part of a content
   pub content_part : (inode start count : ℕ)
-      → take count (drop start (content_of L leaves inode)) ≡ map (λ n. byte_at L leaves inode n) (range_with_len (min start (length_in (leaves inode))) (min count (length_in (leaves inode) - min start (length_in (leaves inode)))))
+      → take count (drop start (content_of L leaves inode)) ≡ map (λ n. byte_at L leaves inode n) (range_with_len (min start (length_in (leaves inode)))
+      (min count (length_in (leaves inode) - min start (length_in (leaves inode)))))
   unfolding content_of
   content_part inode start count = part_is (λ n. byte_at L leaves inode n) (length_in (leaves inode)) start count
 
 -- one more piece of a content
-pub part_joined : (leaves mid : ℕ → List ℕ) (inode start at stop : ℕ) (old new : List ℕ) → mid ≡ leaves → start ≤ at → at ≤ stop → old ≡ map (λ n. byte_at version_one leaves inode n) (range_with_len start (at - start))
+pub part_joined : (leaves mid : ℕ → List ℕ) (inode start at stop : ℕ) (old new : List ℕ) → mid ≡ leaves → start ≤ at → at ≤ stop →
+    old ≡ map (λ n. byte_at version_one leaves inode n) (range_with_len start (at - start))
     → new ≡ old ++ map (λ n. byte_at version_one mid inode n) (range_with_len at (stop - at)) → new ≡ map (λ n. byte_at version_one leaves inode n) (range_with_len start (stop - start))
 part_joined leaves mid inode start at stop old new same low high before is =
     let seam : at ≡ start + (at - start) = omega arith in

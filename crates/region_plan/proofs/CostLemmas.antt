@@ -46,11 +46,13 @@ module _ (L : Layout) (leaves : ℕ → List ℕ) (filled : 0 < L.leaves) (sound
       empty_costs = ap (λ (es : List (List ℕ × Object)). sum_by (λ o. blocks_for (length o.content)) (map (λ e. e.1) es)) (no_entries L leaves)
   costs_in (suc n) a within =
       let rest = costs_in n (a + 1) (omega arith) in
-      elim (is_inode L leaves a) as (λ b. is_inode L leaves a ≡ b → cost (finite.from_entries (map (kept L leaves) (cond b (a ∷ inodes_in L leaves (a + 1) n) (inodes_in L leaves (a + 1) n)))) ≡ cond b (1 + blocks_of L leaves a) 0 + total price (a + 1) n) [
+      elim (is_inode L leaves a) as (λ b. is_inode L leaves a ≡ b → cost (finite.from_entries (map (kept L leaves)
+      (cond b (a ∷ inodes_in L leaves (a + 1) n) (inodes_in L leaves (a + 1) n)))) ≡ cond b (1 + blocks_of L leaves a) 0 + total price (a + 1) n) [
         | true ↦ λ e.
             let absent : object_at (finite.from_entries (map (kept L leaves) (inodes_in L leaves (a + 1) n))) (identifier_in (leaves a)) ≡ None =
             finite.get-from_entries nat_list_cmp_total (map (kept L leaves) (inodes_in L leaves (a + 1) n)) (identifier_in (leaves a))
-            ∙ looked_none L leaves (identifier_in (leaves a)) n (a + 1) (λ j low high inode same. (let twice : j ≡ a = sound.apart j a (omega arith) (omega arith) inode e same in omega (arith, twice, low))) in
+            ∙ looked_none L leaves (identifier_in (leaves a)) n (a + 1) (λ j low high inode same. (let twice : j ≡ a = sound.apart j a (omega arith) (omega arith) inode e same in
+            omega (arith, twice, low))) in
             alone_costs _ (identifier_in (leaves a)) (object_of L leaves a) absent
             ∙ ap (λ (x : ℕ). blocks_for x + cost (finite.from_entries (map (kept L leaves) (inodes_in L leaves (a + 1) n)))) (content_long a)
             ∙ ap (λ (x : ℕ). blocks_for (length_in (leaves a)) + x) rest
@@ -132,9 +134,11 @@ module _ (L : Layout) (leaves : ℕ → List ℕ) (filled : 0 < L.leaves) (sound
   pub used_costs : cost (store_of L leaves) ≡ used_leaves L leaves
   unfolding numbers used_leaves
   used_costs =
-      let shares = total_agree (λ i. mark (is_data L leaves i)) (λ i. total (λ n. cond (is_inode L leaves n) (mark (is_data_of L leaves n i)) 0) 0 L.leaves) 0 L.leaves (λ i low high. one_owner i (omega arith)) in
+      let shares = total_agree (λ i. mark (is_data L leaves i)) (λ i. total (λ n. cond (is_inode L leaves n) (mark (is_data_of L leaves n i)) 0) 0 L.leaves) 0 L.leaves
+      (λ i low high. one_owner i (omega arith)) in
       let turned = total_swap (λ i n. cond (is_inode L leaves n) (mark (is_data_of L leaves n i)) 0) 0 L.leaves 0 L.leaves in
-      let each = total_agree (λ n. total (λ i. cond (is_inode L leaves n) (mark (is_data_of L leaves n i)) 0) 0 L.leaves) (λ n. cond (is_inode L leaves n) (blocks_of L leaves n) 0) 0 L.leaves (λ n low high. data_shared n (omega arith)) in
+      let each = total_agree (λ n. total (λ i. cond (is_inode L leaves n) (mark (is_data_of L leaves n i)) 0) 0 L.leaves) (λ n. cond (is_inode L leaves n) (blocks_of L leaves n) 0)
+      0 L.leaves (λ n low high. data_shared n (omega arith)) in
       let data' : total (λ i. mark (is_data L leaves i)) 0 L.leaves ≡ total (λ n. cond (is_inode L leaves n) (blocks_of L leaves n) 0) 0 L.leaves = shares ∙ turned ∙ each in
       store_costs
       ∙ total_agree price (λ n. mark (is_inode L leaves n) + cond (is_inode L leaves n) (blocks_of L leaves n) 0) 0 L.leaves (λ n low high. price_is n)

@@ -29,7 +29,8 @@ base_of leaves n sound low high inode = (let own = sound.inode n high inode in r
 pub each_of : (leaves : ℕ → List ℕ) (n : ℕ) → SoundInode version_one leaves n → HasEach leaves n (data_leaves (length_in (leaves n)))
 each_of leaves n own = record { present = own.present; single = own.single; before = own.before }
 
-pub same_object : (o : Object) (kind usage : ℕ) (secret content : List ℕ) → o.kind ≡ kind → o.usage ≡ usage → o.secret ≡ secret → o.content ≡ content → o ≡ record { kind = kind; usage = usage; secret = secret; content = content }
+pub same_object : (o : Object) (kind usage : ℕ) (secret content : List ℕ) → o.kind ≡ kind → o.usage ≡ usage → o.secret ≡ secret → o.content ≡ content →
+    o ≡ record { kind = kind; usage = usage; secret = secret; content = content }
 same_object o kind usage secret content a b c d = λ i. record { kind = a i; usage = b i; secret = c i; content = d i }
 
 module _ (leaves after : ℕ → List ℕ) (base : List ℕ) (n had : ℕ) (head : Option (List ℕ)) (edit : Edit) (sound : Sound version_one leaves) (is_base : IsBase leaves n (data_leaves had))
@@ -47,32 +48,40 @@ module _ (leaves after : ℕ → List ℕ) (base : List ℕ) (n had : ℕ) (head
   kept_all x one two = omega (arith, one, two)
 
   pub edited_framed : Framed n leaves after
-  edited_framed = placed_framed leaves after n (data_leaves had) (kept_leaves had edit) (data_leaves edit.length) (entries_in base) sound is_base is_with (omega arith) (omega arith) kept_all edited.enough mapped bytes
+  edited_framed = placed_framed leaves after n (data_leaves had) (kept_leaves had edit) (data_leaves edit.length) (entries_in base) sound is_base is_with (omega arith)
+      (omega arith) kept_all edited.enough mapped bytes
 
   pub each_now : HasEach after n (data_leaves edit.length)
-  each_now = placed_each leaves after n (data_leaves had) (kept_leaves had edit) (data_leaves edit.length) (entries_in base) sound is_base is_with (omega arith) (omega arith) kept_all edited.enough mapped bytes
+  each_now = placed_each leaves after n (data_leaves had) (kept_leaves had edit) (data_leaves edit.length) (entries_in base) sound is_base is_with (omega arith) (omega arith)
+      kept_all edited.enough mapped bytes
 
   pub inode_now : is_inode version_one after n ≡ true
-  inode_now = is_inode_now leaves after n (data_leaves had) (kept_leaves had edit) (data_leaves edit.length) (entries_in base) sound is_base is_with (omega arith) (omega arith) kept_all edited.enough mapped bytes
+  inode_now = is_inode_now leaves after n (data_leaves had) (kept_leaves had edit) (data_leaves edit.length) (entries_in base) sound is_base is_with (omega arith) (omega arith)
+      kept_all edited.enough mapped bytes
 
   pub head_now : after n ≡ bytes_or head (leaves n)
   head_now = (let low = is_base.low in (edited.each n is_base.high).own (λ e. absurd (omega (arith, low, e))) refl)
 
   -- where the leaves held what was kept, the object is the edited one
   module _ (old : List ℕ) (long : length old ≡ edit.kept) (kind usage : ℕ) (id secret : List ℕ)
-      (was : (k : ℕ) → k < 256 → is_data_of version_one leaves n k ≡ true → (entry_at version_one leaves k).index < data_leaves edit.kept → IsLeafOf old (entry_at version_one leaves k).index (leaves k))
+      (was : (k : ℕ) → k < 256 → is_data_of version_one leaves n k ≡ true → (entry_at version_one leaves k).index < data_leaves edit.kept →
+      IsLeafOf old (entry_at version_one leaves k).index (leaves k))
       (is_head : IsHead (after n) kind usage id secret edit.length) where
     was_now : (k : ℕ) → k < 256 → is_data_of version_one after n k ≡ true → (entry_at version_one after k).index < data_leaves edit.kept → IsLeafOf old (entry_at version_one after k).index (leaves k)
     was_now k below data' early =
         let inside = each_now.before k below data' in
         let held : (entry_at version_one after k).index < kept_leaves had edit = omega (arith, inside, early, kept_had) in
-        let was' = old_index leaves after n (data_leaves had) (kept_leaves had edit) (data_leaves edit.length) (entries_in base) sound is_base is_with (omega arith) (omega arith) kept_all edited.enough mapped bytes k below data' held in
+        let was' = old_index leaves after n (data_leaves had) (kept_leaves had edit) (data_leaves edit.length) (entries_in base) sound is_base is_with (omega arith) (omega arith)
+        kept_all edited.enough mapped bytes k below data' held in
         subst (λ (e : Entry). IsLeafOf old e.index (leaves k)) (sym was'.1) (was k below was'.0 (subst (λ (e : Entry). e.index < data_leaves edit.kept) was'.1 early))
 
     edited_now : (k : ℕ) → k < 256 → is_data_of version_one after n k ≡ true → IsEditedLeaf edit (entry_at version_one after k).index (leaves k) (after k)
     edited_now k below data' =
-        subst (λ (e : Entry). IsEditedLeaf edit e.index (leaves k) (after k)) (sym (in_map after k below)) ((edited.each k below).data' (data_later leaves after n (data_leaves had) (kept_leaves had edit) (data_leaves edit.length) (entries_in base) sound is_base is_with (omega arith) (omega arith) kept_all edited.enough mapped bytes k below data')
-        (not_inode leaves after n (data_leaves had) (kept_leaves had edit) (data_leaves edit.length) (entries_in base) sound is_base is_with (omega arith) (omega arith) kept_all edited.enough mapped bytes k data') (data_map k below ∙ data'))
+        subst (λ (e : Entry). IsEditedLeaf edit e.index (leaves k) (after k)) (sym (in_map after k below))
+        ((edited.each k below).data' (data_later leaves after n (data_leaves had) (kept_leaves had edit) (data_leaves edit.length) (entries_in base) sound is_base is_with
+        (omega arith) (omega arith) kept_all edited.enough mapped bytes k below data')
+        (not_inode leaves after n (data_leaves had) (kept_leaves had edit) (data_leaves edit.length) (entries_in base) sound is_base is_with (omega arith) (omega arith) kept_all
+        edited.enough mapped bytes k data') (data_map k below ∙ data'))
 
     pub edited_inode : SoundInode version_one after n
     edited_inode =
@@ -87,4 +96,5 @@ module _ (leaves after : ℕ → List ℕ) (base : List ℕ) (n had : ℕ) (head
 
     pub edited_object : object_of version_one after n ≡ record { kind = kind; usage = usage; secret = secret; content = content_after edit old }
     unfolding object_of
-    edited_object = same_object (object_of version_one after n) kind usage secret (content_after edit old) is_head.is_kind is_head.is_usage is_head.is_secret (edited_content edit old long leaves after n is_head.is_long each_now was_now edited_now)
+    edited_object = same_object (object_of version_one after n) kind usage secret (content_after edit old) is_head.is_kind is_head.is_usage is_head.is_secret
+        (edited_content edit old long leaves after n is_head.is_long each_now was_now edited_now)

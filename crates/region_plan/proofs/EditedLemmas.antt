@@ -1,5 +1,6 @@
 -- What an edited content is.
-use Rattle.std.proofs.Common.{◌≡◌, ◌≢◌, ◌⊎◌, inl, inr, ℕ, ◌+◌, ◌-◌, ◌*◌, ◌/◌, ◌<◌, ◌≤◌, min, max, Bool, true, false, not, List, ◌++◌, length, take, drop, get_or, replicate, length-append, length-drop, refl, sym, ◌∙◌, ap, arith, nat_le}
+use Rattle.std.proofs.Common.{◌≡◌, ◌≢◌, ◌⊎◌, inl, inr, ℕ, ◌+◌, ◌-◌, ◌*◌, ◌/◌, ◌<◌, ◌≤◌, min, max, Bool, true, false, not, List, ◌++◌, length}
+use Rattle.std.proofs.Common.{take, drop, get_or, replicate, length-append, length-drop, refl, sym, ◌∙◌, ap, arith, nat_le}
 use Rattle.std.specs.Prelude.{◌&&◌, ◌||◌, if◌then◌else◌, nat_lt}
 use Rattle.std.proofs.lemmas.Bool.{ltb-true, ltb-false, leb-true, leb-false, lt-ltb, le-ltb, le-leb, lt-leb, and_from, ne_eqb}
 use Rattle.std.proofs.lemmas.Grind.{same_number_lists}
@@ -11,7 +12,8 @@ use Rattle.region_plan.specs.declared.edit.Edit.{Edit}
 use Rattle.region_plan.proofs.BlockLemmas.{past_end, after_byte, after_long}
 
 resized_long : (n : ℕ) (c : List ℕ) → length (resized n c) ≡ n
-resized_long n c = (let one = length-append (take n c) (replicate (n - length c) 0) in let two = length-take n c in let three = length-replicate {A = ℕ} (n - length c) 0 in omega (arith, one, two, three))
+resized_long n c = (let one = length-append (take n c) (replicate (n - length c) 0) in let two = length-take n c in let three = length-replicate {A = ℕ} (n - length c) 0 in
+    omega (arith, one, two, three))
 
 resized_at : (n : ℕ) (c : List ℕ) (k : ℕ) → k < n → get_or (resized n c) k 0 ≡ get_or c k 0
 resized_at n c k less =
@@ -25,15 +27,20 @@ resized_at n c k less =
     ] refl
 
 module _ (edit : Edit) (old : List ℕ) (long : length old ≡ edit.kept) where
-  inside_is : (p : ℕ) → p < edit.length → byte_after edit p (get_or old p 0) ≡ (if nat_le edit.at p && nat_lt (p - edit.at) (length edit.bytes.now) then get_or edit.bytes.now (p - edit.at) 0 else get_or old p 0)
-  inside_is p less = ap (λ b. if b then 0 else if nat_le edit.at p && nat_lt (p - edit.at) (length edit.bytes.now) then get_or edit.bytes.now (p - edit.at) 0 else get_or old p 0) (lt-leb edit.length p less)
+  inside_is : (p : ℕ) → p < edit.length → byte_after edit p (get_or old p 0) ≡ (if nat_le edit.at p && nat_lt (p - edit.at) (length edit.bytes.now) then get_or edit.bytes.now
+      (p - edit.at) 0 else get_or old p 0)
+  inside_is p less = ap (λ b. if b then 0 else if nat_le edit.at p && nat_lt (p - edit.at) (length edit.bytes.now) then get_or edit.bytes.now (p - edit.at) 0 else get_or old p 0)
+      (lt-leb edit.length p less)
 
-  at_is : (p : ℕ) → p < edit.length → get_or (content_after edit old) p 0 ≡ (if nat_le edit.at p && nat_lt (p - edit.at) (length edit.bytes.now) then get_or edit.bytes.now (p - edit.at) 0 else get_or old p 0)
+  at_is : (p : ℕ) → p < edit.length → get_or (content_after edit old) p 0 ≡ (if nat_le edit.at p && nat_lt (p - edit.at) (length edit.bytes.now) then get_or edit.bytes.now
+      (p - edit.at) 0 else get_or old p 0)
   at_is p less = sym (after_byte edit old long p) ∙ inside_is p less
 
   -- a list of this length with these bytes
-  alike : (c : List ℕ) → length c ≡ edit.length → ((p : ℕ) → p < edit.length → (if nat_le edit.at p && nat_lt (p - edit.at) (length edit.bytes.now) then get_or edit.bytes.now (p - edit.at) 0 else get_or old p 0) ≡ get_or c p 0) → content_after edit old ≡ c
-  alike c same each = same_number_lists (content_after edit old) c (after_long edit old long ∙ sym same) (λ k less. (let inside : k < edit.length = omega (arith, less, after_long edit old long) in at_is k inside ∙ each k inside))
+  alike : (c : List ℕ) → length c ≡ edit.length → ((p : ℕ) → p < edit.length → (if nat_le edit.at p && nat_lt (p - edit.at) (length edit.bytes.now) then get_or edit.bytes.now
+      (p - edit.at) 0 else get_or old p 0) ≡ get_or c p 0) → content_after edit old ≡ c
+  alike c same each = same_number_lists (content_after edit old) c (after_long edit old long ∙ sym same)
+      (λ k less. (let inside : k < edit.length = omega (arith, less, after_long edit old long) in at_is k inside ∙ each k inside))
 
   outside : (p : ℕ) → length edit.bytes.now ≡ 0 → (nat_le edit.at p && nat_lt (p - edit.at) (length edit.bytes.now)) ≡ false
   outside p none = each (nat_le edit.at p) (le-ltb (p - edit.at) (length edit.bytes.now) (omega (arith, none)))
@@ -53,7 +60,8 @@ module _ (edit : Edit) (old : List ℕ) (long : length old ≡ edit.kept) where
   -- a whole content
   pub after_whole : edit.at ≡ 0 → edit.length ≡ length edit.bytes.now → content_after edit old ≡ edit.bytes.now
   after_whole start same = alike edit.bytes.now (sym same) (λ p less.
-      ap (λ b. if b then get_or edit.bytes.now (p - edit.at) 0 else get_or old p 0) (and_from _ _ (le-leb edit.at p (omega (arith, start))) (lt-ltb (p - edit.at) (length edit.bytes.now) (omega (arith, start, same, less))))
+      ap (λ b. if b then get_or edit.bytes.now (p - edit.at) 0 else get_or old p 0) (and_from _ _ (le-leb edit.at p (omega (arith, start)))
+      (lt-ltb (p - edit.at) (length edit.bytes.now) (omega (arith, start, same, less))))
       ∙ ap (λ (k : ℕ). get_or edit.bytes.now k 0) (let e : p - edit.at ≡ p = omega (arith, start) in e))
 
   -- bytes written at a place
@@ -69,7 +77,8 @@ module _ (edit : Edit) (old : List ℕ) (long : length old ≡ edit.kept) where
       three_long a b c = search (arith, length-append)
 
       whole_long : length (resized edit.at old ++ edit.bytes.now ++ drop (edit.at + length edit.bytes.now) old) ≡ edit.length
-      whole_long = (let one = three_long (resized edit.at old) edit.bytes.now (drop (edit.at + length edit.bytes.now) old) in let two = length-drop (edit.at + length edit.bytes.now) old in omega (arith, one, two, front_long, same))
+      whole_long = (let one = three_long (resized edit.at old) edit.bytes.now (drop (edit.at + length edit.bytes.now) old) in let two =
+          length-drop (edit.at + length edit.bytes.now) old in omega (arith, one, two, front_long, same))
 
       first_at : (a b c : List ℕ) (k : ℕ) → k < length a → get_or (a ++ b ++ c) k 0 ≡ get_or a k 0
       first_at a b c k less = grind (arith, places)
@@ -80,22 +89,27 @@ module _ (edit : Edit) (old : List ℕ) (long : length old ≡ edit.kept) where
       third_at : (a b c : List ℕ) (k : ℕ) → length a + length b ≤ k → get_or (a ++ b ++ c) k 0 ≡ get_or c (k - (length a + length b)) 0
       third_at a b c k more = grind (arith, places)
 
-      each : (p : ℕ) → p < edit.length → (if nat_le edit.at p && nat_lt (p - edit.at) (length edit.bytes.now) then get_or edit.bytes.now (p - edit.at) 0 else get_or old p 0) ≡ get_or (resized edit.at old ++ edit.bytes.now ++ drop (edit.at + length edit.bytes.now) old) p 0
+      each : (p : ℕ) → p < edit.length → (if nat_le edit.at p && nat_lt (p - edit.at) (length edit.bytes.now) then get_or edit.bytes.now (p - edit.at) 0 else get_or old p 0) ≡
+          get_or (resized edit.at old ++ edit.bytes.now ++ drop (edit.at + length edit.bytes.now) old) p 0
       each p less =
-          elim (nat_le edit.at p) as (λ b. nat_le edit.at p ≡ b → (if b && nat_lt (p - edit.at) (length edit.bytes.now) then get_or edit.bytes.now (p - edit.at) 0 else get_or old p 0) ≡ get_or (resized edit.at old ++ edit.bytes.now ++ drop (edit.at + length edit.bytes.now) old) p 0) [
-            | true ↦ λ e. elim (nat_lt (p - edit.at) (length edit.bytes.now)) as (λ b. nat_lt (p - edit.at) (length edit.bytes.now) ≡ b → (if b then get_or edit.bytes.now (p - edit.at) 0 else get_or old p 0) ≡ get_or (resized edit.at old ++ edit.bytes.now ++ drop (edit.at + length edit.bytes.now) old) p 0) [
-              | true ↦ λ f.
-                  let low = leb-true edit.at p e in
-                  let high = ltb-true (p - edit.at) (length edit.bytes.now) f in
-                  sym (second_at (resized edit.at old) edit.bytes.now (drop (edit.at + length edit.bytes.now) old) p (omega (arith, low, front_long)) (omega (arith, low, high, front_long))
-                  ∙ ap (λ (k : ℕ). get_or edit.bytes.now (p - k) 0) front_long)
-              | false ↦ λ f.
-                  let low = leb-true edit.at p e in
-                  let past = ltb-false (p - edit.at) (length edit.bytes.now) f in
-                  sym (third_at (resized edit.at old) edit.bytes.now (drop (edit.at + length edit.bytes.now) old) p (omega (arith, low, past, front_long))
-                  ∙ get_or-drop (edit.at + length edit.bytes.now) old (p - (length (resized edit.at old) + length edit.bytes.now)) 0
-                  ∙ ap (λ (k : ℕ). get_or old k 0) (let at : edit.at + length edit.bytes.now + (p - (length (resized edit.at old) + length edit.bytes.now)) ≡ p = omega (arith, low, past, front_long) in at))
-            ] refl
+          elim (nat_le edit.at p) as (λ b. nat_le edit.at p ≡ b → (if b && nat_lt (p - edit.at) (length edit.bytes.now) then get_or edit.bytes.now (p - edit.at) 0 else get_or old p
+          0) ≡ get_or (resized edit.at old ++ edit.bytes.now ++ drop (edit.at + length edit.bytes.now) old) p 0) [
+            | true ↦ λ e. elim (nat_lt (p - edit.at) (length edit.bytes.now)) as (λ b. nat_lt (p - edit.at) (length edit.bytes.now) ≡ b →
+                (if b then get_or edit.bytes.now (p - edit.at) 0 else get_or old p 0) ≡ get_or (resized edit.at old ++ edit.bytes.now ++ drop (edit.at + length edit.bytes.now) old)
+                p 0) [
+                  | true ↦ λ f.
+                      let low = leb-true edit.at p e in
+                      let high = ltb-true (p - edit.at) (length edit.bytes.now) f in
+                      sym (second_at (resized edit.at old) edit.bytes.now (drop (edit.at + length edit.bytes.now) old) p (omega (arith, low, front_long)) (omega (arith, low, high, front_long))
+                      ∙ ap (λ (k : ℕ). get_or edit.bytes.now (p - k) 0) front_long)
+                  | false ↦ λ f.
+                      let low = leb-true edit.at p e in
+                      let past = ltb-false (p - edit.at) (length edit.bytes.now) f in
+                      sym (third_at (resized edit.at old) edit.bytes.now (drop (edit.at + length edit.bytes.now) old) p (omega (arith, low, past, front_long))
+                      ∙ get_or-drop (edit.at + length edit.bytes.now) old (p - (length (resized edit.at old) + length edit.bytes.now)) 0
+                      ∙ ap (λ (k : ℕ). get_or old k 0) (let at : edit.at + length edit.bytes.now + (p - (length (resized edit.at old) + length edit.bytes.now)) ≡ p =
+                      omega (arith, low, past, front_long) in at))
+                ] refl
             | false ↦ λ e.
                 let early = leb-false edit.at p e in
                 sym (first_at (resized edit.at old) edit.bytes.now (drop (edit.at + length edit.bytes.now) old) p (omega (arith, early, front_long)) ∙ resized_at edit.at old p early)
@@ -113,9 +127,11 @@ module _ (edit : Edit) where
       each true false e f = absurd (let g : true ≡ false = sym (ap (λ a. a && not (is_touched edit x)) e ∙ ap not f) ∙ isnt in cc)
 
   touched : (x : ℕ) → is_touched edit x ≡ true → ((edit.length < edit.kept) × (edit.length < 1024 * x + 1024)) ⊎ (max edit.at (1024 * x) < min (1024 * x + 1024) (edit.at + length edit.bytes.now))
-  touched x is = each (nat_lt edit.length edit.kept) (nat_lt edit.length (1024 * x + 1024)) (nat_lt (max edit.at (1024 * x)) (min (1024 * x + 1024) (edit.at + length edit.bytes.now))) refl refl refl is
+  touched x is = each (nat_lt edit.length edit.kept) (nat_lt edit.length (1024 * x + 1024)) (nat_lt (max edit.at (1024 * x))
+      (min (1024 * x + 1024) (edit.at + length edit.bytes.now))) refl refl refl is
     where
-      each : (a b c : Bool) → nat_lt edit.length edit.kept ≡ a → nat_lt edit.length (1024 * x + 1024) ≡ b → nat_lt (max edit.at (1024 * x)) (min (1024 * x + 1024) (edit.at + length edit.bytes.now)) ≡ c → ((a && b) || c) ≡ true
+      each : (a b c : Bool) → nat_lt edit.length edit.kept ≡ a → nat_lt edit.length (1024 * x + 1024) ≡ b →
+          nat_lt (max edit.at (1024 * x)) (min (1024 * x + 1024) (edit.at + length edit.bytes.now)) ≡ c → ((a && b) || c) ≡ true
           → ((edit.length < edit.kept) × (edit.length < 1024 * x + 1024)) ⊎ (max edit.at (1024 * x) < min (1024 * x + 1024) (edit.at + length edit.bytes.now))
       each true true c e f g is' = inl (ltb-true edit.length edit.kept e, ltb-true edit.length (1024 * x + 1024) f)
       each true false true e f g is' = inr (ltb-true (max edit.at (1024 * x)) (min (1024 * x + 1024) (edit.at + length edit.bytes.now)) g)
@@ -128,7 +144,8 @@ module _ (edit : Edit) where
       → (min edit.at edit.kept / 1024 ≤ x) × (x < data_leaves (edit.at + length edit.bytes.now))
   reach_written x long inside isnt = each (not_left x isnt)
     where
-      more : ((edit.length < edit.kept) × (edit.length < 1024 * x + 1024)) ⊎ (max edit.at (1024 * x) < min (1024 * x + 1024) (edit.at + length edit.bytes.now)) → (min edit.at edit.kept / 1024 ≤ x) × (x < data_leaves (edit.at + length edit.bytes.now))
+      more : ((edit.length < edit.kept) × (edit.length < 1024 * x + 1024)) ⊎ (max edit.at (1024 * x) < min (1024 * x + 1024) (edit.at + length edit.bytes.now)) →
+          (min edit.at edit.kept / 1024 ≤ x) × (x < data_leaves (edit.at + length edit.bytes.now))
       more (inl cut) = absurd (omega (arith, long, cut.0))
       more (inr here) = (omega (arith, here), omega (arith, here))
 
@@ -136,7 +153,8 @@ module _ (edit : Edit) where
       each (inl past) = (omega (arith, past), omega (arith, long, inside, past))
       each (inr is) = more (touched x is)
 
-  pub reach_resized : (x : ℕ) → length edit.bytes.now ≡ 0 → edit.at ≡ edit.length → x < data_leaves edit.length → is_left edit x ≡ false → (min edit.length edit.kept / 1024 ≤ x) × (x < data_leaves edit.length)
+  pub reach_resized : (x : ℕ) → length edit.bytes.now ≡ 0 → edit.at ≡ edit.length → x < data_leaves edit.length → is_left edit x ≡ false →
+      (min edit.length edit.kept / 1024 ≤ x) × (x < data_leaves edit.length)
   reach_resized x none at inside isnt = (each (not_left x isnt), inside)
     where
       more : ((edit.length < edit.kept) × (edit.length < 1024 * x + 1024)) ⊎ (max edit.at (1024 * x) < min (1024 * x + 1024) (edit.at + length edit.bytes.now)) → min edit.length edit.kept / 1024 ≤ x

@@ -21,7 +21,8 @@ total_between a b (suc m) s =
     let rest = total_between a b m (s + 1) in
     each (nat_le a s) (nat_lt s b) refl refl rest
   where
-    each : (p q : Bool) → nat_le a s ≡ p → nat_lt s b ≡ q → total (λ x. mark (nat_le a x && nat_lt x b)) (s + 1) m ≤ b - max a (s + 1) → mark (p && q) + total (λ x. mark (nat_le a x && nat_lt x b)) (s + 1) m ≤ b - max a s
+    each : (p q : Bool) → nat_le a s ≡ p → nat_lt s b ≡ q → total (λ x. mark (nat_le a x && nat_lt x b)) (s + 1) m ≤ b - max a (s + 1) →
+        mark (p && q) + total (λ x. mark (nat_le a x && nat_lt x b)) (s + 1) m ≤ b - max a s
     each true true e f rest = (let one = leb-true a s e in let two = ltb-true s b f in omega (arith, one, two, rest))
     each true false e f rest = (let one = leb-true a s e in let two = ltb-false s b f in omega (arith, one, two, rest))
     each false q e f rest = (let one = leb-false a s e in omega (arith, one, rest))
@@ -96,7 +97,8 @@ module _ (after : ℕ → List ℕ) (n blocks first last : ℕ) (edit : Edit) (b
   data_few =
       joined (total_less written (λ i. total (λ x. mark (is_data_at version_one after n x i && not (is_left edit x))) 0 blocks) 0 256 (λ i low high. written_once i (omega (arith, high))))
       (total_swap (λ i x. mark (is_data_at version_one after n x i && not (is_left edit x))) 0 256 0 blocks)
-      (total_less (λ x. total (λ i. mark (is_data_at version_one after n x i && not (is_left edit x))) 0 256) (λ x. mark (nat_le first x && nat_lt x last)) 0 blocks (λ x low high. index_few x (omega (arith, high))))
+      (total_less (λ x. total (λ i. mark (is_data_at version_one after n x i && not (is_left edit x))) 0 256) (λ x. mark (nat_le first x && nat_lt x last)) 0 blocks
+      (λ x low high. index_few x (omega (arith, high))))
       (total_between first last blocks 0)
     where
       joined : {a b c d : ℕ} → a ≤ b → b ≡ c → c ≤ d → d ≤ last - max first 0 → a ≤ last - first

@@ -52,7 +52,8 @@ module _ (leaves : ℕ → List ℕ) where
   found_below : (q : List ℕ) (inode : Inode) → inode_with q (inodes_of version_one leaves) ≡ Some inode → (inode.number < 256) × (is_inode version_one leaves inode.number ≡ true)
   unfolding inodes_of inode_numbers numbers
   found_below q inode is =
-      find_all (λ i. (i < 256) × (is_inode version_one leaves i ≡ true)) (λ x. bytes_eq x.id q) (inode_numbers version_one leaves) inode (range_all (λ i. is_inode version_one leaves i) 256 256 0 (omega arith)) is
+      find_all (λ i. (i < 256) × (is_inode version_one leaves i ≡ true)) (λ x. bytes_eq x.id q) (inode_numbers version_one leaves) inode
+      (range_all (λ i. is_inode version_one leaves i) 256 256 0 (omega arith)) is
 
   pub found_inode : (q : List ℕ) (inode : Inode) → Sound version_one leaves → inode_with q (inodes_of version_one leaves) ≡ Some inode → IsFound leaves q inode
   found_inode q inode sound is =
@@ -70,14 +71,16 @@ module _ (leaves : ℕ → List ℕ) where
       }
 
   -- the object of the identifier
-  pub object_found : (q : List ℕ) (inode : Inode) → inode_with q (inodes_of version_one leaves) ≡ Some inode → object_at (store_of version_one leaves) q ≡ Some (object_of version_one leaves inode.number)
+  pub object_found : (q : List ℕ) (inode : Inode) → inode_with q (inodes_of version_one leaves) ≡ Some inode →
+      object_at (store_of version_one leaves) q ≡ Some (object_of version_one leaves inode.number)
   object_found q inode is = object_is version_one leaves q ∙ ap (option_map (λ (x : Inode). object_of version_one leaves x.number)) is
 
   pub object_absent : (q : List ℕ) → inode_with q (inodes_of version_one leaves) ≡ None → object_at (store_of version_one leaves) q ≡ None
   object_absent q is = object_is version_one leaves q ∙ ap (option_map (λ (x : Inode). object_of version_one leaves x.number)) is
 
 -- what the leaf of an inode tells
-pub told_head : (n : ℕ) (bytes : List ℕ) (inode : Inode) (long : ℕ) → inode ≡ inode_of n bytes → is_inode_leaf bytes ≡ true → long ≡ inode.length → IsHead bytes inode.kind inode.usage inode.id inode.secret long
+pub told_head : (n : ℕ) (bytes : List ℕ) (inode : Inode) (long : ℕ) → inode ≡ inode_of n bytes → is_inode_leaf bytes ≡ true → long ≡ inode.length →
+    IsHead bytes inode.kind inode.usage inode.id inode.secret long
 unfolding inode_of
 told_head n bytes inode long told rules same = record {
   rules = rules;
@@ -89,7 +92,8 @@ told_head n bytes inode long told rules same = record {
 }
 
 -- the same of equal parts
-pub head_as : (bytes : List ℕ) (kind kind' usage usage' : ℕ) (id id' secret secret' : List ℕ) (long : ℕ) → kind ≡ kind' → usage ≡ usage' → id ≡ id' → secret ≡ secret' → IsHead bytes kind usage id secret long → IsHead bytes kind' usage' id' secret' long
+pub head_as : (bytes : List ℕ) (kind kind' usage usage' : ℕ) (id id' secret secret' : List ℕ) (long : ℕ) → kind ≡ kind' → usage ≡ usage' → id ≡ id' → secret ≡ secret' →
+    IsHead bytes kind usage id secret long → IsHead bytes kind' usage' id' secret' long
 head_as bytes kind kind' usage usage' id id' secret secret' long a b c d head = record {
   rules = head.rules;
   is_kind = head.is_kind ∙ a;
@@ -100,10 +104,12 @@ head_as bytes kind kind' usage usage' id id' secret secret' long a b c d head = 
 }
 
 -- what a look-up tells
-pub some_other : (leaves : ℕ → List ℕ) (q : List ℕ) (r : Option (Bor Inode)) (inodes : List Inode) → option_copied r ≡ inode_with q inodes → inodes ≡ inodes_of version_one leaves → is_some r ≡ true → (other : Inode) × (inode_with q (inodes_of version_one leaves) ≡ Some other)
+pub some_other : (leaves : ℕ → List ℕ) (q : List ℕ) (r : Option (Bor Inode)) (inodes : List Inode) → option_copied r ≡ inode_with q inodes → inodes ≡ inodes_of version_one leaves →
+    is_some r ≡ true → (other : Inode) × (inode_with q (inodes_of version_one leaves) ≡ Some other)
 some_other leaves q None inodes told all is = absurd (let f : false ≡ true = is in cc)
 some_other leaves q (Some b) inodes told all is = (b.now, ap (λ (l : List Inode). inode_with q l) (sym all) ∙ sym told)
 
-pub none_other : (leaves : ℕ → List ℕ) (q : List ℕ) (r : Option (Bor Inode)) (inodes : List Inode) → option_copied r ≡ inode_with q inodes → inodes ≡ inodes_of version_one leaves → is_some r ≡ false → inode_with q (inodes_of version_one leaves) ≡ None
+pub none_other : (leaves : ℕ → List ℕ) (q : List ℕ) (r : Option (Bor Inode)) (inodes : List Inode) → option_copied r ≡ inode_with q inodes → inodes ≡ inodes_of version_one leaves →
+    is_some r ≡ false → inode_with q (inodes_of version_one leaves) ≡ None
 none_other leaves q None inodes told all isnt = ap (λ (l : List Inode). inode_with q l) (sym all) ∙ sym told
 none_other leaves q (Some b) inodes told all isnt = absurd (let f : true ≡ false = isnt in cc)

@@ -152,7 +152,8 @@ module _ (leaves after : ℕ → List ℕ) (n : ℕ) (sound : Sound version_one 
       record {
         bytes = ap is_inode_leaf same ∙ own.bytes;
         present = λ x before. (let met = own.present x (subst (λ (b : ℕ). x < b) long before) in (met.0, met.1, data_same m x met.0 met.1 other ∙ met.2));
-        single = λ x k j before low high here there. own.single x k j (subst (λ (b : ℕ). x < b) long before) low high (sym (data_same m x k low other) ∙ here) (sym (data_same m x j high other) ∙ there);
+        single = λ x k j before low high here there. own.single x k j (subst (λ (b : ℕ). x < b) long before) low high (sym (data_same m x k low other) ∙ here)
+            (sym (data_same m x j high other) ∙ there);
         before = λ k low is. (let met = data_was m k low other is in
             subst (λ (b : ℕ). (F k).index < b) (sym long) (subst (λ (e : Entry). e.index < blocks_of version_one leaves m) (sym met.0) (own.before k low met.1)));
         padded = λ k low is. (let met = data_was m k low other is in
@@ -178,9 +179,11 @@ module _ (leaves after : ℕ → List ℕ) (n : ℕ) (sound : Sound version_one 
   others_formed i below own same formed =
       ap (λ (k : ℕ). if nat_lt i 1 then k == 0 else form_of i (F i) (is_inode version_one after (F i).inode)) (same_number i same)
       ∙ ap (λ (e : Entry). if nat_lt i 1 then entry_number version_one leaves i == 0 else form_of i e (is_inode version_one after e.inode)) same
-      ∙ elim (nat_lt i 1) as (λ b. (if b then entry_number version_one leaves i == 0 else form_of i (E i) (is_inode version_one leaves (E i).inode)) ≡ true → (if b then entry_number version_one leaves i == 0 else form_of i (E i) (is_inode version_one after (E i).inode)) ≡ true) [
+      ∙ elim (nat_lt i 1) as (λ b. (if b then entry_number version_one leaves i == 0 else form_of i (E i) (is_inode version_one leaves (E i).inode)) ≡ true →
+      (if b then entry_number version_one leaves i == 0 else form_of i (E i) (is_inode version_one after (E i).inode)) ≡ true) [
         | true ↦ λ e. e
-        | false ↦ λ e. form_kept i (E i) (is_inode version_one leaves (E i).inode) (is_inode version_one after (E i).inode) e (λ kind was. (inode_stays (E i).inode (owner_below version_one leaves i (omega arith)) (not_ours kind) was).0)
+        | false ↦ λ e. form_kept i (E i) (is_inode version_one leaves (E i).inode) (is_inode version_one after (E i).inode) e
+            (λ kind was. (inode_stays (E i).inode (owner_below version_one leaves i (omega arith)) (not_ours kind) was).0)
       ] formed
     where
       not_ours : (E i).kind ≡ 2 → (E i).inode ≢ n
@@ -224,7 +227,8 @@ module _ (leaves after : ℕ → List ℕ) (n : ℕ) (sound : Sound version_one 
   object_same m below other inode =
       let same = (inode_stays m below other inode).1 in
       ap (λ (x : List ℕ). object_with x (map (λ at. byte_at version_one after m at) (range_with_len 0 (length_in x)))) same
-      ∙ ap (λ (c : List ℕ). object_with (leaves m) c) (map_all (λ at. byte_at version_one leaves m at) (λ at. byte_at version_one after m at) (range_with_len 0 (length_in (leaves m))) (λ at. byte_same m at other))
+      ∙ ap (λ (c : List ℕ). object_with (leaves m) c) (map_all (λ at. byte_at version_one leaves m at) (λ at. byte_at version_one after m at)
+      (range_with_len 0 (length_in (leaves m))) (λ at. byte_same m at other))
 
   -- the rules hold afterwards, where they hold of the changed object
   module _ (own : is_inode version_one after n ≡ true → SoundInode version_one after n)
@@ -245,14 +249,16 @@ module _ (leaves after : ℕ → List ℕ) (n : ℕ) (sound : Sound version_one 
                 let is : a ≡ n = eqb-true a n e in
                 let other = eqb-false b n f in
                 let was = inode_was b high other there in
-                absurd (named (subst (λ (x : ℕ). is_inode version_one after x ≡ true) is here) b high other was (sym (ap identifier_in (inode_stays b high other was).1) ∙ sym same ∙ ap (λ (x : ℕ). identifier_in (after x)) is))
+                absurd (named (subst (λ (x : ℕ). is_inode version_one after x ≡ true) is here) b high other was (sym (ap identifier_in (inode_stays b high other was).1) ∙ sym same
+                ∙ ap (λ (x : ℕ). identifier_in (after x)) is))
           ] refl
           | false ↦ λ e. elim (b == n) as (λ t. (b == n) ≡ t → a ≡ b) [
             | true ↦ λ f.
                 let is : b ≡ n = eqb-true b n f in
                 let other = eqb-false a n e in
                 let was = inode_was a low other here in
-                absurd (named (subst (λ (x : ℕ). is_inode version_one after x ≡ true) is there) a low other was (sym (ap identifier_in (inode_stays a low other was).1) ∙ same ∙ ap (λ (x : ℕ). identifier_in (after x)) is))
+                absurd (named (subst (λ (x : ℕ). is_inode version_one after x ≡ true) is there) a low other was (sym (ap identifier_in (inode_stays a low other was).1)
+                ∙ same ∙ ap (λ (x : ℕ). identifier_in (after x)) is))
             | false ↦ λ f.
                 let one = inode_was a low (eqb-false a n e) here in
                 let two = inode_was b high (eqb-false b n f) there in

@@ -93,10 +93,12 @@ module _ (id secret none kind usage long lengths p1 p2 p3 p4 p5 p6 : List ℕ) (
   number_at at bytes n fits is here = ap (from_le_bytes w32) (here ∙ is) ∙ from_le_bytes-to_le_bytes_4 n fits
 
   kind_at : four_at 0 p6 ≡ k
-  kind_at = number_at 0 kind k k_fits is_kind (past_6 0 4 (omega arith) ∙ past_5 0 4 (omega arith) ∙ past_4 0 4 (omega arith) ∙ past_3 0 4 (omega arith) ∙ past_2 0 4 (omega arith) ∙ ap (part 0 4) e1 ∙ part_is 0 4 kind none kind_long (omega (arith, l0)))
+  kind_at = number_at 0 kind k k_fits is_kind (past_6 0 4 (omega arith) ∙ past_5 0 4 (omega arith) ∙ past_4 0 4 (omega arith) ∙ past_3 0 4 (omega arith) ∙ past_2 0 4 (omega arith)
+      ∙ ap (part 0 4) e1 ∙ part_is 0 4 kind none kind_long (omega (arith, l0)))
 
   usage_at : four_at USAGE_AT p6 ≡ u
-  usage_at = number_at 4 usage u u_fits is_usage (past_6 4 4 (omega arith) ∙ past_5 4 4 (omega arith) ∙ past_4 4 4 (omega arith) ∙ past_3 4 4 (omega arith) ∙ ap (part 4 4) e2 ∙ part_is 4 4 usage p1 usage_long (omega (arith, l1)))
+  usage_at = number_at 4 usage u u_fits is_usage (past_6 4 4 (omega arith) ∙ past_5 4 4 (omega arith) ∙ past_4 4 4 (omega arith) ∙ past_3 4 4 (omega arith) ∙ ap (part 4 4) e2
+      ∙ part_is 4 4 usage p1 usage_long (omega (arith, l1)))
 
   long_at : length_in p6 ≡ l
   unfolding length_in

@@ -37,10 +37,11 @@ module _ (L : Layout) (leaves : ℕ → List ℕ) where
   looked_none q (suc n) a none =
       let rest : looked q (a + 1) n ≡ None = looked_none q n (a + 1) (λ j low high inode same. none j (omega arith) (omega arith) inode same) in
       elim (is_inode L leaves a) as (λ b. is_inode L leaves a ≡ b → finite.find by_bytes q (map kept (cond b (a ∷ inodes_in (a + 1) n) (inodes_in (a + 1) n))) ≡ None) [
-        | true ↦ λ e. elim (is_eq (by_bytes q (identifier_in (leaves a)))) as (λ t. is_eq (by_bytes q (identifier_in (leaves a))) ≡ t → cond t (Some (object_of L leaves a)) (looked q (a + 1) n) ≡ None) [
-          | true ↦ λ t. absurd (none a (omega arith) (omega arith) e (sym (tied_same q (identifier_in (leaves a)) (equal _ t))))
-          | false ↦ λ t. rest
-        ] refl
+        | true ↦ λ e. elim (is_eq (by_bytes q (identifier_in (leaves a)))) as (λ t. is_eq (by_bytes q (identifier_in (leaves a))) ≡ t →
+            cond t (Some (object_of L leaves a)) (looked q (a + 1) n) ≡ None) [
+              | true ↦ λ t. absurd (none a (omega arith) (omega arith) e (sym (tied_same q (identifier_in (leaves a)) (equal _ t))))
+              | false ↦ λ t. rest
+            ] refl
         | false ↦ λ e. rest
       ] refl
 
@@ -51,11 +52,13 @@ module _ (L : Layout) (leaves : ℕ → List ℕ) where
   looked_some q zero a o is = cc
   looked_some q (suc n) a o is =
       let deeper = λ (f : looked q (a + 1) n ≡ Some o). wider a n (looked_some q n (a + 1) o f) in
-      elim (is_inode L leaves a) as (λ b. is_inode L leaves a ≡ b → finite.find by_bytes q (map kept (cond b (a ∷ inodes_in (a + 1) n) (inodes_in (a + 1) n))) ≡ Some o → (k : ℕ) × (a ≤ k) × (k < a + suc n) × IsOf k q o) [
-        | true ↦ λ e f. elim (is_eq (by_bytes q (identifier_in (leaves a)))) as (λ t. is_eq (by_bytes q (identifier_in (leaves a))) ≡ t → cond t (Some (object_of L leaves a)) (looked q (a + 1) n) ≡ Some o → (k : ℕ) × (a ≤ k) × (k < a + suc n) × IsOf k q o) [
-          | true ↦ λ t g. (let same : object_of L leaves a ≡ o = cc in (a, omega arith, omega arith, (e, sym (tied_same q (identifier_in (leaves a)) (equal _ t)), same)))
-          | false ↦ λ t g. deeper g
-        ] refl f
+      elim (is_inode L leaves a) as (λ b. is_inode L leaves a ≡ b → finite.find by_bytes q (map kept (cond b (a ∷ inodes_in (a + 1) n) (inodes_in (a + 1) n))) ≡ Some o →
+      (k : ℕ) × (a ≤ k) × (k < a + suc n) × IsOf k q o) [
+        | true ↦ λ e f. elim (is_eq (by_bytes q (identifier_in (leaves a)))) as (λ t. is_eq (by_bytes q (identifier_in (leaves a))) ≡ t →
+            cond t (Some (object_of L leaves a)) (looked q (a + 1) n) ≡ Some o → (k : ℕ) × (a ≤ k) × (k < a + suc n) × IsOf k q o) [
+              | true ↦ λ t g. (let same : object_of L leaves a ≡ o = cc in (a, omega arith, omega arith, (e, sym (tied_same q (identifier_in (leaves a)) (equal _ t)), same)))
+              | false ↦ λ t g. deeper g
+            ] refl f
         | false ↦ λ e f. deeper f
       ] refl is
 
@@ -67,16 +70,20 @@ module _ (L : Layout) (leaves : ℕ → List ℕ) where
         | true ↦ λ e.
             let same : a ≡ k = eqb-true a k e in
             subst (λ (m : ℕ). looked (identifier_in (leaves m)) a (suc n) ≡ Some (object_of L leaves m)) same
-            (ap (λ b. finite.find by_bytes (identifier_in (leaves a)) (map kept (cond b (a ∷ inodes_in (a + 1) n) (inodes_in (a + 1) n)))) (subst (λ (m : ℕ). is_inode L leaves m ≡ true) (sym same) inode)
+            (ap (λ b. finite.find by_bytes (identifier_in (leaves a)) (map kept (cond b (a ∷ inodes_in (a + 1) n) (inodes_in (a + 1) n))))
+            (subst (λ (m : ℕ). is_inode L leaves m ≡ true) (sym same) inode)
             ∙ ap (λ b. cond b (Some (object_of L leaves a)) (looked (identifier_in (leaves a)) (a + 1) n)) (ap is_eq (tied_itself nat_list_cmp_total (identifier_in (leaves a)))))
         | false ↦ λ e.
             let other : a ≢ k = eqb-false a k e in
             let rest = looked_at k n (a + 1) (omega (arith, other)) (omega arith) inode (λ j lower higher is same. apart j (omega arith) (omega arith) is same) in
-            elim (is_inode L leaves a) as (λ b. is_inode L leaves a ≡ b → finite.find by_bytes (identifier_in (leaves k)) (map kept (cond b (a ∷ inodes_in (a + 1) n) (inodes_in (a + 1) n))) ≡ Some (object_of L leaves k)) [
-              | true ↦ λ i. elim (is_eq (by_bytes (identifier_in (leaves k)) (identifier_in (leaves a)))) as (λ t. is_eq (by_bytes (identifier_in (leaves k)) (identifier_in (leaves a))) ≡ t → cond t (Some (object_of L leaves a)) (looked (identifier_in (leaves k)) (a + 1) n) ≡ Some (object_of L leaves k)) [
-                | true ↦ λ t. absurd (other (apart a (omega arith) (omega arith) i (sym (tied_same (identifier_in (leaves k)) (identifier_in (leaves a)) (equal _ t)))))
-                | false ↦ λ t. rest
-              ] refl
+            elim (is_inode L leaves a) as (λ b. is_inode L leaves a ≡ b → finite.find by_bytes (identifier_in (leaves k))
+            (map kept (cond b (a ∷ inodes_in (a + 1) n) (inodes_in (a + 1) n))) ≡ Some (object_of L leaves k)) [
+              | true ↦ λ i. elim (is_eq (by_bytes (identifier_in (leaves k)) (identifier_in (leaves a)))) as
+                  (λ t. is_eq (by_bytes (identifier_in (leaves k)) (identifier_in (leaves a))) ≡ t →
+                  cond t (Some (object_of L leaves a)) (looked (identifier_in (leaves k)) (a + 1) n) ≡ Some (object_of L leaves k)) [
+                    | true ↦ λ t. absurd (other (apart a (omega arith) (omega arith) i (sym (tied_same (identifier_in (leaves k)) (identifier_in (leaves a)) (equal _ t)))))
+                    | false ↦ λ t. rest
+                  ] refl
               | false ↦ λ i. rest
             ] refl
       ] refl
@@ -87,7 +94,8 @@ module _ (L : Layout) (leaves : ℕ → List ℕ) where
 
   -- the object of an inode stands under its identifier
   pub held_at : Sound L leaves → (k : ℕ) → k < L.leaves → is_inode L leaves k ≡ true → object_at (store_of L leaves) (identifier_in (leaves k)) ≡ Some (object_of L leaves k)
-  held_at sound k below inode = store_looked (identifier_in (leaves k)) ∙ looked_at k L.leaves 0 (omega arith) (omega arith) inode (λ j low high is same. sound.apart j k (omega arith) below is inode same)
+  held_at sound k below inode = store_looked (identifier_in (leaves k)) ∙ looked_at k L.leaves 0 (omega arith) (omega arith) inode
+      (λ j low high is same. sound.apart j k (omega arith) below is inode same)
 
   -- and what stands under an identifier is the object of an inode
   pub held_by : (q : List ℕ) (o : Object) → object_at (store_of L leaves) q ≡ Some o → (k : ℕ) × (k < L.leaves) × IsOf k q o

@@ -15,9 +15,11 @@ take_all (suc n) (x ∷ xs) le = ap (λ (l : List ℕ). x ∷ l) (take_all n xs 
 pub rest_is : (used : ℕ) (bytes : List ℕ) → length bytes ≡ 1024 → take (1024 - used) (drop used bytes) ≡ drop used bytes
 rest_is used bytes long = take_all (1024 - used) (drop used bytes) (omega (arith, length-drop used bytes, long))
 
-pub unpadded_from : (block leaf : List ℕ) (used : ℕ) (r : Bool) → block ≡ leaf → length block ≡ 1024 → r ≡ are_zero (take (1024 - used) (drop used block)) → r ≡ false → are_zero (drop used (take 1024 leaf)) ≡ false
+pub unpadded_from : (block leaf : List ℕ) (used : ℕ) (r : Bool) → block ≡ leaf → length block ≡ 1024 → r ≡ are_zero (take (1024 - used) (drop used block)) → r ≡ false →
+    are_zero (drop used (take 1024 leaf)) ≡ false
 unpadded_from block leaf used r same long told isnt =
-    ap (λ (x : List ℕ). are_zero (drop used (take 1024 x))) (sym same) ∙ ap (λ (x : List ℕ). are_zero (drop used x)) (take_all 1024 block (omega (arith, long))) ∙ ap are_zero (sym (rest_is used block long)) ∙ sym told ∙ isnt
+    ap (λ (x : List ℕ). are_zero (drop used (take 1024 x))) (sym same) ∙ ap (λ (x : List ℕ). are_zero (drop used x)) (take_all 1024 block (omega (arith, long)))
+    ∙ ap are_zero (sym (rest_is used block long)) ∙ sym told ∙ isnt
 
 -- lengths past their limits
 pub long_identifier : (bytes : List ℕ) (id : ℕ) → id ≡ get_or bytes 12 0 → 64 < id → false ≡ is_inode_leaf bytes
@@ -30,7 +32,8 @@ long_secret bytes secret is more = sym (and_right (nat_le (get_or bytes 12 0) 64
 
 -- the rules, as the code tests them
 pub leaf_rules : (bytes : List ℕ) (id secret : ℕ) (result a b c d : Bool) → length bytes ≡ 1024 → id ≡ get_or bytes 12 0 → secret ≡ get_or bytes 13 0 → id ≤ 64 → secret ≤ 128
-    → a ≡ are_zero (take 2 (drop 14 bytes)) → b ≡ are_zero (take (80 - (16 + id)) (drop (16 + id) bytes)) → c ≡ are_zero (take (208 - (80 + secret)) (drop (80 + secret) bytes)) → d ≡ are_zero (take (1024 - 208) (drop 208 bytes))
+    → a ≡ are_zero (take 2 (drop 14 bytes)) → b ≡ are_zero (take (80 - (16 + id)) (drop (16 + id) bytes)) → c ≡ are_zero (take (208 - (80 + secret)) (drop (80 + secret) bytes)) →
+    d ≡ are_zero (take (1024 - 208) (drop 208 bytes))
     → result ≡ (a && (b && (c && d))) → result ≡ is_inode_leaf bytes
 unfolding is_inode_leaf
 leaf_rules bytes id secret result a b c d long is_id is_secret short_id short_secret first second third fourth told =
@@ -45,7 +48,8 @@ leaf_rules bytes id secret result a b c d long is_id is_secret short_id short_se
     let f : nat_le (get_or bytes 13 0) 128 ≡ true = le-leb (get_or bytes 13 0) 128 (subst (λ (k : ℕ). k ≤ 128) is_secret short_secret) in
     told ∙ ap (λ x. x && (b && (c && d))) first ∙ ap (λ x. are_zero (part 14 2 bytes) && (x && (c && d))) b_is
     ∙ ap (λ x. are_zero (part 14 2 bytes) && (are_zero (part (16 + get_or bytes 12 0) (64 - get_or bytes 12 0) bytes) && (x && d))) c_is
-    ∙ ap (λ x. are_zero (part 14 2 bytes) && (are_zero (part (16 + get_or bytes 12 0) (64 - get_or bytes 12 0) bytes) && (are_zero (part (80 + get_or bytes 13 0) (128 - get_or bytes 13 0) bytes) && x))) d_is
+    ∙ ap (λ x. are_zero (part 14 2 bytes) && (are_zero (part (16 + get_or bytes 12 0) (64 - get_or bytes 12 0) bytes) &&
+    (are_zero (part (80 + get_or bytes 13 0) (128 - get_or bytes 13 0) bytes) && x))) d_is
     ∙ sym (both_pass _ _ _ e f)
   where
     both_pass : (x y z : Bool) → x ≡ true → y ≡ true → (x && (y && z)) ≡ z

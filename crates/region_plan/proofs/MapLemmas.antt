@@ -54,7 +54,12 @@ module _ (map new bytes : List ℕ) (leaf : ℕ) (e : Entry) (long : length map 
       let read : from_le_bytes w32 (part (4 * (leaf % 256)) 4 new) ≡ e.kind + 256 * e.inode + 65536 * e.index =
       ap (from_le_bytes w32) (bytes_are ∙ written) ∙ from_le_bytes-to_le_bytes_4 _ (number_fits e.kind e.inode e.index kind inode index) in
       ap (entry_of version_one) read
-      ∙ (λ i. record { kind = number_kind e.kind e.inode e.index kind inode index i; inode = number_inode e.kind e.inode e.index kind inode index i; index = number_index e.kind e.inode e.index kind inode index i })
+      ∙ (λ i. record {
+        kind = number_kind e.kind e.inode e.index kind inode index i;
+        inode = number_inode e.kind e.inode e.index kind inode index i;
+        index =
+            number_index e.kind e.inode e.index kind inode index i;
+      })
 
   beside : (i : ℕ) → i < 256 → i ≢ leaf → entries_in new i ≡ entries_in map i
   unfolding entry_at

@@ -45,7 +45,8 @@ module _ (leaves : ℕ → List ℕ) (store : Store) (stands : region_of version
   whole = sound leaves store stands
 
   -- an object under another identifier
-  module _ (id to : List ℕ) (inode : Inode) (found : IsFound leaves id inode) (block : List ℕ) (named : List Leaf) (named_is : named ≡ record { number = inode.number; bytes = block } ∷ []) (some' : Bor (List ℕ))
+  module _ (id to : List ℕ) (inode : Inode) (found : IsFound leaves id inode) (block : List ℕ) (named : List Leaf)
+      (named_is : named ≡ record { number = inode.number; bytes = block } ∷ []) (some' : Bor (List ℕ))
       (is_head : IsHead block inode.kind inode.usage to inode.secret inode.length) (absent : object_at store to ≡ None) where
     abbrev moved : ℕ → List ℕ
     moved = with_leaves named leaves
@@ -72,7 +73,8 @@ module _ (leaves : ℕ → List ℕ) (store : Store) (stands : region_of version
     data_before i below is =
         let own = whole.inode m found.high found.is in
         let of : is_data_of version_one leaves m i ≡ true = ap (is_of m) (in_map leaves i below) ∙ is in
-        subst (λ (e : Entry). e.index < data_leaves inode.length) (in_map leaves i below) (subst (λ (k : ℕ). (entry_at version_one leaves i).index < data_leaves k) (sym found.long) (own.before i below of))
+        subst (λ (e : Entry). e.index < data_leaves inode.length) (in_map leaves i below) (subst (λ (k : ℕ). (entry_at version_one leaves i).index < data_leaves k) (sym found.long)
+        (own.before i below of))
 
     all_kept : (i : ℕ) → i < 256 → placed (entries_in (leaves 0)) m (kept_leaves inode.length idle) (data_leaves inode.length) i ≡ entries_in (leaves 0) i
     all_kept i below = each (ways (is_free (entries_in (leaves 0)) i) (entries_in (leaves 0) i) m (kept_leaves inode.length idle + free_before (entries_in (leaves 0)) i) (data_leaves inode.length))
@@ -89,7 +91,8 @@ module _ (leaves : ℕ → List ℕ) (store : Store) (stands : region_of version
     idle_leaf i below is = each (i == m) refl
       where
         inside : (entries_in (moved 0) i).index < data_leaves inode.length
-        inside = subst (λ (e : Entry). e.index < data_leaves inode.length) (ap (λ (b : List ℕ). entries_in b i) (sym first_stays)) (data_before i below (ap (λ (b : List ℕ). is_of m (entries_in b i)) (sym first_stays) ∙ is))
+        inside = subst (λ (e : Entry). e.index < data_leaves inode.length) (ap (λ (b : List ℕ). entries_in b i) (sym first_stays))
+            (data_before i below (ap (λ (b : List ℕ). is_of m (entries_in b i)) (sym first_stays) ∙ is))
 
         each : (b : Bool) → (i == m) ≡ b → IsEditedLeaf idle (entries_in (moved 0) i).index (leaves i) (moved i) ⊎ (i ≡ m)
         each true e = inr (eqb-true i m e)
@@ -133,18 +136,21 @@ module _ (leaves : ℕ → List ℕ) (store : Store) (stands : region_of version
     content_long = length_content version_one leaves m ∙ sym found.long
 
     moved_own : SoundInode version_one moved m
-    moved_own = edited_inode leaves moved (leaves 0) m inode.length (Some block) idle whole base_is with_is (omega arith) moved_edited (content_of version_one leaves m) content_long inode.kind inode.usage to inode.secret
+    moved_own = edited_inode leaves moved (leaves 0) m inode.length (Some block) idle whole base_is with_is (omega arith) moved_edited (content_of version_one leaves m)
+        content_long inode.kind inode.usage to inode.secret
         (λ k below is early. content_held leaves store stands m found.high found.is k below is) moved_head
 
     moved_object : object_of version_one moved m ≡ object_of version_one leaves m
     moved_object =
-        edited_object leaves moved (leaves 0) m inode.length (Some block) idle whole base_is with_is (omega arith) moved_edited (content_of version_one leaves m) content_long inode.kind inode.usage to inode.secret
+        edited_object leaves moved (leaves 0) m inode.length (Some block) idle whole base_is with_is (omega arith) moved_edited (content_of version_one leaves m) content_long
+        inode.kind inode.usage to inode.secret
         (λ k below is early. content_held leaves store stands m found.high found.is k below is) moved_head
         ∙ ap (λ (c : List ℕ). object_with inode c) (after_same idle (content_of version_one leaves m) content_long refl (sym content_long))
         ∙ sym (object_told leaves id inode whole found)
 
     held_id : object_at store id ≡ Some (object_of version_one leaves m)
-    held_id = ap (λ (s : Store). object_at s id) (same_store leaves store stands) ∙ ap (object_at (store_of version_one leaves)) (sym found.named) ∙ held_at version_one leaves whole m found.high found.is
+    held_id = ap (λ (s : Store). object_at s id) (same_store leaves store stands) ∙ ap (object_at (store_of version_one leaves)) (sym found.named)
+        ∙ held_at version_one leaves whole m found.high found.is
 
     differs : to ≢ id
     differs same = (let never : ◌≡◌ {A = Option Object} None (Some (object_of version_one leaves m)) = sym absent ∙ ap (object_at store) same ∙ held_id in cc)
@@ -154,13 +160,15 @@ module _ (leaves : ℕ → List ℕ) (store : Store) (stands : region_of version
 
     moved_apart : (k : ℕ) → k < 256 → k ≢ m → is_inode version_one leaves k ≡ true → identifier_in (leaves k) ≢ identifier_in (moved m)
     moved_apart k below other is same =
-        let held : object_at store to ≡ Some (object_of version_one leaves k) = ap (λ (s : Store). object_at s to) (same_store leaves store stands) ∙ ap (object_at (store_of version_one leaves)) (sym (same ∙ moved_head.is_id)) ∙ held_at version_one leaves whole k below is in
+        let held : object_at store to ≡ Some (object_of version_one leaves k) = ap (λ (s : Store). object_at s to) (same_store leaves store stands)
+        ∙ ap (object_at (store_of version_one leaves)) (sym (same ∙ moved_head.is_id)) ∙ held_at version_one leaves whole k below is in
         let never : ◌≡◌ {A = Option Object} None (Some (object_of version_one leaves k)) = sym absent ∙ held in
         cc
 
     moved_to : IsChanged leaves moved m moved_store
     moved_to = record {
-      here = λ is. ap (object_at moved_store) moved_head.is_id ∙ removed_beside (finite.insert store to (object_of version_one leaves m)) id to differs ∙ inserted_here store to (object_of version_one leaves m) ∙ ap (λ (o : Object). Some o) (sym moved_object);
+      here = λ is. ap (object_at moved_store) moved_head.is_id ∙ removed_beside (finite.insert store to (object_of version_one leaves m)) id to differs
+          ∙ inserted_here store to (object_of version_one leaves m) ∙ ap (λ (o : Object). Some o) (sym moved_object);
       gone = λ is other. ap (object_at moved_store) found.named ∙ removed_here (finite.insert store to (object_of version_one leaves m)) id;
       beside = λ q not_now not_then.
           removed_beside (finite.insert store to (object_of version_one leaves m)) id q (λ same. not_then found.is (same ∙ sym found.named))
@@ -171,8 +179,10 @@ module _ (leaves : ℕ → List ℕ) (store : Store) (stands : region_of version
     moved_stands = changed_region leaves moved m found.high whole moved_frame (λ is. moved_own) (λ is. moved_apart) moved_store moved_to
 
   -- an object that is taken away
-  module _ (id : List ℕ) (inode : Inode) (found : IsFound leaves id inode) (map mid bytes : List ℕ) (first : leaves 0 ≡ map) (named : List Leaf) (named_is : named ≡ record { number = 0; bytes = bytes } ∷ [])
-      (placed_is : (i : ℕ) → i < 256 → entries_in mid i ≡ placed (entries_in map) inode.number 0 0 i) (set : (i : ℕ) → i < 256 → entries_in bytes i ≡ with_entry inode.number free_entry (entries_in mid) i) where
+  module _ (id : List ℕ) (inode : Inode) (found : IsFound leaves id inode) (map mid bytes : List ℕ) (first : leaves 0 ≡ map) (named : List Leaf)
+      (named_is : named ≡ record { number = 0; bytes = bytes } ∷ [])
+      (placed_is : (i : ℕ) → i < 256 → entries_in mid i ≡ placed (entries_in map) inode.number 0 0 i)
+      (set : (i : ℕ) → i < 256 → entries_in bytes i ≡ with_entry inode.number free_entry (entries_in mid) i) where
     abbrev left : ℕ → List ℕ
     left = with_leaves named leaves
 
@@ -209,7 +219,8 @@ module _ (leaves : ℕ → List ℕ) (store : Store) (stands : region_of version
         of = ap (is_of d) (was_at i below)
 
         each : IsTaken (is_free (entries_in map) i) (entries_in map i) d (0 + free_before (entries_in map) i) 0
-            ⊎ (IsFreed (is_free (entries_in map) i) (entries_in map i) d (0 + free_before (entries_in map) i) 0 ⊎ IsKept (is_free (entries_in map) i) (entries_in map i) d (0 + free_before (entries_in map) i) 0)
+            ⊎ (IsFreed (is_free (entries_in map) i) (entries_in map i) d (0 + free_before (entries_in map) i) 0 ⊎ IsKept (is_free (entries_in map) i) (entries_in map i) d
+            (0 + free_before (entries_in map) i) 0)
             → Left i
         each (inl t) = absurd (let inside = t.inside in omega (arith, inside))
         each (inr (inl f)) = record { data' = λ is. now ∙ f.is; other = λ isnt. absurd (let g : true ≡ false = sym f.own ∙ of ∙ isnt in cc) }
@@ -266,4 +277,5 @@ module _ (leaves : ℕ → List ℕ) (store : Store) (stands : region_of version
     }
 
     pub left_stands : region_of version_one left ≡ Ok (finite.remove store id)
-    left_stands = changed_region leaves left d found.high whole left_frame (λ is. absurd (let f : true ≡ false = sym is ∙ no_inode in cc)) (λ is. absurd (let f : true ≡ false = sym is ∙ no_inode in cc)) (finite.remove store id) left_to
+    left_stands = changed_region leaves left d found.high whole left_frame (λ is. absurd (let f : true ≡ false = sym is ∙ no_inode in cc))
+        (λ is. absurd (let f : true ≡ false = sym is ∙ no_inode in cc)) (finite.remove store id) left_to

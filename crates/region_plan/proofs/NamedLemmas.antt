@@ -70,7 +70,8 @@ changing_more map inode edit n =
     ∙ counted (λ i. may_change map inode edit i) 0 (suc n) ∙ rank_more (λ i. may_change map inode edit i) n
     ∙ ap (λ (k : ℕ). k + mark (may_change map inode edit n)) (sym (counted (λ i. may_change map inode edit i) 0 n))
 
-pub few_named : (map : List ℕ) (inode : ℕ) (edit : Edit) (named : List Leaf) (last : Leaf) (n : ℕ) → length named ≤ changing map inode edit n → may_change map inode edit n ≡ true → length (named ++ last ∷ []) ≤ changing map inode edit (n + 1)
+pub few_named : (map : List ℕ) (inode : ℕ) (edit : Edit) (named : List Leaf) (last : Leaf) (n : ℕ) → length named ≤ changing map inode edit n → may_change map inode edit n ≡ true →
+    length (named ++ last ∷ []) ≤ changing map inode edit (n + 1)
 few_named map inode edit named last n few is =
     let more = changing_more map inode edit n in
     let one : mark (may_change map inode edit n) ≡ 1 = ap mark is in

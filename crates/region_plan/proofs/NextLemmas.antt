@@ -48,13 +48,15 @@ below_less x y (e ∷ es) p h =
     both _ _ (subst (λ r. T (is_lt r)) (sym (nat_list_cmp_total.trans x y e.0 p (less _ (first _ _ h)))) tt) (below_less x y es p (second _ _ h))
 
 -- a key below all is lesser than what is met
-merged_first : (p : List ℕ → Bool) (k : List ℕ) (v : Object) (es : Entries) (r : Option (List ℕ × Object)) → T (at_keys.below_all by_bytes k es) → find (λ e. p e.0) es ≡ r → (b : Bool) → cond b (Some (k, v)) r ≡ merged b k v r
+merged_first : (p : List ℕ → Bool) (k : List ℕ) (v : Object) (es : Entries) (r : Option (List ℕ × Object)) → T (at_keys.below_all by_bytes k es) → find (λ e. p e.0) es ≡ r →
+    (b : Bool) → cond b (Some (k, v)) r ≡ merged b k v r
 merged_first p k v es r below is false = refl
 merged_first p k v es None below is true = refl
 merged_first p k v es (Some f) below is true = sym (ap (λ (o : Ordering). cond (is_lt o) (Some f) (Some (k, v))) (turned k f.0 Less (met_above p k es f below is)))
 
 -- an entry is put in the place of the first one
-put_tied : (p : List ℕ → Bool) (k : List ℕ) (v : Object) (e : List ℕ × Object) (es : Entries) → by_bytes k e.0 ≡ Equal → find (λ x. p x.0) ((e.0, v) ∷ es) ≡ merged (p k) k v (find (λ x. p x.0) (e ∷ es))
+put_tied : (p : List ℕ → Bool) (k : List ℕ) (v : Object) (e : List ℕ × Object) (es : Entries) → by_bytes k e.0 ≡ Equal →
+    find (λ x. p x.0) ((e.0, v) ∷ es) ≡ merged (p k) k v (find (λ x. p x.0) (e ∷ es))
 put_tied p k v e es is =
     let same : k ≡ e.0 = tied_same k e.0 is in
     subst (λ x. find (λ y. p y.0) ((e.0, v) ∷ es) ≡ merged (p x) x v (find (λ y. p y.0) (e ∷ es))) (sym same)
@@ -64,7 +66,8 @@ put_tied p k v e es is =
     ])
 
 -- an entry is put behind the first one
-put_after : (p : List ℕ → Bool) → ((x y : List ℕ) → p x ≡ true → by_bytes x y ≡ Less → p y ≡ true) → (k : List ℕ) (v : Object) (e : List ℕ × Object) (rest put : Option (List ℕ × Object)) → by_bytes k e.0 ≡ Greater
+put_after : (p : List ℕ → Bool) → ((x y : List ℕ) → p x ≡ true → by_bytes x y ≡ Less → p y ≡ true) →
+    (k : List ℕ) (v : Object) (e : List ℕ × Object) (rest put : Option (List ℕ × Object)) → by_bytes k e.0 ≡ Greater
     → put ≡ merged (p k) k v rest → cond (p e.0) (Some e) put ≡ merged (p k) k v (cond (p e.0) (Some e) rest)
 put_after p upward k v e rest put is same =
     let back : by_bytes e.0 k ≡ Less = turned k e.0 Greater is in
@@ -79,7 +82,8 @@ pub find_put : (p : List ℕ → Bool) → ((x y : List ℕ) → p x ≡ true �
 find_put p upward k v [] sorted = elim (p k) as (λ b. cond b (Some (k, v)) None ≡ merged b k v None) [ true ↦ refl | false ↦ refl ]
 find_put p upward k v (e ∷ es) sorted =
     let rest = find_put p upward k v es (second _ _ sorted) in
-    elim (by_bytes k e.0) as (λ r. by_bytes k e.0 ≡ r → find (λ x. p x.0) (at_keys.by_order r ((k, v) ∷ e ∷ es) ((e.0, v) ∷ es) (e ∷ finite.put by_bytes k v es)) ≡ merged (p k) k v (find (λ x. p x.0) (e ∷ es))) [
+    elim (by_bytes k e.0) as (λ r. by_bytes k e.0 ≡ r → find (λ x. p x.0) (at_keys.by_order r ((k, v) ∷ e ∷ es) ((e.0, v) ∷ es) (e ∷ finite.put by_bytes k v es)) ≡ merged (p k) k v
+    (find (λ x. p x.0) (e ∷ es))) [
       | Less ↦ λ is. merged_first p k v (e ∷ es) (find (λ x. p x.0) (e ∷ es)) (both _ _ (subst (λ r. T (is_lt r)) (sym is) tt) (below_less k e.0 es is (first _ _ sorted))) refl (p k)
       | Equal ↦ λ is. put_tied p k v e es is
       | Greater ↦ λ is. put_after p upward k v e (find (λ x. p x.0) es) (find (λ x. p x.0) (finite.put by_bytes k v es)) is rest

@@ -32,12 +32,18 @@ pub ways : (free : Bool) (e : Entry) (inode index blocks : ℕ) → IsTaken free
 ways free e inode index blocks =
     elim (free && nat_lt index blocks) as (λ b. (free && nat_lt index blocks) ≡ b → IsTaken free e inode index blocks ⊎ (IsFreed free e inode index blocks ⊎ IsKept free e inode index blocks)) [
       | true ↦ λ t. (let parts = and_both free (nat_lt index blocks) t in
-          inl (record { was_free = parts.0; inside = ltb-true index blocks parts.1; is = ap (λ b. if b then data_at inode index else if is_of inode e && nat_le blocks e.index then free_entry else e) t }))
-      | false ↦ λ t. elim (is_of inode e && nat_le blocks e.index) as (λ b. (is_of inode e && nat_le blocks e.index) ≡ b → IsTaken free e inode index blocks ⊎ (IsFreed free e inode index blocks ⊎ IsKept free e inode index blocks)) [
-        | true ↦ λ f. (let parts = and_both (is_of inode e) (nat_le blocks e.index) f in
-            inr (inl (record { own = parts.0; past = leb-true blocks e.index parts.1; is = skipped t ∙ ap (λ b. if b then free_entry else e) f })))
-        | false ↦ λ f. inr (inr (record { untaken = λ is. untaken_test t is; inside = λ is. within f is; is = skipped t ∙ ap (λ b. if b then free_entry else e) f }))
-      ] refl
+          inl (record {
+            was_free = parts.0;
+            inside = ltb-true index blocks parts.1;
+            is = ap (λ b. if b then data_at inode index else if is_of inode e && nat_le blocks e.index
+                then free_entry else e) t;
+          }))
+      | false ↦ λ t. elim (is_of inode e && nat_le blocks e.index) as (λ b. (is_of inode e && nat_le blocks e.index) ≡ b →
+          IsTaken free e inode index blocks ⊎ (IsFreed free e inode index blocks ⊎ IsKept free e inode index blocks)) [
+            | true ↦ λ f. (let parts = and_both (is_of inode e) (nat_le blocks e.index) f in
+                inr (inl (record { own = parts.0; past = leb-true blocks e.index parts.1; is = skipped t ∙ ap (λ b. if b then free_entry else e) f })))
+            | false ↦ λ f. inr (inr (record { untaken = λ is. untaken_test t is; inside = λ is. within f is; is = skipped t ∙ ap (λ b. if b then free_entry else e) f }))
+          ] refl
     ] refl
   where
     skipped : (free && nat_lt index blocks) ≡ false → placed_entry free e inode index blocks ≡ (if is_of inode e && nat_le blocks e.index then free_entry else e)
@@ -106,7 +112,8 @@ module _ (leaves after : ℕ → List ℕ) (n had kept blocks : ℕ) (base : ℕ
   F i = entry_at version_one after i
 
   abbrev Ways : ℕ → Type 0
-  Ways i = IsTaken (is_free base i) (base i) n (kept + free_before base i) blocks ⊎ (IsFreed (is_free base i) (base i) n (kept + free_before base i) blocks ⊎ IsKept (is_free base i) (base i) n (kept + free_before base i) blocks)
+  Ways i = IsTaken (is_free base i) (base i) n (kept + free_before base i) blocks ⊎ (IsFreed (is_free base i) (base i) n (kept + free_before base i) blocks ⊎ IsKept
+      (is_free base i) (base i) n (kept + free_before base i) blocks)
 
   way : (i : ℕ) → Ways i
   way i = ways (is_free base i) (base i) n (kept + free_before base i) blocks
@@ -250,7 +257,8 @@ module _ (leaves after : ℕ → List ℕ) (n had kept blocks : ℕ) (base : ℕ
 
   formed_later : (i : ℕ) → i ≢ 0 → form_of i (F i) (is_inode version_one after (F i).inode) ≡ true → is_well_formed version_one after i ≡ true
   unfolding is_well_formed
-  formed_later i later form = ap (λ b. if b then entry_number version_one after i == 0 else form_of i (F i) (is_inode version_one after (F i).inode)) (le-ltb i 1 (let e : 1 ≤ i = omega (arith, later) in e)) ∙ form
+  formed_later i later form = ap (λ b. if b then entry_number version_one after i == 0 else form_of i (F i) (is_inode version_one after (F i).inode))
+      (le-ltb i 1 (let e : 1 ≤ i = omega (arith, later) in e)) ∙ form
 
   formed_is : (i : ℕ) → i < 256 → is_own n after i ≡ true → is_well_formed version_one after i ≡ true
   formed_is i below now = each (is_inode_or_not i (i == n) refl)
@@ -265,7 +273,8 @@ module _ (leaves after : ℕ → List ℕ) (n had kept blocks : ℕ) (base : ℕ
       each : (i ≡ n) ⊎ (i ≢ n) → is_well_formed version_one after i ≡ true
       each (inl same) =
           subst (λ (k : ℕ). is_well_formed version_one after k ≡ true) (sym same)
-          (formed_later n (λ e. (let low = is_base.low in absurd (omega (arith, low, e)))) (ap (λ (e : Entry). form_of n e (is_inode version_one after e.inode)) inode_now ∙ ap (λ b. b && true) (eq-eqb n n refl)))
+          (formed_later n (λ e. (let low = is_base.low in absurd (omega (arith, low, e)))) (ap (λ (e : Entry). form_of n e (is_inode version_one after e.inode)) inode_now
+          ∙ ap (λ b. b && true) (eq-eqb n n refl)))
       each (inr other) =
           let data' : is_data_of version_one after n i ≡ true = sym (own_now i other) ∙ now in
           let parts = data_entry (F i) n data' in
@@ -351,7 +360,8 @@ module _ (leaves after : ℕ → List ℕ) (n had kept blocks : ℕ) (base : ℕ
         ] refl
       ] refl
     where
-      apart : (a b : ℕ) → a < 256 → Became a → Became b → (is_of n (F a) ≡ true) × ((F a).index ≡ x) → (is_of n (F b) ≡ true) × ((F b).index ≡ x) → is_data_of version_one leaves n a ≡ true → is_data_of version_one leaves n b ≡ false → ⊥
+      apart : (a b : ℕ) → a < 256 → Became a → Became b → (is_of n (F a) ≡ true) × ((F a).index ≡ x) → (is_of n (F b) ≡ true) × ((F b).index ≡ x) →
+          is_data_of version_one leaves n a ≡ true → is_data_of version_one leaves n b ≡ false → ⊥
       apart a b below first second one two e f =
           let was = first.stays e one.0 in
           let too = second.taken two.0 f in

@@ -94,12 +94,14 @@ module _ (leaves : ℕ → List ℕ) (store : Store) (stands : region_of version
   same_store = region_store version_one leaves store stands
 
   -- leaves after which the region stands for the stated store are a plan
-  pub plan_stands : (c : Change) (after : Store) (named : List Leaf) → changed store c ≡ Ok after → region_of version_one (with_leaves named leaves) ≡ Ok after → length named ≤ most_leaves store c → IsPlanOf version_one leaves store c named
+  pub plan_stands : (c : Change) (after : Store) (named : List Leaf) → changed store c ≡ Ok after → region_of version_one (with_leaves named leaves) ≡ Ok after →
+      length named ≤ most_leaves store c → IsPlanOf version_one leaves store c named
   plan_stands c after named is now few = record { after = after; changes = change_fits store after c is (within_limits (with_leaves named leaves) after now).paid; stands = now; few = few }
 
   form_at : (i : ℕ) → 1 ≤ i → is_well_formed version_one leaves i ≡ true → form_of i (entry_at version_one leaves i) (is_inode version_one leaves (entry_at version_one leaves i).inode) ≡ true
   unfolding is_well_formed
-  form_at i later formed = sym (ap (λ b. if b then entry_number version_one leaves i == 0 else form_of i (entry_at version_one leaves i) (is_inode version_one leaves (entry_at version_one leaves i).inode)) (le-ltb i 1 later)) ∙ formed
+  form_at i later formed = sym (ap (λ b. if b then entry_number version_one leaves i == 0 else form_of i (entry_at version_one leaves i)
+      (is_inode version_one leaves (entry_at version_one leaves i).inode)) (le-ltb i 1 later)) ∙ formed
 
   pub inode_entry : (n : ℕ) → 1 ≤ n → n < 256 → is_inode version_one leaves n ≡ true → entry_at version_one leaves n ≡ record { kind = INODE; inode = n; index = 0 }
   inode_entry n low high is =
@@ -109,8 +111,10 @@ module _ (leaves : ℕ → List ℕ) (store : Store) (stands : region_of version
 
   -- the object of a found inode with another content
   module _ (id : List ℕ) (inode : Inode) (found : IsFound leaves id inode) (base : List ℕ) (first : leaves 0 ≡ base) (named : List Leaf) (head : Option (List ℕ)) (edit : Edit)
-      (edited : IsEdited leaves (with_leaves named leaves) base inode.number edit.had head edit) (kind usage : ℕ) (secret old : List ℕ) (long : length old ≡ edit.kept) (had : edit.had ≡ inode.length) (kept : edit.kept ≤ edit.had)
-      (was : (k : ℕ) → k < 256 → is_data_of version_one leaves inode.number k ≡ true → (entry_at version_one leaves k).index < data_leaves edit.kept → IsLeafOf old (entry_at version_one leaves k).index (leaves k))
+      (edited : IsEdited leaves (with_leaves named leaves) base inode.number edit.had head edit) (kind usage : ℕ) (secret old : List ℕ) (long : length old ≡ edit.kept)
+      (had : edit.had ≡ inode.length) (kept : edit.kept ≤ edit.had)
+      (was : (k : ℕ) → k < 256 → is_data_of version_one leaves inode.number k ≡ true → (entry_at version_one leaves k).index < data_leaves edit.kept →
+      IsLeafOf old (entry_at version_one leaves k).index (leaves k))
       (is_head : IsHead (bytes_or head (leaves inode.number)) kind usage id secret edit.length) where
     abbrev n : ℕ
     n = inode.number
@@ -158,7 +162,8 @@ module _ (leaves : ℕ → List ℕ) (store : Store) (stands : region_of version
     pub edit_stands : region_of version_one after ≡ Ok (finite.insert store id new_object)
     edit_stands = changed_region leaves after n found.high sound frame (λ is. own) (λ is. named_apart) (finite.insert store id new_object) changed_to
 
-    pub edit_few : length named ≤ changing (after 0) n edit 256 → (least last : ℕ) → ((x : ℕ) → x < data_leaves edit.length → is_left edit x ≡ false → (least ≤ x) × (x < last)) → length named ≤ 2 + (last - least)
+    pub edit_few : length named ≤ changing (after 0) n edit 256 → (least last : ℕ) → ((x : ℕ) → x < data_leaves edit.length → is_left edit x ≡ false → (least ≤ x) × (x < last)) →
+        length named ≤ 2 + (last - least)
     edit_few few least last reach =
         joined few (changing_few after n (data_leaves edit.length) least last edit found.high (each_now leaves after base n edit.had head edit sound is_base is_with kept edited) reach)
       where
@@ -166,12 +171,14 @@ module _ (leaves : ℕ → List ℕ) (store : Store) (stands : region_of version
         joined p q = omega (arith, p, q)
 
   -- the content of an object is in its leaves
-  pub content_held : (n : ℕ) → n < 256 → is_inode version_one leaves n ≡ true → (k : ℕ) → k < 256 → is_data_of version_one leaves n k ≡ true → IsLeafOf (content_of version_one leaves n) (entry_at version_one leaves k).index (leaves k)
+  pub content_held : (n : ℕ) → n < 256 → is_inode version_one leaves n ≡ true → (k : ℕ) → k < 256 → is_data_of version_one leaves n k ≡ true →
+      IsLeafOf (content_of version_one leaves n) (entry_at version_one leaves k).index (leaves k)
   content_held n below is = (let own' = sound.inode n below is in leaves_held leaves n (each_of leaves n own') own'.padded)
 
   -- a new object
   module _ (n : ℕ) (map base block : List ℕ) (first : leaves 0 ≡ map) (high : n < 256) (free : is_free (entries_in map) n ≡ true)
-      (set : (i : ℕ) → i < 256 → entries_in base i ≡ with_entry n (record { kind = INODE; inode = n; index = 0 }) (entries_in map) i) (named : List Leaf) (edit : Edit) (planned : IsPlanned leaves base n (Some block) edit named)
+      (set : (i : ℕ) → i < 256 → entries_in base i ≡ with_entry n (record { kind = INODE; inode = n; index = 0 }) (entries_in map) i) (named : List Leaf) (edit : Edit)
+      (planned : IsPlanned leaves base n (Some block) edit named)
       (kind usage : ℕ) (id secret : List ℕ) (is_head : IsHead block kind usage id secret edit.length) (none_had : edit.had ≡ 0) (none_kept : edit.kept ≡ 0) (absent : object_at store id ≡ None) where
     abbrev grown : ℕ → List ℕ
     grown = with_leaves named leaves
@@ -223,7 +230,8 @@ module _ (leaves : ℕ → List ℕ) (store : Store) (stands : region_of version
     new_head : IsHead (grown n) kind usage id secret edit.length
     new_head = subst (λ (b : List ℕ). IsHead b kind usage id secret edit.length) (sym (head_now leaves grown base n edit.had (Some block) edit sound new_base new_with few_kept planned.edited)) is_head
 
-    none_was : (k : ℕ) → k < 256 → is_data_of version_one leaves n k ≡ true → (entry_at version_one leaves k).index < data_leaves edit.kept → IsLeafOf [] (entry_at version_one leaves k).index (leaves k)
+    none_was : (k : ℕ) → k < 256 → is_data_of version_one leaves n k ≡ true → (entry_at version_one leaves k).index < data_leaves edit.kept →
+        IsLeafOf [] (entry_at version_one leaves k).index (leaves k)
     none_was k below is less = no_data k below is
 
     new_own : SoundInode version_one grown n
@@ -237,7 +245,8 @@ module _ (leaves : ℕ → List ℕ) (store : Store) (stands : region_of version
 
     new_apart : (m : ℕ) → m < 256 → m ≢ n → is_inode version_one leaves m ≡ true → identifier_in (leaves m) ≢ identifier_in (grown n)
     new_apart m below other is same =
-        let held : object_at store id ≡ Some (object_of version_one leaves m) = ap (λ (s : Store). object_at s id) same_store ∙ ap (object_at (store_of version_one leaves)) (sym (same ∙ new_head.is_id)) ∙ held_at version_one leaves sound m below is in
+        let held : object_at store id ≡ Some (object_of version_one leaves m) = ap (λ (s : Store). object_at s id) same_store
+        ∙ ap (object_at (store_of version_one leaves)) (sym (same ∙ new_head.is_id)) ∙ held_at version_one leaves sound m below is in
         let never : ◌≡◌ {A = Option Object} None (Some (object_of version_one leaves m)) = sym absent ∙ held in
         cc
 
@@ -253,7 +262,8 @@ module _ (leaves : ℕ → List ℕ) (store : Store) (stands : region_of version
 
     pub new_few : (least last : ℕ) → ((x : ℕ) → x < data_leaves edit.length → is_left edit x ≡ false → (least ≤ x) × (x < last)) → length named ≤ 2 + (last - least)
     new_few least last reach =
-        joined planned.few (changing_few grown n (data_leaves edit.length) least last edit high (each_now leaves grown base n edit.had (Some block) edit sound new_base new_with few_kept planned.edited) reach)
+        joined planned.few (changing_few grown n (data_leaves edit.length) least last edit high (each_now leaves grown base n edit.had (Some block) edit sound new_base new_with
+        few_kept planned.edited) reach)
       where
         joined : {a b c : ℕ} → a ≤ b → b ≤ c → a ≤ c
         joined p q = omega (arith, p, q)

@@ -1,5 +1,6 @@
 -- What a plan answers, change by change.
-use Rattle.std.proofs.Common.{◌≡◌, ◌≢◌, ℕ, ◌+◌, ◌-◌, ◌/◌, ◌<◌, ◌≤◌, min, max, Bool, true, false, not, List, [], ◌∷◌, ◌++◌, length, drop, None, Some, Result, Ok, Err, IfOk, Bor, refl, sym, ◌∙◌, ap, arith}
+use Rattle.std.proofs.Common.{◌≡◌, ◌≢◌, ℕ, ◌+◌, ◌-◌, ◌/◌, ◌<◌, ◌≤◌, min, max, Bool, true, false, not, List, [], ◌∷◌, ◌++◌}
+use Rattle.std.proofs.Common.{length, drop, None, Some, Result, Ok, Err, IfOk, Bor, refl, sym, ◌∙◌, ap, arith}
 use Rattle.std.specs.Prelude.{◌&&◌, if◌then◌else◌, is_some}
 use Rattle.std.specs.FinMap as finite
 use Rattle.std.proofs.lemmas.Bool.{ne_eqb, eq-eqb}
@@ -81,7 +82,8 @@ module _ (leaves : ℕ → List ℕ) (store : Store) (stands : region_of version
       few_kept : edit.kept ≤ edit.had
       few_kept = omega (arith, had, kept)
 
-      was : (k : ℕ) → k < 256 → is_data_of version_one leaves inode.number k ≡ true → (entry_at version_one leaves k).index < data_leaves edit.kept → IsLeafOf content (entry_at version_one leaves k).index (leaves k)
+      was : (k : ℕ) → k < 256 → is_data_of version_one leaves inode.number k ≡ true → (entry_at version_one leaves k).index < data_leaves edit.kept →
+          IsLeafOf content (entry_at version_one leaves k).index (leaves k)
       was k below data' early = content_held leaves store stands inode.number found.high found.is k below data'
 
       done : (named : List Leaf) → IsContentPlan leaves map inode edit named → IsPlanOf version_one leaves store c named
@@ -91,7 +93,8 @@ module _ (leaves : ℕ → List ℕ) (store : Store) (stands : region_of version
           (plan.says (whole.inode inode.number found.high found.is).bytes found.told) in
           plan_stands leaves store stands c (finite.insert store id (object_with inode (content_after edit content))) named stated
           (edit_stands leaves store stands id inode found map first named plan.head edit plan.planned.edited inode.kind inode.usage inode.secret content long had few_kept was head)
-          (shorter (edit_few leaves store stands id inode found map first named plan.head edit plan.planned.edited inode.kind inode.usage inode.secret content long had few_kept was head plan.planned.few least last reach) most)
+          (shorter (edit_few leaves store stands id inode found map first named plan.head edit plan.planned.edited inode.kind inode.usage inode.secret content long had few_kept was
+          head plan.planned.few least last reach) most)
 
       full : LacksSpace map edit → change store c ≡ Err answers.NoSpace
       full lacks =
@@ -99,13 +102,16 @@ module _ (leaves : ℕ → List ℕ) (store : Store) (stands : region_of version
           (edit_full leaves store id (object_of version_one leaves inode.number) (object_with inode (content_after edit content)) edit whole (costs_leaves leaves store stands) held
           (ap (λ (o : Object). length o.content) told ∙ content_long ∙ sym had) (after_long edit content long) map (free_same leaves map first) lacks)
 
-      pub content_plans : (r : Result (List Leaf) StoreAnswer) → IfOk r (λ named. IsContentPlan leaves map inode edit named) → (r ≡ Err answers.NoSpace → LacksSpace map edit) → IsUnreadOrFull (refusal_of r) → Plans version_one leaves store c r
+      pub content_plans : (r : Result (List Leaf) StoreAnswer) → IfOk r (λ named. IsContentPlan leaves map inode edit named) → (r ≡ Err answers.NoSpace → LacksSpace map edit) →
+          IsUnreadOrFull (refusal_of r) → Plans version_one leaves store c r
       content_plans (Ok named) plan space refused = done named plan
       content_plans (Err e) plan space refused = unread_plans e (change store c) refused (λ same. full (space (ap (λ (x : StoreAnswer). Err x) same)))
 
     -- cut, or filled up
-    pub truncate_plans : (map : List ℕ) (edit : Edit) (n : ℕ) → leaves 0 ≡ map → edit.had ≡ inode.length → edit.kept ≡ inode.length → edit.at ≡ n → edit.length ≡ n → length edit.bytes.now ≡ 0 → (r : Result (List Leaf) StoreAnswer)
-        → IfOk r (λ named. IsContentPlan leaves map inode edit named) → (r ≡ Err answers.NoSpace → LacksSpace map edit) → IsUnreadOrFull (refusal_of r) → Plans version_one leaves store (Truncate id n) r
+    pub truncate_plans : (map : List ℕ) (edit : Edit) (n : ℕ) → leaves 0 ≡ map → edit.had ≡ inode.length → edit.kept ≡ inode.length → edit.at ≡ n → edit.length ≡ n →
+        length edit.bytes.now ≡ 0 → (r : Result (List Leaf) StoreAnswer)
+        → IfOk r (λ named. IsContentPlan leaves map inode edit named) → (r ≡ Err answers.NoSpace → LacksSpace map edit) → IsUnreadOrFull (refusal_of r) →
+        Plans version_one leaves store (Truncate id n) r
     truncate_plans map edit n first had kept at long none r plan space refused =
         content_plans map first edit had kept (Truncate id n)
         (ap (λ o. with_object o (λ x. Ok (finite.insert store id (record x { content = resized n x.content })))) (held ∙ ap (λ (o : Object). Some o) told)
@@ -116,16 +122,19 @@ module _ (leaves : ℕ → List ℕ) (store : Store) (stands : region_of version
         r plan space refused
 
     -- bytes are written at a place
-    pub write_plans : (map : List ℕ) (edit : Edit) (at : ℕ) (bytes : List ℕ) → leaves 0 ≡ map → edit.had ≡ inode.length → edit.kept ≡ inode.length → edit.at ≡ at → edit.bytes.now ≡ bytes → length bytes ≢ 0
+    pub write_plans : (map : List ℕ) (edit : Edit) (at : ℕ) (bytes : List ℕ) → leaves 0 ≡ map → edit.had ≡ inode.length → edit.kept ≡ inode.length → edit.at ≡ at →
+        edit.bytes.now ≡ bytes → length bytes ≢ 0
         → edit.length ≡ max inode.length (at + length bytes) → (r : Result (List Leaf) StoreAnswer)
-        → IfOk r (λ named. IsContentPlan leaves map inode edit named) → (r ≡ Err answers.NoSpace → LacksSpace map edit) → IsUnreadOrFull (refusal_of r) → Plans version_one leaves store (Write id at bytes) r
+        → IfOk r (λ named. IsContentPlan leaves map inode edit named) → (r ≡ Err answers.NoSpace → LacksSpace map edit) → IsUnreadOrFull (refusal_of r) →
+        Plans version_one leaves store (Write id at bytes) r
     write_plans map edit at bytes first had kept is_at is_bytes some' long r plan space refused =
         let same_length : edit.length ≡ max edit.kept (edit.at + length edit.bytes.now) = long ∙ sym (λ i. max (kept i) (is_at i + length (is_bytes i))) in
         content_plans map first edit had kept (Write id at bytes)
         (ap (λ o. with_object o (λ x. Ok (finite.insert store id (record x { content = written x.content at bytes })))) (held ∙ ap (λ (o : Object). Some o) told)
         ∙ ap (λ (b : List ℕ). Ok (finite.insert store id (object_with inode b)))
         (sym (λ i. written content (is_at i) (is_bytes i))
-        ∙ sym (after_written edit content (content_long ∙ sym kept) (λ none. some' (ap length (sym is_bytes) ∙ none)) (same_length ∙ ap (λ (m : ℕ). max m (edit.at + length edit.bytes.now)) (kept ∙ sym content_long)))))
+        ∙ sym (after_written edit content (content_long ∙ sym kept) (λ none. some' (ap length (sym is_bytes) ∙ none))
+        (same_length ∙ ap (λ (m : ℕ). max m (edit.at + length edit.bytes.now)) (kept ∙ sym content_long)))))
         (min edit.at edit.kept / 1024) (data_leaves (edit.at + length edit.bytes.now)) (λ x inside isnt. reach_written edit x same_length inside isnt)
         ((λ i. 2 + (data_leaves (is_at i + length (is_bytes i)) - min (is_at i) (kept i) / 1024)) ∙ ap (λ (m : ℕ). 2 + (data_leaves (at + length bytes) - min at m / 1024)) (sym length_is)
         ∙ sym (ap (λ b. if b then 0 else 2 + (data_leaves (at + length bytes) - min at (content_length (object_at store id)) / 1024)) (ne_eqb (length bytes) 0 some')))
@@ -135,7 +144,9 @@ module _ (leaves : ℕ → List ℕ) (store : Store) (stands : region_of version
     pub write_none : (at : ℕ) (bytes : List ℕ) (named : List Leaf) → length bytes ≡ 0 → named ≡ [] → Plans version_one leaves store (Write id at bytes) (Ok named)
     write_none at bytes named none is = plan_stands leaves store stands (Write id at bytes) store named
         (ap (λ o. with_object o (λ x. Ok (finite.insert store id (record x { content = written x.content at bytes })))) held
-        ∙ ap (λ (b : List ℕ). Ok (finite.insert store id (record (object_of version_one leaves inode.number) { content = b }))) (ap (λ t. if t then (object_of version_one leaves inode.number).content else resized at (object_of version_one leaves inode.number).content ++ bytes ++ drop (at + length bytes) (object_of version_one leaves inode.number).content) (eq-eqb (length bytes) 0 none))
+        ∙ ap (λ (b : List ℕ). Ok (finite.insert store id (record (object_of version_one leaves inode.number) { content = b })))
+        (ap (λ t. if t then (object_of version_one leaves inode.number).content else resized at (object_of version_one leaves inode.number).content ++ bytes ++ drop
+        (at + length bytes) (object_of version_one leaves inode.number).content) (eq-eqb (length bytes) 0 none))
         ∙ ap (λ (s : Store). Ok s) (inserted_same store id (object_of version_one leaves inode.number) held))
         (ap (λ (l : List Leaf). region_of version_one (with_leaves l leaves)) is ∙ stands)
         (shorter (λ_le (ap length is)) (sym (ap (λ b. if b then 0 else 2 + (data_leaves (at + length bytes) - min at (content_length (object_at store id)) / 1024)) (eq-eqb (length bytes) 0 none))))
@@ -144,7 +155,8 @@ module _ (leaves : ℕ → List ℕ) (store : Store) (stands : region_of version
         λ_le e = omega (arith, e)
 
     -- another object is put in its place
-    module _ (map : List ℕ) (first : leaves 0 ≡ map) (kind usage : ℕ) (secret content' : List ℕ) (edit : Edit) (had : edit.had ≡ inode.length) (kept : edit.kept ≡ 0) (start : edit.at ≡ 0) (bytes : edit.bytes.now ≡ content') (long : edit.length ≡ length content')
+    module _ (map : List ℕ) (first : leaves 0 ≡ map) (kind usage : ℕ) (secret content' : List ℕ) (edit : Edit) (had : edit.had ≡ inode.length) (kept : edit.kept ≡ 0)
+        (start : edit.at ≡ 0) (bytes : edit.bytes.now ≡ content') (long : edit.length ≡ length content')
         (block : List ℕ) (head : IsHead block kind usage id secret edit.length) where
       abbrev put_object : Object
       put_object = record { kind = kind; usage = usage; secret = secret; content = content_after edit [] }
@@ -164,15 +176,18 @@ module _ (leaves : ℕ → List ℕ) (store : Store) (stands : region_of version
       put_kept : edit.kept ≤ edit.had
       put_kept = omega (arith, kept)
 
-      put_was : (k : ℕ) → k < 256 → is_data_of version_one leaves inode.number k ≡ true → (entry_at version_one leaves k).index < data_leaves edit.kept → IsLeafOf [] (entry_at version_one leaves k).index (leaves k)
+      put_was : (k : ℕ) → k < 256 → is_data_of version_one leaves inode.number k ≡ true → (entry_at version_one leaves k).index < data_leaves edit.kept →
+          IsLeafOf [] (entry_at version_one leaves k).index (leaves k)
       put_was k below data' early = absurd (omega (arith, early, kept))
 
-      pub put_over_plans : (r : Result (List Leaf) StoreAnswer) → IfOk r (λ named. IsPlanned leaves map inode.number (Some block) edit named) → (r ≡ Err answers.NoSpace → LacksSpace map edit) → IsUnreadOrFull (refusal_of r)
+      pub put_over_plans : (r : Result (List Leaf) StoreAnswer) → IfOk r (λ named. IsPlanned leaves map inode.number (Some block) edit named) →
+          (r ≡ Err answers.NoSpace → LacksSpace map edit) → IsUnreadOrFull (refusal_of r)
           → Plans version_one leaves store (Put id kind usage secret content' true) r
       put_over_plans (Ok named) planned space refused =
           plan_stands leaves store stands (Put id kind usage secret content' true) (finite.insert store id put_object) named put_stated
           (edit_stands leaves store stands id inode found map first named (Some block) edit planned.edited kind usage secret [] (sym kept) had put_kept put_was head)
-          (shorter (edit_few leaves store stands id inode found map first named (Some block) edit planned.edited kind usage secret [] (sym kept) had put_kept put_was head planned.few 0 (data_leaves edit.length) (λ x inside isnt. (omega arith, inside)))
+          (shorter (edit_few leaves store stands id inode found map first named (Some block) edit planned.edited kind usage secret [] (sym kept) had put_kept put_was head
+          planned.few 0 (data_leaves edit.length) (λ x inside isnt. (omega arith, inside)))
           (let e : 2 + (data_leaves edit.length - 0) ≡ 2 + data_leaves (length content') = omega (arith, long) in e))
       put_over_plans (Err e) planned space refused =
           unread_plans e (change store (Put id kind usage secret content' true)) refused
@@ -187,7 +202,8 @@ module _ (leaves : ℕ → List ℕ) (store : Store) (stands : region_of version
         (ap (λ o. if is_some o && true then Err answers.Exists else Ok (finite.insert store id (record { kind = kind; usage = usage; secret = secret; content = content' }))) held)
 
     -- it is moved to another identifier
-    pub rename_plans : (to : List ℕ) (named : List Leaf) (block : List ℕ) (some' : Bor (List ℕ)) → inode_with to (inodes_of version_one leaves) ≡ None → named ≡ record { number = inode.number; bytes = block } ∷ []
+    pub rename_plans : (to : List ℕ) (named : List Leaf) (block : List ℕ) (some' : Bor (List ℕ)) → inode_with to (inodes_of version_one leaves) ≡ None →
+        named ≡ record { number = inode.number; bytes = block } ∷ []
         → IsHead block inode.kind inode.usage to inode.secret inode.length → Plans version_one leaves store (Rename id to) (Ok named)
     rename_plans to named block some' none named_is head =
         let absent : object_at store to ≡ None = ap (λ (s : Store). object_at s to) (same_store leaves store stands) ∙ object_absent leaves to none in
@@ -205,7 +221,8 @@ module _ (leaves : ℕ → List ℕ) (store : Store) (stands : region_of version
         (ap (λ (s : Store). object_at s to) (same_store leaves store stands) ∙ object_found leaves to other there))
 
     -- it is taken away
-    pub delete_plans : (map mid bytes : List ℕ) (named : List Leaf) → leaves 0 ≡ map → named ≡ record { number = 0; bytes = bytes } ∷ [] → ((i : ℕ) → i < 256 → entries_in mid i ≡ placed (entries_in map) inode.number 0 0 i)
+    pub delete_plans : (map mid bytes : List ℕ) (named : List Leaf) → leaves 0 ≡ map → named ≡ record { number = 0; bytes = bytes } ∷ [] →
+        ((i : ℕ) → i < 256 → entries_in mid i ≡ placed (entries_in map) inode.number 0 0 i)
         → ((i : ℕ) → i < 256 → entries_in bytes i ≡ with_entry inode.number free_entry (entries_in mid) i) → Plans version_one leaves store (Delete id) (Ok named)
     delete_plans map mid bytes named first named_is placed_is set =
         plan_stands leaves store stands (Delete id) (finite.remove store id) named (ap (λ o. with_object o (λ x. Ok (finite.remove store id))) held)
@@ -219,13 +236,16 @@ module _ (leaves : ℕ → List ℕ) (store : Store) (stands : region_of version
   delete_none id none = change_refused store (Delete id) answers.NotFound (ap (λ o. with_object o (λ x. Ok (finite.remove store id))) (absent_at id none))
 
   pub rename_none : (id to : List ℕ) → inode_with id (inodes_of version_one leaves) ≡ None → change store (Rename id to) ≡ Err answers.NotFound
-  rename_none id to none = change_refused store (Rename id to) answers.NotFound (ap (λ o. with_object o (λ x. if has store to then Err answers.Exists else Ok (finite.remove (finite.insert store to x) id))) (absent_at id none))
+  rename_none id to none = change_refused store (Rename id to) answers.NotFound (ap (λ o. with_object o
+      (λ x. if has store to then Err answers.Exists else Ok (finite.remove (finite.insert store to x) id))) (absent_at id none))
 
   pub write_absent : (id : List ℕ) (at : ℕ) (bytes : List ℕ) → inode_with id (inodes_of version_one leaves) ≡ None → change store (Write id at bytes) ≡ Err answers.NotFound
-  write_absent id at bytes none = change_refused store (Write id at bytes) answers.NotFound (ap (λ o. with_object o (λ x. Ok (finite.insert store id (record x { content = written x.content at bytes })))) (absent_at id none))
+  write_absent id at bytes none = change_refused store (Write id at bytes) answers.NotFound (ap (λ o. with_object o
+      (λ x. Ok (finite.insert store id (record x { content = written x.content at bytes })))) (absent_at id none))
 
   pub truncate_none : (id : List ℕ) (n : ℕ) → inode_with id (inodes_of version_one leaves) ≡ None → change store (Truncate id n) ≡ Err answers.NotFound
-  truncate_none id n none = change_refused store (Truncate id n) answers.NotFound (ap (λ o. with_object o (λ x. Ok (finite.insert store id (record x { content = resized n x.content })))) (absent_at id none))
+  truncate_none id n none = change_refused store (Truncate id n) answers.NotFound (ap (λ o. with_object o
+      (λ x. Ok (finite.insert store id (record x { content = resized n x.content })))) (absent_at id none))
 
   -- a new object
   module _ (head : Head) (none : inode_with head.id.now (inodes_of version_one leaves) ≡ None) (map : List ℕ) (first : leaves 0 ≡ map) (content' : List ℕ) (overwrite : Bool) (edit : Edit)
@@ -238,18 +258,22 @@ module _ (leaves : ℕ → List ℕ) (store : Store) (stands : region_of version
 
     new_stated : changed store (Put head.id.now head.kind head.usage head.secret.now content' overwrite) ≡ Ok (finite.insert store head.id.now new_object)
     new_stated =
-        ap (λ o. if is_some o && not overwrite then Err answers.Exists else Ok (finite.insert store head.id.now (record { kind = head.kind; usage = head.usage; secret = head.secret.now; content = content' }))) (absent_at head.id.now none)
+        ap (λ o. if is_some o && not overwrite then Err answers.Exists else Ok (finite.insert store head.id.now
+        (record { kind = head.kind; usage = head.usage; secret = head.secret.now; content = content' }))) (absent_at head.id.now none)
         ∙ ap (λ (b : List ℕ). Ok (finite.insert store head.id.now (record { kind = head.kind; usage = head.usage; secret = head.secret.now; content = b }))) (sym new_content)
 
     pub put_new_plans : (r : Result (List Leaf) StoreAnswer) → IfOk r (λ named. IsNewPlan leaves map head edit named) → (r ≡ Err answers.NoSpace → LacksNew map edit) → IsUnreadOrFull (refusal_of r)
         → Plans version_one leaves store (Put head.id.now head.kind head.usage head.secret.now content' overwrite) r
     put_new_plans (Ok named) plan space refused =
         plan_stands leaves store stands (Put head.id.now head.kind head.usage head.secret.now content' overwrite) (finite.insert store head.id.now new_object) named new_stated
-        (new_stands leaves store stands plan.leaf map plan.base plan.block first plan.new.high plan.new.free plan.new.set named edit plan.planned head.kind head.usage head.id.now head.secret.now plan.says had kept (absent_at head.id.now none))
-        (shorter (new_few leaves store stands plan.leaf map plan.base plan.block first plan.new.high plan.new.free plan.new.set named edit plan.planned head.kind head.usage head.id.now head.secret.now plan.says had kept (absent_at head.id.now none)
+        (new_stands leaves store stands plan.leaf map plan.base plan.block first plan.new.high plan.new.free plan.new.set named edit plan.planned head.kind head.usage head.id.now
+        head.secret.now plan.says had kept (absent_at head.id.now none))
+        (shorter (new_few leaves store stands plan.leaf map plan.base plan.block first plan.new.high plan.new.free plan.new.set named edit plan.planned head.kind head.usage
+        head.id.now head.secret.now plan.says had kept (absent_at head.id.now none)
         0 (data_leaves edit.length) (λ x inside isnt. (omega arith, inside)))
         (let e : 2 + (data_leaves edit.length - 0) ≡ 2 + data_leaves (length content') = omega (arith, long) in e))
     put_new_plans (Err e) plan space refused =
         unread_plans e (change store (Put head.id.now head.kind head.usage head.secret.now content' overwrite)) refused
         (λ same. change_full store (finite.insert store head.id.now new_object) (Put head.id.now head.kind head.usage head.secret.now content' overwrite) new_stated
-        (new_full leaves store head.id.now new_object edit map whole (costs_leaves leaves store stands) (absent_at head.id.now none) first (after_long edit [] (sym kept)) had (space (ap (λ (x : StoreAnswer). Err x) same))))
+        (new_full leaves store head.id.now new_object edit map whole (costs_leaves leaves store stands) (absent_at head.id.now none) first (after_long edit [] (sym kept)) had
+        (space (ap (λ (x : StoreAnswer). Err x) same))))

@@ -65,7 +65,8 @@ find_range p (suc n) a i none low high =
 
 none_found : (p : ℕ → Bool) (n a : ℕ) → ((i : ℕ) → a ≤ i → i < a + n → p i ≡ false) → find p (range_with_len a n) ≡ None
 none_found p zero a none = refl
-none_found p (suc n) a none = ap (λ b. cond b (Some a) (find p (range_with_len (a + 1) n))) (none a (omega arith) (omega arith)) ∙ none_found p n (a + 1) (λ i low high. none i (omega arith) (omega arith))
+none_found p (suc n) a none = ap (λ b. cond b (Some a) (find p (range_with_len (a + 1) n))) (none a (omega arith) (omega arith))
+    ∙ none_found p n (a + 1) (λ i low high. none i (omega arith) (omega arith))
 
 -- what none of the rules being broken says
 formed_of : (f x y : Bool) → (not f || (x || y)) ≡ false → f ≡ true
@@ -141,7 +142,8 @@ module _ (L : Layout) (leaves : ℕ → List ℕ) where
   pub owner_is : (i : ℕ) → is_well_formed L leaves i ≡ true → is_data i ≡ true → is_inode L leaves (entry_at L leaves i).inode ≡ true
   unfolding is_well_formed
   owner_is i formed is =
-      elim (nat_lt i L.map_leaves) as (λ b. (if b then entry_number L leaves i == 0 else form_of i (entry_at L leaves i) (is_inode L leaves (entry_at L leaves i).inode)) ≡ true → is_inode L leaves (entry_at L leaves i).inode ≡ true) [
+      elim (nat_lt i L.map_leaves) as (λ b. (if b then entry_number L leaves i == 0 else form_of i (entry_at L leaves i) (is_inode L leaves (entry_at L leaves i).inode)) ≡ true →
+      is_inode L leaves (entry_at L leaves i).inode ≡ true) [
         | true ↦ λ e. absurd (let none : entry_number L leaves i ≡ 0 = eqb-true _ 0 e in let f : false ≡ true = sym (ap (λ (x : ℕ). x == DATA) (zero_kind i none)) ∙ is in cc)
         | false ↦ λ e. owner_of_form i (entry_at L leaves i) _ (eqb-true _ 2 is) e
       ] formed
@@ -152,7 +154,8 @@ module _ (L : Layout) (leaves : ℕ → List ℕ) where
 
   unbroken_inode : (n : ℕ) → n < L.leaves → (has_data L leaves n ≡ true) → (x : ℕ) → x < blocks_of n → total (λ i. mark (is_data_at L leaves n x i)) 0 L.leaves ≡ 1
   unfolding has_data numbers
-  unbroken_inode n below has x before = sym (counted (λ i. is_data_at L leaves n x i) 0 L.leaves) ∙ eqb-true _ 1 (all_range (λ y. has_one L leaves n y) (blocks_of n) 0 x (and_both _ _ has).0 (omega arith) (omega arith))
+  unbroken_inode n below has x before = sym (counted (λ i. is_data_at L leaves n x i) 0 L.leaves) ∙ eqb-true _ 1
+      (all_range (λ y. has_one L leaves n y) (blocks_of n) 0 x (and_both _ _ has).0 (omega arith) (omega arith))
 
   not_past : (n : ℕ) → has_data L leaves n ≡ true → (k : ℕ) → k < L.leaves → is_past L leaves n k ≡ false
   unfolding has_data numbers
@@ -169,7 +172,8 @@ module _ (L : Layout) (leaves : ℕ → List ℕ) where
   module _ (filled : 0 < L.leaves) (unbroken : (i : ℕ) → i < L.leaves → breaks L leaves i ≡ false) where
     formed_is : (i : ℕ) → i < L.leaves → is_well_formed L leaves i ≡ true
     unfolding breaks
-    formed_is i below = formed_of (is_well_formed L leaves i) (is_inode L leaves i && not (is_inode_leaf (leaves i) && (not (is_doubled L leaves i) && has_data L leaves i))) (is_data i && not (is_padded L leaves i)) (unbroken i below)
+    formed_is i below = formed_of (is_well_formed L leaves i) (is_inode L leaves i && not (is_inode_leaf (leaves i) && (not (is_doubled L leaves i) && has_data L leaves i)))
+        (is_data i && not (is_padded L leaves i)) (unbroken i below)
 
     inode_is : (n : ℕ) → n < L.leaves → is_inode L leaves n ≡ true → (is_inode_leaf (leaves n) ≡ true) × (is_doubled L leaves n ≡ false) × (has_data L leaves n ≡ true)
     unfolding breaks
@@ -179,7 +183,8 @@ module _ (L : Layout) (leaves : ℕ → List ℕ) where
     unfolding breaks
     padded_is k below is = data_of (is_well_formed L leaves k) _ (is_data k) (is_padded L leaves k) (unbroken k below) is
 
-    zeros_behind : (n k : ℕ) → n < L.leaves → is_inode L leaves n ≡ true → k < L.leaves → is_data_of L leaves n k ≡ true → are_zero (drop (length_in (leaves n) - 1024 * (entry_at L leaves k).index) (take 1024 (leaves k))) ≡ true
+    zeros_behind : (n k : ℕ) → n < L.leaves → is_inode L leaves n ≡ true → k < L.leaves → is_data_of L leaves n k ≡ true →
+        are_zero (drop (length_in (leaves n) - 1024 * (entry_at L leaves k).index) (take 1024 (leaves k))) ≡ true
     unfolding is_padded
     zeros_behind n k here inode below of =
         let parts = and_both (is_data k) ((entry_at L leaves k).inode == n) of in
@@ -195,7 +200,8 @@ module _ (L : Layout) (leaves : ℕ → List ℕ) where
           bytes = rules.0;
           present = λ x before. (let met = total_met (λ i. is_data_at L leaves n x i) 0 L.leaves (omega (arith, unbroken_inode n here rules.2 x before)) in
               let high : met.0 < L.leaves = omega (arith, met.2) in (met.0, high, met.3));
-          single = λ x k j before below other at there. total_only (λ i. is_data_at L leaves n x i) 0 L.leaves k j (unbroken_inode n here rules.2 x before) (omega arith) (omega arith) (omega arith) (omega arith) at there;
+          single = λ x k j before below other at there. total_only (λ i. is_data_at L leaves n x i) 0 L.leaves k j (unbroken_inode n here rules.2 x before) (omega arith)
+              (omega arith) (omega arith) (omega arith) at there;
           before = before_end n rules.2;
           padded = λ k below of. zeros_behind n k here inode below of;
         }
@@ -204,7 +210,8 @@ module _ (L : Layout) (leaves : ℕ → List ℕ) where
     unfolding is_doubled
     not_doubled n m below less inode other same =
         let none = any_range (λ o. is_inode L leaves o && bytes_eq (identifier_in (leaves o)) (identifier_in (leaves n))) n 0 m (inode_is n below inode).1 (omega arith) (omega arith) in
-        let some' = and_from (is_inode L leaves m) (bytes_eq (identifier_in (leaves m)) (identifier_in (leaves n))) other ((bytes_eq-Decides (identifier_in (leaves m)) (identifier_in (leaves n))).1 (sym same)) in
+        let some' = and_from (is_inode L leaves m) (bytes_eq (identifier_in (leaves m)) (identifier_in (leaves n))) other
+        ((bytes_eq-Decides (identifier_in (leaves m)) (identifier_in (leaves n))).1 (sym same)) in
         let f : true ≡ false = sym some' ∙ none in cc
 
     apart_is : (n m : ℕ) → n < L.leaves → m < L.leaves → is_inode L leaves n ≡ true → is_inode L leaves m ≡ true → identifier_in (leaves n) ≡ identifier_in (leaves m) → n ≡ m
@@ -227,12 +234,14 @@ module _ (L : Layout) (leaves : ℕ → List ℕ) where
   module _ (filled : 0 < L.leaves) (sound : Sound) where
     doubled_not : (n : ℕ) → n < L.leaves → is_inode L leaves n ≡ true → is_doubled L leaves n ≡ false
     unfolding is_doubled
-    doubled_not n below inode = none_range (λ o. is_inode L leaves o && bytes_eq (identifier_in (leaves o)) (identifier_in (leaves n))) n 0 (λ o low high. each o (omega arith) (is_inode L leaves o) (bytes_eq (identifier_in (leaves o)) (identifier_in (leaves n))) refl refl)
+    doubled_not n below inode = none_range (λ o. is_inode L leaves o && bytes_eq (identifier_in (leaves o)) (identifier_in (leaves n))) n 0
+        (λ o low high. each o (omega arith) (is_inode L leaves o) (bytes_eq (identifier_in (leaves o)) (identifier_in (leaves n))) refl refl)
       where
         each : (o : ℕ) → o < n → (b c : Bool) → is_inode L leaves o ≡ b → bytes_eq (identifier_in (leaves o)) (identifier_in (leaves n)) ≡ c → (b && c) ≡ false
         each o less false c is same = refl
         each o less true false is same = refl
-        each o less true true is same = absurd (let e : n ≡ o = sound.apart n o below (omega arith) inode is (sym ((bytes_eq-Decides (identifier_in (leaves o)) (identifier_in (leaves n))).0 same)) in omega (arith, e))
+        each o less true true is same = absurd (let e : n ≡ o = sound.apart n o below (omega arith) inode is
+            (sym ((bytes_eq-Decides (identifier_in (leaves o)) (identifier_in (leaves n))).0 same)) in omega (arith, e))
 
     data_has : (n : ℕ) → n < L.leaves → is_inode L leaves n ≡ true → has_data L leaves n ≡ true
     unfolding has_data numbers
@@ -245,7 +254,8 @@ module _ (L : Layout) (leaves : ℕ → List ℕ) where
         total_one (λ i. mark (is_data_at L leaves n x i)) 0 L.leaves some'.0 (omega arith) (omega (arith, some'.1))
         (λ i lower higher other. unmarked (is_data_at L leaves n x i) (λ t. other (own.single x i some'.0 (omega arith) (omega arith) some'.1 t some'.2))) in
         eq-eqb _ 1 (counted (λ i. is_data_at L leaves n x i) 0 L.leaves ∙ one ∙ ap mark some'.2)))
-        (not_from_false _ (none_range (λ i. is_past L leaves n i) L.leaves 0 (λ k low high. past_not k (omega arith) own (is_data_of L leaves n k) (nat_le (blocks_of n) (entry_at L leaves k).index) refl refl)))
+        (not_from_false _ (none_range (λ i. is_past L leaves n i) L.leaves 0 (λ k low high. past_not k (omega arith) own (is_data_of L leaves n k)
+        (nat_le (blocks_of n) (entry_at L leaves k).index) refl refl)))
       where
         unmarked : (b : Bool) → (b ≡ true → ⊥) → mark b ≡ 0
         unmarked true never = absurd (never refl)
@@ -270,7 +280,8 @@ module _ (L : Layout) (leaves : ℕ → List ℕ) where
     pub unbroken_of : (i : ℕ) → i < L.leaves → breaks L leaves i ≡ false
     unfolding breaks
     unbroken_of i below =
-        unbroken_from (is_well_formed L leaves i) (is_inode L leaves i) (is_inode_leaf (leaves i)) (is_doubled L leaves i) (has_data L leaves i) (is_data i) (is_padded L leaves i) (sound.formed i below)
+        unbroken_from (is_well_formed L leaves i) (is_inode L leaves i) (is_inode_leaf (leaves i)) (is_doubled L leaves i) (has_data L leaves i) (is_data i) (is_padded L leaves i)
+        (sound.formed i below)
         (λ inode. ((sound.inode i below inode).bytes, doubled_not i below inode, data_has i below inode)) (λ is. padded_has i below is)
 
     first_none : first_broken L leaves ≡ None

@@ -26,7 +26,8 @@ use Rattle.region_plan.proofs.Totals.{total, mark, counted, total_agree, total_s
 form_kinds : (i : ℕ) (e : Entry) (b : Bool) → form_of i e b ≡ true → (e.kind == FREE) ≡ not ((e.kind == INODE) || (e.kind == DATA))
 form_kinds i e b formed = each (e.kind == 0) (e.kind == 1) (e.kind == 2) refl refl refl formed
   where
-    each : (x y z : Bool) → (e.kind == 0) ≡ x → (e.kind == 1) ≡ y → (e.kind == 2) ≡ z → (if x then (e.inode == 0) && (e.index == 0) else if y then (e.inode == i) && (e.index == 0) else z && b) ≡ true → x ≡ not (y || z)
+    each : (x y z : Bool) → (e.kind == 0) ≡ x → (e.kind == 1) ≡ y → (e.kind == 2) ≡ z → (if x then (e.inode == 0) && (e.index == 0) else if y then (e.inode == i) && (e.index == 0)
+        else z && b) ≡ true → x ≡ not (y || z)
     each true true z p q r f = absurd (let a : e.kind ≡ 0 = eqb-true e.kind 0 p in let c : e.kind ≡ 1 = eqb-true e.kind 1 q in omega (arith, a, c))
     each true false true p q r f = absurd (let a : e.kind ≡ 0 = eqb-true e.kind 0 p in let c : e.kind ≡ 2 = eqb-true e.kind 2 r in omega (arith, a, c))
     each true false false p q r f = refl
@@ -40,7 +41,8 @@ module _ (leaves : ℕ → List ℕ) (sound : Sound version_one leaves) where
 
   kinds_later : (i : ℕ) → 1 ≤ i → is_well_formed version_one leaves i ≡ true → ((E i).kind == FREE) ≡ not (is_used version_one leaves i)
   unfolding is_well_formed
-  kinds_later i later formed = form_kinds i (E i) (is_inode version_one leaves (E i).inode) (sym (ap (λ b. if b then entry_number version_one leaves i == 0 else form_of i (E i) (is_inode version_one leaves (E i).inode)) (le-ltb i 1 later)) ∙ formed)
+  kinds_later i later formed = form_kinds i (E i) (is_inode version_one leaves (E i).inode) (sym (ap (λ b. if b then entry_number version_one leaves i == 0 else form_of i (E i)
+      (is_inode version_one leaves (E i).inode)) (le-ltb i 1 later)) ∙ formed)
 
   -- a leaf behind the map is free or in use
   either : (i : ℕ) → 1 ≤ i → i < 256 → mark (is_free E i) + mark (is_used version_one leaves i) ≡ 1
@@ -74,7 +76,8 @@ module _ (leaves : ℕ → List ℕ) (sound : Sound version_one leaves) where
       joined x y p q r t = omega (arith, p, q, r, t)
 
 -- a leaf that is taken is free no more
-pub taken_free : (entries base : ℕ → Entry) (n : ℕ) → n < 256 → is_free entries n ≡ true → (base n).kind ≡ 1 → ((i : ℕ) → i < 256 → i ≢ n → base i ≡ entries i) → free_before entries 256 ≡ free_before base 256 + 1
+pub taken_free : (entries base : ℕ → Entry) (n : ℕ) → n < 256 → is_free entries n ≡ true → (base n).kind ≡ 1 → ((i : ℕ) → i < 256 → i ≢ n → base i ≡ entries i) →
+    free_before entries 256 ≡ free_before base 256 + 1
 unfolding free_before
 taken_free entries base n below free kind beside =
     joined (total (λ i. mark (is_free entries i)) 0 256) (total (λ i. mark (is_free base i)) 0 256) (total (λ i. mark (i == n)) 0 256)
@@ -118,8 +121,10 @@ unfolding change
 change_full store after c is over = ap within_quota is ∙ ap (λ b. if b then Ok after else Err NoSpace) (lt-leb (cost after) 255 over)
 
 -- what a store costs in which an object has another content, where there are too few leaves
-pub edit_full : (leaves : ℕ → List ℕ) (store : Store) (id : List ℕ) (was now : Object) (edit : Edit) → Sound version_one leaves → cost store ≡ used_leaves version_one leaves → object_at store id ≡ Some was
-    → length was.content ≡ edit.had → length now.content ≡ edit.length → (base : List ℕ) → free_before (λ j. entry_at version_one (λ l. base) j) 256 ≡ free_before (λ j. entry_at version_one leaves j) 256
+pub edit_full : (leaves : ℕ → List ℕ) (store : Store) (id : List ℕ) (was now : Object) (edit : Edit) → Sound version_one leaves → cost store ≡ used_leaves version_one leaves →
+    object_at store id ≡ Some was
+    → length was.content ≡ edit.had → length now.content ≡ edit.length → (base : List ℕ) → free_before (λ j. entry_at version_one (λ l. base) j)
+    256 ≡ free_before (λ j. entry_at version_one leaves j) 256
     → LacksSpace base edit → 255 < cost (finite.insert store id now)
 edit_full leaves store id was now edit sound costs held had long base same lacks =
     let put = cost-insert store id now in
@@ -130,7 +135,8 @@ edit_full leaves store id was now edit sound costs held had long base same lacks
     each (blocks_for (length now.content)) (blocks_at (object_at store id)) (cost (finite.remove store id)) put left own new same free lacks
   where
     each : (new own left : ℕ) → cost (finite.insert store id now) ≡ new + left → left + own ≡ cost store → own ≡ 1 + data_leaves edit.had → new ≡ 1 + data_leaves edit.length
-        → free_before (λ j. entry_at version_one (λ l. base) j) 256 ≡ free_before (λ j. entry_at version_one leaves j) 256 → free_before (λ j. entry_at version_one leaves j) 256 + used_leaves version_one leaves ≡ 255
+        → free_before (λ j. entry_at version_one (λ l. base) j) 256 ≡ free_before (λ j. entry_at version_one leaves j) 256 →
+        free_before (λ j. entry_at version_one leaves j) 256 + used_leaves version_one leaves ≡ 255
         → LacksSpace base edit → 255 < cost (finite.insert store id now)
     each new own left put rest had' long' alike free (inl over) = omega (arith, put, long', over)
     each new own left put rest had' long' alike free (inr lack) = omega (arith, put, rest, had', long', alike, free, lack, costs)
@@ -143,7 +149,8 @@ free_same leaves map first =
     (λ i low high. ap (λ (e : Entry). not (i == 0) && (e.kind == FREE)) (ap (λ (b : List ℕ). entries_in b i) (sym first) ∙ sym (in_map leaves i (omega (arith, high)))))
 
 -- what a store costs that has a new object, where there are too few leaves
-pub new_full : (leaves : ℕ → List ℕ) (store : Store) (id : List ℕ) (now : Object) (edit : Edit) (map : List ℕ) → Sound version_one leaves → cost store ≡ used_leaves version_one leaves → object_at store id ≡ None → leaves 0 ≡ map
+pub new_full : (leaves : ℕ → List ℕ) (store : Store) (id : List ℕ) (now : Object) (edit : Edit) (map : List ℕ) → Sound version_one leaves →
+    cost store ≡ used_leaves version_one leaves → object_at store id ≡ None → leaves 0 ≡ map
     → length now.content ≡ edit.length → edit.had ≡ 0 → LacksNew map edit → 255 < cost (finite.insert store id now)
 new_full leaves store id now edit map sound costs absent first long had lacks =
     let put = cost-insert store id now in
@@ -153,7 +160,8 @@ new_full leaves store id now edit map sound costs absent first long had lacks =
     let free = free_used leaves sound in
     each (blocks_for (length now.content)) (blocks_at (object_at store id)) (cost (finite.remove store id)) put left own new (free_same leaves map first) free lacks
   where
-    lacking : (new own left here base : ℕ) → cost (finite.insert store id now) ≡ new + left → left + own ≡ cost store → own ≡ 0 → new ≡ 1 + data_leaves edit.length → here + used_leaves version_one leaves ≡ 255 → here ≡ base + 1
+    lacking : (new own left here base : ℕ) → cost (finite.insert store id now) ≡ new + left → left + own ≡ cost store → own ≡ 0 → new ≡ 1 + data_leaves edit.length →
+        here + used_leaves version_one leaves ≡ 255 → here ≡ base + 1
         → (255 < data_leaves edit.length) ⊎ (min (data_leaves edit.had) (data_leaves edit.length) + base < data_leaves edit.length) → 255 < cost (finite.insert store id now)
     lacking new own left here base put rest none long' free more (inl over) = omega (arith, put, long', over)
     lacking new own left here base put rest none long' free more (inr lack) = omega (arith, put, rest, none, long', free, more, lack, costs)
@@ -165,6 +173,7 @@ new_full leaves store id now edit map sound costs absent first long had lacks =
     each new own left put rest none long' alike free (inr data') =
         lacking new own left (free_before (λ j. entry_at version_one leaves j) 256) (free_before (entries_in data'.base) 256) put rest none long' free
         (sym alike ∙ taken_free (entries_in map) (entries_in data'.base) data'.leaf data'.new.high data'.new.free
-        (ap (λ (e : Entry). e.kind) (data'.new.set data'.leaf data'.new.high ∙ ap (λ b. if b then record { kind = INODE; inode = data'.leaf; index = 0 } else entries_in map data'.leaf) (eq-eqb data'.leaf data'.leaf refl)))
+        (ap (λ (e : Entry). e.kind) (data'.new.set data'.leaf data'.new.high ∙ ap (λ b. if b then record { kind = INODE; inode = data'.leaf; index = 0 } else entries_in map
+        data'.leaf) (eq-eqb data'.leaf data'.leaf refl)))
         (λ i below other. data'.new.set i below ∙ ap (λ b. if b then record { kind = INODE; inode = data'.leaf; index = 0 } else entries_in map i) (ne_eqb i data'.leaf other)))
         data'.lacks

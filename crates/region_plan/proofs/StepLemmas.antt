@@ -37,10 +37,18 @@ byte_mark true = refl
 byte_mark false = refl
 
 pub started : (map : List ℕ) (inode kept blocks : ℕ) → SoFar map map inode kept blocks kept 0
-started map inode kept blocks = (let none = none_before (entries_in map) in record { counted = omega (arith, none); few = omega (arith, none); done = λ i less. absurd (omega (arith, less)); rest = λ i more less. refl })
+started map inode kept blocks = (let none = none_before (entries_in map) in record {
+  counted = omega (arith, none);
+  few = omega (arith, none);
+  done =
+      λ i less. absurd (omega (arith, less));
+  rest = λ i more less. refl;
+})
 
-pub stepped : (map after next : List ℕ) (inode kept blocks index leaf : ℕ) (entry new : Entry) (free : Bool) (one : ℕ) → SoFar map after inode kept blocks index leaf → leaf < 256 → entry ≡ entries_in map leaf
-    → free ≡ (not (leaf == 0) && (entry.kind == FREE)) → new ≡ placed_entry free entry inode index blocks → ((i : ℕ) → i < 256 → entries_in next i ≡ with_entry leaf new (entries_in after) i) → one ≡ mark free
+pub stepped : (map after next : List ℕ) (inode kept blocks index leaf : ℕ) (entry new : Entry) (free : Bool) (one : ℕ) → SoFar map after inode kept blocks index leaf → leaf < 256 →
+    entry ≡ entries_in map leaf
+    → free ≡ (not (leaf == 0) && (entry.kind == FREE)) → new ≡ placed_entry free entry inode index blocks →
+    ((i : ℕ) → i < 256 → entries_in next i ≡ with_entry leaf new (entries_in after) i) → one ≡ mark free
     → SoFar map next inode kept blocks (index + one) (leaf + 1)
 stepped map after next inode kept blocks index leaf entry new free one before below is is_free_ is_new set is_one =
     let free_is : free ≡ is_free (entries_in map) leaf = is_free_ ∙ ap (λ (e : Entry). not (leaf == 0) && (e.kind == FREE)) is in
@@ -64,7 +72,8 @@ stepped map after next inode kept blocks index leaf entry new free one before be
     }
 
 -- no leaf so far may be taken
-pub none_more : (entries : ℕ → Entry) (leaf : ℕ) (free : Bool) (e : Entry) → free_before entries leaf ≡ 0 → e ≡ entries leaf → free ≡ (not (leaf == 0) && (e.kind == FREE)) → free ≡ false → free_before entries (leaf + 1) ≡ 0
+pub none_more : (entries : ℕ → Entry) (leaf : ℕ) (free : Bool) (e : Entry) → free_before entries leaf ≡ 0 → e ≡ entries leaf → free ≡ (not (leaf == 0) && (e.kind == FREE)) →
+    free ≡ false → free_before entries (leaf + 1) ≡ 0
 none_more entries leaf free e none is told isnt =
     let share : mark (is_free entries leaf) ≡ 0 = ap mark (sym (told ∙ ap (λ (x : Entry). not (leaf == 0) && (x.kind == FREE)) is) ∙ isnt) in
     let more = one_before entries leaf in

@@ -1,5 +1,6 @@
 -- What the inodes of a region tell of its store.
-use Rattle.std.proofs.Common.{◌≡◌, ℕ, Bool, true, false, cond, not, List, [], ◌∷◌, length, map, take, drop, Option, None, Some, find, option_map, option_copied, Bor, Result, Ok, Err, refl, sym, ◌∙◌, ap, subst}
+use Rattle.std.proofs.Common.{◌≡◌, ℕ, Bool, true, false, cond, not, List, [], ◌∷◌, length, map, take, drop, Option, None, Some}
+use Rattle.std.proofs.Common.{find, option_map, option_copied, Bor, Result, Ok, Err, refl, sym, ◌∙◌, ap, subst}
 use Rattle.std.specs.Prelude.{◌&&◌, if◌then◌else◌}
 use Rattle.std.specs.List.{All}
 use Rattle.std.specs.Str.{bytes_eq}
@@ -70,7 +71,9 @@ module _ (L : Layout) (leaves : ℕ → List ℕ) where
       let same : bytes_eq (told i).id q ≡ is_eq (by_bytes q (identifier_in (leaves i))) = ap (λ x. bytes_eq x q) (told_id i) ∙ same_is_tied (identifier_in (leaves i)) q in
       let rest = find_told q ns in
       let number = told_number i in
-      elim (bytes_eq (told i).id q) as (λ b. b ≡ is_eq (by_bytes q (identifier_in (leaves i))) → cond (is_eq (by_bytes q (identifier_in (leaves i)))) (Some (object_of L leaves i)) (finite.find by_bytes q (map kept ns)) ≡ option_map (λ inode. object_of L leaves inode.number) (cond b (Some (told i)) (find (λ inode. bytes_eq inode.id q) (map told ns)))) [
+      elim (bytes_eq (told i).id q) as (λ b. b ≡ is_eq (by_bytes q (identifier_in (leaves i))) → cond (is_eq (by_bytes q (identifier_in (leaves i)))) (Some (object_of L leaves i))
+      (finite.find by_bytes q (map kept ns)) ≡ option_map (λ inode. object_of L leaves inode.number)
+      (cond b (Some (told i)) (find (λ inode. bytes_eq inode.id q) (map told ns)))) [
         | true ↦ λ e. ap (λ b. cond b (Some (object_of L leaves i)) (finite.find by_bytes q (map kept ns))) (sym e) ∙ ap (λ (n : ℕ). Some (object_of L leaves n)) (sym number)
         | false ↦ λ e. ap (λ b. cond b (Some (object_of L leaves i)) (finite.find by_bytes q (map kept ns))) (sym e) ∙ rest
       ] same
@@ -156,7 +159,8 @@ module _ (L : Layout) (leaves : ℕ → List ℕ) where
       ap (λ r. with_object r (λ o. Ok o.secret)) (object_is q ∙ ap (option_map (λ (x : Inode). object_of L leaves x.number)) is)
       ∙ ap (λ s. Ok s) (secret_same inode.number ∙ sym (ap (λ (x : Inode). x.secret) (found_is_told q inode is)))
 
-  pub content_told : (q : List ℕ) (inode : Inode) (from count : ℕ) → inode_with q (inodes_of L leaves) ≡ Some inode → read_at (store_of L leaves) q from count ≡ Ok (take count (drop from (content_of L leaves inode.number)))
+  pub content_told : (q : List ℕ) (inode : Inode) (from count : ℕ) → inode_with q (inodes_of L leaves) ≡ Some inode →
+      read_at (store_of L leaves) q from count ≡ Ok (take count (drop from (content_of L leaves inode.number)))
   content_told q inode from count is =
       ap (λ r. with_object r (λ o. Ok (take count (drop from o.content)))) (object_is q ∙ ap (option_map (λ (x : Inode). object_of L leaves x.number)) is)
       ∙ ap (λ c. Ok (take count (drop from c))) (content_same inode.number)
@@ -178,18 +182,21 @@ module _ (L : Layout) (leaves : ℕ → List ℕ) where
   -- the least of the identifiers greater than the last one, among inodes and in the store
   pub no_entries : finite.entries (finite.empty {X = Object} {R = by_bytes}) ≡ []
   no_entries =
-      ap finite.entries (sym (finite.empty_of_len (finite.from_sorted {R = by_bytes} []) (finite.len-entries (finite.from_sorted {R = by_bytes} []) ∙ ap length (finite.entries-from_sorted {X = Object} by_bytes [] tt))))
+      ap finite.entries (sym (finite.empty_of_len (finite.from_sorted {R = by_bytes} []) (finite.len-entries (finite.from_sorted {R = by_bytes} [])
+      ∙ ap length (finite.entries-from_sorted {X = Object} by_bytes [] tt))))
       ∙ finite.entries-from_sorted {X = Object} by_bytes [] tt
 
   entry_told : (i : ℕ) → entry_for (told i) ≡ kept i
   unfolding inode_of
   entry_told i = refl
 
-  better_is : (after : Bool) (best : Option Inode) (t : Inode) → option_map entry_for (if after && is_better best t then Some t else best) ≡ merged after t.id (object_of L leaves t.number) (option_map entry_for best)
+  better_is : (after : Bool) (best : Option Inode) (t : Inode) → option_map entry_for (if after && is_better best t then Some t else best) ≡ merged after t.id
+      (object_of L leaves t.number) (option_map entry_for best)
   better_is false best t = refl
   better_is true None t = refl
   better_is true (Some b) t =
-      elim (is_lt (by_bytes b.id t.id)) as (λ r. option_map entry_for (if not r then Some t else Some b) ≡ cond r (Some (entry_for b)) (Some (t.id, object_of L leaves t.number))) [ true ↦ refl | false ↦ refl ]
+      elim (is_lt (by_bytes b.id t.id)) as (λ r. option_map entry_for (if not r then Some t else Some b) ≡ cond r (Some (entry_for b)) (Some (t.id, object_of L leaves t.number)))
+      [ true ↦ refl | false ↦ refl ]
 
   best_met : (last : Option (List ℕ)) (ns : List ℕ) → option_map entry_for (best_after last (map told ns)) ≡ find (λ e. is_after last e.0) (finite.entries (objects ns))
   best_met last [] = ap (find (λ e. is_after last e.0)) (sym no_entries)
@@ -203,7 +210,8 @@ module _ (L : Layout) (leaves : ℕ → List ℕ) where
   best_is_told : (last : Option (List ℕ)) (ns : List ℕ) (inode : Inode) → best_after last (map told ns) ≡ Some inode → inode ≡ told inode.number
   best_is_told last [] inode is = cc
   best_is_told last (i ∷ ns) inode is =
-      elim (is_after last (told i).id && is_better (best_after last (map told ns)) (told i)) as (λ b. (if b then Some (told i) else best_after last (map told ns)) ≡ Some inode → inode ≡ told inode.number) [
+      elim (is_after last (told i).id && is_better (best_after last (map told ns)) (told i)) as (λ b. (if b then Some (told i) else best_after last (map told ns)) ≡ Some inode →
+      inode ≡ told inode.number) [
         | true ↦ λ e. let same : told i ≡ inode = cc in sym same ∙ ap told (sym (told_number i) ∙ ap (λ (x : Inode). x.number) same)
         | false ↦ λ e. best_is_told last ns inode e
       ] is
@@ -216,7 +224,8 @@ module _ (L : Layout) (leaves : ℕ → List ℕ) where
   unfolding inodes_of
   listed_is_told last inode is = best_is_told last (inode_numbers L leaves) inode is
 
-  pub next_told : (last : Option (List ℕ)) (inode : Inode) → best_after last (inodes_of L leaves) ≡ Some inode → next_after (store_of L leaves) last ≡ Ok (record { id = inode.id; facts = inode_facts inode })
+  pub next_told : (last : Option (List ℕ)) (inode : Inode) → best_after last (inodes_of L leaves) ≡ Some inode →
+      next_after (store_of L leaves) last ≡ Ok (record { id = inode.id; facts = inode_facts inode })
   next_told last inode is =
       next_is last ∙ ap (λ r. listed (option_map entry_for r)) is ∙ ap (listed_as inode.id) (facts_same inode (listed_is_told last inode is))
 
@@ -224,14 +233,18 @@ module _ (L : Layout) (leaves : ℕ → List ℕ) where
   next_none last is = next_is last ∙ ap (λ r. listed (option_map entry_for r)) is
 
   -- what the code looked up
-  pub looked_none : (q : List ℕ) (r : Option (Bor Inode)) (slice items : List Inode) → option_copied r ≡ inode_with q slice → slice ≡ items → items ≡ inodes_of L leaves → r ≡ None → inode_with q (inodes_of L leaves) ≡ None
+  pub looked_none : (q : List ℕ) (r : Option (Bor Inode)) (slice items : List Inode) → option_copied r ≡ inode_with q slice → slice ≡ items → items ≡ inodes_of L leaves →
+      r ≡ None → inode_with q (inodes_of L leaves) ≡ None
   looked_none q r slice items told same all is = ap (λ (l : List Inode). inode_with q l) (sym (same ∙ all)) ∙ sym told ∙ ap option_copied is
 
-  pub looked_up : (q : List ℕ) (r : Option (Bor Inode)) (slice items : List Inode) (inode : Bor Inode) → option_copied r ≡ inode_with q slice → slice ≡ items → items ≡ inodes_of L leaves → r ≡ Some inode → inode_with q (inodes_of L leaves) ≡ Some inode.now
+  pub looked_up : (q : List ℕ) (r : Option (Bor Inode)) (slice items : List Inode) (inode : Bor Inode) → option_copied r ≡ inode_with q slice → slice ≡ items →
+      items ≡ inodes_of L leaves → r ≡ Some inode → inode_with q (inodes_of L leaves) ≡ Some inode.now
   looked_up q r slice items inode told same all is = ap (λ (l : List Inode). inode_with q l) (sym (same ∙ all)) ∙ sym told ∙ ap option_copied is
 
-  pub listed_none : (last : Option (List ℕ)) (r : Option (Bor Inode)) (slice items : List Inode) → option_copied r ≡ best_after last slice → slice ≡ items → items ≡ inodes_of L leaves → r ≡ None → best_after last (inodes_of L leaves) ≡ None
+  pub listed_none : (last : Option (List ℕ)) (r : Option (Bor Inode)) (slice items : List Inode) → option_copied r ≡ best_after last slice → slice ≡ items →
+      items ≡ inodes_of L leaves → r ≡ None → best_after last (inodes_of L leaves) ≡ None
   listed_none last r slice items told same all is = ap (λ (l : List Inode). best_after last l) (sym (same ∙ all)) ∙ sym told ∙ ap option_copied is
 
-  pub listed_up : (last : Option (List ℕ)) (r : Option (Bor Inode)) (slice items : List Inode) (inode : Bor Inode) → option_copied r ≡ best_after last slice → slice ≡ items → items ≡ inodes_of L leaves → r ≡ Some inode → best_after last (inodes_of L leaves) ≡ Some inode.now
+  pub listed_up : (last : Option (List ℕ)) (r : Option (Bor Inode)) (slice items : List Inode) (inode : Bor Inode) → option_copied r ≡ best_after last slice → slice ≡ items →
+      items ≡ inodes_of L leaves → r ≡ Some inode → best_after last (inodes_of L leaves) ≡ Some inode.now
   listed_up last r slice items inode told same all is = ap (λ (l : List Inode). best_after last l) (sym (same ∙ all)) ∙ sym told ∙ ap option_copied is

@@ -99,7 +99,8 @@ find_here p xs i x below is = ap (find p) (drop-cons xs i x below) ∙ ap (λ y.
 pub found_here : {X : Type 0} (p : X → Bool) (xs : List X) (i : ℕ) (x : X) → i < length xs → x ≡ get_or xs i x → find p (drop i xs) ≡ find p xs → p x ≡ true → Some x ≡ find p xs
 found_here p xs i x below is rest passes = sym (sym rest ∙ find_here p xs i x below is ∙ ap (λ b. cond b (Some x) (find p (drop (suc i) xs))) passes)
 
-pub find_on : {X : Type 0} (p : X → Bool) (xs : List X) (i j : ℕ) (x : X) → j ≡ i + 1 → i < length xs → x ≡ get_or xs i x → find p (drop i xs) ≡ find p xs → p x ≡ false → find p (drop j xs) ≡ find p xs
+pub find_on : {X : Type 0} (p : X → Bool) (xs : List X) (i j : ℕ) (x : X) → j ≡ i + 1 → i < length xs → x ≡ get_or xs i x → find p (drop i xs) ≡ find p xs → p x ≡ false →
+    find p (drop j xs) ≡ find p xs
 find_on p xs i j x is_j below is rest fails =
     let e : j ≡ suc i = omega arith in
     ap (λ (k : ℕ). find p (drop k xs)) e ∙ sym (ap (λ b. cond b (Some x) (find p (drop (suc i) xs))) fails) ∙ sym (find_here p xs i x below is) ∙ rest
@@ -111,23 +112,27 @@ any_here p xs i x below is = ap (list_any p) (drop-cons xs i x below) ∙ ap (λ
 pub any_found : {X : Type 0} (p : X → Bool) (xs : List X) (i : ℕ) (x : X) → i < length xs → x ≡ get_or xs i x → list_any p (drop i xs) ≡ list_any p xs → p x ≡ true → false ≡ not (list_any p xs)
 any_found p xs i x below is rest passes = ap not (sym (sym rest ∙ any_here p xs i x below is ∙ ap (λ b. b || list_any p (drop (suc i) xs)) passes))
 
-pub any_on : {X : Type 0} (p : X → Bool) (xs : List X) (i j : ℕ) (x : X) → j ≡ i + 1 → i < length xs → x ≡ get_or xs i x → list_any p (drop i xs) ≡ list_any p xs → p x ≡ false → list_any p (drop j xs) ≡ list_any p xs
+pub any_on : {X : Type 0} (p : X → Bool) (xs : List X) (i j : ℕ) (x : X) → j ≡ i + 1 → i < length xs → x ≡ get_or xs i x → list_any p (drop i xs) ≡ list_any p xs → p x ≡ false →
+    list_any p (drop j xs) ≡ list_any p xs
 any_on p xs i j x is_j below is rest fails =
     let e : j ≡ suc i = omega arith in
     ap (λ (k : ℕ). list_any p (drop k xs)) e ∙ sym (ap (λ b. b || list_any p (drop (suc i) xs)) fails) ∙ sym (any_here p xs i x below is) ∙ rest
 
 -- what the code tests of an entry
-pub data_is : (leaves : ℕ → List ℕ) (inode index n : ℕ) (e : Entry) (r b : Bool) → e ≡ entry_at version_one leaves n → r ≡ (((e.kind == DATA) && (e.inode == inode)) && (e.index == index)) → r ≡ b → is_data_at version_one leaves inode index n ≡ b
+pub data_is : (leaves : ℕ → List ℕ) (inode index n : ℕ) (e : Entry) (r b : Bool) → e ≡ entry_at version_one leaves n →
+    r ≡ (((e.kind == DATA) && (e.inode == inode)) && (e.index == index)) → r ≡ b → is_data_at version_one leaves inode index n ≡ b
 data_is leaves inode index n e r b is told result = ap (λ (x : Entry). ((x.kind == DATA) && (x.inode == inode)) && (x.index == index)) (sym is) ∙ sym told ∙ result
 
 -- one more inode was read
-pub inodes_pushed : (leaves mid : ℕ → List ℕ) (n m : ℕ) (e : Entry) (old new : List Inode) (inode : Inode) → mid ≡ leaves → m ≡ n + 1 → e ≡ entry_at version_one leaves n → e.kind ≡ 1 → old ≡ inodes_below version_one leaves n
+pub inodes_pushed : (leaves mid : ℕ → List ℕ) (n m : ℕ) (e : Entry) (old new : List Inode) (inode : Inode) → mid ≡ leaves → m ≡ n + 1 → e ≡ entry_at version_one leaves n →
+    e.kind ≡ 1 → old ≡ inodes_below version_one leaves n
     → inode ≡ inode_of n (mid n) → new ≡ old ++ inode ∷ [] → new ≡ inodes_below version_one leaves m
 inodes_pushed leaves mid n m e old new inode same is_m is kind before told pushed =
     pushed ∙ ap (λ (l : List Inode). l ++ inode ∷ []) before ∙ ap (λ (x : Inode). inodes_below version_one leaves n ++ x ∷ []) (told ∙ ap (λ (l : ℕ → List ℕ). inode_of n (l n)) same)
     ∙ sym (inodes_more version_one leaves n m is_m (ap (λ (x : Entry). x.kind == INODE) (sym is) ∙ eq-eqb e.kind 1 kind))
 
 -- the leaf is no inode
-pub inodes_passed : (leaves : ℕ → List ℕ) (n m : ℕ) (e : Entry) (old new : List Inode) → m ≡ n + 1 → e ≡ entry_at version_one leaves n → (e.kind ≡ 1 → ⊥) → old ≡ inodes_below version_one leaves n → new ≡ old → new ≡ inodes_below version_one leaves m
+pub inodes_passed : (leaves : ℕ → List ℕ) (n m : ℕ) (e : Entry) (old new : List Inode) → m ≡ n + 1 → e ≡ entry_at version_one leaves n → (e.kind ≡ 1 → ⊥) →
+    old ≡ inodes_below version_one leaves n → new ≡ old → new ≡ inodes_below version_one leaves m
 inodes_passed leaves n m e old new is_m is kind before same =
     same ∙ before ∙ sym (inodes_stay version_one leaves n m is_m (ap (λ (x : Entry). x.kind == INODE) (sym is) ∙ ne_eqb e.kind 1 kind))

@@ -2,7 +2,7 @@
 use Rattle.std.specs.Prelude.{ℕ, ◌≡◌, ◌+◌, ◌-◌, nat_le, Bool, true, ◌&&◌, List, drop}
 use Rattle.std.specs.Int.{w32, from_le_bytes}
 use Rattle.std.specs.List.{slice_index}
-use Rattle.tee_base.specs.declared.limits.TheConstants.{IDENTIFIER_BYTES, SECRET_BYTES}
+use Rattle.tee_base.specs.declared.limits.TheConstants.{MAX_IDENTIFIER_BYTES, MAX_SECRET_BYTES}
 use Rattle.region_plan.specs.Parts.{part, are_zero}
 use Rattle.region_plan.specs.declared.inode.Inode.{Inode}
 use Rattle.region_plan.specs.declared.inode.TheConstants.{USAGE_AT, LENGTH_AT, IDENTIFIER_LENGTH_AT, SECRET_LENGTH_AT, IDENTIFIER_AT, SECRET_AT, REST_AT}
@@ -37,11 +37,11 @@ inode_of number bytes = record {
 -- the rules on the bytes of an inode leaf: lengths within their limits, and zeros wherever nothing stands
 unfoldable pub is_inode_leaf : List ℕ → Bool
 is_inode_leaf bytes =
-    nat_le (slice_index bytes IDENTIFIER_LENGTH_AT) IDENTIFIER_BYTES
-    && (nat_le (slice_index bytes SECRET_LENGTH_AT) SECRET_BYTES
+    nat_le (slice_index bytes IDENTIFIER_LENGTH_AT) MAX_IDENTIFIER_BYTES
+    && (nat_le (slice_index bytes SECRET_LENGTH_AT) MAX_SECRET_BYTES
     && (are_zero (part (SECRET_LENGTH_AT + 1) 2 bytes)
-    && (are_zero (part (IDENTIFIER_AT + slice_index bytes IDENTIFIER_LENGTH_AT) (IDENTIFIER_BYTES - slice_index bytes IDENTIFIER_LENGTH_AT) bytes)
-    && (are_zero (part (SECRET_AT + slice_index bytes SECRET_LENGTH_AT) (SECRET_BYTES - slice_index bytes SECRET_LENGTH_AT) bytes)
+    && (are_zero (part (IDENTIFIER_AT + slice_index bytes IDENTIFIER_LENGTH_AT) (MAX_IDENTIFIER_BYTES - slice_index bytes IDENTIFIER_LENGTH_AT) bytes)
+    && (are_zero (part (SECRET_AT + slice_index bytes SECRET_LENGTH_AT) (MAX_SECRET_BYTES - slice_index bytes SECRET_LENGTH_AT) bytes)
     && are_zero (drop REST_AT bytes)))))
 
 -- what an inode leaf says of its object but for the content

@@ -4,7 +4,7 @@ ghost use Rattle.std.specs.Prelude.{◌≡◌, ◌≤◌, ◌<◌, ◌+◌, ◌-
 ghost use Rattle.std.specs.List.{range_with_len};
 ghost use Rattle.store_api.specs.Limits.{IsIdentifier, IsPart};
 ghost use Rattle.store_api.specs.Stores.{read_at};
-ghost use Rattle.tee_base.specs.declared.limits.TheConstants.{ASK_BYTES};
+ghost use Rattle.tee_base.specs.declared.limits.TheConstants.{MAX_ASK_BYTES};
 ghost use Rattle.region_plan.specs.Layout.{version_one};
 ghost use Rattle.region_plan.specs.Entries.{is_inode};
 ghost use Rattle.region_plan.specs.Inodes.{length_in};
@@ -128,7 +128,7 @@ pub fn content<L: LeafSource>(
     count: u32,
 ) -> Result<Bytes, StoreAnswer>
     requires id { IsIdentifier id.now }
-    requires count { count ≤ ASK_BYTES }
+    requires count { count ≤ MAX_ASK_BYTES }
     ensures { ReadsRegion L.keeper L.region version_one (λ store. read_at store id.now start count)
         (IsPart count) result from.old from.new }
 {

@@ -6,7 +6,7 @@ ghost use Rattle.region_plan.specs.Inodes.{IsHead, inode_of, is_inode_leaf as fo
 
 use crate::bytes::{all_zero, number_at, put};
 use std::alloc::Global;
-use tee_base::limits::{BLOCK_BYTES, IDENTIFIER_BYTES, SECRET_BYTES};
+use tee_base::limits::{BLOCK_BYTES, MAX_IDENTIFIER_BYTES, MAX_SECRET_BYTES};
 use tee_base::{Bytes, NoMemory};
 
 // Where the parts of an inode leaf begin. The object's kind is first.
@@ -92,10 +92,10 @@ pub(crate) fn is_inode_leaf(leaf: &[u8; BLOCK_BYTES]) -> bool
 {
     let id = leaf[IDENTIFIER_LENGTH_AT] as usize;
     let secret = leaf[SECRET_LENGTH_AT] as usize;
-    if id > IDENTIFIER_BYTES {
+    if id > MAX_IDENTIFIER_BYTES {
         return false;
     }
-    if secret > SECRET_BYTES {
+    if secret > MAX_SECRET_BYTES {
         return false;
     }
     let reserved = all_zero(&leaf[SECRET_LENGTH_AT + 1..IDENTIFIER_AT]);

@@ -2,7 +2,7 @@
 
 ghost use Rattle.std.specs.Prelude.{◌≡◌, ◌≤◌, ◌<◌, ◌+◌, ℕ, List, true, false, is_some, IfOk, Ok, Err, length as length_of};
 ghost use Rattle.std.specs.List.{All};
-ghost use Rattle.tee_base.specs.declared.limits.TheConstants.{ASK_BYTES, POSITION};
+ghost use Rattle.tee_base.specs.declared.limits.TheConstants.{MAX_ASK_BYTES, MAX_POSITION};
 ghost use Rattle.store_api.specs.declared.answer.StoreAnswer.TheVariants.{NoSpace};
 ghost use Rattle.store_api.specs.declared.change.Change.TheVariants as changes;
 ghost use Rattle.store_api.specs.Limits.{IsChange, IsIdentifier, IsSecret};
@@ -207,7 +207,7 @@ fn plan_put<L: LeafSource>(
     requires within { All IsWithin inodes.now }
     requires id { IsIdentifier head.id.now }
     requires secret { IsSecret head.secret.now }
-    requires content { length_of content.now ≤ ASK_BYTES }
+    requires content { length_of content.now ≤ MAX_ASK_BYTES }
     ensures plans { L.keeper.honest from.old → leaves_of L.keeper L.region from.old 0 ≡ map.now
         → inodes.now ≡ inodes_of version_one (leaves_of L.keeper L.region from.old)
         → (store : Store) → region_of version_one (leaves_of L.keeper L.region from.old) ≡ Ok store
@@ -305,7 +305,7 @@ fn plan_write<L: LeafSource>(
 ) -> Result<Leaves, StoreAnswer>
     requires works { (L.keeper.condition from.old).lost ≡ false }
     requires within { All IsWithin inodes.now }
-    requires bytes { at + length_of bytes.now ≤ POSITION }
+    requires bytes { at + length_of bytes.now ≤ MAX_POSITION }
     ensures plans { L.keeper.honest from.old → leaves_of L.keeper L.region from.old 0 ≡ map.now
         → inodes.now ≡ inodes_of version_one (leaves_of L.keeper L.region from.old)
         → (store : Store) → region_of version_one (leaves_of L.keeper L.region from.old) ≡ Ok store

@@ -7,11 +7,11 @@ ghost use Rattle.report.specs.Texts.{happened_text, mark_text, power_text, reply
 mod line;
 
 use alone::{Outputs, Power, Reply, Shown, TurnKind};
-pub use line::Line;
+pub use line::LineBuffer;
 use std::alloc::Global;
 use tee_base::{Bytes, NoMemory};
 
-impl Line {
+impl LineBuffer {
     ghost use Rattle.std.specs.Prelude.{◌≡◌, ◌++◌, OnOk};
     ghost use Rattle.report.specs.Texts.{shown_text, outputs_text};
 
@@ -56,7 +56,7 @@ impl Line {
 pub fn reply_line(alloc: Global, name: &[u8], reply: &Reply) -> Result<Bytes, NoMemory>
     ensures { IfOk result (λ line. line ≡ reply_text name.now reply.now) }
 {
-    let mut line = Line::new(alloc);
+    let mut line = LineBuffer::new(alloc);
     line.text(name)?;
     line.text(b" ")?;
     line.number(reply.op)?;
@@ -73,7 +73,7 @@ pub fn reply_line(alloc: Global, name: &[u8], reply: &Reply) -> Result<Bytes, No
 fn mark_line(alloc: Global, word: &[u8], name: &[u8], turn: u64) -> Result<Bytes, NoMemory>
     ensures { IfOk result (λ line. line ≡ mark_text word.now name.now turn) }
 {
-    let mut line = Line::new(alloc);
+    let mut line = LineBuffer::new(alloc);
     line.text(b"board ")?;
     line.text(word)?;
     line.text(b" ")?;
@@ -108,7 +108,7 @@ pub fn happened_line(
 pub fn power_line(alloc: Global, name: &[u8], power: Power) -> Result<Bytes, NoMemory>
     ensures { IfOk result (λ line. line ≡ power_text name.now power) }
 {
-    let mut line = Line::new(alloc);
+    let mut line = LineBuffer::new(alloc);
     match power {
         Power::Clean => line.text(b"board power clean\n")?,
         Power::Kept(_) => {

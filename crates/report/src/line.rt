@@ -6,12 +6,12 @@ use tee_base::{Bytes, Code, NoMemory};
 
 /// The bytes of a text so far.
 #[derive(Debug, Drop)]
-pub struct Line {
+pub struct LineBuffer {
     alloc: Global,
     bytes: Vec<u8>,
 }
 
-impl Model for Line {
+impl Model for LineBuffer {
     ghost use Rattle.std.specs.Prelude.{List, ℕ};
 
     ghost Value = { List ℕ };
@@ -19,17 +19,17 @@ impl Model for Line {
     ghost view = { λ l. l.bytes.items };
 }
 
-impl Line {
+impl LineBuffer {
     ghost use Rattle.std.specs.Prelude.{◌≡◌, ◌++◌, [], OnOk, OnErr};
     ghost use Rattle.std.specs.Fmt.{decimal};
     ghost use Rattle.hex.specs.Hex.{encode_lower};
     ghost use Rattle.report.specs.Texts.{code_text, parameter_text};
 
     /// No text yet.
-    pub fn new(alloc: Global) -> Line
+    pub fn new(alloc: Global) -> LineBuffer
         ensures { result ≡ [] }
     {
-        Line {
+        LineBuffer {
             alloc,
             bytes: Vec::new(alloc),
         }

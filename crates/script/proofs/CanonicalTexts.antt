@@ -1,5 +1,6 @@
 -- The canonical text of a script that some text reads to reads to that script.
-use Rattle.std.proofs.Common.{◌≡◌, ◌≢◌, ℕ, zero, suc, ◌+◌, ◌-◌, ◌^◌, ◌<◌, ◌≤◌, ◌⊎◌, Bool, true, false, cond, ◌&&◌, eqb, List, [], ◌∷◌, ◌++◌, length, map, replicate, get_or, Ok, Some, refl, sym, ap, subst, ◌∙◌, append_assoc, arith, inl, inr}
+use Rattle.std.proofs.Common.{◌≡◌, ◌≢◌, ℕ, zero, suc, ◌+◌, ◌-◌, ◌^◌, ◌<◌, ◌≤◌, ◌⊎◌, Bool, true, false, cond, ◌&&◌, eqb, List, [], ◌∷◌, ◌++◌, length}
+use Rattle.std.proofs.Common.{map, replicate, get_or, Ok, Some, refl, sym, ap, subst, ◌∙◌, append_assoc, arith, inl, inr}
 use Rattle.std.specs.Prelude.{All, codes, slice_get, slice_index, slice_index_or}
 use Rattle.std.specs.Fmt.{decimal}
 use Rattle.std.specs.List.{AllByRecursion, flat_map}
@@ -13,7 +14,7 @@ use Rattle.std.proofs.lemmas.Option.{get_or_from_slice_get}
 use Rattle.std.proofs.lemmas.Str.Ascii.{IsAscii-from_all}
 use Rattle.hex.specs.Hex.{decode_of, encode_lower, IsBytes}
 use Rattle.hex.proofs.HexLemmas.{decode_of-encode_lower, decode_of-ok}
-use Rattle.tee_base.specs.declared.limits.TheConstants.{CLIENTS, FILL_BYTES, INSTANCES, LINE_TURNS}
+use Rattle.tee_base.specs.declared.limits.TheConstants.{MAX_CLIENTS, MAX_FILL_BYTES, MAX_FUSE_CALLS, MAX_INSTANCES, MAX_LINE_TURNS}
 use Rattle.app_api.specs.declared.call.Call.{Call}
 use Rattle.app_api.specs.declared.call.Call.TheVariants as calls
 use Rattle.app_api.specs.declared.host.Host.{Host}
@@ -26,7 +27,6 @@ use Rattle.script.specs.declared.line.Line.{Line}
 use Rattle.script.specs.declared.line.Line.TheVariants as lines
 use Rattle.script.specs.declared.line.Meaning.{Meaning}
 use Rattle.script.specs.declared.line.Meaning.TheVariants.{Nothing, Client, Script}
-use Rattle.script.specs.declared.line.TheConstants.{FUSE_CALLS}
 use Rattle.script.specs.Canonical.{are_none, behind_spaces, call_words, canonical, canonical_from, client_of, client_text, is_none, line_text, name_at, param_word, params_words}
 use Rattle.script.specs.Dialects.{Takes}
 use Rattle.script.specs.Grammar.{AreNext, HasNoLineFeed, IsCall, IsFirstLine, IsHost, IsLine, IsNext, IsSilent, Means, Place, Reads, client_after, lines_of, names_of, post_words, start_of}
@@ -151,11 +151,32 @@ number32_printed digits n h = (decimal_number n (number32_fits digits n h), h.1)
 call_printed : (words : List (List ℕ)) (call : Call) (fill : ℕ) → IsCall words call fill → IsCall (call_words call) call 0 × AllByRecursion IsInk (call_words call)
 unfolding IsCall
 call_printed words (calls.Open label params) fill h =
-    let each = can_print_each h.1 (params_of params) fill h.3 in
-    ((decimal label, params_words (params_of params), number32_printed h.0 label h.2, params_printed (params_of params) each, refl), (literal 111 (codes "pen") refl, (decimal_ink label (number32_fits h.0 label h.2), params_ink (params_of params) each)))
+    let each = can_print_each h.1 (params_of params) fill h.3 in (
+      (decimal label, params_words (params_of params), number32_printed h.0 label h.2, params_printed (params_of params) each, refl),
+      (literal 111 (codes "pen") refl, (decimal_ink label (number32_fits h.0 label h.2), params_ink (params_of params) each)),
+    )
 call_printed words (calls.Invoke label command params) fill h =
-    let each = can_print_each h.2 (params_of params) fill h.5 in
-    ((decimal label, decimal command, params_words (params_of params), number32_printed h.0 label h.3, number32_printed h.1 command h.4, params_printed (params_of params) each, refl), (literal 105 (codes "nvoke") refl, (decimal_ink label (number32_fits h.0 label h.3), (decimal_ink command (number32_fits h.1 command h.4), params_ink (params_of params) each))))
+    let each = can_print_each h.2 (params_of params) fill h.5 in (
+      (
+        decimal label,
+        decimal command,
+        params_words (params_of params),
+        number32_printed h.0 label h.3,
+        number32_printed h.1 command h.4,
+        params_printed (params_of params) each,
+        refl,
+      ),
+      (
+        literal 105 (codes "nvoke") refl,
+        (
+          decimal_ink label (number32_fits h.0 label h.3),
+          (
+            decimal_ink command (number32_fits h.1 command h.4),
+            params_ink (params_of params) each,
+          ),
+        ),
+      ),
+    )
 call_printed words (calls.Close label) fill h = ((decimal label, number32_printed h.0 label h.1, refl, refl), (literal 99 (codes "lose") refl, (decimal_ink label (number32_fits h.0 label h.1), tt)))
 
 -- ---- words that are put together
@@ -235,8 +256,20 @@ line_printed : {A : Type 0} (hosts : List (Host A)) (client : ℕ) (words : List
 unfolding IsLine
 line_printed hosts client words (lines.Call app owner post call) fill fit h =
     let n = named hosts h.1 app fit h.3 in
-    let c = call_printed h.2 call fill h.4 in
-    (record { word = name_at hosts app; words = post_words post ++ call_words call; whole = refl; ink = name_ink (name_at hosts app) n.1; each = post_ink post (call_words call) c.1; says = (refl, name_at hosts app, call_words call, n.0, c.0, refl); loud = loud_name (name_at hosts app) (behind_spaces (post_words post ++ call_words call)) n.1 }, h.0)
+    let c = call_printed h.2 call fill h.4 in (
+      record {
+        word = name_at hosts app;
+        words = post_words post ++ call_words call;
+        whole = refl;
+        ink = name_ink (name_at hosts app) n.1;
+        each =
+            post_ink post (call_words call) c.1;
+        says = (refl, name_at hosts app, call_words call, n.0, c.0, refl);
+        loud =
+            loud_name (name_at hosts app) (behind_spaces (post_words post ++ call_words call)) n.1;
+      },
+      h.0,
+    )
 line_printed hosts client words (lines.Turns app owner instance count) fill fit h =
     let n = named hosts h.1 app fit h.4 in
     let i : instance < 2 ^ 64 = omega (arith, h.8) in
@@ -266,16 +299,40 @@ line_printed hosts client words (lines.Cancel app owner op) fill fit h =
       h.0,
     )
 line_printed hosts client words (lines.Fuse count) fill fit h =
-    let k : count < 2 ^ 64 = omega (arith, h.2) in
-    (record { word = codes "board"; words = codes "fuse" ∷ decimal count ∷ []; whole = refl; ink = literal 98 (codes "oard") refl; each = (literal 102 (codes "use") refl, (decimal_ink count k, tt)); says = (decimal count, decimal_number count k, h.2, refl, refl); loud = loud_board (behind_spaces (codes "fuse" ∷ decimal count ∷ [])) }, refl)
-line_printed hosts client words (lines.Power pick) fill fit h =
-    (record { word = codes "board"; words = codes "power" ∷ decimal pick ∷ []; whole = refl; ink = literal 98 (codes "oard") refl; each = (literal 112 (codes "ower") refl, (decimal_ink pick h.2, tt)); says = (decimal pick, decimal_number pick h.2, h.2, refl, refl); loud = loud_board (behind_spaces (codes "power" ∷ decimal pick ∷ [])) }, refl)
+    let k : count < 2 ^ 64 = omega (arith, h.2) in (
+      record {
+        word = codes "board";
+        words = codes "fuse" ∷ decimal count ∷ [];
+        whole = refl;
+        ink = literal 98 (codes "oard") refl;
+        each =
+            (literal 102 (codes "use") refl, (decimal_ink count k, tt));
+        says = (decimal count, decimal_number count k, h.2, refl, refl);
+        loud =
+            loud_board (behind_spaces (codes "fuse" ∷ decimal count ∷ []));
+      },
+      refl,
+    )
+line_printed hosts client words (lines.Power pick) fill fit h = (
+  record {
+    word = codes "board";
+    words = codes "power" ∷ decimal pick ∷ [];
+    whole = refl;
+    ink = literal 98 (codes "oard") refl;
+    each =
+        (literal 112 (codes "ower") refl, (decimal_ink pick h.2, tt));
+    says = (decimal pick, decimal_number pick h.2, h.2, refl, refl);
+    loud =
+        loud_board (behind_spaces (codes "power" ∷ decimal pick ∷ []));
+  },
+  refl,
+)
 
 -- ---- scripts
 
 -- a line that can be printed behind the lines of any client that there is
 abbrev CanStand : {A : Type 0} → List (Host A) → Line → Type 0
-CanStand hosts line = (before : ℕ) → before < CLIENTS → IsPrinted hosts (client_of before line) line × (client_of before line < CLIENTS)
+CanStand hosts line = (before : ℕ) → before < MAX_CLIENTS → IsPrinted hosts (client_of before line) line × (client_of before line < MAX_CLIENTS)
 
 fuse_of : {A : Type 0} (hosts : List (Host A)) (client before : ℕ) (words : List (List ℕ)) (count fill : ℕ) → IsLine hosts client words (lines.Fuse count) fill
     → IsLine hosts before words (lines.Fuse count) fill
@@ -287,25 +344,33 @@ power_of : {A : Type 0} (hosts : List (Host A)) (client before : ℕ) (words : L
 unfolding IsLine
 power_of hosts client before words pick fill h = h
 
-can_stand : {A : Type 0} (hosts : List (Host A)) (client : ℕ) (words : List (List ℕ)) (line : Line) (fill : ℕ) → HostsFit hosts → client < CLIENTS
+can_stand : {A : Type 0} (hosts : List (Host A)) (client : ℕ) (words : List (List ℕ)) (line : Line) (fill : ℕ) → HostsFit hosts → client < MAX_CLIENTS
     → IsLine hosts client words line fill → CanStand hosts line
 can_stand hosts client words (lines.Call app owner post call) fill fit below h before known =
-    let p = line_printed hosts client words (lines.Call app owner post call) fill fit h in (p.0, subst (λ (c : ℕ). c < CLIENTS) (sym p.1) below)
+    let p = line_printed hosts client words (lines.Call app owner post call) fill fit h in (p.0, subst (λ (c : ℕ). c < MAX_CLIENTS) (sym p.1) below)
 can_stand hosts client words (lines.Turns app owner instance count) fill fit below h before known =
-    let p = line_printed hosts client words (lines.Turns app owner instance count) fill fit h in (p.0, subst (λ (c : ℕ). c < CLIENTS) (sym p.1) below)
+    let p = line_printed hosts client words (lines.Turns app owner instance count) fill fit h in (p.0, subst (λ (c : ℕ). c < MAX_CLIENTS) (sym p.1) below)
 can_stand hosts client words (lines.Cancel app owner op) fill fit below h before known =
-    let p = line_printed hosts client words (lines.Cancel app owner op) fill fit h in (p.0, subst (λ (c : ℕ). c < CLIENTS) (sym p.1) below)
-can_stand hosts client words (lines.Fuse count) fill fit below h before known = ((line_printed hosts before words (lines.Fuse count) fill fit (fuse_of hosts client before words count fill h)).0, known)
-can_stand hosts client words (lines.Power pick) fill fit below h before known = ((line_printed hosts before words (lines.Power pick) fill fit (power_of hosts client before words pick fill h)).0, known)
+    let p = line_printed hosts client words (lines.Cancel app owner op) fill fit h in (p.0, subst (λ (c : ℕ). c < MAX_CLIENTS) (sym p.1) below)
+can_stand hosts client words (lines.Fuse count) fill fit below h before known = (
+  (line_printed hosts before words (lines.Fuse count) fill fit
+      (fuse_of hosts client before words count fill h)).0,
+  known,
+)
+can_stand hosts client words (lines.Power pick) fill fit below h before known = (
+  (line_printed hosts before words (lines.Power pick) fill fit
+      (power_of hosts client before words pick fill h)).0,
+  known,
+)
 
-lines_stand : {A : Type 0} (hosts : List (Host A)) (at after : Place) (meanings : List Meaning) → HostsFit hosts → at.client < CLIENTS → AreNext hosts at meanings after
+lines_stand : {A : Type 0} (hosts : List (Host A)) (at after : Place) (meanings : List Meaning) → HostsFit hosts → at.client < MAX_CLIENTS → AreNext hosts at meanings after
     → AllByRecursion (CanStand hosts) (flat_map lines_of meanings)
 unfolding AreNext Means
 lines_stand hosts at after [] fit below h = tt
-lines_stand hosts at after (Nothing ∷ more) fit below h = lines_stand hosts h.0 after more fit (subst (λ (c : ℕ). c < CLIENTS) (sym h.1.client) below) h.2
-lines_stand hosts at after (Client n ∷ more) fit below h = lines_stand hosts h.0 after more fit (subst (λ (c : ℕ). c < CLIENTS) (sym h.1.client) h.1.means.4) h.2
+lines_stand hosts at after (Nothing ∷ more) fit below h = lines_stand hosts h.0 after more fit (subst (λ (c : ℕ). c < MAX_CLIENTS) (sym h.1.client) below) h.2
+lines_stand hosts at after (Client n ∷ more) fit below h = lines_stand hosts h.0 after more fit (subst (λ (c : ℕ). c < MAX_CLIENTS) (sym h.1.client) h.1.means.4) h.2
 lines_stand hosts at after (Script told ∷ more) fit below h =
-    (can_stand hosts at.client h.1.means.1 told h.1.fill fit below h.1.means.3, lines_stand hosts h.0 after more fit (subst (λ (c : ℕ). c < CLIENTS) (sym h.1.client) below) h.2)
+    (can_stand hosts at.client h.1.means.1 told h.1.fill fit below h.1.means.3, lines_stand hosts h.0 after more fit (subst (λ (c : ℕ). c < MAX_CLIENTS) (sym h.1.client) below) h.2)
 
 abbrev at_text : ℕ → List ℕ → Place
 at_text client text = record { client = client; filled = 0; rest = text }
@@ -330,7 +395,7 @@ loud_client : (rest : List ℕ) → ¬ IsSilent (codes "client" ++ rest)
 loud_client rest (inl e) = cc
 loud_client rest (inr s) = let hash : ◌≡◌ {A = ℕ} 99 35 = let e = s.1 in cc in omega (arith, hash)
 
-next_client : {A : Type 0} (hosts : List (Host A)) (before client : ℕ) (rest : List ℕ) → client < CLIENTS
+next_client : {A : Type 0} (hosts : List (Host A)) (before client : ℕ) (rest : List ℕ) → client < MAX_CLIENTS
     → IsNext hosts (at_text before ((codes "client" ++ behind_spaces (decimal client ∷ [])) ++ codes "\n" ++ rest)) (Client client) (at_text client rest)
 unfolding Means
 next_client hosts before client rest below =
@@ -351,7 +416,8 @@ next_client hosts before client rest below =
 
 -- what is read of lines that are printed
 ReadsOn : {A : Type 0} → List (Host A) → ℕ → List ℕ → List Line → Type 0
-ReadsOn hosts before text script = (meanings : List Meaning) × (after : Place) × AreNext hosts (at_text before text) meanings after × (after.rest ≡ []) × AllByRecursion (Takes Whole) meanings × (script ≡ flat_map lines_of meanings)
+ReadsOn hosts before text script = (meanings : List Meaning) × (after : Place) × AreNext hosts (at_text before text) meanings after × (after.rest ≡ []) × AllByRecursion
+    (Takes Whole) meanings × (script ≡ flat_map lines_of meanings)
 
 reads_line : {A : Type 0} (hosts : List (Host A)) (client : ℕ) (line : Line) (rest : List ℕ) (more : List Line) → IsPrinted hosts client line → ReadsOn hosts client rest more
     → ReadsOn hosts client (line_text hosts line ++ codes "\n" ++ rest) (line ∷ more)
@@ -359,7 +425,8 @@ unfolding ReadsOn AreNext
 reads_line hosts client line rest more p h =
     (Script line ∷ h.0, h.1, (at_text client rest, next_printed hosts client line rest p, h.2), h.3, (refl, h.4), ap (λ (ls : List Line). line ∷ ls) h.5)
 
-reads_client : {A : Type 0} (hosts : List (Host A)) (before client : ℕ) (rest : List ℕ) (script : List Line) (b : Bool) → client < CLIENTS → eqb before client ≡ b → ReadsOn hosts client rest script
+reads_client : {A : Type 0} (hosts : List (Host A)) (before client : ℕ) (rest : List ℕ) (script : List Line) (b : Bool) → client < MAX_CLIENTS → eqb before client ≡ b →
+    ReadsOn hosts client rest script
     → ReadsOn hosts before (cond b [] (codes "client" ++ behind_spaces (decimal client ∷ []) ++ codes "\n") ++ rest) script
 unfolding ReadsOn AreNext
 reads_client hosts before client rest script true below e h = subst (λ (c : ℕ). ReadsOn hosts c rest script) (sym (eqb-true before client e)) h
@@ -373,13 +440,15 @@ reads_nothing hosts before = ([], at_text before [], refl, refl, tt, refl)
 grouped : (a b c d : List ℕ) → a ++ b ++ c ++ d ≡ a ++ (b ++ c ++ d)
 grouped a b c d = simp append_assoc
 
-reads_printed : {A : Type 0} (hosts : List (Host A)) (before : ℕ) (script : List Line) → before < CLIENTS → AllByRecursion (CanStand hosts) script
+reads_printed : {A : Type 0} (hosts : List (Host A)) (before : ℕ) (script : List Line) → before < MAX_CLIENTS → AllByRecursion (CanStand hosts) script
     → ReadsOn hosts before (canonical_from hosts before script) script
 reads_printed hosts before [] known h = reads_nothing hosts before
 reads_printed hosts before (line ∷ more) known h =
     let p = h.0 before known in
-    subst (λ (t : List ℕ). ReadsOn hosts before t (line ∷ more)) (sym (grouped (client_text before (client_of before line)) (line_text hosts line) (codes "\n") (canonical_from hosts (client_of before line) more)))
-    (reads_client hosts before (client_of before line) (line_text hosts line ++ codes "\n" ++ canonical_from hosts (client_of before line) more) (line ∷ more) (eqb before (client_of before line)) p.1 refl
+    subst (λ (t : List ℕ). ReadsOn hosts before t (line ∷ more)) (sym (grouped (client_text before (client_of before line)) (line_text hosts line) (codes "\n")
+    (canonical_from hosts (client_of before line) more)))
+    (reads_client hosts before (client_of before line) (line_text hosts line ++ codes "\n" ++ canonical_from hosts (client_of before line) more) (line ∷ more)
+    (eqb before (client_of before line)) p.1 refl
     (reads_line hosts (client_of before line) line (canonical_from hosts (client_of before line) more) more p.0 (reads_printed hosts (client_of before line) more p.1 h.1)))
 
 pub canonical_reads : {A : Type 0} (hosts : List (Host A)) (text : List ℕ) (script : List Line) → HostsFit hosts → Reads Whole hosts text script → Reads Whole hosts (canonical hosts script) script

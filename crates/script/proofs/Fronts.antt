@@ -95,7 +95,17 @@ read_front dialect hosts at after (f ∷ fs) rest [] end e h whole taken =
 read_front dialect hosts at after (f ∷ fs) rest (meaning ∷ meanings) end e h whole taken =
     let next = h.1 in
     let c = first_of_front (f ∷ fs) rest next.line h.0.rest (λ x. cc) end (subst (λ (t : List ℕ). IsFirstLine t next.line h.0.rest) e next.first) in
-    let is : IsNext hosts (place_at at (f ∷ fs)) meaning (place_at h.0 c.0) = record { line = next.line; fill = next.fill; first = c.1; ascii = next.ascii; means = next.means; client = next.client; filled = next.filled; within = next.within } in
+    let is : IsNext hosts (place_at at (f ∷ fs)) meaning (place_at h.0 c.0) = record {
+      line = next.line;
+      fill = next.fill;
+      first = c.1;
+      ascii = next.ascii;
+      means =
+          next.means;
+      client = next.client;
+      filled = next.filled;
+      within = next.within;
+    } in
     front_behind dialect hosts at h.0 (f ∷ fs) c.0 meaning meanings is taken.0 (read_front dialect hosts h.0 after c.0 rest meanings c.3 c.2 h.2 whole taken.1)
 
 flat_append : (some more : List Meaning) → flat_map lines_of (some ++ more) ≡ flat_map lines_of some ++ flat_map lines_of more

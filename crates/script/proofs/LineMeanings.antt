@@ -4,7 +4,7 @@ use Rattle.std.specs.Prelude.{codes}
 use Rattle.std.specs.Str.{IsAscii, bytes_eq}
 use Rattle.std.proofs.lemmas.Bool.{cond-false, cond-true, eqb-true, false_from_ne_true}
 use Rattle.std.proofs.lemmas.Option.{none-some, same_Some}
-use Rattle.tee_base.specs.declared.limits.TheConstants.{CLIENTS, INSTANCES, LINE_TURNS}
+use Rattle.tee_base.specs.declared.limits.TheConstants.{MAX_CLIENTS, MAX_FUSE_CALLS, MAX_INSTANCES, MAX_LINE_TURNS}
 use Rattle.app_api.specs.declared.call.Call.{Call}
 use Rattle.app_api.specs.declared.call.Call.TheVariants as calls
 use Rattle.app_api.specs.declared.host.Host.{Host}
@@ -13,11 +13,11 @@ use Rattle.script.specs.declared.line.Line.{Line}
 use Rattle.script.specs.declared.line.Line.TheVariants as lines
 use Rattle.script.specs.declared.line.Meaning.{Meaning}
 use Rattle.script.specs.declared.line.Meaning.TheVariants.{Nothing, Client, Script}
-use Rattle.script.specs.declared.line.TheConstants.{FUSE_CALLS}
 use Rattle.script.specs.declared.line.ReadCall.{ReadCall}
 use Rattle.script.specs.declared.line.ReadMeaning.{ReadMeaning}
 use Rattle.script.specs.Grammar.{IsCall, IsHost, IsLine, IsSilent, Means, post_words}
-use Rattle.script.specs.Lines.{all_ascii, app_line, board_line, call_line, call_of, cancel_line, client_line, closed_by, host_at, invoked_by, is_silent, meaning_of, meaning_of_words, opened_by, plain_line, turns_line, words_of}
+use Rattle.script.specs.Lines.{all_ascii, app_line, board_line, call_line, call_of, cancel_line, client_line, closed_by, host_at, invoked_by}
+use Rattle.script.specs.Lines.{is_silent, meaning_of, meaning_of_words, opened_by, plain_line, turns_line, words_of}
 use Rattle.script.specs.Numbers.{number_of, number32_of, within}
 use Rattle.script.specs.Parameters.{◌>>=◌, parameters_of}
 use Rattle.script.specs.Words.{AreWords, IsNumber}
@@ -91,7 +91,7 @@ call_verb client app words (calls.Close label) fill h = ap (app_line client app)
 -- what the words of a line mean
 abbrev WordsMean : {A : Type 0} → List (Host A) → ℕ → List (List ℕ) → Meaning → ℕ → Type 0
 WordsMean hosts client words Nothing fill = ⊥
-WordsMean hosts client words (Client n) fill = (number : List ℕ) × (words ≡ codes "client" ∷ number ∷ []) × IsNumber number n × (n < CLIENTS) × (fill ≡ 0)
+WordsMean hosts client words (Client n) fill = (number : List ℕ) × (words ≡ codes "client" ∷ number ∷ []) × IsNumber number n × (n < MAX_CLIENTS) × (fill ≡ 0)
 WordsMean hosts client words (Script line) fill = IsLine hosts client words line fill
 
 call_line_reads : {A : Type 0} (hosts : List (Host A)) (client app : ℕ) (post : Bool) (name : List ℕ) (words : List (List ℕ)) (read : ReadMeaning) → IsHost hosts name app
@@ -100,7 +100,8 @@ call_line_reads : {A : Type 0} (hosts : List (Host A)) (client app : ℕ) (post 
 unfolding call_line IsLine
 call_line_reads hosts client app post name words read host e =
     let c = some_bind (call_of words) _ read e in
-    subst (λ (r : ReadMeaning). WordsMean hosts client (name ∷ post_words post ++ words) r.meaning r.fills) (same_Some (record { meaning = Script (lines.Call app client post c.0.call); fills = c.0.fills }) read c.2)
+    subst (λ (r : ReadMeaning). WordsMean hosts client (name ∷ post_words post ++ words) r.meaning r.fills)
+    (same_Some (record { meaning = Script (lines.Call app client post c.0.call); fills = c.0.fills }) read c.2)
     (refl, name, words, host, call_reads words c.0 c.1, refl)
 
 turns_line_reads : {A : Type 0} (hosts : List (Host A)) (client app : ℕ) (name verb : List ℕ) (words : List (List ℕ)) (read : ReadMeaning) → IsHost hosts name app
@@ -110,10 +111,10 @@ unfolding turns_line IsLine
 turns_line_reads hosts client app name verb [] read host v e = absurd (none-some read e)
 turns_line_reads hosts client app name verb (a ∷ []) read host v e = absurd (none-some read e)
 turns_line_reads hosts client app name verb (a ∷ b ∷ []) read host v e =
-    let i = some_bind (within 1 INSTANCES (number_of a)) _ read e in
-    let n = some_bind (within 1 LINE_TURNS (number_of b)) _ read i.2 in
-    let x = within_reads 1 INSTANCES a i.0 i.1 in
-    let y = within_reads 1 LINE_TURNS b n.0 n.1 in
+    let i = some_bind (within 1 MAX_INSTANCES (number_of a)) _ read e in
+    let n = some_bind (within 1 MAX_LINE_TURNS (number_of b)) _ read i.2 in
+    let x = within_reads 1 MAX_INSTANCES a i.0 i.1 in
+    let y = within_reads 1 MAX_LINE_TURNS b n.0 n.1 in
     subst (λ (r : ReadMeaning). WordsMean hosts client (name ∷ verb ∷ a ∷ b ∷ []) r.meaning r.fills) (same_Some (plain_line (lines.Turns app client i.0 n.0)) read n.2)
     (refl, name, a, b, host, x.0, y.0, x.1, x.2, y.1, y.2, ap (λ (w : List ℕ). name ∷ w ∷ a ∷ b ∷ []) v, refl)
 turns_line_reads hosts client app name verb (a ∷ b ∷ c ∷ words) read host v e = absurd (none-some read e)
@@ -140,7 +141,8 @@ app_line_reads hosts client app name (verb ∷ words) read host e =
       | inr f ↦ elim (chosen (bytes_eq verb (codes "cancel")) _ _ _ f.1) [
         | inl h ↦ cancel_line_reads hosts client app name verb words read host (is_word verb (codes "cancel") h.0) h.1
         | inr g ↦ elim (chosen (bytes_eq verb (codes "post")) _ _ _ g.1) [
-          | inl h ↦ subst (λ (w : List ℕ). WordsMean hosts client (name ∷ w ∷ words) read.meaning read.fills) (sym (is_word verb (codes "post") h.0)) (call_line_reads hosts client app true name words read host h.1)
+          | inl h ↦ subst (λ (w : List ℕ). WordsMean hosts client (name ∷ w ∷ words) read.meaning read.fills) (sym (is_word verb (codes "post") h.0))
+              (call_line_reads hosts client app true name words read host h.1)
           | inr h ↦ call_line_reads hosts client app false name (verb ∷ words) read host h.1
         ]
       ]
@@ -151,8 +153,8 @@ client_line_reads : {A : Type 0} (hosts : List (Host A)) (client : ℕ) (verb : 
 unfolding client_line
 client_line_reads hosts client verb [] read v e = absurd (none-some read e)
 client_line_reads hosts client verb (a ∷ []) read v e =
-    let n = some_bind (within 0 (CLIENTS - 1) (number_of a)) _ read e in
-    let x = within_reads 0 (CLIENTS - 1) a n.0 n.1 in
+    let n = some_bind (within 0 (MAX_CLIENTS - 1) (number_of a)) _ read e in
+    let x = within_reads 0 (MAX_CLIENTS - 1) a n.0 n.1 in
     subst (λ (r : ReadMeaning). WordsMean hosts client (verb ∷ a ∷ []) r.meaning r.fills) (same_Some (record { meaning = Client n.0; fills = 0 }) read n.2)
     (a, ap (λ (w : List ℕ). w ∷ a ∷ []) v, x.0, omega (arith, x.2), refl)
 client_line_reads hosts client verb (a ∷ b ∷ words) read v e = absurd (none-some read e)
@@ -164,8 +166,8 @@ board_line_reads hosts client word [] read w e = absurd (none-some read e)
 board_line_reads hosts client word (verb ∷ []) read w e = absurd (none-some read e)
 board_line_reads hosts client word (verb ∷ a ∷ []) read w e =
     elim (chosen (bytes_eq verb (codes "fuse")) _ _ _ e) [
-      | inl h ↦ let n = some_bind (within 0 FUSE_CALLS (number_of a)) _ read h.1 in
-          let x = within_reads 0 FUSE_CALLS a n.0 n.1 in
+      | inl h ↦ let n = some_bind (within 0 MAX_FUSE_CALLS (number_of a)) _ read h.1 in
+          let x = within_reads 0 MAX_FUSE_CALLS a n.0 n.1 in
           subst (λ (r : ReadMeaning). WordsMean hosts client (word ∷ verb ∷ a ∷ []) r.meaning r.fills) (same_Some (plain_line (lines.Fuse n.0)) read n.2)
           (a, x.0, x.2, ap (λ (v : List ℕ). v ∷ verb ∷ a ∷ []) w ∙ ap (λ (v : List ℕ). codes "board" ∷ v ∷ a ∷ []) (is_word verb (codes "fuse") h.0), refl)
       | inr f ↦ elim (chosen (bytes_eq verb (codes "power")) _ _ _ f.1) [
@@ -220,8 +222,17 @@ unfolding meaning_of
 meaning_reads hosts client line read e =
     elim (chosen (all_ascii line) _ _ _ e) [
       | inl ascii ↦ elim (chosen (is_silent line) _ _ _ ascii.1) [
-        | inl silent ↦ (ascii_reads line ascii.0, subst (λ (r : ReadMeaning). Means hosts client line r.meaning r.fills) (same_Some (record { meaning = Nothing; fills = 0 }) read silent.1) (no_meaning hosts client line (silent_reads line silent.0)))
-        | inr words ↦ (ascii_reads line ascii.0, with_words hosts client line (words_of line) read.meaning read.fills (λ silent. let true_one : is_silent line ≡ true = silent_again line silent in let false_one : is_silent line ≡ false = words.0 in cc) (words_read line) (words_mean hosts client (words_of line) read words.1))
+        | inl silent ↦ (
+          ascii_reads line ascii.0,
+          subst (λ (r : ReadMeaning). Means hosts client line r.meaning r.fills)
+              (same_Some (record { meaning = Nothing; fills = 0 }) read silent.1) (no_meaning hosts client line (silent_reads line silent.0)),
+        )
+        | inr words ↦ (
+          ascii_reads line ascii.0,
+          with_words hosts client line (words_of line) read.meaning read.fills
+              (λ silent. let true_one : is_silent line ≡ true = silent_again line silent in let false_one : is_silent line ≡ false = words.0 in cc) (words_read line)
+              (words_mean hosts client (words_of line) read words.1),
+        )
       ]
       | inr other ↦ absurd (none-some read other.1)
     ]
@@ -239,29 +250,32 @@ unfolding app_line call_line
 call_line_again client app true words call fill h = rw (call_again words call fill h) refl
 call_line_again client app false words call fill h = call_verb client app words call fill h ∙ rw (call_again words call fill h) refl
 
-turns_again : (client app instance count : ℕ) (a b : List ℕ) → IsNumber a instance → IsNumber b count → 1 ≤ instance → instance ≤ INSTANCES → 1 ≤ count → count ≤ LINE_TURNS
+turns_again : (client app instance count : ℕ) (a b : List ℕ) → IsNumber a instance → IsNumber b count → 1 ≤ instance → instance ≤ MAX_INSTANCES → 1 ≤ count → count ≤ MAX_LINE_TURNS
     → app_line client app (codes "turn" ∷ a ∷ b ∷ []) ≡ Some (plain_line (lines.Turns app client instance count))
 unfolding app_line turns_line
-turns_again client app instance count a b x y low high least most = rw (within_again 1 INSTANCES a instance (omega arith) x low high, within_again 1 LINE_TURNS b count (omega arith) y least most) refl
+turns_again client app instance count a b x y low high least most = rw (
+  within_again 1 MAX_INSTANCES a instance (omega arith) x low high,
+  within_again 1 MAX_LINE_TURNS b count (omega arith) y least most,
+) refl
 
 cancel_again : (client app op : ℕ) (a : List ℕ) → IsNumber a op → op < 2 ^ 64 → app_line client app (codes "cancel" ∷ a ∷ []) ≡ Some (plain_line (lines.Cancel app client op))
 unfolding app_line cancel_line
 cancel_again client app op a x small = rw (number_again a op x small) refl
 
-fuse_again : {A : Type 0} (hosts : List (Host A)) (client count : ℕ) (a : List ℕ) → IsNumber a count → count ≤ FUSE_CALLS
+fuse_again : {A : Type 0} (hosts : List (Host A)) (client count : ℕ) (a : List ℕ) → IsNumber a count → count ≤ MAX_FUSE_CALLS
     → meaning_of_words hosts client (codes "board" ∷ codes "fuse" ∷ a ∷ []) ≡ Some (plain_line (lines.Fuse count))
 unfolding meaning_of_words board_line
-fuse_again hosts client count a x most = rw (within_again 0 FUSE_CALLS a count (omega arith) x (omega arith) most) refl
+fuse_again hosts client count a x most = rw (within_again 0 MAX_FUSE_CALLS a count (omega arith) x (omega arith) most) refl
 
 power_again : {A : Type 0} (hosts : List (Host A)) (client pick : ℕ) (a : List ℕ) → IsNumber a pick → pick < 2 ^ 64
     → meaning_of_words hosts client (codes "board" ∷ codes "power" ∷ a ∷ []) ≡ Some (plain_line (lines.Power pick))
 unfolding meaning_of_words board_line
 power_again hosts client pick a x small = rw (number_again a pick x small) refl
 
-client_again : {A : Type 0} (hosts : List (Host A)) (client n : ℕ) (a : List ℕ) → IsNumber a n → n < CLIENTS
+client_again : {A : Type 0} (hosts : List (Host A)) (client n : ℕ) (a : List ℕ) → IsNumber a n → n < MAX_CLIENTS
     → meaning_of_words hosts client (codes "client" ∷ a ∷ []) ≡ Some (record { meaning = Client n; fills = 0 })
 unfolding meaning_of_words client_line
-client_again hosts client n a x below = rw (within_again 0 (CLIENTS - 1) a n (omega arith) x (omega arith) (omega arith)) refl
+client_again hosts client n a x below = rw (within_again 0 (MAX_CLIENTS - 1) a n (omega arith) x (omega arith) (omega arith)) refl
 
 with_fill : (meaning : Meaning) (fill : ℕ) → fill ≡ 0 → ◌≡◌ {A = Option ReadMeaning} (Some (record { meaning = meaning; fills = 0 })) (Some (record { meaning = meaning; fills = fill }))
 with_fill meaning fill zero = ap (λ (n : ℕ). Some (record { meaning = meaning; fills = n })) (sym zero)
@@ -302,6 +316,8 @@ pub meaning_again : {A : Type 0} (hosts : List (Host A)) (client : ℕ) (line : 
     → Means hosts client line meaning fill → meaning_of hosts client line ≡ Some (record { meaning = meaning; fills = fill })
 unfolding Means meaning_of
 meaning_again hosts client line Nothing fill fit ascii h = rw (ascii_again line ascii, silent_again line h.0) (with_fill Nothing fill h.1)
-meaning_again hosts client line (Client n) fill fit ascii h = of_words hosts client line (codes "client" ∷ h.1 ∷ []) (Some (record { meaning = Client n; fills = fill })) (ascii_again line ascii) h.0 h.2 (client_again hosts client n h.1 h.3 h.4 ∙ with_fill (Client n) fill h.5)
+meaning_again hosts client line (Client n) fill fit ascii h = of_words hosts client line (codes "client" ∷ h.1 ∷ []) (Some (record { meaning = Client n; fills = fill }))
+    (ascii_again line ascii) h.0 h.2 (client_again hosts client n h.1 h.3 h.4 ∙ with_fill (Client n) fill h.5)
 meaning_again hosts client line (Script told) fill fit ascii h =
-    of_words hosts client line h.1 (Some (record { meaning = Script told; fills = fill })) (ascii_again line ascii) h.0 h.2 (line_again hosts client line h.1 told fill fit (ascii_again line ascii) h.2 h.3)
+    of_words hosts client line h.1 (Some (record { meaning = Script told; fills = fill })) (ascii_again line ascii) h.0 h.2
+    (line_again hosts client line h.1 told fill fit (ascii_again line ascii) h.2 h.3)

@@ -1,5 +1,6 @@
 -- The words of parameters, and of all parameters of a line.
-use Rattle.std.proofs.Common.{◌≡◌, ℕ, ◌+◌, ◌<◌, ◌≤◌, ◌^◌, Bool, true, false, ◌&&◌, not, eqb, leb, ltb, List, [], ◌∷◌, ◌++◌, length, map, replicate, Option, Some, None, refl, sym, ap, subst, ◌∙◌, append_assoc, arith, inl, inr, zero-add}
+use Rattle.std.proofs.Common.{◌≡◌, ℕ, ◌+◌, ◌<◌, ◌≤◌, ◌^◌, Bool, true, false, ◌&&◌, not, eqb, leb, ltb, List, [], ◌∷◌, ◌++◌, length, map}
+use Rattle.std.proofs.Common.{replicate, Option, Some, None, refl, sym, ap, subst, ◌∙◌, append_assoc, arith, inl, inr, zero-add}
 use Rattle.std.specs.Prelude.{codes}
 use Rattle.std.specs.List.{AllByRecursion, slice_split, join_with_byte}
 use Rattle.std.specs.Option.{option_map}
@@ -9,7 +10,7 @@ use Rattle.std.proofs.lemmas.List.{append-nil}
 use Rattle.std.proofs.lemmas.List.Splits.{join_with_byte-slice_split}
 use Rattle.std.proofs.lemmas.Option.{cond_some, none-some, same_Some}
 use Rattle.std.proofs.lemmas.Slice.Eq.{bytes_eq-Decides}
-use Rattle.tee_base.specs.declared.limits.TheConstants.{ASK_BYTES}
+use Rattle.tee_base.specs.declared.limits.TheConstants.{MAX_ASK_BYTES}
 use Rattle.app_api.specs.declared.param.Param.{Param}
 use Rattle.app_api.specs.declared.param.Param.TheVariants.{Nothing, ValueIn, ValueOut, ValueInOut, MemIn, MemOut, MemInOut}
 use Rattle.app_api.specs.declared.param.Params.{Params}
@@ -17,7 +18,8 @@ use Rattle.app_api.specs.Params.{params_of}
 use Rattle.script.specs.declared.param.Parameter.{Parameter}
 use Rattle.script.specs.declared.param.Parameters.{Parameters}
 use Rattle.script.specs.Numbers.{number32_of}
-use Rattle.script.specs.Parameters.{◌>>=◌, hex_of, plain_parameter, parameter_of_one, parameter_of_two, parameter_of_three, parameter_of_parts, parameter_of, parameter_at, parameters_of, with_numbers, filled}
+use Rattle.script.specs.Parameters.{◌>>=◌, hex_of, plain_parameter, parameter_of_one, parameter_of_two, parameter_of_three}
+use Rattle.script.specs.Parameters.{parameter_of_parts, parameter_of, parameter_at, parameters_of, with_numbers, filled}
 use Rattle.script.specs.Words.{AreParams, IsFilled, IsMemory, IsPair, IsParam}
 use Rattle.script.proofs.Cuts.{Lacks, all_append, all_weaker, cut_joined, joined}
 use Rattle.script.proofs.Decimals.{IsGraphic, IsPart, digits_part, number32_again, number32_reads}
@@ -38,13 +40,13 @@ with_numbers_some make None q p e = absurd (none-some p e)
 with_numbers_some make (Some a) q p e = let m = option_map_some (λ b. plain_parameter (make a b)) q p e in (a, m.0, refl, m.1, m.2)
 
 filled_some : (o : Option ℕ) (q : Option (List ℕ)) (p : Parameter) → filled o q ≡ Some p
-    → (size byte : ℕ) × (o ≡ Some size) × (q ≡ Some (byte ∷ [])) × (size ≤ ASK_BYTES) × (record { param = MemIn (replicate size byte); fill = size } ≡ p)
+    → (size byte : ℕ) × (o ≡ Some size) × (q ≡ Some (byte ∷ [])) × (size ≤ MAX_ASK_BYTES) × (record { param = MemIn (replicate size byte); fill = size } ≡ p)
 filled_some None q p e = absurd (none-some p e)
 filled_some (Some size) None p e = absurd (none-some p e)
 filled_some (Some size) (Some []) p e = absurd (none-some p e)
 filled_some (Some size) (Some (byte ∷ [])) p e =
-    let t = cond_some (leb size ASK_BYTES) (record { param = MemIn (replicate size byte); fill = size }) p e in
-    (size, byte, refl, refl, leb-true size ASK_BYTES t.0, t.1)
+    let t = cond_some (leb size MAX_ASK_BYTES) (record { param = MemIn (replicate size byte); fill = size }) p e in
+    (size, byte, refl, refl, leb-true size MAX_ASK_BYTES t.0, t.1)
 filled_some (Some size) (Some (byte ∷ other ∷ bytes)) p e = absurd (none-some p e)
 
 pub is_word : (k w : List ℕ) → bytes_eq k w ≡ true → k ≡ w
@@ -91,10 +93,28 @@ unfolding parameter_of_three IsParam
 three_reads k a b p e =
     elim (chosen (bytes_eq k (codes "vi")) _ _ _ e) [
       | inl h ↦ let m = with_numbers_some ValueIn (number32_of a) (number32_of b) p h.1 in
-          subst (λ (q : Parameter). IsParam (k ++ 58 ∷ (a ++ 58 ∷ b)) q.param q.fill) m.4 ((a, b, number32_reads a m.0 m.2, number32_reads b m.1 m.3, three_parts k (codes "vi") a b (is_word k (codes "vi") h.0)), refl)
+          subst (λ (q : Parameter). IsParam (k ++ 58 ∷ (a ++ 58 ∷ b)) q.param q.fill) m.4 (
+            (
+              a,
+              b,
+              number32_reads a m.0 m.2,
+              number32_reads b m.1 m.3,
+              three_parts k (codes "vi") a b (is_word k (codes "vi") h.0),
+            ),
+            refl,
+          )
       | inr f ↦ elim (chosen (bytes_eq k (codes "vio")) _ _ _ f.1) [
         | inl h ↦ let m = with_numbers_some ValueInOut (number32_of a) (number32_of b) p h.1 in
-            subst (λ (q : Parameter). IsParam (k ++ 58 ∷ (a ++ 58 ∷ b)) q.param q.fill) m.4 ((a, b, number32_reads a m.0 m.2, number32_reads b m.1 m.3, three_parts k (codes "vio") a b (is_word k (codes "vio") h.0)), refl)
+            subst (λ (q : Parameter). IsParam (k ++ 58 ∷ (a ++ 58 ∷ b)) q.param q.fill) m.4 (
+              (
+                a,
+                b,
+                number32_reads a m.0 m.2,
+                number32_reads b m.1 m.3,
+                three_parts k (codes "vio") a b (is_word k (codes "vio") h.0),
+              ),
+              refl,
+            )
         | inr g ↦ elim (chosen (bytes_eq k (codes "mf")) _ _ _ g.1) [
           | inl h ↦ let m = filled_some (number32_of a) (hex_of b) p h.1 in
               subst (λ (q : Parameter). IsParam (k ++ 58 ∷ (a ++ 58 ∷ b)) q.param q.fill) m.5
@@ -172,7 +192,7 @@ filled_parted : (word bytes : List ℕ) (fill : ℕ) → IsFilled word bytes fil
 unfolding parameter_of_three
 filled_parted word bytes fill h =
     let small : fill < 2 ^ 32 = omega (arith, h.7) in
-    let test : leb fill ASK_BYTES ≡ true = le-leb fill ASK_BYTES h.7 in
+    let test : leb fill MAX_ASK_BYTES ≡ true = le-leb fill MAX_ASK_BYTES h.7 in
     record {
       kind = codes "mf";
       parts = h.1 ∷ h.2 ∷ [];

@@ -33,7 +33,8 @@ complete dialect hosts text result fit h script reads = subst (Answers result) (
 
 pub bad_line : {A : Type 0} (dialect : Dialect) (hosts : List (Host A)) (text : List ℕ) (result : Result (List Line) ScriptAnswer) → HostsFit hosts
     → Answers result (script_of dialect hosts text) → (n : ℕ) → IsErrOf result (BadLine n) → FirstBad dialect hosts text n
-bad_line dialect hosts text result fit h n is = bad_reads dialect hosts text n fit (let at : Answers (Err (BadLine n)) (script_of dialect hosts text) = subst (λ (r : Result (List Line) ScriptAnswer). Answers r (script_of dialect hosts text)) is h in at)
+bad_line dialect hosts text result fit h n is = bad_reads dialect hosts text n fit (let at : Answers (Err (BadLine n)) (script_of dialect hosts text) =
+    subst (λ (r : Result (List Line) ScriptAnswer). Answers r (script_of dialect hosts text)) is h in at)
 
 pub first_bad : {A : Type 0} (dialect : Dialect) (hosts : List (Host A)) (text : List ℕ) (result : Result (List Line) ScriptAnswer) → HostsFit hosts
     → Answers result (script_of dialect hosts text) → (n : ℕ) → FirstBad dialect hosts text n → Answers result (Err n)

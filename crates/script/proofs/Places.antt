@@ -93,7 +93,8 @@ stop_same dialect hosts at (m ∷ ms) (n ∷ ns) a b fit h tm sa k tn sb =
 
 pub one_script : {A : Type 0} (dialect : Dialect) (hosts : List (Host A)) (text : List ℕ) (a b : List Line) → HostsFit hosts → Reads dialect hosts text a → Reads dialect hosts text b → a ≡ b
 one_script dialect hosts text a b fit h k =
-    let same = stop_same dialect hosts (start_of text) h.meanings k.meanings h.after k.after fit h.read h.taken (end_stops dialect hosts h.after h.whole) k.read k.taken (end_stops dialect hosts k.after k.whole) in
+    let same = stop_same dialect hosts (start_of text) h.meanings k.meanings h.after k.after fit h.read h.taken (end_stops dialect hosts h.after h.whole) k.read k.taken
+    (end_stops dialect hosts k.after k.whole) in
     h.told ∙ ap (flat_map lines_of) same.0 ∙ sym k.told
 
 pub one_line : {A : Type 0} (dialect : Dialect) (hosts : List (Host A)) (text : List ℕ) (m n : ℕ) → HostsFit hosts → FirstBad dialect hosts text m → FirstBad dialect hosts text n → m ≡ n

@@ -4,7 +4,7 @@ use Rattle.std.specs.List.{AllByRecursion, flat_map}
 use Rattle.std.specs.Str.{IsAscii}
 use Rattle.std.specs.Str.Lines.{strip_carriage_return}
 use Rattle.uuid.specs.Text.{parsed}
-use Rattle.tee_base.specs.declared.limits.TheConstants.{CLIENTS, FILL_BYTES, INSTANCES, LINE_TURNS}
+use Rattle.tee_base.specs.declared.limits.TheConstants.{MAX_CLIENTS, MAX_FILL_BYTES, MAX_FUSE_CALLS, MAX_INSTANCES, MAX_LINE_TURNS}
 use Rattle.app_api.specs.declared.call.Call.{Call}
 use Rattle.app_api.specs.declared.call.Call.TheVariants as calls
 use Rattle.app_api.specs.declared.host.Host.{Host}
@@ -14,7 +14,6 @@ use Rattle.script.specs.declared.line.Line.{Line}
 use Rattle.script.specs.declared.line.Line.TheVariants as lines
 use Rattle.script.specs.declared.line.Meaning.{Meaning}
 use Rattle.script.specs.declared.line.Meaning.TheVariants.{Nothing, Client, Script}
-use Rattle.script.specs.declared.line.TheConstants.{FUSE_CALLS}
 use Rattle.script.specs.Dialects.{Takes}
 use Rattle.script.specs.Words.{AreParams, AreWords, IsNumber, IsNumber32}
 
@@ -49,13 +48,13 @@ IsLine hosts client words (lines.Call app owner post call) fill =
     × (words ≡ name ∷ post_words post ++ others)
 IsLine hosts client words (lines.Turns app owner instance count) fill =
     (owner ≡ client) × (name number turns : List ℕ) × IsHost hosts name app × IsNumber number instance × IsNumber turns count
-    × (1 ≤ instance) × (instance ≤ INSTANCES) × (1 ≤ count) × (count ≤ LINE_TURNS)
+    × (1 ≤ instance) × (instance ≤ MAX_INSTANCES) × (1 ≤ count) × (count ≤ MAX_LINE_TURNS)
     × (words ≡ name ∷ codes "turn" ∷ number ∷ turns ∷ []) × (fill ≡ 0)
 IsLine hosts client words (lines.Cancel app owner op) fill =
     (owner ≡ client) × (name number : List ℕ) × IsHost hosts name app × IsNumber number op × (op < 2 ^ 64)
     × (words ≡ name ∷ codes "cancel" ∷ number ∷ []) × (fill ≡ 0)
 IsLine hosts client words (lines.Fuse count) fill =
-    (number : List ℕ) × IsNumber number count × (count ≤ FUSE_CALLS) × (words ≡ codes "board" ∷ codes "fuse" ∷ number ∷ []) × (fill ≡ 0)
+    (number : List ℕ) × IsNumber number count × (count ≤ MAX_FUSE_CALLS) × (words ≡ codes "board" ∷ codes "fuse" ∷ number ∷ []) × (fill ≡ 0)
 IsLine hosts client words (lines.Power pick) fill =
     (number : List ℕ) × IsNumber number pick × (pick < 2 ^ 64) × (words ≡ codes "board" ∷ codes "power" ∷ number ∷ []) × (fill ≡ 0)
 
@@ -67,7 +66,7 @@ IsSilent line = (line ≡ []) ⊎ ((more : List ℕ) × (line ≡ codes "#" ++ m
 unfoldable pub Means : {A : Type 0} → List (Host A) → ℕ → List ℕ → Meaning → ℕ → Type 0
 Means hosts client line Nothing fill = IsSilent line × (fill ≡ 0)
 Means hosts client line (Client n) fill =
-    (¬ IsSilent line) × (number : List ℕ) × AreWords line (codes "client" ∷ number ∷ []) × IsNumber number n × (n < CLIENTS) × (fill ≡ 0)
+    (¬ IsSilent line) × (number : List ℕ) × AreWords line (codes "client" ∷ number ∷ []) × IsNumber number n × (n < MAX_CLIENTS) × (fill ≡ 0)
 Means hosts client line (Script told) fill = (¬ IsSilent line) × (words : List (List ℕ)) × AreWords line words × IsLine hosts client words told fill
 
 -- no line feed stands in the text
@@ -106,7 +105,7 @@ pub record IsNext {A : Type 0} (hosts : List (Host A)) (at : Place) (meaning : M
   pub means : Means hosts at.client line meaning fill
   pub client : after.client ≡ client_after at.client meaning
   pub filled : after.filled ≡ at.filled + fill
-  pub within : after.filled ≤ FILL_BYTES
+  pub within : after.filled ≤ MAX_FILL_BYTES
 
 -- the next lines are in the grammar and have these meanings
 unfoldable pub AreNext : {A : Type 0} → List (Host A) → Place → List Meaning → Place → Type 0

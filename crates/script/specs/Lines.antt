@@ -3,13 +3,12 @@ use Rattle.std.specs.Prelude.{ℕ, ◌==◌, ◌+◌, ◌-◌, ◌^◌, Bool, tr
 use Rattle.std.specs.List.{filter, list_all, slice_split}
 use Rattle.std.specs.Str.{bytes_eq}
 use Rattle.uuid.specs.Text.{parsed}
-use Rattle.tee_base.specs.declared.limits.TheConstants.{CLIENTS, INSTANCES, LINE_TURNS}
+use Rattle.tee_base.specs.declared.limits.TheConstants.{MAX_CLIENTS, MAX_FUSE_CALLS, MAX_INSTANCES, MAX_LINE_TURNS}
 use Rattle.app_api.specs.declared.call.Call.TheVariants as calls
 use Rattle.app_api.specs.declared.host.Host.{Host}
 use Rattle.script.specs.declared.line.Line.{Line}
 use Rattle.script.specs.declared.line.Line.TheVariants as lines
 use Rattle.script.specs.declared.line.Meaning.TheVariants.{Nothing, Client, Script}
-use Rattle.script.specs.declared.line.TheConstants.{FUSE_CALLS}
 use Rattle.script.specs.declared.line.ReadCall.{ReadCall}
 use Rattle.script.specs.declared.line.ReadMeaning.{ReadMeaning}
 use Rattle.script.specs.Numbers.{number_of, number32_of, within}
@@ -94,8 +93,8 @@ call_line client app post words = do
 -- a line that gives an instance so many turns
 unfoldable pub turns_line : ℕ → ℕ → List (List ℕ) → Option ReadMeaning
 turns_line client app (number ∷ turns ∷ []) = do
-  instance ← within 1 INSTANCES (number_of number)
-  count ← within 1 LINE_TURNS (number_of turns)
+  instance ← within 1 MAX_INSTANCES (number_of number)
+  count ← within 1 MAX_LINE_TURNS (number_of turns)
   Some (plain_line (lines.Turns app client instance count))
 turns_line client app words = None
 
@@ -118,7 +117,7 @@ app_line client app (verb ∷ words) =
 -- a line about the board: its fuse, or its power
 unfoldable pub board_line : List (List ℕ) → Option ReadMeaning
 board_line (verb ∷ number ∷ []) =
-    if bytes_eq verb (codes "fuse") then (within 0 FUSE_CALLS (number_of number) >>= λ count. Some (plain_line (lines.Fuse count)))
+    if bytes_eq verb (codes "fuse") then (within 0 MAX_FUSE_CALLS (number_of number) >>= λ count. Some (plain_line (lines.Fuse count)))
     else if bytes_eq verb (codes "power") then (number_of number >>= λ pick. Some (plain_line (lines.Power pick)))
     else None
 board_line words = None
@@ -126,7 +125,7 @@ board_line words = None
 -- a line that says whose lines come
 unfoldable pub client_line : List (List ℕ) → Option ReadMeaning
 client_line (number ∷ []) = do
-  client ← within 0 (CLIENTS - 1) (number_of number)
+  client ← within 0 (MAX_CLIENTS - 1) (number_of number)
   Some (record { meaning = Client client; fills = 0 })
 client_line words = None
 

@@ -10,7 +10,7 @@ use Rattle.app_api.specs.declared.param.Param.{Param}
 use Rattle.app_api.specs.declared.param.Param.TheVariants.{Nothing, ValueIn, ValueOut, ValueInOut, MemIn, MemOut, MemInOut}
 use Rattle.script.specs.declared.words.LineError.{LineError}
 use Rattle.script.specs.declared.words.LineError.TheVariants.{Bad, NoMemory}
-use Rattle.tee_base.specs.declared.limits.TheConstants.{ASK_BYTES}
+use Rattle.tee_base.specs.declared.limits.TheConstants.{MAX_ASK_BYTES}
 use Rattle.script.specs.Numbers.{number32_of}
 
 -- what was read is what the words say, unless memory ran out
@@ -29,7 +29,7 @@ plain_parameter param = record { param = param; fill = 0 }
 
 -- no more bytes are filled in than a memory reference may have
 abbrev pub IsSmall : Parameter → Type 0
-IsSmall p = p.fill ≤ ASK_BYTES
+IsSmall p = p.fill ≤ MAX_ASK_BYTES
 
 -- a parameter of one part: none, or a value output
 unfoldable pub parameter_of_one : List ℕ → Option Parameter
@@ -53,7 +53,7 @@ with_numbers make (Some a) b = option_map (λ x. plain_parameter (make a x)) b
 
 -- so many bytes, all of them the one byte, and no more than a memory reference may have
 abbrev pub filled : Option ℕ → Option (List ℕ) → Option Parameter
-filled (Some size) (Some (byte ∷ [])) = if nat_le size ASK_BYTES then Some (record { param = MemIn (replicate size byte); fill = size }) else None
+filled (Some size) (Some (byte ∷ [])) = if nat_le size MAX_ASK_BYTES then Some (record { param = MemIn (replicate size byte); fill = size }) else None
 filled size bytes = None
 
 -- a parameter of three parts: a value's two numbers, or memory that is filled with one byte

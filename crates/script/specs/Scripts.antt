@@ -2,7 +2,7 @@
 use Rattle.std.specs.Prelude.{ℕ, ◌≡◌, ◌==◌, ◌+◌, ◌-◌, nat_lt, slice_index, slice_index_or, take, List, [], ◌∷◌, ◌++◌, Option, None, Some, Result, Ok, Err, if◌then◌else◌, length}
 use Rattle.std.specs.List.{slice_split}
 use Rattle.std.specs.Str.Lines.{strip_carriage_return}
-use Rattle.tee_base.specs.declared.limits.TheConstants.{FILL_BYTES}
+use Rattle.tee_base.specs.declared.limits.TheConstants.{MAX_FILL_BYTES}
 use Rattle.app_api.specs.declared.host.Host.{Host}
 use Rattle.script.specs.declared.dialect.Dialect.{Dialect}
 use Rattle.script.specs.declared.line.Line.{Line}
@@ -29,7 +29,7 @@ with_meaning dialect r filled (Script line) = if takes dialect line then Some (r
 -- a line that means nothing known, or with which more bytes are filled in than a script may have, isn't read
 abbrev pub with_line : Dialect → Reading → Option ReadMeaning → Option Reading
 with_line dialect r None = None
-with_line dialect r (Some read) = if nat_lt FILL_BYTES (r.filled + read.fills) then None else with_meaning dialect r (r.filled + read.fills) read.meaning
+with_line dialect r (Some read) = if nat_lt MAX_FILL_BYTES (r.filled + read.fills) then None else with_meaning dialect r (r.filled + read.fills) read.meaning
 
 -- what is read after one more line
 unfoldable pub reading_after : {A : Type 0} → Dialect → List (Host A) → Reading → List ℕ → Option Reading

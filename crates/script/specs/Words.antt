@@ -3,7 +3,7 @@ use Rattle.std.specs.Prelude.{ℕ, ◌≡◌, ◌≢◌, ◌<◌, ◌≤◌, ◌
 use Rattle.std.specs.List.{AllByRecursion}
 use Rattle.std.specs.Str.Parse.{IsNumeral, digits_value}
 use Rattle.hex.specs.Hex.{decode_of}
-use Rattle.tee_base.specs.declared.limits.TheConstants.{ASK_BYTES}
+use Rattle.tee_base.specs.declared.limits.TheConstants.{MAX_ASK_BYTES}
 use Rattle.app_api.specs.declared.param.Param.{Param}
 use Rattle.app_api.specs.declared.param.Param.TheVariants.{Nothing, ValueIn, ValueOut, ValueInOut, MemIn, MemOut, MemInOut}
 
@@ -43,7 +43,7 @@ IsMemory kind word bytes = (digits : List ℕ) × (decode_of digits ≡ Ok bytes
 abbrev pub IsFilled : List ℕ → List ℕ → ℕ → Type 0
 IsFilled word bytes fill =
     (byte : ℕ) × (size digits : List ℕ) × IsNumber size fill × (decode_of digits ≡ Ok (byte ∷ []))
-    × (word ≡ codes "mf:" ++ size ++ codes ":" ++ digits) × (bytes ≡ replicate fill byte) × (fill ≤ ASK_BYTES)
+    × (word ≡ codes "mf:" ++ size ++ codes ":" ++ digits) × (bytes ≡ replicate fill byte) × (fill ≤ MAX_ASK_BYTES)
 
 -- the word of a parameter, for which so many bytes are filled in
 unfoldable pub IsParam : List ℕ → Param → ℕ → Type 0

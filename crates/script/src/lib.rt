@@ -16,7 +16,7 @@ mod words;
 pub use canonical::print;
 pub use dialect::Dialect;
 pub use laws::{fronts_are_read, one_reading, print_reads_back};
-pub use line::{FUSE_CALLS, Line};
+pub use line::Line;
 pub use script::{Script, ScriptAnswer, parse, parse_in};
 
 #[cfg(test)]

@@ -2,9 +2,6 @@
 
 use app_api::Call;
 
-/// Device calls that a board may let pass before it fails, at most.
-pub const FUSE_CALLS: u32 = 1_000_000;
-
 /// A line of a script.
 #[derive(Debug, Drop)]
 pub enum Line {

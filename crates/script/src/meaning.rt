@@ -2,11 +2,11 @@
 
 ghost use Rattle.std.specs.Prelude.{◌≡◌, ◌≤◌, ◌*◌, ◌<◌, List, ℕ, Option, IfOk, IfSome, length, map};
 ghost use Rattle.app_api.specs.declared.host.Host.{Host};
-ghost use Rattle.tee_base.specs.declared.limits.TheConstants.{ASK_BYTES};
+ghost use Rattle.tee_base.specs.declared.limits.TheConstants.{MAX_ASK_BYTES};
 ghost use Rattle.script.specs.Parameters.{Gives};
 ghost use Rattle.script.specs.Lines.{app_line, board_line, call_line, call_of, cancel_line, client_line, closed_by, host_at, id_of, index_from, invoked_by, is_silent, meaning_of, meaning_of_words, opened_by, plain_line, turns_line};
 
-use crate::line::{FUSE_CALLS, Line, Meaning, ReadCall, ReadMeaning};
+use crate::line::{Line, Meaning, ReadCall, ReadMeaning};
 use crate::number::{number, number_within, number32};
 use crate::param::params_of;
 use crate::words::{LineError, is_ascii, words_of};
@@ -72,7 +72,7 @@ fn host_index<A>(hosts: &[Host<A>], word: &[u8]) -> Option<u8>
 #[tactic(auto, unfolding(crate::specs::Lines::opened_by))]
 fn open_call(alloc: Global, label: &[u8], words: &[&[u8]]) -> Result<ReadCall, LineError>
     ensures value { Gives result (opened_by label.now (map (λ word. word.now) words.now)) }
-    ensures small { IfOk result (λ read. read.fills ≤ 4 * ASK_BYTES) }
+    ensures small { IfOk result (λ read. read.fills ≤ 4 * MAX_ASK_BYTES) }
 {
     let label = number32(label)?;
     let all = params_of(alloc, words)?;
@@ -88,7 +88,7 @@ fn open_call(alloc: Global, label: &[u8], words: &[&[u8]]) -> Result<ReadCall, L
 #[tactic(auto, unfolding(crate::specs::Lines::invoked_by))]
 fn invoke_call(alloc: Global, label: &[u8], words: &[&[u8]]) -> Result<ReadCall, LineError>
     ensures value { Gives result (invoked_by label.now (map (λ word. word.now) words.now)) }
-    ensures small { IfOk result (λ read. read.fills ≤ 4 * ASK_BYTES) }
+    ensures small { IfOk result (λ read. read.fills ≤ 4 * MAX_ASK_BYTES) }
 {
     let label = number32(label)?;
     let Some((command, words)) = words.split_first() else {
@@ -109,7 +109,7 @@ fn invoke_call(alloc: Global, label: &[u8], words: &[&[u8]]) -> Result<ReadCall,
 #[tactic(auto, unfolding(crate::specs::Lines::closed_by))]
 fn close_call(label: &[u8], words: &[&[u8]]) -> Result<ReadCall, LineError>
     ensures value { Gives result (closed_by label.now (map (λ word. word.now) words.now)) }
-    ensures small { IfOk result (λ read. read.fills ≤ 4 * ASK_BYTES) }
+    ensures small { IfOk result (λ read. read.fills ≤ 4 * MAX_ASK_BYTES) }
 {
     let label = number32(label)?;
     if !words.is_empty() {
@@ -125,7 +125,7 @@ fn close_call(label: &[u8], words: &[&[u8]]) -> Result<ReadCall, LineError>
 #[tactic(auto, unfolding(crate::specs::Lines::call_of))]
 fn call(alloc: Global, words: &[&[u8]]) -> Result<ReadCall, LineError>
     ensures value { Gives result (call_of (map (λ word. word.now) words.now)) }
-    ensures small { IfOk result (λ read. read.fills ≤ 4 * ASK_BYTES) }
+    ensures small { IfOk result (λ read. read.fills ≤ 4 * MAX_ASK_BYTES) }
 {
     let [verb, label, others @ ..] = words else {
         return Err(LineError::Bad);
@@ -162,7 +162,7 @@ fn line_of_call(
     words: &[&[u8]],
 ) -> Result<ReadMeaning, LineError>
     ensures value { Gives result (call_line client app post (map (λ word. word.now) words.now)) }
-    ensures small { IfOk result (λ read. read.fills ≤ 4 * ASK_BYTES) }
+    ensures small { IfOk result (λ read. read.fills ≤ 4 * MAX_ASK_BYTES) }
 {
     let read = call(alloc, words)?;
     Ok(ReadMeaning {
@@ -180,13 +180,13 @@ fn line_of_call(
 #[tactic(auto, unfolding(crate::specs::Lines::turns_line))]
 fn line_of_turns(client: u8, app: u8, words: &[&[u8]]) -> Result<ReadMeaning, LineError>
     ensures value { Gives result (turns_line client app (map (λ word. word.now) words.now)) }
-    ensures small { IfOk result (λ read. read.fills ≤ 4 * ASK_BYTES) }
+    ensures small { IfOk result (λ read. read.fills ≤ 4 * MAX_ASK_BYTES) }
 {
     let [number, turns] = words else {
         return Err(LineError::Bad);
     };
-    let instance = number_within(number, 1, limits::INSTANCES as u64)?;
-    let count = number_within(turns, 1, u64::from(limits::LINE_TURNS))?;
+    let instance = number_within(number, 1, limits::MAX_INSTANCES as u64)?;
+    let count = number_within(turns, 1, u64::from(limits::MAX_LINE_TURNS))?;
     Ok(plain(Line::Turns {
         app,
         client,
@@ -199,7 +199,7 @@ fn line_of_turns(client: u8, app: u8, words: &[&[u8]]) -> Result<ReadMeaning, Li
 #[tactic(auto, unfolding(crate::specs::Lines::cancel_line))]
 fn line_of_cancel(client: u8, app: u8, words: &[&[u8]]) -> Result<ReadMeaning, LineError>
     ensures value { Gives result (cancel_line client app (map (λ word. word.now) words.now)) }
-    ensures small { IfOk result (λ read. read.fills ≤ 4 * ASK_BYTES) }
+    ensures small { IfOk result (λ read. read.fills ≤ 4 * MAX_ASK_BYTES) }
 {
     let [digits] = words else {
         return Err(LineError::Bad);
@@ -219,7 +219,7 @@ fn line_of_app(
     words: &[&[u8]],
 ) -> Result<ReadMeaning, LineError>
     ensures value { Gives result (app_line client app (map (λ word. word.now) words.now)) }
-    ensures small { IfOk result (λ read. read.fills ≤ 4 * ASK_BYTES) }
+    ensures small { IfOk result (λ read. read.fills ≤ 4 * MAX_ASK_BYTES) }
 {
     let Some((verb, others)) = words.split_first() else {
         return Err(LineError::Bad);
@@ -240,13 +240,13 @@ fn line_of_app(
 #[tactic(auto, unfolding(crate::specs::Lines::board_line))]
 fn line_of_board(words: &[&[u8]]) -> Result<ReadMeaning, LineError>
     ensures value { Gives result (board_line (map (λ word. word.now) words.now)) }
-    ensures small { IfOk result (λ read. read.fills ≤ 4 * ASK_BYTES) }
+    ensures small { IfOk result (λ read. read.fills ≤ 4 * MAX_ASK_BYTES) }
 {
     let [verb, digits] = words else {
         return Err(LineError::Bad);
     };
     if *verb == b"fuse".as_slice() {
-        let count = number_within(digits, 0, u64::from(FUSE_CALLS))?;
+        let count = number_within(digits, 0, u64::from(limits::MAX_FUSE_CALLS))?;
         return Ok(plain(Line::Fuse(count as u32)));
     }
     if *verb == b"power".as_slice() {
@@ -262,12 +262,12 @@ fn line_of_board(words: &[&[u8]]) -> Result<ReadMeaning, LineError>
 #[tactic(auto, unfolding(crate::specs::Lines::client_line))]
 fn line_of_client(words: &[&[u8]]) -> Result<ReadMeaning, LineError>
     ensures value { Gives result (client_line (map (λ word. word.now) words.now)) }
-    ensures small { IfOk result (λ read. read.fills ≤ 4 * ASK_BYTES) }
+    ensures small { IfOk result (λ read. read.fills ≤ 4 * MAX_ASK_BYTES) }
 {
     let [digits] = words else {
         return Err(LineError::Bad);
     };
-    let client = number_within(digits, 0, u64::from(limits::CLIENTS) - 1)?;
+    let client = number_within(digits, 0, u64::from(limits::MAX_CLIENTS) - 1)?;
     Ok(ReadMeaning {
         meaning: Meaning::Client(client as u8),
         fills: 0,
@@ -285,7 +285,7 @@ fn meaning_of_words<A>(
     requires { length hosts.now ≤ 16 }
     ensures value { Gives result
         (meaning_of_words hosts.now client (map (λ word. word.now) words.now)) }
-    ensures small { IfOk result (λ read. read.fills ≤ 4 * ASK_BYTES) }
+    ensures small { IfOk result (λ read. read.fills ≤ 4 * MAX_ASK_BYTES) }
 {
     let Some((word, others)) = words.split_first() else {
         return Err(LineError::Bad);
@@ -322,7 +322,7 @@ pub fn meaning_of<A>(
 ) -> Result<ReadMeaning, LineError>
     requires { length hosts.now ≤ 16 }
     ensures value { Gives result (meaning_of hosts.now client line.now) }
-    ensures small { IfOk result (λ read. read.fills ≤ 4 * ASK_BYTES) }
+    ensures small { IfOk result (λ read. read.fills ≤ 4 * MAX_ASK_BYTES) }
 {
     if !is_ascii(line) {
         return Err(LineError::Bad);

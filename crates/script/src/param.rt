@@ -4,7 +4,7 @@ ghost use Rattle.std.specs.Prelude.{◌≡◌, ◌^◌, ◌<◌, ◌≤◌, ◌*
 ghost use Rattle.std.specs.List.{slice_split};
 ghost use Rattle.script.specs.Parameters.{parameter_of, parameter_of_parts, parameter_of_one, parameter_of_two, parameter_of_three, hex_of, filled, parameter_at, parameters_of, plain_parameter, IsSmall, Gives};
 ghost use Rattle.script.specs.Numbers.{number32_of};
-ghost use Rattle.tee_base.specs.declared.limits.TheConstants.{ASK_BYTES};
+ghost use Rattle.tee_base.specs.declared.limits.TheConstants.{MAX_ASK_BYTES};
 
 use crate::number::number32;
 use crate::words::{LineError, parts_of};
@@ -91,7 +91,7 @@ fn fill(alloc: Global, size: u32, byte: Bytes) -> Result<Parameter, LineError>
     ensures small { IfOk result IsSmall }
 {
     match byte.as_slice() {
-        [byte] if size <= limits::ASK_BYTES => {
+        [byte] if size <= limits::MAX_ASK_BYTES => {
             let bytes = vec![in alloc; *byte; size as usize]?;
             Ok(Parameter {
                 param: Param::MemIn(Bytes::from_vec(bytes)),
@@ -139,7 +139,7 @@ fn param_at(alloc: Global, words: &[&[u8]], index: usize) -> Result<Parameter, L
 #[tactic(auto, unfolding(crate::specs::Parameters::parameters_of))]
 pub fn params_of(alloc: Global, words: &[&[u8]]) -> Result<Parameters, LineError>
     ensures value { Gives result (parameters_of (map (λ word. word.now) words.now)) }
-    ensures small { IfOk result (λ all. all.fills ≤ 4 * ASK_BYTES) }
+    ensures small { IfOk result (λ all. all.fills ≤ 4 * MAX_ASK_BYTES) }
 {
     if words.len() > 4 {
         return Err(LineError::Bad);

@@ -1,7 +1,7 @@
 //! Reading a script line by line.
 
 ghost use Rattle.std.specs.Prelude.{◌≡◌, ◌≤◌, ◌+◌, List, IfOk, length};
-ghost use Rattle.tee_base.specs.declared.limits.TheConstants.{FILL_BYTES};
+ghost use Rattle.tee_base.specs.declared.limits.TheConstants.{MAX_FILL_BYTES};
 ghost use Rattle.script.specs.Parameters.{Gives};
 ghost use Rattle.script.specs.Scripts.{no_reading, reading_after, with_line, with_meaning};
 
@@ -103,13 +103,13 @@ pub fn read_line<A>(
     line: &[u8],
 ) -> Result<Reader, LineError>
     requires few { length hosts.now ≤ 16 }
-    requires within { reader.filled ≤ FILL_BYTES }
+    requires within { reader.filled ≤ MAX_FILL_BYTES }
     ensures value { Gives result (reading_after dialect hosts.now reader line.now) }
-    ensures within { IfOk result (λ next. next.filled ≤ FILL_BYTES) }
+    ensures within { IfOk result (λ next. next.filled ≤ MAX_FILL_BYTES) }
 {
     let read = meaning_of(alloc, hosts, reader.client, line)?;
     let filled = reader.filled + read.fills;
-    if filled > limits::FILL_BYTES {
+    if filled > limits::MAX_FILL_BYTES {
         return Err(LineError::Bad);
     }
     with_meaning(dialect, reader, filled, read.meaning)

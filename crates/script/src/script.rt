@@ -2,7 +2,7 @@
 
 ghost use Rattle.std.specs.Prelude.{◌≡◌, ◌≤◌, ◌-◌, ◌+◌, List, ℕ, Ok, Err, IfOk, IsErrOf, length, map, take};
 ghost use Rattle.app_api.specs.Hosts.{HostsFit};
-ghost use Rattle.tee_base.specs.declared.limits.TheConstants.{FILL_BYTES};
+ghost use Rattle.tee_base.specs.declared.limits.TheConstants.{MAX_FILL_BYTES};
 ghost use Rattle.script.specs.Grammar.{FirstBad, Reads};
 ghost use Rattle.script.specs.Scripts.{Answers, AnswersWith, ended_by, no_reading, read_from, script_from, script_of};
 ghost use Rattle.script.specs.declared.dialect.Dialect.TheVariants.{Whole};
@@ -85,7 +85,7 @@ fn read_pieces<A>(
     requires { length hosts.now ≤ 16 }
     ensures value { Answers result
         (read_from dialect hosts.now 1 no_reading (map (λ piece. piece.now) pieces.now)) }
-    ensures within { IfOk result (λ reader. reader.filled ≤ FILL_BYTES) }
+    ensures within { IfOk result (λ reader. reader.filled ≤ MAX_FILL_BYTES) }
 {
     let mut reader = Reader::new(alloc);
     for (index, piece) in pieces.iter().enumerate() {
@@ -108,7 +108,7 @@ fn read_last<A>(
     last: &[u8],
 ) -> Result<Vec<Line>, ScriptAnswer>
     requires few { length hosts.now ≤ 16 }
-    requires within { reader.filled ≤ FILL_BYTES }
+    requires within { reader.filled ≤ MAX_FILL_BYTES }
     ensures { AnswersWith (λ lines. lines.items) result
         (ended_by dialect hosts.now number reader last.now) }
 {

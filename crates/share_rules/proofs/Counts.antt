@@ -1,5 +1,6 @@
 -- Shares counted by any test: one more, and one less.
-use Rattle.std.proofs.Common.{◌≡◌, ◌≤◌, ◌+◌, ℕ, refl, Bool, true, false, cond, List, Option, None, Some, [], ◌∷◌, ◌++◌, length, get_or, position, remove, nat_lt, count_by, IsTrue, ap, sym, ◌∙◌, ⊎_elim, arith, rules}
+use Rattle.std.proofs.Common.{◌≡◌, ◌≤◌, ◌+◌, ℕ, refl, Bool, true, false, cond, List, Option, None, Some, [], ◌∷◌, ◌++◌, length, get_or}
+use Rattle.std.proofs.Common.{position, remove, nat_lt, count_by, IsTrue, ap, sym, ◌∙◌, ⊎_elim, arith, rules}
 use Rattle.std.specs.List.{list_any, position_or_len}
 use Rattle.std.proofs.lemmas.Bool.{cases_Bool, and_parts, and_from, eq-eqb, both_ways, cond-true, ltb-false, eqb-true}
 use Rattle.std.proofs.lemmas.List.Folds.{list_any_none}
@@ -22,7 +23,8 @@ share_is id flags s e =
     ap (λ i. (let t : Share = record { id = i; flags = s.flags } in t)) same_id ∙ ap (λ n. (let t : Share = record { id = id; flags = record { 0 = n } } in t)) same_flags
 
 -- the first such handle is forgotten
-count-released : (p : Share → Bool) (xs : List Share) (id : List ℕ) (flags : Flags) → IsTrue (is_noted xs id flags) → count_by p (released xs id flags) + cond (p (record { id = id; flags = flags })) 1 0 ≡ count_by p xs
+count-released : (p : Share → Bool) (xs : List Share) (id : List ℕ) (flags : Flags) → IsTrue (is_noted xs id flags) →
+    count_by p (released xs id flags) + cond (p (record { id = id; flags = flags })) 1 0 ≡ count_by p xs
 count-released p xs id flags there =
     let q : Share → Bool = is_share id flags in
     let s : Share = record { id = id; flags = flags } in

@@ -24,7 +24,8 @@ paid P s holds =
     ] refl
 
 -- the same where there is an object
-of_object : (P : Store → Type 0) (r : Option Object) (f : Object → Result Store StoreAnswer) → ((o : Object) → r ≡ Some o → IfOk (within_quota (f o)) (λ after. P after)) → IfOk (within_quota (with_object r f)) (λ after. P after)
+of_object : (P : Store → Type 0) (r : Option Object) (f : Object → Result Store StoreAnswer) → ((o : Object) → r ≡ Some o → IfOk (within_quota (f o)) (λ after. P after)) →
+    IfOk (within_quota (with_object r f)) (λ after. P after)
 of_object P None f holds = tt
 of_object P (Some o) f holds = holds o refl
 
@@ -33,7 +34,8 @@ unless : (P : Store → Type 0) (b : Bool) (r : Result Store StoreAnswer) → If
 unless P true r holds = tt
 unless P false r holds = holds
 
-renamed : (m : Store) (k to : List ℕ) (v : Object) → IsWithinLimits m → IsIdentifier to → object_at m k ≡ Some v → cost (finite.remove (finite.insert m to v) k) ≤ quota → IsWithinLimits (finite.remove (finite.insert m to v) k)
+renamed : (m : Store) (k to : List ℕ) (v : Object) → IsWithinLimits m → IsIdentifier to → object_at m k ≡ Some v → cost (finite.remove (finite.insert m to v) k) ≤ quota →
+    IsWithinLimits (finite.remove (finite.insert m to v) k)
 renamed m k to v limits named here fits = record {
   paid = fits;
   identifiers = removed (λ q o. IsIdentifier q) (finite.insert m to v) k (inserted (λ q o. IsIdentifier q) m to v named limits.identifiers);
@@ -52,10 +54,12 @@ keeps_limits m (Rename id to) limits h =
     (λ o here. unless IsWithinLimits (has m to) (Ok (finite.remove (finite.insert m to o) id)) (paid IsWithinLimits (finite.remove (finite.insert m to o) id) (renamed m id to o limits h.1 here)))
 keeps_limits m (Write id at bytes) limits h =
     of_object IsWithinLimits (object_at m id) (λ o. Ok (finite.insert m id (record o { content = written o.content at bytes })))
-    (λ o here. paid IsWithinLimits (finite.insert m id (record o { content = written o.content at bytes })) (limits-insert m id (record o { content = written o.content at bytes }) limits h.0 (limits.secrets id o here)))
+    (λ o here. paid IsWithinLimits (finite.insert m id (record o { content = written o.content at bytes }))
+    (limits-insert m id (record o { content = written o.content at bytes }) limits h.0 (limits.secrets id o here)))
 keeps_limits m (Truncate id n) limits h =
     of_object IsWithinLimits (object_at m id) (λ o. Ok (finite.insert m id (record o { content = resized n o.content })))
-    (λ o here. paid IsWithinLimits (finite.insert m id (record o { content = resized n o.content })) (limits-insert m id (record o { content = resized n o.content }) limits h (limits.secrets id o here)))
+    (λ o here. paid IsWithinLimits (finite.insert m id (record o { content = resized n o.content }))
+    (limits-insert m id (record o { content = resized n o.content }) limits h (limits.secrets id o here)))
 
 apart : (q k : List ℕ) → q ≢ k → eq_by_cmp by_bytes q k ≡ false
 apart q k differs =

@@ -97,7 +97,8 @@ swapped a b = omega arith
 cost_of-put : (k : List ℕ) (v : Object) (es : Entries) → T (finite.is_sorted by_bytes es) → cost_of (finite.put by_bytes k v es) ≡ blocks v + cost_of (others k es)
 cost_of-put k v [] h = refl
 cost_of-put k v (e ∷ es) h =
-    elim (by_bytes k e.0) as (λ r. by_bytes k e.0 ≡ r → cost_of (at_keys.by_order r ((k, v) ∷ e ∷ es) ((e.0, v) ∷ es) (e ∷ finite.put by_bytes k v es)) ≡ blocks v + cost_of (cond (not (is_eq r)) (e ∷ others k es) (others k es))) [
+    elim (by_bytes k e.0) as (λ r. by_bytes k e.0 ≡ r → cost_of (at_keys.by_order r ((k, v) ∷ e ∷ es) ((e.0, v) ∷ es) (e ∷ finite.put by_bytes k v es)) ≡ blocks v + cost_of
+    (cond (not (is_eq r)) (e ∷ others k es) (others k es))) [
       | Less ↦ λ p. ap (λ (l : Entries). blocks v + (blocks e.1 + cost_of l)) (sym (keeps k es (below_less k e.0 es p (first _ _ h))))
       | Equal ↦ λ p. ap (λ (l : Entries). blocks v + cost_of l) (sym (keeps k es (below_tied k e.0 es p (first _ _ h))))
       | Greater ↦ λ p. later (blocks e.1) _ (blocks v) _ (cost_of-put k v es (second _ _ h))
@@ -107,7 +108,8 @@ cost_of-put k v (e ∷ es) h =
 cost_of-others : (k : List ℕ) (es : Entries) → T (finite.is_sorted by_bytes es) → cost_of (others k es) + blocks_at (finite.find by_bytes k es) ≡ cost_of es
 cost_of-others k [] h = refl
 cost_of-others k (e ∷ es) h =
-    elim (is_eq (by_bytes k e.0)) as (λ b. is_eq (by_bytes k e.0) ≡ b → cost_of (cond (not b) (e ∷ others k es) (others k es)) + blocks_at (cond b (Some e.1) (finite.find by_bytes k es)) ≡ blocks e.1 + cost_of es) [
+    elim (is_eq (by_bytes k e.0)) as (λ b. is_eq (by_bytes k e.0) ≡ b → cost_of (cond (not b) (e ∷ others k es) (others k es)) + blocks_at
+    (cond b (Some e.1) (finite.find by_bytes k es)) ≡ blocks e.1 + cost_of es) [
       | true ↦ λ t. ap (λ (l : Entries). cost_of l + blocks e.1) (keeps k es (below_tied k e.0 es (equal _ t) (first _ _ h))) ∙ swapped (cost_of es) (blocks e.1)
       | false ↦ λ t. later_without (blocks e.1) (cost_of (others k es)) _ (cost_of es) (cost_of-others k es (second _ _ h))
     ] refl
@@ -123,7 +125,8 @@ pub entries-remove : (m : Store) (k : List ℕ) → finite.entries (finite.remov
 entries-remove m k =
     at_keys.same_entries by_bytes nat_list_cmp_total tied_same (finite.entries (finite.remove m k)) (others k (finite.entries m))
     (finite.entries_sorted (finite.remove m k)) (at_keys.is_sorted-where_key by_bytes _ (finite.entries m) (finite.entries_sorted m))
-    (λ q. sym (finite.get-entries (finite.remove m k) q) ∙ finite.get-remove nat_list_cmp_total m k q ∙ ap (cond (eq_by_cmp by_bytes q k) None) (finite.get-entries m q) ∙ sym (find-others k q (finite.entries m)))
+    (λ q. sym (finite.get-entries (finite.remove m k) q) ∙ finite.get-remove nat_list_cmp_total m k q ∙ ap (cond (eq_by_cmp by_bytes q k) None) (finite.get-entries m q)
+    ∙ sym (find-others k q (finite.entries m)))
 
 -- an object costs what it costs beside the others
 pub cost-insert : (m : Store) (k : List ℕ) (v : Object) → cost (finite.insert m k v) ≡ blocks v + cost (finite.remove m k)
@@ -143,7 +146,8 @@ pub blocks_at_most : (m : Store) (k : List ℕ) (o : Object) → object_at m k �
 blocks_at_most m k o is = let left = cost-remove m k in let own : blocks_at (object_at m k) ≡ blocks o = ap blocks_at is in omega (arith, left, own)
 
 -- what holds of an object and its identifier where it is put, and of those that were there, holds of all
-pub inserted : (P : List ℕ → Object → Type 0) (m : Store) (k : List ℕ) (v : Object) → P k v → ((q : List ℕ) (o : Object) → object_at m q ≡ Some o → P q o) → (q : List ℕ) (o : Object) → object_at (finite.insert m k v) q ≡ Some o → P q o
+pub inserted : (P : List ℕ → Object → Type 0) (m : Store) (k : List ℕ) (v : Object) → P k v → ((q : List ℕ) (o : Object) → object_at m q ≡ Some o → P q o) →
+    (q : List ℕ) (o : Object) → object_at (finite.insert m k v) q ≡ Some o → P q o
 inserted P m k v here there q o is =
     let got : cond (eq_by_cmp by_bytes q k) (Some v) (object_at m q) ≡ Some o = sym (finite.get-insert nat_list_cmp_total m k v q) ∙ is in
     elim (eq_by_cmp by_bytes q k) as (λ b. eq_by_cmp by_bytes q k ≡ b → cond b (Some v) (object_at m q) ≡ Some o → P q o) [
@@ -151,7 +155,8 @@ inserted P m k v here there q o is =
       | false ↦ λ t e. there q o e
     ] refl got
 
-pub removed : (P : List ℕ → Object → Type 0) (m : Store) (k : List ℕ) → ((q : List ℕ) (o : Object) → object_at m q ≡ Some o → P q o) → (q : List ℕ) (o : Object) → object_at (finite.remove m k) q ≡ Some o → P q o
+pub removed : (P : List ℕ → Object → Type 0) (m : Store) (k : List ℕ) → ((q : List ℕ) (o : Object) → object_at m q ≡ Some o → P q o) → (q : List ℕ) (o : Object) →
+    object_at (finite.remove m k) q ≡ Some o → P q o
 removed P m k there q o is =
     let got : cond (eq_by_cmp by_bytes q k) None (object_at m q) ≡ Some o = sym (finite.get-remove nat_list_cmp_total m k q) ∙ is in
     elim (eq_by_cmp by_bytes q k) as (λ b. cond b None (object_at m q) ≡ Some o → P q o) [
@@ -196,7 +201,8 @@ cost-moved m k to v absent here =
     let own : blocks_at (object_at (finite.insert m to v) k) ≡ blocks v = ap blocks_at found in
     omega (arith, put, beside, nothing, left, own)
 
-pub limits-moved : (m : Store) (k to : List ℕ) (v : Object) → IsWithinLimits m → IsIdentifier to → object_at m to ≡ None → object_at m k ≡ Some v → (cost (finite.remove (finite.insert m to v) k) ≡ cost m) × IsWithinLimits (finite.remove (finite.insert m to v) k)
+pub limits-moved : (m : Store) (k to : List ℕ) (v : Object) → IsWithinLimits m → IsIdentifier to → object_at m to ≡ None → object_at m k ≡ Some v →
+    (cost (finite.remove (finite.insert m to v) k) ≡ cost m) × IsWithinLimits (finite.remove (finite.insert m to v) k)
 limits-moved m k to v limits named absent here = (
   cost-moved m k to v absent here,
   record {

@@ -26,12 +26,18 @@ module _ (old new : MapState) (stated : Result Store StoreAnswer) (made : stated
   made_crash just = record {
     any_moment = record {
       later = omega (arith, longer);
-      each = λ o left. ⊎_elim (is_after o) (λ was. ⊎_elim (λ (x : (length old.past ≤ length old.past) × (o ≡ Some (contents_of old))). inl x.1) (λ (x : LeftBefore old.past (length old.past) o). absurd (none_now old.past (length old.past) o (omega arith) x)) (split_past (length old.past) o was)) left;
-      before = λ t o le left. ⊎_elim (λ now. inr (is_after o now)) (λ was. ⊎_elim (λ (x : (t ≤ length old.past) × (o ≡ Some (contents_of old))). inl (inl x.1)) (λ (x : LeftBefore old.past t o). inl (inr x)) (split_past t o was)) left;
+      each = λ o left. ⊎_elim (is_after o) (λ was. ⊎_elim (λ (x : (length old.past ≤ length old.past) × (o ≡ Some (contents_of old))). inl x.1)
+          (λ (x : LeftBefore old.past (length old.past) o). absurd (none_now old.past (length old.past) o (omega arith) x)) (split_past (length old.past) o was)) left;
+      before = λ t o le left. ⊎_elim (λ now. inr (is_after o now)) (λ was. ⊎_elim (λ (x : (t ≤ length old.past) × (o ≡ Some (contents_of old))). inl (inl x.1))
+          (λ (x : LeftBefore old.past t o). inl (inr x)) (split_past t o was)) left;
     };
     afterwards = record { only = λ o left. ⊎_elim (λ now. now) (λ was. absurd (none_now new.past (length new.past) o (omega arith) was)) left };
   }
 
   -- the moment before the change, and those before it, stay in the past
   pub made_past : KeepsPast map_keeper old new
-  made_past = record { later = omega (arith, longer); past = λ t o le left. subst (λ l. (o ≡ Some (contents_of new)) ⊎ LeftBefore l t o) (sym past) (⊎_elim (λ now. inr (inl (le, now))) (λ was. inr (inr was)) left) }
+  made_past = record {
+    later = omega (arith, longer);
+    past = λ t o le left. subst (λ l. (o ≡ Some (contents_of new)) ⊎ LeftBefore l t o) (sym past)
+        (⊎_elim (λ now. inr (inl (le, now))) (λ was. inr (inr was)) left);
+  }

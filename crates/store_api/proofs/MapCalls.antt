@@ -80,7 +80,8 @@ module _ (old new : MapState) (store : new.store ≡ old.store) (past : new.past
     afterwards = still_just just;
   }
 
-module _ {A : Type 0} (result : Result A StoreAnswer) (tried : ℕ) (old new : MapState) (limits : IsWithinLimits old.store) (store : new.store ≡ old.store) (past : new.past ≡ old.past) (intact : IsIntact result) where
+module _ {A : Type 0} (result : Result A StoreAnswer) (tried : ℕ) (old new : MapState) (limits : IsWithinLimits old.store) (store : new.store ≡ old.store)
+    (past : new.past ≡ old.past) (intact : IsIntact result) where
   -- what every call promises
   unchanged_call : Cause result (status_of old) (status_of new) → old.plan.faults ≤ new.plan.faults → new.change_attempts ≡ old.change_attempts + tried → IsCall map_keeper tried result old new
   unchanged_call cause later attempts = record {
@@ -97,7 +98,8 @@ module _ {A : Type 0} (result : Result A StoreAnswer) (tried : ℕ) (old new : M
 
 -- a reading call
 module _ {A : Type 0} (stated : Store → Result A StoreAnswer) (Bounds : A → Type 0) (old new : MapState) (limits : IsWithinLimits old.store) where
-  reads_by : (result : Result A StoreAnswer) → new.store ≡ old.store → new.past ≡ old.past → Answers result (stated old.store) → IfOk result (λ a. Bounds a) → IsCall map_keeper 0 result old new → Reads map_keeper stated Bounds result old new
+  reads_by : (result : Result A StoreAnswer) → new.store ≡ old.store → new.past ≡ old.past → Answers result (stated old.store) → IfOk result (λ a. Bounds a) →
+      IsCall map_keeper 0 result old new → Reads map_keeper stated Bounds result old new
   reads_by result store past answer bounds call = record {
     answer = λ _. answer;
     same = λ _. same_contents old new store past;
@@ -107,7 +109,8 @@ module _ {A : Type 0} (stated : Store → Result A StoreAnswer) (Bounds : A → 
   }
 
   -- one that is kept from its answer
-  pub kept_back : (e : StoreAnswer) → Begins {A = Unit {0}} (Err e) old new → old.plan.faults ≤ new.plan.faults → (e ≡ Failed → Rose old.plan.faults new.plan.faults) → Reads map_keeper stated Bounds (Err e) old new
+  pub kept_back : (e : StoreAnswer) → Begins {A = Unit {0}} (Err e) old new → old.plan.faults ≤ new.plan.faults → (e ≡ Failed → Rose old.plan.faults new.plan.faults) →
+      Reads map_keeper stated Bounds (Err e) old new
   kept_back Failed begun later rose =
       let is = begun.2 in
       reads_by (Err Failed) (ap (λ (s : MapState). s.store) is) (ap (λ (s : MapState). s.past) is) tt tt
@@ -126,7 +129,8 @@ module _ {A : Type 0} (stated : Store → Result A StoreAnswer) (Bounds : A → 
   kept_back NoMemory begun later rose = absurd begun
 
   -- one that is made
-  pub served : (result : Result A StoreAnswer) → Begins {A = Unit {0}} (Ok tt) old new → old.plan.faults ≤ new.plan.faults → IsOwn result → Answers result (stated new.store) → IfOk result (λ a. Bounds a) → Reads map_keeper stated Bounds result old new
+  pub served : (result : Result A StoreAnswer) → Begins {A = Unit {0}} (Ok tt) old new → old.plan.faults ≤ new.plan.faults → IsOwn result → Answers result (stated new.store) →
+      IfOk result (λ a. Bounds a) → Reads map_keeper stated Bounds result old new
   served result begun later own answer bounds =
       let is = begun.2 in
       let store : new.store ≡ old.store = ap (λ (s : MapState). s.store) is in
@@ -158,25 +162,29 @@ unless_failed NoMemory fact holds = holds
 
 module _ (c : Change) (old new : MapState) (limits : IsWithinLimits old.store) where
   -- a change that was not made
-  refused_by : (e : StoreAnswer) → new.store ≡ old.store → new.past ≡ old.past → Answers {A = Store} (Err e) (change old.store c) → IsCall map_keeper {A = Unit {0}} 1 (Err e) old new → Applies map_keeper {A = Unit {0}} c (Err e) old new
+  refused_by : (e : StoreAnswer) → new.store ≡ old.store → new.past ≡ old.past → Answers {A = Store} (Err e) (change old.store c) →
+      IsCall map_keeper {A = Unit {0}} 1 (Err e) old new → Applies map_keeper {A = Unit {0}} c (Err e) old new
   refused_by e store past answer call =
       let same = same_contents old new store past in
       record {
         applied = λ _. (answer, same);
         call = call;
         crash = λ _ just. let left = crash_leaves old new store past just in record {
-          any_moment = weaker moment_of left_of old new (λ o. o ≡ Some (contents_of old)) (LeftByChange {A = Unit {0}} (Err e) (contents_of old) (change old.store c)) (λ o is. left_refused e (contents_of old) (change old.store c) o is) left.any_moment;
+          any_moment = weaker moment_of left_of old new (λ o. o ≡ Some (contents_of old)) (LeftByChange {A = Unit {0}} (Err e) (contents_of old) (change old.store c))
+              (λ o is. left_refused e (contents_of old) (change old.store c) o is) left.any_moment;
           afterwards = unless_failed e _ (subst (λ k. LeavesJust map_keeper new k) (sym same) left.afterwards);
         };
       }
 
   -- one that is kept from being made
-  pub change_kept_back : (e : StoreAnswer) → Begins {A = Unit {0}} (Err e) (record old { change_attempts = old.change_attempts + 1 }) new → old.plan.faults ≤ new.plan.faults → (e ≡ Failed → Rose old.plan.faults new.plan.faults) → Applies map_keeper {A = Unit {0}} c (Err e) old new
+  pub change_kept_back : (e : StoreAnswer) → Begins {A = Unit {0}} (Err e) (record old { change_attempts = old.change_attempts + 1 }) new → old.plan.faults ≤ new.plan.faults →
+      (e ≡ Failed → Rose old.plan.faults new.plan.faults) → Applies map_keeper {A = Unit {0}} c (Err e) old new
   change_kept_back Failed begun later rose =
       let is = begun.2 in
       let store : new.store ≡ old.store = ap (λ (s : MapState). s.store) is in
       let past : new.past ≡ old.past = ap (λ (s : MapState). s.past) is in
-      refused_by Failed store past tt (unchanged_call (Err Failed) 1 old new limits store past tt (begun.0, ap (λ (s : MapState). s.lost) is, rose refl) later (ap (λ (s : MapState). s.change_attempts) is))
+      refused_by Failed store past tt (unchanged_call (Err Failed) 1 old new limits store past tt (begun.0, ap (λ (s : MapState). s.lost) is, rose refl) later
+      (ap (λ (s : MapState). s.change_attempts) is))
   change_kept_back Lost begun later rose =
       let is = begun.1 in
       let store : new.store ≡ old.store = ap (λ (s : MapState). s.store) is in
@@ -190,7 +198,8 @@ module _ (c : Change) (old new : MapState) (limits : IsWithinLimits old.store) w
   change_kept_back NoMemory begun later rose = absurd begun
 
   -- one that is refused
-  pub change_refused : (e : StoreAnswer) → Changes {A = Unit {0}} (Err e) (change old.store c) old.store new.store → new.past ≡ old.past → old.lost ≡ false → new.lost ≡ false → old.plan.faults ≤ new.plan.faults → new.change_attempts ≡ old.change_attempts + 1 → Applies map_keeper {A = Unit {0}} c (Err e) old new
+  pub change_refused : (e : StoreAnswer) → Changes {A = Unit {0}} (Err e) (change old.store c) old.store new.store → new.past ≡ old.past → old.lost ≡ false → new.lost ≡ false →
+      old.plan.faults ≤ new.plan.faults → new.change_attempts ≡ old.change_attempts + 1 → Applies map_keeper {A = Unit {0}} c (Err e) old new
   change_refused NotFound made past works still later attempts = refused_by NotFound made.1 past made.0 (unchanged_call (Err NotFound) 1 old new limits made.1 past tt (works, still) later attempts)
   change_refused Exists made past works still later attempts = refused_by Exists made.1 past made.0 (unchanged_call (Err Exists) 1 old new limits made.1 past tt (works, still) later attempts)
   change_refused NoSpace made past works still later attempts = refused_by NoSpace made.1 past made.0 (unchanged_call (Err NoSpace) 1 old new limits made.1 past tt (works, still) later attempts)
@@ -201,7 +210,8 @@ module _ (c : Change) (old new : MapState) (limits : IsWithinLimits old.store) w
   change_refused (Garbled leaf) made past works still later attempts = absurd made
 
   -- one that is made
-  pub change_made : IsChange c → change old.store c ≡ Ok new.store → new.past ≡ old.store ∷ old.past → old.lost ≡ false → new.lost ≡ false → old.plan.faults ≤ new.plan.faults → new.change_attempts ≡ old.change_attempts + 1 → Applies map_keeper {A = Unit {0}} c (Ok tt) old new
+  pub change_made : IsChange c → change old.store c ≡ Ok new.store → new.past ≡ old.store ∷ old.past → old.lost ≡ false → new.lost ≡ false → old.plan.faults ≤ new.plan.faults →
+      new.change_attempts ≡ old.change_attempts + 1 → Applies map_keeper {A = Unit {0}} c (Ok tt) old new
   change_made is made past works still later attempts =
       let longer = ap length past in
       record {
@@ -222,12 +232,17 @@ module _ (c : Change) (old new : MapState) (limits : IsWithinLimits old.store) w
 
 -- the same for a result that is known to be so
 module _ {A : Type 0} (stated : Store → Result A StoreAnswer) (Bounds : A → Type 0) (old new : MapState) (limits : IsWithinLimits old.store) where
-  pub kept_back_as : (result : Result A StoreAnswer) (e : StoreAnswer) → result ≡ Err e → Begins {A = Unit {0}} (Err e) old new → old.plan.faults ≤ new.plan.faults → (e ≡ Failed → Rose old.plan.faults new.plan.faults) → Reads map_keeper stated Bounds result old new
+  pub kept_back_as : (result : Result A StoreAnswer) (e : StoreAnswer) → result ≡ Err e → Begins {A = Unit {0}} (Err e) old new → old.plan.faults ≤ new.plan.faults →
+      (e ≡ Failed → Rose old.plan.faults new.plan.faults) → Reads map_keeper stated Bounds result old new
   kept_back_as result e is begun later rose = rw is (kept_back stated Bounds old new limits e begun later rose)
 
 module _ (c : Change) (old new : MapState) (limits : IsWithinLimits old.store) where
-  pub change_kept_back_as : (result : Result (Unit {0}) StoreAnswer) (e : StoreAnswer) → result ≡ Err e → Begins {A = Unit {0}} (Err e) (record old { change_attempts = old.change_attempts + 1 }) new → old.plan.faults ≤ new.plan.faults → (e ≡ Failed → Rose old.plan.faults new.plan.faults) → Applies map_keeper c result old new
+  pub change_kept_back_as : (result : Result (Unit {0}) StoreAnswer) (e : StoreAnswer) → result ≡ Err e →
+      Begins {A = Unit {0}} (Err e) (record old { change_attempts = old.change_attempts + 1 }) new → old.plan.faults ≤ new.plan.faults →
+      (e ≡ Failed → Rose old.plan.faults new.plan.faults) → Applies map_keeper c result old new
   change_kept_back_as result e is begun later rose = rw is (change_kept_back c old new limits e begun later rose)
 
-  pub change_refused_as : (result : Result (Unit {0}) StoreAnswer) (e : StoreAnswer) → result ≡ Err e → Changes {A = Unit {0}} (Err e) (change old.store c) old.store new.store → new.past ≡ old.past → old.lost ≡ false → new.lost ≡ false → old.plan.faults ≤ new.plan.faults → new.change_attempts ≡ old.change_attempts + 1 → Applies map_keeper c result old new
+  pub change_refused_as : (result : Result (Unit {0}) StoreAnswer) (e : StoreAnswer) → result ≡ Err e → Changes {A = Unit {0}} (Err e) (change old.store c) old.store new.store →
+      new.past ≡ old.past → old.lost ≡ false → new.lost ≡ false → old.plan.faults ≤ new.plan.faults → new.change_attempts ≡ old.change_attempts + 1 →
+      Applies map_keeper c result old new
   change_refused_as result e is made past works still later attempts = rw is (change_refused c old new limits e made past works still later attempts)

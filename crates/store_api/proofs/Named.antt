@@ -32,7 +32,8 @@ is_here id = is_at (λ k. by_bytes id k.items)
 named-insert : (es : Kept) (k : Vec ℕ) (v : Object) → named (insert_entry vec_order es k v) ≡ finite.put by_bytes k.items v (named es)
 named-insert [] k v = refl
 named-insert (e ∷ es) k v =
-    elim (by_bytes k.items e.0.items) as (λ r. named (match_ordering r ((k, v) ∷ e ∷ es) ((e.0, v) ∷ es) (e ∷ insert_entry vec_order es k v)) ≡ at_keys.by_order r ((k.items, v) ∷ named (e ∷ es)) ((e.0.items, v) ∷ named es) ((e.0.items, e.1) ∷ finite.put by_bytes k.items v (named es))) [
+    elim (by_bytes k.items e.0.items) as (λ r. named (match_ordering r ((k, v) ∷ e ∷ es) ((e.0, v) ∷ es) (e ∷ insert_entry vec_order es k v)) ≡ at_keys.by_order r
+    ((k.items, v) ∷ named (e ∷ es)) ((e.0.items, v) ∷ named es) ((e.0.items, e.1) ∷ finite.put by_bytes k.items v (named es))) [
       | Less ↦ refl
       | Equal ↦ refl
       | Greater ↦ ap (λ (l : Entries). (e.0.items, e.1) ∷ l) (named-insert es k v)
@@ -41,7 +42,8 @@ named-insert (e ∷ es) k v =
 named-remove : (es : Kept) (id : List ℕ) → T (finite.is_sorted by_bytes (named es)) → named (remove_entry (is_here id) es) ≡ others id (named es)
 named-remove [] id h = refl
 named-remove (e ∷ es) id h =
-    elim (is_eq (by_bytes id e.0.items)) as (λ b. is_eq (by_bytes id e.0.items) ≡ b → named (cond b es (e ∷ remove_entry (is_here id) es)) ≡ cond (not b) ((e.0.items, e.1) ∷ others id (named es)) (others id (named es))) [
+    elim (is_eq (by_bytes id e.0.items)) as (λ b. is_eq (by_bytes id e.0.items) ≡ b → named (cond b es (e ∷ remove_entry (is_here id) es)) ≡ cond (not b)
+    ((e.0.items, e.1) ∷ others id (named es)) (others id (named es))) [
       | true ↦ λ t. sym (keeps id (named es) (below_tied id e.0.items (named es) (equal _ t) (first _ _ h)))
       | false ↦ λ t. ap (λ (l : Entries). (e.0.items, e.1) ∷ l) (named-remove es id (second _ _ h))
     ] refl
@@ -114,7 +116,9 @@ are_none es none = subst (λ l. AreOf l 0 finite.empty) (sym none) (record {
     nothing_at : (id : List ℕ) (o : Object) → object_at (store_of []) id ≡ Some o → ⊥
     nothing_at id o is = let none : object_at (store_of []) id ≡ None = finite.get-from_sorted by_bytes [] id tt in cc
 
-pub are_inserted : (es new : Kept) (k : Vec ℕ) (id : List ℕ) (v : Object) (m : Store) (used after : ℕ) → AreKept es used → store_of es ≡ m → k.items ≡ id → new ≡ insert_entry vec_order es k v → IsIdentifier id → length v.secret ≤ 128 → cost (finite.insert m id v) ≤ quota → after ≡ cost (finite.insert m id v) → AreOf new after (finite.insert m id v)
+pub are_inserted : (es new : Kept) (k : Vec ℕ) (id : List ℕ) (v : Object) (m : Store) (used after : ℕ) → AreKept es used → store_of es ≡ m → k.items ≡ id →
+    new ≡ insert_entry vec_order es k v → IsIdentifier id → length v.secret ≤ 128 → cost (finite.insert m id v) ≤ quota → after ≡ cost (finite.insert m id v) →
+    AreOf new after (finite.insert m id v)
 are_inserted es new k id v m used after kept is_m is_id is_new named_so short paid is_after =
     let is : store_of new ≡ finite.insert m id v =
     ap store_of is_new ∙ insert_is es k v kept.sorted ∙ ap (λ s. finite.insert s k.items v) is_m ∙ ap (λ i. finite.insert m i v) is_id in
@@ -128,7 +132,8 @@ are_inserted es new k id v m used after kept is_m is_id is_new named_so short pa
       store = is;
     }
 
-pub are_removed : (es new : Kept) (id : List ℕ) (m : Store) (used after : ℕ) → AreKept es used → store_of es ≡ m → new ≡ remove_entry (is_here id) es → after ≡ cost (finite.remove m id) → AreOf new after (finite.remove m id)
+pub are_removed : (es new : Kept) (id : List ℕ) (m : Store) (used after : ℕ) → AreKept es used → store_of es ≡ m → new ≡ remove_entry (is_here id) es →
+    after ≡ cost (finite.remove m id) → AreOf new after (finite.remove m id)
 are_removed es new id m used after kept is_m is_new is_after =
     let is : store_of new ≡ finite.remove m id = ap store_of is_new ∙ remove_is es id kept.sorted ∙ ap (λ s. finite.remove s id) is_m in
     let limits = subst IsWithinLimits is_m kept.limits in
@@ -150,7 +155,9 @@ find-named p (e ∷ es) =
       | false ↦ find-named p es
     ]
 
-pub are_moved : (es mid new : Kept) (key : Vec ℕ) (id to : List ℕ) (v : Object) (m : Store) (used : ℕ) → AreKept es used → store_of es ≡ m → key.items ≡ to → mid ≡ insert_entry vec_order es key v → new ≡ remove_entry (is_here id) mid → IsIdentifier to → object_at m to ≡ None → object_at m id ≡ Some v → AreOf new used (finite.remove (finite.insert m to v) id)
+pub are_moved : (es mid new : Kept) (key : Vec ℕ) (id to : List ℕ) (v : Object) (m : Store) (used : ℕ) → AreKept es used → store_of es ≡ m → key.items ≡ to →
+    mid ≡ insert_entry vec_order es key v → new ≡ remove_entry (is_here id) mid → IsIdentifier to → object_at m to ≡ None → object_at m id ≡ Some v →
+    AreOf new used (finite.remove (finite.insert m to v) id)
 are_moved es mid new key id to v m used kept is_m is_to is_mid is_new named_so absent here =
     let is_put : store_of mid ≡ finite.insert m to v =
     ap store_of is_mid ∙ insert_is es key v kept.sorted ∙ ap (λ s. finite.insert s key.items v) is_m ∙ ap (λ i. finite.insert m i v) is_to in
@@ -167,10 +174,12 @@ are_moved es mid new key id to v m used kept is_m is_to is_mid is_new named_so a
     }
 
 -- the first entry that passes, as the store has it
-pub first_is : (es : Kept) (m : Store) (p : List ℕ → Bool) → T (finite.is_sorted by_bytes (named es)) → store_of es ≡ m → option_map (λ (e : Vec ℕ × Object). (e.0.items, e.1)) (find (λ e. p e.0.items) es) ≡ find (λ e. p e.0) (finite.entries m)
+pub first_is : (es : Kept) (m : Store) (p : List ℕ → Bool) → T (finite.is_sorted by_bytes (named es)) → store_of es ≡ m →
+    option_map (λ (e : Vec ℕ × Object). (e.0.items, e.1)) (find (λ e. p e.0.items) es) ≡ find (λ e. p e.0) (finite.entries m)
 first_is es m p sorted is_m = find-named p es ∙ ap (λ (l : Entries). find (λ e. p e.0) l) (sym (entries_are es sorted) ∙ ap finite.entries is_m)
 
-pub bare_and_named : (r : Option (Bor (Vec ℕ) × Bor Object)) → option_map {U = List ℕ × Object} (λ entry. (entry.0.now.items, entry.1.now)) r ≡ option_map (λ (e : Vec ℕ × Object). (e.0.items, e.1)) (option_map {U = Vec ℕ × Object} (λ entry. (entry.0.now, entry.1.now)) r)
+pub bare_and_named : (r : Option (Bor (Vec ℕ) × Bor Object)) → option_map {U = List ℕ × Object} (λ entry. (entry.0.now.items, entry.1.now))
+    r ≡ option_map (λ (e : Vec ℕ × Object). (e.0.items, e.1)) (option_map {U = Vec ℕ × Object} (λ entry. (entry.0.now, entry.1.now)) r)
 bare_and_named None = refl
 bare_and_named (Some entry) = refl
 
@@ -191,7 +200,8 @@ found_there : (p : List ℕ → Bool) (es : Entries) (e : List ℕ × Object) �
 found_there p [] e h is = cc
 found_there p (f ∷ fs) e h is =
     elim (p f.0) as (λ b. cond b (Some f) (find (λ x. p x.0) fs) ≡ Some e → finite.find by_bytes e.0 (f ∷ fs) ≡ Some e.1) [
-      | true ↦ λ i. let same : f ≡ e = cc in subst (λ x. finite.find by_bytes x.0 (f ∷ fs) ≡ Some x.1) same (ap (λ r. cond (is_eq r) (Some f.1) (finite.find by_bytes f.0 fs)) (tied_itself nat_list_cmp_total f.0))
+      | true ↦ λ i. let same : f ≡ e = cc in subst (λ x. finite.find by_bytes x.0 (f ∷ fs) ≡ Some x.1) same
+          (ap (λ r. cond (is_eq r) (Some f.1) (finite.find by_bytes f.0 fs)) (tied_itself nat_list_cmp_total f.0))
       | false ↦ λ i.
           let rest = found_there p fs e (second _ _ h) i in
           elim (is_eq (by_bytes e.0 f.0)) as (λ b. is_eq (by_bytes e.0 f.0) ≡ b → cond b (Some f.1) (finite.find by_bytes e.0 fs) ≡ Some e.1) [
@@ -203,20 +213,23 @@ found_there p (f ∷ fs) e h is =
     ] is
 
 -- an entry that is met is within the limits
-pub met_secret : (m : Store) (p : List ℕ → Bool) (r : Option (Bor (Vec ℕ) × Bor Object)) → IsWithinLimits m → option_map {U = List ℕ × Object} (λ entry. (entry.0.now.items, entry.1.now)) r ≡ find (λ e. p e.0) (finite.entries m) → IfSome r (λ entry. length entry.1.now.secret ≤ 128)
+pub met_secret : (m : Store) (p : List ℕ → Bool) (r : Option (Bor (Vec ℕ) × Bor Object)) → IsWithinLimits m →
+    option_map {U = List ℕ × Object} (λ entry. (entry.0.now.items, entry.1.now)) r ≡ find (λ e. p e.0) (finite.entries m) → IfSome r (λ entry. length entry.1.now.secret ≤ 128)
 met_secret m p None limits is = tt
 met_secret m p (Some entry) limits is =
     let e : List ℕ × Object = (entry.0.now.items, entry.1.now) in
     limits.secrets e.0 e.1 (finite.get-entries m e.0 ∙ found_there p (finite.entries m) e (finite.entries_sorted m) (sym is))
 
-pub met_content : (m : Store) (p : List ℕ → Bool) (r : Option (Bor (Vec ℕ) × Bor Object)) → IsWithinLimits m → option_map {U = List ℕ × Object} (λ entry. (entry.0.now.items, entry.1.now)) r ≡ find (λ e. p e.0) (finite.entries m) → IfSome r (λ entry. length entry.1.now.content ≤ 260096)
+pub met_content : (m : Store) (p : List ℕ → Bool) (r : Option (Bor (Vec ℕ) × Bor Object)) → IsWithinLimits m →
+    option_map {U = List ℕ × Object} (λ entry. (entry.0.now.items, entry.1.now)) r ≡ find (λ e. p e.0) (finite.entries m) → IfSome r (λ entry. length entry.1.now.content ≤ 260096)
 met_content m p None limits is = tt
 met_content m p (Some entry) limits is =
     let e : List ℕ × Object = (entry.0.now.items, entry.1.now) in
     let most : blocks e.1 ≤ cost m = blocks_at_most m e.0 e.1 (finite.get-entries m e.0 ∙ found_there p (finite.entries m) e (finite.entries_sorted m) (sym is)) in
     omega (arith, most, limits.paid)
 
-pub met_identifier : (m : Store) (p : List ℕ → Bool) (r : Option (Bor (Vec ℕ) × Bor Object)) → IsWithinLimits m → option_map {U = List ℕ × Object} (λ entry. (entry.0.now.items, entry.1.now)) r ≡ find (λ e. p e.0) (finite.entries m) → IfSome r (λ entry. IsIdentifier entry.0.now.items)
+pub met_identifier : (m : Store) (p : List ℕ → Bool) (r : Option (Bor (Vec ℕ) × Bor Object)) → IsWithinLimits m →
+    option_map {U = List ℕ × Object} (λ entry. (entry.0.now.items, entry.1.now)) r ≡ find (λ e. p e.0) (finite.entries m) → IfSome r (λ entry. IsIdentifier entry.0.now.items)
 met_identifier m p None limits is = tt
 met_identifier m p (Some entry) limits is =
     let e : List ℕ × Object = (entry.0.now.items, entry.1.now) in

@@ -1,6 +1,6 @@
 -- The limits of identifiers, secrets, reads and changes.
 use Rattle.std.specs.Prelude.{ℕ, ◌≡◌, ◌+◌, ◌≤◌, List, Some, length}
-use Rattle.tee_base.specs.declared.limits.TheConstants.{ASK_BYTES, IDENTIFIER_BYTES, POSITION, SECRET_BYTES}
+use Rattle.tee_base.specs.declared.limits.TheConstants.{MAX_ASK_BYTES, MAX_IDENTIFIER_BYTES, MAX_POSITION, MAX_SECRET_BYTES}
 use Rattle.store_api.specs.declared.object.Object.{Object}
 use Rattle.store_api.specs.declared.object.Facts.{Facts}
 use Rattle.store_api.specs.declared.object.Listed.{Listed}
@@ -10,15 +10,15 @@ use Rattle.store_api.specs.Stores.{Store, object_at, cost, quota}
 
 -- bytes that may name an object
 abbrev pub IsIdentifier : List ℕ → Type 0
-IsIdentifier id = length id ≤ IDENTIFIER_BYTES
+IsIdentifier id = length id ≤ MAX_IDENTIFIER_BYTES
 
 -- bytes that may be an object's secret
 abbrev pub IsSecret : List ℕ → Type 0
-IsSecret secret = length secret ≤ SECRET_BYTES
+IsSecret secret = length secret ≤ MAX_SECRET_BYTES
 
 -- facts that may be told of an object
 abbrev pub AreFacts : Facts → Type 0
-AreFacts facts = facts.secret ≤ SECRET_BYTES
+AreFacts facts = facts.secret ≤ MAX_SECRET_BYTES
 
 -- bytes that a read of so many may give
 abbrev pub IsPart : ℕ → List ℕ → Type 0
@@ -36,8 +36,8 @@ pub record IsWithinLimits (store : Store) : Type 0 where
 
 -- what a caller has to see to before a change
 abbrev pub IsChange : Change → Type 0
-IsChange (Put id kind usage secret content overwrite) = IsIdentifier id × IsSecret secret × (length content ≤ ASK_BYTES)
+IsChange (Put id kind usage secret content overwrite) = IsIdentifier id × IsSecret secret × (length content ≤ MAX_ASK_BYTES)
 IsChange (Delete id) = IsIdentifier id
 IsChange (Rename id to) = IsIdentifier id × IsIdentifier to
-IsChange (Write id at bytes) = IsIdentifier id × (length bytes ≤ ASK_BYTES) × (at + length bytes ≤ POSITION)
+IsChange (Write id at bytes) = IsIdentifier id × (length bytes ≤ MAX_ASK_BYTES) × (at + length bytes ≤ MAX_POSITION)
 IsChange (Truncate id n) = IsIdentifier id

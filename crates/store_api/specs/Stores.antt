@@ -1,5 +1,6 @@
 -- Objects, stores and changes of stores (TEE Internal Core API 1.3, chapter 5).
-use Rattle.std.specs.Prelude.{ℕ, ◌+◌, ◌-◌, ◌/◌, ◌==◌, nat_le, Bool, true, not, ◌&&◌, List, ◌++◌, Option, None, Some, is_some, Result, Ok, Err, if◌then◌else◌, find, sum_by, refl, length, take, drop, replicate}
+use Rattle.std.specs.Prelude.{ℕ, ◌+◌, ◌-◌, ◌/◌, ◌==◌, nat_le, Bool, true, not, ◌&&◌, List, ◌++◌, Option, None, Some, is_some}
+use Rattle.std.specs.Prelude.{Result, Ok, Err, if◌then◌else◌, find, sum_by, refl, length, take, drop, replicate}
 use Rattle.std.specs.Ordering.{nat_cmp, is_lt}
 use Rattle.std.specs.Cmp.Lexicographic.{slice_cmp}
 use Rattle.std.specs.Coded.{Coded, code_by, coded×, coded_ℕ, coded_list}

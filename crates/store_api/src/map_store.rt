@@ -8,7 +8,7 @@ ghost use Rattle.store_api.specs.MapStores.{map_keeper, plan_after, FailsAsPlann
 ghost use Rattle.store_api.specs.Moments.{since_earlier};
 ghost use Rattle.store_api.specs.declared.answer.StoreAnswer.TheVariants.{Failed};
 ghost use Rattle.tee_base.specs.Faults.{Rose};
-ghost use Rattle.tee_base.specs.declared.limits.TheConstants.{ASK_BYTES};
+ghost use Rattle.tee_base.specs.declared.limits.TheConstants.{MAX_ASK_BYTES};
 
 use crate::answer::StoreAnswer;
 use crate::change::Change;
@@ -240,7 +240,7 @@ impl AppStore for MapStore {
 
     fn read(&mut self, id: &[u8], from: u32, count: u32) -> Result<Bytes, StoreAnswer>
         requires id { IsIdentifier id.now }
-        requires count { count ≤ ASK_BYTES }
+        requires count { count ≤ MAX_ASK_BYTES }
         ensures reads { Reads map_keeper (λ store. read_at store id.now from count) (IsPart count)
             result self.old self.new }
         ensures plan { self.new.plan ≡ plan_after result self.old.plan }

@@ -4,7 +4,7 @@ ghost use Rattle.std.specs.Prelude.{◌≡◌, ◌≤◌, ℕ, length, option_co
 ghost use Rattle.store_api.specs.Keeping.{Keeper, Remains, Reads, Applies};
 ghost use Rattle.store_api.specs.Limits.{IsIdentifier, IsChange, AreFacts, IsSecret, IsPart, IsListed};
 ghost use Rattle.store_api.specs.Stores.{found, secret_at, read_at, next_after};
-ghost use Rattle.tee_base.specs.declared.limits.TheConstants.{ASK_BYTES};
+ghost use Rattle.tee_base.specs.declared.limits.TheConstants.{MAX_ASK_BYTES};
 
 use crate::answer::StoreAnswer;
 use crate::change::Change;
@@ -31,7 +31,7 @@ pub trait AppStore {
     /// At most `count` bytes of an object's content, from a place on. `NotFound` exactly where there is no such object.
     fn read(&mut self, id: &[u8], from: u32, count: u32) -> Result<Bytes, StoreAnswer>
         requires id { IsIdentifier id.now }
-        requires count { count ≤ ASK_BYTES }
+        requires count { count ≤ MAX_ASK_BYTES }
         ensures { Reads keeper (λ store. read_at store id.now from count) (IsPart count) result
             self.old self.new };
 

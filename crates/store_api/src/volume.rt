@@ -2,7 +2,7 @@
 
 ghost use Rattle.std.specs.Prelude.{◌≡◌, ◌≤◌, ◌<◌, ℕ, Option, None, IsTrue, false};
 ghost use Rattle.store_api.specs.Volumes.{VolumeKeeper, Held, ReadsLeaf, CommitsLeaves, RestsAt};
-ghost use Rattle.tee_base.specs.declared.limits.TheConstants.{HOSTS};
+ghost use Rattle.tee_base.specs.declared.limits.TheConstants.{MAX_HOSTS, LEAVES};
 
 use crate::leaves::{LeafAnswer, Leaves};
 use tee_base::limits::BLOCK_BYTES;
@@ -24,7 +24,7 @@ pub trait Volume {
         leaf: u8,
         into: &mut [u8; BLOCK_BYTES],
     ) -> Result<(), LeafAnswer>
-        requires { region < HOSTS }
+        requires { region < MAX_HOSTS }
         ensures { ReadsLeaf keeper region leaf into.new result self.old self.new };
 
     /// Replaces these leaves of a region, all or none, and answers the new sequence.
@@ -34,7 +34,7 @@ pub trait Volume {
     /// `Mismatch` with the damage of a leaf of the region. `Failed` only where what it stands on failed in this call; the
     /// volume is lost then, and whether the leaves are replaced is open. `NoMemory` before anything is written.
     fn commit(&mut self, region: u8, leaves: &Leaves) -> Result<u64, LeafAnswer>
-        requires { region < HOSTS }
+        requires { region < MAX_HOSTS }
         ensures { CommitsLeaves keeper region leaves.now result self.old self.new };
 
     /// How often what it stands on failed, as far as its type goes.
@@ -54,7 +54,7 @@ pub trait Volume {
 
     /// No leaf of an honest volume that isn't lost is damaged.
     ghost sound: { (v : Self) → keeper.honest v → (keeper.condition v).lost ≡ false
-        → (region leaf : ℕ) → region < HOSTS → leaf < 256 → keeper.damage v region leaf ≡ None };
+        → (region leaf : ℕ) → region < MAX_HOSTS → leaf < LEAVES → keeper.damage v region leaf ≡ None };
 
     /// What reads of an honest volume give is known.
     ghost honest_tells: { (v : Self) → keeper.honest v → IsTrue keeper.tells_reads };

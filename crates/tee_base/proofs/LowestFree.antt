@@ -85,7 +85,8 @@ lowest_free-untaken xs =
     (λ (taken : list_any (nat_eq (first_free (length xs) 1 xs)) xs ≡ true).
     let all : (m : ℕ) → 1 ≤ m → m < 1 + suc (length xs) → list_any (nat_eq m) xs ≡ true = λ m low high. ⊎_elim
     (λ (lt : m < first_free (length xs) 1 xs). first_free-least (length xs) 1 m xs low lt)
-    (λ (ge : first_free (length xs) 1 xs ≤ m). let same : first_free (length xs) 1 xs ≡ m = omega (arith, first_free-le (length xs) 1 xs) in subst (λ (x : ℕ). list_any (nat_eq x) xs ≡ true) same taken)
+    (λ (ge : first_free (length xs) 1 xs ≤ m). let same : first_free (length xs) 1 xs ≡ m = omega (arith, first_free-le (length xs) 1 xs) in
+    subst (λ (x : ℕ). list_any (nat_eq x) xs ≡ true) same taken)
     (cases_lt m (first_free (length xs) 1 xs)) in
     absurd (omega (arith, row_fits (suc (length xs)) 1 xs all)))
     (λ (free : list_any (nat_eq (first_free (length xs) 1 xs)) xs ≡ false). free)

@@ -1,39 +1,39 @@
 //! The limits that the runtime keeps. Each stands here once; definitions and code cite it.
 
 /// Bytes of a script.
-pub const SCRIPT_BYTES: u32 = 1_048_576;
+pub const MAX_SCRIPT_BYTES: u32 = 1_048_576;
 /// Hosts of one runtime.
-pub const HOSTS: usize = 16;
+pub const MAX_HOSTS: usize = 16;
 /// Characters of a host's name.
-pub const NAME_BYTES: usize = 16;
+pub const MAX_NAME_BYTES: usize = 16;
 /// Clients of a script, numbered from 0.
-pub const CLIENTS: u8 = 8;
+pub const MAX_CLIENTS: u8 = 8;
 /// Instances of one application, numbered from 1.
-pub const INSTANCES: usize = 4;
+pub const MAX_INSTANCES: usize = 4;
 /// Sessions of one application, numbered from 1.
-pub const SESSIONS: usize = 8;
+pub const MAX_SESSIONS: usize = 8;
 /// Unanswered operations of one application other than closes.
-pub const OPERATIONS: usize = 16;
+pub const MAX_OPERATIONS: usize = 16;
 /// Parameters of a call.
 pub const PARAMETERS: usize = 4;
 /// Object handles of one instance.
-pub const HANDLES: usize = 16;
+pub const MAX_HANDLES: usize = 16;
 /// Crypto operations of one instance.
-pub const CRYPTO_OPERATIONS: usize = 8;
+pub const MAX_CRYPTO_OPERATIONS: usize = 8;
 /// Enumerators of one instance.
-pub const ENUMERATORS: usize = 4;
+pub const MAX_ENUMERATORS: usize = 4;
 /// Asks that one entry may make.
-pub const ASKS: u32 = 65_536;
+pub const MAX_ASKS: u32 = 65_536;
 /// Bytes of one memory reference, of one ask, and the room of an ask.
-pub const ASK_BYTES: u32 = 524_288;
+pub const MAX_ASK_BYTES: u32 = 524_288;
 /// Bytes of an object's identifier.
-pub const IDENTIFIER_BYTES: usize = 64;
+pub const MAX_IDENTIFIER_BYTES: usize = 64;
 /// Bytes of an object's secret.
-pub const SECRET_BYTES: usize = 128;
+pub const MAX_SECRET_BYTES: usize = 128;
 /// Bytes of one object's content, by the quota: the first block of an object holds none of them.
-pub const CONTENT_BYTES: u32 = 260_096;
+pub const MAX_CONTENT_BYTES: u32 = 260_096;
 /// The greatest data position of an object's handle.
-pub const POSITION: u32 = 0xFFFF_FFFF;
+pub const MAX_POSITION: u32 = 0xFFFF_FFFF;
 /// The cost that the objects of one application may reach, in blocks.
 pub const QUOTA: u32 = 255;
 /// Leaves of one application's region, each a block.
@@ -43,19 +43,19 @@ pub const BLOCK_BYTES: usize = 1024;
 /// Blocks of a new board.
 pub const BOARD_BLOCKS: u64 = 8_742;
 /// The greatest number that a script's fuse line may have.
-pub const FUSE_CALLS: u32 = 1_000_000;
+pub const MAX_FUSE_CALLS: u32 = 1_000_000;
 /// The sizes of all filled parameters of a script, added up.
-pub const FILL_BYTES: u32 = 268_435_456;
+pub const MAX_FILL_BYTES: u32 = 268_435_456;
 /// Turns within which a call line is answered.
-pub const CALL_TURNS: u32 = 10_000_000;
+pub const MAX_CALL_TURNS: u32 = 10_000_000;
 /// Turns of one turn line.
-pub const LINE_TURNS: u32 = 1_000_000;
+pub const MAX_LINE_TURNS: u32 = 1_000_000;
 /// Entries of one application's log.
-pub const LOG_ENTRIES: usize = 262_144;
+pub const MAX_LOG_ENTRIES: usize = 262_144;
 /// Parameter bytes of one application's log.
-pub const LOG_BYTES: u32 = 67_108_864;
+pub const MAX_LOG_BYTES: u32 = 67_108_864;
 /// Calls that one pass may make.
-pub const PASS_CALLS: u64 = 1 << 60;
+pub const MAX_PASS_CALLS: u64 = 1 << 60;
 /// Seats of a storage cell.
 pub const STORE_SEATS: usize = 16;
 /// Seats of an application's cell.

@@ -6,7 +6,7 @@ use Rattle.alone.specs.declared.reply.Reply.{Reply}
 use Rattle.alone.specs.declared.turn.TurnKind.{TurnKind}
 use Rattle.alone.specs.declared.turn.TurnKind.TheVariants as kinds
 use Rattle.alone.specs.Machine.{Machine}
-use Rattle.alone.specs.Step.{is_changing, may_stand, step}
+use Rattle.alone.specs.Step.{is_changing, is_enabled, step}
 use Rattle.app_side.specs.Represents.{Represents as Runs_as, event_of as turn_of, store_kind}
 use Rattle.app_side.specs.declared.side.AppSide.{AppSide}
 use Rattle.object_asks.specs.Serving.{IsKind, SaysChange}
@@ -46,7 +46,8 @@ module _ {V A : Type 0} (K : VolumeKeeper V)
   here_is : (world : World A) (m : Machine A) → StandFor K sides old world → slice_get world app ≡ Some m → Runs_as before m
   here_is world m whole here = side_here sides world app before d m whole.sides_are lt value here
 
-  pub moved_plain : ((changes : Bool) → kind ≢ kinds.Lost changes) → (world : World A) → StandFor K sides old world → StandFor K (set sides app after) new (world_step behaviour world (record { app = app; event = turn_of kind i }))
+  pub moved_plain : ((changes : Bool) → kind ≢ kinds.Lost changes) → (world : World A) → StandFor K sides old world →
+      StandFor K (set sides app after) new (world_step behaviour world (record { app = app; event = turn_of kind i }))
   moved_plain served world whole =
       let p = side_at sides world app whole.sides_are lt in
       stand_plain K rests since behaviour sides world app i kind replies before after old new p.0 p.1 (here_is world p.0 whole p.1) whole t served
@@ -66,7 +67,7 @@ module _ {V A : Type 0} (K : VolumeKeeper V)
       let p = side_at sides world app whole.sides_are lt in
       within_turn K rests since behaviour sides world app i kind replies before after old new p.0 p.1 (here_is world p.0 whole p.1) whole t
 
-  pub may_all : (world : World A) (m : Machine A) → StandFor K sides old world → slice_get world app ≡ Some m → may_stand m (turn_of kind i) ≡ true
+  pub may_all : (world : World A) (m : Machine A) → StandFor K sides old world → slice_get world app ≡ Some m → is_enabled m (turn_of kind i) ≡ true
   may_all world m whole here = may K rests since behaviour sides world app i kind replies before after old new m here (here_is world m whole here) whole t
 
   pub replies_all : (world : World A) (m : Machine A) → StandFor K sides old world → slice_get world app ≡ Some m → replies ≡ (step behaviour m (turn_of kind i)).replies

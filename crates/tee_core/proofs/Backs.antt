@@ -40,7 +40,8 @@ module _ {V A : Type 0} (K : VolumeKeeper V)
   tells_so = tells ∙ ap (λ b. told_of owner b) same
 
   -- the applications stand for the world after the power came back
-  pub power_stands : (taken : Option ℕ) (left : List (AppSide A)) → kept_one taken ≡ kept_by (told_of owner (nat_lt acknowledged opened)) → AreSides left (restarts_from behaviour (kept_one taken) 0 world)
+  pub power_stands : (taken : Option ℕ) (left : List (AppSide A)) → kept_one taken ≡ kept_by (told_of owner (nat_lt acknowledged opened)) →
+      AreSides left (restarts_from behaviour (kept_one taken) 0 world)
       → (K.condition new).lost ≡ false → StandFor K left new (after_power behaviour world told)
   power_stands taken left takes are works =
       subst (λ (x : Power). StandFor K left new (after_power behaviour world x)) (sym tells_so)

@@ -3,8 +3,8 @@ use Rattle.std.proofs.Common.{◌≡◌, ◌≢◌, ◌<◌, ◌+◌, ◌==◌, 
 use Rattle.std.specs.Prelude.{slice_get}
 use Rattle.std.proofs.lemmas.Bool.{eqb-true, eqb-false}
 use Rattle.app_api.specs.declared.call.Call.{Call}
-use Rattle.object_asks.specs.Asks.{object_course}
-use Rattle.object_asks.specs.Keys.{generate_course}
+use Rattle.object_asks.specs.Asks.{object_resolution}
+use Rattle.object_asks.specs.Keys.{generate_resolution}
 use Rattle.alone.specs.Asks.{objects_of}
 use Rattle.alone.specs.Machine.{Machine}
 use Rattle.alone.specs.Step.{called, cancelled}
@@ -34,9 +34,9 @@ module _ {A : Type 0} where
     removed = λ m session same. same;
     ending = λ m i same. same;
     gone = λ m i same. same;
-    objects = λ m i ask same. goes_all (λ _. m.turns ≡ turns) (object_course (objects_of m) i ask) (λ _. same);
+    objects = λ m i ask same. goes_all (λ _. m.turns ≡ turns) (object_resolution (objects_of m) i ask) (λ _. same);
     crypto = λ m s stream same. same;
-    made = λ m i object bits random same. goes_all (λ _. m.turns ≡ turns) (generate_course (objects_of m) i object bits random) (λ _. same);
+    made = λ m i object bits random same. goes_all (λ _. m.turns ≡ turns) (generate_resolution (objects_of m) i object bits random) (λ _. same);
   }
 
   pub cancellation_counts_none : (m : Machine A) (op : ℕ) → (cancelled m op).machine.turns ≡ m.turns
@@ -65,15 +65,18 @@ module _ {A : Type 0} where
 
   -- ---- of all of them, where one at a place is replaced
 
-  pub lost_kept : (lost : Bool) (ss : List (AppSide A)) (i : ℕ) (old d new : AppSide A) → AreLost lost ss → i < length ss → old ≡ get_or ss i d → is_lost new ≡ is_lost old → AreLost lost (set ss i new)
+  pub lost_kept : (lost : Bool) (ss : List (AppSide A)) (i : ℕ) (old d new : AppSide A) → AreLost lost ss → i < length ss → old ≡ get_or ss i d → is_lost new ≡ is_lost old →
+      AreLost lost (set ss i new)
   lost_kept lost ss i old d new are lt value same =
       lost_set lost ss i new are (same ∙ ap (λ (s : AppSide A). is_lost s) value ∙ lost_at lost ss i d are lt)
 
-  pub booted_kept : (boots : ℕ) (ss : List (AppSide A)) (i : ℕ) (old d new : AppSide A) → AreBooted boots ss → i < length ss → old ≡ get_or ss i d → boot_of new ≡ boot_of old → AreBooted boots (set ss i new)
+  pub booted_kept : (boots : ℕ) (ss : List (AppSide A)) (i : ℕ) (old d new : AppSide A) → AreBooted boots ss → i < length ss → old ≡ get_or ss i d → boot_of new ≡ boot_of old →
+      AreBooted boots (set ss i new)
   booted_kept boots ss i old d new are lt value same =
       booted_set boots ss i new are (same ∙ ap (λ (s : AppSide A). boot_of s) value ∙ booted_at boots ss i d are lt)
 
-  pub turns_kept : (ss : List (AppSide A)) (i : ℕ) (old d new : AppSide A) → i < length ss → old ≡ get_or ss i d → turns_of new ≡ turns_of old → (j : ℕ) → turns_in (slice_get (set ss i new) j) ≡ turns_in (slice_get ss j)
+  pub turns_kept : (ss : List (AppSide A)) (i : ℕ) (old d new : AppSide A) → i < length ss → old ≡ get_or ss i d → turns_of new ≡ turns_of old → (j : ℕ) →
+      turns_in (slice_get (set ss i new) j) ≡ turns_in (slice_get ss j)
   turns_kept ss i old d new lt value same j =
       elim (j == i) as (λ b. (j == i) ≡ b → turns_in (slice_get (set ss i new) j) ≡ turns_in (slice_get ss j)) [
         | true ↦ λ e. subst (λ k. turns_in (slice_get (set ss i new) k) ≡ turns_in (slice_get ss k)) (sym (eqb-true j i e)) (turns_then ss i new lt ∙ same ∙ sym (turns_here ss i old d lt value))
@@ -81,12 +84,14 @@ module _ {A : Type 0} where
       ] refl
 
   -- one more turn of the one at the place, and then a loss of all
-  pub turns_one : (ss ts : List (AppSide A)) (i : ℕ) (old d new : AppSide A) → i < length ss → old ≡ get_or ss i d → turns_of new ≡ turns_of old + 1 → map (λ s. turns_of s) ts ≡ map (λ s. turns_of s) (set ss i new)
+  pub turns_one : (ss ts : List (AppSide A)) (i : ℕ) (old d new : AppSide A) → i < length ss → old ≡ get_or ss i d → turns_of new ≡ turns_of old + 1 →
+      map (λ s. turns_of s) ts ≡ map (λ s. turns_of s) (set ss i new)
       → turns_in (slice_get ts i) ≡ turns_in (slice_get ss i) + 1
   turns_one ss ts i old d new lt value more same =
       turns_mapped ts (set ss i new) same i ∙ turns_then ss i new lt ∙ more ∙ ap (λ n. n + 1) (sym (turns_here ss i old d lt value))
 
-  pub turns_apart : (ss ts : List (AppSide A)) (i j : ℕ) (new : AppSide A) → j ≢ i → map (λ s. turns_of s) ts ≡ map (λ s. turns_of s) (set ss i new) → turns_in (slice_get ts j) ≡ turns_in (slice_get ss j)
+  pub turns_apart : (ss ts : List (AppSide A)) (i j : ℕ) (new : AppSide A) → j ≢ i → map (λ s. turns_of s) ts ≡ map (λ s. turns_of s) (set ss i new) →
+      turns_in (slice_get ts j) ≡ turns_in (slice_get ss j)
   turns_apart ss ts i j new other same = turns_mapped ts (set ss i new) same j ∙ turns_others ss i j new other
 
   pub mapped_length : (ss ts : List (AppSide A)) → map (λ s. turns_of s) ss ≡ map (λ s. turns_of s) ts → length ss ≡ length ts

@@ -30,7 +30,8 @@ none_by (s ∷ ss) fail = (fail zero s (omega arith), none_by ss (λ k d lt. fai
 pub doubts_none : {A : Type 0} (ss : List (AppSide A)) → None ≡ position (λ (s : AppSide A). has_doubt s) ss → IsNoneInDoubt ss
 doubts_none {A} ss is = none_by ss (all_fail (λ (s : AppSide A). has_doubt s) ss (sym is))
 
-first_there : {A : Type 0} (ss : List (AppSide A)) (i : ℕ) (s : AppSide A) → Some i ≡ position (λ (x : AppSide A). has_doubt x) ss → (side : AppSide A) × (slice_get ss i ≡ Some side) × (has_doubt side ≡ true)
+first_there : {A : Type 0} (ss : List (AppSide A)) (i : ℕ) (s : AppSide A) → Some i ≡ position (λ (x : AppSide A). has_doubt x) ss →
+    (side : AppSide A) × (slice_get ss i ≡ Some side) × (has_doubt side ≡ true)
 first_there {A} ss i s is =
     let found = position-Some (λ (x : AppSide A). has_doubt x) ss i s (sym is) in
     (get_or ss i s, get_there ss i s found.0, found.1)

@@ -19,13 +19,13 @@ use Rattle.tee_core.proofs.Turning.{doubt_back, left_stays, stores_stay}
 
 module _ {V A : Type 0} (K : VolumeKeeper V) (behaviour : Behaviour A) where
   -- one application at a place takes an event that leaves the storage
-  pub stand_moved : (sides : List (AppSide A)) (volume : V) (world : World A) (app : ℕ) (m then : Machine A) (after : AppSide A) → slice_get world app ≡ Some m → Runs_as after then → StorageStays m then
+  pub stand_moved : (sides : List (AppSide A)) (volume : V) (world : World A) (app : ℕ) (m then : Machine A) (after : AppSide A) → slice_get world app ≡ Some m →
+      Runs_as after then → StorageStays m then
       → StandFor K sides volume world → StandFor K (set sides app after) volume (set world app then)
   stand_moved sides volume world app m then after here stands stays whole = record {
     honest = whole.honest;
     sides_are = sides_set sides world app after then whole.sides_are stands;
     stores = stores_stay none_kept 0 app world (K.held volume) m then here stays.store stays.in_doubt whole.stores;
-    formatted = whole.formatted;
     left = λ o left. left_stays world (K.held volume).sequence app m then o here stays.store stays.in_doubt (whole.left o left);
     calm = λ works owner has. whole.calm works owner (doubt_back world app owner m then here stays.in_doubt has);
     single = λ one other first second. whole.single one other (doubt_back world app one m then here stays.in_doubt first) (doubt_back world app other m then here stays.in_doubt second);
@@ -58,7 +58,6 @@ module _ {V A : Type 0} (K : VolumeKeeper V) (behaviour : Behaviour A) where
     honest = whole.honest;
     sides_are = sides_kept sides world app old after d whole.sides_are lt value keeps;
     stores = whole.stores;
-    formatted = whole.formatted;
     left = whole.left;
     calm = whole.calm;
     single = whole.single;

@@ -1,5 +1,6 @@
 -- The world over a board that was opened.
-use Rattle.std.proofs.Common.{◌≡◌, ◌<◌, ◌≤◌, ◌+◌, ℕ, zero, suc, true, false, List, [], ◌∷◌, Option, None, Some, Result, Ok, Err, IfOk, drop, is_some, length, refl, sym, subst, ◌∙◌, ap, inl, inr, ⊎_elim, arith}
+use Rattle.std.proofs.Common.{◌≡◌, ◌<◌, ◌≤◌, ◌+◌, ℕ, zero, suc, true, false, List, [], ◌∷◌, Option, None, Some, Result, Ok, Err}
+use Rattle.std.proofs.Common.{IfOk, drop, is_some, length, refl, sym, subst, ◌∙◌, ap, inl, ⊎_elim, arith}
 use Rattle.std.specs.Prelude.{◌⊎◌, slice_get}
 use Rattle.app_api.specs.declared.host.Host.{Host}
 use Rattle.alone.specs.Machine.{Machine, start}
@@ -26,7 +27,8 @@ use Rattle.tee_core.specs.World.{starts_from, world_of}
 -- ---- machines at their start
 
 -- the regions stand for the stores over which they begin
-pub stores_started : {A : Type 0} (r : ℕ) (hosts : List (Host A)) (seed : List ℕ) (stores : ℕ → Store) (held : Held) → ((app : ℕ) → app < r + length hosts → region_in app held ≡ Ok (stores app)) → StoresFrom none_kept r (starts_from r hosts seed stores) held
+pub stores_started : {A : Type 0} (r : ℕ) (hosts : List (Host A)) (seed : List ℕ) (stores : ℕ → Store) (held : Held) →
+    ((app : ℕ) → app < r + length hosts → region_in app held ≡ Ok (stores app)) → StoresFrom none_kept r (starts_from r hosts seed stores) held
 stores_started r [] seed stores held stand = tt
 stores_started r (host ∷ hosts) seed stores held stand = (stand r (omega arith), stores_started (r + 1) hosts seed stores held (λ app lt. stand app (omega (arith, lt))))
 
@@ -39,7 +41,8 @@ none_started {A} r zero (host ∷ hosts) seed stores has =
 none_started r (suc owner) (host ∷ hosts) seed stores has = none_started (r + 1) owner hosts seed stores (record { machine = has.machine; there = has.there; doubt = has.doubt })
 
 -- none has made a turn
-pub turns_started : {A : Type 0} (r : ℕ) (hosts : List (Host A)) (seed : List ℕ) (stores : ℕ → Store) (ss : List (AppSide A)) → AreSides ss (starts_from r hosts seed stores) → (app : ℕ) → turns_in (slice_get ss app) ≡ 0
+pub turns_started : {A : Type 0} (r : ℕ) (hosts : List (Host A)) (seed : List ℕ) (stores : ℕ → Store) (ss : List (AppSide A)) → AreSides ss (starts_from r hosts seed stores) →
+    (app : ℕ) → turns_in (slice_get ss app) ≡ 0
 turns_started r [] seed stores [] are app = refl
 turns_started r [] seed stores (s ∷ ss) are app = absurd are
 turns_started r (host ∷ hosts) seed stores [] are app = absurd are
@@ -53,28 +56,18 @@ leaves_opened (Ok None) h = refl
 leaves_opened (Ok (Some found)) h = refl
 leaves_opened (Err answer) h = refl
 
-formatted_opened : (r : Result (Option Found) OpenAnswer) (h : Held) → (r ≡ Ok None) ⊎ (0 < h.sequence) → 0 < (opened_by r h).sequence
-formatted_opened (Ok None) h is = omega arith
-formatted_opened (Ok (Some found)) h (inl e) = absurd (let f : Ok (Some found) ≡ Ok None = e in cc)
-formatted_opened (Ok (Some found)) h (inr lt) = lt
-formatted_opened (Err answer) h (inl e) = absurd (let f : Err answer ≡ Ok None = e in cc)
-formatted_opened (Err answer) h (inr lt) = lt
-
 module _ {V A : Type 0} (K : VolumeKeeper V) (rests : (v : V) → K.honest v → (K.condition v).lost ≡ false → RestsAt K v (K.held v))
     (f : Form) (view : View) (n : ℕ) (h : Held) (hosts : List (Host A)) (seed : List ℕ) (stores : ℕ → Store)
-    (counter : view.state.counter ≡ n) (sound : IsSoundFor f view n h (length hosts) stores) where
+    (sound : IsSoundFor f view n h (length hosts) stores) where
   same_region : (app : ℕ) → region_in app (after_opening f view h) ≡ region_in app h
   same_region app = ap (λ (leaves : ℕ → ℕ → List ℕ). region_of version_one (leaves app)) (leaves_opened (opening_of f.version view.key view.state.reads view.state.counter) h)
-
-  formatted : 0 < (after_opening f view h).sequence
-  formatted = formatted_opened (opening_of f.version view.key view.state.reads view.state.counter) h
-      (subst (λ k. (opening_of f.version view.key view.state.reads k ≡ Ok None) ⊎ (0 < h.sequence)) (sym counter) sound.formatted)
 
   stores_after : HoldsStores none_kept (world_of hosts seed stores) (after_opening f view h)
   stores_after = stores_started 0 hosts seed stores (after_opening f view h) (λ app lt. same_region app ∙ sound.stand app (omega (arith, lt)))
 
   -- the world begins over what was opened
-  pub stand_opened : (sides : List (AppSide A)) (volume : V) → AreSides sides (world_of hosts seed stores) → K.honest volume → K.held volume ≡ after_opening f view h → (K.condition volume).lost ≡ false
+  pub stand_opened : (sides : List (AppSide A)) (volume : V) → AreSides sides (world_of hosts seed stores) → K.honest volume → K.held volume ≡ after_opening f view h →
+      (K.condition volume).lost ≡ false
       → StandFor K sides volume (world_of hosts seed stores)
   stand_opened sides volume are honest held works =
       let whole = subst (λ (x : Held). HoldsStores none_kept (world_of hosts seed stores) x) (sym held) stores_after in
@@ -82,7 +75,6 @@ module _ {V A : Type 0} (K : VolumeKeeper V) (rests : (v : V) → K.honest v →
         honest = honest;
         sides_are = are;
         stores = whole;
-        formatted = subst (λ (x : Held). 0 < x.sequence) (sym held) formatted;
         left = λ o was. subst (λ (x : Option Held). IsLeftOf (world_of hosts seed stores) (K.held volume).sequence x) (sym ((rests volume honest works).only o was)) (inl (refl, whole));
         calm = λ _ one has. none_started 0 one hosts seed stores has;
         single = λ one other first second. absurd (none_started 0 one hosts seed stores first);

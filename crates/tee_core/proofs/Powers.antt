@@ -8,7 +8,7 @@ use Rattle.alone.specs.Step.{restarted}
 use Rattle.app_side.proofs.Numbered.{doubt_told}
 use Rattle.app_side.specs.Represents.{has_doubt}
 use Rattle.app_side.specs.declared.side.AppSide.{AppSide}
-use Rattle.epoch.specs.Mounts.{IsAlwaysInUse, IsInUse, LeavesAsBefore}
+use Rattle.epoch.specs.Mounts.{IsAlwaysSound, IsLeftSound, LeavesAsBefore}
 use Rattle.store_api.specs.Volumes.{Held, RestsAt, VolumeKeeper}
 use Rattle.tee_core.specs.Moments.{IsWithin}
 use Rattle.tee_core.specs.Powers.{IsTold, after_power, all_lost, kept_by, restarts_from, told_of}
@@ -62,15 +62,13 @@ module _ {V A : Type 0} (K : VolumeKeeper V)
     (rests : (v : V) → K.honest v → (K.condition v).lost ≡ false → RestsAt K v (K.held v))
     (since : (v : V) (t u : ℕ) (o : Option Held) → t ≤ u → K.left_since v u o → K.left_since v t o)
     (behaviour : Behaviour A) (sides : List (AppSide A)) (world : World A) (old new : V) (whole : StandFor K sides old world) where
-  in_use : (o : Option Held) → IsLeftOf world (K.held old).sequence o → IsInUse o
-  in_use None left = absurd left
-  in_use (Some held) left = ⊎_elim
-      (λ (now : (held.sequence ≡ (K.held old).sequence) × HoldsStores none_kept world held). let same = now.0 in omega (arith, same, whole.formatted))
-      (λ (has : (owner : ℕ) × HasDoubt owner world × ((K.held old).sequence < held.sequence) × HoldsStores (kept_of owner) world held). let lt = has.2 in omega (arith, lt, whole.formatted)) left
+  is_sound : (o : Option Held) → IsLeftOf world (K.held old).sequence o → IsLeftSound o
+  is_sound None left = absurd left
+  is_sound (Some held) left = tt
 
-  -- all that a crash may leave was formatted
-  pub always_in_use : IsAlwaysInUse K old
-  always_in_use o left = in_use o (whole.left o left)
+  -- all that a crash may leave is sound
+  pub always_sound : IsAlwaysSound K old
+  always_sound o left = is_sound o (whole.left o left)
 
   -- the call leaves nothing else
   module _ (as_before : LeavesAsBefore K old new) where
@@ -89,19 +87,18 @@ module _ {V A : Type 0} (K : VolumeKeeper V)
     honest = honest;
     sides_are = whole.sides_are;
     stores = subst (λ (h : Held). HoldsStores none_kept world h) (sym held) whole.stores;
-    formatted = subst (λ (h : Held). 0 < h.sequence) (sym held) whole.formatted;
     left = λ o left. subst (λ (h : Held). IsLeftOf world h.sequence o) (sym held) (left_before as_before o left);
     calm = λ works. whole.calm (sym lost ∙ works);
     single = whole.single;
   }
 
   -- a refused power loses all applications, and leaves them otherwise
-  pub stand_refused : (left : List (AppSide A)) → AreSides left (all_lost world) → K.honest new → K.held new ≡ K.held old → (K.condition new).lost ≡ true → LeavesAsBefore K old new → StandFor K left new (all_lost world)
+  pub stand_refused : (left : List (AppSide A)) → AreSides left (all_lost world) → K.honest new → K.held new ≡ K.held old → (K.condition new).lost ≡ true →
+      LeavesAsBefore K old new → StandFor K left new (all_lost world)
   stand_refused left are honest held lost as_before = record {
     honest = honest;
     sides_are = are;
     stores = stores_lost none_kept 0 world (K.held new) (subst (λ (h : Held). HoldsStores none_kept world h) (sym held) whole.stores);
-    formatted = subst (λ (h : Held). 0 < h.sequence) (sym held) whole.formatted;
     left = λ o was. left_lost world (K.held new).sequence o (subst (λ (h : Held). IsLeftOf world h.sequence o) (sym held) (left_before as_before o was));
     calm = λ works. absurd (let e : true ≡ false = sym lost ∙ works in cc);
     single = λ one other first second. whole.single one other (doubt_unlost one world first) (doubt_unlost other world second);
@@ -145,18 +142,16 @@ module _ {V A : Type 0} (K : VolumeKeeper V)
     pub told_is : IsTold (told_of owner kept) world (K.held old).sequence (K.held new).sequence
     told_is = told_by owner kept none some refl
 
-    later_sequence : 0 < (K.held new).sequence
-    later_sequence = in_use (Some (K.held new)) found
-
-    pub stand_back : (left : List (AppSide A)) → AreSides left (after_power behaviour world (told_of owner kept)) → K.honest new → (K.condition new).lost ≡ false → StandFor K left new (after_power behaviour world (told_of owner kept))
+    pub stand_back : (left : List (AppSide A)) → AreSides left (after_power behaviour world (told_of owner kept)) → K.honest new → (K.condition new).lost ≡ false →
+        StandFor K left new (after_power behaviour world (told_of owner kept))
     stand_back left are honest works =
         let stores = stores_restarted behaviour (kept_by (told_of owner kept)) 0 world (K.held new) found_stores in
         record {
           honest = honest;
           sides_are = are;
           stores = stores;
-          formatted = later_sequence;
-          left = λ o was. subst (λ (x : Option Held). IsLeftOf (after_power behaviour world (told_of owner kept)) (K.held new).sequence x) (sym ((rests new honest works).only o was)) (inl (refl, stores));
+          left = λ o was. subst (λ (x : Option Held). IsLeftOf (after_power behaviour world (told_of owner kept)) (K.held new).sequence x)
+              (sym ((rests new honest works).only o was)) (inl (refl, stores));
           calm = λ _ one has. none_in_doubt behaviour (kept_by (told_of owner kept)) 0 one world has;
           single = λ one other first second. absurd (none_in_doubt behaviour (kept_by (told_of owner kept)) 0 one world first);
         }

@@ -28,7 +28,8 @@ module _ {A : Type 0} (behaviour : Behaviour A) (kept : ℕ → Bool) where
   firsts_at r (suc n) (m ∷ world) = firsts_at (r + 1) n world
 
   -- one more
-  pub firsts_more : (r n : ℕ) (world : World A) (m : Machine A) → slice_get world n ≡ Some m → set (first_restarts r n world) n (step behaviour m (Restarted (kept (r + n)))).machine ≡ first_restarts r (suc n) world
+  pub firsts_more : (r n : ℕ) (world : World A) (m : Machine A) → slice_get world n ≡ Some m → set (first_restarts r n world) n
+      (step behaviour m (Restarted (kept (r + n)))).machine ≡ first_restarts r (suc n) world
   firsts_more r n [] m here = absurd (let e : None ≡ Some m = here in cc)
   firsts_more r zero (k ∷ world) m here =
       let same : k ≡ m = let e : Some k ≡ Some m = here in cc in
@@ -56,7 +57,8 @@ module _ {A : Type 0} (behaviour : Behaviour A) (took : Bool) (old new : AppSide
   restart_boot = sym (ap (λ (x : Machine A). x.boot) (steps (machine_over old empty_store empty_store) (some_machine old)).parts)
 
   -- one more of them is restarted
-  pub sides_restarted : (kept : ℕ → Bool) (ss : List (AppSide A)) (world : World A) (n : ℕ) (d : AppSide A) → AreSides ss (first_restarts behaviour kept 0 n world) → n < length ss → old ≡ get_or ss n d → took ≡ kept n
+  pub sides_restarted : (kept : ℕ → Bool) (ss : List (AppSide A)) (world : World A) (n : ℕ) (d : AppSide A) → AreSides ss (first_restarts behaviour kept 0 n world) →
+      n < length ss → old ≡ get_or ss n d → took ≡ kept n
       → AreSides (set ss n new) (first_restarts behaviour kept 0 (suc n) world)
   sides_restarted kept ss world n d are lt value same =
       let p = side_at ss (first_restarts behaviour kept 0 n world) n are lt in
@@ -67,7 +69,8 @@ module _ {A : Type 0} (behaviour : Behaviour A) (took : Bool) (old new : AppSide
       (subst (λ (b : Bool). Runs_as new (step behaviour p.0 (Restarted b)).machine) at stands))
 
 -- the turns stay where one that has the same is set
-pub turns_set : {A : Type 0} (ss : List (AppSide A)) (n : ℕ) (old new d : AppSide A) → n < length ss → old ≡ get_or ss n d → turns_of new ≡ turns_of old → map (λ s. turns_of s) (set ss n new) ≡ map (λ s. turns_of s) ss
+pub turns_set : {A : Type 0} (ss : List (AppSide A)) (n : ℕ) (old new d : AppSide A) → n < length ss → old ≡ get_or ss n d → turns_of new ≡ turns_of old →
+    map (λ s. turns_of s) (set ss n new) ≡ map (λ s. turns_of s) ss
 turns_set {A} [] n old new d lt value same = refl
 turns_set {A} (s ∷ ss) zero old new d lt value same = ap (λ k. k ∷ map (λ (x : AppSide A). turns_of x) ss) (same ∙ ap (λ (x : AppSide A). turns_of x) value)
 turns_set {A} (s ∷ ss) (suc n) old new d lt value same = ap (λ ks. turns_of s ∷ ks) (turns_set ss n old new d (omega (arith, lt)) value same)

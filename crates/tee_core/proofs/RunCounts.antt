@@ -9,7 +9,7 @@ use Rattle.alone.specs.declared.turn.TurnKind.{TurnKind}
 use Rattle.alone.specs.declared.turn.TurnKind.TheVariants as kinds
 use Rattle.store_api.specs.Volumes.{Condition}
 use Rattle.tee_core.specs.declared.happened.Happened.{Happened}
-use Rattle.tee_core.specs.Happenings.{is_lost_turn, is_told, told_behind}
+use Rattle.tee_core.specs.Happenings.{is_lost_turn, is_told, append_if_told}
 use Rattle.tee_core.specs.Moments.{HasRun, HasRunBehind, KeepsCounts, KeepsFoundation, RoseIfLost, tells_loss}
 
 -- ---- a count that rose
@@ -29,7 +29,7 @@ rose_longer a b c le further rose = ⊎_elim (λ (lt : a < b). inl (omega (arith
 -- ---- what is told
 
 -- one more told tells a loss where it is one, or one was told before
-told_more : (told : List Happened) (h : Happened) → tells_loss (told_behind told h) ≡ true → tells_loss told ≡ false → is_lost_turn h.kind ≡ true
+told_more : (told : List Happened) (h : Happened) → tells_loss (append_if_told told h) ≡ true → tells_loss told ≡ false → is_lost_turn h.kind ≡ true
 told_more told h =
     cond_both (is_told h) (h ∷ []) [] (λ hs. tells_loss (told ++ hs) ≡ true → tells_loss told ≡ false → is_lost_turn h.kind ≡ true)
     (λ _ lost none. sym (or-false (is_lost_turn h.kind)) ∙ ap (λ b. b || (is_lost_turn h.kind || false)) (sym none) ∙ sym (list_any-append (λ x. is_lost_turn x.kind) told (h ∷ [])) ∙ lost)
@@ -53,7 +53,7 @@ kept_begun old = record { faults = omega arith; foundation = refl }
 
 -- one more
 pub run_further : (before told : List Happened) (h : Happened) (first old new : Condition) → HasRunBehind before told first old → KeepsFoundation first old → KeepsCounts h.kind old new
-    → HasRunBehind before (told_behind told h) first new
+    → HasRunBehind before (append_if_told told h) first new
 run_further before told h first old new run kept counts none some =
     elim (tells_loss told) as (λ b. tells_loss told ≡ b → Rose first.faults new.faults) [
       | true ↦ λ was. rose_longer first.faults old.faults new.faults kept.faults counts.faults (run none was)
@@ -71,7 +71,8 @@ kept_further kind first old new kept counts = record {
 pub call_tells_none : (h : Happened) → h.kind ≡ kinds.Plain → tells_loss (h ∷ []) ≡ false
 call_tells_none h plain = ap (λ k. is_lost_turn k || false) plain
 
-pub run_counted : (h : Happened) (before told : List Happened) (first old new : Condition) → h.kind ≡ kinds.Plain → before ≡ h ∷ [] → old ≡ first → HasRunBehind before told old new → HasRun told first new
+pub run_counted : (h : Happened) (before told : List Happened) (first old new : Condition) → h.kind ≡ kinds.Plain → before ≡ h ∷ [] → old ≡ first →
+    HasRunBehind before told old new → HasRun told first new
 run_counted h before told first old new plain alone same run some =
     subst (λ (c : Condition). Rose c.faults new.faults) same (run (ap tells_loss alone ∙ call_tells_none h plain) some)
 

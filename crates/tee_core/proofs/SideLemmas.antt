@@ -58,14 +58,16 @@ sides_more (k ∷ ss) [] s m are is = absurd are
 sides_more (k ∷ ss) (n ∷ world) s m are is = (are.0, sides_more ss world s m are.1 is)
 
 -- the machine at a place
-pub side_at : {A : Type 0} (ss : List (AppSide A)) (world : World A) (i : ℕ) → AreSides ss world → i < length ss → (m : Machine A) × (slice_get world i ≡ Some m) × ((d : AppSide A) → Runs_as (get_or ss i d) m)
+pub side_at : {A : Type 0} (ss : List (AppSide A)) (world : World A) (i : ℕ) → AreSides ss world → i < length ss →
+    (m : Machine A) × (slice_get world i ≡ Some m) × ((d : AppSide A) → Runs_as (get_or ss i d) m)
 side_at [] world i are lt = absurd (omega (arith, lt))
 side_at (s ∷ ss) [] i are lt = absurd are
 side_at (s ∷ ss) (m ∷ world) zero are lt = (m, refl, λ d. are.0)
 side_at (s ∷ ss) (m ∷ world) (suc i) are lt = side_at ss world i are.1 (omega (arith, lt))
 
 -- what is stood for at a place is the machine there
-pub side_here : {A : Type 0} (ss : List (AppSide A)) (world : World A) (i : ℕ) (old d : AppSide A) (m : Machine A) → AreSides ss world → i < length ss → old ≡ get_or ss i d → slice_get world i ≡ Some m → Runs_as old m
+pub side_here : {A : Type 0} (ss : List (AppSide A)) (world : World A) (i : ℕ) (old d : AppSide A) (m : Machine A) → AreSides ss world → i < length ss → old ≡ get_or ss i d →
+    slice_get world i ≡ Some m → Runs_as old m
 side_here {A} ss world i old d m are lt value here =
     let p = side_at ss world i are lt in
     let same : p.0 ≡ m = let e : Some p.0 ≡ Some m = sym p.1 ∙ here in cc in
@@ -80,7 +82,8 @@ sides_set (k ∷ ss) (n ∷ world) zero s m are is = (is, are.1)
 sides_set (k ∷ ss) (n ∷ world) (suc i) s m are is = (are.0, sides_set ss world i s m are.1 is)
 
 -- an application at a place that still stands for what it stood for
-pub sides_kept : {A : Type 0} (ss : List (AppSide A)) (world : World A) (i : ℕ) (old new d : AppSide A) → AreSides ss world → i < length ss → old ≡ get_or ss i d → ((m : Machine A) → Runs_as old m → Runs_as new m) → AreSides (set ss i new) world
+pub sides_kept : {A : Type 0} (ss : List (AppSide A)) (world : World A) (i : ℕ) (old new d : AppSide A) → AreSides ss world → i < length ss → old ≡ get_or ss i d →
+    ((m : Machine A) → Runs_as old m → Runs_as new m) → AreSides (set ss i new) world
 sides_kept ss world i old new d are lt value keeps =
     let p = side_at ss world i are lt in
     subst (AreSides (set ss i new)) (set_same world i p.0 p.1) (sides_set ss world i new p.0 are (keeps p.0 (side_here ss world i old d p.0 are lt value p.1)))
@@ -145,7 +148,8 @@ sides_length (s ∷ ss) [] are = absurd are
 sides_length (s ∷ ss) (m ∷ world) are = ap (λ n. suc n) (sides_length ss world are.1)
 
 -- the first host's machine, and those of the others behind it
-pub starts_one : {A : Type 0} (front : World A) (n : ℕ) (host : Host A) (hosts : List (Host A)) (seed : List ℕ) (stores : ℕ → Store) → (front ++ start host n seed (stores n) ∷ []) ++ starts_from (n + 1) hosts seed stores ≡ front ++ starts_from n (host ∷ hosts) seed stores
+pub starts_one : {A : Type 0} (front : World A) (n : ℕ) (host : Host A) (hosts : List (Host A)) (seed : List ℕ) (stores : ℕ → Store) →
+    (front ++ start host n seed (stores n) ∷ []) ++ starts_from (n + 1) hosts seed stores ≡ front ++ starts_from n (host ∷ hosts) seed stores
 starts_one front n host hosts seed stores = append_assoc front (start host n seed (stores n) ∷ []) (starts_from (n + 1) hosts seed stores)
 
 pub starts_length : {A : Type 0} (n : ℕ) (hosts : List (Host A)) (seed : List ℕ) (stores : ℕ → Store) → length (starts_from n hosts seed stores) ≡ length hosts

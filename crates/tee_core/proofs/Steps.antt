@@ -11,7 +11,7 @@ use Rattle.alone.specs.Step.{called, cancelled, is_changing, step}
 use Rattle.app_side.specs.Represents.{event_of}
 use Rattle.app_side.proofs.Stored.{called_over, cancelled_over}
 use Rattle.tee_core.specs.declared.happened.Happened.{Happened}
-use Rattle.tee_core.specs.Happenings.{happening, has_reply, is_plain, told_behind, turn_happened}
+use Rattle.tee_core.specs.Happenings.{happening, has_reply, is_plain, append_if_told, turn_happened}
 
 -- a lost turn says whether it was to change the store
 abbrev pub SaysChanging : TurnKind → Bool → Type 0
@@ -58,13 +58,14 @@ module _ {A : Type 0} (behaviour : Behaviour A) where
   turn_is m kinds.Corrupted i turn replies says same told = happened_is _ _ _ _ _ _ _ _ _ _ refl same refl refl told
 
 -- what isn't told leaves what was told
-pub told_unless : (told : List Happened) (kind : TurnKind) (turn instance : ℕ) (replies : List Reply) → kind ≡ kinds.Plain → replies ≡ [] → told ≡ told_behind told (turn_happened kind turn instance replies)
+pub told_unless : (told : List Happened) (kind : TurnKind) (turn instance : ℕ) (replies : List Reply) → kind ≡ kinds.Plain → replies ≡ [] →
+    told ≡ append_if_told told (turn_happened kind turn instance replies)
 told_unless told kind turn instance replies plain none =
     sym (append-nil told) ∙ ap (λ b. told ++ cond b (turn_happened kind turn instance replies ∷ []) []) (sym (ap (λ k. not (is_plain k) || has_reply replies) plain ∙ ap has_reply none))
 
 -- what has a reply, or isn't plain, is told
 pub told_replied : (told : List Happened) (kind : TurnKind) (turn instance : ℕ) (replies : List Reply) → ¬ (replies ≡ [])
-    → told ++ turn_happened kind turn instance replies ∷ [] ≡ told_behind told (turn_happened kind turn instance replies)
+    → told ++ turn_happened kind turn instance replies ∷ [] ≡ append_if_told told (turn_happened kind turn instance replies)
 told_replied told kind turn instance [] some = absurd (some refl)
 told_replied told kinds.Plain turn instance (reply ∷ replies) some = refl
 told_replied told (kinds.Lost change) turn instance (reply ∷ replies) some = refl
@@ -72,6 +73,6 @@ told_replied told kinds.Starved turn instance (reply ∷ replies) some = refl
 told_replied told kinds.Corrupted turn instance (reply ∷ replies) some = refl
 
 pub told_kind : (told : List Happened) (kind : TurnKind) (turn instance : ℕ) (replies : List Reply) → is_plain kind ≡ false
-    → told ++ turn_happened kind turn instance replies ∷ [] ≡ told_behind told (turn_happened kind turn instance replies)
+    → told ++ turn_happened kind turn instance replies ∷ [] ≡ append_if_told told (turn_happened kind turn instance replies)
 told_kind told kind turn instance replies other =
     sym (ap (λ b. told ++ cond (not b || has_reply replies) (turn_happened kind turn instance replies ∷ []) []) other)

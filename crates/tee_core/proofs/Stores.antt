@@ -1,5 +1,6 @@
 -- The stores that the regions of a volume stand for, and what a change of one region leaves of them.
-use Rattle.std.proofs.Common.{◌≡◌, ◌≢◌, ◌<◌, ◌≤◌, ◌+◌, ◌==◌, ℕ, zero, suc, Bool, true, false, cond, List, [], ◌∷◌, Option, None, Some, Result, Ok, Err, is_some, set, refl, sym, subst, ◌∙◌, ap, inl, inr, ⊎_elim, arith}
+use Rattle.std.proofs.Common.{◌≡◌, ◌≢◌, ◌<◌, ◌≤◌, ◌+◌, ◌==◌, ℕ, zero, suc, Bool, true, false, cond, List, [], ◌∷◌, Option, None, Some}
+use Rattle.std.proofs.Common.{Result, Ok, Err, is_some, set, refl, sym, subst, ◌∙◌, ap, inl, inr, ⊎_elim, arith}
 use Rattle.std.specs.Prelude.{slice_get}
 use Rattle.std.proofs.lemmas.Bool.{eq-eqb, ne_eqb}
 use Rattle.store_api.specs.Keeping.{Contents, Rest}
@@ -59,7 +60,8 @@ remains_is app (Some held) kept is = remains_by app held (region_in app held) ke
 -- a machine before and after, where a change of one of them is in doubt
 module _ {A : Type 0} where
   -- the regions from one on stand for the same stores where they are the same
-  pub stores_same : (kept : ℕ → Bool) (r : ℕ) (world : World A) (held then : Held) → ((b : ℕ) → r ≤ b → region_in b then ≡ region_in b held) → StoresFrom kept r world held → StoresFrom kept r world then
+  pub stores_same : (kept : ℕ → Bool) (r : ℕ) (world : World A) (held then : Held) → ((b : ℕ) → r ≤ b → region_in b then ≡ region_in b held) → StoresFrom kept r world held →
+      StoresFrom kept r world then
   stores_same kept r [] held then same are = tt
   stores_same kept r (m ∷ world) held then same are = (same r (omega arith) ∙ are.0, stores_same kept (r + 1) world held then (λ b le. same b (omega (arith, le))) are.1)
 
@@ -67,8 +69,10 @@ module _ {A : Type 0} where
   pub stores_set : (kept : ℕ → Bool) (r i : ℕ) (world : World A) (held then : Held) (m : Machine A) → ((b : ℕ) → b ≢ r + i → region_in b then ≡ region_in b held)
       → region_in (r + i) then ≡ Ok (store_found (kept (r + i)) m.store m.in_doubt) → StoresFrom kept r world held → StoresFrom kept r (set world i m) then
   stores_set kept r i [] held then m same own are = tt
-  stores_set kept r zero (n ∷ world) held then m same own are =
-      (subst (λ k. region_in k then ≡ Ok (store_found (kept k) m.store m.in_doubt)) (omega arith) own, stores_same kept (r + 1) world held then (λ b le. same b (λ is. absurd (omega (arith, le, is)))) are.1)
+  stores_set kept r zero (n ∷ world) held then m same own are = (
+    subst (λ k. region_in k then ≡ Ok (store_found (kept k) m.store m.in_doubt)) (omega arith) own,
+    stores_same kept (r + 1) world held then (λ b le. same b (λ is. absurd (omega (arith, le, is)))) are.1,
+  )
   stores_set kept r (suc i) (n ∷ world) held then m same own are = (
     same r (λ is. absurd (omega (arith, is))) ∙ are.0,
     stores_set kept (r + 1) i world held then m
@@ -77,7 +81,8 @@ module _ {A : Type 0} where
   )
 
   -- the store of one of them
-  pub store_at : (kept : ℕ → Bool) (r i : ℕ) (world : World A) (held : Held) (m : Machine A) → slice_get world i ≡ Some m → StoresFrom kept r world held → region_in (r + i) held ≡ Ok (store_found (kept (r + i)) m.store m.in_doubt)
+  pub store_at : (kept : ℕ → Bool) (r i : ℕ) (world : World A) (held : Held) (m : Machine A) → slice_get world i ≡ Some m → StoresFrom kept r world held →
+      region_in (r + i) held ≡ Ok (store_found (kept (r + i)) m.store m.in_doubt)
   store_at kept r i [] held m here are = absurd (let e : None ≡ Some m = here in cc)
   store_at kept r zero (n ∷ world) held m here are =
       let same : n ≡ m = let e : Some n ≡ Some m = here in cc in
@@ -91,7 +96,8 @@ module _ {A : Type 0} where
       subst (λ k. region_in k held ≡ Ok (store_found false m.store m.in_doubt)) at (store_at none_kept 0 app world held m here are) ∙ ap (λ (s : Store). Ok s) (own_store m.store m.in_doubt)
 
   -- those behind the owner have none
-  stores_behind : (owner r : ℕ) (world : World A) (held then : Held) → owner < r → ((b : ℕ) → r ≤ b → region_in b then ≡ region_in b held) → StoresFrom none_kept r world held → StoresFrom (kept_of owner) r world then
+  stores_behind : (owner r : ℕ) (world : World A) (held then : Held) → owner < r → ((b : ℕ) → r ≤ b → region_in b then ≡ region_in b held) → StoresFrom none_kept r world held →
+      StoresFrom (kept_of owner) r world then
   stores_behind owner r [] held then behind same are = tt
   stores_behind owner r (m ∷ world) held then behind same are = (
     same r (omega arith) ∙ are.0 ∙ ap (λ b. Ok (store_found b m.store m.in_doubt)) (sym (ne_eqb r owner (λ is. absurd (omega (arith, is, behind))))),
@@ -128,7 +134,8 @@ module _ {A : Type 0} where
       subst (λ k. HoldsStores (kept_of k) (set world app m) then) at
       (stores_kept 0 app world held then m (λ b other. same b (λ is. other (is ∙ sym at))) (subst (λ k. region_in k then ≡ Ok (store_found true m.store m.in_doubt)) (sym at) own) are)
 
-  pub whole_at : (kept : ℕ → Bool) (world : World A) (app : ℕ) (held : Held) (m : Machine A) → slice_get world app ≡ Some m → HoldsStores kept world held → region_in app held ≡ Ok (store_found (kept app) m.store m.in_doubt)
+  pub whole_at : (kept : ℕ → Bool) (world : World A) (app : ℕ) (held : Held) (m : Machine A) → slice_get world app ≡ Some m → HoldsStores kept world held →
+      region_in app held ≡ Ok (store_found (kept app) m.store m.in_doubt)
   whole_at kept world app held m here are =
       let at : 0 + app ≡ app = omega arith in
       subst (λ k. region_in k held ≡ Ok (store_found (kept k) m.store m.in_doubt)) at (store_at kept 0 app world held m here are)

@@ -9,13 +9,13 @@ use Rattle.alone.specs.declared.turn.TurnKind.TheVariants as kinds
 use Rattle.alone.specs.declared.reply.Reply.{Reply}
 use Rattle.alone.specs.Marks.{SameAt}
 use Rattle.tee_core.specs.declared.happened.Happened.{Happened}
-use Rattle.tee_core.specs.Happenings.{IsPlainBehind, is_corrupt_turn, is_lost_turn, is_starved_turn, is_told, marks_of, tells, told_behind}
+use Rattle.tee_core.specs.Happenings.{IsPlainBehind, is_corrupt_turn, is_lost_turn, is_starved_turn, is_told, marks_of, has_told, append_if_told}
 
 -- one more told
-tells_more : (went : TurnKind → Bool) (told : List Happened) (h : Happened) (turn : ℕ) → tells went (told ++ h ∷ []) turn ≡ (tells went told turn || (went h.kind && h.turn == turn))
+tells_more : (went : TurnKind → Bool) (told : List Happened) (h : Happened) (turn : ℕ) → has_told went (told ++ h ∷ []) turn ≡ (has_told went told turn || (went h.kind && h.turn == turn))
 tells_more went told h turn =
     list_any-append (λ x. went x.kind && x.turn == turn) told (h ∷ [])
-    ∙ ap (λ b. tells went told turn || b) (or-false (went h.kind && h.turn == turn))
+    ∙ ap (λ b. has_told went told turn || b) (or-false (went h.kind && h.turn == turn))
 
 and_no : (b : Bool) → (b && false) ≡ false
 and_no true = refl
@@ -26,25 +26,25 @@ and_yes true = refl
 and_yes false = refl
 
 -- a happening of another turn tells nothing of this one
-pub tells_other : (went : TurnKind → Bool) (told : List Happened) (h : Happened) (turn : ℕ) → h.turn ≢ turn → tells went (told_behind told h) turn ≡ tells went told turn
+pub tells_other : (went : TurnKind → Bool) (told : List Happened) (h : Happened) (turn : ℕ) → h.turn ≢ turn → has_told went (append_if_told told h) turn ≡ has_told went told turn
 tells_other went told h turn other =
-    cond_both (is_told h) (h ∷ []) [] (λ hs. tells went (told ++ hs) turn ≡ tells went told turn)
+    cond_both (is_told h) (h ∷ []) [] (λ hs. has_told went (told ++ hs) turn ≡ has_told went told turn)
     (λ _. tells_more went told h turn
-    ∙ ap (λ b. tells went told turn || (went h.kind && b)) (ne_eqb h.turn turn other)
-    ∙ ap (λ b. tells went told turn || b) (and_no (went h.kind))
-    ∙ or-false (tells went told turn))
-    (λ _. ap (λ hs. tells went hs turn) (append-nil told))
+    ∙ ap (λ b. has_told went told turn || (went h.kind && b)) (ne_eqb h.turn turn other)
+    ∙ ap (λ b. has_told went told turn || b) (and_no (went h.kind))
+    ∙ or-false (has_told went told turn))
+    (λ _. ap (λ hs. has_told went hs turn) (append-nil told))
 
 -- one of this turn says how it went, where none did before; one that isn't told is plain
-pub tells_here : (went : TurnKind → Bool) (told : List Happened) (h : Happened) (turn : ℕ) → h.turn ≡ turn → tells went told turn ≡ false
-    → (is_told h ≡ false → went h.kind ≡ false) → tells went (told_behind told h) turn ≡ went h.kind
+pub tells_here : (went : TurnKind → Bool) (told : List Happened) (h : Happened) (turn : ℕ) → h.turn ≡ turn → has_told went told turn ≡ false
+    → (is_told h ≡ false → went h.kind ≡ false) → has_told went (append_if_told told h) turn ≡ went h.kind
 tells_here went told h turn same none quiet =
-    cond_both (is_told h) (h ∷ []) [] (λ hs. tells went (told ++ hs) turn ≡ went h.kind)
+    cond_both (is_told h) (h ∷ []) [] (λ hs. has_told went (told ++ hs) turn ≡ went h.kind)
     (λ _. tells_more went told h turn
     ∙ ap (λ b. b || (went h.kind && h.turn == turn)) none
     ∙ ap (λ b. went h.kind && b) (eq-eqb h.turn turn same)
     ∙ and_yes (went h.kind))
-    (λ untold. ap (λ hs. tells went hs turn) (append-nil told) ∙ none ∙ sym (quiet untold))
+    (λ untold. ap (λ hs. has_told went hs turn) (append-nil told) ∙ none ∙ sym (quiet untold))
 
 -- what isn't told is plain
 lost_quiet : (kind : TurnKind) (replies : List Reply) → is_told (record { kind = kind; turn = 0; op = 0; instance = 0; replies = replies }) ≡ false → is_lost_turn kind ≡ false
@@ -66,7 +66,7 @@ starved_quiet kinds.Starved replies untold = untold
 starved_quiet kinds.Corrupted replies untold = refl
 
 -- the turns before it are marked as they were
-pub behind_before : (told : List Happened) (h : Happened) (turn : ℕ) → h.turn ≢ turn → SameAt turn (marks_of (told_behind told h)) (marks_of told)
+pub behind_before : (told : List Happened) (h : Happened) (turn : ℕ) → h.turn ≢ turn → SameAt turn (marks_of (append_if_told told h)) (marks_of told)
 behind_before told h turn other = record {
   lost = tells_other is_lost_turn told h turn other;
   corrupt = tells_other is_corrupt_turn told h turn other;
@@ -79,7 +79,7 @@ pub record WentSo (kind : TurnKind) (turn : ℕ) (told : List Happened) : Type 0
   pub corrupt : (marks_of told).corrupt turn ≡ is_corrupt_turn kind
   pub starved : (marks_of told).starved turn ≡ is_starved_turn kind
 
-pub behind_here : (told : List Happened) (h : Happened) (turns : ℕ) → h.turn ≡ turns + 1 → IsPlainBehind turns told → WentSo h.kind (turns + 1) (told_behind told h)
+pub behind_here : (told : List Happened) (h : Happened) (turns : ℕ) → h.turn ≡ turns + 1 → IsPlainBehind turns told → WentSo h.kind (turns + 1) (append_if_told told h)
 behind_here told h turns here plain =
     let none = plain (turns + 1) (omega arith) in
     record {
@@ -89,7 +89,7 @@ behind_here told h turns here plain =
     }
 
 -- and none behind it is marked
-pub behind_plain : (told : List Happened) (h : Happened) (turns : ℕ) → h.turn ≡ turns + 1 → IsPlainBehind turns told → IsPlainBehind (turns + 1) (told_behind told h)
+pub behind_plain : (told : List Happened) (h : Happened) (turns : ℕ) → h.turn ≡ turns + 1 → IsPlainBehind turns told → IsPlainBehind (turns + 1) (append_if_told told h)
 behind_plain told h turns here plain = λ turn later.
     let other : h.turn ≢ turn = λ same. absurd (omega (arith, here, same, later)) in
     let before = behind_before told h turn other in

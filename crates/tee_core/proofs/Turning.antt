@@ -1,6 +1,7 @@
 -- A turn over a region of a volume, for the world that stands over its regions.
 use Rattle.app_api.specs.Behaviours.{Behaviour}
-use Rattle.std.proofs.Common.{◌≡◌, ◌≢◌, ◌<◌, ◌≤◌, ◌+◌, ◌==◌, ℕ, Bool, true, false, List, [], ◌∷◌, Option, None, Some, Result, Ok, is_some, set, zero, suc, refl, sym, subst, ◌∙◌, ap, inl, inr, ⊎_elim, arith}
+use Rattle.std.proofs.Common.{◌≡◌, ◌≢◌, ◌<◌, ◌≤◌, ◌+◌, ◌==◌, ℕ, Bool, true, false, List, [], ◌∷◌, Option, None, Some, Result, Ok}
+use Rattle.std.proofs.Common.{is_some, set, zero, suc, refl, sym, subst, ◌∙◌, ap, inl, inr, ⊎_elim, arith}
 use Rattle.std.specs.Prelude.{◌⊎◌, slice_get}
 use Rattle.std.proofs.lemmas.Bool.{eqb-true, eqb-false}
 use Rattle.alone.proofs.Storage.{damage_leaves_doubt, turn_leaves_doubt}
@@ -8,7 +9,7 @@ use Rattle.alone.specs.declared.reply.Reply.{Reply}
 use Rattle.alone.specs.declared.turn.TurnKind.{TurnKind}
 use Rattle.alone.specs.declared.turn.TurnKind.TheVariants as kinds
 use Rattle.alone.specs.Machine.{Machine}
-use Rattle.alone.specs.Step.{may_stand, step, store_found}
+use Rattle.alone.specs.Step.{is_enabled, step, store_found}
 use Rattle.app_side.specs.Represents.{Represents as Runs_as, event_of as turn_of, store_kind}
 use Rattle.app_side.specs.declared.side.AppSide.{AppSide}
 use Rattle.object_asks.specs.declared.turn.TurnKind.{TurnKind as StoreKind}
@@ -32,7 +33,8 @@ use Rattle.tee_core.proofs.SideLemmas.{get_other, get_set, map_set, sides_set}
 use Rattle.tee_core.proofs.Stores.{doubt_unlost, has_lost, left_has, left_lost as left_lost_world, own_at, remains_is, same_region, stores_lost, stores_same, whole_at, whole_kept, whole_set}
 
 -- a turn that didn't lose the storage leaves the change in doubt
-doubt_stays : {A : Type 0} (behaviour : Behaviour A) (kind : TurnKind) (m : Machine A) (i : ℕ) → ((changes : Bool) → store_kind kind ≢ store_kinds.Lost changes) → (step behaviour m (turn_of kind i)).machine.in_doubt ≡ m.in_doubt
+doubt_stays : {A : Type 0} (behaviour : Behaviour A) (kind : TurnKind) (m : Machine A) (i : ℕ) → ((changes : Bool) → store_kind kind ≢ store_kinds.Lost changes) →
+    (step behaviour m (turn_of kind i)).machine.in_doubt ≡ m.in_doubt
 doubt_stays behaviour kinds.Plain m i served = turn_leaves_doubt behaviour m i
 doubt_stays behaviour (kinds.Lost changes) m i served = absurd (served changes refl)
 doubt_stays behaviour kinds.Starved m i served = refl
@@ -55,7 +57,8 @@ doubt_own {A} world app m then here same has =
     let is : has.machine ≡ then = let e : Some has.machine ≡ Some then = sym has.there ∙ get_set world app m then here in cc in
     record { machine = m; there = here; doubt = ap (λ (d : Option Store). is_some d) (sym same) ∙ ap (λ (x : Machine A). is_some x.in_doubt) (sym is) ∙ has.doubt }
 
-pub doubt_kept : {A : Type 0} (world : World A) (app owner : ℕ) (m then : Machine A) → slice_get world app ≡ Some m → then.in_doubt ≡ m.in_doubt → HasDoubt owner world → HasDoubt owner (set world app then)
+pub doubt_kept : {A : Type 0} (world : World A) (app owner : ℕ) (m then : Machine A) → slice_get world app ≡ Some m → then.in_doubt ≡ m.in_doubt → HasDoubt owner world →
+    HasDoubt owner (set world app then)
 doubt_kept {A} world app owner m then here same has =
     elim (owner == app) as (λ c. (owner == app) ≡ c → HasDoubt owner (set world app then)) [
       | true ↦ λ e.
@@ -69,7 +72,8 @@ doubt_kept {A} world app owner m then here same has =
       | false ↦ λ e. record { machine = has.machine; there = get_other world app owner then (eqb-false owner app e) ∙ has.there; doubt = has.doubt }
     ] refl
 
-pub doubt_back : {A : Type 0} (world : World A) (app owner : ℕ) (m then : Machine A) → slice_get world app ≡ Some m → then.in_doubt ≡ m.in_doubt → HasDoubt owner (set world app then) → HasDoubt owner world
+pub doubt_back : {A : Type 0} (world : World A) (app owner : ℕ) (m then : Machine A) → slice_get world app ≡ Some m → then.in_doubt ≡ m.in_doubt →
+    HasDoubt owner (set world app then) → HasDoubt owner world
 doubt_back world app owner m then here same has =
     elim (owner == app) as (λ c. (owner == app) ≡ c → HasDoubt owner world) [
       | true ↦ λ e. subst (λ k. HasDoubt k world) (sym (eqb-true owner app e)) (doubt_own world app m then here same (subst (λ k. HasDoubt k (set world app then)) (eqb-true owner app e) has))
@@ -106,7 +110,8 @@ left_stays world sequence app m then (Some held) here store doubt left = ⊎_eli
     inr (has.0, doubt_kept world app has.0 m then here doubt has.1, has.2, stores_stay (kept_of has.0) 0 app world held m then here store doubt has.3)) left
 
 -- each region of what a crash left stands for a store
-region_left : {A : Type 0} (world : World A) (sequence app : ℕ) (m : Machine A) (held : Held) → slice_get world app ≡ Some m → IsLeftOf world sequence (Some held) → (store : Store) × (region_in app held ≡ Ok store)
+region_left : {A : Type 0} (world : World A) (sequence app : ℕ) (m : Machine A) (held : Held) → slice_get world app ≡ Some m → IsLeftOf world sequence (Some held) →
+    (store : Store) × (region_in app held ≡ Ok store)
 region_left world sequence app m held here left = ⊎_elim
     (λ (now : (held.sequence ≡ sequence) × HoldsStores none_kept world held). (store_found (none_kept app) m.store m.in_doubt, whole_at none_kept world app held m here now.1))
     (λ (has : (owner : ℕ) × HasDoubt owner world × (sequence < held.sequence) × HoldsStores (kept_of owner) world held).
@@ -173,7 +178,7 @@ module _ {V A : Type 0} (K : VolumeKeeper V)
   pub replies_are : replies ≡ (step behaviour m (turn_of kind i)).replies
   replies_are = t.turn.told has_before m stands store_before
 
-  pub may : may_stand m (turn_of kind i) ≡ true
+  pub may : is_enabled m (turn_of kind i) ≡ true
   may = t.turn.stands has_before m stands store_before
 
   has_after : HasStore K e.region
@@ -202,9 +207,6 @@ module _ {V A : Type 0} (K : VolumeKeeper V)
 
   number_then : (D.contents e).number ≡ (K.held new).sequence
   number_then = ap (λ (c : Contents). c.number) contents_after
-
-  pub formatted_after : 0 < (K.held new).sequence
-  formatted_after = omega (arith, whole.formatted, number_before, number_then, (t.turn.keeps.beside has_before).number)
 
   pub stores_after : HoldsStores none_kept (set world app then) (K.held new)
   stores_after =
@@ -262,7 +264,8 @@ module _ {V A : Type 0} (K : VolumeKeeper V)
   doubtful o (Some store) is still left = ⊎_elim
       (λ (same : remains_in app o ≡ Some (D.contents d)). left_as_after o (same ∙ ap (λ (c : Contents). Some c) (sym still)))
       (λ (further : (n : ℕ) × ((D.contents d).number < n) × (remains_in app o ≡ Some (record { store = store; rest = (D.contents d).rest; number = n }))).
-      let r = remains_is app o (record { store = store; rest = rest_of app (K.held old); number = further.0 }) (further.2 ∙ ap (λ (c : Contents). Some (record { store = store; rest = c.rest; number = further.0 })) contents_before) in
+      let r = remains_is app o (record { store = store; rest = rest_of app (K.held old); number = further.0 })
+      (further.2 ∙ ap (λ (c : Contents). Some (record { store = store; rest = c.rest; number = further.0 })) contents_before) in
       let number : (D.contents e).number ≡ (D.contents d).number = ap (λ (c : Contents). c.number) still in
       let greater : (K.held new).sequence < r.held.sequence = let lt = further.1 in let same = r.sequence in omega (arith, lt, same, number, number_then) in
       subst (λ (x : Option Held). IsLeftOf (set world app then) (K.held new).sequence x) (sym r.is)
@@ -270,7 +273,8 @@ module _ {V A : Type 0} (K : VolumeKeeper V)
         app,
         record { machine = then; there = get_set world app m then here; doubt = ap (λ (x : Option Store). is_some x) is },
         greater,
-        whole_kept world app (K.held old) r.held then (λ b other. same_region app b (K.held old) r.held r.rest other) (r.store ∙ ap (λ (x : Option Store). Ok (store_found true then.store x)) (sym is)) whole.stores,
+        whole_kept world app (K.held old) r.held then (λ b other. same_region app b (K.held old) r.held r.rest other)
+            (r.store ∙ ap (λ (x : Option Store). Ok (store_found true then.store x)) (sym is)) whole.stores,
       ))) left
 
   left_working : (k : StoreKind) → store_kind kind ≡ k → (K.condition old).lost ≡ false → (o : Option Held) → K.left_since new (K.moment new) o → IsLeftOf (set world app then) (K.held new).sequence o
@@ -389,23 +393,29 @@ module _ {V A : Type 0} (K : VolumeKeeper V)
       (inl (whole_set world app (K.held old) r.held then (λ b other. same_region app b (K.held old) r.held r.rest other)
       (r.store ∙ ap (λ (s : Store). Ok s) (sym store_then)) whole.stores))
 
-  doubt_has : (o : Option Held) (store : Store) (n : ℕ) → then.in_doubt ≡ Some store → remains_in app o ≡ Some (record { store = store; rest = (D.contents d).rest; number = n }) → HasStoresOf (set world app then) o
+  doubt_has : (o : Option Held) (store : Store) (n : ℕ) → then.in_doubt ≡ Some store → remains_in app o ≡ Some (record { store = store; rest = (D.contents d).rest; number = n }) →
+      HasStoresOf (set world app then) o
   doubt_has o store n doubt is =
-      let r = remains_is app o (record { store = store; rest = rest_of app (K.held old); number = n }) (is ∙ ap (λ (c : Contents). Some (record { store = store; rest = c.rest; number = n })) contents_before) in
+      let r = remains_is app o (record { store = store; rest = rest_of app (K.held old); number = n })
+      (is ∙ ap (λ (c : Contents). Some (record { store = store; rest = c.rest; number = n })) contents_before) in
       subst (λ (x : Option Held). HasStoresOf (set world app then) x) (sym r.is)
       (inr (
         app,
         record { machine = then; there = get_set world app m then here; doubt = ap (λ (x : Option Store). is_some x) doubt },
-        whole_kept world app (K.held old) r.held then (λ b other. same_region app b (K.held old) r.held r.rest other) (r.store ∙ ap (λ (x : Option Store). Ok (store_found true then.store x)) (sym doubt)) whole.stores,
+        whole_kept world app (K.held old) r.held then (λ b other. same_region app b (K.held old) r.held r.rest other)
+            (r.store ∙ ap (λ (x : Option Store). Ok (store_found true then.store x)) (sym doubt)) whole.stores,
       ))
 
-  left_within : (k : StoreKind) (doubt : Option Store) (o : Option Held) → then.in_doubt ≡ doubt → LeftByTurn k doubt (D.contents d) (D.contents e) (remains_in app o) → HasStoresOf world o ⊎ HasStoresOf (set world app then) o
+  left_within : (k : StoreKind) (doubt : Option Store) (o : Option Held) → then.in_doubt ≡ doubt → LeftByTurn k doubt (D.contents d) (D.contents e) (remains_in app o) →
+      HasStoresOf world o ⊎ HasStoresOf (set world app then) o
   left_within store_kinds.Plain doubt o is left = ⊎_elim
       (λ (same : remains_in app o ≡ Some (D.contents d)). inl (old_has o same))
-      (λ (further : (n : ℕ) × ((D.contents d).number < n) × (remains_in app o ≡ Some (record { store = (D.contents e).store; rest = (D.contents d).rest; number = n }))). inr (new_has o further.0 further.2)) left
+      (λ (further : (n : ℕ) × ((D.contents d).number < n) × (remains_in app o ≡ Some (record { store = (D.contents e).store; rest = (D.contents d).rest; number = n }))). inr
+      (new_has o further.0 further.2)) left
   left_within (store_kinds.Lost true) (Some store) o is left = ⊎_elim
       (λ (same : remains_in app o ≡ Some (D.contents d)). inl (old_has o same))
-      (λ (further : (n : ℕ) × ((D.contents d).number < n) × (remains_in app o ≡ Some (record { store = store; rest = (D.contents d).rest; number = n }))). inr (doubt_has o store further.0 is further.2)) left
+      (λ (further : (n : ℕ) × ((D.contents d).number < n) × (remains_in app o ≡ Some (record { store = store; rest = (D.contents d).rest; number = n }))). inr
+      (doubt_has o store further.0 is further.2)) left
   left_within (store_kinds.Lost true) None o is left = inl (old_has o left)
   left_within (store_kinds.Lost false) doubt o is left = inl (old_has o left)
   left_within store_kinds.Corrupted doubt o is left = inl (old_has o left)
@@ -415,7 +425,8 @@ module _ {V A : Type 0} (K : VolumeKeeper V)
       elim (K.condition old).lost as (λ b. (K.condition old).lost ≡ b → HasStoresOf world o ⊎ HasStoresOf (set world app then) o) [
         | true ↦ λ lost. inl (left_has world (K.held old).sequence o (found_lost lost (K.moment old) o refl left))
         | false ↦ λ works.
-            left_within (store_kind kind) then.in_doubt o refl ((crash works).any_moment.each (remains_in app o) (subst (λ u. D.left_since e u (remains_in app o)) (sym moment_before) (from_new (K.moment old) o left)))
+            left_within (store_kind kind) then.in_doubt o refl ((crash works).any_moment.each (remains_in app o)
+            (subst (λ u. D.left_since e u (remains_in app o)) (sym moment_before) (from_new (K.moment old) o left)))
       ] refl
 
   -- ---- the world after the turn
@@ -441,7 +452,6 @@ module _ {V A : Type 0} (K : VolumeKeeper V)
     honest = honest_after;
     sides_are = sides_set sides world app after then whole.sides_are after_is;
     stores = stores_after;
-    formatted = formatted_after;
     left = left_after;
     calm = calm_after;
     single = single_after;
@@ -468,7 +478,6 @@ module _ {V A : Type 0} (K : VolumeKeeper V)
     honest = honest_after;
     sides_are = are;
     stores = stores_lost none_kept 0 (set world app then) (K.held new) stores_after;
-    formatted = formatted_after;
     left = λ o was. left_lost_world (set world app then) (K.held new).sequence o (left_after o was);
     calm = λ works. absurd (let f : true ≡ false = sym (lost_is changes is).1 ∙ lost_after ∙ works in cc);
     single = λ one other first second. single_after one other (doubt_unlost one (set world app then) first) (doubt_unlost other (set world app then) second);
@@ -499,6 +508,8 @@ counts_kept {V} K behaviour app i kind replies before after old new t =
     let faults_new : (D.status t.dir_after).faults ≡ (K.condition new).faults = ap (λ (v : V). (K.condition v).faults) t.over_new.same_volume in
     record {
       faults = let le = t.turn.status.later in omega (arith, le, faults_old, faults_new);
-      rose = subst (λ n. RoseIfLost kind n (K.condition new).faults) faults_old (subst (λ n. RoseIfLost kind (D.status t.dir_before).faults n) faults_new (rose_by kind (D.status t.dir_before) (D.status t.dir_after) t.turn.status.cause));
-      foundation = sym (ap (λ (v : V). (K.condition v).foundation) t.over_new.same_volume) ∙ volume_stays K t.dir_before.region t.dir_after.region t.turn.status.foundation ∙ ap (λ (v : V). (K.condition v).foundation) t.over_old.same_volume;
+      rose = subst (λ n. RoseIfLost kind n (K.condition new).faults) faults_old (subst (λ n. RoseIfLost kind (D.status t.dir_before).faults n) faults_new
+          (rose_by kind (D.status t.dir_before) (D.status t.dir_after) t.turn.status.cause));
+      foundation = sym (ap (λ (v : V). (K.condition v).foundation) t.over_new.same_volume) ∙ volume_stays K t.dir_before.region t.dir_after.region t.turn.status.foundation
+          ∙ ap (λ (v : V). (K.condition v).foundation) t.over_old.same_volume;
     }

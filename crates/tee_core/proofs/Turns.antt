@@ -8,12 +8,12 @@ use Rattle.alone.specs.declared.turn.TurnKind.TheVariants as kinds
 use Rattle.alone.specs.Machine.{Machine}
 use Rattle.alone.specs.Marks.{Marks, SameWithin, event_at}
 use Rattle.alone.specs.Runs.{machine_after, most_turns, turns_until}
-use Rattle.alone.specs.Step.{Event, is_answered, may_stand, step}
+use Rattle.alone.specs.Step.{Event, is_answered, is_enabled, step}
 use Rattle.alone.proofs.Counted.{turn_counts}
 use Rattle.alone.proofs.Marked.{marked_corrupt, marked_lost, marked_plain, marked_starved}
 use Rattle.app_side.specs.Represents.{event_of}
 use Rattle.tee_core.specs.declared.happened.Happened.{Happened}
-use Rattle.tee_core.specs.Happenings.{IsPlainBehind, happening, happenings, is_corrupt_turn, is_lost_turn, is_starved_turn, is_told, marks_of, told_behind}
+use Rattle.tee_core.specs.Happenings.{IsPlainBehind, happening, happenings, is_corrupt_turn, is_lost_turn, is_starved_turn, is_told, marks_of, append_if_told}
 use Rattle.tee_core.specs.Turns.{IsTurnedUntil, StopsBefore}
 use Rattle.tee_core.specs.World.{World, events_at, world_after}
 use Rattle.tee_core.proofs.Told.{behind_before, behind_here, behind_plain}
@@ -24,7 +24,7 @@ most_is = refl
 
 -- marks that say so make the turn the event of its kind
 pub event_of_marks : {A : Type 0} (marks : Marks) (m : Machine A) (kind : TurnKind) (i : ℕ) → marks.lost (m.turns + 1) ≡ is_lost_turn kind → marks.corrupt (m.turns + 1) ≡ is_corrupt_turn kind
-    → marks.starved (m.turns + 1) ≡ is_starved_turn kind → may_stand m (event_of kind i) ≡ true → event_at marks m i ≡ event_of kind i
+    → marks.starved (m.turns + 1) ≡ is_starved_turn kind → is_enabled m (event_of kind i) ≡ true → event_at marks m i ≡ event_of kind i
 event_of_marks marks m kinds.Plain i lost corrupt starved may = marked_plain marks m i lost corrupt starved
 event_of_marks marks m (kinds.Lost change) i lost corrupt starved may = marked_lost marks m i lost may
 event_of_marks marks m kinds.Starved i lost corrupt starved may = marked_starved marks m i lost corrupt starved may
@@ -41,7 +41,8 @@ module _ {A : Type 0} (behaviour : Behaviour A) where
   machine_more m [] e = refl
   machine_more m (x ∷ made) e = machine_more (step behaviour m x).machine made e
 
-  happenings_more : (m : Machine A) (made : List Event) (e : Event) → happenings behaviour m (made ++ e ∷ []) ≡ happenings behaviour m made ++ happening behaviour (machine_after behaviour m made) e ∷ []
+  happenings_more : (m : Machine A) (made : List Event) (e : Event) → happenings behaviour m (made ++ e ∷ []) ≡ happenings behaviour m made ++ happening behaviour
+      (machine_after behaviour m made) e ∷ []
   happenings_more m [] e = refl
   happenings_more m (x ∷ made) e = ap (λ hs. happening behaviour m x ∷ hs) (happenings_more (step behaviour m x).machine made e)
 
@@ -90,7 +91,7 @@ module _ {A : Type 0} (behaviour : Behaviour A) where
   }
 
   -- marks that agree with what is told after a turn agree with what was told before it
-  pub agree_before : (marks : Marks) (from turns : ℕ) (told : List Happened) (h : Happened) → h.turn ≡ turns + 1 → SameWithin from (turns + 1) marks (marks_of (told_behind told h))
+  pub agree_before : (marks : Marks) (from turns : ℕ) (told : List Happened) (h : Happened) → h.turn ≡ turns + 1 → SameWithin from (turns + 1) marks (marks_of (append_if_told told h))
       → SameWithin from turns marks (marks_of told)
   agree_before marks from turns told h here same = λ turn above within.
       let at = same turn above (omega (arith, within)) in
@@ -99,16 +100,16 @@ module _ {A : Type 0} (behaviour : Behaviour A) where
 
   -- and make it the event of its kind
   pub agree_here : (marks : Marks) (m : Machine A) (from : ℕ) (told : List Happened) (h : Happened) (i : ℕ) → from ≤ m.turns → h.turn ≡ m.turns + 1 → IsPlainBehind m.turns told
-      → SameWithin from (m.turns + 1) marks (marks_of (told_behind told h)) → may_stand m (event_of h.kind i) ≡ true → event_at marks m i ≡ event_of h.kind i
+      → SameWithin from (m.turns + 1) marks (marks_of (append_if_told told h)) → is_enabled m (event_of h.kind i) ≡ true → event_at marks m i ≡ event_of h.kind i
   agree_here marks m from told h i later here plain same may =
       let at = same (m.turns + 1) (omega (arith, later)) (omega arith) in
       let went = behind_here told h m.turns here plain in
       event_of_marks marks m h.kind i (at.lost ∙ went.lost) (at.corrupt ∙ went.corrupt) (at.starved ∙ went.starved) may
 
   pub turns_further : (Stands Stands_then : List Event → Type 0) (m : Machine A) (i op k : ℕ) (before told : List Happened) → (run : HasTurned Stands m i op k before told)
-      → k < 10000000 → is_answered run.now op ≡ false → (h : Happened) → may_stand run.now (event_of h.kind i) ≡ true
+      → k < 10000000 → is_answered run.now op ≡ false → (h : Happened) → is_enabled run.now (event_of h.kind i) ≡ true
       → Stands_then (run.made ++ event_of h.kind i ∷ []) → h ≡ happening behaviour run.now (event_of h.kind i)
-      → HasTurned Stands_then m i op (k + 1) before (told_behind told h)
+      → HasTurned Stands_then m i op (k + 1) before (append_if_told told h)
   turns_further Stands Stands_then m i op k before told run within not_yet h may stands same =
       let e : Event = event_of h.kind i in
       let then : Machine A = (step behaviour run.now e).machine in
@@ -128,9 +129,9 @@ module _ {A : Type 0} (behaviour : Behaviour A) where
             ∙ ap (λ (x : Happened). filter is_told (hs ++ x ∷ [])) (same ∙ ap (λ (x : Machine A). happening behaviour x e) (sym run.now_is))
             ∙ ap (filter is_told) (sym (happenings_more m run.made e)));
         later = omega (arith, run.later, counts);
-        plain = subst (λ n. IsPlainBehind n (told_behind told h)) (sym counts) (behind_plain told h run.now.turns here run.plain);
+        plain = subst (λ n. IsPlainBehind n (append_if_told told h)) (sym counts) (behind_plain told h run.now.turns here run.plain);
         by_marks = λ marks agree.
-            let agrees : SameWithin m.turns (run.now.turns + 1) marks (marks_of (told_behind told h)) = subst (λ n. SameWithin m.turns n marks (marks_of (told_behind told h))) counts agree in
+            let agrees : SameWithin m.turns (run.now.turns + 1) marks (marks_of (append_if_told told h)) = subst (λ n. SameWithin m.turns n marks (marks_of (append_if_told told h))) counts agree in
             let is = agree_here marks run.now m.turns told h i run.later here run.plain agrees may in
             run.by_marks marks (agree_before marks m.turns run.now.turns told h here agrees)
             ∙ ap (λ es. run.made ++ es) (turns_on marks (most_turns - k) (most_turns - (k + 1)) run.now i op e (omega (arith, within, most_is)) not_yet is)

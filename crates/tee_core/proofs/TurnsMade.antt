@@ -7,13 +7,13 @@ use Rattle.alone.specs.declared.turn.TurnKind.{TurnKind}
 use Rattle.alone.specs.declared.turn.TurnKind.TheVariants as kinds
 use Rattle.alone.specs.Machine.{Machine}
 use Rattle.alone.specs.Runs.{machine_after}
-use Rattle.alone.specs.Step.{Event, Called, Cancelled, Turned, TurnLost, Corrupted, Lost, Starved, Restarted, is_answered, is_changing, may_stand, step}
+use Rattle.alone.specs.Step.{Event, Called, Cancelled, Turned, TurnLost, Corrupted, Lost, Starved, Restarted, is_answered, is_changing, is_enabled, step}
 use Rattle.app_side.specs.Represents.{Represents as Runs_as, event_of, store_kind}
 use Rattle.app_side.specs.declared.side.AppSide.{AppSide}
 use Rattle.object_asks.specs.Serving.{SaysChange}
 use Rattle.store_api.specs.Volumes.{VolumeKeeper}
 use Rattle.tee_core.specs.declared.happened.Happened.{Happened}
-use Rattle.tee_core.specs.Happenings.{IsPlainBehind, told_behind, turn_happened}
+use Rattle.tee_core.specs.Happenings.{IsPlainBehind, append_if_told, turn_happened}
 use Rattle.tee_core.specs.Represents.{StandFor}
 use Rattle.tee_core.specs.Sides.{AreSides, turns_in}
 use Rattle.tee_core.specs.World.{World, events_at, met_by_others, moved_at, world_after, world_step}
@@ -56,14 +56,16 @@ module _ {A : Type 0} (behaviour : Behaviour A) where
   met_there (Restarted took) world app m here = (m, here)
 
   -- the machine of the application after one event
-  pub at_step : (world : World A) (app : ℕ) (m : Machine A) (e : Event) → slice_get world app ≡ Some m → slice_get (world_step behaviour world (record { app = app; event = e })) app ≡ Some (step behaviour m e).machine
+  pub at_step : (world : World A) (app : ℕ) (m : Machine A) (e : Event) → slice_get world app ≡ Some m → slice_get (world_step behaviour world (record { app = app; event = e }))
+      app ≡ Some (step behaviour m e).machine
   at_step world app m e here =
       let met = met_there e world app m here in
       ap (λ (o : Option (Machine A)). slice_get (moved_at behaviour world app e o) app) here
       ∙ get_set (met_by_others behaviour e world) app met.0 (step behaviour m e).machine met.1
 
   -- and after events of it
-  pub at_after : (world : World A) (app : ℕ) (m : Machine A) (made : List Event) → slice_get world app ≡ Some m → slice_get (world_after behaviour world (events_at behaviour app made)) app ≡ Some (machine_after behaviour m made)
+  pub at_after : (world : World A) (app : ℕ) (m : Machine A) (made : List Event) → slice_get world app ≡ Some m →
+      slice_get (world_after behaviour world (events_at behaviour app made)) app ≡ Some (machine_after behaviour m made)
   at_after world app m [] here = here
   at_after world app m (e ∷ made) here =
       at_after (world_step behaviour world (record { app = app; event = e })) app (step behaviour m e).machine made (at_step world app m e here)
@@ -78,7 +80,8 @@ module _ {V A : Type 0} (K : VolumeKeeper V) (behaviour : Behaviour A) (world : 
   abbrev pub Made : List (AppSide A) → V → ℕ → List Happened → List Happened → Type 0
   Made sides volume k before told = HasTurned behaviour (Leads behaviour (λ (w : World A). StandFor K sides volume w) world app) m i op k before told
 
-  pub made_none : (sides : List (AppSide A)) (volume : V) (before : List Happened) → StandFor K sides volume world → IsPlainBehind (turns_in (slice_get sides app)) before → Made sides volume 0 before before
+  pub made_none : (sides : List (AppSide A)) (volume : V) (before : List Happened) → StandFor K sides volume world → IsPlainBehind (turns_in (slice_get sides app)) before →
+      Made sides volume 0 before before
   made_none sides volume before stands plain =
       turns_start behaviour (Leads behaviour (λ (w : World A). StandFor K sides volume w) world app) m i op before stands
       (subst (λ n. IsPlainBehind n before) (sides_turns sides world app m stands.sides_are here) plain)
@@ -95,23 +98,27 @@ module _ {V A : Type 0} (K : VolumeKeeper V) (behaviour : Behaviour A) (world : 
     now_turns = sym (sides_turns sides so_far app run.now run.stands.sides_are now_there)
 
     -- what the application says of the operation
-    pub now_says : (side d : AppSide A) (answer : Bool) → app < length sides → side ≡ get_or sides app d → ((n : Machine A) → Runs_as side n → answer ≡ is_answered n op) → answer ≡ is_answered run.now op
+    pub now_says : (side d : AppSide A) (answer : Bool) → app < length sides → side ≡ get_or sides app d → ((n : Machine A) → Runs_as side n → answer ≡ is_answered n op) →
+        answer ≡ is_answered run.now op
     now_says side d answer lt value says = says run.now (side_here sides so_far app side d run.now run.stands.sides_are lt value now_there)
 
     -- one turn more
     pub made_further : (then : List (AppSide A)) (new : V) (kind : TurnKind) (turn : ℕ) (replies : List Reply)
         → ((w : World A) → StandFor K sides old w → StandFor K then new (world_step behaviour w (record { app = app; event = event_of kind i })))
-        → ((w : World A) (n : Machine A) → StandFor K sides old w → slice_get w app ≡ Some n → may_stand n (event_of kind i) ≡ true)
+        → ((w : World A) (n : Machine A) → StandFor K sides old w → slice_get w app ≡ Some n → is_enabled n (event_of kind i) ≡ true)
         → ((w : World A) (n : Machine A) → StandFor K sides old w → slice_get w app ≡ Some n → SaysChange (store_kind kind) (is_changing n i))
         → ((w : World A) (n : Machine A) → StandFor K sides old w → slice_get w app ≡ Some n → replies ≡ (step behaviour n (event_of kind i)).replies)
         → turn ≡ turns_in (slice_get then app) → k < 10000000 → is_answered run.now op ≡ false
-        → Made then new (k + 1) before (told_behind told (turn_happened kind turn i replies))
+        → Made then new (k + 1) before (append_if_told told (turn_happened kind turn i replies))
     made_further then new kind turn replies steps stands change replied counted within not_yet =
         let e : Event = event_of kind i in
         let stepped = steps so_far run.stands in
         let turns : turn ≡ (step behaviour run.now e).machine.turns =
-        counted ∙ sides_turns then (world_step behaviour so_far (record { app = app; event = e })) app (step behaviour run.now e).machine stepped.sides_are (at_step behaviour so_far app run.now e now_there) in
-        let told_so = turn_is behaviour run.now kind i turn replies (says_so kind (is_changing run.now i) (change so_far run.now run.stands now_there)) turns (replied so_far run.now run.stands now_there) in
-        turns_further behaviour (Leads behaviour (λ (w : World A). StandFor K sides old w) world app) (Leads behaviour (λ (w : World A). StandFor K then new w) world app) m i op k before told run within not_yet
+        counted ∙ sides_turns then (world_step behaviour so_far (record { app = app; event = e })) app (step behaviour run.now e).machine stepped.sides_are
+        (at_step behaviour so_far app run.now e now_there) in
+        let told_so = turn_is behaviour run.now kind i turn replies (says_so kind (is_changing run.now i) (change so_far run.now run.stands now_there)) turns
+        (replied so_far run.now run.stands now_there) in
+        turns_further behaviour (Leads behaviour (λ (w : World A). StandFor K sides old w) world app) (Leads behaviour (λ (w : World A). StandFor K then new w) world app) m i op k
+        before told run within not_yet
         (turn_happened kind turn i replies) (stands so_far run.now run.stands now_there)
         (subst (λ (w : World A). StandFor K then new w) (sym (world_more behaviour world app run.made e)) stepped) told_so

@@ -68,8 +68,8 @@ abbrev pub is_told : Happened → Bool
 is_told h = not (is_plain h.kind) || has_reply h.replies
 
 -- what was told before, and then a happening if it is told
-abbrev pub told_behind : List Happened → Happened → List Happened
-told_behind told h = told ++ filter is_told (h ∷ [])
+abbrev pub append_if_told : List Happened → Happened → List Happened
+append_if_told told h = told ++ filter is_told (h ∷ [])
 
 -- ---- the marks that are read off what was told
 
@@ -95,12 +95,12 @@ is_starved_turn kinds.Starved = true
 is_starved_turn kinds.Corrupted = false
 
 -- the turn of this number went so, as one of the happenings tells
-abbrev pub tells : (TurnKind → Bool) → List Happened → ℕ → Bool
-tells went told turn = list_any (λ h. went h.kind && h.turn == turn) told
+abbrev pub has_told : (TurnKind → Bool) → List Happened → ℕ → Bool
+has_told went told turn = list_any (λ h. went h.kind && h.turn == turn) told
 
 -- how turns went: each that was told as lost, as damaged or as starved is marked so, and no other
 abbrev pub marks_of : List Happened → Marks
-marks_of told = record { lost = tells is_lost_turn told; corrupt = tells is_corrupt_turn told; starved = tells is_starved_turn told }
+marks_of told = record { lost = has_told is_lost_turn told; corrupt = has_told is_corrupt_turn told; starved = has_told is_starved_turn told }
 
 -- no turn behind this number is told as lost, damaged or starved
 abbrev pub IsPlainBehind : ℕ → List Happened → Type 0

@@ -1,18 +1,16 @@
 -- What an opening of all applications promises.
-use Rattle.std.specs.Prelude.{ℕ, ◌≡◌, ◌<◌, ◌⊎◌, true, None, Some, Ok}
+use Rattle.std.specs.Prelude.{ℕ, ◌≡◌, ◌<◌, true, Some, Ok}
 use Rattle.board.specs.Moment.{View}
 use Rattle.board.specs.Steps.{CallRun}
 use Rattle.epoch.specs.Forms.{Form, held}
-use Rattle.epoch.specs.Opening.{opening_of}
 use Rattle.object_dir.specs.Regions.{region_in}
 use Rattle.store_api.specs.Stores.{Store}
 use Rattle.store_api.specs.Volumes.{Held}
 
--- an image beside this counter is sound for so many hosts, and these are its stores: it is blank, or a header counts whose sequence
--- isn't 0, the leaves under its root are sealed, and each host's region stands for its store
+-- an image beside this counter is sound for so many hosts, and these are its stores: it is blank, or a header counts in the slot
+-- of its sequence and the leaves under its root are sealed, and each host's region stands for its store
 pub record IsSoundFor (f : Form) (view : View) (counter : ℕ) (h : Held) (hosts : ℕ) (stores : ℕ → Store) : Type 0 where
   pub opens : held f view.key view.state.reads counter ≡ Some h
-  pub formatted : (opening_of f.version view.key view.state.reads counter ≡ Ok None) ⊎ (0 < h.sequence)
   pub stand : (app : ℕ) → app < hosts → region_in app h ≡ Ok (stores app)
 
 -- the board was opened by a run of its calls

@@ -66,7 +66,6 @@ module _ {V : Type 0} (K : VolumeKeeper V) where
     pub honest : K.honest volume
     pub sides_are : AreSides sides world
     pub stores : HoldsStores none_kept world (K.held volume)
-    pub formatted : 0 < (K.held volume).sequence
     -- all that a crash may leave has these stores, or the change in doubt besides
     pub left : (o : Option Held) → K.left_since volume (K.moment volume) o → IsLeftOf world (K.held volume).sequence o
     -- no change is in doubt unless the volume is lost, and then at most one

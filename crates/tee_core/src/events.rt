@@ -3,7 +3,7 @@
 ghost use Rattle.std.specs.Prelude.{◌≡◌, ◌<◌, ◌≤◌, ◌≢◌, ◌+◌, ◌^◌, ℕ, [], IfOk, OnErr, OnOk, Some, slice_get, true};
 ghost use Rattle.alone.specs.Machine.{Machine};
 ghost use Rattle.alone.specs.declared.turn.TurnKind.TheVariants.{Plain};
-ghost use Rattle.alone.specs.Step.{is_answered, is_changing, may_stand, step, Called, Cancelled};
+ghost use Rattle.alone.specs.Step.{is_answered, is_changing, is_enabled, step, Called, Cancelled};
 ghost use Rattle.app_side.specs.Represents.{event_of as turn_of, store_kind};
 ghost use Rattle.object_asks.specs.Serving.{SaysChange};
 ghost use Rattle.tee_core.specs.Happenings.{happening};
@@ -56,7 +56,7 @@ impl<B, V: Volume, A: Application> TeeOver<B, V, A> {
         ensures stands { IfOk result (λ told.
             (world : World A) (m : Machine A) → Represents self.old world
             → slice_get world (app_of event) ≡ Some m
-            → may_stand m (machine_event event told.kind) ≡ true) }
+            → is_enabled m (machine_event event told.kind) ≡ true) }
         ensures sound { IfOk result (λ told. (world : World A) → Represents self.old world
             → IsSound told.kind) }
         // a crash within it leaves the stores of the world before it or after it
@@ -144,7 +144,7 @@ impl<B, V: Volume, A: Application> TeeOver<B, V, A> {
             → Represents self.new (world_step A.behaviour world
             (record { app = app; event = turn_of result.kind instance })) }
         ensures stands { (world : World A) (m : Machine A) → Represents self.old world
-            → slice_get world app ≡ Some m → may_stand m (turn_of result.kind instance) ≡ true }
+            → slice_get world app ≡ Some m → is_enabled m (turn_of result.kind instance) ≡ true }
         ensures sound { (world : World A) → Represents self.old world → IsSound result.kind }
         ensures moments { (world : World A) → Represents self.old world
             → IsWithin V.keeper world (world_step A.behaviour world
@@ -181,7 +181,7 @@ impl<B, V: Volume, A: Application> TeeOver<B, V, A> {
             → Represents self.new (world_step A.behaviour world
             (record { app = app; event = turn_of result instance })) }
         ensures stands { (world : World A) (m : Machine A) → Represents self.old world
-            → slice_get world app ≡ Some m → may_stand m (turn_of result instance) ≡ true }
+            → slice_get world app ≡ Some m → is_enabled m (turn_of result instance) ≡ true }
         ensures sound { (world : World A) → Represents self.old world → IsSound result }
         ensures change { (world : World A) (m : Machine A) → Represents self.old world
             → slice_get world app ≡ Some m

@@ -50,7 +50,7 @@ impl Model for RunReplies {
 
 impl RunReplies {
     ghost use Rattle.std.specs.Prelude.{◌≡◌, ◌++◌, [], ◌∷◌, OnOk, OnErr};
-    ghost use Rattle.tee_core.specs.Happenings.{told_behind, turn_happened};
+    ghost use Rattle.tee_core.specs.Happenings.{append_if_told, turn_happened};
 
     /// Nothing told yet. It takes no memory.
     pub fn new(alloc: Global) -> RunReplies
@@ -72,7 +72,7 @@ impl RunReplies {
 
     /// Tells of a turn, unless it is plain and has no reply, and takes its replies. Want of memory changes nothing that is
     /// told.
-    pub fn tell_turn(
+    pub fn push_turn_if_told(
         &mut self,
         kind: TurnKind,
         turn: u64,
@@ -80,7 +80,7 @@ impl RunReplies {
         replies: &mut Replies,
     ) -> Result<(), NoMemory>
         ensures ok { OnOk result (self.new
-            ≡ told_behind self.old (turn_happened kind turn instance replies.old)) }
+            ≡ append_if_told self.old (turn_happened kind turn instance replies.old)) }
         ensures taken { OnOk result (replies.new ≡ []) }
         ensures err { OnErr result (self.new ≡ self.old) }
     {

@@ -4,13 +4,13 @@ ghost use Rattle.std.specs.Prelude.{◌≡◌, ◌≤◌, ◌<◌, ◌+◌, ◌-
 ghost use Rattle.app_api.specs.Hosts.{HostsFit};
 ghost use Rattle.tee_base.specs.Crash.{LeavesOnly};
 ghost use Rattle.tee_base.specs.Faults.{Rose};
-ghost use Rattle.tee_base.specs.declared.limits.TheConstants.{BOARD_BLOCKS, HOSTS};
+ghost use Rattle.tee_base.specs.declared.limits.TheConstants.{BOARD_BLOCKS, MAX_HOSTS};
 ghost use Rattle.store_api.specs.Stores.{Store};
 ghost use Rattle.store_api.specs.Volumes.{Held};
 ghost use Rattle.board.specs.Moment.{IsCounter, IsLeft, Outcome};
 ghost use Rattle.board.specs.Runs.{Rests};
 ghost use Rattle.epoch.specs.Forms.{held};
-ghost use Rattle.epoch.specs.Mounts.{IsKeptFromOpening, IsRefusal, LeavesOpening, OrderRun, after_opening};
+ghost use Rattle.epoch.specs.Mounts.{IsAdmitted, IsKeptFromOpening, IsRefusal, LeavesOpening, OrderRun, after_opening};
 ghost use Rattle.epoch.specs.declared.answer.OpenAnswer.TheVariants as answers;
 ghost use Rattle.tee_core.specs.Moments.{IsWithin};
 ghost use Rattle.tee_core.specs.Opening.{IsOpenedOver, IsSoundFor};
@@ -37,7 +37,7 @@ fn start_all<A: Application>(
     hosts: Vec<Host<A>>,
     seed: [u8; 32],
 ) -> Result<Vec<AppSide<A>>, NoMemory>
-    requires { length hosts.items ≤ HOSTS }
+    requires { length hosts.items ≤ MAX_HOSTS }
     ensures world { IfOk result (λ sides. (stores : ℕ → Store)
         → AreSides sides.items (world_of hosts.items seed stores)) }
     ensures lost { IfOk result (λ sides. AreLost false sides.items) }
@@ -108,13 +108,17 @@ impl<B: Board, V: BoardVolume<B>, A: Application> TeeOver<B, V, A> {
         ensures honest_back { B.honest board → IfErr result (λ u. B.honest u.board) }
         ensures cause { IfErr result (λ u. u.why ≡ answers.Failed
             → Rose (B.view board).state.faults (B.view u.board).state.faults) }
-        // whatever the board: refused by the rule over what it tells, at some counter
+        // whatever the board: by the rule over what it tells, at some counter
         ensures rule { IsTrue B.tells_reads → (counter : ℕ)
             × IfErr result (λ u. IsRefusal V.form (B.view board)
-            (B.view board).state.reads counter u.why) }
+            (B.view board).state.reads counter u.why)
+            × IfOk result (λ tee. IsAdmitted V.form (B.view board)
+            (B.view board).state.reads counter (V.keeper.held (volume_of tee)).sequence) }
         ensures exact { B.honest board → (counter : ℕ) × IsCounter (B.view board).state counter
             × IfErr result (λ u. IsRefusal V.form (B.view board)
-            (B.view board).state.reads counter u.why) }
+            (B.view board).state.reads counter u.why)
+            × IfOk result (λ tee. IsAdmitted V.form (B.view board)
+            (B.view board).state.reads counter (V.keeper.held (volume_of tee)).sequence) }
         ensures unopened { B.honest board → (n : ℕ) (h : Held) → Rests n (B.view board).state
             → BOARD_BLOCKS ≤ (B.view board).size
             → held V.form (B.view board).key (B.view board).state.reads n ≡ Some h
@@ -136,7 +140,7 @@ impl<B: Board, V: BoardVolume<B>, A: Application> TeeOver<B, V, A> {
         board: B,
         sides: Vec<AppSide<A>>,
     ) -> Result<TeeOver<B, V, A>, Unopened<B>>
-        requires few { length sides.items ≤ HOSTS }
+        requires few { length sides.items ≤ MAX_HOSTS }
         requires lost { AreLost false sides.items }
         requires booted { AreBooted 0 sides.items }
         ensures volume { B.honest board → (n : ℕ) (h : Held) → Rests n (B.view board).state
@@ -155,13 +159,17 @@ impl<B: Board, V: BoardVolume<B>, A: Application> TeeOver<B, V, A> {
         ensures honest_back { B.honest board → IfErr result (λ u. B.honest u.board) }
         ensures cause { IfErr result (λ u. u.why ≡ answers.Failed
             → Rose (B.view board).state.faults (B.view u.board).state.faults) }
-        // whatever the board: refused by the rule over what it tells, at some counter
+        // whatever the board: by the rule over what it tells, at some counter
         ensures rule { IsTrue B.tells_reads → (counter : ℕ)
             × IfErr result (λ u. IsRefusal V.form (B.view board)
-            (B.view board).state.reads counter u.why) }
+            (B.view board).state.reads counter u.why)
+            × IfOk result (λ tee. IsAdmitted V.form (B.view board)
+            (B.view board).state.reads counter (V.keeper.held (volume_of tee)).sequence) }
         ensures exact { B.honest board → (counter : ℕ) × IsCounter (B.view board).state counter
             × IfErr result (λ u. IsRefusal V.form (B.view board)
-            (B.view board).state.reads counter u.why) }
+            (B.view board).state.reads counter u.why)
+            × IfOk result (λ tee. IsAdmitted V.form (B.view board)
+            (B.view board).state.reads counter (V.keeper.held (volume_of tee)).sequence) }
         ensures unopened { B.honest board → (n : ℕ) (h : Held) → Rests n (B.view board).state
             → BOARD_BLOCKS ≤ (B.view board).size
             → held V.form (B.view board).key (B.view board).state.reads n ≡ Some h
@@ -218,7 +226,9 @@ impl<B: Board, V: BoardVolume<B>, A: Application> TeeOver<B, V, A> {
         ensures exact { B.honest (V.board_of (volume_of self.old)) → (c : Outcome)
             × IsLeft (B.view (V.board_of (volume_of self.old))).state c
             × IfErr result (λ why. IsRefusal V.form (B.view (V.board_of (volume_of self.old)))
-            c.image c.counter why) }
+            c.image c.counter why)
+            × IfOk result (λ told. IsAdmitted V.form (B.view (V.board_of (volume_of self.old)))
+            c.image c.counter (V.keeper.held (volume_of self.new)).sequence) }
         ensures cause { IfErr result (λ why. why ≡ answers.Failed
             → Rose (B.view (V.board_of (volume_of self.old))).state.faults
             (B.view (V.board_of (volume_of self.new))).state.faults) }

@@ -1,7 +1,7 @@
 //! Calls that are run until they are answered.
 
 ghost use Rattle.std.specs.Prelude.{◌≡◌, ◌+◌, ◌≤◌, ◌<◌, ◌≢◌, ◌^◌, ℕ, IfOk, OnErr, OnOk, Some, slice_get};
-ghost use Rattle.tee_base.specs.declared.limits.TheConstants.{CALL_TURNS};
+ghost use Rattle.tee_base.specs.declared.limits.TheConstants.{MAX_CALL_TURNS};
 ghost use Rattle.alone.specs.Machine.{Machine};
 ghost use Rattle.alone.specs.Marks.{Marks, SameWithin};
 ghost use Rattle.tee_core.specs.Happenings.{IsPlainBehind, marks_of, told_of_call};
@@ -28,7 +28,7 @@ impl<B, V: Volume, A: Application> TeeOver<B, V, A> {
     /// There is no memory for the call, or to tell of what happened: then only the first events of such a run were made.
     pub fn run(&mut self, app: u8, client: u8, call: Call) -> Result<RunReplies, NoMemory>
         requires known { app < app_count self.old }
-        requires room { turns_made self.old app + CALL_TURNS ≤ 2 ^ 63 }
+        requires room { turns_made self.old app + MAX_CALL_TURNS ≤ 2 ^ 63 }
         ensures world { IfOk result (λ told.
             (world : World A) (m : Machine A) (marks : Marks) → Represents self.old world
             → slice_get world app ≡ Some m
@@ -48,7 +48,7 @@ impl<B, V: Volume, A: Application> TeeOver<B, V, A> {
         ensures err { OnErr result ((world : World A) → Represents self.old world
             → StopsWithin A.behaviour (λ after. Represents self.new after) world app client call) }
         ensures apps { app_count self.new ≡ app_count self.old }
-        ensures turns { turns_made self.new app ≤ turns_made self.old app + CALL_TURNS }
+        ensures turns { turns_made self.new app ≤ turns_made self.old app + MAX_CALL_TURNS }
         ensures others { (other : ℕ) → other ≢ app
             → turns_made self.new other ≡ turns_made self.old other }
         ensures boots { boots_of self.new ≡ boots_of self.old }
@@ -75,7 +75,7 @@ impl<B, V: Volume, A: Application> TeeOver<B, V, A> {
         told: &mut RunReplies,
     ) -> Result<(), NoMemory>
         requires known { app < app_count self.old }
-        requires room { turns_made self.old app + CALL_TURNS ≤ 2 ^ 63 }
+        requires room { turns_made self.old app + MAX_CALL_TURNS ≤ 2 ^ 63 }
         requires plain { IsPlainBehind (turns_made self.old app) told.old }
         ensures ok { OnOk result ((world : World A) (m : Machine A) → Represents self.old world
             → slice_get world app ≡ Some m
@@ -90,18 +90,18 @@ impl<B, V: Volume, A: Application> TeeOver<B, V, A> {
         ensures foundation { KeepsFoundation (V.keeper.condition (volume_of self.old))
             (V.keeper.condition (volume_of self.new)) }
         ensures apps { app_count self.new ≡ app_count self.old }
-        ensures turns { turns_made self.new app ≤ turns_made self.old app + CALL_TURNS }
+        ensures turns { turns_made self.new app ≤ turns_made self.old app + MAX_CALL_TURNS }
         ensures others { (other : ℕ) → other ≢ app
             → turns_made self.new other ≡ turns_made self.old other }
         ensures boots { boots_of self.new ≡ boots_of self.old }
     {
         let mut replies = Replies::none();
-        for _ in 0..limits::CALL_TURNS {
+        for _ in 0..limits::MAX_CALL_TURNS {
             if self.sides[app as usize].answered(op) {
                 return Ok(());
             }
             let kind = self.advance(app, instance, &mut replies);
-            told.tell_turn(kind, self.turns(app), instance, &mut replies)?;
+            told.push_turn_if_told(kind, self.turns(app), instance, &mut replies)?;
         }
         Ok(())
     }

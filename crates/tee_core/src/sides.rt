@@ -2,7 +2,7 @@
 
 ghost use Rattle.std.specs.Prelude.{◌≡◌, ◌≤◌, ◌<◌, ◌+◌, ◌-◌, ◌^◌, ℕ, [], false, true, IfNone, IfSome, length, map, slice_get, Some};
 ghost use Rattle.std.specs.List.{position};
-ghost use Rattle.tee_base.specs.declared.limits.TheConstants.{HOSTS};
+ghost use Rattle.tee_base.specs.declared.limits.TheConstants.{MAX_HOSTS};
 ghost use Rattle.alone.specs.Machine.{Machine};
 ghost use Rattle.alone.specs.Step.{step, Lost};
 ghost use Rattle.app_side.specs.Represents.{boot_of, has_doubt, is_lost, turns_of, Represents};
@@ -29,7 +29,7 @@ pub(crate) fn turn_over<V: Volume, A: Application>(
     replies: &mut Replies,
 ) -> TurnKind
     requires few { turns_of side.old < 2 ^ 63 }
-    requires region { region < HOSTS }
+    requires region { region < MAX_HOSTS }
     requires loss { is_lost side.old ≡ (V.keeper.condition volume.old).lost }
     requires none { replies.old ≡ [] }
     ensures turn { TurnsOver V.keeper A.behaviour region instance result replies.new
@@ -71,7 +71,7 @@ fn lose_one<A: Application>(side: &mut AppSide<A>)
 
 /// The power of all of them came back, of which one may keep its change in doubt.
 pub(crate) fn restart_all<A: Application>(sides: &mut Vec<AppSide<A>>, kept: Option<u8>, boots: u32)
-    requires few { length sides.old.items ≤ HOSTS }
+    requires few { length sides.old.items ≤ MAX_HOSTS }
     requires booted { AreBooted boots sides.old.items }
     requires room { boots < 2 ^ 32 - 1 }
     ensures sides { (world : World A) → AreSides sides.old.items world
@@ -98,7 +98,7 @@ fn is_kept(kept: Option<u8>, index: usize) -> bool
 
 /// The application whose change is in doubt, if there is one.
 pub(crate) fn owner_of_doubt<A: Application>(sides: &[AppSide<A>]) -> Option<u8>
-    requires { length sides.now ≤ HOSTS }
+    requires { length sides.now ≤ MAX_HOSTS }
     ensures none { IfNone result (IsNoneInDoubt sides.now) }
     ensures some { IfSome result (λ owner. (side : Side A) × (slice_get sides.now owner ≡ Some side)
         × (has_doubt side ≡ true)) }

@@ -1,7 +1,7 @@
 //! All applications side by side, over one volume.
 
 ghost use Rattle.std.specs.Prelude.{◌≤◌, vec_len};
-ghost use Rattle.tee_base.specs.declared.limits.TheConstants.{HOSTS};
+ghost use Rattle.tee_base.specs.declared.limits.TheConstants.{MAX_HOSTS};
 ghost use Rattle.tee_core.specs.Sides.{AreBooted, AreBooted-prop, ServeAs, ServeAs-prop};
 
 use app_side::AppSide;
@@ -25,7 +25,7 @@ pub struct TeeOver<B, V: Volume, A> {
     /// How often the power was lost.
     pub(crate) boots: u32,
     pub(crate) board: PhantomData<B>,
-    ghost few: { vec_len sides ≤ HOSTS },
+    ghost few: { vec_len sides ≤ MAX_HOSTS },
     ghost served: { ServeAs V.keeper volume sides.items } by { ServeAs-prop V.keeper volume sides.items },
     ghost booted: { AreBooted boots sides.items } by { AreBooted-prop boots sides.items },
 }

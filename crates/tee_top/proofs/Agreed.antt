@@ -1,7 +1,8 @@
 -- Weather that is that of a log agrees with the events that it tells of: each number of a turn stands for one turn of an application,
 -- and each number of a loss of power for one loss.
 use Rattle.app_api.specs.Behaviours.{Behaviour}
-use Rattle.std.proofs.Common.{ℕ, zero, suc, ◌≡◌, ◌≢◌, ◌<◌, ◌≤◌, ◌+◌, ◌==◌, ◌&&◌, ◌⊎◌, inl, inr, Bool, true, false, cond, filter, List, [], ◌∷◌, ◌++◌, Option, None, Some, length, map, refl, sym, subst, ◌∙◌, ap, append_assoc, arith}
+use Rattle.std.proofs.Common.{ℕ, zero, suc, ◌≡◌, ◌≢◌, ◌<◌, ◌≤◌, ◌+◌, ◌==◌, ◌&&◌, ◌⊎◌, inl, inr, Bool, true, false, cond, filter, List, [], ◌∷◌}
+use Rattle.std.proofs.Common.{◌++◌, Option, None, Some, length, map, refl, sym, subst, ◌∙◌, ap, append_assoc, arith}
 use Rattle.std.specs.Prelude.{◌||◌, slice_get}
 use Rattle.std.proofs.Math.Bool.{or-false}
 use Rattle.std.proofs.lemmas.Bool.{cond_both, eq-eqb, eqb-true, eqb-false, ne_eqb}
@@ -17,7 +18,7 @@ use Rattle.alone.specs.Marks.{Marks}
 use Rattle.alone.specs.Step.{Event, Called, Cancelled, Turned, TurnLost, Corrupted, Lost, Starved, Restarted, step}
 use Rattle.alone.proofs.Counted.{call_counts_none}
 use Rattle.tee_core.specs.declared.happened.Happened.{Happened}
-use Rattle.tee_core.specs.Happenings.{happening, is_corrupt_turn, is_lost_turn, is_starved_turn, kind_met, tells}
+use Rattle.tee_core.specs.Happenings.{happening, is_corrupt_turn, is_lost_turn, is_starved_turn, kind_met, has_told}
 use Rattle.tee_core.specs.Powers.{after_power, kept_by, restarts_from, told_of}
 use Rattle.tee_core.specs.World.{World, AppEvent, met_by_others, moved_at, world_step}
 use Rattle.tee_core.proofs.SideLemmas.{get_other}
@@ -142,13 +143,13 @@ module _ {A : Type 0} (behaviour : Behaviour A) where
   module _ (went : TurnKind → Bool) (plain : went kinds.Plain ≡ false) where
     -- whether the log tells that the turn went so
     abbrev says : ℕ → List Item → ℕ → Bool
-    says app log turn = tells went (told_of_app app (entries_in log)) turn
+    says app log turn = has_told went (told_of_app app (entries_in log)) turn
 
     says_both : (app : ℕ) (xs ys : List Item) (turn : ℕ) → says app (xs ++ ys) turn ≡ (says app xs turn || says app ys turn)
     says_both app xs ys turn =
-        ap (λ zs. tells went (told_of_app app zs) turn) (entries_both xs ys)
-        ∙ ap (λ zs. tells went (map (λ (e : Entry). e.told) zs) turn) (filter-append (λ (e : Entry). e.app == app) (entries_in xs) (entries_in ys))
-        ∙ ap (λ zs. tells went zs turn) (map-append (λ (e : Entry). e.told) (filter (λ (e : Entry). e.app == app) (entries_in xs)) (filter (λ (e : Entry). e.app == app) (entries_in ys)))
+        ap (λ zs. has_told went (told_of_app app zs) turn) (entries_both xs ys)
+        ∙ ap (λ zs. has_told went (map (λ (e : Entry). e.told) zs) turn) (filter-append (λ (e : Entry). e.app == app) (entries_in xs) (entries_in ys))
+        ∙ ap (λ zs. has_told went zs turn) (map-append (λ (e : Entry). e.told) (filter (λ (e : Entry). e.app == app) (entries_in xs)) (filter (λ (e : Entry). e.app == app) (entries_in ys)))
         ∙ list_any-append (λ (h : Happened). went h.kind && h.turn == turn) (told_of_app app (entries_in xs)) (told_of_app app (entries_in ys))
 
     -- an event that makes another turn, or none, tells nothing of this one
@@ -165,7 +166,7 @@ module _ {A : Type 0} (behaviour : Behaviour A) where
         → ((m : Machine A) → o ≡ Some m → of ≡ app → (went (kind_met m event) && (step behaviour m event).machine.turns == turn) ≡ false) → says app (entry_of behaviour of event o) turn ≡ false
     entry_says of event app turn None none = refl
     entry_says of event app turn (Some m) none =
-        cond_both (of == app) (record { app = of; told = happening behaviour m event } ∷ []) [] (λ (es : List Entry). tells went (map (λ (e : Entry). e.told) es) turn ≡ false)
+        cond_both (of == app) (record { app = of; told = happening behaviour m event } ∷ []) [] (λ (es : List Entry). has_told went (map (λ (e : Entry). e.told) es) turn ≡ false)
         (λ yes. or-false (went (kind_met m event) && (step behaviour m event).machine.turns == turn) ∙ none m refl (eqb-true of app yes))
         (λ no. refl)
 
@@ -224,7 +225,7 @@ module _ {A : Type 0} (behaviour : Behaviour A) where
         ∙ ap (λ b. says e.app here turn || b) (says_later then es e.app turn (omega (arith, own_turns w e m is, count)))
         ∙ or-false (says e.app here turn)
         ∙ ap (λ o. says e.app (entry_of behaviour e.app e.event o) turn) is
-        ∙ ap (λ b. tells went (map (λ (x : Entry). x.told) (cond b (record { app = e.app; told = happening behaviour m e.event } ∷ []) [])) turn) (eq-eqb e.app e.app refl)
+        ∙ ap (λ b. has_told went (map (λ (x : Entry). x.told) (cond b (record { app = e.app; told = happening behaviour m e.event } ∷ []) [])) turn) (eq-eqb e.app e.app refl)
         ∙ or-false (went (kind_met m e.event) && (step behaviour m e.event).machine.turns == turn)
         ∙ ap (λ b. went (kind_met m e.event) && b) (eq-eqb (step behaviour m e.event).machine.turns turn count)
         ∙ true_and (went (kind_met m e.event))
@@ -253,7 +254,8 @@ module _ {A : Type 0} (behaviour : Behaviour A) where
 
   module _ (names : List (List ℕ)) (weather : Weather) (log : List Item) (same : SameWeather (length names) weather (log_weather log)) where
     marked : (power : ℕ) (w : World A) (e : AppEvent) (m : Machine A) (front : List Item) (es : List WorldEvent) → slice_get w e.app ≡ Some m → (step behaviour m e.event).machine.turns ≡ m.turns + 1
-        → AreBehind power w front → log ≡ front ++ log_of behaviour w (Happens e ∷ es) → AreKnown names (log_of behaviour w (Happens e ∷ es)) → IsMarkedAs (kind_met m e.event) (weather.marks e.app) (m.turns + 1)
+        → AreBehind power w front → log ≡ front ++ log_of behaviour w (Happens e ∷ es) → AreKnown names (log_of behaviour w (Happens e ∷ es)) →
+        IsMarkedAs (kind_met m e.event) (weather.marks e.app) (m.turns + 1)
     marked power w e m front es is count behind whole known =
         let turn : ℕ = m.turns + 1 in
         let entries : AreKnown names (OfApp (record { app = e.app; told = happening behaviour m e.event }) ∷ log_of behaviour (world_step behaviour w e) es) =

@@ -9,7 +9,7 @@ use Rattle.app_api.specs.declared.call.Call.{Call}
 use Rattle.alone.specs.Machine.{Machine}
 use Rattle.alone.specs.Marks.{Marks, SameAt, event_at}
 use Rattle.alone.specs.Runs.{events_of_call, machine_after, most_turns, turns_of, turns_until}
-use Rattle.alone.specs.Step.{Event, Called, Cancelled, Turned, TurnLost, Corrupted, Lost, Starved, Restarted, called, is_answered, may_stand, step}
+use Rattle.alone.specs.Step.{Event, Called, Cancelled, Turned, TurnLost, Corrupted, Lost, Starved, Restarted, called, is_answered, is_enabled, step}
 use Rattle.alone.proofs.Booted.{call_boots_none, cancellation_boots_none, turn_boots_none}
 use Rattle.alone.proofs.Storage.{call_leaves_storage, cancellation_leaves_storage, damage_leaves_doubt, turn_leaves_doubt}
 use Rattle.object_asks.specs.Asks.{Serves, Fails, Damaged}
@@ -35,7 +35,7 @@ BootsNone (Restarted took) = ⊥
 -- the event of a turn, where it is so marked
 abbrev chosen : {A : Type 0} → Bool → Bool → Bool → Machine A → ℕ → Event
 chosen lost corrupt starved m i =
-    cond (lost && may_stand m (TurnLost i)) (TurnLost i) (cond (corrupt && may_stand m (Corrupted i)) (Corrupted i) (cond (starved && may_stand m (Starved i)) (Starved i) (Turned i)))
+    cond (lost && is_enabled m (TurnLost i)) (TurnLost i) (cond (corrupt && is_enabled m (Corrupted i)) (Corrupted i) (cond (starved && is_enabled m (Starved i)) (Starved i) (Turned i)))
 
 event_is : {A : Type 0} (marks : Marks) (m : Machine A) (i : ℕ) → event_at marks m i ≡ chosen (marks.lost (m.turns + 1)) (marks.corrupt (m.turns + 1)) (marks.starved (m.turns + 1)) m i
 unfolding event_at
@@ -69,7 +69,7 @@ pub turn_leaves : {A : Type 0} (marks : Marks) → ((turn : ℕ) → marks.lost 
 turn_leaves marks none m i =
     let turn = m.turns + 1 in
     ap met_by_another (event_is marks m i ∙ ap (λ (lost : Bool). chosen lost (marks.corrupt turn) (marks.starved turn) m i) (none turn))
-    ∙ unless_lost (marks.corrupt turn && may_stand m (Corrupted i)) (marks.starved turn && may_stand m (Starved i)) i
+    ∙ unless_lost (marks.corrupt turn && is_enabled m (Corrupted i)) (marks.starved turn && is_enabled m (Starved i)) i
 
 any_turn : (lost corrupt starved : Bool) (i : ℕ) → BootsNone (cond lost (TurnLost i) (cond corrupt (Corrupted i) (cond starved (Starved i) (Turned i))))
 any_turn true corrupt starved i = tt
@@ -82,7 +82,7 @@ pub turn_boots : {A : Type 0} (marks : Marks) (m : Machine A) (i : ℕ) → Boot
 turn_boots marks m i =
     let turn = m.turns + 1 in
     subst BootsNone (sym (event_is marks m i))
-    (any_turn (marks.lost turn && may_stand m (TurnLost i)) (marks.corrupt turn && may_stand m (Corrupted i)) (marks.starved turn && may_stand m (Starved i)) i)
+    (any_turn (marks.lost turn && is_enabled m (TurnLost i)) (marks.corrupt turn && is_enabled m (Corrupted i)) (marks.starved turn && is_enabled m (Starved i)) i)
 
 -- ---- what events leave of a machine
 

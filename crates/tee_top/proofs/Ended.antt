@@ -10,7 +10,19 @@ use Rattle.tee_base.specs.Faults.{Rose}
 use Rattle.tee_base.specs.Transfer.{HasMoreThan}
 use Rattle.tee_top.specs.declared.status.Status.{Status}
 use Rattle.tee_top.specs.declared.status.Status.TheVariants.{Done, BadWords, BadLine, TooLong, StoreRefused, NoMemory, ReadFault, WriteFault, BoardFault}
-use Rattle.tee_top.specs.Runs.{IsReadStatus, IsServed, IsText, IsBadText, IsBadAt, IsWithin}
+use Rattle.tee_top.specs.Runs.{IsReadStatus, IsServed, IsText, IsBadText, IsBadAt, IsUnopened, IsWithin}
+
+-- a run whose script wasn't read ends before its board is opened
+pub read_unopened : (status : Status) → IsReadStatus status → IsUnopened status
+read_unopened Done few = few
+read_unopened BadWords few = tt
+read_unopened (BadLine n) few = tt
+read_unopened TooLong few = tt
+read_unopened (StoreRefused why) few = tt
+read_unopened NoMemory few = tt
+read_unopened ReadFault few = tt
+read_unopened WriteFault few = few
+read_unopened BoardFault few = tt
 
 -- what reading says when it isn't Ok
 pub record Says {A : Type 0} (hosts : List (Host A)) (left : Option (List ℕ)) (before after : ℕ) (status : Status) : Type 0 where
@@ -26,7 +38,8 @@ module _ {A : Type 0} (hosts : List (Host A)) (fit : HostsFit hosts) (left : Opt
   pub within_for : left ≡ Some text → 1048576 < length text → IsWithin left → ⊥
   within_for told beyond within = let shorter = subst IsWithin told within in omega (arith, shorter, beyond)
 
-  pub bad_line_told : (status : Status) (n : ℕ) → Says hosts left before after status → left ≡ Some text → length text ≤ 1048576 → ¬ Rose before after → IsBadText hosts text n → (status ≡ BadLine n) ⊎ (status ≡ NoMemory)
+  pub bad_line_told : (status : Status) (n : ℕ) → Says hosts left before after status → left ≡ Some text → length text ≤ 1048576 → ¬ Rose before after → IsBadText hosts text n →
+      (status ≡ BadLine n) ⊎ (status ≡ NoMemory)
   bad_line_told Done n says told within unfailed bad = absurd says.few
   bad_line_told BadWords n says told within unfailed bad = absurd says.few
   bad_line_told WriteFault n says told within unfailed bad = absurd says.few
@@ -37,7 +50,8 @@ module _ {A : Type 0} (hosts : List (Host A)) (fit : HostsFit hosts) (left : Opt
   bad_line_told ReadFault n says told within unfailed bad = absurd (unfailed (says.fault refl))
   bad_line_told NoMemory n says told within unfailed bad = inr refl
 
-  pub script_told : (status : Status) (script : List Line) → Says hosts left before after status → left ≡ Some text → length text ≤ 1048576 → ¬ Rose before after → IsText hosts text script → (status ≡ Done) ⊎ (status ≡ NoMemory)
+  pub script_told : (status : Status) (script : List Line) → Says hosts left before after status → left ≡ Some text → length text ≤ 1048576 → ¬ Rose before after →
+      IsText hosts text script → (status ≡ Done) ⊎ (status ≡ NoMemory)
   script_told Done script says told within unfailed good = inl refl
   script_told BadWords script says told within unfailed good = absurd says.few
   script_told WriteFault script says told within unfailed good = absurd says.few
@@ -48,7 +62,8 @@ module _ {A : Type 0} (hosts : List (Host A)) (fit : HostsFit hosts) (left : Opt
   script_told ReadFault script says told within unfailed good = absurd (unfailed (says.fault refl))
   script_told NoMemory script says told within unfailed good = inr refl
 
-  pub too_long_told : (status : Status) → Says hosts left before after status → ((n : ℕ) → status ≡ BadLine n → IsWithin left) → left ≡ Some text → 1048576 < length text → ¬ Rose before after → (status ≡ TooLong) ⊎ (status ≡ NoMemory)
+  pub too_long_told : (status : Status) → Says hosts left before after status → ((n : ℕ) → status ≡ BadLine n → IsWithin left) → left ≡ Some text → 1048576 < length text →
+      ¬ Rose before after → (status ≡ TooLong) ⊎ (status ≡ NoMemory)
   too_long_told Done says within told beyond unfailed = absurd says.few
   too_long_told BadWords says within told beyond unfailed = absurd says.few
   too_long_told WriteFault says within told beyond unfailed = absurd says.few

@@ -22,7 +22,8 @@ known_line hosts client words (lines.Cancel app owner op) fill h = known_host ho
 known_line hosts client words (lines.Fuse count) fill h = tt
 known_line hosts client words (lines.Power pick) fill h = tt
 
-known_meaning : {A : Type 0} (hosts : List (Host A)) (client : ℕ) (text : List ℕ) (meaning : Meaning) (fill : ℕ) → Means hosts client text meaning fill → AllByRecursion (IsKnown (length hosts)) (lines_of meaning)
+known_meaning : {A : Type 0} (hosts : List (Host A)) (client : ℕ) (text : List ℕ) (meaning : Meaning) (fill : ℕ) → Means hosts client text meaning fill →
+    AllByRecursion (IsKnown (length hosts)) (lines_of meaning)
 unfolding Means
 known_meaning hosts client text Nothing fill h = tt
 known_meaning hosts client text (Client n) fill h = tt
@@ -35,7 +36,8 @@ both n (x ∷ xs) ys h i = (h.0, both n xs ys h.1 i)
 known_next : {A : Type 0} (hosts : List (Host A)) (at after : Place) (meanings : List Meaning) → AreNext hosts at meanings after → AllByRecursion (IsKnown (length hosts)) (flat_map lines_of meanings)
 unfolding AreNext
 known_next hosts at after [] h = tt
-known_next hosts at after (meaning ∷ more) h = both (length hosts) (lines_of meaning) (flat_map lines_of more) (known_meaning hosts at.client h.1.line meaning h.1.fill h.1.means) (known_next hosts h.0 after more h.2)
+known_next hosts at after (meaning ∷ more) h = both (length hosts) (lines_of meaning) (flat_map lines_of more) (known_meaning hosts at.client h.1.line meaning h.1.fill h.1.means)
+    (known_next hosts h.0 after more h.2)
 
 pub known_lines : {A : Type 0} (dialect : Dialect) (hosts : List (Host A)) (text : List ℕ) (script : List Line) → Reads dialect hosts text script → AllByRecursion (IsKnown (length hosts)) script
 known_lines dialect hosts text script reads = subst (AllByRecursion (IsKnown (length hosts))) (sym reads.told) (known_next hosts _ reads.after reads.meanings reads.read)

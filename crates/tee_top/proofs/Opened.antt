@@ -20,7 +20,7 @@ use Rattle.tee_core.proofs.Opens.{stores_started}
 use Rattle.tee_top.specs.Boards.{BeginsWith, HasFirstOrders, HasOrders, IsSpan, LeavesStores, orders_of}
 use Rattle.tee_top.specs.Parts.{IsRunOf, Point, point}
 use Rattle.tee_top.specs.Transcript.{Weather, WorldEvent}
-use Rattle.tee_top.proofs.Parts.{no_orders, span_before}
+use Rattle.tee_top.proofs.Parts.{span_before}
 use Rattle.script.specs.declared.line.Line.{Line}
 
 -- a count that rose later rose
@@ -31,6 +31,8 @@ rose_later a b c before (inr h) = inr h
 -- calls of an opening have no order among them
 pub span_opened : (ok : Bool) (old new : View) → CallRun ok old new → IsSpan 0 old new
 span_opened ok old new run = record {
+  size = run.size;
+  key = run.key;
   orders = run.orders;
   ordered = run.ordered;
   later = run.faults;
@@ -38,14 +40,21 @@ span_opened ok old new run = record {
 }
 
 pub orders_opened : (ok : Bool) (old new : View) → CallRun ok old new → HasOrders [] old new
-orders_opened ok old new run = no_orders old new run.orders run.ordered run.faults
+orders_opened ok old new run = record {
+  size = run.size;
+  key = run.key;
+  orders = run.orders;
+  ordered = run.ordered;
+  later = run.faults;
+}
 
 -- none of the lines was run
 pub first_orders_none : (script : List Line) (old new : View) → HasOrders [] old new → HasFirstOrders script old new
 first_orders_none script old new h = ([], orders_of script, refl, h)
 
 -- what is held has the stores of the machines at their start
-pub starts_over : {A : Type 0} (hosts : List (Host A)) (seed : List ℕ) (stores : ℕ → Store) (h : Held) → ((app : ℕ) → app < length hosts → region_in app h ≡ Ok (stores app)) → HoldsStores none_kept (world_of hosts seed stores) h
+pub starts_over : {A : Type 0} (hosts : List (Host A)) (seed : List ℕ) (stores : ℕ → Store) (h : Held) → ((app : ℕ) → app < length hosts → region_in app h ≡ Ok (stores app)) →
+    HoldsStores none_kept (world_of hosts seed stores) h
 starts_over hosts seed stores h stand = stores_started 0 hosts seed stores h (λ app lt. stand app (omega (arith, lt)))
 
 -- also where it is formatted

@@ -45,7 +45,8 @@ powers_both (OfBoard told ∷ xs) ys = ap (λ zs. told ∷ zs) (powers_both xs y
 pub known_both : (names : List (List ℕ)) (xs ys : List Item) → AreKnown names xs → AreKnown names ys → AreKnown names (xs ++ ys)
 known_both names xs ys h k = record {
   known = subst (AllByRecursion (λ (e : Entry). e.app < length names)) (sym (entries_both xs ys)) (all_both (λ (e : Entry). e.app < length names) (entries_in xs) (entries_in ys) h.known k.known);
-  counted = subst (AllByRecursion (λ (e : Entry). e.told.turn < 2 ^ 64)) (sym (entries_both xs ys)) (all_both (λ (e : Entry). e.told.turn < 2 ^ 64) (entries_in xs) (entries_in ys) h.counted k.counted);
+  counted = subst (AllByRecursion (λ (e : Entry). e.told.turn < 2 ^ 64)) (sym (entries_both xs ys)) (all_both (λ (e : Entry). e.told.turn < 2 ^ 64) (entries_in xs) (entries_in ys)
+      h.counted k.counted);
   owners = subst (AllByRecursion (IsOwnerKnown (length names))) (sym (powers_both xs ys)) (all_both (IsOwnerKnown (length names)) (powers_told xs) (powers_told ys) h.owners k.owners);
 }
 
@@ -141,7 +142,8 @@ module _ {A : Type 0} (behaviour : Behaviour A) where
       ∙ sym (append_assoc here (log_of behaviour then xs) (log_of behaviour (after_events behaviour then xs) ys))
 
   -- the text of an event is that of what is told of it
-  machine_is : (names : List (List ℕ)) (app : ℕ) (event : Event) (o : Option (Machine A)) → machine_lines behaviour (slice_index_or names app []) event o ≡ log_text names (entry_of behaviour app event o)
+  machine_is : (names : List (List ℕ)) (app : ℕ) (event : Event) (o : Option (Machine A)) → machine_lines behaviour (slice_index_or names app []) event o ≡ log_text names
+      (entry_of behaviour app event o)
   machine_is names app event None = refl
   machine_is names app event (Some m) = sym (append-nil (machine_lines behaviour (slice_index_or names app []) event (Some m)))
 
@@ -195,6 +197,8 @@ rose_both one other a b c up on (inl h) (inr k) = inr k
 -- calls one after the other, without an order among them
 pub span_both : (one other : ℕ) (a b c : View) → IsSpan one a b → IsSpan other b c → IsSpan (one + other) a c
 span_both one other a b c h k = record {
+  size = k.size ∙ h.size;
+  key = k.key ∙ h.key;
   orders = k.orders ∙ h.orders;
   ordered = k.ordered ∙ h.ordered;
   later = omega (arith, h.later, k.later);
@@ -204,6 +208,8 @@ span_both one other a b c h k = record {
 -- no call of the board
 pub span_none : (v : View) → IsSpan 0 v v
 span_none v = record {
+  size = refl;
+  key = refl;
   orders = refl;
   ordered = refl;
   later = omega arith;
@@ -245,14 +251,22 @@ sum_orders (x ∷ xs) ys total = sum_orders xs ys ((total + x) % 2 ^ 64)
 
 pub orders_both : (xs ys : List ℕ) (a b c : View) → HasOrders xs a b → HasOrders ys b c → HasOrders (xs ++ ys) a c
 orders_both xs ys a b c h k = record {
+  size = k.size ∙ h.size;
+  key = k.key ∙ h.key;
   orders = k.orders ∙ ap (orders_after ys) h.orders ∙ sym (count_orders xs ys a.state.orders);
   ordered = k.ordered ∙ ap (ordered_after ys) h.ordered ∙ sym (sum_orders xs ys a.ordered);
   later = omega (arith, h.later, k.later);
 }
 
--- no order was made
-pub no_orders : (a b : View) → b.state.orders ≡ a.state.orders → b.ordered ≡ a.ordered → a.state.faults ≤ b.state.faults → HasOrders [] a b
-no_orders a b orders ordered later = record { orders = orders; ordered = ordered; later = later }
+-- no order was made, and no other call
+pub no_orders : (v : View) → HasOrders [] v v
+no_orders v = record {
+  size = refl;
+  key = refl;
+  orders = refl;
+  ordered = refl;
+  later = omega arith;
+}
 
 pub orders_of_both : (xs ys : List Line) → orders_of (xs ++ ys) ≡ orders_of xs ++ orders_of ys
 orders_of_both [] ys = refl

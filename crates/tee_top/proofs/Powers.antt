@@ -103,7 +103,13 @@ within_leaves {A} K form old new view w seen within = λ c left.
 
 -- an order is the one that was made
 pub order_made : (number : ℕ) (old new : View) → OrderRun number old new → HasOrders (number ∷ []) old new
-order_made number old new order = record { orders = order.orders; ordered = order.ordered; later = order.faults }
+order_made number old new order = record {
+  size = order.size;
+  key = order.key;
+  orders = order.orders;
+  ordered = order.ordered;
+  later = order.faults;
+}
 
 -- the orders of lines and of one more
 pub orders_more : (front : List Line) (line : Line) (a b c : View) → HasOrders (orders_of front) a b → HasOrders (order_of line) b c → HasOrders (orders_of (front ++ line ∷ [])) a c

@@ -3,7 +3,7 @@ use Rattle.std.proofs.Common.{◌≡◌, ◌⊎◌, Result, Ok, Err, OnErr, OnOk
 use Rattle.epoch.specs.declared.answer.OpenAnswer.{OpenAnswer}
 use Rattle.epoch.specs.declared.answer.OpenAnswer.TheVariants as answers
 use Rattle.epoch.specs.Mounts.{IsKeptFromOpening}
-use Rattle.tee_top.specs.Runs.{IsStopped, refusal_of, stopped_as}
+use Rattle.tee_top.specs.Runs.{IsStopped, IsUnopened, refusal_of, stopped_as}
 use Rattle.tee_top.specs.Stops.{IfRefused, UnlessRefused}
 use Rattle.tee_top.specs.declared.lines.Stop.{Stop}
 use Rattle.tee_top.specs.declared.lines.Stop.TheVariants as stops
@@ -68,6 +68,17 @@ pub refused_never : (why : OpenAnswer) (told : OpenAnswer) → IsKeptFromOpening
 refused_never why told (inl is) e = subst IsRefused (sym e ∙ ap refusal_of is) tt
 refused_never why told (inr is) e = subst IsRefused (sym e ∙ ap refusal_of is) tt
 
+-- a run whose board wasn't opened ends so
+pub never_opened : (why : OpenAnswer) → IsUnopened (refusal_of why)
+never_opened (answers.TooSmall blocks) = tt
+never_opened (answers.NoVolume counter) = tt
+never_opened (answers.BadHeader slot found kept) = tt
+never_opened (answers.UnknownVersion version) = tt
+never_opened (answers.Rollback sequence counter) = tt
+never_opened (answers.Ahead sequence counter) = tt
+never_opened answers.Failed = tt
+never_opened answers.NoMemory = tt
+
 -- ---- lines that ended
 
 module _ {X : Type 0} where
@@ -93,7 +104,8 @@ module _ {X : Type 0} where
   ended_fault (Err (stops.Refused why)) P e p = (why, p)
 
   -- the board wasn't opened again
-  pub ended_refused : (r : Result X Stop) (P : OpenAnswer → Type 0) (told : OpenAnswer) → ended r ≡ StoreRefused told → IfRefused r P → (why : OpenAnswer) × P why × (refusal_of why ≡ StoreRefused told)
+  pub ended_refused : (r : Result X Stop) (P : OpenAnswer → Type 0) (told : OpenAnswer) → ended r ≡ StoreRefused told → IfRefused r P →
+      (why : OpenAnswer) × P why × (refusal_of why ≡ StoreRefused told)
   ended_refused (Ok x) P told e p = absurd (subst IsRefused (sym e) tt)
   ended_refused (Err stops.NoMemory) P told e p = absurd (subst IsRefused (sym e) tt)
   ended_refused (Err stops.WriteFault) P told e p = absurd (subst IsRefused (sym e) tt)

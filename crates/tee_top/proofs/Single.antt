@@ -1,6 +1,6 @@
 -- One event, and turns one after the other.
 use Rattle.app_api.specs.Behaviours.{Behaviour}
-use Rattle.std.proofs.Common.{ℕ, suc, ◌≡◌, ◌<◌, ◌≤◌, ◌+◌, ◌-◌, ◌^◌, inl, inr, true, List, [], ◌∷◌, ◌++◌, Option, None, Some, length, refl, sym, subst, ◌∙◌, ap, append-nil, arith}
+use Rattle.std.proofs.Common.{ℕ, suc, ◌≡◌, ◌<◌, ◌≤◌, ◌+◌, ◌-◌, ◌^◌, inl, inr, true, List, [], ◌∷◌, ◌++◌, Option, None, Some, drop, get_or, length, refl, sym, subst, ◌∙◌, ap, append-nil, arith}
 use Rattle.std.specs.Prelude.{slice_get, slice_index_or}
 use Rattle.std.specs.Io.KnownBytes.{Appends}
 use Rattle.tee_base.specs.Transfer.{AppendsFront}
@@ -14,7 +14,7 @@ use Rattle.alone.specs.declared.turn.TurnKind.{TurnKind}
 use Rattle.alone.specs.declared.turn.TurnKind.TheVariants as kinds
 use Rattle.alone.specs.Machine.{Machine}
 use Rattle.alone.specs.Marks.{event_at}
-use Rattle.alone.specs.Step.{Event, Called, called, may_stand, step}
+use Rattle.alone.specs.Step.{Event, Called, called, is_enabled, step}
 use Rattle.alone.proofs.Counted.{call_counts_none}
 use Rattle.app_side.specs.Represents.{event_of as turn_of}
 use Rattle.tee_core.specs.declared.happened.Event.{Event as TeeEvent}
@@ -55,25 +55,47 @@ undamaged_as (events.Turn app instance) (kinds.Lost change) sound = tt
 undamaged_as (events.Turn app instance) kinds.Starved sound = tt
 undamaged_as (events.Turn app instance) kinds.Corrupted sound = sound
 
+-- what a volume stands on that is seen on this board
+abbrev foundation_of : View → Foundation
+foundation_of view = record { place = view.size ∷ view.key; orders = view.state.orders; ordered = view.ordered }
+
+-- lists that are the same begin with the same, and the rest of them is the same
+same_place : (x y : ℕ) (xs ys : List ℕ) → x ∷ xs ≡ y ∷ ys → (x ≡ y) × (xs ≡ ys)
+same_place x y xs ys e = (ap (λ (zs : List ℕ). get_or zs 0 0) e, ap (λ (zs : List ℕ). drop 1 zs) e)
+
 -- a volume that is seen on its board, before and after
 module _ {V : Type 0} (K : VolumeKeeper V) (form : Form) (old new : V) (view view_then : View) (seen : IsSeenOn K form old view) (seen_then : IsSeenOn K form new view_then) where
   module _ (same : (K.condition new).foundation ≡ (K.condition old).foundation) (later : (K.condition old).faults ≤ (K.condition new).faults) where
+    same_foundation : foundation_of view_then ≡ foundation_of view
+    same_foundation = sym seen_then.foundation ∙ same ∙ seen.foundation
+
+    same_board : (view_then.size ≡ view.size) × (view_then.key ≡ view.key)
+    same_board = same_place view_then.size view.size view_then.key view.key (ap (λ (f : Foundation). f.place) same_foundation)
+
     same_orders : view_then.state.orders ≡ view.state.orders
-    same_orders = ap (λ (f : Foundation). f.orders) (sym seen_then.foundation ∙ same ∙ seen.foundation)
+    same_orders = ap (λ (f : Foundation). f.orders) same_foundation
 
     same_ordered : view_then.ordered ≡ view.ordered
-    same_ordered = ap (λ (f : Foundation). f.ordered) (sym seen_then.foundation ∙ same ∙ seen.foundation)
+    same_ordered = ap (λ (f : Foundation). f.ordered) same_foundation
 
     later_faults : view.state.faults ≤ view_then.state.faults
     later_faults = omega (arith, later, seen.faults, seen_then.faults)
 
     -- no order was made
     pub unordered : HasOrders [] view view_then
-    unordered = record { orders = same_orders; ordered = same_ordered; later = later_faults }
+    unordered = record {
+      size = same_board.0;
+      key = same_board.1;
+      orders = same_orders;
+      ordered = same_ordered;
+      later = later_faults;
+    }
 
   -- the calls of the board within an event
   pub event_span : (e : TeeEvent) (kind : TurnKind) → KeepsCounts kind (K.condition old) (K.condition new) → IsSpan (0 + losses_of (machine_event e kind)) view view_then
   event_span e kind counts = record {
+    size = (same_board counts.foundation counts.faults).0;
+    key = (same_board counts.foundation counts.faults).1;
     orders = same_orders counts.foundation counts.faults;
     ordered = same_ordered counts.foundation counts.faults;
     later = later_faults counts.foundation counts.faults;
@@ -98,7 +120,7 @@ module _ {A : Type 0} (behaviour : Behaviour A) where
   few_turns m (events.Turn app instance) kind few = omega (arith, few, kind_counts behaviour m kind instance)
 
   -- weather that agrees with an event gives it
-  step_is : (weather : Weather) (w : World A) (e : TeeEvent) (kind : TurnKind) (m : Machine A) → slice_get w (app_of e) ≡ Some m → may_stand m (machine_event e kind) ≡ true
+  step_is : (weather : Weather) (w : World A) (e : TeeEvent) (kind : TurnKind) (m : Machine A) → slice_get w (app_of e) ≡ Some m → is_enabled m (machine_event e kind) ≡ true
       → AgreesIn (weather.marks (app_of e)) (slice_get w (app_of e)) (machine_event e kind) → step_events behaviour weather w e ≡ Happens (event_of e kind) ∷ []
   step_is weather w (events.Call app client call) kind m here may agree = refl
   step_is weather w (events.Cancel app op) kind m here may agree = refl
@@ -133,7 +155,7 @@ module _ {A : Type 0} (behaviour : Behaviour A) where
         subst (λ (log : List Item). AreKnown names log) (sym one_log)
         (record { known = (within, tt); counted = (omega (arith, turn, few_turns m e h.kind few), tt); owners = tt })
 
-    pub one_whole : (Stands : World A → Type 0) (old new : Point) → app_of e < length names → m.turns < 2 ^ 63 → may_stand m (machine_event e h.kind) ≡ true → IsSound h.kind → new.powers ≡ old.powers
+    pub one_whole : (Stands : World A → Type 0) (old new : Point) → app_of e < length names → m.turns < 2 ^ 63 → is_enabled m (machine_event e h.kind) ≡ true → IsSound h.kind → new.powers ≡ old.powers
         → IsSpan (0 + losses_of (machine_event e h.kind)) old.view new.view → Stands (world_step behaviour w (event_of e h.kind))
         → Appends old.written new.written (happened_lines (slice_index_or names (app_of e) []) h)
         → IsRunOf behaviour form names (λ weather. step_events behaviour weather w e) w Stands old new
@@ -149,7 +171,7 @@ module _ {A : Type 0} (behaviour : Behaviour A) where
       by_weather = λ weather agree. step_is weather w e h.kind m here may agree.0;
     }
 
-    pub one_stops : (old new : Point) → app_of e < length names → m.turns < 2 ^ 63 → may_stand m (machine_event e h.kind) ≡ true → IsSound h.kind
+    pub one_stops : (old new : Point) → app_of e < length names → m.turns < 2 ^ 63 → is_enabled m (machine_event e h.kind) ≡ true → IsSound h.kind
         → LeavesStores form new.view (world_step behaviour w (event_of e h.kind))
         → AppendsFront (happened_lines (slice_index_or names (app_of e) []) h) old.written new.written
         → StopsIn behaviour form names (λ weather. step_events behaviour weather w e) w old new

@@ -17,7 +17,7 @@ use Rattle.alone.specs.Marks.{SameAt}
 use Rattle.alone.specs.declared.power.Power.{Power}
 use Rattle.report.specs.Texts.{power_text}
 use Rattle.script.proofs.Cuts.{Lacks, all_append}
-use Rattle.tee_core.specs.Happenings.{is_corrupt_turn, is_lost_turn, is_starved_turn, tells}
+use Rattle.tee_core.specs.Happenings.{is_corrupt_turn, is_lost_turn, is_starved_turn, has_told}
 use Rattle.tee_top.specs.BoardLines.{IsBoardLineOrNone, IsMarkOrNone, IsOwnerKnown, IsPowerLine, marks_in, power_lines, says_kept, weather_in, whole_lines, whole_text}
 use Rattle.tee_top.specs.Logs.{AreKnown, Entry, IsWrittenOf, Item, OfApp, OfBoard, SameWeather}
 use Rattle.tee_top.specs.Logs.{entries_in, item_text, kept_at, log_text, log_weather, powers_told, told_of_app}
@@ -84,7 +84,7 @@ lacks b text h = recursion_from_All (λ c. eqb c b ≡ false) text (λ k d below
 
 -- what one more entry tells of a turn, where it is one of the application or not
 one_more : (went : TurnKind → Bool) (e : Entry) (rest : List Entry) (turn : ℕ) (t : Bool)
-    → ((t && (went e.told.kind && eqb e.told.turn turn)) || tells went (map (λ (x : Entry). x.told) rest) turn) ≡ tells went (map (λ (x : Entry). x.told) (cond t (e ∷ rest) rest)) turn
+    → ((t && (went e.told.kind && eqb e.told.turn turn)) || has_told went (map (λ (x : Entry). x.told) rest) turn) ≡ has_told went (map (λ (x : Entry). x.told) (cond t (e ∷ rest) rest)) turn
 one_more went e rest turn true = refl
 one_more went e rest turn false = refl
 
@@ -142,7 +142,7 @@ module _ (names : List (List ℕ)) (can : CanName names) (no_board : All (λ nam
         ∙ or-false (eqb e.app app && (went e.told.kind && eqb e.told.turn turn))
 
     log_told : (log : List Item) → AllByRecursion (λ e. e.app < length names) (entries_in log) → AllByRecursion (λ e. e.told.turn < 2 ^ 64) (entries_in log)
-        → list_any says_so (log_lines names log) ≡ tells went (told_of_app app (entries_in log)) turn
+        → list_any says_so (log_lines names log) ≡ has_told went (told_of_app app (entries_in log)) turn
     log_told [] known counted = refl
     log_told (OfApp e ∷ log) known counted =
         list_any-append says_so (entry_lines names e) (log_lines names log)
@@ -154,7 +154,7 @@ module _ (names : List (List ℕ)) (can : CanName names) (no_board : All (λ nam
 
     -- lines from which only lines of replies are missing tell the same
     seen_told : (log : List Item) → AreKnown names log → (seen unseen : List (List ℕ)) → log_lines names log ≡ seen ++ unseen → AllByRecursion IsReplyLine unseen
-        → list_any says_so (whole_lines (fed seen)) ≡ tells went (told_of_app app (entries_in log)) turn
+        → list_any says_so (whole_lines (fed seen)) ≡ has_told went (told_of_app app (entries_in log)) turn
     seen_told log known seen unseen all replies =
         let plain = all_parts (Lacks 10) seen unseen (subst (AllByRecursion (Lacks 10)) all (lines_plain log known.known known.owners)) in
         ap (list_any says_so) (all_whole seen plain.0)

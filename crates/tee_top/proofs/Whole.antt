@@ -35,13 +35,15 @@ module _ {A : Type 0} (behaviour : Behaviour A) (form : Form) (hosts : List (Hos
   some_name = subst (λ n. 0 < n) (sym (length-map hosts (λ (host : Host A). host.name))) fit.some
 
   -- the weather that the text of a run tells gives the events that were made
-  same_events : (script : List Line) (Stands : World A → Type 0) (old new : Point) → old.powers ≡ 0 → (run : IsRunOf behaviour form names (λ weather. events_of behaviour weather begin script) begin Stands old new)
+  same_events : (script : List Line) (Stands : World A → Type 0) (old new : Point) → old.powers ≡ 0 →
+      (run : IsRunOf behaviour form names (λ weather. events_of behaviour weather begin script) begin Stands old new)
       → events_by behaviour form hosts seed stores script (text_of behaviour names begin run.made) ≡ run.made
   same_events script Stands old new none run =
       let log : List Item = log_of behaviour begin run.made in
       let text : List ℕ = text_of behaviour names begin run.made in
       let told : AreTold behaviour 0 begin run.made = subst (λ n. AreTold behaviour n begin run.made) none run.told in
-      let same : SameWeather (length names) (weather_in names text) (log_weather log) = subst (λ zs. SameWeather (length names) (weather_in names zs) (log_weather log)) (sym (text_is_log behaviour names begin run.made))
+      let same : SameWeather (length names) (weather_in names text) (log_weather log) = subst (λ zs. SameWeather (length names) (weather_in names zs) (log_weather log))
+      (sym (text_is_log behaviour names begin run.made))
       (weather_read_back names log (hosts_can_name hosts fit) (not_board hosts fit) run.known) in
       run.by_weather (weather_in names text) (goes behaviour names (weather_in names text) begin run.made told run.known same)
 

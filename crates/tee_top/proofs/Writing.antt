@@ -41,7 +41,8 @@ module _ {X : Type 0} (piece_of : X → List ℕ) where
       ap (flat_map piece_of) (drop-cons xs i x within ∙ ap (λ y. y ∷ drop (suc i) xs) (sym here))
       ∙ ap (λ k. piece_of x ++ flat_map piece_of (drop k xs)) (sym (add-one i))
 
-  pub pieces_further : (xs : List X) (i : ℕ) (x : X) (piece : List ℕ) (a b c : Option (List ℕ)) → i < length xs → x ≡ get_or xs i x → piece ≡ piece_of x → WrittenTo xs i a b → Appends b c piece → WrittenTo xs (i + 1) a c
+  pub pieces_further : (xs : List X) (i : ℕ) (x : X) (piece : List ℕ) (a b c : Option (List ℕ)) → i < length xs → x ≡ get_or xs i x → piece ≡ piece_of x → WrittenTo xs i a b →
+      Appends b c piece → WrittenTo xs (i + 1) a c
   pieces_further xs i x piece a b c within here line old new =
       let rest = flat_map piece_of (drop (i + 1) xs) in (
         old.0 ++ piece,
@@ -50,7 +51,8 @@ module _ {X : Type 0} (piece_of : X → List ℕ) where
       )
 
   -- a front of the next piece was appended
-  pub pieces_cut : (xs : List X) (i : ℕ) (x : X) (piece : List ℕ) (a b c : Option (List ℕ)) → i < length xs → x ≡ get_or xs i x → piece ≡ piece_of x → WrittenTo xs i a b → AppendsFront piece b c → AppendsFront (flat_map piece_of xs) a c
+  pub pieces_cut : (xs : List X) (i : ℕ) (x : X) (piece : List ℕ) (a b c : Option (List ℕ)) → i < length xs → x ≡ get_or xs i x → piece ≡ piece_of x → WrittenTo xs i a b →
+      AppendsFront piece b c → AppendsFront (flat_map piece_of xs) a c
   pieces_cut xs i x piece a b c within here line old new =
       let rest = flat_map piece_of (drop (i + 1) xs) in
       subst (λ zs. AppendsFront zs a c)

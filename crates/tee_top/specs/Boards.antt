@@ -3,10 +3,10 @@ use Rattle.app_api.specs.Behaviours.{Behaviour}
 use Rattle.std.specs.Prelude.{ℕ, ◌≡◌, ◌≤◌, ◌+◌, ◌-◌, ◌%◌, ◌^◌, ◌⊎◌, List, [], ◌∷◌, ◌++◌, Option}
 use Rattle.std.specs.Io.KnownBytes.{Appends}
 use Rattle.alone.specs.Step.{Event, Called, Cancelled, Turned, TurnLost, Corrupted, Lost, Starved, Restarted}
-use Rattle.board.specs.Moment.{Outcome, View, IsLeft}
+use Rattle.board.specs.Moment.{Outcome, View, IsCounter, IsLeft}
 use Rattle.board.specs.Runs.{Rests}
 use Rattle.epoch.specs.Forms.{Form, held_of}
-use Rattle.epoch.specs.Mounts.{OrderRun}
+use Rattle.epoch.specs.Mounts.{IsAdmitted, OrderRun}
 use Rattle.script.specs.declared.line.Line.{Line}
 use Rattle.script.specs.declared.line.Line.TheVariants as lines
 use Rattle.store_api.specs.Stores.{Store}
@@ -55,8 +55,11 @@ abbrev pub ordered_after : List ℕ → ℕ → ℕ
 ordered_after [] total = total
 ordered_after (number ∷ more) total = ordered_after more ((total + number) % 2 ^ 64)
 
--- orders with these numbers were made, and no others; the count of faults doesn't fall
+-- orders with these numbers were made, and no others; the board is of its size and under its key, and its count of faults doesn't
+-- fall
 pub record HasOrders (numbers : List ℕ) (old new : View) : Type 0 where
+  pub size : new.size ≡ old.size
+  pub key : new.key ≡ old.key
   pub orders : new.state.orders ≡ orders_after numbers old.state.orders
   pub ordered : new.ordered ≡ ordered_after numbers old.ordered
   pub later : old.state.faults ≤ new.state.faults
@@ -72,8 +75,10 @@ HasFirstOrders script old new =
 abbrev pub RoseBy : ℕ → ℕ → ℕ → Type 0
 RoseBy least old new = (old + least ≤ new) ⊎ (2 ^ 64 - 1 ≤ new)
 
--- calls without an order among them, of which at least so many failed
+-- calls without an order among them, of which at least so many failed; the board is of its size and under its key
 pub record IsSpan (least : ℕ) (old new : View) : Type 0 where
+  pub size : new.size ≡ old.size
+  pub key : new.key ≡ old.key
   pub orders : new.state.orders ≡ old.state.orders
   pub ordered : new.ordered ≡ old.ordered
   pub later : old.state.faults ≤ new.state.faults
@@ -99,6 +104,11 @@ pub record WritesLosses (before after : Option (List ℕ)) (old new : View) : Ty
   pub faults : RoseBy (lost_lines text) old.state.faults new.state.faults
 
 -- ---- images
+
+-- the opening rule opens the board's image, at a counter that it may tell
+abbrev pub HasOpened : Form → View → Type 0
+HasOpened form view = (counter : ℕ) × IsCounter view.state counter
+    × (sequence : ℕ) × IsAdmitted form view view.state.reads counter sequence
 
 -- the board rests with an image that is sound for so many hosts, whose regions stand for these stores
 pub record BeginsWith (form : Form) (view : View) (hosts : ℕ) (stores : ℕ → Store) : Type 0 where

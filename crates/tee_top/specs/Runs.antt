@@ -4,7 +4,7 @@ use Rattle.std.specs.Prelude.{ℕ, ◌≡◌, ◌≤◌, ◌<◌, ◌++◌, ◌�
 use Rattle.std.specs.Global.{Global}
 use Rattle.std.specs.Io.KnownBytes.{Appends}
 use Rattle.tee_base.specs.Faults.{Rose}
-use Rattle.tee_base.specs.declared.limits.TheConstants.{SCRIPT_BYTES}
+use Rattle.tee_base.specs.declared.limits.TheConstants.{MAX_SCRIPT_BYTES}
 use Rattle.app_api.specs.declared.host.Host.{Host}
 use Rattle.store_api.specs.Stores.{Store}
 use Rattle.script.specs.declared.line.Line.{Line}
@@ -79,6 +79,18 @@ IsStopped ReadFault = ⊥
 IsStopped WriteFault = Unit {0}
 IsStopped BoardFault = ⊥
 
+-- a status of a run that made nothing happen before its board was opened, if it was
+abbrev pub IsUnopened : Status → Type 0
+IsUnopened Done = ⊥
+IsUnopened BadWords = Unit {0}
+IsUnopened (BadLine n) = Unit {0}
+IsUnopened TooLong = Unit {0}
+IsUnopened (StoreRefused why) = Unit {0}
+IsUnopened NoMemory = Unit {0}
+IsUnopened ReadFault = Unit {0}
+IsUnopened WriteFault = ⊥
+IsUnopened BoardFault = Unit {0}
+
 -- how a run ends whose board wasn't opened
 abbrev pub refusal_of : OpenAnswer → Status
 refusal_of (answers.TooSmall blocks) = StoreRefused (answers.TooSmall blocks)
@@ -116,18 +128,18 @@ IsBadAt hosts left n = IfSome left (λ text. IsBadText hosts text n)
 pub record IsReadable (words : List (String Global)) (left : Option (List ℕ)) (text : List ℕ) (before after : ℕ) : Type 0 where
   pub run : AreRunWords words
   pub told : left ≡ Some text
-  pub within : length text ≤ SCRIPT_BYTES
+  pub within : length text ≤ MAX_SCRIPT_BYTES
   pub unfailed : ¬ Rose before after
 
 -- no more bytes were left than a script may have, where the source tells what was
 abbrev pub IsWithin : Option (List ℕ) → Type 0
-IsWithin left = IfSome left (λ text. length text ≤ SCRIPT_BYTES)
+IsWithin left = IfSome left (λ text. length text ≤ MAX_SCRIPT_BYTES)
 
 -- the words are those of a run, the source tells a text beyond the limit, and no read of it failed
 pub record IsTooMuch (words : List (String Global)) (left : Option (List ℕ)) (text : List ℕ) (before after : ℕ) : Type 0 where
   pub run : AreRunWords words
   pub told : left ≡ Some text
-  pub beyond : SCRIPT_BYTES < length text
+  pub beyond : MAX_SCRIPT_BYTES < length text
   pub unfailed : ¬ Rose before after
 
 -- the program is run by these hosts, this seed and this script, from a board with these stores
@@ -183,7 +195,8 @@ IsKnown count (lines.Power pick) = Unit {0}
 
 -- the lines before one of a power were run to their end, and then the board lost its power, and a call of it failed before it was
 -- opened again: a crash may leave the stores of the world behind these lines
-pub record RunsToPower {A : Type 0} (behaviour : Behaviour A) (form : Form) (hosts : List (Host A)) (seed : List ℕ) (stores : ℕ → Store) (script : List Line) (new : View) (before after : Option (List ℕ)) : Type 0 where
+pub record RunsToPower {A : Type 0} (behaviour : Behaviour A) (form : Form) (hosts : List (Host A)) (seed : List ℕ) (stores : ℕ → Store) (script : List Line) (new : View)
+    (before after : Option (List ℕ)) : Type 0 where
   pub front : List Line
   pub pick : ℕ
   pub rest : List Line

@@ -286,7 +286,7 @@ fn run_until<B: Board, V: BoardVolume<B>, A: Application, W: Sink>(
         → Rose (W.failures sink.old) (W.failures sink.new) }
     ensures later { W.failures sink.old ≤ W.failures sink.new }
 {
-    for _ in 0..limits::CALL_TURNS {
+    for _ in 0..limits::MAX_CALL_TURNS {
         if tee.answered(app, op) {
             return Ok(());
         }

@@ -8,15 +8,15 @@ ghost use Rattle.script.specs.declared.line.Line.{Line};
 ghost use Rattle.script.specs.Grammar.{names_of};
 ghost use Rattle.tee_base.specs.Faults.{Rose};
 ghost use Rattle.tee_base.specs.Transfer.{ConsumesWithin, HasMoreThan};
-ghost use Rattle.tee_base.specs.declared.limits.TheConstants.{SCRIPT_BYTES};
+ghost use Rattle.tee_base.specs.declared.limits.TheConstants.{MAX_SCRIPT_BYTES};
 ghost use Rattle.board.specs.Moment.{IsCounter};
 ghost use Rattle.epoch.specs.Mounts.{IsRefusal};
 ghost use Rattle.store_api.specs.Stores.{Store};
 ghost use Rattle.tee_core.specs.InUse.{form_in_use};
 ghost use Rattle.tee_core.specs.World.{world_of};
-ghost use Rattle.tee_top.specs.Boards.{BeginsWith, HasFirstOrders, HasOrders, HasPower, LeavesStores, WritesLosses, orders_of};
+ghost use Rattle.tee_top.specs.Boards.{BeginsWith, HasFirstOrders, HasOpened, HasOrders, HasPower, LeavesStores, WritesLosses, orders_of};
 ghost use Rattle.epoch.specs.declared.answer.OpenAnswer.{OpenAnswer as OpenRefusal};
-ghost use Rattle.tee_top.specs.Runs.{AreRunWords, IsKnown, IsServed, IsStopped, IsUnrun, IsReadStatus, ReadsTo, IsBadAt, IsOfScript, IsReadable, IsText, IsBadText, IsTooMuch, IsWithin, refusal_of, stopped_as, RunsFront, RunsToPower, RunsWhole};
+ghost use Rattle.tee_top.specs.Runs.{AreRunWords, IsKnown, IsServed, IsStopped, IsUnopened, IsUnrun, IsReadStatus, ReadsTo, IsBadAt, IsOfScript, IsReadable, IsText, IsBadText, IsTooMuch, IsWithin, refusal_of, stopped_as, RunsFront, RunsToPower, RunsWhole};
 
 use crate::lines::{Stop, run_lines};
 use crate::status::Status;
@@ -53,17 +53,18 @@ fn read_lines<S: Source, A: Application>(
     ensures bad_within { (n : ℕ) → IsErrOf result (Status.BadLine n)
         → IsWithin (S.left source.old) }
     ensures too_long { IsErrOf result Status.TooLong
-        → HasMoreThan SCRIPT_BYTES (S.left source.old) }
+        → HasMoreThan MAX_SCRIPT_BYTES (S.left source.old) }
     ensures fault { IsErrOf result Status.ReadFault
         → Rose (S.failures source.old) (S.failures source.new) }
     ensures later { S.failures source.old ≤ S.failures source.new }
-    ensures consumed { ConsumesWithin (SCRIPT_BYTES + 1) (S.left source.old) (S.left source.new) }
+    ensures consumed { ConsumesWithin (MAX_SCRIPT_BYTES + 1)
+        (S.left source.old) (S.left source.new) }
     ensures unfailed { IsErrOf result Status.TooLong
         → S.failures source.new ≡ S.failures source.old }
     ensures known { IfOk result (λ lines. AllByRecursion (IsKnown (length hosts.now)) lines.items) }
     ensures few { IfErr result IsReadStatus }
 {
-    let text = match read_all(alloc, source, limits::SCRIPT_BYTES) {
+    let text = match read_all(alloc, source, limits::MAX_SCRIPT_BYTES) {
         Ok(text) => text,
         Err(ReadAnswer::TooLong) => return Err(Status::TooLong),
         Err(ReadAnswer::ReadFault) => return Err(Status::ReadFault),
@@ -141,6 +142,8 @@ fn serve<B: Board, V: BoardVolume<B>, W: Sink, A: Application>(
         → ((sink.new ≡ sink.old) × (counter : ℕ) × IsCounter (B.view board).state counter
         × IsRefusal V.form (B.view board) (B.view board).state.reads counter why)
         ⊎ HasPower lines.items }
+    ensures opened { B.honest board → ((sink.new ≡ sink.old) × IsUnopened result.0)
+        ⊎ HasOpened V.form (B.view board) }
     ensures cause { result.0 ≡ Status.BoardFault
         → Rose (B.view board).state.faults (B.view result.1).state.faults }
     ensures orders { result.0 ≡ Status.Done
@@ -215,6 +218,9 @@ pub fn run_tee<S: Source, W: Sink, B: Board + Drop, A: Application>(
         → ((sink.new ≡ sink.old) × (counter : ℕ) × IsCounter (B.view board).state counter
         × IsRefusal form_in_use (B.view board) (B.view board).state.reads counter why)
         ⊎ IsOfScript hosts.items (S.left source.old) (λ script. HasPower script) }
+    // unless nothing was written and the status is one that may come before an opening, the rule opens the image
+    ensures opened { B.honest board → ((sink.new ≡ sink.old) × IsUnopened result.0)
+        ⊎ HasOpened form_in_use (B.view board) }
     ensures bad_words { (result.0 ≡ Status.BadWords) ↔ ¬ AreRunWords words.now }
     ensures bad_line { (n : ℕ) → result.0 ≡ Status.BadLine n
         → IsBadAt hosts.items (S.left source.old) n × IsAtEnd (S.left source.new) }
@@ -231,7 +237,8 @@ pub fn run_tee<S: Source, W: Sink, B: Board + Drop, A: Application>(
         → ¬ Rose (B.view board).state.faults (B.view result.1).state.faults
         → IsText hosts.items text script
         → (result.0 ≡ Status.Done) ⊎ (result.0 ≡ Status.NoMemory) }
-    ensures too_long { result.0 ≡ Status.TooLong → HasMoreThan SCRIPT_BYTES (S.left source.old) }
+    ensures too_long { result.0 ≡ Status.TooLong
+        → HasMoreThan MAX_SCRIPT_BYTES (S.left source.old) }
     ensures each_too_long { (text : List ℕ)
         → IsTooMuch words.now (S.left source.old) text (S.failures source.old)
         (S.failures source.new)
@@ -254,7 +261,8 @@ pub fn run_tee<S: Source, W: Sink, B: Board + Drop, A: Application>(
     ensures unwritten { IsUnrun result.0 → sink.new ≡ sink.old }
     ensures unused { IsUnrun result.0 → result.1 ≡ board }
     ensures unread { result.0 ≡ Status.BadWords → source.new ≡ source.old }
-    ensures consumed { ConsumesWithin (SCRIPT_BYTES + 1) (S.left source.old) (S.left source.new) }
+    ensures consumed { ConsumesWithin (MAX_SCRIPT_BYTES + 1)
+        (S.left source.old) (S.left source.new) }
     ensures unfailed { result.0 ≡ Status.TooLong → S.failures source.new ≡ S.failures source.old }
 {
     if !are_run_words(words) {

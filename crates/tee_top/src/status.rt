@@ -5,7 +5,7 @@ ghost use Rattle.std.specs.Fmt.{decimal};
 ghost use Rattle.tee_top.specs.Statuses.{number_of, status_text, why_text};
 
 use epoch::OpenAnswer;
-use report::Line;
+use report::LineBuffer;
 use std::alloc::Global;
 use tee_base::{Bytes, NoMemory};
 
@@ -55,7 +55,7 @@ impl Status {
 }
 
 /// Why a store was refused.
-fn write_why(line: &mut Line, why: &OpenAnswer) -> Result<(), NoMemory>
+fn write_why(line: &mut LineBuffer, why: &OpenAnswer) -> Result<(), NoMemory>
     ensures { OnOk result (line.new ≡ line.old ++ why_text why.now) }
 {
     match why {
@@ -89,7 +89,7 @@ fn write_why(line: &mut Line, why: &OpenAnswer) -> Result<(), NoMemory>
 }
 
 /// Two numbers, with a space between.
-fn write_pair(line: &mut Line, first: u64, second: u64) -> Result<(), NoMemory>
+fn write_pair(line: &mut LineBuffer, first: u64, second: u64) -> Result<(), NoMemory>
     ensures { OnOk result (line.new ≡ line.old ++ decimal first ++ codes " " ++ decimal second) }
 {
     line.number(first)?;
@@ -101,7 +101,7 @@ fn write_pair(line: &mut Line, first: u64, second: u64) -> Result<(), NoMemory>
 pub fn status_line(alloc: Global, status: &Status, _names: &[Bytes]) -> Result<Bytes, NoMemory>
     ensures { IfOk result (λ line. line ≡ status_text status.now) }
 {
-    let mut line = Line::new(alloc);
+    let mut line = LineBuffer::new(alloc);
     match status {
         Status::Done => {}
         Status::BadWords => line.text(b"teectl: usage: teectl run [IMAGE] | race | gen N\n")?,

@@ -1,6 +1,7 @@
 -- Keys in memory: transient objects (TEE Internal Core API 1.3, section 5.6).
-use Rattle.std.specs.Prelude.{ℕ, ◌*◌, ◌≡◌, ◌≤◌, ◌==◌, nat_lt, true, not, ◌||◌, List, length, Option, None, Some, is_some, IfSome, Result, Ok, Err, if◌then◌else◌, bit_and}
-use Rattle.tee_base.specs.declared.limits.TheConstants.{ASK_BYTES}
+use Rattle.std.specs.Prelude.{ℕ, ◌≡◌, ◌≤◌, ◌==◌, nat_lt, true, not, ◌||◌, List, length, Option, None, Some, is_some, IfSome, Result, Ok, Err, if◌then◌else◌, bit_and}
+use Rattle.secret.specs.Bits.{bits_of}
+use Rattle.tee_base.specs.declared.limits.TheConstants.{MAX_ASK_BYTES}
 use Rattle.tee_base.specs.KeySizes.{size_fits}
 use Rattle.transient_obj.specs.declared.answer.KeyAnswer.{KeyAnswer}
 use Rattle.transient_obj.specs.declared.answer.KeyAnswer.TheVariants.{NotSupported, BadParameters, Misuse}
@@ -20,10 +21,6 @@ every_usage = 0xFFFFFFFF
 abbrev pub new_key : ℕ → ℕ → Key
 new_key kind max_bits = record { kind = kind; max_bits = max_bits; usage = every_usage; secret = None }
 
--- how many bits a secret has
-abbrev pub bits_of : List ℕ → ℕ
-bits_of secret = 8 * length secret
-
 -- a new key, where the size fits the kind (section 5.6.1)
 abbrev pub allocated : ℕ → ℕ → Result Key KeyAnswer
 allocated kind max_bits = if size_fits kind max_bits then Ok (new_key kind max_bits) else Err NotSupported
@@ -32,7 +29,7 @@ allocated kind max_bits = if size_fits kind max_bits then Ok (new_key kind max_b
 -- and only by a secret that fits the kind and isn't above the greatest size (section 5.6.4)
 abbrev pub populate_answer : Key → List ℕ → Result (Unit {0}) KeyAnswer
 populate_answer key secret =
-    if is_some key.secret || nat_lt ASK_BYTES (length secret) then Err Misuse
+    if is_some key.secret || nat_lt MAX_ASK_BYTES (length secret) then Err Misuse
     else if not (size_fits key.kind (bits_of secret)) || nat_lt key.max_bits (bits_of secret) then Err BadParameters
     else Ok tt
 

@@ -3,14 +3,11 @@
 
 mod answer;
 mod object_key;
-mod secret;
-mod sizes;
 #[cfg(test)]
 mod tests;
 mod transient;
 
 pub use answer::KeyAnswer;
 pub use object_key::ObjectKey;
-pub use secret::Secret;
-pub use sizes::size_fits;
+pub use secret::{Secret, size_fits};
 pub use transient::Transient;

@@ -1,6 +1,6 @@
 //! What an object gives to an operation.
 
-use crate::secret::Secret;
+use secret::Secret;
 
 /// The key that an object gives, be it in memory or in storage: its kind, its usage and its secret, which is empty where
 /// the kind has none.

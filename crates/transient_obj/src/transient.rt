@@ -1,8 +1,7 @@
 //! A key in memory.
 
 use crate::answer::KeyAnswer;
-use crate::secret::Secret;
-use crate::sizes::{exceeds, size_fits};
+use secret::{Secret, exceeds, size_fits};
 use std::marker::Model;
 use tee_base::{keys, limits};
 
@@ -106,7 +105,7 @@ impl Transient {
         ensures after { self.new
             ≡ (if is_ok result then populated self.old secret.now else self.old) }
     {
-        if self.secret.is_some() || secret.len() > limits::ASK_BYTES as usize {
+        if self.secret.is_some() || secret.len() > limits::MAX_ASK_BYTES as usize {
             return Err(KeyAnswer::Misuse);
         }
         let bits = 8 * secret.len() as u32;

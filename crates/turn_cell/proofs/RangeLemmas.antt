@@ -1,5 +1,6 @@
 -- Cutting a range in two, and joining two ranges, keeps the rule of the cell.
-use Rattle.std.proofs.Common.{◌≡◌, ◌≢◌, ℕ, zero, suc, ◌+◌, ◌-◌, ◌≤◌, ◌<◌, ◌⊎◌, inl, inr, ⊎_elim, true, false, eqb, leb, List, [], ◌∷◌, ◌++◌, length, take, drop, set, min, slice_index, refl, ap, sym, ◌∙◌, subst, arith, eq-eqb, ne_eqb, length-set, length-append, length-drop, length-take-le}
+use Rattle.std.proofs.Common.{◌≡◌, ◌≢◌, ℕ, zero, suc, ◌+◌, ◌-◌, ◌≤◌, ◌<◌, ◌⊎◌, inl, inr, ⊎_elim, true, false, eqb, leb, List, [], ◌∷◌, ◌++◌, length, take, drop, set, min}
+use Rattle.std.proofs.Common.{slice_index, refl, ap, sym, ◌∙◌, subst, arith, eq-eqb, ne_eqb, length-set, length-append, length-drop, length-take-le}
 use Rattle.std.proofs.lemmas.Bool.Decides.{leb_tells}
 use mathlib.Core.Option as logic
 use mathlib.Core.Logic.{dite}

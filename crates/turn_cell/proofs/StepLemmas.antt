@@ -1,5 +1,6 @@
 -- Each atomic step that leaves the ranges alone keeps the rule of the cell.
-use Rattle.std.proofs.Common.{◌≡◌, ◌≢◌, ℕ, zero, suc, ◌+◌, ◌≤◌, ◌<◌, ◌⊎◌, inl, inr, ⊎_elim, eqb, List, [], ◌∷◌, length, set, slice_index, slice_set, Option, Some, refl, ap, sym, ◌∙◌, subst, ap₂, arith, length-set, le_refl}
+use Rattle.std.proofs.Common.{◌≡◌, ◌≢◌, ℕ, zero, suc, ◌+◌, ◌≤◌, ◌<◌, ◌⊎◌, inl, inr, ⊎_elim, eqb, List, [], ◌∷◌, length, set, slice_index}
+use Rattle.std.proofs.Common.{slice_set, Option, Some, refl, ap, sym, ◌∙◌, subst, ap₂, arith, length-set, le_refl}
 use Rattle.std.proofs.lemmas.List.{get_or-set_same}
 use mathlib.Core.Option as logic
 use mathlib.Core.Logic.{dite}
@@ -12,7 +13,8 @@ use Rattle.atomic_table.proofs.Lists.{at_set, set_here, set_else, exchanged}
 use Rattle.turn_cell.specs.declared.view.SeatView.{SeatView}
 use Rattle.turn_cell.specs.declared.view.Turn.{Turn}
 use Rattle.turn_cell.specs.declared.view.Turn.TheVariants.{Free, Taken, Announced}
-use Rattle.turn_cell.specs.View.{segment, ChangesOnlyWithin, opening_view, with_turn, with_word, with_miss, with_wait, with_waits, with_look, with_offer, given, settled, taken_parts, taken_trail, announced_parts, announced_trail}
+use Rattle.turn_cell.specs.View.{segment, ChangesOnlyWithin, opening_view, with_turn, with_word, with_miss, with_wait, with_waits, with_look}
+use Rattle.turn_cell.specs.View.{with_offer, given, settled, taken_parts, taken_trail, announced_parts, announced_trail}
 use Rattle.turn_cell.specs.Rule.{TurnFits, HasTurn, IsHolder, Owns, ViewFits, SeatIs, AtHome, IsConsistent}
 use Rattle.turn_cell.specs.Steps.{TakesTurn, tries, waits, announces, releases, looks, settles}
 use Rattle.turn_cell.proofs.Segments.{prefix_refl, prefix_nil, prefix_trans, prefix_longer, length-segment, segment_whole, all_segment, spared}
@@ -110,7 +112,8 @@ module _ {P E : Type 0} where
 
 module _ {T P E : Type 0} (parts_of : T → List P) (trail_of : T → List E) where
   -- the views of a new cell are its first one
-  first_seat : (value : T) (j : ℕ) (u : SeatView P E) → get_elem? (opening_view (parts_of value) (trail_of value) ∷ []) j ≡ logic.some u → ViewFits 0 0 (λ k. 0) (parts_of value) (parts_of value) (trail_of value) j u
+  first_seat : (value : T) (j : ℕ) (u : SeatView P E) → get_elem? (opening_view (parts_of value) (trail_of value) ∷ []) j ≡ logic.some u →
+      ViewFits 0 0 (λ k. 0) (parts_of value) (parts_of value) (trail_of value) j u
   first_seat value zero u e =
       let v : SeatView P E = opening_view (parts_of value) (trail_of value) in
       let fits : ViewFits 0 0 (λ k. 0) (parts_of value) (parts_of value) (trail_of value) 0 v = record {
@@ -188,7 +191,12 @@ module _ {T P E : Type 0} (parts_of : T → List P) (trail_of : T → List E) (m
       → Rule (stepped s 0 (slice_index s.words 0) id c w keeps)
   stays s r id c v w at first own turn fits =
       renew s r id (slice_index s.words 0) c v w keeps r.holder r.parts r.trail at first own r.one_slot r.counted r.home
-      (λ h. still s.views id v w (IsHolder (slice_index s.words 0)) at (λ (o : IsHolder (slice_index s.words 0) v). (turn o.0, let p = o.1 in omega arith, let p = o.2 in omega arith)) r.holder (r.held h))
+      (λ h. still s.views id v w (IsHolder (slice_index s.words 0)) at (λ (o : IsHolder (slice_index s.words 0) v). (
+        turn o.0,
+        let p = o.1 in omega arith,
+        let p = o.2 in
+            omega arith,
+      )) r.holder (r.held h))
       fits (λ j u ne e. r.each j u e)
 
   abbrev counted_view : SeatView P E → ℕ → ℕ → ℕ → ℕ → ℕ → SeatView P E
@@ -295,7 +303,8 @@ module _ {T P E : Type 0} (parts_of : T → List P) (trail_of : T → List E) (m
       } in
       let told : announces parts_of trail_of (logic.some (Some value)) me (w, me.1) =
       λ y e. let same : value ≡ y = cc (e) in ap (λ (z : T). (with_offer v (parts_of z) (trail_of z), me.1)) same in
-      let F : ℕ → Type 0 = λ k. (w : SeatView P E) × (a : Act (Option T)) × Valid s.homes me.1 a × Rule (stepped s 0 k id me.1 w a) × announces parts_of trail_of (logic.some (Some value)) me (w, carried_after me.1 a) in
+      let F : ℕ → Type 0 = λ k. (w : SeatView P E) × (a : Act (Option T)) × Valid s.homes me.1 a × Rule (stepped s 0 k id me.1 w a) × announces parts_of trail_of
+      (logic.some (Some value)) me (w, carried_after me.1 a) in
       let here : F word = (w, keeps, tt, stays s r id me.1 v w at refl refl (λ o. tt) f', told) in
       exchanged word n n F (λ e. subst F e here) (λ ne. here)
 

@@ -1,7 +1,7 @@
 //! One table of changes, over the objects in a volume and over a store in memory.
 
 ghost use Rattle.std.specs.Prelude.{◌<◌};
-ghost use Rattle.tee_base.specs.declared.limits.TheConstants.{HOSTS};
+ghost use Rattle.tee_base.specs.declared.limits.TheConstants.{MAX_HOSTS};
 
 use super::memory::blank;
 use super::same::are_same;
@@ -37,7 +37,7 @@ fn is_alike<V: Volume, S: AppStore>(
     store: &mut S,
     step: Step,
 ) -> Result<bool, Fail>
-    requires { region < HOSTS }
+    requires { region < MAX_HOSTS }
 {
     let change = change_of(alloc, step)?;
     let mut objects = ObjectDir::of(alloc, volume, region);
@@ -54,7 +54,7 @@ pub fn first_unlike<V: Volume, S: AppStore>(
     region: u8,
     store: &mut S,
 ) -> Result<Option<usize>, Fail>
-    requires { region < HOSTS }
+    requires { region < MAX_HOSTS }
 {
     for (place, step) in STEPS.iter().enumerate() {
         if !is_alike(alloc, volume, region, store, *step)? {
@@ -66,7 +66,7 @@ pub fn first_unlike<V: Volume, S: AppStore>(
 
 /// Makes an object in a region of a volume.
 fn make_one<V: Volume>(alloc: Global, volume: &mut V, region: u8) -> Result<(), Fail>
-    requires { region < HOSTS }
+    requires { region < MAX_HOSTS }
 {
     let change = change_of(alloc, Step::New(b'k', 2000))?;
     ObjectDir::of(alloc, volume, region).apply(&change)?;
@@ -75,7 +75,7 @@ fn make_one<V: Volume>(alloc: Global, volume: &mut V, region: u8) -> Result<(), 
 
 /// Whether that object is still the one in the region.
 fn is_that_one<V: Volume>(alloc: Global, volume: &mut V, region: u8) -> Result<bool, Fail>
-    requires { region < HOSTS }
+    requires { region < MAX_HOSTS }
 {
     let mut store = MapStore::new(alloc, &[])?;
     store.apply(&change_of(alloc, Step::New(b'k', 2000))?)?;

@@ -2,12 +2,12 @@
 
 ghost use Rattle.std.specs.Prelude.{◌≡◌, ◌<◌, [], None, false, vec_len};
 ghost use Rattle.store_api.specs.Foundations.{no_foundation};
-ghost use Rattle.tee_base.specs.declared.limits.TheConstants.{HOSTS};
+ghost use Rattle.tee_base.specs.declared.limits.TheConstants.{MAX_HOSTS};
 
 use std::alloc::Global;
 use std::test::Fail;
 use store_api::{Leaf, LeafAnswer, Leaves, Volume};
-use tee_base::limits::{BLOCK_BYTES, HOSTS, LEAVES};
+use tee_base::limits::{BLOCK_BYTES, LEAVES, MAX_HOSTS};
 
 /// How the next commit ends.
 #[derive(Clone, Copy)]
@@ -30,14 +30,14 @@ impl Regions {
     ghost use Rattle.std.specs.Prelude.{◌<◌};
 
     fn leaf(&self, region: u8, leaf: u8) -> [u8; BLOCK_BYTES]
-        requires { region < HOSTS }
+        requires { region < MAX_HOSTS }
     {
         self.leaves[LEAVES * region as usize + leaf as usize]
     }
 
     /// Replaces leaves of a region.
     fn replace(&mut self, region: u8, named: &[Leaf])
-        requires { region < HOSTS }
+        requires { region < MAX_HOSTS }
     {
         for leaf in named {
             self.leaves[LEAVES * region as usize + leaf.number as usize] = leaf.bytes;
@@ -57,7 +57,7 @@ pub struct Memory {
 /// A volume of zeros.
 pub fn blank(alloc: Global) -> Result<Memory, Fail> {
     let mut leaves = Vec::new(alloc);
-    leaves.resize(HOSTS * LEAVES, [0; BLOCK_BYTES])?;
+    leaves.resize(MAX_HOSTS * LEAVES, [0; BLOCK_BYTES])?;
     Ok(Memory {
         regions: Regions { leaves },
         sequence: 0,

@@ -1,7 +1,7 @@
 //! What is known of a volume after its objects were handed to code that knows them as a store alone.
 
 ghost use Rattle.std.specs.Prelude.{◌≡◌, ◌<◌};
-ghost use Rattle.tee_base.specs.declared.limits.TheConstants.{HOSTS};
+ghost use Rattle.tee_base.specs.declared.limits.TheConstants.{MAX_HOSTS};
 ghost use Rattle.store_api.specs.Keeping.{Applied, Applies};
 ghost use Rattle.store_api.specs.Limits.{IsChange};
 ghost use Rattle.store_api.specs.Stores.{change as changed_by};
@@ -27,7 +27,7 @@ pub fn change_over<V: Volume>(
     region: u8,
     change: &Change,
 ) -> Result<(), StoreAnswer>
-    requires region { region < HOSTS }
+    requires region { region < MAX_HOSTS }
     requires change { IsChange change.now }
     ensures applied { KeepsStore V.keeper region volume.old
         → Applied result (changed_by (store_in region (V.keeper.held volume.old)) change.now)

@@ -7,7 +7,7 @@ use std::alloc::Global;
 use std::test::Fail;
 use store_api::{AppStore, Listed, StoreAnswer};
 use tee_base::Bytes;
-use tee_base::limits::ASK_BYTES;
+use tee_base::limits::MAX_ASK_BYTES;
 
 /// Whether the secret and the content of an object are the same in both.
 fn is_same_object<S: AppStore, T: AppStore>(
@@ -20,8 +20,8 @@ fn is_same_object<S: AppStore, T: AppStore>(
     if one.secret(id)?.as_slice() != other.secret(id)?.as_slice() {
         return Ok(false);
     }
-    let content = one.read(id, 0, ASK_BYTES)?;
-    let wanted = other.read(id, 0, ASK_BYTES)?;
+    let content = one.read(id, 0, MAX_ASK_BYTES)?;
+    let wanted = other.read(id, 0, MAX_ASK_BYTES)?;
     Ok(content.as_slice() == wanted.as_slice())
 }
 

@@ -9,7 +9,7 @@ use std::process::Abort;
 use std::test::Fail;
 use store_api::{AppStore, Change, Listed, MapStore, StoreAnswer};
 use tee_base::Bytes;
-use tee_base::limits::ASK_BYTES;
+use tee_base::limits::MAX_ASK_BYTES;
 
 /// A change. An object's identifier is one letter, or the longest of that letter where it is a capital.
 #[derive(Clone, Copy)]
@@ -77,7 +77,7 @@ fn put(alloc: Global, letter: u8, count: u32, overwrite: bool) -> Result<Change,
         kind: count,
         usage: u32::from(letter),
         secret: secret_of(alloc, letter)?,
-        content: painted(alloc, letter, count.min(ASK_BYTES) as usize)?,
+        content: painted(alloc, letter, count.min(MAX_ASK_BYTES) as usize)?,
         overwrite,
     })
 }
@@ -163,8 +163,8 @@ fn is_same_content(
 ) -> Result<bool, StoreAnswer>
     requires { IsIdentifier id.now }
 {
-    let one = content(alloc, memory, id, 0, ASK_BYTES)?;
-    let other = store.read(id, 0, ASK_BYTES)?;
+    let one = content(alloc, memory, id, 0, MAX_ASK_BYTES)?;
+    let other = store.read(id, 0, MAX_ASK_BYTES)?;
     Ok(one.as_slice() == other.as_slice())
 }
 

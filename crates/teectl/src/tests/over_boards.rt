@@ -1,7 +1,7 @@
 //! Scripts over boards that fail, lose their power, or hold what doesn't open.
 
 use boards::MemBoard;
-use epoch::OpenAnswer;
+use epoch::{FLAT_VERSION, Header, OpenAnswer, TreeEntry, flip, lay};
 use sample_apps::sample_hosts;
 use std::alloc::Global;
 use std::test::Fail;
@@ -165,6 +165,37 @@ fn an_older_or_a_newer_image_is_refused(rt: HostRuntime) -> Result<(), Fail> {
         assert_eq!(rt; sink.written().is_empty(), wanted != Status::Done);
         drop(board);
     }
+    Ok(())
+}
+
+/// A board at the counter 0 whose image has a header of sequence 0, over leaves of zeros.
+fn board_at_zero(alloc: Global) -> Result<MemBoard, Fail> {
+    let mut board = MemBoard::blank(alloc, [0; 32], limits::BOARD_BLOCKS)?;
+    let root = TreeEntry {
+        copy: 0,
+        sequence: 0,
+        iv: [0; 16],
+        tag: [0; 32],
+    };
+    let header = Header {
+        version: FLAT_VERSION,
+        sequence: 0,
+        root,
+    };
+    lay(&mut board, &header)?;
+    flip(&mut board, 0)?;
+    let image = board.image(alloc)?;
+    Ok(MemBoard::of_image(alloc, image, 0, [0; 32])?)
+}
+
+#[test]
+fn a_header_of_sequence_0_is_opened(rt: HostRuntime) -> Result<(), Fail> {
+    let alloc = rt.alloc();
+    let script = "vault open 1\nvault invoke 1 2 mi:61 vi:7:0 mi:6f6c64 vo\n";
+    let (status, sink, board) = run_on(alloc, board_at_zero(alloc)?, script)?;
+    drop(board);
+    assert_eq!(rt; status, Status::Done);
+    assert_eq!(rt; sink.written(), FIRST.as_bytes());
     Ok(())
 }
 

@@ -1,6 +1,6 @@
 use Rattle.std.proofs.Common.{not, rules}
 use Rattle.std.proofs.lemmas.Fn.{filter_same}
-use Rattle.alone.specs.declared.running.Instance.{Instance}
+use Rattle.alone.specs.declared.active_entry.Instance.{Instance}
 use Rattle.alone.specs.Machine.{is_number}
 use Rattle.app_side.proofs.teardown.leave_out.Goals as goal
 

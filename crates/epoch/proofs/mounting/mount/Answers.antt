@@ -1,4 +1,4 @@
-use Rattle.epoch.proofs.MountLemmas.{mounts_found}
+use Rattle.epoch.proofs.MountLemmas.{mounts_found, ruled_by}
 use Rattle.epoch.proofs.SettledLemmas.{settled_blocks}
 use Rattle.epoch.proofs.mounting.mount.Goals as goal
 
@@ -6,6 +6,18 @@ pub returns-clause-holds : goal.returns-clause-holds
 returns-clause-holds g c honest f h framed same large holding =
     mounts_found f framed c.args.version same h (g.B.Board.view c.args.board.now) (g.B.Board.view c.find_version.new.board) holding (g.met.B.Board.consistent c.args.board.now honest).counter large
     c.find_version.result (c.find_version.ensures.exact honest) (c.find_version.ensures.blocks honest) (c.find_version.ensures.counter honest) (c.find_version.ensures.run honest)
+
+pub returns-clause-rule : goal.returns-clause-rule
+returns-clause-rule g c tells =
+    let told = c.find_version.ensures.rule tells in
+    let v = g.B.Board.view c.args.board.now in
+    (told.0, λ f same. ruled_by f c.args.version same v v.state.reads told.0 c.find_version.result told.1)
+
+pub returns-clause-exact : goal.returns-clause-exact
+returns-clause-exact g c honest =
+    let finds = c.find_version.ensures.exact honest in
+    let v = g.B.Board.view c.args.board.now in
+    (finds.counter, finds.among, λ f same. ruled_by f c.args.version same v v.state.reads finds.counter c.find_version.result finds.ruled)
 
 pub returns-clause-settled : goal.returns-clause-settled
 returns-clause-settled g c honest =

@@ -1,5 +1,5 @@
 use Rattle.std.proofs.Common.{◌≡◌, arith}
-use Rattle.epoch.proofs.MountLemmas.{after_power, power_in_use, refused_so}
+use Rattle.epoch.proofs.MountLemmas.{after_power, power_sound, ruled_so}
 use Rattle.epoch.proofs.SettledLemmas.{settled_on, settled_power}
 use Rattle.epoch.proofs.mounting.mount_after_power.Goals as goal
 
@@ -14,16 +14,16 @@ returns-clause-exact g c h =
       powered.left,
       powered.may,
       λ f same.
-          refused_so f (g.B.Board.view c.args.board.now) (g.B.Board.view c.power.new.self) call.size call.key _ _ _ _ image counter c.mount_again.result (told.2 f same),
+          ruled_so f (g.B.Board.view c.args.board.now) (g.B.Board.view c.power.new.self) call.size call.key _ _ _ _ image counter c.mount_again.result (told.2 f same),
     )
 
 pub returns-clause-again : goal.returns-clause-again
-returns-clause-again g c h f framed same large used =
+returns-clause-again g c h f framed same large sound =
     let step = c.power.ensures.honest h in
     let call = c.power.ensures.ordered in
     after_power f (g.B.Board.view c.args.board.now) (g.B.Board.view c.power.new.self) call.key step.1 step.2 (g.B.Board.view c.mount_again.new.board) c.mount_again.result
     (c.mount_again.ensures.again step.0 f framed same (omega (arith, large, call.size))
-    (power_in_use f (g.B.Board.view c.args.board.now) (g.B.Board.view c.power.new.self) call.key step.1 step.2 used))
+    (power_sound f (g.B.Board.view c.args.board.now) (g.B.Board.view c.power.new.self) call.key step.1 step.2 sound))
 
 pub returns-clause-settled : goal.returns-clause-settled
 returns-clause-settled g c h =

@@ -1,12 +1,12 @@
 use Rattle.std.proofs.Common.{refl, arith, rules}
-use Rattle.epoch.proofs.MountLemmas.{again_failed, again_found, refused_so, stopped}
+use Rattle.epoch.proofs.MountLemmas.{again_failed, again_found, ruled_so, stopped}
 use Rattle.epoch.proofs.SettledLemmas.{settled_on, settled_sync}
 use Rattle.epoch.proofs.mounting.mount_again.Goals as goal
 
 pub returns-in_err-sync-clause-again : goal.returns-in_err-sync-clause-again
-returns-in_err-sync-clause-again g c h f framed same large used =
+returns-in_err-sync-clause-again g c h f framed same large sound =
     let step = c.in_err-sync.ensures.honest h in
-    stopped (search rules) (again_failed f (g.B.Board.view c.args.board.now) (g.met.B.Board.consistent c.args.board.now h) used (g.B.Board.view c.sync.new.self) step.1 step.2)
+    stopped (search rules) (again_failed f (g.B.Board.view c.args.board.now) (g.met.B.Board.consistent c.args.board.now h) sound (g.B.Board.view c.sync.new.self) step.1 step.2)
 
 pub returns-clause-exact : goal.returns-clause-exact
 returns-clause-exact g c h =
@@ -20,14 +20,15 @@ returns-clause-exact g c h =
         fits = told.1.fits;
       },
       λ f same.
-          refused_so f (g.B.Board.view c.args.board.now) (g.B.Board.view c.sync.new.self) call.size call.key _ _ told.0 told.0 step.2.reads refl c.mount.result (told.2 f same),
+          ruled_so f (g.B.Board.view c.args.board.now) (g.B.Board.view c.sync.new.self) call.size call.key _ _ told.0 told.0 step.2.reads refl c.mount.result (told.2 f same),
     )
 
 pub returns-clause-again : goal.returns-clause-again
-returns-clause-again g c h f framed same large used =
+returns-clause-again g c h f framed same large sound =
     let step = c.in_ok-sync.ensures.honest h in
     let call = c.in_ok-sync.ensures.call in
-    again_found f (g.B.Board.view c.args.board.now) (g.met.B.Board.consistent c.args.board.now h) used (g.B.Board.view c.sync.new.self) (g.B.Board.view c.mount.new.board) c.mount.result call.key step.1 step.2
+    again_found f (g.B.Board.view c.args.board.now) (g.met.B.Board.consistent c.args.board.now h) sound (g.B.Board.view c.sync.new.self) (g.B.Board.view c.mount.new.board)
+    c.mount.result call.key step.1 step.2
     (λ held holding. c.mount.ensures.holds step.0 f held framed same (omega (arith, large, call.size)) holding)
 
 pub returns-in_err-sync-clause-settled : goal.returns-in_err-sync-clause-settled

@@ -1,9 +1,13 @@
-use Rattle.flat_volume.proofs.OpenLemmas.{opens_none, opens_some}
+use Rattle.flat_volume.proofs.OpenLemmas.{if_found, opens_found, opens_none}
 use Rattle.flat_volume.proofs.opening.take_up.Goals as goal
+
+pub returns-in-Some-clause-sequence : goal.returns-in-Some-clause-sequence
+returns-in-Some-clause-sequence g c = if_found c.args.found c.opened_at.result.sequence c.opened_at.ensures.sequence
 
 pub returns-in-Some-clause-opens : goal.returns-in-Some-clause-opens
 returns-in-Some-clause-opens g c honest h mounts =
-    opens_some (g.B.Board.view c.args.board.now) c.opened_at.result c.in-Some.header c.args.found h c.in-Some.is c.opened_at.ensures.root c.opened_at.ensures.sequence c.opened_at.ensures.table mounts
+    opens_found (g.B.Board.view c.args.board.now) c.opened_at.result c.in-Some.field-0 c.args.found h c.in-Some.is c.opened_at.ensures.root c.opened_at.ensures.sequence
+    c.opened_at.ensures.table mounts
 
 pub returns-in-None-clause-opens : goal.returns-in-None-clause-opens
 returns-in-None-clause-opens g c honest h mounts =

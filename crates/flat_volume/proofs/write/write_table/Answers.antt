@@ -29,7 +29,8 @@ loop-i-preserved g c = record {
   placed = λ h.
       let w = c.in_ok-write.ensures.honest (c.loop-i.invariant.honest h) in
       placed_step _ (g.B.Board.view c.write.new.self).state.reads c.args.copy c.loop-i.i c.args.table.now.bytes.items _
-      (ap (g.B.Board.view c.write.new.self).state.reads (sym c.block_at.ensures.block) ∙ w.2.here refl) (λ k ne. w.2.elsewhere k (λ e. ne (e ∙ c.block_at.ensures.block))) c.block.ensures (c.loop-i.invariant.placed h);
+      (ap (g.B.Board.view c.write.new.self).state.reads (sym c.block_at.ensures.block) ∙ w.2.here refl) (λ k ne. w.2.elsewhere k (λ e. ne (e ∙ c.block_at.ensures.block)))
+      c.block.ensures (c.loop-i.invariant.placed h);
 }
 
 pub returns-in_err-write-clause-run : goal.returns-in_err-write-clause-run

@@ -13,8 +13,12 @@ forget-requires c = remains_held (goes c.args.closing) c.loop-entry.shares c.arg
 
 pub loop-entry-preserved : goal.loop-entry-preserved
 loop-entry-preserved c = elim c.if-takes.branch [
-  | then-takes w ↦ remains_gone (goes c.args.closing) c.loop-entry.shares c.if-takes.shares c.args.handles.now c.loop-entry.entry-index c.entry-item.result c.loop-entry.invariant c.loop-entry-test.true c.entry-item.is (sym c.takes.ensures ∙ w.if-takes.true) (subst (λ (s : List Share). Forgets c.loop-entry.shares s c.entry-item.result.handle) (sym w.shares-is) w.forget.ensures)
-  | else-takes w ↦ remains_kept (goes c.args.closing) c.if-takes.shares c.args.handles.now c.loop-entry.entry-index c.entry-item.result (subst (λ s. Remains (goes c.args.closing) s c.args.handles.now c.loop-entry.entry-index) (sym w.shares-is) c.loop-entry.invariant) c.loop-entry-test.true c.entry-item.is (sym c.takes.ensures ∙ w.if-takes.false)
+  | then-takes w ↦ remains_gone (goes c.args.closing) c.loop-entry.shares c.if-takes.shares c.args.handles.now c.loop-entry.entry-index c.entry-item.result c.loop-entry.invariant
+      c.loop-entry-test.true c.entry-item.is (sym c.takes.ensures ∙ w.if-takes.true) (subst (λ (s : List Share). Forgets c.loop-entry.shares s c.entry-item.result.handle)
+      (sym w.shares-is) w.forget.ensures)
+  | else-takes w ↦ remains_kept (goes c.args.closing) c.if-takes.shares c.args.handles.now c.loop-entry.entry-index c.entry-item.result
+      (subst (λ s. Remains (goes c.args.closing) s c.args.handles.now c.loop-entry.entry-index) (sym w.shares-is) c.loop-entry.invariant) c.loop-entry-test.true c.entry-item.is
+      (sym c.takes.ensures ∙ w.if-takes.false)
 ]
 
 pub returns : goal.returns

@@ -4,7 +4,8 @@ use Rattle.object_asks.specs.Held.{is_key_at, with_key}
 use Rattle.object_asks.proofs.keyring.set.Goals as goal
 
 pub returns-in-Some : goal.returns-in-Some
-returns-in-Some c = changed_here (is_key_at c.args.instance c.args.number) (with_key c.args.key) c.args.keys.now.items c.as_slice.result.now c.in-Some.place c.index_mut.result.now _ c.in-Some.ensures c.as_slice.ensures.value c.index_mut.ensures.value refl
+returns-in-Some c = changed_here (is_key_at c.args.instance c.args.number) (with_key c.args.key) c.args.keys.now.items c.as_slice.result.now c.in-Some.place c.index_mut.result.now
+    _ c.in-Some.ensures c.as_slice.ensures.value c.index_mut.ensures.value refl
 
 pub returns-in_default : goal.returns-in_default
 returns-in_default c = nowhere_changed (is_key_at c.args.instance c.args.number) (with_key c.args.key) c.args.keys.now.items c.as_slice.result.now c.in_default.ensures c.as_slice.ensures.value

@@ -1,7 +1,8 @@
 use Rattle.std.proofs.Common.{ℕ, ◌≡◌, ◌∙◌, ◌*◌, ◌/◌, ◌%◌, ◌≤◌, ◌==◌, ◌||◌, ◌&&◌, nat_le, nat_lt, Bool, true, false, not, cond, List, None, Some, Ok, is_ok, is_some, length, refl, sym, ap, arith}
 use Rattle.std.proofs.lemmas.Bool.{both_ways, eqb-true, leb-true, lt-leb, not-true}
 use Rattle.tee_base.specs.KeySizes.{aes, are_bytes_in, hmac_sha256, hmac_sha384, hmac_sha512, size_fits}
-use Rattle.transient_obj.specs.Keys.{Key, bits_of, populate_answer}
+use Rattle.secret.specs.Bits.{bits_of}
+use Rattle.transient_obj.specs.Keys.{Key, populate_answer}
 use Rattle.object_asks.specs.Keys.{fits_key, wanted_by}
 use Rattle.object_asks.proofs.HandleLemmas.{first_true, second_true}
 use Rattle.object_asks.proofs.keys.generate.Goals as goal
@@ -26,17 +27,20 @@ is_whole n bits same whole = rw same whole
 whole_bytes : (kind bits : ℕ) → size_fits kind bits ≡ true → IsWhole bits
 unfolding size_fits
 whole_bytes kind bits =
-    elim (kind == aes) as (λ b. cond b ((bits == 128) || (bits == 192) || (bits == 256)) (cond (kind == hmac_sha256) (are_bytes_in 192 1024 bits) (cond ((kind == hmac_sha384) || (kind == hmac_sha512)) (are_bytes_in 256 1024 bits) false)) ≡ true → IsWhole bits) [
+    elim (kind == aes) as (λ b. cond b ((bits == 128) || (bits == 192) || (bits == 256)) (cond (kind == hmac_sha256) (are_bytes_in 192 1024 bits)
+    (cond ((kind == hmac_sha384) || (kind == hmac_sha512)) (are_bytes_in 256 1024 bits) false)) ≡ true → IsWhole bits) [
       | true ↦ λ fits. one_of ((bits == 128) || (bits == 192)) (bits == 256) (IsWhole bits) fits
-          (λ less. one_of (bits == 128) (bits == 192) (IsWhole bits) less (λ e. is_whole 128 bits (eqb-true bits 128 e) (refl, omega arith)) (λ e. is_whole 192 bits (eqb-true bits 192 e) (refl, omega arith)))
+          (λ less. one_of (bits == 128) (bits == 192) (IsWhole bits) less (λ e. is_whole 128 bits (eqb-true bits 128 e) (refl, omega arith))
+          (λ e. is_whole 192 bits (eqb-true bits 192 e) (refl, omega arith)))
           (λ e. is_whole 256 bits (eqb-true bits 256 e) (refl, omega arith))
-      | false ↦ elim (kind == hmac_sha256) as (λ b. cond b (are_bytes_in 192 1024 bits) (cond ((kind == hmac_sha384) || (kind == hmac_sha512)) (are_bytes_in 256 1024 bits) false) ≡ true → IsWhole bits) [
-        | true ↦ λ fits. in_range 192 bits fits
-        | false ↦ elim ((kind == hmac_sha384) || (kind == hmac_sha512)) as (λ b. cond b (are_bytes_in 256 1024 bits) false ≡ true → IsWhole bits) [
-          | true ↦ λ fits. in_range 256 bits fits
-          | false ↦ λ fits. absurd (both_ways _ refl fits)
-        ]
-      ]
+      | false ↦ elim (kind == hmac_sha256) as (λ b. cond b (are_bytes_in 192 1024 bits) (cond ((kind == hmac_sha384) || (kind == hmac_sha512)) (are_bytes_in 256 1024 bits) false) ≡
+          true → IsWhole bits) [
+            | true ↦ λ fits. in_range 192 bits fits
+            | false ↦ elim ((kind == hmac_sha384) || (kind == hmac_sha512)) as (λ b. cond b (are_bytes_in 256 1024 bits) false ≡ true → IsWhole bits) [
+              | true ↦ λ fits. in_range 256 bits fits
+              | false ↦ λ fits. absurd (both_ways _ refl fits)
+            ]
+          ]
     ]
 
 -- a key takes as many bytes as are wanted for it
@@ -64,5 +68,6 @@ wanted key bits secret asked =
 pub returns-else-is_ok : goal.returns-else-is_ok
 returns-else-is_ok c =
     let here : wanted_by c.requires.0 (Some c.in-Some.key.now) ≡ Some (length c.args.secret.now) = ap (wanted_by c.requires.0) c.in-Some.ensures ∙ c.requires.1 in
-    let fine : c.populate.result ≡ Ok tt = c.populate.ensures.answer ∙ ap (λ key. populate_answer key c.args.secret.now) c.copy-key.ensures ∙ wanted c.in-Some.key.now c.requires.0 c.args.secret.now here in
+    let fine : c.populate.result ≡ Ok tt = c.populate.ensures.answer ∙ ap (λ key. populate_answer key c.args.secret.now) c.copy-key.ensures
+    ∙ wanted c.in-Some.key.now c.requires.0 c.args.secret.now here in
     absurd (both_ways _ (sym c.if-is_ok.ensures.value) (ap is_ok fine))

@@ -4,4 +4,5 @@ use Rattle.object_asks.proofs.opening.open.Goals as goal
 
 pub returns : goal.returns
 returns g c =
-    serves_told g.T.AppStore.keeper c.open_found.result c.told.result _ _ false c.args.held.now c.args.held.now c.open_found.new.held c.args.store.now c.open_found.new.store c.told.ensures.ok c.told.ensures.err (search rules) c.open_found.ensures
+    serves_told g.T.AppStore.keeper c.open_found.result c.told.result _ _ false c.args.held.now c.args.held.now c.open_found.new.held c.args.store.now c.open_found.new.store
+    c.told.ensures.ok c.told.ensures.err (search rules) c.open_found.ensures

@@ -4,4 +4,5 @@ use Rattle.object_asks.proofs.stream.truncate.Goals as goal
 
 pub returns : goal.returns
 returns g c =
-    serves_told g.T.AppStore.keeper c.truncate_through.result c.told.result _ _ true c.args.held.now c.args.held.now c.truncate_through.new.held c.args.store.now c.truncate_through.new.store c.told.ensures.ok c.told.ensures.err (search rules) c.truncate_through.ensures
+    serves_told g.T.AppStore.keeper c.truncate_through.result c.told.result _ _ true c.args.held.now c.args.held.now c.truncate_through.new.held c.args.store.now
+    c.truncate_through.new.store c.told.ensures.ok c.told.ensures.err (search rules) c.truncate_through.ensures

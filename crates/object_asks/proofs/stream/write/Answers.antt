@@ -4,4 +4,5 @@ use Rattle.object_asks.proofs.stream.write.Goals as goal
 
 pub returns : goal.returns
 returns g c =
-    serves_told g.T.AppStore.keeper c.write_through.result c.told.result _ _ true c.args.held.now c.args.held.now c.write_through.new.held c.args.store.now c.write_through.new.store c.told.ensures.ok c.told.ensures.err (search rules) c.write_through.ensures
+    serves_told g.T.AppStore.keeper c.write_through.result c.told.result _ _ true c.args.held.now c.args.held.now c.write_through.new.held c.args.store.now
+    c.write_through.new.store c.told.ensures.ok c.told.ensures.err (search rules) c.write_through.ensures

@@ -12,13 +12,17 @@ use Rattle.region_plan.proofs.calls.next_after.Goals as goal
 pub returns-in_default : goal.returns-in_default
 returns-in_default g c =
     region_not_found g.L.LeafSource.keeper g.L.LeafSource.region version_one (λ store. next_after store (option_copied c.args.last)) IsListed c.args.from.now _
-    (λ h. next_none version_one (leaves_of g.L.LeafSource.keeper g.L.LeafSource.region c.args.from.now) (option_copied c.args.last) (listed_none version_one (leaves_of g.L.LeafSource.keeper g.L.LeafSource.region c.args.from.now) (option_copied c.args.last) c.least_after.result c.as_slice.result.now c.in_ok-inodes.inodes.items c.least_after.ensures.inode c.as_slice.ensures.value (c.in_ok-inodes.ensures.inodes h) c.in_default.is)) c.in_ok-inodes.ensures.reads
+    (λ h. next_none version_one (leaves_of g.L.LeafSource.keeper g.L.LeafSource.region c.args.from.now) (option_copied c.args.last)
+    (listed_none version_one (leaves_of g.L.LeafSource.keeper g.L.LeafSource.region c.args.from.now) (option_copied c.args.last) c.least_after.result c.as_slice.result.now
+    c.in_ok-inodes.inodes.items c.least_after.ensures.inode c.as_slice.ensures.value (c.in_ok-inodes.ensures.inodes h) c.in_default.is)) c.in_ok-inodes.ensures.reads
 
 pub returns : goal.returns
 returns g c =
-    region_answers g.L.LeafSource.keeper g.L.LeafSource.region version_one (λ store. next_after store (option_copied c.args.last)) IsListed (record { id = c.in_ok-copy.field-0; facts = c.facts_of.result }) c.args.from.now _
+    region_answers g.L.LeafSource.keeper g.L.LeafSource.region version_one (λ store. next_after store (option_copied c.args.last)) IsListed
+    (record { id = c.in_ok-copy.field-0; facts = c.facts_of.result }) c.args.from.now _
     (λ h.
     next_told version_one (leaves_of g.L.LeafSource.keeper g.L.LeafSource.region c.args.from.now) (option_copied c.args.last) c.in-Some.inode.now
-    (listed_up version_one (leaves_of g.L.LeafSource.keeper g.L.LeafSource.region c.args.from.now) (option_copied c.args.last) c.least_after.result c.as_slice.result.now c.in_ok-inodes.inodes.items c.in-Some.inode c.least_after.ensures.inode c.as_slice.ensures.value (c.in_ok-inodes.ensures.inodes h) c.in-Some.is)
+    (listed_up version_one (leaves_of g.L.LeafSource.keeper g.L.LeafSource.region c.args.from.now) (option_copied c.args.last) c.least_after.result c.as_slice.result.now
+    c.in_ok-inodes.inodes.items c.in-Some.inode c.least_after.ensures.inode c.as_slice.ensures.value (c.in_ok-inodes.ensures.inodes h) c.in-Some.is)
     ∙ ap (λ (i : List ℕ). listed_as i (inode_facts c.in-Some.inode.now)) (sym c.in_ok-copy.ensures) ∙ ap (λ (f : Facts). listed_as c.in_ok-copy.field-0 f) (sym c.facts_of.ensures))
     (subst IsIdentifier (sym c.in_ok-copy.ensures) c.in-Some.ensures.within.0, subst AreFacts (sym c.facts_of.ensures) c.in-Some.ensures.within.1) c.in_ok-inodes.ensures.reads

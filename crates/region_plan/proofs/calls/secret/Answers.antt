@@ -10,10 +10,14 @@ use Rattle.region_plan.proofs.calls.secret.Goals as goal
 pub returns-in_default : goal.returns-in_default
 returns-in_default g c =
     region_not_found g.L.LeafSource.keeper g.L.LeafSource.region version_one (λ store. secret_at store c.args.id.now) IsSecret c.args.from.now _
-    (λ h. absent_is version_one (leaves_of g.L.LeafSource.keeper g.L.LeafSource.region c.args.from.now) _ c.args.id.now (looked_none version_one (leaves_of g.L.LeafSource.keeper g.L.LeafSource.region c.args.from.now) c.args.id.now c.find.result c.as_slice.result.now c.in_ok-inodes.inodes.items c.find.ensures.inode c.as_slice.ensures.value (c.in_ok-inodes.ensures.inodes h) c.in_default.is)) c.in_ok-inodes.ensures.reads
+    (λ h. absent_is version_one (leaves_of g.L.LeafSource.keeper g.L.LeafSource.region c.args.from.now) _ c.args.id.now
+    (looked_none version_one (leaves_of g.L.LeafSource.keeper g.L.LeafSource.region c.args.from.now) c.args.id.now c.find.result c.as_slice.result.now
+    c.in_ok-inodes.inodes.items c.find.ensures.inode c.as_slice.ensures.value (c.in_ok-inodes.ensures.inodes h) c.in_default.is)) c.in_ok-inodes.ensures.reads
 
 pub returns : goal.returns
 returns g c =
     region_answers g.L.LeafSource.keeper g.L.LeafSource.region version_one (λ store. secret_at store c.args.id.now) IsSecret c.in_ok-copy.field-0 c.args.from.now _
-    (λ h. secret_told version_one (leaves_of g.L.LeafSource.keeper g.L.LeafSource.region c.args.from.now) c.args.id.now c.in-Some.inode.now (looked_up version_one (leaves_of g.L.LeafSource.keeper g.L.LeafSource.region c.args.from.now) c.args.id.now c.find.result c.as_slice.result.now c.in_ok-inodes.inodes.items c.in-Some.inode c.find.ensures.inode c.as_slice.ensures.value (c.in_ok-inodes.ensures.inodes h) c.in-Some.is) ∙ ap (λ f. Ok f) (sym c.in_ok-copy.ensures))
+    (λ h. secret_told version_one (leaves_of g.L.LeafSource.keeper g.L.LeafSource.region c.args.from.now) c.args.id.now c.in-Some.inode.now
+    (looked_up version_one (leaves_of g.L.LeafSource.keeper g.L.LeafSource.region c.args.from.now) c.args.id.now c.find.result c.as_slice.result.now c.in_ok-inodes.inodes.items
+    c.in-Some.inode c.find.ensures.inode c.as_slice.ensures.value (c.in_ok-inodes.ensures.inodes h) c.in-Some.is) ∙ ap (λ f. Ok f) (sym c.in_ok-copy.ensures))
     (subst IsSecret (sym c.in_ok-copy.ensures) c.in-Some.ensures.within.1) c.in_ok-inodes.ensures.reads

@@ -11,4 +11,5 @@ pub returns : goal.returns
 returns c = λ leaves is long.
     let count = c.blocks-wanted.ensures ∙ ap data_leaves long in
     exact c.is_complete.result _ (λ e. c.is_complete.ensures.wrong leaves is count e)
-    (λ e. complete_has version_one leaves c.args.inode.now.number c.blocks-wanted.result (c.is_in_order.ensures.right leaves is c.if-not-is_in_order.false) 257 (omega arith) (c.is_complete.ensures.right leaves is e) count)
+    (λ e. complete_has version_one leaves c.args.inode.now.number c.blocks-wanted.result (c.is_in_order.ensures.right leaves is c.if-not-is_in_order.false) 257 (omega arith)
+    (c.is_complete.ensures.right leaves is e) count)

@@ -16,7 +16,9 @@ use Rattle.region_plan.proofs.data.content.Goals as goal
 pub returns-in_default : goal.returns-in_default
 returns-in_default g c =
     region_not_found g.L.LeafSource.keeper g.L.LeafSource.region version_one (λ store. read_at store c.args.id.now c.args.start c.args.count) (IsPart c.args.count) c.args.from.now _
-    (λ h. absent_is version_one (leaves_of g.L.LeafSource.keeper g.L.LeafSource.region c.args.from.now) _ c.args.id.now (looked_none version_one (leaves_of g.L.LeafSource.keeper g.L.LeafSource.region c.args.from.now) c.args.id.now c.find.result c.as_slice.result.now c.in_ok-inodes.inodes.items c.find.ensures.inode c.as_slice.ensures.value (c.in_ok-inodes.ensures.inodes h) c.in_default.is)) c.in_ok-inodes.ensures.reads
+    (λ h. absent_is version_one (leaves_of g.L.LeafSource.keeper g.L.LeafSource.region c.args.from.now) _ c.args.id.now
+    (looked_none version_one (leaves_of g.L.LeafSource.keeper g.L.LeafSource.region c.args.from.now) c.args.id.now c.find.result c.as_slice.result.now
+    c.in_ok-inodes.inodes.items c.find.ensures.inode c.as_slice.ensures.value (c.in_ok-inodes.ensures.inodes h) c.in_default.is)) c.in_ok-inodes.ensures.reads
 
 pub returns : goal.returns
 returns g c =
@@ -27,18 +29,27 @@ returns g c =
     let inode = c.in-Some.inode.now in
     let same : K.honest c.args.from.now → mid ≡ leaves = λ h. leaves_stay K R c.args.from.now c.load.new.from c.in_ok-inodes.ensures.reads h in
     let here : K.honest c.args.from.now → inode_with c.args.id.now (inodes_of version_one leaves) ≡ Some inode
-    = λ h. looked_up version_one leaves c.args.id.now c.find.result c.as_slice.result.now c.in_ok-inodes.inodes.items c.in-Some.inode c.find.ensures.inode c.as_slice.ensures.value (c.in_ok-inodes.ensures.inodes h) c.in-Some.is in
+    = λ h. looked_up version_one leaves c.args.id.now c.find.result c.as_slice.result.now c.in_ok-inodes.inodes.items c.in-Some.inode c.find.ensures.inode c.as_slice.ensures.value
+    (c.in_ok-inodes.ensures.inodes h) c.in-Some.is in
     let known : K.honest c.args.from.now → IsInode version_one leaves c.load.new.map inode.number inode.length
-    = λ h. record { first = sym (c.in_ok-inodes.ensures.map h); inode = found_is_inode version_one leaves c.args.id.now inode (here h); long = length_told version_one leaves c.args.id.now inode (here h) } in
+    = λ h. record {
+      first = sym (c.in_ok-inodes.ensures.map h);
+      inode = found_is_inode version_one leaves c.args.id.now inode (here h);
+      long =
+          length_told version_one leaves c.args.id.now inode (here h);
+    } in
     let read : K.honest c.args.from.now → IsInode version_one mid c.load.new.map inode.number inode.length
     = λ h. subst (λ (l : ℕ → List ℕ). IsInode version_one l c.load.new.map inode.number inode.length) (sym (same h)) (known h) in
     region_ends K R version_one (λ store. read_at store c.args.id.now c.args.start c.args.count) (IsPart c.args.count) c.read_between.result c.args.from.now c.load.new.from _
     (λ h. if_ok c.read_between.result (λ a. a ≡ map (λ n. byte_at version_one mid inode.number n) (range_with_len c.min-start.result ((c.min-start.result + c.min.result) - c.min-start.result))) _
     (λ a is.
     content_told version_one leaves c.args.id.now inode c.args.start c.args.count (here h)
-    ∙ ap (λ (b : List ℕ). Ok b) (content_answer leaves mid inode.number c.args.start c.args.count inode.length c.min-start.result c.min.result a (same h) (known h).long c.min-start.ensures c.min.ensures is))
+    ∙ ap (λ (b : List ℕ). Ok b) (content_answer leaves mid inode.number c.args.start c.args.count inode.length c.min-start.result c.min.result a (same h) (known h).long
+    c.min-start.ensures c.min.ensures is))
     (c.read_between.ensures.bytes (c.in_ok-inodes.ensures.reads.honest h).0 (read h)))
-    (if_ok c.read_between.result (λ a. length a ≡ (c.min-start.result + c.min.result) - c.min-start.result) (λ a. length a ≤ c.args.count) (λ a is. omega (arith, is, c.min.ensures)) c.read_between.ensures.count)
+    (if_ok c.read_between.result (λ a. length a ≡ (c.min-start.result + c.min.result) - c.min-start.result) (λ a. length a ≤ c.args.count)
+    (λ a is. omega (arith, is, c.min.ensures)) c.read_between.ensures.count)
     c.read_between.ensures.unread
-    (λ h. subst (λ (l : ℕ → List ℕ). IfGarbled (refusal_of c.read_between.result) (λ n. IsTrue (breaks version_one l n))) (same h) (c.read_between.ensures.garbled (c.in_ok-inodes.ensures.reads.honest h).0 (read h)))
+    (λ h. subst (λ (l : ℕ → List ℕ). IfGarbled (refusal_of c.read_between.result) (λ n. IsTrue (breaks version_one l n))) (same h)
+    (c.read_between.ensures.garbled (c.in_ok-inodes.ensures.reads.honest h).0 (read h)))
     c.in_ok-inodes.ensures.reads c.read_between.ensures.reads

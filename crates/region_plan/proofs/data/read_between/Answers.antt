@@ -18,6 +18,7 @@ loop-at-preserved g c =
       count = omega (arith, kept.count, kept.from_start, c.in_ok-read_part.ensures.count);
       bytes = λ h is.
           let same = leaves_stay K R c.args.from.now c.loop-at.from kept.reads h in
-          part_joined (leaves_of K R c.args.from.now) (leaves_of K R c.loop-at.from) c.args.inode c.args.start c.loop-at.at (c.loop-at.at + c.min.result) c.loop-at.bytes.items c.read_part.new.bytes.items same kept.from_start (omega arith) (kept.bytes h is)
+          part_joined (leaves_of K R c.args.from.now) (leaves_of K R c.loop-at.from) c.args.inode c.args.start c.loop-at.at (c.loop-at.at + c.min.result) c.loop-at.bytes.items
+          c.read_part.new.bytes.items same kept.from_start (omega arith) (kept.bytes h is)
           (c.in_ok-read_part.ensures.bytes (kept.reads.honest h).0 (subst (λ (l : ℕ → List ℕ). IsInode version_one l c.args.map.now c.args.inode c.args.length) (sym same) is));
     }

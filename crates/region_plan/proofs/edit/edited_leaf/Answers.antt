@@ -9,7 +9,8 @@ pub returns-clause-edited : goal.returns-clause-edited
 returns-clause-edited g c h =
     elim c.if-index-blocks.branch [
       | then-index-blocks+else-not-is_touched+in_ok-read w ↦
-          touched_leaf c.args.edit c.args.index c.blocks-2.result c.if-index-blocks.block (leaves_of g.L.LeafSource.keeper g.L.LeafSource.region c.args.from.now c.args.leaf) c.write_leaf.new.block w.is_touched.result
+          touched_leaf c.args.edit c.args.index c.blocks-2.result c.if-index-blocks.block (leaves_of g.L.LeafSource.keeper g.L.LeafSource.region c.args.from.now c.args.leaf)
+          c.write_leaf.new.block w.is_touched.result
           c.blocks-2.ensures w.if-index-blocks.true w.is_touched.ensures w.if-not-is_touched.false (w.block-is ∙ w.in_ok-read.ensures.leaf h) c.write_leaf.ensures
       | else-index-blocks w ↦
           fresh_leaf c.args.edit c.args.index c.blocks-2.result c.if-index-blocks.block (leaves_of g.L.LeafSource.keeper g.L.LeafSource.region c.args.from.now c.args.leaf) c.write_leaf.new.block

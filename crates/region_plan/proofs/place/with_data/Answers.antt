@@ -12,4 +12,5 @@ loop-leaf-init c = started c.args.map.now c.args.inode c.args.kept c.args.blocks
 pub loop-leaf-preserved : goal.loop-leaf-preserved
 loop-leaf-preserved c =
     stepped c.args.map.now c.loop-leaf.after c.set_entry.new.map c.args.inode c.args.kept c.args.blocks c.loop-leaf.index c.loop-leaf.leaf c.entry_in-entry.result c.placed_entry.result
-    c.is_free-free.result c.from-index.result c.loop-leaf.invariant c.loop-leaf-test.true (c.entry_in-entry.ensures.entry _ refl) c.is_free-free.ensures c.placed_entry.ensures c.set_entry.ensures (c.from-index.ensures ∙ byte_mark c.is_free-free.result)
+    c.is_free-free.result c.from-index.result c.loop-leaf.invariant c.loop-leaf-test.true (c.entry_in-entry.ensures.entry _ refl) c.is_free-free.ensures c.placed_entry.ensures
+    c.set_entry.ensures (c.from-index.ensures ∙ byte_mark c.is_free-free.result)

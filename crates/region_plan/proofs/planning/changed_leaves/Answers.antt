@@ -26,9 +26,12 @@ loop-leaf-preserved g c =
             reads = reads;
             above = subst (λ (l : List Leaf). is_above_all l (c.loop-leaf.leaf + 1) ≡ true) (sym named) (above_pushed c.loop-leaf.leaves last c.loop-leaf.leaf kept.above refl);
             done = λ h first.
-                subst (λ (l : List Leaf). (i : ℕ) → i < c.loop-leaf.leaf + 1 → IsChangedLeaf (leaves_of K R c.args.from.now) c.args.map.now c.args.inode c.args.head.now c.args.edit i (with_leaves l (leaves_of K R c.args.from.now) i)) (sym named)
-                (named_more (λ i bytes. IsChangedLeaf (leaves_of K R c.args.from.now) c.args.map.now c.args.inode c.args.head.now c.args.edit i bytes) (leaves_of K R c.args.from.now) c.loop-leaf.leaves c.loop-leaf.leaf kept.above (kept.done h first) last refl
-                (subst (λ (o : Option (List ℕ)). IsChangedLeaf (leaves_of K R c.args.from.now) c.args.map.now c.args.inode c.args.head.now c.args.edit c.loop-leaf.leaf (bytes_or o (leaves_of K R c.args.from.now c.loop-leaf.leaf))) w.in-Some.is (changed h first)));
+                subst (λ (l : List Leaf). (i : ℕ) → i < c.loop-leaf.leaf + 1 → IsChangedLeaf (leaves_of K R c.args.from.now) c.args.map.now c.args.inode c.args.head.now c.args.edit
+                i (with_leaves l (leaves_of K R c.args.from.now) i)) (sym named)
+                (named_more (λ i bytes. IsChangedLeaf (leaves_of K R c.args.from.now) c.args.map.now c.args.inode c.args.head.now c.args.edit i bytes)
+                (leaves_of K R c.args.from.now) c.loop-leaf.leaves c.loop-leaf.leaf kept.above (kept.done h first) last refl
+                (subst (λ (o : Option (List ℕ)). IsChangedLeaf (leaves_of K R c.args.from.now) c.args.map.now c.args.inode c.args.head.now c.args.edit c.loop-leaf.leaf
+                (bytes_or o (leaves_of K R c.args.from.now c.loop-leaf.leaf))) w.in-Some.is (changed h first)));
             few = subst (λ (l : List Leaf). length l ≤ changing c.args.map.now c.args.inode c.args.edit (c.loop-leaf.leaf + 1)) (sym named)
                 (few_named c.args.map.now c.args.inode c.args.edit c.loop-leaf.leaves last c.loop-leaf.leaf kept.few (c.in_ok-bytes.ensures.few (ap is_some w.in-Some.is)));
           }
@@ -36,9 +39,12 @@ loop-leaf-preserved g c =
         reads = reads;
         above = subst (λ (l : List Leaf). is_above_all l (c.loop-leaf.leaf + 1) ≡ true) (sym w.leaves-is) (above_more c.loop-leaf.leaves c.loop-leaf.leaf kept.above);
         done = λ h first.
-            subst (λ (l : List Leaf). (i : ℕ) → i < c.loop-leaf.leaf + 1 → IsChangedLeaf (leaves_of K R c.args.from.now) c.args.map.now c.args.inode c.args.head.now c.args.edit i (with_leaves l (leaves_of K R c.args.from.now) i)) (sym w.leaves-is)
-            (unnamed_more (λ i bytes. IsChangedLeaf (leaves_of K R c.args.from.now) c.args.map.now c.args.inode c.args.head.now c.args.edit i bytes) (leaves_of K R c.args.from.now) c.loop-leaf.leaves c.loop-leaf.leaf kept.above (kept.done h first)
-            (subst (λ (o : Option (List ℕ)). IsChangedLeaf (leaves_of K R c.args.from.now) c.args.map.now c.args.inode c.args.head.now c.args.edit c.loop-leaf.leaf (bytes_or o (leaves_of K R c.args.from.now c.loop-leaf.leaf))) w.in_default.is (changed h first)));
+            subst (λ (l : List Leaf). (i : ℕ) → i < c.loop-leaf.leaf + 1 → IsChangedLeaf (leaves_of K R c.args.from.now) c.args.map.now c.args.inode c.args.head.now c.args.edit i
+            (with_leaves l (leaves_of K R c.args.from.now) i)) (sym w.leaves-is)
+            (unnamed_more (λ i bytes. IsChangedLeaf (leaves_of K R c.args.from.now) c.args.map.now c.args.inode c.args.head.now c.args.edit i bytes) (leaves_of K R c.args.from.now)
+            c.loop-leaf.leaves c.loop-leaf.leaf kept.above (kept.done h first)
+            (subst (λ (o : Option (List ℕ)). IsChangedLeaf (leaves_of K R c.args.from.now) c.args.map.now c.args.inode c.args.head.now c.args.edit c.loop-leaf.leaf
+            (bytes_or o (leaves_of K R c.args.from.now c.loop-leaf.leaf))) w.in_default.is (changed h first)));
         few = subst (λ (l : List Leaf). length l ≤ changing c.args.map.now c.args.inode c.args.edit (c.loop-leaf.leaf + 1)) (sym w.leaves-is)
             (few_unnamed c.args.map.now c.args.inode c.args.edit c.loop-leaf.leaves c.loop-leaf.leaf kept.few);
       }

@@ -12,15 +12,20 @@ pub returns-clause-planned : goal.returns-clause-planned
 returns-clause-planned g c h first =
     let leaves = leaves_of g.L.LeafSource.keeper g.L.LeafSource.region c.args.from.now in
     let says : is_inode_leaf (leaves c.args.inode.now.number) ≡ true → c.args.inode.now ≡ inode_of c.args.inode.now.number (leaves c.args.inode.now.number)
-    → IsHead (bytes_or c.if-edit-inode.head (leaves c.args.inode.now.number)) c.args.inode.now.kind c.args.inode.now.usage c.args.inode.now.id c.args.inode.now.secret c.args.edit.length = λ rules told.
+    → IsHead (bytes_or c.if-edit-inode.head (leaves c.args.inode.now.number)) c.args.inode.now.kind c.args.inode.now.usage c.args.inode.now.id c.args.inode.now.secret
+    c.args.edit.length = λ rules told.
     elim c.if-edit-inode.branch [
       | then-edit-inode w ↦
-          subst (λ (o : Option (List ℕ)). IsHead (bytes_or o (leaves c.args.inode.now.number)) c.args.inode.now.kind c.args.inode.now.usage c.args.inode.now.id c.args.inode.now.secret c.args.edit.length) (sym w.head-is)
+          subst (λ (o : Option (List ℕ)). IsHead (bytes_or o (leaves c.args.inode.now.number)) c.args.inode.now.kind c.args.inode.now.usage c.args.inode.now.id
+          c.args.inode.now.secret c.args.edit.length) (sym w.head-is)
           (told_head c.args.inode.now.number (leaves c.args.inode.now.number) c.args.inode.now c.args.edit.length told rules w.if-edit-inode.true)
       | else-edit-inode w ↦
-          subst (λ (o : Option (List ℕ)). IsHead (bytes_or o (leaves c.args.inode.now.number)) c.args.inode.now.kind c.args.inode.now.usage c.args.inode.now.id c.args.inode.now.secret c.args.edit.length) (sym w.head-is)
-          (head_as w.inode_block.result w.head.result.kind c.args.inode.now.kind w.head.result.usage c.args.inode.now.usage w.head.result.id.now c.args.inode.now.id w.head.result.secret.now c.args.inode.now.secret c.args.edit.length
+          subst (λ (o : Option (List ℕ)). IsHead (bytes_or o (leaves c.args.inode.now.number)) c.args.inode.now.kind c.args.inode.now.usage c.args.inode.now.id
+          c.args.inode.now.secret c.args.edit.length) (sym w.head-is)
+          (head_as w.inode_block.result w.head.result.kind c.args.inode.now.kind w.head.result.usage c.args.inode.now.usage w.head.result.id.now c.args.inode.now.id
+          w.head.result.secret.now c.args.inode.now.secret c.args.edit.length
           w.head.ensures.kind w.head.ensures.usage w.head.ensures.id w.head.ensures.secret w.inode_block.ensures)
     ] in
-    if_ok c.plan_edit.result (λ (named : List Leaf). IsPlanned leaves c.args.map.now c.args.inode.now.number c.if-edit-inode.head c.args.edit named) (λ (named : List Leaf). IsContentPlan leaves c.args.map.now c.args.inode.now c.args.edit named)
+    if_ok c.plan_edit.result (λ (named : List Leaf). IsPlanned leaves c.args.map.now c.args.inode.now.number c.if-edit-inode.head c.args.edit named)
+    (λ (named : List Leaf). IsContentPlan leaves c.args.map.now c.args.inode.now c.args.edit named)
     (λ named planned. record { head = c.if-edit-inode.head; planned = planned; says = says }) (c.plan_edit.ensures.planned h first)

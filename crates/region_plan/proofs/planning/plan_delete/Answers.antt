@@ -12,6 +12,7 @@ returns-in_default-clause-plans c leaves first all store stands =
 pub returns-clause-plans : goal.returns-clause-plans
 returns-clause-plans c leaves first all store stands =
     let last : Leaf = record { number = 0; bytes = c.set_entry.new.map } in
-    delete_plans leaves store stands c.args.id.now c.in-Some.inode.now (looked_up version_one leaves c.args.id.now c.find.result c.args.inodes.now c.args.inodes.now c.in-Some.inode c.find.ensures.inode refl all c.in-Some.is)
+    delete_plans leaves store stands c.args.id.now c.in-Some.inode.now (looked_up version_one leaves c.args.id.now c.find.result c.args.inodes.now c.args.inodes.now c.in-Some.inode
+    c.find.ensures.inode refl all c.in-Some.is)
     c.args.map.now c.in-Some-with_data.bytes c.set_entry.new.map c.push.new.self first (c.in_ok-push.ensures.ok ∙ ap (λ (l : List Leaf). l ++ last ∷ []) c.none-leaves.ensures)
     c.in-Some-with_data.ensures.map c.set_entry.ensures

@@ -14,14 +14,17 @@ pub returns-then-not-overwrite-clause-plans : goal.returns-then-not-overwrite-cl
 returns-then-not-overwrite-clause-plans g c h first all store stands =
     let leaves = leaves_of g.L.LeafSource.keeper g.L.LeafSource.region c.args.from.now in
     subst (λ (b : Bool). change store (Put c.args.head.id.now c.args.head.kind c.args.head.usage c.args.head.secret.now c.args.content.now b) ≡ Err answers.Exists) (sym c.if-not-overwrite.true)
-    (put_exists leaves store stands c.args.head.id.now c.in-Some.inode.now (looked_up version_one leaves c.args.head.id.now c.find.result c.args.inodes.now c.args.inodes.now c.in-Some.inode c.find.ensures.inode refl all c.in-Some.is)
+    (put_exists leaves store stands c.args.head.id.now c.in-Some.inode.now (looked_up version_one leaves c.args.head.id.now c.find.result c.args.inodes.now c.args.inodes.now
+    c.in-Some.inode c.find.ensures.inode refl all c.in-Some.is)
     c.args.head.kind c.args.head.usage c.args.head.secret.now c.args.content.now)
 
 pub returns-else-not-overwrite-clause-plans : goal.returns-else-not-overwrite-clause-plans
 returns-else-not-overwrite-clause-plans g c h first all store stands =
     let leaves = leaves_of g.L.LeafSource.keeper g.L.LeafSource.region c.args.from.now in
-    subst (λ (b : Bool). Plans version_one (leaves_of g.L.LeafSource.keeper g.L.LeafSource.region c.args.from.now) store (Put c.args.head.id.now c.args.head.kind c.args.head.usage c.args.head.secret.now c.args.content.now b) c.plan_edit.result) (sym c.if-not-overwrite.false)
-    (put_over_plans leaves store stands c.args.head.id.now c.in-Some.inode.now (looked_up version_one leaves c.args.head.id.now c.find.result c.args.inodes.now c.args.inodes.now c.in-Some.inode c.find.ensures.inode refl all c.in-Some.is)
+    subst (λ (b : Bool). Plans version_one (leaves_of g.L.LeafSource.keeper g.L.LeafSource.region c.args.from.now) store
+    (Put c.args.head.id.now c.args.head.kind c.args.head.usage c.args.head.secret.now c.args.content.now b) c.plan_edit.result) (sym c.if-not-overwrite.false)
+    (put_over_plans leaves store stands c.args.head.id.now c.in-Some.inode.now (looked_up version_one leaves c.args.head.id.now c.find.result c.args.inodes.now c.args.inodes.now
+    c.in-Some.inode c.find.ensures.inode refl all c.in-Some.is)
     c.args.map.now first c.args.head.kind c.args.head.usage c.args.head.secret.now c.args.content.now
     (record { had = c.in-Some.inode.now.length; kept = 0; at = 0; bytes = c.args.content; length = length c.args.content.now }) refl refl refl refl refl c.inode_block.result c.inode_block.ensures
     c.plan_edit.result (c.plan_edit.ensures.planned h first) c.plan_edit.ensures.space c.plan_edit.ensures.refused)

@@ -8,19 +8,24 @@ use Rattle.region_plan.proofs.planning.plan_rename.Goals as goal
 
 pub returns-in_default-clause-plans : goal.returns-in_default-clause-plans
 returns-in_default-clause-plans c leaves all store stands =
-    rename_none leaves store stands c.args.id.now c.args.to.now (looked_none version_one leaves c.args.id.now c.find.result c.args.inodes.now c.args.inodes.now c.find.ensures.inode refl all c.in_default.is)
+    rename_none leaves store stands c.args.id.now c.args.to.now (looked_none version_one leaves c.args.id.now c.find.result c.args.inodes.now c.args.inodes.now c.find.ensures.inode
+    refl all c.in_default.is)
 
 pub returns-then-is_some-clause-plans : goal.returns-then-is_some-clause-plans
 returns-then-is_some-clause-plans c leaves all store stands =
     let other = some_other leaves c.args.to.now c.find-2.result c.args.inodes.now c.find-2.ensures.inode all (sym c.is_some.ensures ∙ c.if-is_some.true) in
-    rename_exists leaves store stands c.args.id.now c.in-Some.inode.now (looked_up version_one leaves c.args.id.now c.find.result c.args.inodes.now c.args.inodes.now c.in-Some.inode c.find.ensures.inode refl all c.in-Some.is)
+    rename_exists leaves store stands c.args.id.now c.in-Some.inode.now (looked_up version_one leaves c.args.id.now c.find.result c.args.inodes.now c.args.inodes.now
+    c.in-Some.inode c.find.ensures.inode refl all c.in-Some.is)
     c.args.to.now other.0 other.1
 
 pub returns-clause-plans : goal.returns-clause-plans
 returns-clause-plans c leaves all store stands =
     let last : Leaf = record { number = c.in-Some.inode.now.number; bytes = c.inode_block.result } in
-    rename_plans leaves store stands c.args.id.now c.in-Some.inode.now (looked_up version_one leaves c.args.id.now c.find.result c.args.inodes.now c.args.inodes.now c.in-Some.inode c.find.ensures.inode refl all c.in-Some.is)
-    c.args.to.now c.push.new.self c.inode_block.result c.args.to (none_other leaves c.args.to.now c.find-2.result c.args.inodes.now c.find-2.ensures.inode all (sym c.is_some.ensures ∙ c.if-is_some.false))
+    rename_plans leaves store stands c.args.id.now c.in-Some.inode.now (looked_up version_one leaves c.args.id.now c.find.result c.args.inodes.now c.args.inodes.now c.in-Some.inode
+    c.find.ensures.inode refl all c.in-Some.is)
+    c.args.to.now c.push.new.self c.inode_block.result c.args.to (none_other leaves c.args.to.now c.find-2.result c.args.inodes.now c.find-2.ensures.inode all
+    (sym c.is_some.ensures ∙ c.if-is_some.false))
     (c.in_ok-push.ensures.ok ∙ ap (λ (l : List Leaf). l ++ last ∷ []) c.none-leaves.ensures)
-    (head_as c.inode_block.result c.head.result.kind c.in-Some.inode.now.kind c.head.result.usage c.in-Some.inode.now.usage c.args.to.now c.args.to.now c.head.result.secret.now c.in-Some.inode.now.secret c.in-Some.inode.now.length
+    (head_as c.inode_block.result c.head.result.kind c.in-Some.inode.now.kind c.head.result.usage c.in-Some.inode.now.usage c.args.to.now c.args.to.now c.head.result.secret.now
+    c.in-Some.inode.now.secret c.in-Some.inode.now.length
     c.head.ensures.kind c.head.ensures.usage refl c.head.ensures.secret c.inode_block.ensures)

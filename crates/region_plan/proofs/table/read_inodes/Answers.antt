@@ -27,7 +27,8 @@ loop-leaf-preserved g c =
         reads = subst (λ s. ReadsOnly K R None c.args.from.now s) (sym w.from-is) (reads_joined K R None c.args.from.now c.loop-leaf.from w.read_inode.new.from kept.reads w.in_ok-inode.ensures.reads);
         inodes = λ h first.
             let same = leaves_stay K R c.args.from.now c.loop-leaf.from kept.reads h in
-            inodes_pushed (leaves_of K R c.args.from.now) (leaves_of K R c.loop-leaf.from) c.loop-leaf.leaf (c.loop-leaf.leaf + 1) c.entry_in.result c.loop-leaf.inodes.items _ w.in_ok-inode.inode same refl
+            inodes_pushed (leaves_of K R c.args.from.now) (leaves_of K R c.loop-leaf.from) c.loop-leaf.leaf (c.loop-leaf.leaf + 1) c.entry_in.result c.loop-leaf.inodes.items _
+            w.in_ok-inode.inode same refl
             (c.entry_in.ensures.entry (leaves_of K R c.args.from.now) first) w.if-entry_in-eq-INODE.true (kept.inodes h first) (w.in_ok-inode.ensures.inode (kept.reads.honest h).0)
             (ap (λ (v : Vec Inode Global). v.items) w.inodes-is ∙ w.in_ok-push.ensures.items);
         within =

@@ -19,6 +19,8 @@ from_place ds i v within digit = ap (digits_on v) (drop-cons ds i 0 within) ∙ 
 pub returns-then-value-unit : goal.returns-then-value-unit
 returns-then-value-unit c =
     let digit : is_digit (get_or c.args.digits.now c.loop-digit.digit-index 0) ≡ true = sym c.if-not-is_ascii_digit.ensures.value in
-    let high = leb-true (get_or c.args.digits.now c.loop-digit.digit-index 0) 57 (and_parts (leb 48 (get_or c.args.digits.now c.loop-digit.digit-index 0)) (leb (get_or c.args.digits.now c.loop-digit.digit-index 0) 57) digit).1 in
+    let high = leb-true (get_or c.args.digits.now c.loop-digit.digit-index 0) 57 (and_parts (leb 48 (get_or c.args.digits.now c.loop-digit.digit-index 0))
+    (leb (get_or c.args.digits.now c.loop-digit.digit-index 0) 57) digit).1 in
     sym (ap fitting (sym c.loop-digit.invariant.value ∙ from_place c.args.digits.now c.loop-digit.digit-index c.loop-digit.value (omega arith) digit)
-    ∙ too_large (drop (suc c.loop-digit.digit-index) c.args.digits.now) (c.loop-digit.value * 10 + (get_or c.args.digits.now c.loop-digit.digit-index 0 - 48)) (omega (arith, high, c.if-value-unit.true, c.from-unit.ensures)))
+    ∙ too_large (drop (suc c.loop-digit.digit-index) c.args.digits.now) (c.loop-digit.value * 10 + (get_or c.args.digits.now c.loop-digit.digit-index 0 - 48))
+    (omega (arith, high, c.if-value-unit.true, c.from-unit.ensures)))

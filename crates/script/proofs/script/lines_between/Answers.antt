@@ -19,9 +19,11 @@ passed_on view NoMemory read more h = tt
 by_front : {A X : Type 0} (view : X → List Line) (dialect : Dialect) (hosts : List (Host A)) (pieces texts : List (List ℕ)) (e : ScriptAnswer)
     → take (length pieces - 1) pieces ≡ texts → Answers {X = Reading} (Err e) (read_from dialect hosts 1 no_reading texts)
     → AnswersWith view (Err e) (script_from dialect hosts pieces)
-by_front view dialect hosts pieces texts e front h = passed_on view e (read_from dialect hosts 1 no_reading (take (length pieces - 1) pieces)) (λ r. ended_by dialect hosts (length pieces) r (slice_index_or pieces (length pieces - 1) [])) (rw front h)
+by_front view dialect hosts pieces texts e front h = passed_on view e (read_from dialect hosts 1 no_reading (take (length pieces - 1) pieces))
+    (λ r. ended_by dialect hosts (length pieces) r (slice_index_or pieces (length pieces - 1) [])) (rw front h)
 
 pub returns-in_err-reader : goal.returns-in_err-reader
 returns-in_err-reader g c =
     let p = err_from_is_err_and c.from_residual.result c.from_residual.ensures.1 in
-    rw (p.1, p.2) (by_front (λ (lines : Vec Line Global). lines.items) c.args.dialect c.args.hosts.now (map (λ piece. piece.now) c.args.pieces.now) (map (λ piece. piece.now) (take (length c.args.pieces.now - 1) c.args.pieces.now)) c.in_err-reader.field-0.0 (rw (length-map, take-map) refl) c.in_err-reader.ensures.value)
+    rw (p.1, p.2) (by_front (λ (lines : Vec Line Global). lines.items) c.args.dialect c.args.hosts.now (map (λ piece. piece.now) c.args.pieces.now)
+    (map (λ piece. piece.now) (take (length c.args.pieces.now - 1) c.args.pieces.now)) c.in_err-reader.field-0.0 (rw (length-map, take-map) refl) c.in_err-reader.ensures.value)

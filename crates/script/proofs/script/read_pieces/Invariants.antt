@@ -1,5 +1,5 @@
 use Rattle.std.proofs.Common.{◌≡◌, ◌≤◌, ◌+◌, drop, map}
-use Rattle.tee_base.specs.declared.limits.TheConstants.{FILL_BYTES}
+use Rattle.tee_base.specs.declared.limits.TheConstants.{MAX_FILL_BYTES}
 use Rattle.script.specs.Scripts.{no_reading, read_from}
 use Rattle.script.proofs.script.read_pieces.Given as goal
 
@@ -7,5 +7,5 @@ use Rattle.script.proofs.script.read_pieces.Given as goal
 abbrev pub invariant-loop-index : goal.invariant-loop-index
 invariant-loop-index g l = record {
   read : read_from l.dialect l.hosts (l.index + 1) l.reader (map (λ piece. piece.now) (drop l.index l.pieces)) ≡ read_from l.dialect l.hosts 1 no_reading (map (λ piece. piece.now) l.pieces);
-  within : l.reader.filled ≤ FILL_BYTES;
+  within : l.reader.filled ≤ MAX_FILL_BYTES;
 }

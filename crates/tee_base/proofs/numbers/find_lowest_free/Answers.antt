@@ -11,10 +11,12 @@ pub returns : goal.returns
 returns c = sym (c.loop.invariant.rest ∙ first_free-end (length c.args.taken.now - c.loop.counter) c.loop.number c.args.taken.now (omega arith))
 
 pub returns-then-not-is_taken : goal.returns-then-not-is_taken
-returns-then-not-is_taken c = sym (c.loop.invariant.rest ∙ first_free-here (length c.args.taken.now - c.loop.counter) c.loop.number c.args.taken.now (omega arith) (sym c.is_taken.ensures ∙ c.if-not-is_taken.true))
+returns-then-not-is_taken c = sym (c.loop.invariant.rest ∙ first_free-here (length c.args.taken.now - c.loop.counter) c.loop.number c.args.taken.now (omega arith)
+    (sym c.is_taken.ensures ∙ c.if-not-is_taken.true))
 
 pub loop-preserved : goal.loop-preserved
 loop-preserved c = record {
   number = omega arith;
-  rest = c.loop.invariant.rest ∙ first_free-next (length c.args.taken.now - c.loop.counter) (length c.args.taken.now - (c.loop.counter + 1)) c.loop.number c.args.taken.now (omega arith) (sym c.is_taken.ensures ∙ c.if-not-is_taken.false);
+  rest = c.loop.invariant.rest ∙ first_free-next (length c.args.taken.now - c.loop.counter) (length c.args.taken.now - (c.loop.counter + 1)) c.loop.number c.args.taken.now
+      (omega arith) (sym c.is_taken.ensures ∙ c.if-not-is_taken.false);
 }

@@ -11,7 +11,8 @@ loop-index-preserved g c =
     let ts = c.loop-index.sides.items in
     let one = c.lose_one.ensures in
     record {
-      lost = lost_next c.loop-index.index c.args.sides.now.items ts c.lose_one.new.side _ c.loop-index.invariant.lost (omega (arith, lost_length c.loop-index.index c.args.sides.now.items ts c.loop-index.invariant.lost))
+      lost = lost_next c.loop-index.index c.args.sides.now.items ts c.lose_one.new.side _ c.loop-index.invariant.lost
+          (omega (arith, lost_length c.loop-index.index c.args.sides.now.items ts c.loop-index.invariant.lost))
           (subst (λ (s : Side g.row.A.Denot). HasLost s c.lose_one.new.side) c.index_mut.ensures.value (record { step = one.step; lost = one.lost }));
     }
 

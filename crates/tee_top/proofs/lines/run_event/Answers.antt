@@ -1,4 +1,4 @@
-use Rattle.std.proofs.Common.{◌≡◌, ◌<◌, ◌≤◌, ◌+◌, ◌^◌, ◌∙◌, [], get_or, length, ap, refl, sym, subst, Some, arith}
+use Rattle.std.proofs.Common.{◌≡◌, ◌<◌, ◌≤◌, ◌+◌, ◌^◌, ◌∙◌, [], get_or, length, ap, sym, subst, Some, arith}
 use Rattle.std.specs.Prelude.{slice_get}
 use Rattle.std.proofs.lemmas.List.{get_or_read}
 use Rattle.std.specs.Io.KnownBytes.{Appends}
@@ -25,7 +25,7 @@ returns-then-not-has_room-clause-stopped g c = λ w stands.
     (stands_leaves g.V.Volume.keeper g.V.BoardVolume.form tee.sides.items (volume_of tee) _ w (g.met.V.BoardVolume.seen (volume_of tee)) stands)
 
 pub returns-then-not-has_room-clause-orders : goal.returns-then-not-has_room-clause-orders
-returns-then-not-has_room-clause-orders g c = no_orders _ _ refl refl (omega arith)
+returns-then-not-has_room-clause-orders g c = no_orders _
 
 pub returns-in_err-happened-clause-stopped : goal.returns-in_err-happened-clause-stopped
 returns-in_err-happened-clause-stopped g c =
@@ -38,7 +38,7 @@ returns-in_err-happened-clause-stopped g c =
 pub returns-in_err-happened-clause-orders : goal.returns-in_err-happened-clause-orders
 returns-in_err-happened-clause-orders g c =
     subst (λ v. HasOrders [] (g.B.Board.view (g.V.BoardVolume.board_of (volume_of c.args.tee.now))) (g.B.Board.view (g.V.BoardVolume.board_of v))) (sym c.in_err-happened.ensures.err.1)
-    (no_orders _ _ refl refl (omega arith))
+    (no_orders _)
 
 pub returns-in_err-write_happened-clause-stopped : goal.returns-in_err-write_happened-clause-stopped
 returns-in_err-write_happened-clause-stopped g c =

@@ -1,4 +1,4 @@
-use Rattle.std.proofs.Common.{◌≡◌, ◌∙◌, [], ◌∷◌, Err, length, ap, refl, sym, arith}
+use Rattle.std.proofs.Common.{◌≡◌, ◌∙◌, [], ◌∷◌, length, refl, sym}
 use Rattle.std.proofs.lemmas.Result.{on_ok_weaker}
 use Rattle.script.specs.declared.line.Line.TheVariants as lines
 use Rattle.tee_core.specs.Represents.{volume_of}
@@ -24,7 +24,7 @@ returns-then-boots-eq4294967295-clause-stopped g c = λ w stands.
     (stands_leaves g.V.Volume.keeper g.V.BoardVolume.form tee.sides.items (volume_of tee) _ w (g.met.V.BoardVolume.seen (volume_of tee)) stands)
 
 pub returns-then-boots-eq4294967295-clause-first_orders : goal.returns-then-boots-eq4294967295-clause-first_orders
-returns-then-boots-eq4294967295-clause-first_orders g c = ([], orders_of (lines.Power c.args.pick ∷ []), refl, no_orders _ _ refl refl (omega arith))
+returns-then-boots-eq4294967295-clause-first_orders g c = ([], orders_of (lines.Power c.args.pick ∷ []), refl, no_orders _)
 
 -- ---- the board is opened again
 

@@ -20,7 +20,7 @@ loop-init g c =
       run = λ w stands.
           along_start behaviour g.V.BoardVolume.form c.args.names.now _ w (λ weather. happens (turn_events behaviour (weather.marks app) w app instance count))
           (λ weather now. happens (turn_events behaviour (weather.marks app) now app instance (count - 0))) _ stands (λ weather. turns_all behaviour weather w app instance count);
-      orders = no_orders _ _ refl refl (omega arith);
+      orders = no_orders _;
       losses = losses_none _ _ _ (omega arith);
       apps = refl;
       later = omega arith;

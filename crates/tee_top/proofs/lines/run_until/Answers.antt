@@ -23,7 +23,7 @@ loop-init g c =
       run = λ w stands.
           along_start behaviour g.V.BoardVolume.form c.args.names.now _ w (λ weather. until_events behaviour (weather.marks app) w app instance op most_turns)
           (λ weather now. until_events behaviour (weather.marks app) now app instance op (most_turns - 0)) _ stands (λ weather. until_all behaviour weather w app instance op most_turns);
-      orders = no_orders _ _ refl refl (omega arith);
+      orders = no_orders _;
       losses = losses_none _ _ _ (omega arith);
       apps = refl;
       later = omega arith;

@@ -1,8 +1,8 @@
-use Rattle.std.proofs.Common.{Err, ⊎_elim, ap, inl, inr, subst, sym}
+use Rattle.std.proofs.Common.{Err, ⊎_elim, ap, inl, inr, refl, subst, sym}
 use Rattle.script.specs.declared.dialect.Dialect.TheVariants.{Whole}
 use Rattle.script.proofs.Places.{not_both}
 use Rattle.tee_top.specs.Runs.{IsBadAt, IsStopped, ReadsTo}
-use Rattle.tee_top.proofs.Ended.{bad_line_told, script_told, served_told, too_long_told, within_for}
+use Rattle.tee_top.proofs.Ended.{bad_line_told, read_unopened, script_told, served_told, too_long_told, within_for}
 use Rattle.tee_top.proofs.run.run_tee.Goals as goal
 
 pub returns-in-Err-clause-bad_line : goal.returns-in-Err-clause-bad_line
@@ -32,6 +32,9 @@ returns-in-Err-clause-complete g c = λ text script stores readable written hone
     })
     readable.told readable.within readable.unfailed good
 
+pub returns-in-Err-clause-opened : goal.returns-in-Err-clause-opened
+returns-in-Err-clause-opened g c = λ honest. inl (refl, read_unopened c.in-Err.status c.in-Err.ensures.few)
+
 pub returns-clause-each_bad_line : goal.returns-clause-each_bad_line
 returns-clause-each_bad_line g c = λ text n readable bad.
     let reads = subst (λ hosts. ReadsTo hosts (g.S.Source.left c.args.source.now) c.in-Ok.lines.items) c.as_slice.ensures.value c.in-Ok.ensures.read in
@@ -50,7 +53,8 @@ returns-in-Err-clause-each_too_long g c = λ text much.
 
 pub returns-clause-each_too_long : goal.returns-clause-each_too_long
 returns-clause-each_too_long g c = λ text much.
-    absurd (within_for c.args.hosts.items c.requires (g.S.Source.left c.args.source.now) (g.S.Source.failures c.args.source.now) (g.S.Source.failures c.read_lines.new.source) text much.told much.beyond c.in-Ok.ensures.within)
+    absurd (within_for c.args.hosts.items c.requires (g.S.Source.left c.args.source.now) (g.S.Source.failures c.args.source.now) (g.S.Source.failures c.read_lines.new.source) text
+    much.told much.beyond c.in-Ok.ensures.within)
 
 pub returns-clause-no_memory : goal.returns-clause-no_memory
 returns-clause-no_memory g c = λ same honest stores begins.
@@ -64,4 +68,5 @@ returns-clause-board_fault g c = λ same honest stores begins.
 
 pub returns-clause-complete : goal.returns-clause-complete
 returns-clause-complete g c = λ text script stores readable written honest begins unfailed good.
-    served_told c.serve.result.0 c.serve.ensures.few (λ same. written (c.serve.ensures.fault same)) (λ same. unfailed (c.serve.ensures.cause same)) (λ why same. c.serve.ensures.accepted why same honest stores begins)
+    served_told c.serve.result.0 c.serve.ensures.few (λ same. written (c.serve.ensures.fault same)) (λ same. unfailed (c.serve.ensures.cause same))
+    (λ why same. c.serve.ensures.accepted why same honest stores begins)

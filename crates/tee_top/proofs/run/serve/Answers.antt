@@ -8,7 +8,7 @@ use Rattle.tee_core.specs.World.{World, world_of}
 use Rattle.tee_top.specs.BoardLines.{AreFirstWords}
 use Rattle.tee_top.specs.Boards.{HasFirstOrders, HasOrders, LeavesStores, orders_of}
 use Rattle.tee_top.specs.Parts.{IsRefusedIn, IsRunOf, StopsIn, point}
-use Rattle.tee_top.specs.Runs.{IsKnown, IsStopped, refusal_of}
+use Rattle.tee_top.specs.Runs.{IsKnown, IsStopped, IsUnopened, refusal_of}
 use Rattle.tee_top.specs.Transcript.{events_of}
 use Rattle.tee_top.specs.declared.status.Status.TheVariants.{BoardFault, Done, StoreRefused}
 use Rattle.tee_top.proofs.Leaves.{stands_leaves}
@@ -17,7 +17,7 @@ use Rattle.tee_top.proofs.Names.{hosts_begin}
 use Rattle.tee_top.proofs.Opened.{begin_leaves, first_orders_none, opening_leaves, orders_opened, run_behind, span_opened}
 use Rattle.tee_top.proofs.Parts.{all_orders_first, first_orders_more, orders_both}
 use Rattle.tee_top.proofs.Refusals.{refused_weaker}
-use Rattle.tee_top.proofs.Served.{ended, ended_done, ended_either, ended_fault, ended_refused, ended_stopped, refused_never}
+use Rattle.tee_top.proofs.Served.{ended, ended_done, ended_either, ended_fault, ended_refused, ended_stopped, never_opened, refused_never}
 use Rattle.tee_top.proofs.Whole.{all_written, front_written, nothing_written, power_written}
 use Rattle.tee_top.proofs.run.serve.Given.{Over}
 use Rattle.tee_top.proofs.run.serve.Goals.{in-Ok-run_lines, in-Err-run_lines}
@@ -27,7 +27,8 @@ use Rattle.tee_top.proofs.run.serve.Goals as goal
 
 pub returns-in_default-clause-stopped : goal.returns-in_default-clause-stopped
 returns-in_default-clause-stopped g c = λ stopped honest stores begins.
-    nothing_written g.A.Application.behaviour g.V.BoardVolume.form c.args.hosts.items c.requires.fit c.args.seed stores c.args.lines.items (g.B.Board.view c.args.board) (g.W.Sink.written c.args.sink.now)
+    nothing_written g.A.Application.behaviour g.V.BoardVolume.form c.args.hosts.items c.requires.fit c.args.seed stores c.args.lines.items (g.B.Board.view c.args.board)
+    (g.W.Sink.written c.args.sink.now)
     (begin_leaves g.V.BoardVolume.form c.args.hosts.items c.args.seed stores (g.B.Board.view c.args.board) begins)
 
 -- ---- the board wasn't opened
@@ -35,7 +36,8 @@ returns-in_default-clause-stopped g c = λ stopped honest stores begins.
 pub returns-in-Err-clause-stopped : goal.returns-in-Err-clause-stopped
 returns-in-Err-clause-stopped g c = λ stopped honest stores begins.
     let kept = c.in-Err.ensures.unopened honest begins.counter begins.held begins.rests begins.size begins.sound.opens in
-    nothing_written g.A.Application.behaviour g.V.BoardVolume.form c.args.hosts.items c.requires.fit c.args.seed stores c.args.lines.items (g.B.Board.view c.in-Err.field-0.board) (g.W.Sink.written c.args.sink.now)
+    nothing_written g.A.Application.behaviour g.V.BoardVolume.form c.args.hosts.items c.requires.fit c.args.seed stores c.args.lines.items (g.B.Board.view c.in-Err.field-0.board)
+    (g.W.Sink.written c.args.sink.now)
     (opening_leaves g.V.BoardVolume.form c.args.hosts.items c.args.seed stores (g.B.Board.view c.args.board) begins (g.B.Board.view c.in-Err.field-0.board) c.in-Err.ensures.back.key kept.1)
 
 pub returns-in-Err-clause-board_fault : goal.returns-in-Err-clause-board_fault
@@ -54,6 +56,9 @@ returns-in-Err-clause-accepted g c = λ why same honest stores begins.
 pub returns-in-Err-clause-first_orders : goal.returns-in-Err-clause-first_orders
 returns-in-Err-clause-first_orders g c = first_orders_none c.args.lines.items _ _ (orders_opened _ _ _ c.in-Err.ensures.back)
 
+pub returns-in-Err-clause-opened : goal.returns-in-Err-clause-opened
+returns-in-Err-clause-opened g c = λ honest. inl (refl, subst IsUnopened (sym c.refusal_status.ensures) (never_opened c.in-Err.field-0.why))
+
 -- ---- the lines were run
 
 pub run_lines-requires-clause-known : goal.run_lines-requires-clause-known
@@ -66,7 +71,11 @@ run_lines-requires-clause-words g c =
 -- how the run ends
 ends_as : (g : Over) (c : goal.After-drop-names-2 g) → c.match-run_lines.status ≡ ended c.run_lines.result
 ends_as g c =
-    elim c.match-run_lines.branch [ in-Ok-run_lines w ↦ w.status-is ∙ ap ended (sym w.in-Ok-run_lines.is) | in-Err-run_lines w ↦ w.status-is ∙ w.stop_status-status.ensures ∙ ap ended (sym w.in-Err-run_lines.is) ]
+    elim c.match-run_lines.branch [
+      | in-Ok-run_lines w ↦ w.status-is ∙ ap ended (sym w.in-Ok-run_lines.is)
+      | in-Err-run_lines w ↦ w.status-is ∙ w.stop_status-status.ensures
+          ∙ ap ended (sym w.in-Err-run_lines.is)
+    ]
 
 same_names : (g : Over) (c : goal.After-drop-names-2 g) → c.as_slice-2.result.now ≡ names_of c.args.hosts.items
 same_names g c = c.as_slice-2.ensures.value ∙ c.in-Ok.ensures ∙ ap names_of c.as_slice.ensures.value
@@ -86,9 +95,11 @@ returns-clause-done g c = λ done honest stores begins.
     let stands = (c.in-Ok-open.ensures.world honest begins.counter begins.held stores begins.rests begins.size begins.sound).0 in
     let run = ended_done c.run_lines.result _ (sym (ends_as g c) ∙ done) c.run_lines.ensures.whole world stands in
     rw c.into_board.ensures
-    (all_written behaviour form c.args.hosts.items c.requires.fit c.args.seed stores c.args.lines.items (λ w. Represents new w) (point (boots_of tee) start (g.W.Sink.written c.args.sink.now)) after c.in-Ok-open.ensures.boots
+    (all_written behaviour form c.args.hosts.items c.requires.fit c.args.seed stores c.args.lines.items (λ w. Represents new w)
+    (point (boots_of tee) start (g.W.Sink.written c.args.sink.now)) after c.in-Ok-open.ensures.boots
     (λ w is. stands_leaves g.V.Volume.keeper form new.sides.items new.volume left w (g.met.V.BoardVolume.seen new.volume) is)
-    (run_behind behaviour form (names_of c.args.hosts.items) (λ weather. events_of behaviour weather world c.args.lines.items) world (λ w. Represents new w) start before after (span_opened _ _ _ c.in-Ok-open.ensures.opened)
+    (run_behind behaviour form (names_of c.args.hosts.items) (λ weather. events_of behaviour weather world c.args.lines.items) world (λ w. Represents new w) start before after
+    (span_opened _ _ _ c.in-Ok-open.ensures.opened)
     (subst (λ ns. IsRunOf behaviour form ns (λ weather. events_of behaviour weather world c.args.lines.items) world (λ w. Represents new w) before after) (same_names g c) run)))
 
 pub returns-clause-stopped : goal.returns-clause-stopped
@@ -103,7 +114,8 @@ returns-clause-stopped g c = λ stopped honest stores begins.
     let before = point (boots_of tee) view (g.W.Sink.written c.args.sink.now) in
     let after = point (boots_of new) left (g.W.Sink.written c.run_lines.new.sink) in
     let stands = (c.in-Ok-open.ensures.world honest begins.counter begins.held stores begins.rests begins.size begins.sound).0 in
-    let run = ended_stopped c.run_lines.result _ c.match-run_lines.status (ends_as g c) stopped c.run_lines.ensures.stopped (refused_weaker c.run_lines.result _ _ (λ why part. (part world stands).1) c.run_lines.ensures.refused) world stands in
+    let run = ended_stopped c.run_lines.result _ c.match-run_lines.status (ends_as g c) stopped c.run_lines.ensures.stopped
+    (refused_weaker c.run_lines.result _ _ (λ why part. (part world stands).1) c.run_lines.ensures.refused) world stands in
     rw c.into_board.ensures
     (front_written behaviour form c.args.hosts.items c.requires.fit c.args.seed stores c.args.lines.items before after c.in-Ok-open.ensures.boots
     (subst (λ ns. StopsIn behaviour form ns (λ weather. events_of behaviour weather world c.args.lines.items) world before after) (same_names g c) run))
@@ -135,6 +147,11 @@ returns-clause-accepted g c = λ why same honest stores begins.
 pub returns-clause-refused : goal.returns-clause-refused
 returns-clause-refused g c = λ why same honest.
     inr (ended_refused c.run_lines.result _ why (sym (ends_as g c) ∙ same) c.run_lines.ensures.power).1
+
+pub returns-clause-opened : goal.returns-clause-opened
+returns-clause-opened g c = λ honest.
+    let admitted = c.in-Ok-open.ensures.exact honest in
+    inr (admitted.0, admitted.1, _, admitted.3)
 
 pub returns-clause-orders : goal.returns-clause-orders
 returns-clause-orders g c = λ done.

@@ -16,6 +16,7 @@ pub returns-in_ok-text-in-UnknownVersion : goal.returns-in_ok-text-in-UnknownVer
 returns-in_ok-text-in-UnknownVersion c =
     let version = c.in-UnknownVersion.version in
     on_ok_weaker c.number-in-UnknownVersion.result
-    (λ same. same ∙ ap (λ line. line ++ decimal c.from-in-UnknownVersion.result) c.in_ok-text-in-UnknownVersion.ensures.appended ∙ ap (λ n. (c.args.line.now ++ codes "unknown version ") ++ decimal n) c.from-in-UnknownVersion.ensures
+    (λ same. same ∙ ap (λ line. line ++ decimal c.from-in-UnknownVersion.result) c.in_ok-text-in-UnknownVersion.ensures.appended
+    ∙ ap (λ n. (c.args.line.now ++ codes "unknown version ") ++ decimal n) c.from-in-UnknownVersion.ensures
     ∙ append_assoc c.args.line.now (codes "unknown version ") (decimal version) ∙ ap (λ why. c.args.line.now ++ why_text why) (sym c.in-UnknownVersion.is))
     c.number-in-UnknownVersion.ensures.appended

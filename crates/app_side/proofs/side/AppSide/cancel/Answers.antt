@@ -7,7 +7,8 @@ use Rattle.app_side.proofs.Stored.{cancelled_over, step_replies, step_stands}
 use Rattle.app_side.proofs.side.AppSide.cancel.Goals as goal
 
 pub returns-clause-step : goal.returns-clause-step
-returns-clause-step g c m stands = step_stands c.args.self.now c.request.new.self (λ (x : Machine g.row.A.Denot). cancelled x c.args.op) (λ s d x. cancelled_over s d x c.args.op) c.request.ensures.machine m stands
+returns-clause-step g c m stands = step_stands c.args.self.now c.request.new.self (λ (x : Machine g.row.A.Denot). cancelled x c.args.op) (λ s d x. cancelled_over s d x c.args.op)
+    c.request.ensures.machine m stands
 
 pub returns-clause-replies : goal.returns-clause-replies
 returns-clause-replies g c m stands = c.request.ensures.replies ∙ step_replies c.args.self.now (λ (x : Machine g.row.A.Denot). cancelled x c.args.op) (λ s d x. cancelled_over s d x c.args.op) m stands

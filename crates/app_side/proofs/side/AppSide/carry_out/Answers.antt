@@ -1,6 +1,6 @@
 use Rattle.std.proofs.Common.{◌≡◌, ◌∙◌, Bool, sym, subst, ap}
-use Rattle.object_asks.specs.Asks.{object_course}
-use Rattle.object_asks.specs.Courses.{came_of}
+use Rattle.object_asks.specs.Asks.{object_resolution}
+use Rattle.object_asks.specs.Resolutions.{came_of}
 use Rattle.object_asks.specs.Serving.{IsOutcome, Meets, objects_in, serving_of}
 use Rattle.object_asks.proofs.Crashes.{idle_crash}
 use Rattle.object_asks.proofs.ServingLemmas.{by_nothing, ends_with}
@@ -8,8 +8,8 @@ use Rattle.alone.specs.declared.family.Family.{Family}
 use Rattle.alone.specs.declared.family.Family.TheVariants as families
 use Rattle.alone.specs.Families.{family_of}
 use Rattle.object_asks.specs.Asks.{changes_store}
-use Rattle.operation_asks.specs.Asks.{operation_course}
-use Rattle.alone.specs.Asks.{course_in_family}
+use Rattle.operation_asks.specs.Asks.{operation_resolution}
+use Rattle.alone.specs.Asks.{resolution_in_family}
 use Rattle.alone.specs.Crypto.{key_reaches, operated}
 use Rattle.alone.specs.Step.{served}
 use Rattle.app_side.specs.Serving.{CarriesOut}
@@ -51,10 +51,12 @@ returns-in_ok-served-in-Objects g c =
     let family : family_of c.args.ask ≡ families.Objects = sym c.family_of.ensures ∙ c.in-Objects.is in
     record {
       left = λ tells same doubt. carried c.args.self.now c.note.new.self before.store after.store doubt c.serve.new.held c.args.instance r c.args.ask done.kind done.outcome family
-          (subst (λ (b : Bool). IsOutcome done.outcome (came_of (serving_of done.kind) b (object_course (objects_in c.args.self.now.held before) c.args.instance c.args.ask)) (objects_in c.args.self.now.held before) (objects_in c.serve.new.held after)) (sym same) (is.outcome tells))
+          (subst (λ (b : Bool). IsOutcome done.outcome (came_of (serving_of done.kind) b (object_resolution (objects_in c.args.self.now.held before) c.args.instance c.args.ask))
+          (objects_in c.args.self.now.held before) (objects_in c.serve.new.held after)) (sym same) (is.outcome tells))
           (is.reaches tells) is.change c.note.ensures;
       kind = record {
-        stands = λ tells. subst (λ (f : Family). Meets done.kind (reaching_in_family f (objects_in c.args.self.now.held before) (state_of c.args.self.now.operations) c.args.instance c.args.ask)) (sym family) (is.reaches tells);
+        stands = λ tells. subst (λ (f : Family). Meets done.kind (reaching_in_family f (objects_in c.args.self.now.held before) (state_of c.args.self.now.operations)
+            c.args.instance c.args.ask)) (sym family) (is.reaches tells);
         change = is.change;
         status = is.status;
         damage = is.damage;
@@ -67,7 +69,8 @@ returns-in_ok-served-in-Objects g c =
       want = tt;
       starves = tt;
       instances = ap (λ (s : AppSide g.row.A.Denot). s.instances) c.note.ensures ∙ noted_instances _ done.kind;
-      crash = λ honest just doubt. carried_crash t c.args.store.now c.serve.new.store (machine_over c.args.self.now before.store doubt) c.args.instance r c.args.ask done.kind family is.change (is.crash honest just);
+      crash = λ honest just doubt. carried_crash t c.args.store.now c.serve.new.store (machine_over c.args.self.now before.store doubt) c.args.instance r c.args.ask done.kind
+          family is.change (is.crash honest just);
     }
 
 pub returns-in-Operations : goal.returns-in-Operations
@@ -78,8 +81,12 @@ returns-in-Operations g c =
     let objects = objects_in c.args.self.now.held before in
     let s = state_of c.args.self.now.operations in
     let family : family_of c.args.ask ≡ families.Operations = sym c.family_of.ensures ∙ c.in-Operations.is in
-    subst (λ (f : Family). CarriesOut t (λ serving m. served serving m c.args.ask (course_in_family f m c.args.instance r c.args.ask)) (reaching_in_family f objects s c.args.instance c.args.ask) (changes_store c.args.ask) c.args.instance c.operate.result c.args.self.now c.operate.new.self c.args.store.now c.operate.new.store) (sym family)
-    (subst (λ (b : Bool). CarriesOut t (λ serving m. served serving m c.args.ask (operated m c.args.instance c.args.ask)) (key_reaches objects c.args.instance (operation_course s c.args.instance c.args.ask)) b c.args.instance c.operate.result c.args.self.now c.operate.new.self c.args.store.now c.operate.new.store) (sym (changes_nothing c.args.ask family))
+    subst (λ (f : Family). CarriesOut t (λ serving m. served serving m c.args.ask (resolution_in_family f m c.args.instance r c.args.ask))
+    (reaching_in_family f objects s c.args.instance c.args.ask) (changes_store c.args.ask) c.args.instance c.operate.result c.args.self.now c.operate.new.self c.args.store.now
+    c.operate.new.store) (sym family)
+    (subst (λ (b : Bool). CarriesOut t (λ serving m. served serving m c.args.ask (operated m c.args.instance c.args.ask))
+    (key_reaches objects c.args.instance (operation_resolution s c.args.instance c.args.ask)) b c.args.instance c.operate.result c.args.self.now c.operate.new.self c.args.store.now
+    c.operate.new.store) (sym (changes_nothing c.args.ask family))
     c.operate.ensures)
 
 pub returns-in-Generation : goal.returns-in-Generation
@@ -90,5 +97,7 @@ returns-in-Generation g c =
     let objects = objects_in c.args.self.now.held before in
     let s = state_of c.args.self.now.operations in
     let family : family_of c.args.ask ≡ families.Generation = sym c.family_of.ensures ∙ c.in-Generation.is in
-    subst (λ (f : Family). CarriesOut t (λ serving m. served serving m c.args.ask (course_in_family f m c.args.instance r c.args.ask)) (reaching_in_family f objects s c.args.instance c.args.ask) (changes_store c.args.ask) c.args.instance c.make_key.result c.args.self.now c.make_key.new.self c.args.store.now c.args.store.now) (sym family)
+    subst (λ (f : Family). CarriesOut t (λ serving m. served serving m c.args.ask (resolution_in_family f m c.args.instance r c.args.ask))
+    (reaching_in_family f objects s c.args.instance c.args.ask) (changes_store c.args.ask) c.args.instance c.make_key.result c.args.self.now c.make_key.new.self
+    c.args.store.now c.args.store.now) (sym family)
     (generated_whole t c.args.self.now c.make_key.new.self c.args.instance c.args.ask c.make_key.result c.args.store.now c.make_key.ensures)

@@ -2,7 +2,7 @@ use Rattle.std.proofs.Common.{cond, sym, subst}
 use Rattle.instances.specs.declared.session.SessionState.TheVariants.{Open}
 use Rattle.instances.specs.Instances.{session_removed, state_set}
 use Rattle.alone.specs.declared.reply.Outputs.{Outputs}
-use Rattle.alone.specs.declared.running.Stage.{Stage}
+use Rattle.alone.specs.declared.active_entry.EntryPoint.{EntryPoint}
 use Rattle.alone.specs.Machine.{Machine}
 use Rattle.alone.specs.Step.{after_session, answered, is_success, returned}
 use Rattle.app_side.specs.Represents.{IsTurned, machine_of}
@@ -12,7 +12,7 @@ pub returns-in-Start : goal.returns-in-Start
 returns-in-Start g c inst found numbered =
     let m : Machine g.row.A.Denot = machine_of c.args.self.now in
     let code = c.args.ending.code in
-    subst (λ (stage : Stage). IsTurned c.end_start.new.self c.end_start.new.replies (returned m inst c.args.op stage code c.args.ending.outs)) (sym c.in-Start.is)
+    subst (λ (stage : EntryPoint). IsTurned c.end_start.new.self c.end_start.new.replies (returned m inst c.args.op stage code c.args.ending.outs)) (sym c.in-Start.is)
     (subst (λ (o : Outputs). IsTurned c.end_start.new.self c.end_start.new.replies (cond (is_success code)
     (answered (record m { table = state_set m.table c.in-Start.session Open }) inst c.args.op code o)
     (after_session (record m { table = session_removed m.table c.in-Start.session }) inst c.args.op code o)))

@@ -1,7 +1,7 @@
 use Rattle.std.proofs.Common.{◌≡◌, ◌∙◌, Bool, sym, subst, ap}
 use Rattle.store_api.specs.Keeping.{Contents}
 use Rattle.app_api.specs.declared.ask.Ask.TheVariants as asked
-use Rattle.object_asks.specs.KeyOf.{key_came_of, key_course}
+use Rattle.object_asks.specs.KeyOf.{key_came_of, key_resolution}
 use Rattle.object_asks.specs.Serving.{EndsUnchanged, UnlessAnswered, objects_in, serving_of}
 use Rattle.object_asks.specs.declared.outcome.Outcome.{Outcome as Result_of}
 use Rattle.operation_asks.specs.Asks.{CryptoState}
@@ -29,7 +29,7 @@ returns g c =
     let s : CryptoState = state_of old.operations in
     let i = c.args.instance in
     let op = c.args.op in
-    let course = key_course (objects_in old.held before) i c.args.object in
+    let resolution = key_resolution (objects_in old.held before) i c.args.object in
     let ops = c.set_key-told.new.self in
     let told = c.set_key-told.result in
     let new : AppSide g.row.A.Denot = record c.note.new.self { operations = ops } in
@@ -44,9 +44,10 @@ returns g c =
     record {
       left = λ tells same doubt.
           let m : Machine g.row.A.Denot = machine_over old before.store doubt in
-          subst (λ (o : Result_of). IsLeft o (served (serving_of looked.kind) m (asked.OpSetKey op c.args.object) (keyed_by m i op (key_course (objects_of m) i c.args.object))) new after.store doubt m) (sym c.outcome_of.ensures)
-          (keyed_left old new before.store after.store doubt i op c.args.object looked.kind looked.found told course (ap (λ (k : Contents). k.store) (is.same tells))
-          (subst (λ (b : Bool). looked.found ≡ key_came_of (serving_of looked.kind) b course) (sym same) (is.outcome tells)) told_is left_is notes (is.reaches tells) is.change);
+          subst (λ (o : Result_of). IsLeft o (served (serving_of looked.kind) m (asked.OpSetKey op c.args.object) (keyed_by m i op (key_resolution (objects_of m) i c.args.object))) new
+          after.store doubt m) (sym c.outcome_of.ensures)
+          (keyed_left old new before.store after.store doubt i op c.args.object looked.kind looked.found told resolution (ap (λ (k : Contents). k.store) (is.same tells))
+          (subst (λ (b : Bool). looked.found ≡ key_came_of (serving_of looked.kind) b resolution) (sym same) (is.outcome tells)) told_is left_is notes (is.reaches tells) is.change);
       kind = record {
         stands = λ tells. is.reaches tells;
         change = is.change;

@@ -1,13 +1,13 @@
 use Rattle.std.proofs.Common.{◌≡◌, ◌∙◌, Bool, Option, Some, None, find, refl, sym, ap, subst}
-use Rattle.alone.specs.declared.running.Instance.{Instance}
-use Rattle.alone.specs.declared.running.Running.{Running}
+use Rattle.alone.specs.declared.active_entry.Instance.{Instance}
+use Rattle.alone.specs.declared.active_entry.ActiveEntry.{ActiveEntry}
 use Rattle.app_api.specs.declared.ask.Ask.{Ask}
 use Rattle.app_side.proofs.Torn.{set_torn}
 use Rattle.std.proofs.lemmas.Result.{on_err_weaker}
 use Rattle.alone.specs.Machine.{Machine, is_number}
 use Rattle.alone.specs.Step.{of_instance, of_running, of_waits, turned_by}
 use Rattle.app_side.specs.Represents.{IsStep, machine_of, machine_over}
-use Rattle.object_asks.specs.Courses.{Serves}
+use Rattle.object_asks.specs.Resolutions.{Serves}
 use Rattle.object_asks.specs.Serving.{objects_in, serving_of, CrashTurns, TriesOnce}
 use Rattle.app_side.specs.Asking.{changing, reaching}
 use Rattle.operation_asks.specs.Kept.{state_of}
@@ -27,7 +27,8 @@ returns-then-is_none g c inst found =
           let both : Some c.index.result.now ≡ Some inst = ap Some c.index.ensures ∙ sym (c.requires.place.found c.index.result.now) ∙ found in
           let here : c.index.result.now ≡ inst = cc in
           let idle : inst.running ≡ None = ap (λ (x : Instance g.row.A.Denot). x.running) (sym here) ∙ none_of c.index.result.now.running c.if-is_none.ensures in
-          subst (λ (o : Option Running). IsStep c.begin.new.self before.store c.args.replies.now (turned_by g.A.Application.behaviour Serves (machine_over c.args.self.now before.store doubt) inst o)) (sym idle)
+          subst (λ (o : Option ActiveEntry). IsStep c.begin.new.self before.store c.args.replies.now (turned_by g.A.Application.behaviour Serves
+          (machine_over c.args.self.now before.store doubt) inst o)) (sym idle)
           (begins c.args.self.now c.begin.new.self c.args.replies.now inst before.store doubt (c.in_ok-begin.ensures.ok inst found) c.requires.none);
       kind = plain_turn t _ _ _ _ c.args.store.now
           (ap (λ (m : Machine g.row.A.Denot). m.lost) (c.in_ok-begin.ensures.ok inst found) ∙ begun_lost (machine_of c.args.self.now) inst);
@@ -38,7 +39,8 @@ returns-then-is_none g c inst found =
     }
 
 pub resume-requires-clause-place : goal.resume-requires-clause-place
-resume-requires-clause-place g c = place_kept c.args.number c.args.self.now.instances.items c.args.place _ c.requires.place (ap (λ (x : Instance g.row.A.Denot). x.number) c.index_mut.ensures.value ∙ c.requires.place.named c.index_mut.result.now)
+resume-requires-clause-place g c = place_kept c.args.number c.args.self.now.instances.items c.args.place _ c.requires.place
+    (ap (λ (x : Instance g.row.A.Denot). x.number) c.index_mut.ensures.value ∙ c.requires.place.named c.index_mut.result.now)
 
 pub returns : goal.returns
 returns g c inst found =
@@ -46,20 +48,28 @@ returns g c inst found =
     let before = t.contents c.args.store.now in
     let x = c.index_mut.result.now in
     let there : find (is_number c.args.number) c.args.self.now.instances.items ≡ Some x = c.requires.place.found x ∙ ap Some (sym c.index_mut.ensures.value) in
-    let waiting : (test : Running → Ask → Bool) → of_waits test c.in-Some.running c.in-Some.running.waits ≡ of_instance test (find (is_number c.args.number) c.args.self.now.instances.items)
+    let waiting : (test : ActiveEntry → Ask → Bool) → of_waits test c.in-Some.running c.in-Some.running.waits ≡ of_instance test (find (is_number c.args.number) c.args.self.now.instances.items)
     = λ test. sym (ap (of_instance test) there ∙ ap (of_running test) (sym c.in-Some.ensures.value)) in
     let idle : Instance g.row.A.Denot = record x { running = c.take.new.self } in
-    let kept = found_there c.args.number c.args.self.now.instances.items c.args.place idle c.requires.place (ap (λ (y : Instance g.row.A.Denot). y.number) c.index_mut.ensures.value ∙ c.requires.place.named x) in
+    let kept = found_there c.args.number c.args.self.now.instances.items c.args.place idle c.requires.place (ap (λ (y : Instance g.row.A.Denot). y.number) c.index_mut.ensures.value
+    ∙ c.requires.place.named x) in
     let is = c.resume.ensures idle kept in
     record {
-      step = IfOk-weaker c.resume.result _ _ (λ kind step model same doubt. go_on_turned g.A.Application.behaviour (serving_of kind) (machine_over c.args.self.now before.store doubt) c.args.number c.args.place x c.take.new.self c.in-Some.running (IsStep c.resume.new.self (t.contents c.resume.new.store).store c.resume.new.replies) c.requires.place c.index_mut.ensures.value c.take.ensures.after (sym c.in-Some.ensures.value) (step model same doubt) inst found) is.step;
+      step = IfOk-weaker c.resume.result _ _ (λ kind step model same doubt. go_on_turned g.A.Application.behaviour (serving_of kind)
+          (machine_over c.args.self.now before.store doubt) c.args.number c.args.place x c.take.new.self c.in-Some.running
+          (IsStep c.resume.new.self (t.contents c.resume.new.store).store c.resume.new.replies) c.requires.place c.index_mut.ensures.value c.take.ensures.after
+          (sym c.in-Some.ensures.value) (step model same doubt) inst found) is.step;
       kind = IfOk-weaker c.resume.result _ _ (λ kind of. moves t kind _ _ _ _ _ _ _ c.args.store.now c.resume.new.store
           (waiting (reaching (objects_in c.args.self.now.held before) (state_of c.args.self.now.operations) c.args.number)) (waiting changing) refl of) is.kind;
       tried = subst (λ (b : Bool). TriesOnce b (t.status c.args.store.now) (t.status c.resume.new.store)) (waiting changing) is.tried;
       want = is.want;
       starves = on_err_weaker c.resume.result (λ starves. record {
-        alike = λ code origin. starves.alike code origin ∙ set_torn (machine_of c.args.self.now) c.args.number c.args.place idle code origin c.requires.place (ap (λ (y : Instance g.row.A.Denot). y.number) c.index_mut.ensures.value ∙ c.requires.place.named x);
+        alike = λ code origin. starves.alike code origin ∙ set_torn (machine_of c.args.self.now) c.args.number c.args.place idle code origin c.requires.place
+            (ap (λ (y : Instance g.row.A.Denot). y.number) c.index_mut.ensures.value ∙ c.requires.place.named x);
         none = starves.none;
       }) is.starves;
-      crash = IfOk-weaker c.resume.result _ _ (λ kind crash honest just doubt. go_on_turned g.A.Application.behaviour (serving_of kind) (machine_over c.args.self.now before.store doubt) c.args.number c.args.place x c.take.new.self c.in-Some.running (λ s. CrashTurns t kind s.machine.in_doubt c.args.store.now c.resume.new.store) c.requires.place c.index_mut.ensures.value c.take.ensures.after (sym c.in-Some.ensures.value) (crash honest just doubt) inst found) is.crash;
+      crash = IfOk-weaker c.resume.result _ _ (λ kind crash honest just doubt. go_on_turned g.A.Application.behaviour (serving_of kind)
+          (machine_over c.args.self.now before.store doubt) c.args.number c.args.place x c.take.new.self c.in-Some.running
+          (λ s. CrashTurns t kind s.machine.in_doubt c.args.store.now c.resume.new.store) c.requires.place c.index_mut.ensures.value c.take.ensures.after
+          (sym c.in-Some.ensures.value) (crash honest just doubt) inst found) is.crash;
     }

@@ -1,11 +1,11 @@
 use Rattle.std.proofs.Common.{◌≡◌, refl, sym, ap, subst}
-use Rattle.alone.specs.declared.running.Waits.{Waits}
+use Rattle.alone.specs.declared.active_entry.Waits.{Waits}
 use Rattle.alone.specs.Machine.{Machine}
 use Rattle.alone.specs.Step.{of_waits, went_on}
 use Rattle.app_side.specs.Represents.{IsStep, machine_over}
-use Rattle.object_asks.specs.Courses.{Serves}
+use Rattle.object_asks.specs.Resolutions.{Serves}
 use Rattle.object_asks.specs.Serving.{objects_in, serving_of, CrashTurns, TriesOnce}
-use Rattle.alone.specs.declared.running.Running.{Running}
+use Rattle.alone.specs.declared.active_entry.ActiveEntry.{ActiveEntry}
 use Rattle.app_side.specs.declared.turns.Entered.{Entered}
 use Rattle.app_side.specs.Asking.{asking, changing, reaching}
 use Rattle.operation_asks.specs.Kept.{state_of}
@@ -21,8 +21,10 @@ returns-in_ok-think-in-Given g c inst found =
     let before = t.contents c.args.store.now in
     record {
       step = λ there same doubt.
-          subst (λ (w : Waits). IsStep c.think.new.self before.store c.args.replies.now (went_on g.A.Application.behaviour Serves (machine_over c.args.self.now before.store doubt) inst c.args.running w)) (sym c.in-Given.is)
-          (thinks g.A.Application.behaviour c.args.self.now c.think.new.self c.args.replies.now inst c.args.running c.in-Given.given before.store doubt (c.in_ok-think-in-Given.ensures.ok inst found c.args.running.waits) c.requires.none);
+          subst (λ (w : Waits). IsStep c.think.new.self before.store c.args.replies.now (went_on g.A.Application.behaviour Serves (machine_over c.args.self.now before.store doubt)
+          inst c.args.running w)) (sym c.in-Given.is)
+          (thinks g.A.Application.behaviour c.args.self.now c.think.new.self c.args.replies.now inst c.args.running c.in-Given.given before.store doubt
+          (c.in_ok-think-in-Given.ensures.ok inst found c.args.running.waits) c.requires.none);
       kind = plain_turn t _ _ _ _ c.args.store.now
           (ap (λ (m : Machine g.row.A.Denot). m.lost) (c.in_ok-think-in-Given.ensures.ok inst found c.args.running.waits));
       tried = none_tried _ (t.status c.args.store.now);
@@ -37,17 +39,27 @@ returns-in-Ask g c inst found =
     let before = t.contents c.args.store.now in
     let is = c.act.ensures inst found in
     let entry : Entered = record { op = c.args.running.op; stage = c.args.running.stage; asks = c.args.running.asks; masked = c.args.running.masked } in
-    let same : c.args.running ≡ asking entry c.in-Ask.ask = ap (λ (w : Waits). (let r : Running = record { op = c.args.running.op; stage = c.args.running.stage; waits = w; asks = c.args.running.asks; masked = c.args.running.masked } in r)) c.in-Ask.is in
+    let same : c.args.running ≡ asking entry c.in-Ask.ask = ap (λ (w : Waits). (let r : ActiveEntry = record {
+      op = c.args.running.op;
+      stage = c.args.running.stage;
+      waits = w;
+      asks =
+          c.args.running.asks;
+      masked = c.args.running.masked;
+    } in r)) c.in-Ask.is in
     record {
       step = IfOk-weaker c.act.result _ _ (λ kind step there lost doubt.
-          subst (λ (r : Running). IsStep c.act.new.self (t.contents c.act.new.store).store c.act.new.replies (went_on g.A.Application.behaviour (serving_of kind) (machine_over c.args.self.now before.store doubt) inst r r.waits)) (sym same)
+          subst (λ (r : ActiveEntry). IsStep c.act.new.self (t.contents c.act.new.store).store c.act.new.replies
+          (went_on g.A.Application.behaviour (serving_of kind) (machine_over c.args.self.now before.store doubt) inst r r.waits)) (sym same)
           (step there lost doubt)) is.step;
       kind = IfOk-weaker c.act.result _ _ (λ kind of. moves t kind _ _ _ _ _ _ _ c.args.store.now c.act.new.store
-          (ap (λ (r : Running). of_waits (reaching (objects_in c.args.self.now.held before) (state_of c.args.self.now.operations) c.args.number) r r.waits) (sym same)) (ap (λ (r : Running). of_waits changing r r.waits) (sym same)) refl of) is.kind;
-      tried = subst (λ (r : Running). TriesOnce (of_waits changing r r.waits) (t.status c.args.store.now) (t.status c.act.new.store)) (sym same) is.tried;
+          (ap (λ (r : ActiveEntry). of_waits (reaching (objects_in c.args.self.now.held before) (state_of c.args.self.now.operations) c.args.number) r r.waits) (sym same))
+          (ap (λ (r : ActiveEntry). of_waits changing r r.waits) (sym same)) refl of) is.kind;
+      tried = subst (λ (r : ActiveEntry). TriesOnce (of_waits changing r r.waits) (t.status c.args.store.now) (t.status c.act.new.store)) (sym same) is.tried;
       want = is.want;
       starves = is.starves;
       crash = IfOk-weaker c.act.result _ _ (λ kind crash honest just doubt.
-          subst (λ (r : Running). CrashTurns t kind (went_on g.A.Application.behaviour (serving_of kind) (machine_over c.args.self.now before.store doubt) inst r r.waits).machine.in_doubt c.args.store.now c.act.new.store) (sym same)
+          subst (λ (r : ActiveEntry). CrashTurns t kind (went_on g.A.Application.behaviour (serving_of kind) (machine_over c.args.self.now before.store doubt) inst r
+          r.waits).machine.in_doubt c.args.store.now c.act.new.store) (sym same)
           (crash honest just doubt)) is.crash;
     }

@@ -23,8 +23,10 @@ returns-in-Ok-clause-turn g c =
     let kind = c.in-Ok.kind in
     let is = c.in-Ok.ensures.kind in
     let steps = c.in-Ok.ensures.step in
-    let each : t.has_model old → (m : Machine g.row.A.Denot) → Represents c.args.self.now m → m.store ≡ (t.contents old).store → IsStep c.advance.new.self (t.contents new).store c.advance.new.replies (step a m (event_of (kind_by kind) c.args.instance))
-    = λ there m stands kept. turn_stands a c.args.self.now kind c.args.instance (t.contents old).store (IsStep c.advance.new.self (t.contents new).store c.advance.new.replies) (steps there c.requires.loss) m stands kept in
+    let each : t.has_model old → (m : Machine g.row.A.Denot) → Represents c.args.self.now m → m.store ≡ (t.contents old).store →
+    IsStep c.advance.new.self (t.contents new).store c.advance.new.replies (step a m (event_of (kind_by kind) c.args.instance))
+    = λ there m stands kept. turn_stands a c.args.self.now kind c.args.instance (t.contents old).store (IsStep c.advance.new.self (t.contents new).store c.advance.new.replies)
+    (steps there c.requires.loss) m stands kept in
     let turn : IsTurn t a c.args.instance (kind_by kind) c.advance.new.replies c.args.self.now c.advance.new.self old new = record {
       step = λ there m stands kept. step_represents c.advance.new.self (t.contents new).store c.advance.new.replies (step a m (event_of (kind_by kind) c.args.instance)) (each there m stands kept);
       store = λ there m stands kept. step_store c.advance.new.self (t.contents new).store c.advance.new.replies (step a m (event_of (kind_by kind) c.args.instance)) (each there m stands kept);

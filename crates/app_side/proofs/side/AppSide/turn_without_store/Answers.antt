@@ -3,22 +3,29 @@ use Rattle.app_side.proofs.Storeless.{kind_is, step_is, stays_lost, told_is}
 use Rattle.app_side.proofs.side.AppSide.turn_without_store.Goals as goal
 
 pub returns-clause-kind : goal.returns-clause-kind
-returns-clause-kind g c = kind_is g.A.Application.behaviour c.args.instance c.turn-turned.result.replies c.args.self.now c.turn-turned.new.self c.new-store.result c.turn-turned.new.store c.turn-turned.result.kind c.turn-turned.ensures.turn c.bounds.ensures.faults c.bounds.ensures.damage
+returns-clause-kind g c = kind_is g.A.Application.behaviour c.args.instance c.turn-turned.result.replies c.args.self.now c.turn-turned.new.self c.new-store.result
+    c.turn-turned.new.store c.turn-turned.result.kind c.turn-turned.ensures.turn c.bounds.ensures.faults c.bounds.ensures.damage
 
 pub returns-clause-step : goal.returns-clause-step
 returns-clause-step g c =
     let kind = c.turn-turned.result.kind in
-    let storeless : IsStoreless kind = kind_is g.A.Application.behaviour c.args.instance c.turn-turned.result.replies c.args.self.now c.turn-turned.new.self c.new-store.result c.turn-turned.new.store kind c.turn-turned.ensures.turn c.bounds.ensures.faults c.bounds.ensures.damage in
-    step_is g.A.Application.behaviour c.args.instance c.turn-turned.result.replies c.args.self.now c.turn-turned.new.self c.new-store.result c.turn-turned.new.store kind c.turn-turned.ensures.turn storeless c.requires.storeless
+    let storeless : IsStoreless kind = kind_is g.A.Application.behaviour c.args.instance c.turn-turned.result.replies c.args.self.now c.turn-turned.new.self c.new-store.result
+    c.turn-turned.new.store kind c.turn-turned.ensures.turn c.bounds.ensures.faults c.bounds.ensures.damage in
+    step_is g.A.Application.behaviour c.args.instance c.turn-turned.result.replies c.args.self.now c.turn-turned.new.self c.new-store.result c.turn-turned.new.store kind
+    c.turn-turned.ensures.turn storeless c.requires.storeless
 
 pub returns-clause-told : goal.returns-clause-told
 returns-clause-told g c =
     let kind = c.turn-turned.result.kind in
-    let storeless : IsStoreless kind = kind_is g.A.Application.behaviour c.args.instance c.turn-turned.result.replies c.args.self.now c.turn-turned.new.self c.new-store.result c.turn-turned.new.store kind c.turn-turned.ensures.turn c.bounds.ensures.faults c.bounds.ensures.damage in
-    told_is g.A.Application.behaviour c.args.instance c.turn-turned.result.replies c.args.self.now c.turn-turned.new.self c.new-store.result c.turn-turned.new.store kind c.turn-turned.ensures.turn storeless c.requires.storeless
+    let storeless : IsStoreless kind = kind_is g.A.Application.behaviour c.args.instance c.turn-turned.result.replies c.args.self.now c.turn-turned.new.self c.new-store.result
+    c.turn-turned.new.store kind c.turn-turned.ensures.turn c.bounds.ensures.faults c.bounds.ensures.damage in
+    told_is g.A.Application.behaviour c.args.instance c.turn-turned.result.replies c.args.self.now c.turn-turned.new.self c.new-store.result c.turn-turned.new.store kind
+    c.turn-turned.ensures.turn storeless c.requires.storeless
 
 pub returns-clause-lost : goal.returns-clause-lost
 returns-clause-lost g c =
     let kind = c.turn-turned.result.kind in
-    let storeless : IsStoreless kind = kind_is g.A.Application.behaviour c.args.instance c.turn-turned.result.replies c.args.self.now c.turn-turned.new.self c.new-store.result c.turn-turned.new.store kind c.turn-turned.ensures.turn c.bounds.ensures.faults c.bounds.ensures.damage in
-    stays_lost g.A.Application.behaviour c.args.instance c.turn-turned.result.replies c.args.self.now c.turn-turned.new.self c.new-store.result c.turn-turned.new.store kind c.turn-turned.ensures.turn storeless c.new-store.ensures.lost
+    let storeless : IsStoreless kind = kind_is g.A.Application.behaviour c.args.instance c.turn-turned.result.replies c.args.self.now c.turn-turned.new.self c.new-store.result
+    c.turn-turned.new.store kind c.turn-turned.ensures.turn c.bounds.ensures.faults c.bounds.ensures.damage in
+    stays_lost g.A.Application.behaviour c.args.instance c.turn-turned.result.replies c.args.self.now c.turn-turned.new.self c.new-store.result c.turn-turned.new.store kind
+    c.turn-turned.ensures.turn storeless c.new-store.ensures.lost

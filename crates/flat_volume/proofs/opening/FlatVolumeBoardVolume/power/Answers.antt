@@ -4,17 +4,16 @@ use Rattle.tee_base.specs.Crash.{LeavesOnly}
 use Rattle.store_api.specs.Volumes.{Held}
 use Rattle.board.specs.Moment.{IsLeft, Outcome, View, left_since, moment}
 use Rattle.epoch.specs.Forms.{held_of}
-use Rattle.epoch.specs.Mounting.{MightBe, MountsTo, after_found}
+use Rattle.epoch.specs.Mounting.{MightBe, MountsTo}
 use Rattle.epoch.specs.Mounts.{IsRefusal}
+use Rattle.epoch.specs.Past.{KeepsPast}
 use Rattle.epoch.specs.declared.answer.OpenAnswer.TheVariants.{Failed}
-use Rattle.epoch.specs.declared.header.Header.{Header}
 use Rattle.epoch.proofs.CommitLemmas.{on_err}
-use Rattle.epoch.proofs.MountLemmas.{before_above, board_in_use, past_above, rests_above}
-use Rattle.epoch.proofs.PastLemmas.{followed}
+use Rattle.epoch.proofs.MountLemmas.{admitted_by, before_above, board_sound, past_above, rests_above}
 use Rattle.flat_volume.specs.Flat.{flat}
 use Rattle.flat_volume.specs.Frame.{flat_framed}
 use Rattle.flat_volume.specs.Keeping.{held_now}
-use Rattle.flat_volume.proofs.OpenLemmas.{always, never, not_err, not_ok, some_found, surely, told_so}
+use Rattle.flat_volume.proofs.OpenLemmas.{if_found, not_ok, told_so}
 use Rattle.flat_volume.proofs.VolumeLemmas.{held_steady, steady_open, steady_same}
 use Rattle.flat_volume.proofs.opening.FlatVolumeBoardVolume.power.Goals as goal
 
@@ -22,15 +21,26 @@ pub returns-in_err-found-clause-exact : goal.returns-in_err-found-clause-exact
 returns-in_err-found-clause-exact g c honest =
     let v = g.B.Board.view c.args.self.now.board in
     let is : c.from_residual.result ≡ Err c.in_err-found.field-0.0 = search rules in
-    let told = c.in_err-found.ensures.exact honest in
-    (told.0, told.1, told_so c.from_residual.result c.in_err-found.field-0.0 (λ why. IsRefusal flat v told.0.image told.0.counter why) is (told.2 flat refl))
+    let told = c.in_err-found.ensures.exact honest in (
+      told.0,
+      told.1,
+      told_so c.from_residual.result c.in_err-found.field-0.0 (λ why. IsRefusal flat v told.0.image told.0.counter why) is (told.2 flat refl).0,
+      not_ok c.from_residual.result _ c.from_residual.ensures.0,
+    )
+
+pub returns-clause-exact : goal.returns-clause-exact
+returns-clause-exact g c honest =
+    let v = g.B.Board.view c.args.self.now.board in
+    let told = c.in_ok-found.ensures.exact honest in
+    let at = if_found c.in_ok-found.found c.resume.result c.resume.ensures.found in
+    (told.0, told.1, tt, admitted_by flat v told.0.image told.0.counter c.resume.result c.in_ok-found.found (told.2 flat refl).1 at)
 
 pub returns-in_err-found-clause-opened : goal.returns-in_err-found-clause-opened
-returns-in_err-found-clause-opened g c honest used =
+returns-in_err-found-clause-opened g c honest sound =
     let v = g.B.Board.view c.args.self.now.board in
     let w = g.B.Board.view c.mount_after_power.new.board in
     let is : c.from_residual.result ≡ Err c.in_err-found.field-0.0 = search rules in
-    let after = c.in_err-found.ensures.again honest flat flat_framed refl c.args.self.now.large (board_in_use flat v used) in
+    let after = c.in_err-found.ensures.again honest flat flat_framed refl c.args.self.now.large (board_sound flat v sound) in
     let again = after.again in
     let key = c.in_err-found.ensures.ordered.key in
     record {
@@ -55,33 +65,34 @@ returns-in_err-found-clause-opened g c honest used =
     }
 
 pub returns-clause-opened : goal.returns-clause-opened
-returns-clause-opened g c honest used =
+returns-clause-opened g c honest sound =
     let v = g.B.Board.view c.args.self.now.board in
     let w = g.B.Board.view c.mount_after_power.new.board in
     let n = g.B.Board.view c.resume.new.self.board in
-    let after = c.in_ok-found.ensures.again honest flat flat_framed refl c.args.self.now.large (board_in_use flat v used) in
+    let stays : n ≡ w = ap g.B.Board.view c.resume.ensures.board in
+    let after = c.in_ok-found.ensures.again honest flat flat_framed refl c.args.self.now.large (board_sound flat v sound) in
     let again = after.again in
     let key = c.in_ok-found.ensures.ordered.key in
-    let some = some_found v.key again.chosen w.state c.in_ok-found.found again.mounted again.in_use in
-    let stays = c.resume.ensures.same some.0 some.1 in
-    let honest' = c.in_ok-found.ensures.honest honest in
-    let key' = c.resume.ensures.calls.key ∙ key in
-    let both = surely c.resume.result _ stays.1 (c.resume.ensures.opened honest' again.chosen (subst (λ (k : List ℕ). MountsTo flat k again.chosen w.state c.in_ok-found.found) (sym key) again.mounted)) in
-    let same : after_found c.in_ok-found.found again.chosen ≡ again.chosen = ap (λ (f : Option Header). after_found f again.chosen) some.1 in
-    let held : Some again.chosen ≡ Some (held_now n c.resume.new.self.root c.resume.new.self.sequence) = ap (λ (h : Held). let o : Option Held = Some h in o) (sym (both.1 ∙ same)) in
-    let run : LeavesOnly moment left_since v n (MightBe flat v.key v.state) = subst (λ (x : View). LeavesOnly moment left_since v x (MightBe flat v.key v.state)) (sym stays.0) again.leaves in
+    let mounted = subst (λ (k : List ℕ). MountsTo flat k again.chosen w.state c.in_ok-found.found) (sym key) again.mounted in
+    let both = c.resume.ensures.opened again.chosen mounted in
+    let key' : n.key ≡ v.key = ap (λ (x : View). x.key) stays ∙ key in
+    let held : Some again.chosen ≡ Some (held_now n c.resume.new.self.root c.resume.new.self.sequence) = ap (λ (h : Held). let o : Option Held = Some h in o) (sym both.1) in
+    let run : LeavesOnly moment left_since v n (MightBe flat v.key v.state) = subst (λ (x : View). LeavesOnly moment left_since v x (MightBe flat v.key v.state)) (sym stays) again.leaves in
+    let past : KeepsPast v n = subst (KeepsPast v) (sym stays) (c.in_ok-found.ensures.past honest) in
+    let honest' = subst g.B.Board.honest (sym c.resume.ensures.board) (c.in_ok-found.ensures.honest honest) in
+    let steady = steady_open n c.resume.new.self.root c.resume.new.self.sequence c.resume.new.self.table both.0 in
     let rests : (d : Outcome) → IsLeft n.state d → held_of flat v.key d ≡ Some again.chosen
-    = subst (λ (x : View). (d : Outcome) → IsLeft x.state d → held_of flat v.key d ≡ Some again.chosen) (sym stays.0) after.rests in
+    = subst (λ (x : View). (d : Outcome) → IsLeft x.state d → held_of flat v.key d ≡ Some again.chosen) (sym stays) after.rests in
     record {
       again = record {
-        opened = always c.resume.result _ (again.among.0, inl again.among.1, sym (again.among.2 ∙ held));
-        failed = never c.resume.result (λ why. why ≡ Failed) stays.1;
-        fresh = always c.resume.result _ (c.resume.ensures.honest honest', λ live. both.0, steady_open n c.resume.new.self.root c.resume.new.self.sequence c.resume.new.self.table both.0);
-        honest = λ is. (c.resume.ensures.honest honest', λ live. both.0, steady_open n c.resume.new.self.root c.resume.new.self.sequence c.resume.new.self.table both.0);
-        same = λ is. not_err c.resume.result _ stays.1;
+        opened = (again.among.0, inl again.among.1, sym (again.among.2 ∙ held));
+        failed = tt;
+        fresh = (honest', λ live. both.0, steady);
+        honest = λ is. (honest', λ live. both.0, steady);
+        same = λ is. tt;
         leaves = record {
           crash = before_above flat (λ x. g.B.Board.view x.board) _ _ key' run;
-          past = past_above flat v n key' (followed _ _ _ (c.in_ok-found.ensures.past honest) (c.resume.ensures.past honest'));
+          past = past_above flat v n key' past;
         };
       };
       chosen = again.chosen;

@@ -9,7 +9,8 @@ returns-clause-here c =
     let was : c.as_mut_slice.result.now ≡ c.args.self.now.bytes.items = search rules in
     let room : 1024 * c.args.number + 1024 ≤ length c.args.self.now.bytes.items = search (rules, arith) in
     let full : length c.args.self.now.bytes.items ≡ c.args.self.now.bytes.len = search rules in
-    let back = written_back c.args.self.now.bytes.len (1024 * c.args.number) c.args.block.now c.args.self.now.bytes.items c.patch.new.into full (omega (arith, room, long)) (c.patch.ensures ∙ ap (patched (1024 * c.args.number) c.args.block.now) was) in
+    let back = written_back c.args.self.now.bytes.len (1024 * c.args.number) c.args.block.now c.args.self.now.bytes.items c.patch.new.into full (omega (arith, room, long))
+    (c.patch.ensures ∙ ap (patched (1024 * c.args.number) c.args.block.now) was) in
     block_here (1024 * c.args.number) c.args.block.now c.args.self.now.bytes.items _ long room back
 
 pub returns-clause-others : goal.returns-clause-others
@@ -18,5 +19,6 @@ returns-clause-others c n ne =
     let was : c.as_mut_slice.result.now ≡ c.args.self.now.bytes.items = search rules in
     let room : 1024 * c.args.number + 1024 ≤ length c.args.self.now.bytes.items = search (rules, arith) in
     let full : length c.args.self.now.bytes.items ≡ c.args.self.now.bytes.len = search rules in
-    let back = written_back c.args.self.now.bytes.len (1024 * c.args.number) c.args.block.now c.args.self.now.bytes.items c.patch.new.into full (omega (arith, room, long)) (c.patch.ensures ∙ ap (patched (1024 * c.args.number) c.args.block.now) was) in
+    let back = written_back c.args.self.now.bytes.len (1024 * c.args.number) c.args.block.now c.args.self.now.bytes.items c.patch.new.into full (omega (arith, room, long))
+    (c.patch.ensures ∙ ap (patched (1024 * c.args.number) c.args.block.now) was) in
     blocks_other n c.args.number c.args.block.now c.args.self.now.bytes.items _ long room ne back

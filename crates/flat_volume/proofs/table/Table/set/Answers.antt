@@ -10,7 +10,8 @@ returns-clause-here c =
     let was : c.as_mut_slice.result.now ≡ c.args.self.now.bytes.items = search rules in
     let room : 64 * c.args.number + 64 ≤ length c.args.self.now.bytes.items = search (rules, arith) in
     let full : length c.args.self.now.bytes.items ≡ c.args.self.now.bytes.len = search rules in
-    let back = written_back c.args.self.now.bytes.len (64 * c.args.number) c.entry_bytes.result c.args.self.now.bytes.items c.patch.new.into full (omega (arith, room, c.entry_bytes.ensures.long)) (c.patch.ensures ∙ ap (patched (64 * c.args.number) c.entry_bytes.result) was) in
+    let back = written_back c.args.self.now.bytes.len (64 * c.args.number) c.entry_bytes.result c.args.self.now.bytes.items c.patch.new.into full
+    (omega (arith, room, c.entry_bytes.ensures.long)) (c.patch.ensures ∙ ap (patched (64 * c.args.number) c.entry_bytes.result) was) in
     entry_here (64 * c.args.number) c.args.entry c.entry_bytes.result c.args.self.now.bytes.items _ c.entry_bytes.ensures room back copy sequence
 
 pub returns-clause-others : goal.returns-clause-others
@@ -18,5 +19,6 @@ returns-clause-others c n ne =
     let was : c.as_mut_slice.result.now ≡ c.args.self.now.bytes.items = search rules in
     let room : 64 * c.args.number + 64 ≤ length c.args.self.now.bytes.items = search (rules, arith) in
     let full : length c.args.self.now.bytes.items ≡ c.args.self.now.bytes.len = search rules in
-    let back = written_back c.args.self.now.bytes.len (64 * c.args.number) c.entry_bytes.result c.args.self.now.bytes.items c.patch.new.into full (omega (arith, room, c.entry_bytes.ensures.long)) (c.patch.ensures ∙ ap (patched (64 * c.args.number) c.entry_bytes.result) was) in
+    let back = written_back c.args.self.now.bytes.len (64 * c.args.number) c.entry_bytes.result c.args.self.now.bytes.items c.patch.new.into full
+    (omega (arith, room, c.entry_bytes.ensures.long)) (c.patch.ensures ∙ ap (patched (64 * c.args.number) c.entry_bytes.result) was) in
     entries_other n c.args.number c.entry_bytes.result c.args.self.now.bytes.items _ c.entry_bytes.ensures.long room ne back

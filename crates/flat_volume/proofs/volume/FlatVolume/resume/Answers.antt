@@ -1,4 +1,7 @@
+use Rattle.flat_volume.proofs.OpenLemmas.{open_found}
 use Rattle.flat_volume.proofs.volume.FlatVolume.resume.Goals as goal
 
 pub returns-clause-opened : goal.returns-clause-opened
-returns-clause-opened g c honest h mounts = (c.in_ok-root.ensures.opens honest h mounts).opened
+returns-clause-opened g c h mounts =
+    open_found (g.B.Board.view c.args.self.now.board) c.opened_at-sequence.result c.args.found h c.opened_at-sequence.ensures.root c.opened_at-sequence.ensures.sequence
+    c.opened_at-sequence.ensures.table mounts

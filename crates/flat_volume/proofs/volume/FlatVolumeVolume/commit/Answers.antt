@@ -29,7 +29,8 @@ returns-in-Err g c =
       shows = λ tells. err_shows Opened ℕ e w v.key old.root c.args.region c.take.new.self told.calls.key c.take.ensures.after c.requires (told.damage tells verified);
       call = record {
         cause = record {
-          cause = err_cause ℕ e _ _ c.if-self.false c.is_failed-self-in-Err.ensures (λ f. told.cause (ap Err f)) (λ f. told.answer (ap Err f)) (still_tags Opened ℕ (λ tags. tags.found ≢ tags.kept) e told.tags);
+          cause = err_cause ℕ e _ _ c.if-self.false c.is_failed-self-in-Err.ensures (λ f. told.cause (ap Err f)) (λ f. told.answer (ap Err f))
+              (still_tags Opened ℕ (λ tags. tags.found ≢ tags.kept) e told.tags);
           later = told.calls.faults;
           foundation = foundation_same v w told.calls;
         };

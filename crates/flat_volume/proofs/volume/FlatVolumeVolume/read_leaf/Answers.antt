@@ -30,7 +30,8 @@ returns-in-Ok g c =
           (
             (told.honest h.0).0,
             λ live. let tells = g.met.B.Board.honest_reads old.board h.0 in
-                open_same v w old.root old.sequence old.table table told.calls.key (told.honest h.0).1.state (tables_same old.table table v w old.root (told.same tells) (told.kept tells)) (h.1 c.if-self.false),
+                open_same v w old.root old.sequence old.table table told.calls.key (told.honest h.0).1.state
+                (tables_same old.table table v w old.root (told.same tells) (told.kept tells)) (h.1 c.if-self.false),
             steady_read v w old.root told.calls.key (told.honest h.0).1.state h.2,
           ),
           tt,

@@ -49,7 +49,8 @@ returns-clause-written g c h fits sealed =
     = subst (λ (t : List ℕ). AreSealed v.key t v.state.reads) (sym fits.stands) (entries_sealed v.key v.state.reads root sealed) in
     flat_written v.key _ _ _ _ c.requires.sequence (search rules) (c.in_ok-write_table.ensures.placed hon1) (c.in_ok-write_table.ensures.elsewhere hon1)
     (c.tag.ensures v.key fits.keyed) (c.in_ok-write_leaves.ensures.sealed h v.key fits.keyed start) _
-    (c.in_ok-write_leaves.ensures.leaves h v.key fits.keyed ∙ ap (replaced c.args.self.now.region c.args.self.now.leaves.now) (ap (λ (t : List ℕ). leaves_by v.key t v.state.reads) fits.stands ∙ sym (leaves_are_by v.key v.state.reads root)))
+    (c.in_ok-write_leaves.ensures.leaves h v.key fits.keyed ∙ ap (replaced c.args.self.now.region c.args.self.now.leaves.now)
+    (ap (λ (t : List ℕ). leaves_by v.key t v.state.reads) fits.stands ∙ sym (leaves_are_by v.key v.state.reads root)))
 
 pub returns-clause-fits : goal.returns-clause-fits
 returns-clause-fits g c h fits =

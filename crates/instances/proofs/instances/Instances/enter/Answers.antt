@@ -15,4 +15,10 @@ pub push-requires : goal.push-requires
 push-requires c = (lit< tt, (admitted _ _ _ _ _ c.self.view_is c.requires).room)
 
 pub invariant_of-self : goal.invariant_of-self
-invariant_of-self c = rw (c.add_instance.ensures, c.push.ensures.items) (entered_IsTable (record { properties = c.self.inside.properties; slots = c.self.inside.slots.items; sessions = c.self.inside.sessions.items }) c.args.client c.args.label c.args.admission c.self.invariant (admitted _ _ _ _ _ c.self.view_is c.requires))
+invariant_of-self c = rw (c.add_instance.ensures, c.push.ensures.items) (entered_IsTable (record {
+  properties = c.self.inside.properties;
+  slots =
+      c.self.inside.slots.items;
+  sessions = c.self.inside.sessions.items;
+}) c.args.client c.args.label c.args.admission c.self.invariant
+    (admitted _ _ _ _ _ c.self.view_is c.requires))

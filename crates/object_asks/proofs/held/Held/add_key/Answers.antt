@@ -26,12 +26,15 @@ invariant_of-self-in-Ok-add c =
 pub invariant_of-self-in_default : goal.invariant_of-self-in_default
 invariant_of-self-in_default c =
     let is : c.close.new.self ≡ c.self.inside.table =
-    c.close.ensures ∙ ap (λ (t : Table). closed t c.args.instance c.in-Ok.number) c.in-Ok.ensures.ok ∙ ap (λ (n : ℕ). closed (added c.self.inside.table c.args.instance Transient) c.args.instance n) c.in-Ok.ensures.number ∙ again c.self.inside.table c.args.instance in
+    c.close.ensures ∙ ap (λ (t : Table). closed t c.args.instance c.in-Ok.number) c.in-Ok.ensures.ok
+    ∙ ap (λ (n : ℕ). closed (added c.self.inside.table c.args.instance Transient) c.args.instance n) c.in-Ok.ensures.number ∙ again c.self.inside.table c.args.instance in
     rw (is, c.in_default.ensures.unchanged) c.self.invariant
 
 pub returns-in_default-clause-unchanged : goal.returns-in_default-clause-unchanged
 returns-in_default-clause-unchanged c =
     let is : c.close.new.self ≡ c.self.inside.table =
-    c.close.ensures ∙ ap (λ (t : Table). closed t c.args.instance c.in-Ok.number) c.in-Ok.ensures.ok ∙ ap (λ (n : ℕ). closed (added c.self.inside.table c.args.instance Transient) c.args.instance n) c.in-Ok.ensures.number ∙ again c.self.inside.table c.args.instance in
+    c.close.ensures ∙ ap (λ (t : Table). closed t c.args.instance c.in-Ok.number) c.in-Ok.ensures.ok
+    ∙ ap (λ (n : ℕ). closed (added c.self.inside.table c.args.instance Transient) c.args.instance n) c.in-Ok.ensures.number ∙ again c.self.inside.table c.args.instance in
     let before : Held = record { handles = c.self.inside.table.handles; keys = c.self.inside.keys.items; lists = c.self.inside.lists.items } in
-    ap (λ (t : Table). record before { handles = t.handles; keys = c.add.new.keys.items }) is ∙ ap (λ (ks : List NumberedKey). record before { keys = ks }) c.in_default.ensures.unchanged ∙ c.self.view_is
+    ap (λ (t : Table). record before { handles = t.handles; keys = c.add.new.keys.items }) is ∙ ap (λ (ks : List NumberedKey). record before { keys = ks })
+    c.in_default.ensures.unchanged ∙ c.self.view_is

@@ -14,5 +14,6 @@ invariant_of-self c =
       identifiers = c.self.invariant.identifiers;
       sole = c.self.invariant.sole;
       together = c.self.invariant.together;
-      few_lists = few_added c.add.result c.args.instance (free_list ls c.args.instance) ls c.add.new.lists.items c.add.ensures.ok c.add.ensures.unchanged (leb-false _ _ some) c.self.invariant.few_lists;
+      few_lists = few_added c.add.result c.args.instance (free_list ls c.args.instance) ls c.add.new.lists.items c.add.ensures.ok c.add.ensures.unchanged (leb-false _ _ some)
+          c.self.invariant.few_lists;
     }

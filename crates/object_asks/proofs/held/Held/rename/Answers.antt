@@ -1,7 +1,7 @@
 use Rattle.std.proofs.Common.{ℕ, ◌≡◌, ◌∙◌, List, IsTrue, true, false, refl, sym, ap, subst}
 use Rattle.std.proofs.lemmas.Bool.{le-leb}
 use Rattle.handle_table.specs.Handles.{Table, is_at, is_open, rename_ended, rename_started}
-use Rattle.object_asks.specs.Handles.{settled}
+use Rattle.object_asks.specs.Handles.{without_rename}
 use Rattle.object_asks.specs.Held.{Held, may_rename}
 use Rattle.object_asks.proofs.HeldLemmas.{all_moved, together_moved}
 use Rattle.object_asks.proofs.Renames.{alone_meta, renamed_sole, writes_of}
@@ -10,7 +10,8 @@ use Rattle.object_asks.proofs.held.Held.rename.Goals as goal
 pub start_rename-requires-clause-alone : goal.start_rename-requires-clause-alone
 start_rename-requires-clause-alone g c =
     let hs = c.self.inside.table.handles in
-    let may : IsTrue (may_rename (record { handles = hs; keys = c.self.inside.keys.items; lists = c.self.inside.lists.items }) c.args.instance c.args.number c.args.id) = subst (λ (h : Held). IsTrue (may_rename h c.args.instance c.args.number c.args.id)) (sym c.self.view_is) c.requires.meta in
+    let may : IsTrue (may_rename (record { handles = hs; keys = c.self.inside.keys.items; lists = c.self.inside.lists.items }) c.args.instance c.args.number c.args.id) =
+    subst (λ (h : Held). IsTrue (may_rename h c.args.instance c.args.number c.args.id)) (sym c.self.view_is) c.requires.meta in
     alone_meta hs c.args.instance c.args.number c.args.id (writes_of hs c.args.instance c.args.number c.args.id may) c.self.invariant.sole
 
 pub invariant_of-self-in-Ok : goal.invariant_of-self-in-Ok
@@ -18,10 +19,12 @@ invariant_of-self-in-Ok g c =
     let hs = c.self.inside.table.handles in
     let i = c.args.instance in
     let n = c.args.number in
-    let may : IsTrue (may_rename (record { handles = hs; keys = c.self.inside.keys.items; lists = c.self.inside.lists.items }) i n c.args.id) = subst (λ (h : Held). IsTrue (may_rename h i n c.args.id)) (sym c.self.view_is) c.requires.meta in
-    let free : is_open (settled hs) c.args.to ≡ false = subst (λ (h : Held). is_open (settled h.handles) c.args.to ≡ false) (sym c.self.view_is) c.requires.free in
+    let may : IsTrue (may_rename (record { handles = hs; keys = c.self.inside.keys.items; lists = c.self.inside.lists.items }) i n c.args.id) =
+    subst (λ (h : Held). IsTrue (may_rename h i n c.args.id)) (sym c.self.view_is) c.requires.meta in
+    let free : is_open (without_rename hs) c.args.to ≡ false = subst (λ (h : Held). is_open (without_rename h.handles) c.args.to ≡ false) (sym c.self.view_is) c.requires.free in
     let is : c.end_rename.new.self ≡ rename_ended (rename_started c.self.inside.table i n c.args.to) true =
-    c.end_rename.ensures ∙ ap (λ (t : Table). rename_ended t true) c.in_ok-start_rename.ensures.ok ∙ ap (λ (to : List ℕ). rename_ended (rename_started c.self.inside.table i n to) true) c.as_slice.ensures in
+    c.end_rename.ensures ∙ ap (λ (t : Table). rename_ended t true) c.in_ok-start_rename.ensures.ok ∙ ap (λ (to : List ℕ). rename_ended (rename_started c.self.inside.table i n to)
+    true) c.as_slice.ensures in
     rw is (record {
       no_rename = refl;
       identifiers = all_moved (is_at i n) c.args.to hs (le-leb _ 64 c.requires.to) c.self.invariant.identifiers;
@@ -33,5 +36,6 @@ invariant_of-self-in-Ok g c =
 pub invariant_of-self-in-Err : goal.invariant_of-self-in-Err
 invariant_of-self-in-Err g c =
     let is : c.end_rename-in-Err.new.self ≡ rename_ended (rename_started c.self.inside.table c.args.instance c.args.number c.args.to) false =
-    c.end_rename-in-Err.ensures ∙ ap (λ (t : Table). rename_ended t false) c.in_ok-start_rename.ensures.ok ∙ ap (λ (to : List ℕ). rename_ended (rename_started c.self.inside.table c.args.instance c.args.number to) false) c.as_slice.ensures in
+    c.end_rename-in-Err.ensures ∙ ap (λ (t : Table). rename_ended t false) c.in_ok-start_rename.ensures.ok
+    ∙ ap (λ (to : List ℕ). rename_ended (rename_started c.self.inside.table c.args.instance c.args.number to) false) c.as_slice.ensures in
     rw is (record { no_rename = refl; identifiers = c.self.invariant.identifiers; sole = c.self.invariant.sole; together = c.self.invariant.together; few_lists = c.self.invariant.few_lists })

@@ -6,7 +6,8 @@ use Rattle.store_api.specs.Stores.{is_after}
 use Rattle.store_api.proofs.Named.{first_is, bare_and_named, met_identifier, met_secret, met_content}
 use Rattle.store_api.proofs.objects.Objects.next_after.Goals as goal
 
-next_is : (c : goal.After-first_after) → option_map {U = List ℕ × Object} (λ entry. (entry.0.now.items, entry.1.now)) c.first_after.result ≡ find (λ entry. is_after (option_copied c.args.last) entry.0) (finite.entries c.args.self.now)
+next_is : (c : goal.After-first_after) → option_map {U = List ℕ × Object} (λ entry. (entry.0.now.items, entry.1.now))
+    c.first_after.result ≡ find (λ entry. is_after (option_copied c.args.last) entry.0) (finite.entries c.args.self.now)
 next_is c =
     bare_and_named c.first_after.result ∙ ap (option_map (λ e. (e.0.items, e.1))) c.first_after.ensures
     ∙ first_is c.self.inside.map.entries c.args.self.now (λ id. is_after (option_copied c.args.last) id) c.self.invariant.sorted c.self.view_is

@@ -17,52 +17,72 @@ turn_over-kind-requires-clause-loss g c =
 pub invariant_of-self-clause-few : goal.invariant_of-self-clause-few
 invariant_of-self-clause-few g c =
     let items = c.args.self.now.sides.items in
-    omega (arith, c.args.self.now.few, mapped_length c.lose_all.new.sides.items (set items c.args.app c.turn_over-kind.new.side) c.lose_all.ensures.turns, set_length items c.args.app c.turn_over-kind.new.side)
+    omega (
+      arith,
+      c.args.self.now.few,
+      mapped_length c.lose_all.new.sides.items (set items c.args.app c.turn_over-kind.new.side) c.lose_all.ensures.turns,
+      set_length items c.args.app c.turn_over-kind.new.side,
+    )
 
 pub invariant_of-self-clause-served : goal.invariant_of-self-clause-served
 invariant_of-self-clause-served g c =
     let items = c.args.self.now.sides.items in
-    served_lost g.V.Volume.keeper g.met.V.Volume.rests g.met.V.Volume.since_earlier g.A.Application.behaviour items c.args.app c.args.instance c.turn_over-kind.result c.turn_over-kind.new.replies c.index_mut.result.now _ c.turn_over-kind.new.side c.args.self.now.volume c.turn_over-kind.new.volume c.requires.known c.index_mut.ensures.value c.turn_over-kind.ensures.turn c.in-Lost.change c.in-Lost.is c.lose_all.new.sides.items c.lose_all.ensures.lost
+    served_lost g.V.Volume.keeper g.met.V.Volume.rests g.met.V.Volume.since_earlier g.A.Application.behaviour items c.args.app c.args.instance c.turn_over-kind.result
+    c.turn_over-kind.new.replies c.index_mut.result.now _ c.turn_over-kind.new.side c.args.self.now.volume c.turn_over-kind.new.volume c.requires.known
+    c.index_mut.ensures.value c.turn_over-kind.ensures.turn c.in-Lost.change c.in-Lost.is c.lose_all.new.sides.items c.lose_all.ensures.lost
 
 pub invariant_of-self-clause-booted : goal.invariant_of-self-clause-booted
 invariant_of-self-clause-booted g c =
     let items = c.args.self.now.sides.items in
-    c.lose_all.ensures.boots c.args.self.now.boots (booted_kept c.args.self.now.boots items c.args.app c.index_mut.result.now _ c.turn_over-kind.new.side c.args.self.now.booted c.requires.known c.index_mut.ensures.value c.turn_over-kind.ensures.boot)
+    c.lose_all.ensures.boots c.args.self.now.boots (booted_kept c.args.self.now.boots items c.args.app c.index_mut.result.now _ c.turn_over-kind.new.side c.args.self.now.booted
+    c.requires.known c.index_mut.ensures.value c.turn_over-kind.ensures.boot)
 
 pub returns-in-Lost-clause-world : goal.returns-in-Lost-clause-world
 returns-in-Lost-clause-world g c =
     let items = c.args.self.now.sides.items in
-    moved_lost g.V.Volume.keeper g.met.V.Volume.rests g.met.V.Volume.since_earlier g.A.Application.behaviour items c.args.app c.args.instance c.turn_over-kind.result c.turn_over-kind.new.replies c.index_mut.result.now _ c.turn_over-kind.new.side c.args.self.now.volume c.turn_over-kind.new.volume c.requires.known c.index_mut.ensures.value c.turn_over-kind.ensures.turn c.in-Lost.change c.in-Lost.is c.lose_all.new.sides.items c.lose_all.ensures.sides
+    moved_lost g.V.Volume.keeper g.met.V.Volume.rests g.met.V.Volume.since_earlier g.A.Application.behaviour items c.args.app c.args.instance c.turn_over-kind.result
+    c.turn_over-kind.new.replies c.index_mut.result.now _ c.turn_over-kind.new.side c.args.self.now.volume c.turn_over-kind.new.volume c.requires.known
+    c.index_mut.ensures.value c.turn_over-kind.ensures.turn c.in-Lost.change c.in-Lost.is c.lose_all.new.sides.items c.lose_all.ensures.sides
 
 pub returns-in-Lost-clause-stands : goal.returns-in-Lost-clause-stands
 returns-in-Lost-clause-stands g c =
     let items = c.args.self.now.sides.items in
-    may_all g.V.Volume.keeper g.met.V.Volume.rests g.met.V.Volume.since_earlier g.A.Application.behaviour items c.args.app c.args.instance c.turn_over-kind.result c.turn_over-kind.new.replies c.index_mut.result.now _ c.turn_over-kind.new.side c.args.self.now.volume c.turn_over-kind.new.volume c.requires.known c.index_mut.ensures.value c.turn_over-kind.ensures.turn
+    may_all g.V.Volume.keeper g.met.V.Volume.rests g.met.V.Volume.since_earlier g.A.Application.behaviour items c.args.app c.args.instance c.turn_over-kind.result
+    c.turn_over-kind.new.replies c.index_mut.result.now _ c.turn_over-kind.new.side c.args.self.now.volume c.turn_over-kind.new.volume c.requires.known
+    c.index_mut.ensures.value c.turn_over-kind.ensures.turn
 
 pub returns-in-Lost-clause-sound : goal.returns-in-Lost-clause-sound
 returns-in-Lost-clause-sound g c =
     let items = c.args.self.now.sides.items in
-    sound_all g.V.Volume.keeper g.met.V.Volume.rests g.met.V.Volume.since_earlier g.A.Application.behaviour items c.args.app c.args.instance c.turn_over-kind.result c.turn_over-kind.new.replies c.index_mut.result.now _ c.turn_over-kind.new.side c.args.self.now.volume c.turn_over-kind.new.volume c.requires.known c.index_mut.ensures.value c.turn_over-kind.ensures.turn
+    sound_all g.V.Volume.keeper g.met.V.Volume.rests g.met.V.Volume.since_earlier g.A.Application.behaviour items c.args.app c.args.instance c.turn_over-kind.result
+    c.turn_over-kind.new.replies c.index_mut.result.now _ c.turn_over-kind.new.side c.args.self.now.volume c.turn_over-kind.new.volume c.requires.known
+    c.index_mut.ensures.value c.turn_over-kind.ensures.turn
 
 pub returns-in-Lost-clause-change : goal.returns-in-Lost-clause-change
 returns-in-Lost-clause-change g c =
     let items = c.args.self.now.sides.items in
-    change_all g.V.Volume.keeper g.met.V.Volume.rests g.met.V.Volume.since_earlier g.A.Application.behaviour items c.args.app c.args.instance c.turn_over-kind.result c.turn_over-kind.new.replies c.index_mut.result.now _ c.turn_over-kind.new.side c.args.self.now.volume c.turn_over-kind.new.volume c.requires.known c.index_mut.ensures.value c.turn_over-kind.ensures.turn
+    change_all g.V.Volume.keeper g.met.V.Volume.rests g.met.V.Volume.since_earlier g.A.Application.behaviour items c.args.app c.args.instance c.turn_over-kind.result
+    c.turn_over-kind.new.replies c.index_mut.result.now _ c.turn_over-kind.new.side c.args.self.now.volume c.turn_over-kind.new.volume c.requires.known
+    c.index_mut.ensures.value c.turn_over-kind.ensures.turn
 
 pub returns-in-Lost-clause-moments : goal.returns-in-Lost-clause-moments
 returns-in-Lost-clause-moments g c =
     let items = c.args.self.now.sides.items in
-    within_all g.V.Volume.keeper g.met.V.Volume.rests g.met.V.Volume.since_earlier g.A.Application.behaviour items c.args.app c.args.instance c.turn_over-kind.result c.turn_over-kind.new.replies c.index_mut.result.now _ c.turn_over-kind.new.side c.args.self.now.volume c.turn_over-kind.new.volume c.requires.known c.index_mut.ensures.value c.turn_over-kind.ensures.turn
+    within_all g.V.Volume.keeper g.met.V.Volume.rests g.met.V.Volume.since_earlier g.A.Application.behaviour items c.args.app c.args.instance c.turn_over-kind.result
+    c.turn_over-kind.new.replies c.index_mut.result.now _ c.turn_over-kind.new.side c.args.self.now.volume c.turn_over-kind.new.volume c.requires.known
+    c.index_mut.ensures.value c.turn_over-kind.ensures.turn
 
 pub returns-in-Lost-clause-counts : goal.returns-in-Lost-clause-counts
 returns-in-Lost-clause-counts g c =
     let items = c.args.self.now.sides.items in
-    counts_kept g.V.Volume.keeper g.A.Application.behaviour c.args.app c.args.instance c.turn_over-kind.result c.turn_over-kind.new.replies c.index_mut.result.now c.turn_over-kind.new.side c.args.self.now.volume c.turn_over-kind.new.volume c.turn_over-kind.ensures.turn
+    counts_kept g.V.Volume.keeper g.A.Application.behaviour c.args.app c.args.instance c.turn_over-kind.result c.turn_over-kind.new.replies c.index_mut.result.now
+    c.turn_over-kind.new.side c.args.self.now.volume c.turn_over-kind.new.volume c.turn_over-kind.ensures.turn
 
 pub returns-in-Lost-clause-turns : goal.returns-in-Lost-clause-turns
 returns-in-Lost-clause-turns g c =
     let items = c.args.self.now.sides.items in
-    turns_one items c.lose_all.new.sides.items c.args.app c.index_mut.result.now _ c.turn_over-kind.new.side c.requires.known c.index_mut.ensures.value c.turn_over-kind.ensures.turns c.lose_all.ensures.turns
+    turns_one items c.lose_all.new.sides.items c.args.app c.index_mut.result.now _ c.turn_over-kind.new.side c.requires.known c.index_mut.ensures.value
+    c.turn_over-kind.ensures.turns c.lose_all.ensures.turns
 
 pub returns-in-Lost-clause-others : goal.returns-in-Lost-clause-others
 returns-in-Lost-clause-others g c =
@@ -72,54 +92,71 @@ returns-in-Lost-clause-others g c =
 pub returns-in-Lost-clause-replies : goal.returns-in-Lost-clause-replies
 returns-in-Lost-clause-replies g c =
     let items = c.args.self.now.sides.items in
-    replies_all g.V.Volume.keeper g.met.V.Volume.rests g.met.V.Volume.since_earlier g.A.Application.behaviour items c.args.app c.args.instance c.turn_over-kind.result c.turn_over-kind.new.replies c.index_mut.result.now _ c.turn_over-kind.new.side c.args.self.now.volume c.turn_over-kind.new.volume c.requires.known c.index_mut.ensures.value c.turn_over-kind.ensures.turn
+    replies_all g.V.Volume.keeper g.met.V.Volume.rests g.met.V.Volume.since_earlier g.A.Application.behaviour items c.args.app c.args.instance c.turn_over-kind.result
+    c.turn_over-kind.new.replies c.index_mut.result.now _ c.turn_over-kind.new.side c.args.self.now.volume c.turn_over-kind.new.volume c.requires.known
+    c.index_mut.ensures.value c.turn_over-kind.ensures.turn
 
 -- ---- it isn't
 
 pub invariant_of-self-in_default-clause-served : goal.invariant_of-self-in_default-clause-served
 invariant_of-self-in_default-clause-served g c =
     let items = c.args.self.now.sides.items in
-    served_plain g.V.Volume.keeper g.met.V.Volume.rests g.met.V.Volume.since_earlier g.A.Application.behaviour items c.args.app c.args.instance c.turn_over-kind.result c.turn_over-kind.new.replies c.index_mut.result.now _ c.turn_over-kind.new.side c.args.self.now.volume c.turn_over-kind.new.volume c.requires.known c.index_mut.ensures.value c.turn_over-kind.ensures.turn c.in_default.not-Lost c.args.self.now.served
+    served_plain g.V.Volume.keeper g.met.V.Volume.rests g.met.V.Volume.since_earlier g.A.Application.behaviour items c.args.app c.args.instance c.turn_over-kind.result
+    c.turn_over-kind.new.replies c.index_mut.result.now _ c.turn_over-kind.new.side c.args.self.now.volume c.turn_over-kind.new.volume c.requires.known
+    c.index_mut.ensures.value c.turn_over-kind.ensures.turn c.in_default.not-Lost c.args.self.now.served
 
 pub invariant_of-self-in_default-clause-booted : goal.invariant_of-self-in_default-clause-booted
 invariant_of-self-in_default-clause-booted g c =
     let items = c.args.self.now.sides.items in
-    booted_kept c.args.self.now.boots items c.args.app c.index_mut.result.now _ c.turn_over-kind.new.side c.args.self.now.booted c.requires.known c.index_mut.ensures.value c.turn_over-kind.ensures.boot
+    booted_kept c.args.self.now.boots items c.args.app c.index_mut.result.now _ c.turn_over-kind.new.side c.args.self.now.booted c.requires.known c.index_mut.ensures.value
+    c.turn_over-kind.ensures.boot
 
 pub returns-in_default-clause-world : goal.returns-in_default-clause-world
 returns-in_default-clause-world g c =
     let items = c.args.self.now.sides.items in
-    moved_plain g.V.Volume.keeper g.met.V.Volume.rests g.met.V.Volume.since_earlier g.A.Application.behaviour items c.args.app c.args.instance c.turn_over-kind.result c.turn_over-kind.new.replies c.index_mut.result.now _ c.turn_over-kind.new.side c.args.self.now.volume c.turn_over-kind.new.volume c.requires.known c.index_mut.ensures.value c.turn_over-kind.ensures.turn c.in_default.not-Lost
+    moved_plain g.V.Volume.keeper g.met.V.Volume.rests g.met.V.Volume.since_earlier g.A.Application.behaviour items c.args.app c.args.instance c.turn_over-kind.result
+    c.turn_over-kind.new.replies c.index_mut.result.now _ c.turn_over-kind.new.side c.args.self.now.volume c.turn_over-kind.new.volume c.requires.known
+    c.index_mut.ensures.value c.turn_over-kind.ensures.turn c.in_default.not-Lost
 
 pub returns-in_default-clause-stands : goal.returns-in_default-clause-stands
 returns-in_default-clause-stands g c =
     let items = c.args.self.now.sides.items in
-    may_all g.V.Volume.keeper g.met.V.Volume.rests g.met.V.Volume.since_earlier g.A.Application.behaviour items c.args.app c.args.instance c.turn_over-kind.result c.turn_over-kind.new.replies c.index_mut.result.now _ c.turn_over-kind.new.side c.args.self.now.volume c.turn_over-kind.new.volume c.requires.known c.index_mut.ensures.value c.turn_over-kind.ensures.turn
+    may_all g.V.Volume.keeper g.met.V.Volume.rests g.met.V.Volume.since_earlier g.A.Application.behaviour items c.args.app c.args.instance c.turn_over-kind.result
+    c.turn_over-kind.new.replies c.index_mut.result.now _ c.turn_over-kind.new.side c.args.self.now.volume c.turn_over-kind.new.volume c.requires.known
+    c.index_mut.ensures.value c.turn_over-kind.ensures.turn
 
 pub returns-in_default-clause-sound : goal.returns-in_default-clause-sound
 returns-in_default-clause-sound g c =
     let items = c.args.self.now.sides.items in
-    sound_all g.V.Volume.keeper g.met.V.Volume.rests g.met.V.Volume.since_earlier g.A.Application.behaviour items c.args.app c.args.instance c.turn_over-kind.result c.turn_over-kind.new.replies c.index_mut.result.now _ c.turn_over-kind.new.side c.args.self.now.volume c.turn_over-kind.new.volume c.requires.known c.index_mut.ensures.value c.turn_over-kind.ensures.turn
+    sound_all g.V.Volume.keeper g.met.V.Volume.rests g.met.V.Volume.since_earlier g.A.Application.behaviour items c.args.app c.args.instance c.turn_over-kind.result
+    c.turn_over-kind.new.replies c.index_mut.result.now _ c.turn_over-kind.new.side c.args.self.now.volume c.turn_over-kind.new.volume c.requires.known
+    c.index_mut.ensures.value c.turn_over-kind.ensures.turn
 
 pub returns-in_default-clause-change : goal.returns-in_default-clause-change
 returns-in_default-clause-change g c =
     let items = c.args.self.now.sides.items in
-    change_all g.V.Volume.keeper g.met.V.Volume.rests g.met.V.Volume.since_earlier g.A.Application.behaviour items c.args.app c.args.instance c.turn_over-kind.result c.turn_over-kind.new.replies c.index_mut.result.now _ c.turn_over-kind.new.side c.args.self.now.volume c.turn_over-kind.new.volume c.requires.known c.index_mut.ensures.value c.turn_over-kind.ensures.turn
+    change_all g.V.Volume.keeper g.met.V.Volume.rests g.met.V.Volume.since_earlier g.A.Application.behaviour items c.args.app c.args.instance c.turn_over-kind.result
+    c.turn_over-kind.new.replies c.index_mut.result.now _ c.turn_over-kind.new.side c.args.self.now.volume c.turn_over-kind.new.volume c.requires.known
+    c.index_mut.ensures.value c.turn_over-kind.ensures.turn
 
 pub returns-in_default-clause-moments : goal.returns-in_default-clause-moments
 returns-in_default-clause-moments g c =
     let items = c.args.self.now.sides.items in
-    within_all g.V.Volume.keeper g.met.V.Volume.rests g.met.V.Volume.since_earlier g.A.Application.behaviour items c.args.app c.args.instance c.turn_over-kind.result c.turn_over-kind.new.replies c.index_mut.result.now _ c.turn_over-kind.new.side c.args.self.now.volume c.turn_over-kind.new.volume c.requires.known c.index_mut.ensures.value c.turn_over-kind.ensures.turn
+    within_all g.V.Volume.keeper g.met.V.Volume.rests g.met.V.Volume.since_earlier g.A.Application.behaviour items c.args.app c.args.instance c.turn_over-kind.result
+    c.turn_over-kind.new.replies c.index_mut.result.now _ c.turn_over-kind.new.side c.args.self.now.volume c.turn_over-kind.new.volume c.requires.known
+    c.index_mut.ensures.value c.turn_over-kind.ensures.turn
 
 pub returns-in_default-clause-counts : goal.returns-in_default-clause-counts
 returns-in_default-clause-counts g c =
     let items = c.args.self.now.sides.items in
-    counts_kept g.V.Volume.keeper g.A.Application.behaviour c.args.app c.args.instance c.turn_over-kind.result c.turn_over-kind.new.replies c.index_mut.result.now c.turn_over-kind.new.side c.args.self.now.volume c.turn_over-kind.new.volume c.turn_over-kind.ensures.turn
+    counts_kept g.V.Volume.keeper g.A.Application.behaviour c.args.app c.args.instance c.turn_over-kind.result c.turn_over-kind.new.replies c.index_mut.result.now
+    c.turn_over-kind.new.side c.args.self.now.volume c.turn_over-kind.new.volume c.turn_over-kind.ensures.turn
 
 pub returns-in_default-clause-turns : goal.returns-in_default-clause-turns
 returns-in_default-clause-turns g c =
     let items = c.args.self.now.sides.items in
-    turns_one items (set items c.args.app c.turn_over-kind.new.side) c.args.app c.index_mut.result.now _ c.turn_over-kind.new.side c.requires.known c.index_mut.ensures.value c.turn_over-kind.ensures.turns refl
+    turns_one items (set items c.args.app c.turn_over-kind.new.side) c.args.app c.index_mut.result.now _ c.turn_over-kind.new.side c.requires.known c.index_mut.ensures.value
+    c.turn_over-kind.ensures.turns refl
 
 pub returns-in_default-clause-others : goal.returns-in_default-clause-others
 returns-in_default-clause-others g c =
@@ -129,4 +166,6 @@ returns-in_default-clause-others g c =
 pub returns-in_default-clause-replies : goal.returns-in_default-clause-replies
 returns-in_default-clause-replies g c =
     let items = c.args.self.now.sides.items in
-    replies_all g.V.Volume.keeper g.met.V.Volume.rests g.met.V.Volume.since_earlier g.A.Application.behaviour items c.args.app c.args.instance c.turn_over-kind.result c.turn_over-kind.new.replies c.index_mut.result.now _ c.turn_over-kind.new.side c.args.self.now.volume c.turn_over-kind.new.volume c.requires.known c.index_mut.ensures.value c.turn_over-kind.ensures.turn
+    replies_all g.V.Volume.keeper g.met.V.Volume.rests g.met.V.Volume.since_earlier g.A.Application.behaviour items c.args.app c.args.instance c.turn_over-kind.result
+    c.turn_over-kind.new.replies c.index_mut.result.now _ c.turn_over-kind.new.side c.args.self.now.volume c.turn_over-kind.new.volume c.requires.known
+    c.index_mut.ensures.value c.turn_over-kind.ensures.turn

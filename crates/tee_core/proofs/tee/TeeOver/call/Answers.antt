@@ -12,7 +12,8 @@ invariant_of-self g c =
     let tee = c.args.self.now in
     record {
       few = omega (arith, tee.few, set_length tee.sides.items c.args.app c.call.new.self);
-      served = lost_kept (g.V.Volume.keeper.condition tee.volume).lost tee.sides.items c.args.app c.index_mut-side.result.now _ c.call.new.self tee.served c.requires.known c.index_mut-side.ensures.value c.call.ensures.lost;
+      served = lost_kept (g.V.Volume.keeper.condition tee.volume).lost tee.sides.items c.args.app c.index_mut-side.result.now _ c.call.new.self tee.served c.requires.known
+          c.index_mut-side.ensures.value c.call.ensures.lost;
       booted = booted_kept tee.boots tee.sides.items c.args.app c.index_mut-side.result.now _ c.call.new.self tee.booted c.requires.known c.index_mut-side.ensures.value
           (same_boot c.index_mut-side.result.now c.call.new.self c.in_err-made.ensures.err);
     }
@@ -36,7 +37,8 @@ invariant_of-self-2 g c =
     let tee = c.args.self.now in
     record {
       few = omega (arith, tee.few, set_length tee.sides.items c.args.app c.call.new.self);
-      served = lost_kept (g.V.Volume.keeper.condition tee.volume).lost tee.sides.items c.args.app c.index_mut-side.result.now _ c.call.new.self tee.served c.requires.known c.index_mut-side.ensures.value c.call.ensures.lost;
+      served = lost_kept (g.V.Volume.keeper.condition tee.volume).lost tee.sides.items c.args.app c.index_mut-side.result.now _ c.call.new.self tee.served c.requires.known
+          c.index_mut-side.ensures.value c.call.ensures.lost;
       booted = booted_kept tee.boots tee.sides.items c.args.app c.index_mut-side.result.now _ c.call.new.self tee.booted c.requires.known c.index_mut-side.ensures.value
           (called_boot c.index_mut-side.result.now c.call.new.self c.args.client c.args.call c.in_ok-made.ensures.ok);
     }

@@ -8,7 +8,8 @@ use Rattle.tee_core.proofs.tee.TeeOver.cancel.Goals as goal
 pub invariant_of-self-clause-served : goal.invariant_of-self-clause-served
 invariant_of-self-clause-served g c =
     let tee = c.args.self.now in
-    lost_kept (g.V.Volume.keeper.condition tee.volume).lost tee.sides.items c.args.app c.index_mut-side.result.now _ c.cancel-replies.new.self tee.served c.requires.known c.index_mut-side.ensures.value
+    lost_kept (g.V.Volume.keeper.condition tee.volume).lost tee.sides.items c.args.app c.index_mut-side.result.now _ c.cancel-replies.new.self tee.served c.requires.known
+    c.index_mut-side.ensures.value
     c.cancel-replies.ensures.lost
 
 pub invariant_of-self-clause-booted : goal.invariant_of-self-clause-booted

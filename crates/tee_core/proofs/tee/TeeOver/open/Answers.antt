@@ -11,7 +11,7 @@ returns-in-Ok-clause-world g c = λ honest n h stores at_rest size sound.
     let is = c.open_over.ensures in
     if_all c.open_over.result _ _ _ _ (is.volume honest n h at_rest size sound.opens) is.works is.sides
     (λ tee made works sides. (
-      stand_opened g.V.Volume.keeper g.met.V.Volume.rests g.V.BoardVolume.form (g.B.Board.view c.args.board) n h c.args.hosts.items c.args.seed stores at_rest.counter sound tee.sides.items tee.volume
+      stand_opened g.V.Volume.keeper g.met.V.Volume.rests g.V.BoardVolume.form (g.B.Board.view c.args.board) n h c.args.hosts.items c.args.seed stores sound tee.sides.items tee.volume
           (subst (λ (ss : List (Side g.row.A.Denot)). AreSides ss (world_of c.args.hosts.items c.args.seed stores)) (sym sides) (c.in-Ok.ensures.world stores))
           made.0 made.1 works,
       made.2,
@@ -31,10 +31,10 @@ returns-in-Err-clause-back g c = run_of_none (g.B.Board.view c.args.board)
 pub returns-in-Err-clause-exact : goal.returns-in-Err-clause-exact
 returns-in-Err-clause-exact g c = λ honest.
     let state = (g.B.Board.view c.args.board).state in
-    (state.counter, record { least = omega arith; greatest = omega arith; fits = (g.met.B.Board.consistent c.args.board honest).counter }, tt)
+    (state.counter, record { least = omega arith; greatest = omega arith; fits = (g.met.B.Board.consistent c.args.board honest).counter }, tt, tt)
 
 pub returns-in-Err-clause-rule : goal.returns-in-Err-clause-rule
-returns-in-Err-clause-rule g c = λ tells. (0, tt)
+returns-in-Err-clause-rule g c = λ tells. (0, tt, tt)
 
 pub returns-in-Err-clause-unopened : goal.returns-in-Err-clause-unopened
 returns-in-Err-clause-unopened g c = λ honest n h at_rest size is. (inr refl, leaves_resting g.V.BoardVolume.form (g.B.Board.view c.args.board) n h at_rest is)

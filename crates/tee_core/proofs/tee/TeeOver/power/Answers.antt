@@ -2,10 +2,11 @@ use Rattle.std.proofs.Common.{◌≡◌, Bool, true, List, Some, sym, subst, ari
 use Rattle.std.specs.Prelude.{IfNone, IfSome, slice_get}
 use Rattle.app_side.specs.Represents.{has_doubt}
 use Rattle.app_side.specs.declared.side.AppSide.{AppSide as Side}
+use Rattle.epoch.specs.Mounts.{IsAdmitted}
 use Rattle.tee_core.specs.Sides.{AreLost, IsNoneInDoubt}
 use Rattle.tee_core.proofs.Backs.{power_stands, power_told}
 use Rattle.tee_core.proofs.Counts.{mapped_length}
-use Rattle.tee_core.proofs.Powers.{always_in_use, stand_refused, within_power}
+use Rattle.tee_core.proofs.Powers.{always_sound, stand_refused, within_power}
 use Rattle.tee_core.proofs.SideLemmas.{turns_mapped}
 use Rattle.tee_core.proofs.tee.TeeOver.power.Goals as goal
 
@@ -24,11 +25,12 @@ pub returns-in-Ok-clause-world : goal.returns-in-Ok-clause-world
 returns-in-Ok-clause-world g c = λ world whole.
     let tee = c.args.self.now in
     let after = c.in-Ok.ensures.opened (g.met.V.BoardVolume.honest_board tee.volume whole.honest)
-    (always_in_use g.V.Volume.keeper g.met.V.Volume.rests g.met.V.Volume.since_earlier g.A.Application.behaviour tee.sides.items world tee.volume c.power.new.self whole) in
+    (always_sound g.V.Volume.keeper g.met.V.Volume.rests g.met.V.Volume.since_earlier g.A.Application.behaviour tee.sides.items world tee.volume c.power.new.self whole) in
     power_stands g.V.Volume.keeper g.met.V.Volume.rests g.met.V.Volume.since_earlier g.A.Application.behaviour tee.sides.items world tee.volume c.power.new.self whole
     c.owner_of_doubt-owner.result
     (subst (λ (ss : List (Side g.row.A.Denot)). IfNone c.owner_of_doubt-owner.result (IsNoneInDoubt ss)) c.as_slice.ensures.value c.owner_of_doubt-owner.ensures.none)
-    (subst (λ (ss : List (Side g.row.A.Denot)). IfSome c.owner_of_doubt-owner.result (λ o. (side : Side g.row.A.Denot) × (slice_get ss o ≡ Some side) × (has_doubt side ≡ true))) c.as_slice.ensures.value c.owner_of_doubt-owner.ensures.some)
+    (subst (λ (ss : List (Side g.row.A.Denot)). IfSome c.owner_of_doubt-owner.result (λ o. (side : Side g.row.A.Denot) × (slice_get ss o ≡ Some side) × (has_doubt side ≡ true)))
+    c.as_slice.ensures.value c.owner_of_doubt-owner.ensures.some)
     c.sequence-acknowledged.result c.in-Ok.opened c.power_of.result after.again c.sequence-acknowledged.ensures c.in-Ok.ensures.back.sequence c.power_of.ensures
     c.owner_kept-taken.result c.restart_all.new.sides.items c.owner_kept-taken.ensures (c.restart_all.ensures.sides world whole.sides_are) c.in-Ok.ensures.back.works
 
@@ -36,19 +38,26 @@ pub returns-in-Ok-clause-told : goal.returns-in-Ok-clause-told
 returns-in-Ok-clause-told g c = λ world whole.
     let tee = c.args.self.now in
     let after = c.in-Ok.ensures.opened (g.met.V.BoardVolume.honest_board tee.volume whole.honest)
-    (always_in_use g.V.Volume.keeper g.met.V.Volume.rests g.met.V.Volume.since_earlier g.A.Application.behaviour tee.sides.items world tee.volume c.power.new.self whole) in
+    (always_sound g.V.Volume.keeper g.met.V.Volume.rests g.met.V.Volume.since_earlier g.A.Application.behaviour tee.sides.items world tee.volume c.power.new.self whole) in
     power_told g.V.Volume.keeper g.met.V.Volume.rests g.met.V.Volume.since_earlier g.A.Application.behaviour tee.sides.items world tee.volume c.power.new.self whole
     c.owner_of_doubt-owner.result
     (subst (λ (ss : List (Side g.row.A.Denot)). IfNone c.owner_of_doubt-owner.result (IsNoneInDoubt ss)) c.as_slice.ensures.value c.owner_of_doubt-owner.ensures.none)
-    (subst (λ (ss : List (Side g.row.A.Denot)). IfSome c.owner_of_doubt-owner.result (λ o. (side : Side g.row.A.Denot) × (slice_get ss o ≡ Some side) × (has_doubt side ≡ true))) c.as_slice.ensures.value c.owner_of_doubt-owner.ensures.some)
+    (subst (λ (ss : List (Side g.row.A.Denot)). IfSome c.owner_of_doubt-owner.result (λ o. (side : Side g.row.A.Denot) × (slice_get ss o ≡ Some side) × (has_doubt side ≡ true)))
+    c.as_slice.ensures.value c.owner_of_doubt-owner.ensures.some)
     c.sequence-acknowledged.result c.in-Ok.opened c.power_of.result after.again c.sequence-acknowledged.ensures c.in-Ok.ensures.back.sequence c.power_of.ensures
 
 pub returns-in-Ok-clause-moments : goal.returns-in-Ok-clause-moments
 returns-in-Ok-clause-moments g c = λ world whole.
     let tee = c.args.self.now in
     let after = c.in-Ok.ensures.opened (g.met.V.BoardVolume.honest_board tee.volume whole.honest)
-    (always_in_use g.V.Volume.keeper g.met.V.Volume.rests g.met.V.Volume.since_earlier g.A.Application.behaviour tee.sides.items world tee.volume c.power.new.self whole) in
+    (always_sound g.V.Volume.keeper g.met.V.Volume.rests g.met.V.Volume.since_earlier g.A.Application.behaviour tee.sides.items world tee.volume c.power.new.self whole) in
     within_power g.V.Volume.keeper g.met.V.Volume.rests g.met.V.Volume.since_earlier g.A.Application.behaviour tee.sides.items world tee.volume c.power.new.self whole after.again.leaves
+
+pub returns-in-Ok-clause-exact : goal.returns-in-Ok-clause-exact
+returns-in-Ok-clause-exact g c = λ honest.
+    let left = c.in-Ok.ensures.exact honest in
+    let view = g.B.Board.view (g.V.BoardVolume.board_of c.args.self.now.volume) in
+    (left.0, left.1, tt, subst (λ n. IsAdmitted g.V.BoardVolume.form view left.0.image left.0.counter n) (sym c.in-Ok.ensures.back.sequence) left.3)
 
 pub returns-in-Ok-clause-apps : goal.returns-in-Ok-clause-apps
 returns-in-Ok-clause-apps g c = mapped_length c.restart_all.new.sides.items c.args.self.now.sides.items c.restart_all.ensures.turns
@@ -71,21 +80,21 @@ pub returns-in-Err-clause-moments : goal.returns-in-Err-clause-moments
 returns-in-Err-clause-moments g c = λ world whole.
     let tee = c.args.self.now in
     let after = c.in-Err.ensures.opened (g.met.V.BoardVolume.honest_board tee.volume whole.honest)
-    (always_in_use g.V.Volume.keeper g.met.V.Volume.rests g.met.V.Volume.since_earlier g.A.Application.behaviour tee.sides.items world tee.volume c.power.new.self whole) in
+    (always_sound g.V.Volume.keeper g.met.V.Volume.rests g.met.V.Volume.since_earlier g.A.Application.behaviour tee.sides.items world tee.volume c.power.new.self whole) in
     within_power g.V.Volume.keeper g.met.V.Volume.rests g.met.V.Volume.since_earlier g.A.Application.behaviour tee.sides.items world tee.volume c.power.new.self whole after.again.leaves
 
 pub returns-in-Err-clause-failed : goal.returns-in-Err-clause-failed
 returns-in-Err-clause-failed g c = λ world whole.
     let tee = c.args.self.now in
     let after = c.in-Err.ensures.opened (g.met.V.BoardVolume.honest_board tee.volume whole.honest)
-    (always_in_use g.V.Volume.keeper g.met.V.Volume.rests g.met.V.Volume.since_earlier g.A.Application.behaviour tee.sides.items world tee.volume c.power.new.self whole) in
+    (always_sound g.V.Volume.keeper g.met.V.Volume.rests g.met.V.Volume.since_earlier g.A.Application.behaviour tee.sides.items world tee.volume c.power.new.self whole) in
     after.again.failed
 
 pub returns-in-Err-clause-refused : goal.returns-in-Err-clause-refused
 returns-in-Err-clause-refused g c = λ world whole.
     let tee = c.args.self.now in
     let after = c.in-Err.ensures.opened (g.met.V.BoardVolume.honest_board tee.volume whole.honest)
-    (always_in_use g.V.Volume.keeper g.met.V.Volume.rests g.met.V.Volume.since_earlier g.A.Application.behaviour tee.sides.items world tee.volume c.power.new.self whole) in
+    (always_sound g.V.Volume.keeper g.met.V.Volume.rests g.met.V.Volume.since_earlier g.A.Application.behaviour tee.sides.items world tee.volume c.power.new.self whole) in
     stand_refused g.V.Volume.keeper g.met.V.Volume.rests g.met.V.Volume.since_earlier g.A.Application.behaviour tee.sides.items world tee.volume c.power.new.self whole
     c.lose_all.new.sides.items (c.lose_all.ensures.sides world whole.sides_are) (after.again.honest whole.honest) (after.again.same whole.honest) c.in-Err.ensures.back.lost after.again.leaves
 

@@ -33,7 +33,8 @@ pub turn_until-requires : goal.turn_until-requires
 turn_until-requires g c = record {
   known = omega (arith, c.requires.known, c.in_ok-made.ensures.apps);
   room = omega (arith, c.requires.room, c.in_ok-made.ensures.turns c.args.app);
-  plain = subst (λ (ts : List Happened). IsPlainBehind (turns_made c.call.new.self c.args.app) ts) (sym (c.in_ok-push.ensures.ok ∙ ap (λ (ts : List Happened). ts ++ c.in_ok-made.made ∷ []) c.new-told.ensures))
+  plain = subst (λ (ts : List Happened). IsPlainBehind (turns_made c.call.new.self c.args.app) ts) (sym (c.in_ok-push.ensures.ok
+      ∙ ap (λ (ts : List Happened). ts ++ c.in_ok-made.made ∷ []) c.new-told.ensures))
       (call_plain c.in_ok-made.made (turns_made c.call.new.self c.args.app) c.in_ok-made.ensures.kind);
 }
 
@@ -54,7 +55,8 @@ returns-in_err-turn_until-clause-turns g c = omega (arith, c.in_err-turn_until.e
 pub returns-clause-world : goal.returns-clause-world
 returns-clause-world g c = λ world m marks is here agree.
     let behaviour = g.A.Application.behaviour in
-    run_stands behaviour (λ after. Represents c.turn_until.new.self after) world m c.args.app c.args.client c.args.call here c.in_ok-made.made (c.in_ok-made.ensures.told world m is here) _ c.push.new.self c.turn_until.new.told
+    run_stands behaviour (λ after. Represents c.turn_until.new.self after) world m c.args.app c.args.client c.args.call here c.in_ok-made.made
+    (c.in_ok-made.ensures.told world m is here) _ c.push.new.self c.turn_until.new.told
     (c.in_ok-push.ensures.ok ∙ ap (λ (ts : List Happened). ts ++ c.in_ok-made.made ∷ []) c.new-told.ensures)
     (c.in_ok-turn_until.ensures.ok _ _ (c.in_ok-made.ensures.world world is) (at_step behaviour world c.args.app m (Called c.args.client c.args.call) here))
     marks agree
@@ -62,7 +64,8 @@ returns-clause-world g c = λ world m marks is here agree.
 pub returns-clause-told : goal.returns-clause-told
 returns-clause-told g c = λ world m marks is here agree.
     let behaviour = g.A.Application.behaviour in
-    run_told behaviour (λ after. Represents c.turn_until.new.self after) world m c.args.app c.args.client c.args.call here c.in_ok-made.made (c.in_ok-made.ensures.told world m is here) _ c.push.new.self c.turn_until.new.told
+    run_told behaviour (λ after. Represents c.turn_until.new.self after) world m c.args.app c.args.client c.args.call here c.in_ok-made.made
+    (c.in_ok-made.ensures.told world m is here) _ c.push.new.self c.turn_until.new.told
     (c.in_ok-push.ensures.ok ∙ ap (λ (ts : List Happened). ts ++ c.in_ok-made.made ∷ []) c.new-told.ensures)
     (c.in_ok-turn_until.ensures.ok _ _ (c.in_ok-made.ensures.world world is) (at_step behaviour world c.args.app m (Called c.args.client c.args.call) here))
     marks agree

@@ -11,7 +11,8 @@ use Rattle.tee_core.proofs.tee.TeeOver.turn_until.Goals as goal
 
 pub loop-init : goal.loop-init
 loop-init g c = record {
-  run = λ world m is here. made_none g.V.Volume.keeper g.A.Application.behaviour world m c.args.app c.args.instance c.args.op here c.args.self.now.sides.items c.args.self.now.volume c.args.told.now is c.requires.plain;
+  run = λ world m is here. made_none g.V.Volume.keeper g.A.Application.behaviour world m c.args.app c.args.instance c.args.op here c.args.self.now.sides.items
+      c.args.self.now.volume c.args.told.now is c.requires.plain;
   counts = run_begun c.args.told.now (g.V.Volume.keeper.condition (volume_of c.args.self.now));
   kept = kept_begun (g.V.Volume.keeper.condition (volume_of c.args.self.now));
   none = c.none-replies.ensures;
@@ -34,20 +35,22 @@ returns-then-answered-clause-ok g c = λ world m is here.
     let behaviour = g.A.Application.behaviour in
     let sides = c.loop.self.sides.items in
     let run = c.loop.invariant.run world m is here in
-    let says = now_says keeper behaviour world m c.args.app c.args.instance c.args.op here sides c.loop.self.volume c.loop.counter c.args.told.now c.loop.told run c.index.result.now _ c.answered.result
+    let says = now_says keeper behaviour world m c.args.app c.args.instance c.args.op here sides c.loop.self.volume c.loop.counter c.args.told.now c.loop.told run
+    c.index.result.now _ c.answered.result
     (omega (arith, c.requires.known, c.loop.invariant.apps)) c.index.ensures c.answered.ensures in
     turns_answered behaviour (λ after. Represents c.loop.self after) world c.args.app m c.args.instance c.args.op c.loop.counter _ c.args.told.now c.loop.told run
     (now_turns keeper behaviour world m c.args.app c.args.instance c.args.op here sides c.loop.self.volume c.loop.counter c.args.told.now c.loop.told run) (sym says ∙ c.if-answered.true)
 
-pub returns-in_err-tell_turn-clause-err : goal.returns-in_err-tell_turn-clause-err
-returns-in_err-tell_turn-clause-err g c = on_err_known c.from_residual.result _ (λ world m is here.
+pub returns-in_err-push_turn_if_told-clause-err : goal.returns-in_err-push_turn_if_told-clause-err
+returns-in_err-push_turn_if_told-clause-err g c = on_err_known c.from_residual.result _ (λ world m is here.
     let keeper = g.V.Volume.keeper in
     let behaviour = g.A.Application.behaviour in
     let sides = c.loop.self.sides.items in
     let new = c.advance-kind.new.self in
     let turned = c.advance-kind.ensures in
     let run = c.loop.invariant.run world m is here in
-    let says = now_says keeper behaviour world m c.args.app c.args.instance c.args.op here sides c.loop.self.volume c.loop.counter c.args.told.now c.loop.told run c.index.result.now _ c.answered.result
+    let says = now_says keeper behaviour world m c.args.app c.args.instance c.args.op here sides c.loop.self.volume c.loop.counter c.args.told.now c.loop.told run
+    c.index.result.now _ c.answered.result
     (omega (arith, c.requires.known, c.loop.invariant.apps)) c.index.ensures c.answered.ensures in
     turns_stopped behaviour (λ after. Represents new after) world c.args.app m c.args.instance c.args.op (c.loop.counter + 1) c.args.told.now _
     (made_further keeper behaviour world m c.args.app c.args.instance c.args.op here sides c.loop.self.volume c.loop.counter c.args.told.now c.loop.told run new.sides.items new.volume
@@ -62,9 +65,11 @@ loop-preserved g c = record {
       let new = c.advance-kind.new.self in
       let turned = c.advance-kind.ensures in
       let run = c.loop.invariant.run world m is here in
-      let says = now_says keeper behaviour world m c.args.app c.args.instance c.args.op here sides c.loop.self.volume c.loop.counter c.args.told.now c.loop.told run c.index.result.now _ c.answered.result
+      let says = now_says keeper behaviour world m c.args.app c.args.instance c.args.op here sides c.loop.self.volume c.loop.counter c.args.told.now c.loop.told run
+      c.index.result.now _ c.answered.result
       (omega (arith, c.requires.known, c.loop.invariant.apps)) c.index.ensures c.answered.ensures in
-      subst (λ (ts : List Happened). Made keeper behaviour world m c.args.app c.args.instance c.args.op here new.sides.items new.volume (c.loop.counter + 1) c.args.told.now ts) (sym c.in_ok-tell_turn.ensures.ok)
+      subst (λ (ts : List Happened). Made keeper behaviour world m c.args.app c.args.instance c.args.op here new.sides.items new.volume (c.loop.counter + 1) c.args.told.now ts)
+      (sym c.in_ok-push_turn_if_told.ensures.ok)
       (made_further keeper behaviour world m c.args.app c.args.instance c.args.op here sides c.loop.self.volume c.loop.counter c.args.told.now c.loop.told run new.sides.items new.volume
       c.advance-kind.result c.turns.result c.advance-kind.new.replies turned.world turned.stands turned.change turned.replies c.turns.ensures c.loop-test.true (sym says ∙ c.if-answered.false));
   counts =
@@ -72,14 +77,14 @@ loop-preserved g c = record {
       let first = condition (volume_of c.args.self.now) in
       let old = condition (volume_of c.loop.self) in
       let new = condition (volume_of c.advance-kind.new.self) in
-      subst (λ (ts : List Happened). HasRunBehind c.args.told.now ts first new) (sym c.in_ok-tell_turn.ensures.ok)
+      subst (λ (ts : List Happened). HasRunBehind c.args.told.now ts first new) (sym c.in_ok-push_turn_if_told.ensures.ok)
       (run_further c.args.told.now c.loop.told (turn_happened c.advance-kind.result c.turns.result c.args.instance c.advance-kind.new.replies) first old new
       c.loop.invariant.counts c.loop.invariant.kept c.advance-kind.ensures.counts);
   kept =
       let condition = g.V.Volume.keeper.condition in
       kept_further c.advance-kind.result (condition (volume_of c.args.self.now)) (condition (volume_of c.loop.self)) (condition (volume_of c.advance-kind.new.self))
       c.loop.invariant.kept c.advance-kind.ensures.counts;
-  none = c.in_ok-tell_turn.ensures.taken;
+  none = c.in_ok-push_turn_if_told.ensures.taken;
   room = omega (arith, c.loop.invariant.room, c.advance-kind.ensures.turns);
   apps = c.advance-kind.ensures.apps ∙ c.loop.invariant.apps;
   others = λ other apart. c.advance-kind.ensures.others other apart ∙ c.loop.invariant.others other apart;
@@ -90,4 +95,5 @@ pub returns-clause-ok : goal.returns-clause-ok
 returns-clause-ok g c = λ world m is here.
     let run = c.loop.invariant.run world m is here in
     turns_used g.A.Application.behaviour (λ after. Represents c.loop.self after) world c.args.app m c.args.instance c.args.op c.loop.counter _ c.args.told.now c.loop.told run
-    (now_turns g.V.Volume.keeper g.A.Application.behaviour world m c.args.app c.args.instance c.args.op here c.loop.self.sides.items c.loop.self.volume c.loop.counter c.args.told.now c.loop.told run) c.loop-test.false
+    (now_turns g.V.Volume.keeper g.A.Application.behaviour world m c.args.app c.args.instance c.args.op here c.loop.self.sides.items c.loop.self.volume c.loop.counter
+    c.args.told.now c.loop.told run) c.loop-test.false

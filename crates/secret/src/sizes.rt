@@ -3,7 +3,7 @@
 ghost use Rattle.std.specs.Prelude.{◌≡◌, ◌≤◌, nat_lt, IsTrue};
 ghost use Rattle.std.specs.Bool.{OnTrue};
 ghost use Rattle.tee_base.specs.KeySizes as sizes;
-ghost use Rattle.transient_obj.specs.Keys.{bits_of};
+ghost use Rattle.secret.specs.Bits.{bits_of};
 
 use tee_base::keys;
 

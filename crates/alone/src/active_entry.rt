@@ -6,7 +6,7 @@ use app_api::{Ask, Given, Params};
 
 /// The entry that runs, with what its return needs.
 #[derive(Debug, Drop)]
-pub enum Stage {
+pub enum EntryPoint {
     /// Create, for the open of this session; its start entry, with these parameters and output positions, comes next.
     Create {
         session: u8,
@@ -41,10 +41,10 @@ pub enum Waits {
 
 /// An entry that runs.
 #[derive(Debug, Drop)]
-pub struct Running {
+pub struct ActiveEntry {
     /// The client operation that it serves, if it serves one.
     pub op: Option<u64>,
-    pub stage: Stage,
+    pub stage: EntryPoint,
     pub waits: Waits,
     /// How many asks it has made.
     pub asks: u32,
@@ -59,5 +59,5 @@ pub struct Instance<A> {
     pub state: A,
     /// Its create entry has succeeded.
     pub created: bool,
-    pub running: Option<Running>,
+    pub running: Option<ActiveEntry>,
 }

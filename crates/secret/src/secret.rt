@@ -1,13 +1,13 @@
-//! Secrets of keys, in place.
+//! A secret, in place.
 
 use arrayvec::ArrayVec;
 use std::marker::Model;
-use tee_base::limits::SECRET_BYTES;
+use tee_base::limits::MAX_SECRET_BYTES;
 
-/// A secret of at most `SECRET_BYTES` bytes.
+/// A secret of at most `MAX_SECRET_BYTES` bytes.
 #[derive(Drop)]
 pub struct Secret {
-    bytes: ArrayVec<u8, SECRET_BYTES>,
+    bytes: ArrayVec<u8, MAX_SECRET_BYTES>,
 }
 
 impl Model for Secret {
@@ -19,11 +19,12 @@ impl Model for Secret {
 }
 
 impl Secret {
-    ghost use Rattle.std.specs.Prelude.{◌≡◌, ◌≤◌, length};
+    ghost use Rattle.std.specs.Prelude.{◌≡◌, ◌*◌, ◌≤◌, length};
+    ghost use Rattle.secret.specs.Bits.{bits_of};
 
     /// A copy of the bytes.
     pub fn from_slice(from: &[u8]) -> Secret
-        requires { length from.now ≤ SECRET_BYTES }
+        requires { length from.now ≤ MAX_SECRET_BYTES }
         ensures { result ≡ from.now }
     {
         let mut bytes = ArrayVec::new();
@@ -41,7 +42,7 @@ impl Secret {
     /// The bytes.
     pub fn as_slice(&self) -> &[u8]
         ensures bytes { result.now ≡ self.now }
-        ensures fits { length result.now ≤ SECRET_BYTES }
+        ensures fits { length result.now ≤ MAX_SECRET_BYTES }
     {
         self.bytes.as_slice()
     }
@@ -49,8 +50,15 @@ impl Secret {
     /// How many bytes there are.
     pub fn len(&self) -> usize
         ensures count { result ≡ length self.now }
-        ensures fits { result ≤ SECRET_BYTES }
+        ensures fits { result ≤ MAX_SECRET_BYTES }
     {
         self.bytes.len()
+    }
+
+    /// How many bits there are.
+    pub fn bits(&self) -> u32
+        ensures { result ≡ bits_of self.now }
+    {
+        8 * self.as_slice().len() as u32
     }
 }

@@ -1,6 +1,6 @@
 -- How an ask goes, and what comes of it: what the definitions of asks have in common.
 use Rattle.std.specs.Prelude.{ℕ, ◌==◌, nat_lt, bit_and, Bool, true, false, not, List, length, if◌then◌else◌}
-use Rattle.tee_base.specs.declared.limits.TheConstants.{ASK_BYTES, IDENTIFIER_BYTES}
+use Rattle.tee_base.specs.declared.limits.TheConstants.{MAX_ASK_BYTES, MAX_IDENTIFIER_BYTES}
 use Rattle.tee_base.specs.declared.codes.Code.{Code}
 use Rattle.tee_base.specs.declared.codes.Flags.{Flags}
 use Rattle.app_api.specs.declared.ask.Answer.{Answer}
@@ -20,10 +20,11 @@ pub data Outcome (S : Type 0) : Type 0 where
   Panicked : Outcome S
 
 -- how an ask goes. Its outcome is settled without the store: misuse, a refusal that stands before the store, an ask that needs
--- none. Or it comes to the store: then it leaves refused where the store doesn't serve it, and plain is what the store's answer gives
-pub data Course (S : Type 0) : Type 0 where
-  Settled : (outcome : Outcome S) → Course S
-  ComesToStore : (refused : S) (plain : Outcome S) → Course S
+-- none. Or it comes to the store: then it leaves refused where the store doesn't serve it, and if_served is what the store's answer
+-- gives
+pub data Resolution (S : Type 0) : Type 0 where
+  Settled : (outcome : Outcome S) → Resolution S
+  ComesToStore : (refused : S) (if_served : Outcome S) → Resolution S
 
 -- the ask is refused with this code, and leaves this
 abbrev pub refused : {S : Type 0} → S → Code → Outcome S
@@ -34,9 +35,9 @@ abbrev pub done : {S : Type 0} → S → Outcome S
 done s = Answered s answers.Done
 
 -- the ask comes to the store
-abbrev pub comes_to_store : {S : Type 0} → Course S → Bool
+abbrev pub comes_to_store : {S : Type 0} → Resolution S → Bool
 comes_to_store (Settled outcome) = false
-comes_to_store (ComesToStore refused plain) = true
+comes_to_store (ComesToStore refused if_served) = true
 
 -- the same of a larger whole, whose part this is
 abbrev pub outcome_in : {S W : Type 0} → (S → W) → Outcome S → Outcome W
@@ -45,9 +46,9 @@ outcome_in put (Returned code outs) = Returned code outs
 outcome_in put Panicked = Panicked
 
 -- the same of how an ask goes
-abbrev pub course_in : {S W : Type 0} → (S → W) → Course S → Course W
-course_in put (Settled outcome) = Settled (outcome_in put outcome)
-course_in put (ComesToStore refused plain) = ComesToStore (put refused) (outcome_in put plain)
+abbrev pub resolution_in : {S W : Type 0} → (S → W) → Resolution S → Resolution W
+resolution_in put (Settled outcome) = Settled (outcome_in put outcome)
+resolution_in put (ComesToStore refused if_served) = ComesToStore (put refused) (outcome_in put if_served)
 
 -- all that an ask about objects touches: the store, and what is held in memory
 pub record Objects : Type 0 where
@@ -63,7 +64,7 @@ abbrev pub over_store : Objects → Store → Objects
 over_store o store = record o { store = store }
 
 -- how an ask goes that never needs the store
-abbrev pub without_store : Objects → Outcome Held → Course Objects
+abbrev pub without_store : Objects → Outcome Held → Resolution Objects
 without_store o outcome = Settled (outcome_in (holding o) outcome)
 
 -- how the store does in a turn: it serves, unless it is lost; a call of it fails; or what it reads is damaged
@@ -72,22 +73,22 @@ pub data Serving : Type 0 where
   Fails : Serving
   Damaged : Serving
 
--- what comes of a course
-abbrev pub came_of : {S : Type 0} → Serving → Bool → Course S → Outcome S
+-- what comes of a resolution
+abbrev pub came_of : {S : Type 0} → Serving → Bool → Resolution S → Outcome S
 came_of serving lost (Settled outcome) = outcome
-came_of Serves lost (ComesToStore refused_ plain) = if lost then refused refused_ STORAGE_NOT_AVAILABLE else plain
-came_of Fails lost (ComesToStore refused_ plain) = refused refused_ STORAGE_NOT_AVAILABLE
-came_of Damaged lost (ComesToStore refused_ plain) = refused refused_ CORRUPT_OBJECT
+came_of Serves lost (ComesToStore refused_ if_served) = if lost then refused refused_ STORAGE_NOT_AVAILABLE else if_served
+came_of Fails lost (ComesToStore refused_ if_served) = refused refused_ STORAGE_NOT_AVAILABLE
+came_of Damaged lost (ComesToStore refused_ if_served) = refused refused_ CORRUPT_OBJECT
 
 -- ---- limits and flags
 
 -- more than 64 bytes
 abbrev pub is_long_identifier : List ℕ → Bool
-is_long_identifier id = nat_lt IDENTIFIER_BYTES (length id)
+is_long_identifier id = nat_lt MAX_IDENTIFIER_BYTES (length id)
 
 -- more than an ask may bring or want
 abbrev pub is_too_much : ℕ → Bool
-is_too_much count = nat_lt ASK_BYTES count
+is_too_much count = nat_lt MAX_ASK_BYTES count
 
 -- the one storage that there is
 abbrev pub private_storage : ℕ
