@@ -27,6 +27,7 @@ no_keeper = record {
   has_model = λ _. Unit {0};
   contents = λ _. contents_after [] empty_store;
   status = λ status. status;
+  honest_below = λ _. ⊥;
   honest = λ _. ⊥;
   damage = λ _ _. ⊥;
   moment = λ _. 0;
@@ -47,6 +48,7 @@ refused_call {X} true r n old new lost is same = rw (is, same) (record {
   cause = record { cause = (lost, lost); later = omega arith; foundation = refl; reports = omega arith };
   attempts = refl;
   damage = tt;
+  below = λ b. b;
   honest = λ h. absurd h;
   quiet = λ _. record { same = refl; none = λ t o left. left };
   past = λ h. absurd h;
@@ -58,6 +60,7 @@ refused_call {X} false r n old new lost is same = rw (is, same) (record {
   cause = record { cause = (lost, lost); later = omega arith; foundation = refl; reports = omega arith };
   attempts = refl;
   damage = tt;
+  below = λ b. b;
   honest = λ h. absurd h;
   quiet = λ _. record { same = refl; none = λ t o left. left };
   past = λ h. absurd h;

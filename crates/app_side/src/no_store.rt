@@ -64,6 +64,7 @@ impl AppStore for NoStore {
       has_model = λ _. Unit {0};
       contents = λ _. contents_after [] empty_store;
       status = λ status. status;
+      honest_below = λ _. ⊥;
       honest = λ _. ⊥;
       damage = λ _ _. ⊥;
       moment = λ _. 0;

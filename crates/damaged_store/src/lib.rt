@@ -103,6 +103,7 @@ impl AppStore for Damaged {
       has_model = λ _. ⊥;
       contents = λ _. contents_after [] empty_store;
       status = λ status. status;
+      honest_below = λ _. ⊥;
       honest = λ _. ⊥;
       damage = λ _ _. Unit {0};
       moment = λ _. 0;

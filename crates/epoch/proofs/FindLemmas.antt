@@ -5,7 +5,7 @@ use Rattle.tee_base.specs.Crash.{LeavesOnly}
 use Rattle.tee_base.proofs.Crash.{weaker}
 use Rattle.board.specs.declared.BoardFailed.{BoardFailed}
 use Rattle.board.specs.Moment.{Moment, View, IsCounter, moment, left_since}
-use Rattle.board.specs.Steps.{Answered, Advanced}
+use Rattle.board.specs.Steps.{Answered, Advanced, Settles}
 use Rattle.board.specs.Runs.{IsBase, LeavesBase, RunsOver, Rests}
 use Rattle.board.proofs.Runs.{base-wider, rests_base, run_starts, run_goes_on}
 use Rattle.epoch.specs.Finding.{Finds, IsSettledAt, OpensBelow, RefusesOlder, sequence_of}
@@ -113,6 +113,14 @@ ruled_answer version blocks size key image n r result large is answers made =
     let enough : nat_lt size blocks ≡ false = grind arith in
     rw enough (answers made ∙ ap header_answer is)
 
+-- a counter that was told is one that the board may have then
+pub told_counter : (n : ℕ) (old new : Moment) → Settles n old new → IsCounter new n
+told_counter n old new told = record {
+  least = omega (arith, told.counter);
+  greatest = omega (arith, told.counter);
+  fits = told.among.fits;
+}
+
 -- a header that counts lies between the counter and the highest that may count
 pub record IsBetween (low high n sequence : ℕ) : Type 0 where
   pub counter : n ≤ high
@@ -130,9 +138,9 @@ between version key open_at base low high n m found is among opens e =
     record { counter = counter; highest = opens n found above counter e; least = two.0; most = two.1 }
 
 -- what is found refuses an older image
-pub refuses_older : (version blocks size : ℕ) (key : List ℕ) (m : Moment) (result : Result (Option Header) OpenAnswer)
-    → Finds version blocks size key m result → RefusesOlder version blocks size key m result
-refuses_older version blocks size key m result finds n c found opens settled above made =
+pub refuses_older : (version blocks size : ℕ) (key : List ℕ) (m new : Moment) (result : Result (Option Header) OpenAnswer)
+    → Finds version blocks size key m new result → RefusesOlder version blocks size key m result
+refuses_older version blocks size key m new result finds n c found opens settled above made =
     let one = if_other (nat_lt size blocks) (Err (TooSmall size)) (opening_of version key m.reads n) (Ok (Some found)) opens (λ w. cc) in
     let same : finds.counter ≡ c = omega (arith, finds.among.least, finds.among.greatest, settled.counter, settled.slack) in
     let rule : opens_as version blocks size key m.reads finds.counter ≡ Err (Rollback found.header.sequence c)

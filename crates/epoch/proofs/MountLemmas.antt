@@ -15,7 +15,7 @@ use Rattle.epoch.specs.Commits.{IsMounted, OpensTo}
 use Rattle.epoch.specs.Finding.{Finds, IsSettledAt, OpensBelow, sequence_of}
 use Rattle.epoch.specs.Forms.{Form, IsFramed, blank_leaves, held, held_by, held_of, is_sealed, leaves_of}
 use Rattle.epoch.specs.Mounting.{AreSound, IsHolding, MightBe, Mounts, MountsAfterPower, MountsAgain, MountsTo, after_found}
-use Rattle.epoch.specs.Mounts.{IsAdmitted, IsLeftSound, IsRefusal, IsRuledBy, after_opening, opened_by}
+use Rattle.epoch.specs.Mounts.{IsAdmitted, IsKeptFromOpening, IsLeftSound, IsRefusal, IsRefusedNow, IsRuledBy, after_opening, opened_by}
 use Rattle.epoch.specs.Opening.{IsRuled, answer_at, header_answer, opening_by, opening_of, opens_as}
 use Rattle.epoch.specs.Past.{KeepsPast}
 use Rattle.epoch.specs.Slots.{slot_of}
@@ -303,7 +303,7 @@ module _ (f : Form) (framed : IsFramed f) (version : ℕ) (same : f.version ≡ 
       ∙ sym (after_least (opening_of f.version old.key old.state.reads old.state.counter) refl (opens_least f old.key h old.state holding fits) n v e)
   after_by n among (Err answer) e is found answers = absurd is
 
-  found_by : (result : Result (Option Header) OpenAnswer) → Finds version VOLUME_BLOCKS old.size old.key old.state result → SameBlocks old.state new.state
+  found_by : (result : Result (Option Header) OpenAnswer) → Finds version VOLUME_BLOCKS old.size old.key old.state new.state result → SameBlocks old.state new.state
       → IfOk result (λ found. IsSettledAt (sequence_of found) new.state)
       → IfOk result (λ found. MountsTo f old.key h new.state found × (after_found found h ≡ after_opening f old h)) × IfErr result (λ why. why ≡ Failed)
   found_by (Ok found) finds blocks settled =
@@ -324,7 +324,7 @@ module _ (f : Form) (framed : IsFramed f) (version : ℕ) (same : f.version ≡ 
             never_refused f old.key old.state.reads h (opening_of f.version old.key old.state.reads finds.counter) is answer (finds.ruled other ∙ ap header_answer (opens_large finds.counter))),
       )
 
-  pub mounts_found : (result : Result (Option Header) OpenAnswer) → Finds version VOLUME_BLOCKS old.size old.key old.state result → SameBlocks old.state new.state
+  pub mounts_found : (result : Result (Option Header) OpenAnswer) → Finds version VOLUME_BLOCKS old.size old.key old.state new.state result → SameBlocks old.state new.state
       → IfOk result (λ found. IsSettledAt (sequence_of found) new.state)
       → ((open_at : ℕ → Bool) (base : ℕ → List ℕ) (low high : ℕ) (first : View) → OpensBelow version old.key old.state.reads low high
       → RunsOver open_at base low high first old → RunsOver open_at base low high first new)
@@ -539,6 +539,34 @@ module _ (f : Form) (version : ℕ) (same : f.version ≡ version) (view : View)
 
   pub ruled_by : (result : Result (Option Header) OpenAnswer) → IsRuled result (opens_as version VOLUME_BLOCKS view.size view.key image counter) → IsRuledBy f view image counter result
   ruled_by result ruled = ruled_as result (subst (IsRuled result) version_as ruled)
+
+-- a refusal is of the board as it reads then
+module _ (f : Form) (old new : View) (size : new.size ≡ old.size) (key : new.key ≡ old.key) (reads : new.state.reads ≡ old.state.reads) (counter : ℕ) where
+  now_refused : (why : OpenAnswer) → (let refused : Result (Option Header) OpenAnswer = Err why in refused ≢ Err Failed → IsCounter new.state counter)
+      → IsRefusal f old old.state.reads counter why → IsRefusedNow f new why
+  now_refused (TooSmall m) among e = (counter, among (λ w. cc), rw (size, key, reads) e)
+  now_refused (NoVolume m) among e = (counter, among (λ w. cc), rw (size, key, reads) e)
+  now_refused (BadHeader slot found kept) among e = (counter, among (λ w. cc), rw (size, key, reads) e)
+  now_refused (UnknownVersion m) among e = (counter, among (λ w. cc), rw (size, key, reads) e)
+  now_refused (Rollback s m) among e = (counter, among (λ w. cc), rw (size, key, reads) e)
+  now_refused (Ahead s m) among e = (counter, among (λ w. cc), rw (size, key, reads) e)
+  now_refused Failed among e = tt
+  now_refused NoMemory among e = tt
+
+-- the same of what a search answers
+pub found_refused : (version : ℕ) (old new : View) (result : Result (Option Header) OpenAnswer) → new.size ≡ old.size → new.key ≡ old.key → new.state.reads ≡ old.state.reads
+    → Finds version VOLUME_BLOCKS old.size old.key old.state new.state result → IfErr result (λ why. (f : Form) → f.version ≡ version → IsRefusedNow f new why)
+found_refused version old new (Ok found) size key reads finds = tt
+found_refused version old new (Err why) size key reads finds = λ f same.
+    now_refused f old new size key reads finds.counter why finds.still (ruled_by f version same old old.state.reads finds.counter (Err why) finds.ruled).0
+
+-- what only keeps a board from being opened is no refusal
+pub kept_refused : {A : Type 0} (f : Form) (view : View) (result : Result A OpenAnswer) → IfErr result (λ why. IsKeptFromOpening why) → IfErr result (λ why. IsRefusedNow f view why)
+kept_refused f view (Ok a) kept = tt
+kept_refused f view (Err why) kept = ⊎_elim
+    (λ (e : why ≡ Failed). subst (IsRefusedNow f view) (sym e) tt)
+    (λ (e : why ≡ NoMemory). subst (IsRefusedNow f view) (sym e) tt)
+    kept
 
 -- where the rule opens with this header, or with none, a volume of its sequence is admitted
 admitted_as : (rule : Result (Option Found) OpenAnswer) (sequence : ℕ) (found : Option Header) → header_answer rule ≡ Ok found → IfSome found (λ header. header.sequence ≡ sequence)

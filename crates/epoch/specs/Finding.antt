@@ -1,5 +1,5 @@
 -- What a search for the header that counts finds on an honest board, and what it leaves.
-use Rattle.std.specs.Prelude.{◌≡◌, ◌≢◌, ◌≤◌, ◌<◌, ℕ, List, Option, Some, None, Result, Ok, Err}
+use Rattle.std.specs.Prelude.{◌≡◌, ◌≢◌, ◌≤◌, ◌<◌, ℕ, List, Option, Some, None, Result, Ok, Err, OnErr}
 use Rattle.board.specs.Moment.{Moment, IsCounter}
 use Rattle.epoch.specs.Opening.{IsRuled, opening_of, opens_as}
 use Rattle.epoch.specs.declared.answer.OpenAnswer.{OpenAnswer}
@@ -7,12 +7,14 @@ use Rattle.epoch.specs.declared.answer.OpenAnswer.TheVariants.{Rollback, Failed}
 use Rattle.epoch.specs.declared.header.Header.{Header}
 use Rattle.epoch.specs.declared.rule.Found.{Found}
 
--- the answer is the rule's, over what reads give and a counter that the board may have
-pub record Finds (version blocks size : ℕ) (key : List ℕ) (m : Moment)
+-- the answer is the rule's, over what reads give and a counter that the board may have; where it is a refusal of the rule, the
+-- board may have that counter afterwards too
+pub record Finds (version blocks size : ℕ) (key : List ℕ) (old new : Moment)
     (result : Result (Option Header) OpenAnswer) : Type 0 where
   pub counter : ℕ
-  pub among : IsCounter m counter
-  pub ruled : IsRuled result (opens_as version blocks size key m.reads counter)
+  pub among : IsCounter old counter
+  pub ruled : IsRuled result (opens_as version blocks size key old.reads counter)
+  pub still : result ≢ Err Failed → OnErr result (IsCounter new counter)
 
 -- at each of these counters a header that counts has at most the sequence `high`
 abbrev pub OpensBelow : ℕ → List ℕ → (ℕ → List ℕ) → ℕ → ℕ → Type 0

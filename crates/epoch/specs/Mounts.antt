@@ -4,7 +4,7 @@ use Rattle.std.specs.Prelude.{◌≡◌, ◌≤◌, ◌⊎◌, ◌+◌, ◌%◌,
 use Rattle.tee_base.specs.Crash.{LeavesOnly, read_as}
 use Rattle.tee_base.specs.declared.limits.TheConstants.{BOARD_BLOCKS}
 use Rattle.store_api.specs.Volumes.{Held, RestsAt, VolumeKeeper}
-use Rattle.board.specs.Moment.{Outcome, View, left_since, moment}
+use Rattle.board.specs.Moment.{IsCounter, Outcome, View, left_since, moment}
 use Rattle.epoch.specs.Forms.{Form, held_of}
 use Rattle.epoch.specs.Opening.{header_answer, opening_of, opens_as}
 use Rattle.epoch.specs.declared.answer.OpenAnswer.{OpenAnswer}
@@ -35,6 +35,13 @@ IsRefusal f view image counter answers.Failed = Unit {0}
 IsRefusal f view image counter answers.NoMemory = Unit {0}
 IsRefusal f view image counter why =
     opens_as f.version BOARD_BLOCKS view.size view.key image counter ≡ Err why
+
+-- the same of the board as it reads now, at a counter that it may tell
+abbrev pub IsRefusedNow : Form → View → OpenAnswer → Type 0
+IsRefusedNow f view answers.Failed = Unit {0}
+IsRefusedNow f view answers.NoMemory = Unit {0}
+IsRefusedNow f view why = (counter : ℕ) × IsCounter view.state counter
+    × (opens_as f.version BOARD_BLOCKS view.size view.key view.state.reads counter ≡ Err why)
 
 -- the opening rule opens a board over this image and this counter, and where a header counts, it has this sequence
 abbrev pub IsAdmitted : Form → View → (ℕ → List ℕ) → ℕ → ℕ → Type 0

@@ -49,7 +49,7 @@ pub fn find_header<B: Board>(board: &mut B) -> Result<Option<Header>, OpenAnswer
         (opens_as FLAT_VERSION VOLUME_BLOCKS (B.view board.old).size (B.view board.old).key
         (B.view board.old).state.reads counter) }
     ensures exact { B.honest board.old → Finds FLAT_VERSION VOLUME_BLOCKS (B.view board.old).size
-        (B.view board.old).key (B.view board.old).state result }
+        (B.view board.old).key (B.view board.old).state (B.view board.new).state result }
     // the counter is settled at the sequence, and at 0 where the board is blank
     ensures counter { B.honest board.old
         → IfOk result (λ header. IsSettledAt (sequence_of header) (B.view board.new).state) }
@@ -87,7 +87,7 @@ pub fn find_version<B: Board>(board: &mut B, version: u32) -> Result<Option<Head
         (opens_as version VOLUME_BLOCKS (B.view board.old).size (B.view board.old).key
         (B.view board.old).state.reads counter) }
     ensures exact { B.honest board.old → Finds version VOLUME_BLOCKS (B.view board.old).size
-        (B.view board.old).key (B.view board.old).state result }
+        (B.view board.old).key (B.view board.old).state (B.view board.new).state result }
     // the counter is settled at the sequence, and at 0 where the board is blank
     ensures counter { B.honest board.old
         → IfOk result (λ header. IsSettledAt (sequence_of header) (B.view board.new).state) }

@@ -1,5 +1,5 @@
 //! What a board holds that is opened, over the form of the leaves: found at first, after a sync, after a loss of power.
-ghost use Rattle.std.specs.Prelude.{◌≡◌, ◌≢◌, ◌≤◌, ℕ, true, Err, IsTrue, OnOk};
+ghost use Rattle.std.specs.Prelude.{◌≡◌, ◌≢◌, ◌≤◌, ℕ, true, Err, IfErr, IsTrue, OnOk};
 ghost use Rattle.tee_base.specs.Faults.{Rose};
 ghost use Rattle.store_api.specs.Volumes.{Held};
 ghost use Rattle.board.specs.Moment.{IsCounter, IsLeft, Outcome};
@@ -7,7 +7,7 @@ ghost use Rattle.board.specs.Steps.{CallRun};
 ghost use Rattle.epoch.specs.Commits.{StaysSettled};
 ghost use Rattle.epoch.specs.Forms.{Form, IsFramed};
 ghost use Rattle.epoch.specs.Mounting.{AreSound, IsHolding, Mounts, MountsAfterPower, MountsAgain};
-ghost use Rattle.epoch.specs.Mounts.{IsRuledBy, OrderRun};
+ghost use Rattle.epoch.specs.Mounts.{IsRefusedNow, IsRuledBy, OrderRun};
 ghost use Rattle.epoch.specs.Past.{KeepsPast};
 ghost use Rattle.epoch.specs.declared.answer.OpenAnswer.TheVariants as answers;
 
@@ -37,6 +37,9 @@ pub fn mount<B: Board>(board: &mut B, version: u32) -> Result<Option<Header>, Op
     ensures exact { B.honest board.old → (counter : ℕ)
         × IsCounter (B.view board.old).state counter × ((f : Form) → f.version ≡ version
         → IsRuledBy f (B.view board.old) (B.view board.old).state.reads counter result) }
+    // a refusal is the rule's over what the board then holds
+    ensures refusal { B.honest board.old → IfErr result (λ why. (f : Form) → f.version ≡ version
+        → IsRefusedNow f (B.view board.new) why) }
     ensures holds { B.honest board.old → (f : Form) (h : Held) → IsFramed f
         → f.version ≡ version → VOLUME_BLOCKS ≤ (B.view board.old).size
         → IsHolding f (B.view board.old).key h (B.view board.old).state
@@ -62,6 +65,9 @@ pub fn mount_again<B: Board>(board: &mut B, version: u32) -> Result<Option<Heade
     ensures exact { B.honest board.old → (counter : ℕ)
         × IsCounter (B.view board.old).state counter × ((f : Form) → f.version ≡ version
         → IsRuledBy f (B.view board.old) (B.view board.old).state.reads counter result) }
+    // a refusal is the rule's over what the board then holds
+    ensures refusal { B.honest board.old → IfErr result (λ why. (f : Form) → f.version ≡ version
+        → IsRefusedNow f (B.view board.new) why) }
     ensures again { B.honest board.old → (f : Form) → IsFramed f
         → f.version ≡ version → VOLUME_BLOCKS ≤ (B.view board.old).size
         → AreSound f (B.view board.old)
@@ -92,6 +98,9 @@ pub fn mount_after_power<B: Board>(
     ensures exact { B.honest board.old → (c : Outcome) × IsLeft (B.view board.old).state c
         × ((f : Form) → f.version ≡ version
         → IsRuledBy f (B.view board.old) c.image c.counter result) }
+    // a refusal is the rule's over what the board then holds
+    ensures refusal { B.honest board.old → IfErr result (λ why. (f : Form) → f.version ≡ version
+        → IsRefusedNow f (B.view board.new) why) }
     ensures again { B.honest board.old → (f : Form) → IsFramed f
         → f.version ≡ version → VOLUME_BLOCKS ≤ (B.view board.old).size
         → AreSound f (B.view board.old)

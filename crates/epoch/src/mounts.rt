@@ -1,5 +1,5 @@
 //! A volume on a board: how it is opened, and what happens to its board beside the leaves.
-ghost use Rattle.std.specs.Prelude.{◌≡◌, ◌≤◌, ℕ, true, false, Some, Err, IsTrue, IfOk, IfErr};
+ghost use Rattle.std.specs.Prelude.{◌≡◌, ◌≤◌, ◌↔◌, ℕ, true, false, Some, Err, IsTrue, IfOk, IfErr};
 ghost use Rattle.tee_base.specs.Faults.{Rose};
 ghost use Rattle.tee_base.specs.declared.limits.TheConstants.{BOARD_BLOCKS};
 ghost use Rattle.store_api.specs.Volumes.{Held};
@@ -7,7 +7,7 @@ ghost use Rattle.board.specs.Moment.{IsCounter, IsLeft, Outcome};
 ghost use Rattle.board.specs.Runs.{Rests};
 ghost use Rattle.board.specs.Steps.{CallRun};
 ghost use Rattle.epoch.specs.Forms.{Form, held};
-ghost use Rattle.epoch.specs.Mounts.{IsAdmitted, IsAlwaysSound, IsBack, IsKeptFromOpening, IsOrdered, IsRefusal, IsSeenOn, LeavesOpening, OpensAfterPower, OpensAgain, OrderRun, after_opening};
+ghost use Rattle.epoch.specs.Mounts.{IsAdmitted, IsAlwaysSound, IsBack, IsKeptFromOpening, IsOrdered, IsRefusal, IsRefusedNow, IsSeenOn, LeavesOpening, OpensAfterPower, OpensAgain, OrderRun, after_opening};
 ghost use Rattle.epoch.specs.declared.answer.OpenAnswer.TheVariants as answers;
 
 use crate::answer::{OpenAnswer, Unopened};
@@ -47,6 +47,9 @@ pub trait BoardVolume<B: Board>: Volume + Sized {
             (Self.keeper.held v).sequence) }
         ensures honest { B.honest board → IfOk result (λ v. B.honest (board_of v)) }
         ensures honest_back { B.honest board → IfErr result (λ u. B.honest u.board) }
+        // a refusal is of the board that is handed back
+        ensures refusal { B.honest board
+            → IfErr result (λ u. IsRefusedNow form (B.view u.board) u.why) }
         // a board at rest with a sound image is opened, unless a call failed or there was no memory
         ensures opened { B.honest board → (n : ℕ) (h : Held) → Rests n (B.view board).state
             → BOARD_BLOCKS ≤ (B.view board).size
@@ -79,6 +82,9 @@ pub trait BoardVolume<B: Board>: Volume + Sized {
             (B.view (board_of self.old)).state.reads counter why)
             × IfOk result (λ sequence. IsAdmitted form (B.view (board_of self.old))
             (B.view (board_of self.old)).state.reads counter sequence) }
+        // a refusal is of the board as it is then
+        ensures refusal { B.honest (board_of self.old)
+            → IfErr result (λ why. IsRefusedNow form (B.view (board_of self.new)) why) }
         ensures opened { B.honest (board_of self.old) → IsAlwaysSound Self.keeper self.old
             → OpensAgain Self.keeper result self.old self.new };
 
@@ -101,6 +107,9 @@ pub trait BoardVolume<B: Board>: Volume + Sized {
             why)
             × IfOk result (λ sequence. IsAdmitted form (B.view (board_of self.old)) c.image
             c.counter sequence) }
+        // a refusal is of the board as it is then
+        ensures refusal { B.honest (board_of self.old)
+            → IfErr result (λ why. IsRefusedNow form (B.view (board_of self.new)) why) }
         ensures opened { B.honest (board_of self.old) → IsAlwaysSound Self.keeper self.old
             → OpensAfterPower Self.keeper result self.old self.new };
 
@@ -124,4 +133,7 @@ pub trait BoardVolume<B: Board>: Volume + Sized {
 
     /// An honest volume stands on an honest board.
     ghost honest_board: { (v : Self) → Self.keeper.honest v → B.honest (board_of v) };
+
+    /// What it stands on is its board.
+    ghost below: { (v : Self) → Self.keeper.honest_below v ↔ B.honest (board_of v) };
 }

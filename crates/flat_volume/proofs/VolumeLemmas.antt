@@ -281,6 +281,7 @@ err_cause A answers.NoMemory old new live lost rose other tags = (live, lost)
 pub lost_call : (V A : Type 0) (K : VolumeKeeper V) (v : V) → (K.condition v).lost ≡ true → IsVolumeCall K {A = A} (Err answers.Lost) v v
 lost_call V A K v lost = record {
   cause = record { cause = (lost, lost); later = omega arith; foundation = refl };
+  below = λ b. b;
   honest = λ h. (h, tt);
   quiet = λ told. record { same = refl; none = λ t o left. left };
   past = λ h t o le left. left;

@@ -9,7 +9,7 @@ ghost use Rattle.board.specs.Steps.{CallRun};
 ghost use Rattle.epoch.specs.Finding.{sequence_of};
 ghost use Rattle.epoch.specs.Forms.{held};
 ghost use Rattle.epoch.specs.Mounting.{MountsTo, after_found};
-ghost use Rattle.epoch.specs.Mounts.{IsAdmitted, IsKeptFromOpening, IsRefusal, after_opening};
+ghost use Rattle.epoch.specs.Mounts.{IsAdmitted, IsKeptFromOpening, IsRefusal, IsRefusedNow, after_opening};
 ghost use Rattle.epoch.specs.Past.{KeepsPast};
 ghost use Rattle.epoch.specs.declared.answer.OpenAnswer.TheVariants as refusals;
 ghost use Rattle.epoch.specs.declared.header.Header.{Header as Kept};
@@ -46,6 +46,8 @@ fn open_board<B: Board>(alloc: Global, board: &mut B) -> Result<Opened, OpenAnsw
         (B.view board.old).state.reads counter why)
         × IfOk result (λ o. IsAdmitted flat (B.view board.old)
         (B.view board.old).state.reads counter o.sequence) }
+    ensures refusal { B.honest board.old
+        → IfErr result (λ why. IsRefusedNow flat (B.view board.new) why) }
     ensures opens { B.honest board.old → (n : ℕ) (h : Held) → Rests n (B.view board.old).state
         → BOARD_BLOCKS ≤ (B.view board.old).size
         → held flat (B.view board.old).key (B.view board.old).state.reads n ≡ Some h
@@ -182,6 +184,8 @@ impl<B: Board + Drop> BoardVolume<B> for FlatVolume<B> {
     } };
 
     ghost honest_board = { λ v h. h.0 };
+
+    ghost below = { λ v. (λ h. h, λ h. h) };
 
     fn open(alloc: Global, board: B) -> Result<FlatVolume<B>, Unopened<B>> {
         let mut board = board;

@@ -151,6 +151,7 @@ impl<B: Board + Drop> Volume for FlatVolume<B> {
           ordered = (B.view v.board).ordered;
         };
       };
+      honest_below = λ v. B.honest v.board;
       honest = λ v. B.honest v.board
           × (v.lost ≡ false → IsOpen (B.view v.board) v.root v.sequence v.table)
           × IsSteady flat (B.view v.board).key v.root (B.view v.board).state;

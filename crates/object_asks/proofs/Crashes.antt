@@ -44,6 +44,7 @@ module _ {D : Type 0} (K : Keeper D) where
     model = λ there. there;
     still = λ there lost. refl;
     beside = λ there. record { rest = refl; number = omega arith };
+    below = λ b. b;
     quiet = λ lost. record { same = refl; none = λ t o left. left };
     past = λ honest. record { later = omega arith; past = λ t o le left. left };
   }

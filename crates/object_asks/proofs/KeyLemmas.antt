@@ -78,6 +78,7 @@ module _ {D : Type 0} (K : Keeper D) where
       model = read.call.model;
       still = read.call.still;
       beside = λ t. subst (λ c. StaysBeside (K.contents old) c) (sym (read.same t)) (record { rest = refl; number = omega arith });
+      below = read.call.below;
       quiet = read.call.quiet;
       past = read.call.past;
     }

@@ -106,6 +106,7 @@ module _ {D : Type 0} (K : Keeper D) where
     pub attempts : (K.status mid).change_attempts ≡ (K.status old).change_attempts
     pub model : K.has_model old → K.has_model mid
     pub same : K.has_model old → K.contents mid ≡ K.contents old
+    pub below : K.honest_below old → K.honest_below mid
     pub honest : K.honest old → K.honest mid
     pub past : K.honest old → KeepsPast K old mid
     pub crash : K.honest old → LeavesJust K old (K.contents old) → CrashLeaves K (K.contents old) old mid
@@ -120,6 +121,7 @@ module _ {D : Type 0} (K : Keeper D) where
     attempts = omega (arith, read.call.attempts);
     model = read.call.model;
     same = read.same;
+    below = read.call.below;
     honest = λ h. (read.call.honest h).0;
     past = read.call.past;
     crash = read.crash;
@@ -156,6 +158,7 @@ module _ {D : Type 0} (K : Keeper D) where
     model = λ t. two.model (one.model t);
     still = λ t lost. two.still (one.model t) lost ∙ one.same t;
     beside = λ t. subst (λ c. StaysBeside c (K.contents new)) (one.same t) (two.beside (one.model t));
+    below = λ b. two.below (one.below b);
     quiet = λ lost. absurd (both_ways _ one.works lost);
     past = λ h. past_after old mid new (one.past h) (two.past (one.honest h));
   }
@@ -227,6 +230,7 @@ module _ {D : Type 0} (K : Keeper D) where
       cause = has_cause_after result old mid new one two.cause;
       attempts = omega (arith, one.attempts, two.attempts);
       damage = two.damage;
+      below = λ b. two.below (one.below b);
       honest = λ h. two.honest (one.honest h);
       quiet = λ lost. absurd (both_ways _ one.works lost);
       past = λ h. past_after old mid new (one.past h) (two.past (one.honest h));
@@ -261,6 +265,7 @@ module _ {D : Type 0} (K : Keeper D) where
       attempts =
           read.call.attempts;
       damage = tt;
+      below = read.call.below;
       honest = λ h. ((read.call.honest h).0, tt);
       quiet = read.call.quiet;
       past = read.call.past;
@@ -288,6 +293,7 @@ module _ {D : Type 0} (K : Keeper D) where
       };
       attempts = read.call.attempts;
       damage = damage_of A B e (K.damage new) read.call.damage;
+      below = read.call.below;
       honest = λ h. ((read.call.honest h).0, damage_of A B e (λ answer. ⊥) (read.call.honest h).1);
       quiet = read.call.quiet;
       past = read.call.past;

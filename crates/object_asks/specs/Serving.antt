@@ -165,6 +165,7 @@ module _ {D : Type 0} (K : Keeper D) where
     pub model : K.has_model old → K.has_model new
     pub still : K.has_model old → IsTrue (K.status new).lost → K.contents new ≡ K.contents old
     pub beside : K.has_model old → StaysBeside (K.contents old) (K.contents new)
+    pub below : K.honest_below old → K.honest_below new
     pub quiet : IsTrue (K.status old).lost → LeavesNothingNew K old new
     pub past : K.honest old → KeepsPast K old new
 

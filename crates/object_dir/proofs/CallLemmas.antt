@@ -34,6 +34,7 @@ module _ {V : Type 0} (K : VolumeKeeper V) where
       cause = run.cause;
       later = run.later;
       foundation = run.foundation;
+      below = run.below;
       honest = run.honest;
       shows = run.shows;
       garbled = garbled;
@@ -72,6 +73,7 @@ module _ {V : Type 0} (K : VolumeKeeper V) where
       attempts = attempts;
       damage = tells_of result (damage_of K new.region)
           (corrupt_under (refusal_of result) K.tells_reads (λ tags. (leaf : ℕ) × (leaf < LEAVES) × (K.damage new.region.volume.now new.region.number leaf ≡ Some tags)) call.shows) few;
+      below = call.below;
       honest = λ has. (
         stands has,
         intact_of result (call.honest has.honest).1

@@ -94,6 +94,7 @@ module _ {V : Type 0} (K : VolumeKeeper V) (c : Change) where
       later = let one : (K.condition old.volume.now).faults ≤ (K.condition mid.volume.now).faults = plan.reads.later in let two : (K.condition mid.volume.now).faults ≤
           (K.condition new.volume.now).faults = commit.call.cause.later in omega arith;
       foundation = commit.call.cause.foundation ∙ plan.reads.foundation;
+      below = λ b. commit.call.below (plan.reads.below b);
       honest = λ h. ((commit.call.honest (plan.reads.honest h).0).0, commit_corrupt answer (λ tags. ⊥) (λ tags. ⊥) (λ tags never. never) (commit.call.honest (plan.reads.honest h).0).1);
       shows = λ t. commit_corrupt answer (λ tags. (leaf : ℕ) × (leaf < LEAVES) × (K.damage new.volume.now mid.number leaf ≡ Some tags))
           (λ tags. (leaf : ℕ) × (leaf < LEAVES) × (K.damage new.volume.now new.number leaf ≡ Some tags))

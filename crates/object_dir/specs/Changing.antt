@@ -50,6 +50,7 @@ module _ {V : Type 0} (K : VolumeKeeper V) where
     pub later : (K.condition old.volume.now).faults ≤ (K.condition new.volume.now).faults
     -- it is the same region of the volume behind the same reference
     pub foundation : ((region_keeper K).condition new).foundation ≡ ((region_keeper K).condition old).foundation
+    pub below : K.honest_below old.volume.now → K.honest_below new.volume.now
     pub honest : K.honest old.volume.now → K.honest new.volume.now × IfCorrupt why (λ tags. ⊥)
     -- damage that is told is that of a leaf of the region, or a leaf that breaks a rule
     pub shows : IsTrue K.tells_reads → IfCorrupt why (λ tags. (leaf : ℕ) × (leaf < LEAVES) × (K.damage new.volume.now new.number leaf ≡ Some tags))

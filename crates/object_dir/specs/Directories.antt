@@ -38,6 +38,7 @@ module _ {V : Type 0} (K : VolumeKeeper V) where
     has_model = λ d. HasStore K d.region;
     contents = λ d. kept_in K d.region;
     status = λ d. status_with ((region_keeper K).condition d.region) d.damage_reports d.change_attempts;
+    honest_below = λ d. K.honest_below d.region.volume.now;
     honest = λ d. HasStore K d.region;
     damage = λ d. damage_of d.region;
     moment = λ d. K.moment d.region.volume.now;

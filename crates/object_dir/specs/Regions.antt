@@ -22,6 +22,7 @@ region_keeper K = record {
   tells_reads = K.tells_reads;
   held = λ r. K.held r.volume.now;
   condition = λ r. region_condition r.volume.ghost_name r.number (K.condition r.volume.now);
+  honest_below = λ r. K.honest_below r.volume.now;
   honest = λ r. K.honest r.volume.now;
   damage = λ r. K.damage r.volume.now;
   moment = λ r. K.moment r.volume.now;

@@ -48,6 +48,7 @@ module _ {S : Type 0} (K : VolumeKeeper S) (region : S → ℕ) where
     same_region = two.same_region ∙ one.same_region;
     sequence = two.sequence ∙ one.sequence;
     same = λ h. two.same (one.honest h).0 ∙ one.same h;
+    below = λ b. two.below (one.below b);
     honest = λ h. two.honest (one.honest h).0;
     damage = λ t. two.damage t ∙ one.damage t;
     shows = two.shows;
@@ -69,6 +70,7 @@ module _ {S : Type 0} (K : VolumeKeeper S) (region : S → ℕ) where
     same_region = refl;
     sequence = refl;
     same = λ h. refl;
+    below = λ b. b;
     honest = λ h. (h, tt);
     damage = λ t. refl;
     shows = λ t. tt;
@@ -87,6 +89,7 @@ module _ {S : Type 0} (K : VolumeKeeper S) (region : S → ℕ) where
     same_region = run.same_region;
     sequence = run.sequence;
     same = run.same;
+    below = run.below;
     honest = λ h. ((run.honest h).0, intact (λ tags. ⊥));
     damage = run.damage;
     shows = λ t. intact _;

@@ -61,6 +61,7 @@ module _ {S : Type 0} (K : VolumeKeeper S) (region : S → ℕ) where
     pub same_region : region new ≡ region old
     pub sequence : (K.held new).sequence ≡ (K.held old).sequence
     pub same : K.honest old → K.held new ≡ K.held old
+    pub below : K.honest_below old → K.honest_below new
     pub honest : K.honest old → K.honest new × IfCorrupt why (λ tags. ⊥)
     -- damage stays, and Corrupt tells of that of a leaf of the region
     pub damage : IsTrue K.tells_reads → K.damage new ≡ K.damage old

@@ -91,6 +91,7 @@ module _ {A : Type 0} (result : Result A StoreAnswer) (tried : ℕ) (old new : M
     cause = record { cause = cause; later = later; foundation = refl; reports = omega (arith, intact_reports result intact) };
     attempts = attempts;
     damage = intact;
+    below = λ _. tt;
     honest = λ _. (tt, intact);
     quiet = λ _. nothing_new old new store past;
     past = λ _. past_kept old new store past;
@@ -223,6 +224,7 @@ module _ (c : Change) (old new : MapState) (limits : IsWithinLimits old.store) w
           cause = record { cause = (works, still); later = later; foundation = refl; reports = omega arith };
           attempts = attempts;
           damage = tt;
+          below = λ _. tt;
           honest = λ _. (tt, tt);
           quiet = λ lost. absurd (let yes_lost : true ≡ false = sym lost ∙ works in cc);
           past = λ _. made_past old new (change old.store c) made past;

@@ -103,7 +103,9 @@ pub record Keeper (D : Type 0) : Type 1 where
   -- that store, all else that is kept with it, and the number
   pub contents : D → Contents
   pub status : D → Status
-  -- what it stands on keeps to its rules, and what is kept there is well formed
+  -- what it stands on keeps to its rules
+  pub honest_below : D → Type 0
+  -- so it does, and what is kept there is well formed
   pub honest : D → Type 0
   -- what there is for Corrupt and Garbled to tell: tags that differ, or a leaf that breaks a rule
   pub damage : D → StoreAnswer → Type 0
@@ -146,6 +148,7 @@ module _ {D : Type 0} (K : Keeper D) where
     pub cause : HasCause result (K.status old) (K.status new)
     pub attempts : Attempts tried (K.status old) (K.status new)
     pub damage : TellsDamage result (K.damage new)
+    pub below : K.honest_below old → K.honest_below new
     pub honest : K.honest old → K.honest new × IsIntact result
     -- of a crash: over a lost store nothing new may be left, and nothing of the past is forgotten
     pub quiet : IsTrue (K.status old).lost → LeavesNothingNew old new

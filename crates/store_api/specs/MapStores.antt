@@ -68,6 +68,7 @@ map_keeper = record {
   has_model = λ s. Unit {0};
   contents = contents_of;
   status = status_of;
+  honest_below = λ s. Unit {0};
   honest = λ s. Unit {0};
   damage = λ s answer. ⊥;
   moment = moment_of;

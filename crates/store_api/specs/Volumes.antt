@@ -26,7 +26,9 @@ pub record VolumeKeeper (V : Type 0) : Type 1 where
   pub tells_reads : Bool
   pub held : V → Held
   pub condition : V → Condition
-  -- what it stands on keeps to its rules, and what is kept there is well formed
+  -- what it stands on keeps to its rules
+  pub honest_below : V → Type 0
+  -- so it does, and what is kept there is well formed
   pub honest : V → Type 0
   -- the first two tags that differ on the way to a leaf, by region and leaf number
   pub damage : V → ℕ → ℕ → Option Mismatch
@@ -105,6 +107,7 @@ module _ {V : Type 0} (K : VolumeKeeper V) where
   -- what every call of a volume promises
   pub record IsVolumeCall {A : Type 0} (result : Result A LeafAnswer) (old new : V) : Type 0 where
     pub cause : HasLeafCause result (K.condition old) (K.condition new)
+    pub below : K.honest_below old → K.honest_below new
     pub honest : K.honest old → K.honest new × IsUndamaged result
     -- of a crash: over a lost volume nothing new may be left, and nothing of the past is forgotten
     pub quiet : IsTrue (K.condition old).lost → AddsNothing old new

@@ -3,15 +3,10 @@ use Rattle.std.proofs.Common.{◌≡◌, ◌≢◌, ◌<◌, ◌+◌, ◌==◌, 
 use Rattle.std.specs.Prelude.{slice_get}
 use Rattle.std.proofs.lemmas.Bool.{eqb-true, eqb-false}
 use Rattle.app_api.specs.declared.call.Call.{Call}
-use Rattle.object_asks.specs.Asks.{object_resolution}
-use Rattle.object_asks.specs.Keys.{generate_resolution}
-use Rattle.alone.specs.Asks.{objects_of}
 use Rattle.alone.specs.Machine.{Machine}
 use Rattle.alone.specs.Step.{called, cancelled}
 use Rattle.alone.proofs.Booted.{call_boots_none, cancellation_boots_none}
-use Rattle.alone.proofs.Born.{goes_all}
-use Rattle.alone.proofs.Counted.{call_counts_none}
-use Rattle.alone.proofs.Kept.{IsKept, cancelled_kept}
+use Rattle.alone.proofs.Counted.{call_counts_none, cancellation_counts_none}
 use Rattle.app_side.specs.Represents.{Represents as Runs_as, boot_of, is_lost, turns_of}
 use Rattle.app_side.specs.declared.side.AppSide.{AppSide}
 use Rattle.tee_core.specs.Sides.{AreBooted, AreLost, AreSides, turns_in}
@@ -19,29 +14,6 @@ use Rattle.tee_core.specs.World.{World}
 use Rattle.tee_core.proofs.SideLemmas.{booted_at, booted_set, lost_at, lost_set, some_machine, turns_here, turns_mapped, turns_others, turns_then}
 
 module _ {A : Type 0} where
-  -- so many turns were made
-  abbrev HasMade : ℕ → Machine A → Type 0
-  HasMade turns m = m.turns ≡ turns
-
-  made_kept : (turns : ℕ) → IsKept (HasMade turns)
-  made_kept turns = record {
-    put = λ m inst same. same;
-    begun = λ m o same. same;
-    cancel = λ m op c same. same;
-    masked = λ m op value same. same;
-    answered = λ m op same. same;
-    opened = λ m session same. same;
-    removed = λ m session same. same;
-    ending = λ m i same. same;
-    gone = λ m i same. same;
-    objects = λ m i ask same. goes_all (λ _. m.turns ≡ turns) (object_resolution (objects_of m) i ask) (λ _. same);
-    crypto = λ m s stream same. same;
-    made = λ m i object bits random same. goes_all (λ _. m.turns ≡ turns) (generate_resolution (objects_of m) i object bits random) (λ _. same);
-  }
-
-  pub cancellation_counts_none : (m : Machine A) (op : ℕ) → (cancelled m op).machine.turns ≡ m.turns
-  cancellation_counts_none m op = cancelled_kept (HasMade m.turns) (made_kept m.turns) m op refl
-
   -- ---- of values
 
   -- one that stands for what another stood for

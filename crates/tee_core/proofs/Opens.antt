@@ -110,7 +110,3 @@ none_left [] same = refl
 none_left {X} (x ∷ xs) same =
     let fewer : length (x ∷ xs) ≡ length xs = ap (λ (ys : List X). length ys) same in
     absurd (omega (arith, fewer))
-
-pub if_all : {X E : Type 0} (r : Result X E) (P Q R S : X → Type 0) → IfOk r P → IfOk r Q → IfOk r R → ((x : X) → P x → Q x → R x → S x) → IfOk r S
-if_all (Ok x) P Q R S p q r all = all x p q r
-if_all (Err e) P Q R S p q r all = tt

@@ -513,3 +513,9 @@ counts_kept {V} K behaviour app i kind replies before after old new t =
       foundation = sym (ap (λ (v : V). (K.condition v).foundation) t.over_new.same_volume) ∙ volume_stays K t.dir_before.region t.dir_after.region t.turn.status.foundation
           ∙ ap (λ (v : V). (K.condition v).foundation) t.over_old.same_volume;
     }
+
+-- and what the volume stands on goes on keeping to its rules
+pub below_kept : {V A : Type 0} (K : VolumeKeeper V) (behaviour : Behaviour A) (app i : ℕ) (kind : TurnKind) (replies : List Reply) (before after : AppSide A) (old new : V)
+    → TurnsOver K behaviour app i kind replies before after old new → K.honest_below old → K.honest_below new
+below_kept K behaviour app i kind replies before after old new t below =
+    subst K.honest_below t.over_new.same_volume (t.turn.keeps.below (subst K.honest_below (sym t.over_old.same_volume) below))

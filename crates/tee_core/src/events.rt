@@ -66,6 +66,9 @@ impl<B, V: Volume, A: Application> TeeOver<B, V, A> {
         // whatever the board: how often it failed, and that no order is made
         ensures counts { IfOk result (λ told. KeepsCounts told.kind
             (V.keeper.condition (volume_of self.old)) (V.keeper.condition (volume_of self.new))) }
+        // what the volume stands on stays honest
+        ensures below { V.keeper.honest_below (volume_of self.old)
+            → V.keeper.honest_below (volume_of self.new) }
         ensures err { OnErr result (IsCall event × (volume_of self.new ≡ volume_of self.old)
             × ((world : World A) → Represents self.old world → Represents self.new world)) }
         ensures apps { app_count self.new ≡ app_count self.old }
@@ -152,6 +155,8 @@ impl<B, V: Volume, A: Application> TeeOver<B, V, A> {
             (volume_of self.old) (volume_of self.new) }
         ensures counts { KeepsCounts result.kind (V.keeper.condition (volume_of self.old))
             (V.keeper.condition (volume_of self.new)) }
+        ensures below { V.keeper.honest_below (volume_of self.old)
+            → V.keeper.honest_below (volume_of self.new) }
         ensures apps { app_count self.new ≡ app_count self.old }
         ensures turns { turns_made self.new app ≡ turns_made self.old app + 1 }
         ensures others { (other : ℕ) → other ≢ app
@@ -192,6 +197,8 @@ impl<B, V: Volume, A: Application> TeeOver<B, V, A> {
             (volume_of self.old) (volume_of self.new) }
         ensures counts { KeepsCounts result (V.keeper.condition (volume_of self.old))
             (V.keeper.condition (volume_of self.new)) }
+        ensures below { V.keeper.honest_below (volume_of self.old)
+            → V.keeper.honest_below (volume_of self.new) }
         ensures apps { app_count self.new ≡ app_count self.old }
         ensures turns { turns_made self.new app ≡ turns_made self.old app + 1 }
         ensures others { (other : ℕ) → other ≢ app

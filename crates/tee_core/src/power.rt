@@ -10,7 +10,7 @@ ghost use Rattle.store_api.specs.Volumes.{Held};
 ghost use Rattle.board.specs.Moment.{IsCounter, IsLeft, Outcome};
 ghost use Rattle.board.specs.Runs.{Rests};
 ghost use Rattle.epoch.specs.Forms.{held};
-ghost use Rattle.epoch.specs.Mounts.{IsAdmitted, IsKeptFromOpening, IsRefusal, LeavesOpening, OrderRun, after_opening};
+ghost use Rattle.epoch.specs.Mounts.{IsAdmitted, IsKeptFromOpening, IsRefusal, IsRefusedNow, LeavesOpening, OrderRun, after_opening};
 ghost use Rattle.epoch.specs.declared.answer.OpenAnswer.TheVariants as answers;
 ghost use Rattle.tee_core.specs.Moments.{IsWithin};
 ghost use Rattle.tee_core.specs.Opening.{IsOpenedOver, IsSoundFor};
@@ -105,6 +105,10 @@ impl<B: Board, V: BoardVolume<B>, A: Application> TeeOver<B, V, A> {
         ensures boots { IfOk result (λ tee. boots_of tee ≡ 0) }
         // a refusal hands the board back, as its calls left it
         ensures back { IfErr result (λ u. IsOpenedOver (B.view board) (B.view u.board)) }
+        ensures refusal { B.honest board
+            → IfErr result (λ u. IsRefusedNow V.form (B.view u.board) u.why) }
+        ensures honest { B.honest board
+            → IfOk result (λ tee. B.honest (V.board_of (volume_of tee))) }
         ensures honest_back { B.honest board → IfErr result (λ u. B.honest u.board) }
         ensures cause { IfErr result (λ u. u.why ≡ answers.Failed
             → Rose (B.view board).state.faults (B.view u.board).state.faults) }
@@ -125,57 +129,12 @@ impl<B: Board, V: BoardVolume<B>, A: Application> TeeOver<B, V, A> {
             → IfErr result (λ u. IsKeptFromOpening u.why
             × LeavesOpening V.form h (B.view board) (B.view u.board)) }
     {
-        match start_all(alloc, hosts, seed) {
-            Ok(sides) => Self::open_over(alloc, board, sides),
-            Err(NoMemory) => Err(Unopened {
+        let Ok(sides) = start_all(alloc, hosts, seed) else {
+            return Err(Unopened {
                 board,
                 why: OpenAnswer::NoMemory,
-            }),
-        }
-    }
-
-    /// These applications, which have run nothing, over the objects of a board.
-    fn open_over(
-        alloc: Global,
-        board: B,
-        sides: Vec<AppSide<A>>,
-    ) -> Result<TeeOver<B, V, A>, Unopened<B>>
-        requires few { length sides.items ≤ MAX_HOSTS }
-        requires lost { AreLost false sides.items }
-        requires booted { AreBooted 0 sides.items }
-        ensures volume { B.honest board → (n : ℕ) (h : Held) → Rests n (B.view board).state
-            → BOARD_BLOCKS ≤ (B.view board).size
-            → held V.form (B.view board).key (B.view board).state.reads n ≡ Some h
-            → IfOk result (λ tee. V.keeper.honest (volume_of tee)
-            × (V.keeper.held (volume_of tee) ≡ after_opening V.form (B.view board) h)
-            × LeavesOpening V.form h (B.view board) (B.view (V.board_of (volume_of tee)))) }
-        ensures works { IfOk result (λ tee. (V.keeper.condition (volume_of tee)).lost ≡ false) }
-        ensures opened { IfOk result (λ tee.
-            IsOpenedOver (B.view board) (B.view (V.board_of (volume_of tee)))) }
-        ensures sides { IfOk result (λ tee. tee.sides.items ≡ sides.items) }
-        ensures boots { IfOk result (λ tee. boots_of tee ≡ 0) }
-        // a refusal hands the board back, as its calls left it
-        ensures back { IfErr result (λ u. IsOpenedOver (B.view board) (B.view u.board)) }
-        ensures honest_back { B.honest board → IfErr result (λ u. B.honest u.board) }
-        ensures cause { IfErr result (λ u. u.why ≡ answers.Failed
-            → Rose (B.view board).state.faults (B.view u.board).state.faults) }
-        // whatever the board: by the rule over what it tells, at some counter
-        ensures rule { IsTrue B.tells_reads → (counter : ℕ)
-            × IfErr result (λ u. IsRefusal V.form (B.view board)
-            (B.view board).state.reads counter u.why)
-            × IfOk result (λ tee. IsAdmitted V.form (B.view board)
-            (B.view board).state.reads counter (V.keeper.held (volume_of tee)).sequence) }
-        ensures exact { B.honest board → (counter : ℕ) × IsCounter (B.view board).state counter
-            × IfErr result (λ u. IsRefusal V.form (B.view board)
-            (B.view board).state.reads counter u.why)
-            × IfOk result (λ tee. IsAdmitted V.form (B.view board)
-            (B.view board).state.reads counter (V.keeper.held (volume_of tee)).sequence) }
-        ensures unopened { B.honest board → (n : ℕ) (h : Held) → Rests n (B.view board).state
-            → BOARD_BLOCKS ≤ (B.view board).size
-            → held V.form (B.view board).key (B.view board).state.reads n ≡ Some h
-            → IfErr result (λ u. IsKeptFromOpening u.why
-            × LeavesOpening V.form h (B.view board) (B.view u.board)) }
-    {
+            });
+        };
         let volume = V::open(alloc, board)?;
         Ok(TeeOver {
             alloc,
@@ -194,6 +153,8 @@ impl<B: Board, V: BoardVolume<B>, A: Application> TeeOver<B, V, A> {
             → Represents self.new world }
         ensures moments { (world : World A) → Represents self.old world
             → IsWithin V.keeper world world (volume_of self.old) (volume_of self.new) }
+        ensures honest { B.honest (V.board_of (volume_of self.old))
+            → B.honest (V.board_of (volume_of self.new)) }
         ensures apps { app_count self.new ≡ app_count self.old }
         ensures turns { (app : ℕ) → turns_made self.new app ≡ turns_made self.old app }
         ensures boots { boots_of self.new ≡ boots_of self.old }
@@ -229,6 +190,11 @@ impl<B: Board, V: BoardVolume<B>, A: Application> TeeOver<B, V, A> {
             c.image c.counter why)
             × IfOk result (λ told. IsAdmitted V.form (B.view (V.board_of (volume_of self.old)))
             c.image c.counter (V.keeper.held (volume_of self.new)).sequence) }
+        // a refusal is of the board as it is then
+        ensures refusal { B.honest (V.board_of (volume_of self.old)) → IfErr result (λ why.
+            IsRefusedNow V.form (B.view (V.board_of (volume_of self.new))) why) }
+        ensures honest { B.honest (V.board_of (volume_of self.old))
+            → B.honest (V.board_of (volume_of self.new)) }
         ensures cause { IfErr result (λ why. why ≡ answers.Failed
             → Rose (B.view (V.board_of (volume_of self.old))).state.faults
             (B.view (V.board_of (volume_of self.new))).state.faults) }

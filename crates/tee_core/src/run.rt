@@ -45,6 +45,8 @@ impl<B, V: Volume, A: Application> TeeOver<B, V, A> {
             (V.keeper.condition (volume_of self.old)) (V.keeper.condition (volume_of self.new))) }
         ensures foundation { KeepsFoundation (V.keeper.condition (volume_of self.old))
             (V.keeper.condition (volume_of self.new)) }
+        ensures below { V.keeper.honest_below (volume_of self.old)
+            → V.keeper.honest_below (volume_of self.new) }
         ensures err { OnErr result ((world : World A) → Represents self.old world
             → StopsWithin A.behaviour (λ after. Represents self.new after) world app client call) }
         ensures apps { app_count self.new ≡ app_count self.old }
@@ -89,6 +91,8 @@ impl<B, V: Volume, A: Application> TeeOver<B, V, A> {
             (V.keeper.condition (volume_of self.old)) (V.keeper.condition (volume_of self.new))) }
         ensures foundation { KeepsFoundation (V.keeper.condition (volume_of self.old))
             (V.keeper.condition (volume_of self.new)) }
+        ensures below { V.keeper.honest_below (volume_of self.old)
+            → V.keeper.honest_below (volume_of self.new) }
         ensures apps { app_count self.new ≡ app_count self.old }
         ensures turns { turns_made self.new app ≤ turns_made self.old app + MAX_CALL_TURNS }
         ensures others { (other : ℕ) → other ≢ app

@@ -16,7 +16,7 @@ use Rattle.alone.specs.declared.turn.TurnKind.TheVariants as kinds
 use Rattle.alone.specs.Machine.{Machine}
 use Rattle.alone.specs.Marks.{Marks}
 use Rattle.alone.specs.Step.{Event, Called, Cancelled, Turned, TurnLost, Corrupted, Lost, Starved, Restarted, step}
-use Rattle.alone.proofs.Counted.{call_counts_none}
+use Rattle.alone.proofs.Counted.{call_counts_none, cancellation_counts_none}
 use Rattle.tee_core.specs.declared.happened.Happened.{Happened}
 use Rattle.tee_core.specs.Happenings.{happening, is_corrupt_turn, is_lost_turn, is_starved_turn, kind_met, has_told}
 use Rattle.tee_core.specs.Powers.{after_power, kept_by, restarts_from, told_of}
@@ -28,7 +28,6 @@ use Rattle.tee_top.specs.BoardLines.{IsOwnerKnown}
 use Rattle.tee_top.specs.Logs.{AreKnown, Entry, Item, OfApp, OfBoard, SameWeather, entries_in, kept_at, log_weather, powers_told, told_of_app}
 use Rattle.tee_top.specs.Parts.{AgreesAt, AgreesIn, AgreeWith, AreTold, IsMarkedAs, entry_of, items_of, log_of, owner_told}
 use Rattle.tee_top.specs.Transcript.{Weather, WorldEvent, Fused, Happens, Powered, after_event, owner_in_doubt, powers_in, told_by}
-use Rattle.tee_top.proofs.Cancels.{cancel_counts_none}
 use Rattle.tee_top.proofs.Parts.{entries_both, powers_both}
 
 -- ---- how many turns a machine of a world has made
@@ -75,7 +74,7 @@ module _ {A : Type 0} (behaviour : Behaviour A) where
 
   counts : (m : Machine A) (event : Event) → Counts m event
   counts m (Called client call) = inr (refl, call_counts_none m client call)
-  counts m (Cancelled op) = inr (refl, cancel_counts_none m op)
+  counts m (Cancelled op) = inr (refl, cancellation_counts_none m op)
   counts m (Turned i) = inl (kind_counts behaviour m kinds.Plain i)
   counts m (TurnLost i) = inl (kind_counts behaviour m (kinds.Lost false) i)
   counts m (Corrupted i) = inl (kind_counts behaviour m kinds.Corrupted i)

@@ -3,7 +3,6 @@ pub mod Alike
 pub mod Along
 pub mod Apart
 pub mod Calls
-pub mod Cancels
 pub mod Ended
 pub mod Known
 pub mod Leaves

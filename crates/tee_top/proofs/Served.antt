@@ -2,7 +2,9 @@
 use Rattle.std.proofs.Common.{◌≡◌, ◌⊎◌, Result, Ok, Err, OnErr, OnOk, inl, inr, refl, sym, subst, ◌∙◌, ap}
 use Rattle.epoch.specs.declared.answer.OpenAnswer.{OpenAnswer}
 use Rattle.epoch.specs.declared.answer.OpenAnswer.TheVariants as answers
-use Rattle.epoch.specs.Mounts.{IsKeptFromOpening}
+use Rattle.board.specs.Moment.{View}
+use Rattle.epoch.specs.Forms.{Form}
+use Rattle.epoch.specs.Mounts.{IsKeptFromOpening, IsRefusedNow}
 use Rattle.tee_top.specs.Runs.{IsStopped, IsUnopened, refusal_of, stopped_as}
 use Rattle.tee_top.specs.Stops.{IfRefused, UnlessRefused}
 use Rattle.tee_top.specs.declared.lines.Stop.{Stop}
@@ -67,6 +69,20 @@ never_done answers.NoMemory h = h
 pub refused_never : (why : OpenAnswer) (told : OpenAnswer) → IsKeptFromOpening why → refusal_of why ≡ StoreRefused told → ⊥
 refused_never why told (inl is) e = subst IsRefused (sym e ∙ ap refusal_of is) tt
 refused_never why told (inr is) e = subst IsRefused (sym e ∙ ap refusal_of is) tt
+
+same_refusal : (why told : OpenAnswer) → StoreRefused why ≡ StoreRefused told → why ≡ told
+same_refusal why told same = cc
+
+-- a run that is refused tells why its board wasn't opened
+pub refused_told : (f : Form) (view : View) (why told : OpenAnswer) → refusal_of why ≡ StoreRefused told → IsRefusedNow f view why → IsRefusedNow f view told
+refused_told f view (answers.TooSmall blocks) told same is = subst (IsRefusedNow f view) (same_refusal (answers.TooSmall blocks) told same) is
+refused_told f view (answers.NoVolume counter) told same is = subst (IsRefusedNow f view) (same_refusal (answers.NoVolume counter) told same) is
+refused_told f view (answers.BadHeader slot found kept) told same is = subst (IsRefusedNow f view) (same_refusal (answers.BadHeader slot found kept) told same) is
+refused_told f view (answers.UnknownVersion version) told same is = subst (IsRefusedNow f view) (same_refusal (answers.UnknownVersion version) told same) is
+refused_told f view (answers.Rollback sequence counter) told same is = subst (IsRefusedNow f view) (same_refusal (answers.Rollback sequence counter) told same) is
+refused_told f view (answers.Ahead sequence counter) told same is = subst (IsRefusedNow f view) (same_refusal (answers.Ahead sequence counter) told same) is
+refused_told f view answers.Failed told same is = absurd (subst IsRefused (sym same) tt)
+refused_told f view answers.NoMemory told same is = absurd (subst IsRefused (sym same) tt)
 
 -- a run whose board wasn't opened ends so
 pub never_opened : (why : OpenAnswer) → IsUnopened (refusal_of why)

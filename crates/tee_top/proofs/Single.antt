@@ -2,6 +2,7 @@
 use Rattle.app_api.specs.Behaviours.{Behaviour}
 use Rattle.std.proofs.Common.{ℕ, suc, ◌≡◌, ◌<◌, ◌≤◌, ◌+◌, ◌-◌, ◌^◌, inl, inr, true, List, [], ◌∷◌, ◌++◌, Option, None, Some, drop, get_or, length, refl, sym, subst, ◌∙◌, ap, append-nil, arith}
 use Rattle.std.specs.Prelude.{slice_get, slice_index_or}
+use Rattle.std.proofs.lemmas.List.{get_or_read}
 use Rattle.std.specs.Io.KnownBytes.{Appends}
 use Rattle.tee_base.specs.Transfer.{AppendsFront}
 use Rattle.board.specs.Moment.{View}
@@ -15,7 +16,7 @@ use Rattle.alone.specs.declared.turn.TurnKind.TheVariants as kinds
 use Rattle.alone.specs.Machine.{Machine}
 use Rattle.alone.specs.Marks.{event_at}
 use Rattle.alone.specs.Step.{Event, Called, called, is_enabled, step}
-use Rattle.alone.proofs.Counted.{call_counts_none}
+use Rattle.alone.proofs.Counted.{call_counts_none, cancellation_counts_none}
 use Rattle.app_side.specs.Represents.{event_of as turn_of}
 use Rattle.tee_core.specs.declared.happened.Event.{Event as TeeEvent}
 use Rattle.tee_core.specs.declared.happened.Event.TheVariants as events
@@ -30,9 +31,28 @@ use Rattle.tee_top.specs.Boards.{GoesAlong, HasOrders, IsSpan, LeavesStores, Ros
 use Rattle.tee_top.specs.Logs.{AreKnown, Item, OfApp, log_text}
 use Rattle.tee_top.specs.Parts.{AgreesIn, IsRunOf, IsUndamaged, Point, StopsIn, entry_of, log_of, step_events}
 use Rattle.tee_top.specs.Transcript.{Weather, Happens, after_events, happened_lines, happens, text_of}
-use Rattle.tee_top.proofs.Cancels.{cancel_counts_none}
 use Rattle.tee_top.proofs.Parts.{text_is_log}
 use Rattle.tee_top.proofs.Turns.{event_as}
+
+-- ---- the application of an event
+
+-- there is such an application and a name for it, and it may make one turn more
+pub record IsKnownEvent (names : List (List ℕ)) (count : ℕ) (turns : ℕ → ℕ) (name : List ℕ) (i : ℕ) : Type 0 where
+  pub there : i < count
+  pub within : i < length names
+  pub named : name ≡ get_or names i []
+  pub room : turns i < 2 ^ 63
+
+pub event_known : (names : List (List ℕ)) (count : ℕ) (turns : ℕ → ℕ) (name : List ℕ) (i app : ℕ) → i ≡ app → length names ≡ count → app < count
+    → (read : List ℕ) → read ≡ get_or names app read → name ≡ read → turns app + 1 ≤ 2 ^ 63 → IsKnownEvent names count turns name i
+event_known names count turns name i app own many known read here is fits =
+    let within : app < length names = omega (arith, many, known) in
+    record {
+      there = subst (λ k. k < count) (sym own) known;
+      within = subst (λ k. k < length names) (sym own) within;
+      named = is ∙ get_or_read names app read within here [] ∙ ap (λ k. get_or names k []) (sym own);
+      room = subst (λ k. turns k < 2 ^ 63) (sym own) (omega (arith, fits));
+    }
 
 -- ---- what an event leaves of the board
 
@@ -116,7 +136,7 @@ module _ {A : Type 0} (behaviour : Behaviour A) where
   -- one event makes one turn at most
   few_turns : (m : Machine A) (e : TeeEvent) (kind : TurnKind) → m.turns < 2 ^ 63 → (step behaviour m (machine_event e kind)).machine.turns < 2 ^ 64
   few_turns m (events.Call app client call) kind few = omega (arith, few, call_counts_none m client call)
-  few_turns m (events.Cancel app op) kind few = omega (arith, few, cancel_counts_none m op)
+  few_turns m (events.Cancel app op) kind few = omega (arith, few, cancellation_counts_none m op)
   few_turns m (events.Turn app instance) kind few = omega (arith, few, kind_counts behaviour m kind instance)
 
   -- weather that agrees with an event gives it

@@ -10,6 +10,7 @@ ghost use Rattle.alone.specs.Machine.{Machine};
 ghost use Rattle.alone.specs.Runs.{most_turns};
 ghost use Rattle.alone.specs.Step.{called};
 ghost use Rattle.app_api.specs.declared.call.Call.{Call as ClientCall};
+ghost use Rattle.epoch.specs.Mounts.{IsRefusedNow};
 ghost use Rattle.epoch.specs.declared.answer.OpenAnswer.TheVariants as answers;
 ghost use Rattle.tee_core.specs.Represents.{app_count, app_of, boots_of, turns_made, volume_of, Represents};
 ghost use Rattle.tee_core.specs.World.{World, turn_events};
@@ -195,6 +196,8 @@ fn run_event<B: Board, V: BoardVolume<B>, A: Application, W: Sink>(
         (B.view (V.board_of (volume_of tee.old)))
         (B.view (V.board_of (volume_of tee.new)))) }
     ensures served { IsNoRefusal result }
+    ensures honest { B.honest (V.board_of (volume_of tee.old))
+        → B.honest (V.board_of (volume_of tee.new)) }
     ensures apps { app_count tee.new ≡ app_count tee.old }
     ensures fault { IsErrOf result Stop.WriteFault
         → Rose (W.failures sink.old) (W.failures sink.new) }
@@ -239,6 +242,8 @@ fn run_turns<B: Board, V: BoardVolume<B>, A: Application, W: Sink>(
         (B.view (V.board_of (volume_of tee.old)))
         (B.view (V.board_of (volume_of tee.new)))) }
     ensures served { IsNoRefusal result }
+    ensures honest { B.honest (V.board_of (volume_of tee.old))
+        → B.honest (V.board_of (volume_of tee.new)) }
     ensures apps { app_count tee.new ≡ app_count tee.old }
     ensures fault { IsErrOf result Stop.WriteFault
         → Rose (W.failures sink.old) (W.failures sink.new) }
@@ -281,6 +286,8 @@ fn run_until<B: Board, V: BoardVolume<B>, A: Application, W: Sink>(
         (B.view (V.board_of (volume_of tee.old)))
         (B.view (V.board_of (volume_of tee.new)))) }
     ensures served { IsNoRefusal result }
+    ensures honest { B.honest (V.board_of (volume_of tee.old))
+        → B.honest (V.board_of (volume_of tee.new)) }
     ensures apps { app_count tee.new ≡ app_count tee.old }
     ensures fault { IsErrOf result Stop.WriteFault
         → Rose (W.failures sink.old) (W.failures sink.new) }
@@ -327,6 +334,8 @@ fn run_call<B: Board, V: BoardVolume<B>, A: Application, W: Sink>(
         (B.view (V.board_of (volume_of tee.old)))
         (B.view (V.board_of (volume_of tee.new)))) }
     ensures served { IsNoRefusal result }
+    ensures honest { B.honest (V.board_of (volume_of tee.old))
+        → B.honest (V.board_of (volume_of tee.new)) }
     ensures apps { app_count tee.new ≡ app_count tee.old }
     ensures fault { IsErrOf result Stop.WriteFault
         → Rose (W.failures sink.old) (W.failures sink.new) }
@@ -379,6 +388,10 @@ fn run_power<B: Board, V: BoardVolume<B>, A: Application, W: Sink>(
         (point (boots_of tee.old) (B.view (V.board_of (volume_of tee.old))) (W.written sink.old))
         (point (boots_of tee.new) (B.view (V.board_of (volume_of tee.new))) (W.written sink.new))
         × (why ≡ answers.Failed)) }
+    ensures refusal { IfRefused result (λ why. B.honest (V.board_of (volume_of tee.old))
+        → IsRefusedNow V.form (B.view (V.board_of (volume_of tee.new))) why) }
+    ensures honest { B.honest (V.board_of (volume_of tee.old))
+        → B.honest (V.board_of (volume_of tee.new)) }
     ensures cause { IfRefused result (λ why. why ≡ answers.Failed
         → Rose (B.view (V.board_of (volume_of tee.old))).state.faults
         (B.view (V.board_of (volume_of tee.new))).state.faults) }
@@ -433,6 +446,10 @@ fn run_line<B: Board, V: BoardVolume<B>, A: Application, W: Sink>(
         (point (boots_of tee.old) (B.view (V.board_of (volume_of tee.old))) (W.written sink.old))
         (point (boots_of tee.new) (B.view (V.board_of (volume_of tee.new))) (W.written sink.new))
         × (why ≡ answers.Failed)) }
+    ensures refusal { IfRefused result (λ why. B.honest (V.board_of (volume_of tee.old))
+        → IsRefusedNow V.form (B.view (V.board_of (volume_of tee.new))) why) }
+    ensures honest { B.honest (V.board_of (volume_of tee.old))
+        → B.honest (V.board_of (volume_of tee.new)) }
     ensures cause { IfRefused result (λ why. why ≡ answers.Failed
         → Rose (B.view (V.board_of (volume_of tee.old))).state.faults
         (B.view (V.board_of (volume_of tee.new))).state.faults) }
@@ -505,6 +522,10 @@ pub fn run_lines<B: Board, V: BoardVolume<B>, A: Application, W: Sink>(
         (point (boots_of tee.old) (B.view (V.board_of (volume_of tee.old))) (W.written sink.old))
         (point (boots_of tee.new) (B.view (V.board_of (volume_of tee.new))) (W.written sink.new))
         × (why ≡ answers.Failed)) }
+    ensures refusal { IfRefused result (λ why. B.honest (V.board_of (volume_of tee.old))
+        → IsRefusedNow V.form (B.view (V.board_of (volume_of tee.new))) why) }
+    ensures honest { B.honest (V.board_of (volume_of tee.old))
+        → B.honest (V.board_of (volume_of tee.new)) }
     ensures cause { IfRefused result (λ why. why ≡ answers.Failed
         → Rose (B.view (V.board_of (volume_of tee.old))).state.faults
         (B.view (V.board_of (volume_of tee.new))).state.faults) }

@@ -10,7 +10,7 @@ ghost use Rattle.tee_base.specs.Faults.{Rose};
 ghost use Rattle.tee_base.specs.Transfer.{ConsumesWithin, HasMoreThan};
 ghost use Rattle.tee_base.specs.declared.limits.TheConstants.{MAX_SCRIPT_BYTES};
 ghost use Rattle.board.specs.Moment.{IsCounter};
-ghost use Rattle.epoch.specs.Mounts.{IsRefusal};
+ghost use Rattle.epoch.specs.Mounts.{IsRefusal, IsRefusedNow};
 ghost use Rattle.store_api.specs.Stores.{Store};
 ghost use Rattle.tee_core.specs.InUse.{form_in_use};
 ghost use Rattle.tee_core.specs.World.{world_of};
@@ -142,6 +142,8 @@ fn serve<B: Board, V: BoardVolume<B>, W: Sink, A: Application>(
         → ((sink.new ≡ sink.old) × (counter : ℕ) × IsCounter (B.view board).state counter
         × IsRefusal V.form (B.view board) (B.view board).state.reads counter why)
         ⊎ HasPower lines.items }
+    ensures refusal { (why : OpenRefusal) → result.0 ≡ Status.StoreRefused why → B.honest board
+        → IsRefusedNow V.form (B.view result.1) why }
     ensures opened { B.honest board → ((sink.new ≡ sink.old) × IsUnopened result.0)
         ⊎ HasOpened V.form (B.view board) }
     ensures cause { result.0 ≡ Status.BoardFault
@@ -210,10 +212,13 @@ pub fn run_tee<S: Source, W: Sink, B: Board + Drop, A: Application>(
         ⊎ IsOfScript hosts.items (S.left source.old) (λ script.
         RunsToPower A.behaviour form_in_use hosts.items seed stores script (B.view result.1)
         (W.written sink.old) (W.written sink.new)) }
-    // a refusal is the opening rule's, where no line of the script loses the power; on a sound image none comes
+    // a refusal is the opening rule's, over the board that is handed back; on a sound image none comes
+    ensures refusal { (why : OpenRefusal) → result.0 ≡ Status.StoreRefused why → B.honest board
+        → IsRefusedNow form_in_use (B.view result.1) why }
     ensures accepted { (why : OpenRefusal) → result.0 ≡ Status.StoreRefused why
         → B.honest board → (stores : ℕ → Store)
         → BeginsWith form_in_use (B.view board) (length hosts.items) stores → ⊥ }
+    // without a line that loses the power it is over the board that was handed in
     ensures refused { (why : OpenRefusal) → result.0 ≡ Status.StoreRefused why → B.honest board
         → ((sink.new ≡ sink.old) × (counter : ℕ) × IsCounter (B.view board).state counter
         × IsRefusal form_in_use (B.view board) (B.view board).state.reads counter why)

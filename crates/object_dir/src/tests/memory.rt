@@ -91,6 +91,7 @@ impl Volume for Memory {
       tells_reads = false;
       held = λ m. record { leaves = λ r l. []; sequence = m.sequence };
       condition = λ m. record { lost = m.lost; faults = m.faults; foundation = no_foundation };
+      honest_below = λ m. ⊥;
       honest = λ m. ⊥;
       damage = λ m r l. None;
       moment = λ m. 0;

@@ -22,6 +22,7 @@ impl<L: LeafSource> LeafSource for Counted<L> {
       tells_reads = L.keeper.tells_reads;
       held = λ c. L.keeper.held c.source;
       condition = λ c. L.keeper.condition c.source;
+      honest_below = λ c. L.keeper.honest_below c.source;
       honest = λ c. L.keeper.honest c.source;
       damage = λ c. L.keeper.damage c.source;
       moment = λ c. L.keeper.moment c.source;

@@ -20,6 +20,7 @@ impl LeafSource for Memory {
       tells_reads = true;
       held = λ m. record { leaves = λ r l. slice_index_or m.leaves.items l []; sequence = 0 };
       condition = λ m. record { lost = m.lost; faults = 0; foundation = no_foundation };
+      honest_below = λ m. Unit {0};
       honest = λ m. Unit {0};
       damage = λ m r l. None;
       moment = λ m. 0;

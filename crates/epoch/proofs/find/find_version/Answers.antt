@@ -6,7 +6,7 @@ use Rattle.epoch.specs.Opening.{header_answer}
 use Rattle.epoch.specs.declared.answer.OpenAnswer.TheVariants.{Failed}
 use Rattle.epoch.specs.declared.find.TheConstants.{VOLUME_BLOCKS}
 use Rattle.epoch.proofs.RuleLemmas.{asked}
-use Rattle.epoch.proofs.FindLemmas.{blank_counter, settled_answer, find_starts, find_crash, opens_below, judged_opening, ruled_answer, between}
+use Rattle.epoch.proofs.FindLemmas.{blank_counter, settled_answer, told_counter, find_starts, find_crash, opens_below, judged_opening, ruled_answer, between}
 use Rattle.epoch.proofs.find.find_version.Goals as goal
 use Rattle.epoch.proofs.find.find_version.Goals.{in-Err, in-Ok-None, in-Ok-Some}
 
@@ -52,6 +52,11 @@ returns-clause-exact g c h =
       counter = c.in_ok-seen.seen.counter;
       among = (c.in_ok-seen.ensures.counter h).among;
       ruled = ruled_answer c.args.version VOLUME_BLOCKS v.size v.key v.state.reads c.in_ok-seen.seen.counter c.judge.result c.match-judge.result large told answers;
+      still = λ made. elim c.match-judge.branch [
+        | in-Err w ↦ rw (w.result-is, w.board-is) (told_counter _ _ _ (c.in_ok-seen.ensures.counter h))
+        | in-Ok-None w ↦ rw w.result-is tt
+        | in-Ok-Some w ↦ rw (w.result-is ∙ w.raise.ensures.answer (λ failed. made (w.result-is ∙ failed))) tt
+      ];
     }
 
 pub returns-clause-run : goal.returns-clause-run

@@ -1,4 +1,4 @@
-use Rattle.epoch.proofs.MountLemmas.{mounts_found, ruled_by}
+use Rattle.epoch.proofs.MountLemmas.{found_refused, mounts_found, ruled_by}
 use Rattle.epoch.proofs.SettledLemmas.{settled_blocks}
 use Rattle.epoch.proofs.mounting.mount.Goals as goal
 
@@ -18,6 +18,12 @@ returns-clause-exact g c honest =
     let finds = c.find_version.ensures.exact honest in
     let v = g.B.Board.view c.args.board.now in
     (finds.counter, finds.among, λ f same. ruled_by f c.args.version same v v.state.reads finds.counter c.find_version.result finds.ruled)
+
+pub returns-clause-refusal : goal.returns-clause-refusal
+returns-clause-refusal g c honest =
+    let calls = c.find_version.ensures.calls in
+    found_refused c.args.version (g.B.Board.view c.args.board.now) (g.B.Board.view c.find_version.new.board) c.find_version.result calls.size calls.key
+    (c.find_version.ensures.blocks honest).reads (c.find_version.ensures.exact honest)
 
 pub returns-clause-settled : goal.returns-clause-settled
 returns-clause-settled g c honest =

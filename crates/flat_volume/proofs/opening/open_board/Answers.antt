@@ -1,6 +1,6 @@
 use Rattle.std.proofs.Common.{◌≡◌, Err, refl, rules}
-use Rattle.epoch.specs.Mounts.{IsRefusal}
-use Rattle.epoch.proofs.MountLemmas.{rests_holding}
+use Rattle.epoch.specs.Mounts.{IsRefusal, IsRefusedNow}
+use Rattle.epoch.proofs.MountLemmas.{kept_refused, rests_holding}
 use Rattle.flat_volume.specs.Flat.{flat}
 use Rattle.flat_volume.specs.Frame.{flat_framed}
 use Rattle.flat_volume.proofs.OpenLemmas.{not_ok, opens_failed, opens_joined, ruled_opening, told_so}
@@ -26,6 +26,15 @@ returns-in_err-found-clause-exact g c honest =
       told_so c.from_residual.result c.in_err-found.field-0.0 (λ why. IsRefusal flat v v.state.reads told.0 why) is (told.2 flat refl).0,
       not_ok c.from_residual.result _ c.from_residual.ensures.0,
     )
+
+pub returns-in_err-found-clause-refusal : goal.returns-in_err-found-clause-refusal
+returns-in_err-found-clause-refusal g c honest =
+    let w = g.B.Board.view c.mount.new.board in
+    let is : c.from_residual.result ≡ Err c.in_err-found.field-0.0 = search rules in
+    told_so c.from_residual.result c.in_err-found.field-0.0 (λ why. IsRefusedNow flat w why) is (c.in_err-found.ensures.refusal honest flat refl)
+
+pub returns-clause-refusal : goal.returns-clause-refusal
+returns-clause-refusal g c honest = kept_refused flat (g.B.Board.view c.take_up.new.board) c.take_up.result c.take_up.ensures.kept
 
 pub returns-in_err-found-clause-opens : goal.returns-in_err-found-clause-opens
 returns-in_err-found-clause-opens g c honest n h rests large is =

@@ -68,5 +68,8 @@ returns-clause-stopped g c =
 pub returns-clause-orders : goal.returns-clause-orders
 returns-clause-orders g c = orders_both [] [] _ _ _ c.in_ok-op.ensures.orders c.run_until.ensures.orders
 
+pub returns-clause-honest : goal.returns-clause-honest
+returns-clause-honest g c = λ h. c.run_until.ensures.honest (c.in_ok-op.ensures.honest h)
+
 pub returns-clause-losses : goal.returns-clause-losses
 returns-clause-losses g c = on_ok_weaker c.run_until.result (λ until. losses_both _ _ _ _ _ _ c.in_ok-op.ensures.losses until) c.run_until.ensures.losses

@@ -14,7 +14,7 @@ use Rattle.tee_top.proofs.Along.{stops_first}
 use Rattle.tee_top.proofs.Leaves.{stands_leaves}
 use Rattle.tee_top.proofs.Losses.{losses_event}
 use Rattle.tee_top.proofs.Parts.{no_orders}
-use Rattle.tee_top.proofs.Single.{call_told, event_span, one_stops, one_whole, unordered}
+use Rattle.tee_top.proofs.Single.{call_told, event_known, event_span, one_stops, one_whole, unordered}
 use Rattle.tee_top.proofs.lines.run_event.Goals as goal
 
 pub returns-then-not-has_room-clause-stopped : goal.returns-then-not-has_room-clause-stopped
@@ -40,6 +40,10 @@ returns-in_err-happened-clause-orders g c =
     subst (λ v. HasOrders [] (g.B.Board.view (g.V.BoardVolume.board_of (volume_of c.args.tee.now))) (g.B.Board.view (g.V.BoardVolume.board_of v))) (sym c.in_err-happened.ensures.err.1)
     (no_orders _)
 
+pub returns-in_err-happened-clause-honest : goal.returns-in_err-happened-clause-honest
+returns-in_err-happened-clause-honest g c = λ honest.
+    subst (λ v. g.B.Board.honest (g.V.BoardVolume.board_of v)) (sym c.in_err-happened.ensures.err.1) honest
+
 pub returns-in_err-write_happened-clause-stopped : goal.returns-in_err-write_happened-clause-stopped
 returns-in_err-write_happened-clause-stopped g c =
     let behaviour = g.A.Application.behaviour in
@@ -48,21 +52,16 @@ returns-in_err-write_happened-clause-stopped g c =
     let then = c.event.new.self in
     let e = c.args.event in
     let h = c.in_ok-happened.happened in
-    let there : app_of e < app_count tee = subst (λ i. i < app_count tee) (sym c.requires.own) c.requires.known in
-    let own : app_of e < length names = omega (arith, c.requires.names, there) in
-    let within : c.args.app < length names = omega (arith, c.requires.names, c.requires.known) in
-    let named : c.as_slice.result.now ≡ get_or names (app_of e) [] =
-    c.as_slice.ensures ∙ get_or_read names c.args.app c.index-names-app.result within c.index-names-app.is [] ∙ ap (λ i. get_or names i []) (sym c.requires.own) in
-    let fits : turns_made tee c.args.app + 1 ≤ 2 ^ 63 = c.has_room.ensures.0 c.if-not-has_room.false in
-    let room : turns_made tee (app_of e) < 2 ^ 63 = subst (λ i. turns_made tee i < 2 ^ 63) (sym c.requires.own) (omega (arith, fits)) in
+    let known = event_known names (app_count tee) (λ i. turns_made tee i) c.as_slice.result.now (app_of e) c.args.app c.requires.own c.requires.names c.requires.known
+    c.index-names-app.result c.index-names-app.is c.as_slice.ensures (c.has_room.ensures.0 c.if-not-has_room.false) in
     on_err_known c.from_residual-in_err-write_happened.result _
     (λ w stands.
-    let p = side_at tee.sides.items w (app_of e) stands.sides_are there in
-    one_stops behaviour g.V.BoardVolume.form names w e h p.0 p.1 (c.in_ok-happened.ensures.told w p.0 stands p.1) _ _ own
-    (omega (arith, room, sides_turns tee.sides.items w (app_of e) p.0 stands.sides_are p.1))
+    let p = side_at tee.sides.items w (app_of e) stands.sides_are known.there in
+    one_stops behaviour g.V.BoardVolume.form names w e h p.0 p.1 (c.in_ok-happened.ensures.told w p.0 stands p.1) _ _ known.within
+    (omega (arith, known.room, sides_turns tee.sides.items w (app_of e) p.0 stands.sides_are p.1))
     (c.in_ok-happened.ensures.stands w p.0 stands p.1) (c.in_ok-happened.ensures.sound w stands)
     (stands_leaves g.V.Volume.keeper g.V.BoardVolume.form then.sides.items (volume_of then) _ _ (g.met.V.BoardVolume.seen (volume_of then)) (c.in_ok-happened.ensures.world w stands))
-    (subst (λ name. AppendsFront (happened_lines name h) (g.W.Sink.written c.args.sink.now) (g.W.Sink.written c.write_happened.new.sink)) named c.in_err-write_happened.ensures.err))
+    (subst (λ name. AppendsFront (happened_lines name h) (g.W.Sink.written c.args.sink.now) (g.W.Sink.written c.write_happened.new.sink)) known.named c.in_err-write_happened.ensures.err))
 
 pub returns-in_err-write_happened-clause-orders : goal.returns-in_err-write_happened-clause-orders
 returns-in_err-write_happened-clause-orders g c =
@@ -70,6 +69,12 @@ returns-in_err-write_happened-clause-orders g c =
     let new = volume_of c.event.new.self in
     let counts = c.in_ok-happened.ensures.counts in
     unordered g.V.Volume.keeper g.V.BoardVolume.form old new _ _ (g.met.V.BoardVolume.seen old) (g.met.V.BoardVolume.seen new) counts.foundation counts.faults
+
+pub returns-in_err-write_happened-clause-honest : goal.returns-in_err-write_happened-clause-honest
+returns-in_err-write_happened-clause-honest g c = λ honest.
+    let old = volume_of c.args.tee.now in
+    let new = volume_of c.event.new.self in
+    (g.met.V.BoardVolume.below new).0 (c.in_ok-happened.ensures.below ((g.met.V.BoardVolume.below old).1 honest))
 
 pub returns-clause-whole : goal.returns-clause-whole
 returns-clause-whole g c =
@@ -79,27 +84,28 @@ returns-clause-whole g c =
     let then = c.event.new.self in
     let e = c.args.event in
     let h = c.in_ok-happened.happened in
-    let there : app_of e < app_count tee = subst (λ i. i < app_count tee) (sym c.requires.own) c.requires.known in
-    let own : app_of e < length names = omega (arith, c.requires.names, there) in
-    let within : c.args.app < length names = omega (arith, c.requires.names, c.requires.known) in
-    let named : c.as_slice.result.now ≡ get_or names (app_of e) [] =
-    c.as_slice.ensures ∙ get_or_read names c.args.app c.index-names-app.result within c.index-names-app.is [] ∙ ap (λ i. get_or names i []) (sym c.requires.own) in
-    let fits : turns_made tee c.args.app + 1 ≤ 2 ^ 63 = c.has_room.ensures.0 c.if-not-has_room.false in
-    let room : turns_made tee (app_of e) < 2 ^ 63 = subst (λ i. turns_made tee i < 2 ^ 63) (sym c.requires.own) (omega (arith, fits)) in
+    let known = event_known names (app_count tee) (λ i. turns_made tee i) c.as_slice.result.now (app_of e) c.args.app c.requires.own c.requires.names c.requires.known
+    c.index-names-app.result c.index-names-app.is c.as_slice.ensures (c.has_room.ensures.0 c.if-not-has_room.false) in
     λ w stands.
-    let p = side_at tee.sides.items w (app_of e) stands.sides_are there in
-    one_whole behaviour g.V.BoardVolume.form names w e h p.0 p.1 (c.in_ok-happened.ensures.told w p.0 stands p.1) _ _ _ own
-    (omega (arith, room, sides_turns tee.sides.items w (app_of e) p.0 stands.sides_are p.1))
+    let p = side_at tee.sides.items w (app_of e) stands.sides_are known.there in
+    one_whole behaviour g.V.BoardVolume.form names w e h p.0 p.1 (c.in_ok-happened.ensures.told w p.0 stands p.1) _ _ _ known.within
+    (omega (arith, known.room, sides_turns tee.sides.items w (app_of e) p.0 stands.sides_are p.1))
     (c.in_ok-happened.ensures.stands w p.0 stands p.1) (c.in_ok-happened.ensures.sound w stands) c.in_ok-happened.ensures.boots
     (event_span g.V.Volume.keeper g.V.BoardVolume.form (volume_of tee) (volume_of then) _ _ (g.met.V.BoardVolume.seen (volume_of tee))
     (g.met.V.BoardVolume.seen (volume_of then)) e h.kind c.in_ok-happened.ensures.counts)
     (c.in_ok-happened.ensures.world w stands)
-    (subst (λ name. Appends (g.W.Sink.written c.args.sink.now) (g.W.Sink.written c.write_happened.new.sink) (happened_lines name h)) named c.in_ok-write_happened.ensures.ok)
+    (subst (λ name. Appends (g.W.Sink.written c.args.sink.now) (g.W.Sink.written c.write_happened.new.sink) (happened_lines name h)) known.named c.in_ok-write_happened.ensures.ok)
 
 pub returns-clause-called : goal.returns-clause-called
 returns-clause-called g c = λ w m client call stands here is.
     call_told g.A.Application.behaviour c.args.event c.in_ok-happened.happened m c.args.app client call
     (c.in_ok-happened.ensures.told w m stands (subst (λ i. slice_get w i ≡ Some m) (sym c.requires.own) here)) is
+
+pub returns-clause-honest : goal.returns-clause-honest
+returns-clause-honest g c = λ honest.
+    let old = volume_of c.args.tee.now in
+    let new = volume_of c.event.new.self in
+    (g.met.V.BoardVolume.below new).0 (c.in_ok-happened.ensures.below ((g.met.V.BoardVolume.below old).1 honest))
 
 pub returns-clause-orders : goal.returns-clause-orders
 returns-clause-orders g c =

@@ -27,6 +27,9 @@ returns-in-Call-clause-stopped g c = rw c.in-Call.is (unless_refused c.run_call.
 pub returns-in-Call-clause-refused : goal.returns-in-Call-clause-refused
 returns-in-Call-clause-refused g c = no_refusal c.run_call.result _ c.run_call.ensures.served
 
+pub returns-in-Call-clause-refusal : goal.returns-in-Call-clause-refusal
+returns-in-Call-clause-refusal g c = no_refusal c.run_call.result _ c.run_call.ensures.served
+
 pub returns-in-Call-clause-cause : goal.returns-in-Call-clause-cause
 returns-in-Call-clause-cause g c = no_refusal c.run_call.result _ c.run_call.ensures.served
 
@@ -43,6 +46,9 @@ returns-in-Turns-clause-stopped g c = rw c.in-Turns.is (unless_refused c.run_tur
 
 pub returns-in-Turns-clause-refused : goal.returns-in-Turns-clause-refused
 returns-in-Turns-clause-refused g c = no_refusal c.run_turns.result _ c.run_turns.ensures.served
+
+pub returns-in-Turns-clause-refusal : goal.returns-in-Turns-clause-refusal
+returns-in-Turns-clause-refusal g c = no_refusal c.run_turns.result _ c.run_turns.ensures.served
 
 pub returns-in-Turns-clause-cause : goal.returns-in-Turns-clause-cause
 returns-in-Turns-clause-cause g c = no_refusal c.run_turns.result _ c.run_turns.ensures.served

@@ -33,6 +33,7 @@ loop-line-init g c =
       run = λ w stands. run_none behaviour g.V.BoardVolume.form c.args.names.now _ w (λ weather. events_of behaviour weather w []) _ stands (λ weather. refl);
       orders = no_orders _;
       losses = losses_none _ _ _ (omega arith);
+      honest = λ h. h;
       apps = refl;
       known = subst (λ (lines : List Line). AllByRecursion (IsKnown (app_count c.args.tee.now)) lines) (sym c.from-rest.ensures.0) c.requires.known;
       later = omega arith;
@@ -53,6 +54,7 @@ loop-line-preserved g c =
           (line_run behaviour g.V.BoardVolume.form c.args.names.now _ _ line _ _ (c.in_ok-run_line.ensures.whole (after_events behaviour w run.made) run.stands));
       orders = orders_more front line _ _ _ c.loop-line.invariant.orders c.in_ok-run_line.ensures.orders;
       losses = losses_both _ _ _ _ _ _ c.loop-line.invariant.losses c.in_ok-run_line.ensures.losses;
+      honest = λ h. c.in_ok-run_line.ensures.honest (c.loop-line.invariant.honest h);
       apps = c.in_ok-run_line.ensures.apps ∙ c.loop-line.invariant.apps;
       known = (subst (λ (lines : List Line). AllByRecursion (IsKnown (app_count c.args.tee.now)) lines) c.in-Some.ensures.items c.loop-line.invariant.known).1;
       later = omega (arith, c.loop-line.invariant.later, c.in_ok-run_line.ensures.later);
@@ -97,6 +99,14 @@ returns-in_err-run_line-clause-refused g c =
     let refused = part now run.stands in
     (lines_refused behaviour form names _ w front (line ∷ more) _ _ _ run (refused_before behaviour form names now (line ∷ []) more _ _ refused.0), refused.1))
     c.in_err-run_line.ensures.refused))
+
+pub returns-in_err-run_line-clause-refusal : goal.returns-in_err-run_line-clause-refusal
+returns-in_err-run_line-clause-refusal g c =
+    let p = err_from_is_err_and c.from_residual.result c.from_residual.ensures.1 in
+    rw (p.1, p.2) (refused_weaker {X = Unit {0}} (Err c.in_err-run_line.field-0.0) _ _ (λ why part h. part (c.loop-line.invariant.honest h)) c.in_err-run_line.ensures.refusal)
+
+pub returns-in_err-run_line-clause-honest : goal.returns-in_err-run_line-clause-honest
+returns-in_err-run_line-clause-honest g c = λ h. c.in_err-run_line.ensures.honest (c.loop-line.invariant.honest h)
 
 pub returns-in_err-run_line-clause-cause : goal.returns-in_err-run_line-clause-cause
 returns-in_err-run_line-clause-cause g c =

@@ -23,6 +23,7 @@ invariant-loop-line g l =
       orders : HasOrders (orders_of front) (g.B.Board.view (g.V.BoardVolume.board_of (volume_of l.fn.tee))) (g.B.Board.view (g.V.BoardVolume.board_of (volume_of l.tee)));
       losses : WritesLosses (g.W.Sink.written l.fn.sink) (g.W.Sink.written l.sink)
           (g.B.Board.view (g.V.BoardVolume.board_of (volume_of l.fn.tee))) (g.B.Board.view (g.V.BoardVolume.board_of (volume_of l.tee)));
+      honest : g.B.Board.honest (g.V.BoardVolume.board_of (volume_of l.fn.tee)) → g.B.Board.honest (g.V.BoardVolume.board_of (volume_of l.tee));
       apps : app_count l.tee ≡ app_count l.fn.tee;
       known : AllByRecursion (IsKnown (app_count l.fn.tee)) l.rest.items;
       later : g.W.Sink.failures l.fn.sink ≤ g.W.Sink.failures l.sink;

@@ -64,6 +64,9 @@ returns-in-Ok-clause-stopped g c =
 pub returns-in-Ok-clause-refused : goal.returns-in-Ok-clause-refused
 returns-in-Ok-clause-refused g c = no_refusal c.write_power.result _ c.write_power.ensures.served
 
+pub returns-in-Ok-clause-refusal : goal.returns-in-Ok-clause-refusal
+returns-in-Ok-clause-refusal g c = no_refusal c.write_power.result _ c.write_power.ensures.served
+
 pub returns-in-Ok-clause-cause : goal.returns-in-Ok-clause-cause
 returns-in-Ok-clause-cause g c = no_refusal c.write_power.result _ c.write_power.ensures.served
 
@@ -87,6 +90,9 @@ returns-in-Err-clause-refused g c = λ w stands.
           (within_leaves g.V.Volume.keeper g.V.BoardVolume.form (volume_of tee) (volume_of then) _ w (g.met.V.BoardVolume.seen (volume_of then)) (c.in-Err.ensures.moments w stands)) refl,
       c.in-Err.ensures.failed w stands,
     )
+
+pub returns-in-Err-clause-refusal : goal.returns-in-Err-clause-refusal
+returns-in-Err-clause-refusal g c = λ honest. c.in-Err.ensures.refusal honest
 
 pub returns-in-Err-clause-cause : goal.returns-in-Err-clause-cause
 returns-in-Err-clause-cause g c = λ is. c.in-Err.ensures.cause is

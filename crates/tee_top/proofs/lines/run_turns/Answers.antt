@@ -22,6 +22,7 @@ loop-init g c =
           (λ weather now. happens (turn_events behaviour (weather.marks app) now app instance (count - 0))) _ stands (λ weather. turns_all behaviour weather w app instance count);
       orders = no_orders _;
       losses = losses_none _ _ _ (omega arith);
+      honest = λ h. h;
       apps = refl;
       later = omega arith;
     }
@@ -44,6 +45,7 @@ loop-preserved g c =
           (c.in_ok-run_event.ensures.whole now run.stands);
       orders = orders_both [] [] _ _ _ c.loop.invariant.orders c.in_ok-run_event.ensures.orders;
       losses = losses_both _ _ _ _ _ _ c.loop.invariant.losses c.in_ok-run_event.ensures.losses;
+      honest = λ h. c.in_ok-run_event.ensures.honest (c.loop.invariant.honest h);
       apps = c.in_ok-run_event.ensures.apps ∙ c.loop.invariant.apps;
       later = omega (arith, c.loop.invariant.later, c.in_ok-run_event.ensures.later);
     }
@@ -64,6 +66,9 @@ returns-in_err-run_event-clause-stopped g c =
     (λ weather x. happens (turn_events behaviour (weather.marks app) x app instance (count - (k + 1)))) _ _ _
     run (λ weather. step_events behaviour weather now (events.Turn app instance)) (λ weather. turns_split behaviour weather now app instance count k c.loop-test.true)
     (c.in_err-run_event.ensures.stopped now run.stands))
+
+pub returns-in_err-run_event-clause-honest : goal.returns-in_err-run_event-clause-honest
+returns-in_err-run_event-clause-honest g c = λ h. c.in_err-run_event.ensures.honest (c.loop.invariant.honest h)
 
 pub returns-in_err-run_event-clause-orders : goal.returns-in_err-run_event-clause-orders
 returns-in_err-run_event-clause-orders g c = orders_both [] [] _ _ _ c.loop.invariant.orders c.in_err-run_event.ensures.orders

@@ -25,6 +25,7 @@ loop-init g c =
           (λ weather now. until_events behaviour (weather.marks app) now app instance op (most_turns - 0)) _ stands (λ weather. until_all behaviour weather w app instance op most_turns);
       orders = no_orders _;
       losses = losses_none _ _ _ (omega arith);
+      honest = λ h. h;
       apps = refl;
       later = omega arith;
     }
@@ -51,6 +52,7 @@ loop-preserved g c =
           (c.in_ok-run_event.ensures.whole now run.stands);
       orders = orders_both [] [] _ _ _ c.loop.invariant.orders c.in_ok-run_event.ensures.orders;
       losses = losses_both _ _ _ _ _ _ c.loop.invariant.losses c.in_ok-run_event.ensures.losses;
+      honest = λ h. c.in_ok-run_event.ensures.honest (c.loop.invariant.honest h);
       apps = c.in_ok-run_event.ensures.apps ∙ c.loop.invariant.apps;
       later = omega (arith, c.loop.invariant.later, c.in_ok-run_event.ensures.later);
     }
@@ -89,6 +91,9 @@ returns-in_err-run_event-clause-stopped g c =
     (λ weather x. until_events behaviour (weather.marks app) x app instance op (most_turns - (k + 1))) _ _ _
     run (λ weather. step_events behaviour weather now (events.Turn app instance)) (λ weather. until_split behaviour weather now app instance op most_turns k p.0 more p.1 waits)
     (c.in_err-run_event.ensures.stopped now run.stands))
+
+pub returns-in_err-run_event-clause-honest : goal.returns-in_err-run_event-clause-honest
+returns-in_err-run_event-clause-honest g c = λ h. c.in_err-run_event.ensures.honest (c.loop.invariant.honest h)
 
 pub returns-in_err-run_event-clause-orders : goal.returns-in_err-run_event-clause-orders
 returns-in_err-run_event-clause-orders g c = orders_both [] [] _ _ _ c.loop.invariant.orders c.in_err-run_event.ensures.orders

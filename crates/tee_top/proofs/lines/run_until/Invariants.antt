@@ -21,6 +21,7 @@ invariant-loop g l =
       orders : HasOrders [] (g.B.Board.view (g.V.BoardVolume.board_of (volume_of l.fn.tee))) (g.B.Board.view (g.V.BoardVolume.board_of (volume_of l.tee)));
       losses : WritesLosses (g.W.Sink.written l.fn.sink) (g.W.Sink.written l.sink)
           (g.B.Board.view (g.V.BoardVolume.board_of (volume_of l.fn.tee))) (g.B.Board.view (g.V.BoardVolume.board_of (volume_of l.tee)));
+      honest : g.B.Board.honest (g.V.BoardVolume.board_of (volume_of l.fn.tee)) → g.B.Board.honest (g.V.BoardVolume.board_of (volume_of l.tee));
       apps : app_count l.tee ≡ app_count l.fn.tee;
       later : g.W.Sink.failures l.fn.sink ≤ g.W.Sink.failures l.sink;
     }

@@ -17,7 +17,7 @@ use Rattle.tee_top.proofs.Names.{hosts_begin}
 use Rattle.tee_top.proofs.Opened.{begin_leaves, first_orders_none, opening_leaves, orders_opened, run_behind, span_opened}
 use Rattle.tee_top.proofs.Parts.{all_orders_first, first_orders_more, orders_both}
 use Rattle.tee_top.proofs.Refusals.{refused_weaker}
-use Rattle.tee_top.proofs.Served.{ended, ended_done, ended_either, ended_fault, ended_refused, ended_stopped, never_opened, refused_never}
+use Rattle.tee_top.proofs.Served.{ended, ended_done, ended_either, ended_fault, ended_refused, ended_stopped, never_opened, refused_never, refused_told}
 use Rattle.tee_top.proofs.Whole.{all_written, front_written, nothing_written, power_written}
 use Rattle.tee_top.proofs.run.serve.Given.{Over}
 use Rattle.tee_top.proofs.run.serve.Goals.{in-Ok-run_lines, in-Err-run_lines}
@@ -52,6 +52,10 @@ pub returns-in-Err-clause-accepted : goal.returns-in-Err-clause-accepted
 returns-in-Err-clause-accepted g c = λ why same honest stores begins.
     let kept = c.in-Err.ensures.unopened honest begins.counter begins.held begins.rests begins.size begins.sound.opens in
     refused_never c.in-Err.field-0.why why kept.0 (sym c.refusal_status.ensures ∙ same)
+
+pub returns-in-Err-clause-refusal : goal.returns-in-Err-clause-refusal
+returns-in-Err-clause-refusal g c = λ why same honest.
+    refused_told g.V.BoardVolume.form (g.B.Board.view c.in-Err.field-0.board) c.in-Err.field-0.why why (sym c.refusal_status.ensures ∙ same) (c.in-Err.ensures.refusal honest)
 
 pub returns-in-Err-clause-first_orders : goal.returns-in-Err-clause-first_orders
 returns-in-Err-clause-first_orders g c = first_orders_none c.args.lines.items _ _ (orders_opened _ _ _ c.in-Err.ensures.back)
@@ -147,6 +151,12 @@ returns-clause-accepted g c = λ why same honest stores begins.
 pub returns-clause-refused : goal.returns-clause-refused
 returns-clause-refused g c = λ why same honest.
     inr (ended_refused c.run_lines.result _ why (sym (ends_as g c) ∙ same) c.run_lines.ensures.power).1
+
+pub returns-clause-refusal : goal.returns-clause-refusal
+returns-clause-refusal g c = λ why same honest.
+    let left = g.B.Board.view (g.V.BoardVolume.board_of (volume_of c.run_lines.new.tee)) in
+    let refused = ended_refused c.run_lines.result _ why (sym (ends_as g c) ∙ same) c.run_lines.ensures.refusal in
+    rw c.into_board.ensures (refused_told g.V.BoardVolume.form left refused.0 why refused.2 (refused.1 (c.in-Ok-open.ensures.honest honest)))
 
 pub returns-clause-opened : goal.returns-clause-opened
 returns-clause-opened g c = λ honest.

@@ -4,7 +4,7 @@ use Rattle.tee_base.specs.Crash.{LeavesOnly}
 use Rattle.store_api.specs.Volumes.{Held}
 use Rattle.board.specs.Moment.{View, left_since, moment}
 use Rattle.epoch.specs.Mounting.{MightBe, MountsTo}
-use Rattle.epoch.specs.Mounts.{IsRefusal}
+use Rattle.epoch.specs.Mounts.{IsRefusal, IsRefusedNow}
 use Rattle.epoch.specs.Past.{KeepsPast}
 use Rattle.epoch.specs.declared.answer.OpenAnswer.TheVariants.{Failed}
 use Rattle.epoch.proofs.CommitLemmas.{on_err}
@@ -33,6 +33,12 @@ returns-clause-exact g c honest =
     let told = c.in_ok-found.ensures.exact honest in
     let at = if_found c.in_ok-found.found c.resume.result c.resume.ensures.found in
     (told.0, told.1, tt, admitted_by flat v v.state.reads told.0 c.resume.result c.in_ok-found.found (told.2 flat refl).1 at)
+
+pub returns-in_err-found-clause-refusal : goal.returns-in_err-found-clause-refusal
+returns-in_err-found-clause-refusal g c honest =
+    let w = g.B.Board.view c.mount_again.new.board in
+    let is : c.from_residual.result ≡ Err c.in_err-found.field-0.0 = search rules in
+    told_so c.from_residual.result c.in_err-found.field-0.0 (λ why. IsRefusedNow flat w why) is (c.in_err-found.ensures.refusal honest flat refl)
 
 pub returns-in_err-found-clause-opened : goal.returns-in_err-found-clause-opened
 returns-in_err-found-clause-opened g c honest sound =

@@ -34,6 +34,7 @@ returns-in-Err g c =
           later = told.calls.faults;
           foundation = foundation_same v w told.calls;
         };
+        below = told.honest;
         honest = λ h.
             let does = told.replaced h.0 (is_open (h.1 c.if-self.false)) in (
               (told.honest h.0, λ live. still_open e opened w c.take.new.self c.take.ensures.after (sym c.is_failed-self-in-Err.ensures ∙ live) does.stays, does.steady),

@@ -26,6 +26,7 @@ returns-in-Ok g c =
       damage = λ tells. damage_same v w old.table table old.root told.calls.key (told.same tells) (tables_same old.table table v w old.root (told.same tells) (told.kept tells));
       call = record {
         cause = record { cause = (c.if-self.false, c.if-self.false); later = told.calls.faults; foundation = foundation_same v w told.calls };
+        below = λ b. (told.honest b).0;
         honest = λ h. (
           (
             (told.honest h.0).0,
@@ -65,6 +66,7 @@ returns-in-Err g c =
           later = told.calls.faults;
           foundation = foundation_same v w told.calls;
         };
+        below = λ b. (told.honest b).0;
         honest = λ h.
             let tells = g.met.B.Board.honest_reads old.board h.0 in
             let is = h.1 c.if-self.false in (

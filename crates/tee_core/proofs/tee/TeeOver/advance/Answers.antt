@@ -4,7 +4,7 @@ use Rattle.app_side.specs.declared.side.AppSide.{AppSide as Side}
 use Rattle.tee_core.proofs.Advancing.{change_all, may_all, moved_lost, moved_plain, replies_all, served_lost, served_plain, sound_all, within_all}
 use Rattle.tee_core.proofs.Counts.{booted_kept, mapped_length, set_length, turns_apart, turns_one}
 use Rattle.tee_core.proofs.SideLemmas.{lost_at}
-use Rattle.tee_core.proofs.Turning.{counts_kept}
+use Rattle.tee_core.proofs.Turning.{below_kept, counts_kept}
 use Rattle.tee_core.proofs.tee.TeeOver.advance.Goals as goal
 
 pub turn_over-kind-requires-clause-loss : goal.turn_over-kind-requires-clause-loss
@@ -76,6 +76,11 @@ pub returns-in-Lost-clause-counts : goal.returns-in-Lost-clause-counts
 returns-in-Lost-clause-counts g c =
     let items = c.args.self.now.sides.items in
     counts_kept g.V.Volume.keeper g.A.Application.behaviour c.args.app c.args.instance c.turn_over-kind.result c.turn_over-kind.new.replies c.index_mut.result.now
+    c.turn_over-kind.new.side c.args.self.now.volume c.turn_over-kind.new.volume c.turn_over-kind.ensures.turn
+
+pub returns-in-Lost-clause-below : goal.returns-in-Lost-clause-below
+returns-in-Lost-clause-below g c =
+    below_kept g.V.Volume.keeper g.A.Application.behaviour c.args.app c.args.instance c.turn_over-kind.result c.turn_over-kind.new.replies c.index_mut.result.now
     c.turn_over-kind.new.side c.args.self.now.volume c.turn_over-kind.new.volume c.turn_over-kind.ensures.turn
 
 pub returns-in-Lost-clause-turns : goal.returns-in-Lost-clause-turns
@@ -150,6 +155,11 @@ pub returns-in_default-clause-counts : goal.returns-in_default-clause-counts
 returns-in_default-clause-counts g c =
     let items = c.args.self.now.sides.items in
     counts_kept g.V.Volume.keeper g.A.Application.behaviour c.args.app c.args.instance c.turn_over-kind.result c.turn_over-kind.new.replies c.index_mut.result.now
+    c.turn_over-kind.new.side c.args.self.now.volume c.turn_over-kind.new.volume c.turn_over-kind.ensures.turn
+
+pub returns-in_default-clause-below : goal.returns-in_default-clause-below
+returns-in_default-clause-below g c =
+    below_kept g.V.Volume.keeper g.A.Application.behaviour c.args.app c.args.instance c.turn_over-kind.result c.turn_over-kind.new.replies c.index_mut.result.now
     c.turn_over-kind.new.side c.args.self.now.volume c.turn_over-kind.new.volume c.turn_over-kind.ensures.turn
 
 pub returns-in_default-clause-turns : goal.returns-in_default-clause-turns

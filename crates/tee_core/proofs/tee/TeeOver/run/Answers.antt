@@ -83,3 +83,15 @@ returns-clause-foundation g c =
 
 pub returns-clause-turns : goal.returns-clause-turns
 returns-clause-turns g c = omega (arith, c.in_ok-turn_until.ensures.turns, c.in_ok-made.ensures.turns c.args.app)
+
+pub returns-in_err-made-clause-below : goal.returns-in_err-made-clause-below
+returns-in_err-made-clause-below g c = λ below. subst g.V.Volume.keeper.honest_below (sym c.in_err-made.ensures.volume) below
+
+pub returns-in_err-push-clause-below : goal.returns-in_err-push-clause-below
+returns-in_err-push-clause-below g c = λ below. subst g.V.Volume.keeper.honest_below (sym c.in_ok-made.ensures.volume) below
+
+pub returns-in_err-turn_until-clause-below : goal.returns-in_err-turn_until-clause-below
+returns-in_err-turn_until-clause-below g c = λ below. c.in_err-turn_until.ensures.below (subst g.V.Volume.keeper.honest_below (sym c.in_ok-made.ensures.volume) below)
+
+pub returns-clause-below : goal.returns-clause-below
+returns-clause-below g c = λ below. c.in_ok-turn_until.ensures.below (subst g.V.Volume.keeper.honest_below (sym c.in_ok-made.ensures.volume) below)

@@ -15,6 +15,7 @@ loop-init g c = record {
       c.args.self.now.volume c.args.told.now is c.requires.plain;
   counts = run_begun c.args.told.now (g.V.Volume.keeper.condition (volume_of c.args.self.now));
   kept = kept_begun (g.V.Volume.keeper.condition (volume_of c.args.self.now));
+  below = λ b. b;
   none = c.none-replies.ensures;
   room = omega arith;
   apps = refl;
@@ -84,6 +85,7 @@ loop-preserved g c = record {
       let condition = g.V.Volume.keeper.condition in
       kept_further c.advance-kind.result (condition (volume_of c.args.self.now)) (condition (volume_of c.loop.self)) (condition (volume_of c.advance-kind.new.self))
       c.loop.invariant.kept c.advance-kind.ensures.counts;
+  below = λ b. c.advance-kind.ensures.below (c.loop.invariant.below b);
   none = c.in_ok-push_turn_if_told.ensures.taken;
   room = omega (arith, c.loop.invariant.room, c.advance-kind.ensures.turns);
   apps = c.advance-kind.ensures.apps ∙ c.loop.invariant.apps;

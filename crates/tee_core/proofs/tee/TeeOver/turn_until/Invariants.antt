@@ -15,6 +15,7 @@ invariant-loop g l = record {
       → Made g.V.Volume.keeper g.A.Application.behaviour world m l.app l.instance l.op here l.self.sides.items l.self.volume l.counter l.fn.told l.told;
   counts : HasRunBehind l.fn.told l.told (g.V.Volume.keeper.condition (volume_of l.fn.self)) (g.V.Volume.keeper.condition (volume_of l.self));
   kept : KeepsFoundation (g.V.Volume.keeper.condition (volume_of l.fn.self)) (g.V.Volume.keeper.condition (volume_of l.self));
+  below : g.V.Volume.keeper.honest_below (volume_of l.fn.self) → g.V.Volume.keeper.honest_below (volume_of l.self);
   none : l.replies ≡ [];
   room : turns_made l.self l.app ≤ turns_made l.fn.self l.app + l.counter;
   apps : app_count l.self ≡ app_count l.fn.self;
