@@ -10,8 +10,6 @@ mod returns;
 mod serving;
 mod side;
 mod teardown;
-#[cfg(test)]
-mod tests;
 mod turns;
 mod waiting;
 

@@ -244,6 +244,13 @@ impl<A: Application> AppSide<A> {
         self.turns
     }
 
+    /// How often the power was lost.
+    pub fn boots(&self) -> u32
+        ensures { result ≡ boot_of self.now }
+    {
+        self.boot
+    }
+
     /// Whether the operation was called and is answered.
     pub fn answered(&self, op: u64) -> bool
         ensures { (m : Machine A) → Represents self.now m → result ≡ is_answered m op }

@@ -3,6 +3,7 @@ use crate::file::{raise_number, sync_once};
 use crate::{FileBoard, FileBoardFailed, NEW_BLOCKS};
 use board::Board;
 use std::fs::File;
+use std::process::Abort;
 use std::test::Fail;
 use std::{env, fs, process};
 
@@ -39,14 +40,8 @@ fn remove(rt: &HostRuntime, image: &str) -> Result<(), Fail> {
     Ok(())
 }
 
-#[test]
-fn fresh_files_are_made_and_opened_again(rt: HostRuntime) -> Result<(), Fail> {
-    let image = path_of(&rt, "fresh")?;
-    let mut board = opened(&rt, image.as_str(), &keys())??;
-    assert_eq!(rt;
-        (board.blocks(), board.key(), board.random_seed()),
-        (NEW_BLOCKS, [1; 32], [2; 32])
-    );
+/// The last block of a fresh board gets fives, and the counter goes to 1.
+fn begin<B: Board>(rt: &impl Abort, board: &mut B) -> Result<(), Fail> {
     assert_eq!(rt; board.counter()?, 0);
     assert!(rt; 8741 < board.blocks());
     let mut bytes = [9; 1024];
@@ -55,12 +50,13 @@ fn fresh_files_are_made_and_opened_again(rt: HostRuntime) -> Result<(), Fail> {
     board.write(8741, &[5; 1024])?;
     board.sync()?;
     assert_eq!(rt; board.advance()?, 1);
-    drop(board);
-    let counter = fs::read(&rt, format!(in rt.alloc(); "{image}.ctr")?.as_str())?;
-    assert_eq!(rt; counter.as_slice(), [1, 0, 0, 0, 0, 0, 0, 0].as_slice());
-    assert_eq!(rt; fs::metadata(&rt, image.as_str())?.len(), 8_951_808);
-    let mut board = FileBoard::open(&rt, rt.alloc(), image.as_str())?;
+    Ok(())
+}
+
+/// It is as it was left, and a fuse of 0 lets no call pass until the power comes back.
+fn go_on<B: Board>(rt: &impl Abort, board: &mut B) -> Result<(), Fail> {
     assert!(rt; 8741 < board.blocks());
+    let mut bytes = [9; 1024];
     board.read(8741, &mut bytes)?;
     assert_eq!(rt; bytes, [5; 1024]);
     assert_eq!(rt; board.counter()?, 1);
@@ -68,17 +64,29 @@ fn fresh_files_are_made_and_opened_again(rt: HostRuntime) -> Result<(), Fail> {
     assert!(rt; board.sync().is_err());
     board.power(3);
     board.sync()?;
+    assert_eq!(rt; (board.faults(), board.writes()), (1, 0));
+    assert_eq!(rt; (board.orders(), board.ordered()), (2, 3));
+    Ok(())
+}
+
+#[test]
+fn fresh_files_are_made_and_opened_again(rt: HostRuntime) -> Result<(), Fail> {
+    let image = path_of(&rt, "fresh")?;
+    let image = image.as_str();
+    let mut board = opened(&rt, image, &keys())??;
     assert_eq!(rt;
-        (
-            board.faults(),
-            board.writes(),
-            board.orders(),
-            board.ordered()
-        ),
-        (1, 0, 2, 3)
+        (board.blocks(), board.key(), board.random_seed()),
+        (NEW_BLOCKS, [1; 32], [2; 32])
     );
+    begin(&rt, &mut board)?;
     drop(board);
-    remove(&rt, image.as_str())
+    let counter = fs::read(&rt, format!(in rt.alloc(); "{image}.ctr")?.as_str())?;
+    assert_eq!(rt; counter.as_slice(), [1, 0, 0, 0, 0, 0, 0, 0].as_slice());
+    assert_eq!(rt; fs::metadata(&rt, image)?.len(), 8_951_808);
+    let mut board = FileBoard::open(&rt, rt.alloc(), image)?;
+    go_on(&rt, &mut board)?;
+    drop(board);
+    remove(&rt, image)
 }
 
 /// Whether an opening is refused with `Failed`.

@@ -70,20 +70,22 @@ fn leaves<B: Board>(
     Ok(())
 }
 
+/// A number, and what power leaves by it.
+const PICKS: [(u64, u64, (u8, u8), (u8, u8)); 9] = [
+    (0, 0, (0x11, 0x11), (0, 0)),
+    (1, 1, (0x11, 0x11), (0, 0)),
+    (3, 1, (0x22, 0x22), (0, 0)),
+    (4, 0, (0x22, 0x11), (0, 0)),
+    (6, 0, (0xA5, 0xA5), (0, 0)),
+    (8, 0, (0x11, 0x11), (0x33, 0x33)),
+    (17, 1, (0x11, 0x11), (0x33, 0)),
+    (31, 1, (0xA5, 0xA5), (0xA5, 0xA5)),
+    (32, 0, (0x11, 0x11), (0, 0)),
+];
+
 #[test]
 fn power_picks_what_it_leaves(rt: HostRuntime) -> Result<(), Fail> {
-    let rows = [
-        (0, 0, (0x11, 0x11), (0, 0)),
-        (1, 1, (0x11, 0x11), (0, 0)),
-        (3, 1, (0x22, 0x22), (0, 0)),
-        (4, 0, (0x22, 0x11), (0, 0)),
-        (6, 0, (0xA5, 0xA5), (0, 0)),
-        (8, 0, (0x11, 0x11), (0x33, 0x33)),
-        (17, 1, (0x11, 0x11), (0x33, 0)),
-        (31, 1, (0xA5, 0xA5), (0xA5, 0xA5)),
-        (32, 0, (0x11, 0x11), (0, 0)),
-    ];
-    for (pick, counter, first, third) in rows {
+    for (pick, counter, first, third) in PICKS {
         let mut board = unsettled(&rt, rt.alloc())?;
         leaves(&rt, &mut board, pick, counter, first, third)?;
     }

@@ -120,22 +120,45 @@ fn check_pieces(
     Ok(())
 }
 
-// SP 800-38A, appendix F.
+const CIPHERS: [(u32, &'static [u8], &'static [u8; 64]); 3] = [
+    (keys::AES_ECB, &[], &ECB),
+    (keys::AES_CBC, &CBC_VECTOR, &CBC),
+    (keys::AES_CTR, &COUNTER, &CTR),
+];
+
+// The whole at once.
+fn check_whole(
+    rt: &impl Abort,
+    alloc: Global,
+    operation: &mut Operation,
+    iv: &[u8],
+    text: &[u8; 64],
+) -> Result<(), Fail> {
+    operation.cipher_init(iv)?;
+    let whole = operation.cipher_final(alloc, &PLAIN, 64)?;
+    assert_eq!(rt; whole.as_slice(), text.as_slice());
+    Ok(())
+}
+
+// Both ways.
+fn check_cipher(
+    rt: &impl Abort,
+    alloc: Global,
+    alg: u32,
+    iv: &[u8],
+    text: &[u8; 64],
+) -> Result<(), Fail> {
+    let mut operation = cipher(alg, keys::MODE_ENCRYPT, iv)?;
+    check_pieces(rt, alloc, &mut operation, &PLAIN, text)?;
+    check_whole(rt, alloc, &mut operation, iv, text)?;
+    let mut operation = cipher(alg, keys::MODE_DECRYPT, iv)?;
+    check_pieces(rt, alloc, &mut operation, text, &PLAIN)
+}
+
 #[test]
 fn ciphers_in_pieces(rt: HostRuntime) -> Result<(), Fail> {
-    let table = [
-        (keys::AES_ECB, [].as_slice(), &ECB),
-        (keys::AES_CBC, CBC_VECTOR.as_slice(), &CBC),
-        (keys::AES_CTR, COUNTER.as_slice(), &CTR),
-    ];
-    for (alg, iv, text) in table {
-        let mut operation = cipher(alg, keys::MODE_ENCRYPT, iv)?;
-        check_pieces(&rt, rt.alloc(), &mut operation, &PLAIN, text)?;
-        operation.cipher_init(iv)?;
-        let whole = operation.cipher_final(rt.alloc(), &PLAIN, 64)?;
-        assert_eq!(rt; whole.as_slice(), text.as_slice());
-        let mut operation = cipher(alg, keys::MODE_DECRYPT, iv)?;
-        check_pieces(&rt, rt.alloc(), &mut operation, text, &PLAIN)?;
+    for (alg, iv, text) in CIPHERS {
+        check_cipher(&rt, rt.alloc(), alg, iv, text)?;
     }
     Ok(())
 }
@@ -237,22 +260,23 @@ fn copies_go_on_apart(rt: HostRuntime) -> Result<(), Fail> {
     Ok(())
 }
 
+// The kind, the usage and the size of the secret of keys that an operation for decryption refuses.
+const REFUSED: [(u32, u32, usize); 6] = [
+    (keys::KIND_HMAC_SHA256, keys::USAGE_DECRYPT, 24),
+    (keys::KIND_AES, keys::USAGE_ENCRYPT | keys::USAGE_MAC, 24),
+    (keys::KIND_AES, keys::USAGE_DECRYPT, 20),
+    (keys::KIND_AES, keys::USAGE_DECRYPT, 32),
+    (keys::KIND_AES, keys::USAGE_DECRYPT, 0),
+    (keys::KIND_DATA, keys::USAGE_DECRYPT, 0),
+];
+
 #[test]
 fn keys_come_and_go(rt: HostRuntime) -> Result<(), Fail> {
     let mut operation = Operation::new(keys::AES_CBC, keys::MODE_DECRYPT, 192)?;
     assert!(rt; operation.reset().err() == Some(OpAnswer::Misuse));
     assert!(rt; operation.cipher_init(&CBC_VECTOR).err() == Some(OpAnswer::Misuse));
     let decrypt = keys::USAGE_DECRYPT;
-    // The kind, the usage and the size of the secret that each refusal is about.
-    let refused = [
-        (keys::KIND_HMAC_SHA256, decrypt, 24),
-        (keys::KIND_AES, keys::USAGE_ENCRYPT | keys::USAGE_MAC, 24),
-        (keys::KIND_AES, decrypt, 20),
-        (keys::KIND_AES, decrypt, 32),
-        (keys::KIND_AES, decrypt, 0),
-        (keys::KIND_DATA, decrypt, 0),
-    ];
-    for (kind, usage, size) in refused {
+    for (kind, usage, size) in REFUSED {
         let secret = [7; 32];
         assert!(rt; size <= 32);
         assert!(rt;
@@ -391,6 +415,13 @@ fn too_much_is_misuse(rt: HostRuntime) -> Result<(), Fail> {
     Ok(())
 }
 
+// The first words of the same block under other nonces: the application's number and the power-up's.
+const NONCES: [(u8, u32, [u8; 8]); 3] = [
+    (1, 0, [0x06, 0x5d, 0x06, 0x7d, 0xf4, 0xeb, 0xbe, 0xdc]),
+    (0, 1, [0xef, 0x3f, 0xdf, 0xd6, 0xc6, 0x15, 0x78, 0xfb]),
+    (15, 7, [0x43, 0xff, 0x4d, 0x9a, 0x16, 0x85, 0xda, 0xdc]),
+];
+
 // The ChaCha20 block of an all-zero key.
 #[test]
 fn random_words(rt: HostRuntime) -> Result<(), Fail> {
@@ -414,13 +445,7 @@ fn random_words(rt: HostRuntime) -> Result<(), Fail> {
     assert_eq!(rt; four.as_slice(), &all.as_slice()[8..12]);
     assert_eq!(rt; next.as_slice(), &all.as_slice()[12..16]);
 
-    // The same block under other nonces.
-    let table = [
-        (1, 0, [0x06, 0x5d, 0x06, 0x7d, 0xf4, 0xeb, 0xbe, 0xdc]),
-        (0, 1, [0xef, 0x3f, 0xdf, 0xd6, 0xc6, 0x15, 0x78, 0xfb]),
-        (15, 7, [0x43, 0xff, 0x4d, 0x9a, 0x16, 0x85, 0xda, 0xdc]),
-    ];
-    for (application, boot, words) in table {
+    for (application, boot, words) in NONCES {
         let mut other = Stream::new([0; 32], application, boot);
         assert_eq!(rt; other.take(rt.alloc(), 8)?.as_slice(), words.as_slice());
     }

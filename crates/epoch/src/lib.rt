@@ -15,8 +15,6 @@ mod mounts;
 mod rule;
 mod slots;
 mod steps;
-#[cfg(test)]
-mod tests;
 
 pub use answer::{OpenAnswer, Unopened};
 pub use commits::{Change, commit};

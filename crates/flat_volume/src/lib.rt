@@ -7,8 +7,6 @@ mod load;
 mod opening;
 mod places;
 mod table;
-#[cfg(test)]
-mod tests;
 mod volume;
 mod write;
 

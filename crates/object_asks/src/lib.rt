@@ -15,8 +15,6 @@ mod outcome;
 mod serving;
 mod source;
 mod stream;
-#[cfg(test)]
-mod tests;
 mod turn;
 mod walks;
 

@@ -5,7 +5,5 @@ mod changing;
 mod directory;
 mod planned;
 mod region;
-#[cfg(test)]
-mod tests;
 
 pub use directory::ObjectDir;

@@ -13,8 +13,6 @@ mod place;
 mod planning;
 mod source;
 mod table;
-#[cfg(test)]
-mod tests;
 
 pub use calls::{facts, locate, next_after, secret};
 pub use data::content;

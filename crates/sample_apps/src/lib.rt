@@ -8,8 +8,6 @@ mod reaction;
 mod rogue;
 mod sample;
 mod store;
-#[cfg(test)]
-mod tests;
 
 pub use count::Count;
 pub use crypt::Crypt;

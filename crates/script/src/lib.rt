@@ -18,6 +18,3 @@ pub use dialect::Dialect;
 pub use laws::{fronts_are_read, one_reading, print_reads_back};
 pub use line::Line;
 pub use script::{Script, ScriptAnswer, parse, parse_in};
-
-#[cfg(test)]
-mod tests;

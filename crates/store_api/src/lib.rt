@@ -10,8 +10,6 @@ mod object;
 mod objects;
 mod store;
 mod tally;
-#[cfg(test)]
-mod tests;
 mod volume;
 
 pub use answer::{Mismatch, StoreAnswer};

@@ -7,8 +7,6 @@ mod power;
 mod run;
 mod sides;
 mod tee;
-#[cfg(test)]
-mod tests;
 
 pub use alone::{Power, TurnKind};
 pub use epoch::{OpenAnswer, Unopened};

@@ -9,6 +9,7 @@ use boards::MemBoard;
 use epoch::OpenAnswer;
 use sample_apps::{Sample, Store, sample_hosts};
 use std::alloc::Global;
+use std::process::Abort;
 use std::test::Fail;
 use tee_base::{Bytes, MemSink, MemSource, limits};
 use tee_top::{Status, run_tee, status_line};
@@ -55,46 +56,73 @@ fn run(
     run_for(alloc, hosts, word, script, reads, writes)
 }
 
+/// Compares the status of a run for the sample applications, and what is written.
+fn check(
+    rt: &impl Abort,
+    alloc: Global,
+    script: &str,
+    output: &str,
+    wanted: Status,
+) -> Result<(), Fail> {
+    let (status, sink) = run(alloc, "run", script, &[], &[])?;
+    assert_eq!(rt; status, wanted, "{script}");
+    assert_eq!(rt; sink.written(), output.as_bytes(), "{script}");
+    Ok(())
+}
+
+/// The same where the reads and writes of these numbers fail.
+fn check_faults(
+    rt: &impl Abort,
+    alloc: Global,
+    script: &str,
+    (reads, writes): (&[u64], &[u64]),
+    output: &str,
+    wanted: Status,
+) -> Result<(), Fail> {
+    let (status, sink) = run(alloc, "run", script, reads, writes)?;
+    assert_eq!(rt; status, wanted);
+    assert_eq!(rt; sink.written(), output.as_bytes());
+    Ok(())
+}
+
 const USE: &str = "keep open 1\nkeep invoke 1 1 vi:5:0 vo\nkeep close 1\n";
 
 const USED: &str = "keep 1 00000000 4\nkeep 2 00000000 4 p1=5,1\nkeep 3 00000000 4\n";
 
+const WRITTEN: [(&'static str, &'static str, Status); 11] = [
+    (USE, USED, Status::Done),
+    ("", "", Status::Done),
+    (
+        "keep open 1\nkeep invoke 1 1 vi:5:0 vo\nkeep close 1\nkeep open 1\nkeep invoke 1 2 vo\n",
+        "keep 1 00000000 4\nkeep 2 00000000 4 p1=5,1\nkeep 3 00000000 4\nkeep 4 00000000 4\nkeep 5 00000000 4 p0=5,1\n",
+        Status::Done,
+    ),
+    (
+        "keep open 1\nkeep invoke 1 1 vi:4294967295:0 vo\nkeep invoke 1 1 vi:1:0 vo\n",
+        "keep 1 00000000 4\nkeep 2 00000000 4 p1=4294967295,1\nkeep 3 ffff300f 4 p1=0,0\n",
+        Status::Done,
+    ),
+    ("keep open 1\nkeep opn 2\n", "", Status::BadLine(2)),
+    ("keep open 1", "keep 1 00000000 4\n", Status::Done),
+    ("keep open 1\nother open 1\n", "", Status::BadLine(2)),
+    ("keep open 4294967296\n", "", Status::BadLine(1)),
+    ("keep  open 1\n", "keep 1 00000000 4\n", Status::Done),
+    (
+        "keep invoke 4 1\nkeep open 1\nkeep open 1\nkeep invoke 1 1 mo:524289\n",
+        "keep 1 ffff0007 1\nkeep 2 00000000 4\nkeep 3 ffff0007 1\nkeep 4 ffff0006 1\n",
+        Status::Done,
+    ),
+    (
+        "keep open 1\nkeep open 2\nkeep open 3\nkeep open 4\nkeep open 5\nkeep open 6\nkeep open 7\nkeep open 8\nkeep open 9\n",
+        "keep 1 00000000 4\nkeep 2 00000000 4\nkeep 3 00000000 4\nkeep 4 00000000 4\nkeep 5 00000000 4\nkeep 6 00000000 4\nkeep 7 00000000 4\nkeep 8 00000000 4\nkeep 9 ffff000d 3\n",
+        Status::Done,
+    ),
+];
+
 #[test]
 fn scripts_give_their_lines(rt: HostRuntime) -> Result<(), Fail> {
-    let alloc = rt.alloc();
-    let rows = [
-        (USE, USED, Status::Done),
-        ("", "", Status::Done),
-        (
-            "keep open 1\nkeep invoke 1 1 vi:5:0 vo\nkeep close 1\nkeep open 1\nkeep invoke 1 2 vo\n",
-            "keep 1 00000000 4\nkeep 2 00000000 4 p1=5,1\nkeep 3 00000000 4\nkeep 4 00000000 4\nkeep 5 00000000 4 p0=5,1\n",
-            Status::Done,
-        ),
-        (
-            "keep open 1\nkeep invoke 1 1 vi:4294967295:0 vo\nkeep invoke 1 1 vi:1:0 vo\n",
-            "keep 1 00000000 4\nkeep 2 00000000 4 p1=4294967295,1\nkeep 3 ffff300f 4 p1=0,0\n",
-            Status::Done,
-        ),
-        ("keep open 1\nkeep opn 2\n", "", Status::BadLine(2)),
-        ("keep open 1", "keep 1 00000000 4\n", Status::Done),
-        ("keep open 1\nother open 1\n", "", Status::BadLine(2)),
-        ("keep open 4294967296\n", "", Status::BadLine(1)),
-        ("keep  open 1\n", "keep 1 00000000 4\n", Status::Done),
-        (
-            "keep invoke 4 1\nkeep open 1\nkeep open 1\nkeep invoke 1 1 mo:524289\n",
-            "keep 1 ffff0007 1\nkeep 2 00000000 4\nkeep 3 ffff0007 1\nkeep 4 ffff0006 1\n",
-            Status::Done,
-        ),
-        (
-            "keep open 1\nkeep open 2\nkeep open 3\nkeep open 4\nkeep open 5\nkeep open 6\nkeep open 7\nkeep open 8\nkeep open 9\n",
-            "keep 1 00000000 4\nkeep 2 00000000 4\nkeep 3 00000000 4\nkeep 4 00000000 4\nkeep 5 00000000 4\nkeep 6 00000000 4\nkeep 7 00000000 4\nkeep 8 00000000 4\nkeep 9 ffff000d 3\n",
-            Status::Done,
-        ),
-    ];
-    for (script, output, wanted) in rows {
-        let (status, sink) = run(alloc, "run", script, &[], &[])?;
-        assert_eq!(rt; status, wanted, "{script}");
-        assert_eq!(rt; sink.written(), output.as_bytes(), "{script}");
+    for (script, output, wanted) in WRITTEN {
+        check(&rt, rt.alloc(), script, output, wanted)?;
     }
     Ok(())
 }
@@ -142,44 +170,45 @@ rogue 6 00000000 4
 rogue 7 00000000 4
 ";
 
+const TURNED: [(&'static str, &'static str, Status); 8] = [
+    (CANCELLED, CANCELLED_LINES, Status::Done),
+    (PANICKED, PANICKED_LINES, Status::Done),
+    (
+        "keep post open 1\nkeep turn 1 4\nkeep turn 2 1\n",
+        "",
+        Status::Done,
+    ),
+    (
+        "keep post open 1\nkeep turn 1 5\n",
+        "keep 1 00000000 4\n",
+        Status::Done,
+    ),
+    ("keep turn 1 0\n", "", Status::BadLine(1)),
+    ("keep turn 5 1\n", "", Status::BadLine(1)),
+    ("keep turn 1 1000001\n", "", Status::BadLine(1)),
+    ("keep open 1\nboard fuse x\n", "", Status::BadLine(2)),
+];
+
 #[test]
 fn waiting_calls_get_the_turns_that_the_script_gives(rt: HostRuntime) -> Result<(), Fail> {
-    let alloc = rt.alloc();
-    let rows = [
-        (CANCELLED, CANCELLED_LINES, Status::Done),
-        (PANICKED, PANICKED_LINES, Status::Done),
-        (
-            "keep post open 1\nkeep turn 1 4\nkeep turn 2 1\n",
-            "",
-            Status::Done,
-        ),
-        (
-            "keep post open 1\nkeep turn 1 5\n",
-            "keep 1 00000000 4\n",
-            Status::Done,
-        ),
-        ("keep turn 1 0\n", "", Status::BadLine(1)),
-        ("keep turn 5 1\n", "", Status::BadLine(1)),
-        ("keep turn 1 1000001\n", "", Status::BadLine(1)),
-        ("keep open 1\nboard fuse x\n", "", Status::BadLine(2)),
-    ];
-    for (script, output, wanted) in rows {
-        let (status, sink) = run(alloc, "run", script, &[], &[])?;
-        assert_eq!(rt; status, wanted, "{script}");
-        assert_eq!(rt; sink.written(), output.as_bytes(), "{script}");
+    for (script, output, wanted) in TURNED {
+        check(&rt, rt.alloc(), script, output, wanted)?;
     }
     Ok(())
 }
 
 #[test]
 fn a_write_that_fails_within_turns_ends_the_run(rt: HostRuntime) -> Result<(), Fail> {
-    let alloc = rt.alloc();
-    let (status, sink) = run(alloc, "run", PANICKED, &[], &[4])?;
-    assert_eq!(rt; status, Status::WriteFault);
     let written =
         "rogue 1 00000000 4\nrogue 2 00000000 4\nrogue 3 00000000 4\nrogue 4 ffff3024 3\n";
-    assert_eq!(rt; sink.written(), written.as_bytes());
-    Ok(())
+    check_faults(
+        &rt,
+        rt.alloc(),
+        PANICKED,
+        (&[], &[4]),
+        written,
+        Status::WriteFault,
+    )
 }
 
 #[test]
@@ -188,13 +217,9 @@ fn faults_and_words_have_statuses(rt: HostRuntime) -> Result<(), Fail> {
     let (status, sink) = run(alloc, "walk", USE, &[], &[])?;
     assert_eq!(rt; status, Status::BadWords);
     assert!(rt; sink.written().is_empty());
-    let (status, sink) = run(alloc, "run", USE, &[1], &[])?;
-    assert_eq!(rt; status, Status::ReadFault);
-    assert!(rt; sink.written().is_empty());
-    let (status, sink) = run(alloc, "run", USE, &[], &[1])?;
-    assert_eq!(rt; status, Status::WriteFault);
-    assert_eq!(rt; sink.written(), b"keep 1 00000000 4\n".as_slice());
-    Ok(())
+    check_faults(&rt, alloc, USE, (&[1], &[]), "", Status::ReadFault)?;
+    let written = "keep 1 00000000 4\n";
+    check_faults(&rt, alloc, USE, (&[], &[1]), written, Status::WriteFault)
 }
 
 #[test]
@@ -210,58 +235,59 @@ fn a_long_script_is_refused(rt: HostRuntime) -> Result<(), Fail> {
     Ok(())
 }
 
+const STATUSES: [(Status, u8, &'static str); 13] = [
+    (Status::Done, 0, ""),
+    (
+        Status::BadWords,
+        64,
+        "teectl: usage: teectl run [IMAGE] | race | gen N\n",
+    ),
+    (
+        Status::BadLine(2),
+        65,
+        "teectl: line 2 is not a script line\n",
+    ),
+    (Status::TooLong, 66, "teectl: script too long\n"),
+    (Status::NoMemory, 71, "teectl: out of memory\n"),
+    (Status::ReadFault, 73, "teectl: cannot read\n"),
+    (Status::WriteFault, 74, "teectl: cannot write\n"),
+    (Status::BoardFault, 75, "teectl: board failed\n"),
+    (
+        Status::StoreRefused(OpenAnswer::TooSmall(8_741)),
+        67,
+        "teectl: store refused: too small 8741\n",
+    ),
+    (
+        Status::StoreRefused(OpenAnswer::NoVolume(3)),
+        67,
+        "teectl: store refused: no volume at counter 3\n",
+    ),
+    (
+        Status::StoreRefused(OpenAnswer::UnknownVersion(9)),
+        67,
+        "teectl: store refused: unknown version 9\n",
+    ),
+    (
+        Status::StoreRefused(OpenAnswer::Rollback {
+            sequence: 5,
+            counter: 6,
+        }),
+        67,
+        "teectl: store refused: rollback 5 6\n",
+    ),
+    (
+        Status::StoreRefused(OpenAnswer::Ahead {
+            sequence: 7,
+            counter: 5,
+        }),
+        67,
+        "teectl: store refused: ahead 7 5\n",
+    ),
+];
+
 #[test]
 fn statuses_have_numbers_and_texts(rt: HostRuntime) -> Result<(), Fail> {
-    let rows = [
-        (Status::Done, 0, ""),
-        (
-            Status::BadWords,
-            64,
-            "teectl: usage: teectl run [IMAGE] | race | gen N\n",
-        ),
-        (
-            Status::BadLine(2),
-            65,
-            "teectl: line 2 is not a script line\n",
-        ),
-        (Status::TooLong, 66, "teectl: script too long\n"),
-        (Status::NoMemory, 71, "teectl: out of memory\n"),
-        (Status::ReadFault, 73, "teectl: cannot read\n"),
-        (Status::WriteFault, 74, "teectl: cannot write\n"),
-        (Status::BoardFault, 75, "teectl: board failed\n"),
-        (
-            Status::StoreRefused(OpenAnswer::TooSmall(8_741)),
-            67,
-            "teectl: store refused: too small 8741\n",
-        ),
-        (
-            Status::StoreRefused(OpenAnswer::NoVolume(3)),
-            67,
-            "teectl: store refused: no volume at counter 3\n",
-        ),
-        (
-            Status::StoreRefused(OpenAnswer::UnknownVersion(9)),
-            67,
-            "teectl: store refused: unknown version 9\n",
-        ),
-        (
-            Status::StoreRefused(OpenAnswer::Rollback {
-                sequence: 5,
-                counter: 6,
-            }),
-            67,
-            "teectl: store refused: rollback 5 6\n",
-        ),
-        (
-            Status::StoreRefused(OpenAnswer::Ahead {
-                sequence: 7,
-                counter: 5,
-            }),
-            67,
-            "teectl: store refused: ahead 7 5\n",
-        ),
-    ];
-    for (status, number, text) in rows {
+    for (status, number, text) in STATUSES {
         assert_eq!(rt; status.number(), number);
         assert_eq!(rt;
             status_line(rt.alloc(), &status, &[])?.as_slice(),
@@ -333,9 +359,7 @@ fn applications_stand_side_by_side(rt: HostRuntime) -> Result<(), Fail> {
                 second,
                 ["keep 1 00000000 4\n", "keep 2 00000000 4 p1=5,1\n"],
             )?;
-            let (status, sink) = run(alloc, "run", script.as_str(), &[], &[])?;
-            assert_eq!(rt; status, Status::Done);
-            assert_eq!(rt; sink.written(), output.as_bytes(), "{script}");
+            check(&rt, alloc, script.as_str(), output.as_str(), Status::Done)?;
         }
     }
     Ok(())

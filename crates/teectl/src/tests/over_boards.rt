@@ -4,6 +4,7 @@ use boards::MemBoard;
 use epoch::{FLAT_VERSION, Header, OpenAnswer, TreeEntry, flip, lay};
 use sample_apps::sample_hosts;
 use std::alloc::Global;
+use std::process::Abort;
 use std::test::Fail;
 use tee_base::{Bytes, MemSink, MemSource, limits};
 use tee_top::{Status, run_tee};
@@ -31,6 +32,22 @@ fn run_on(
     Ok((status, sink, board))
 }
 
+/// Compares the status of a run over this board, and what is written.
+fn check(
+    rt: &impl Abort,
+    alloc: Global,
+    board: MemBoard,
+    script: &str,
+    output: &str,
+    wanted: Status,
+) -> Result<(), Fail> {
+    let (status, sink, board) = run_on(alloc, board, script)?;
+    drop(board);
+    assert_eq!(rt; status, wanted);
+    assert_eq!(rt; sink.written(), output.as_bytes());
+    Ok(())
+}
+
 fn blank(alloc: Global) -> Result<MemBoard, Fail> {
     Ok(MemBoard::blank(alloc, [0; 32], limits::BOARD_BLOCKS)?)
 }
@@ -44,6 +61,10 @@ vault invoke 1 8 vi:1:0 mi:6e6577\nboard power {pick}\nvault open 1\nvault invok
 vault invoke 1 7 vi:1:3 mo:8\n"
     )?)
 }
+
+const OPEN: &str = "keep open 1\n";
+
+const OPENED: &str = "keep 1 00000000 4\n";
 
 const FIRST: &str = "vault 1 00000000 4\nvault 2 00000000 4 p3=1,0\n";
 
@@ -117,17 +138,12 @@ fn a_stopped_write_is_kept_or_absent_as_the_line_says(rt: HostRuntime) -> Result
 fn what_does_not_open_is_refused(rt: HostRuntime) -> Result<(), Fail> {
     let alloc = rt.alloc();
     let small = MemBoard::blank(alloc, [0; 32], 8_741)?;
-    let (status, sink, board) = run_on(alloc, small, "keep open 1\n")?;
-    assert_eq!(rt; status, Status::StoreRefused(OpenAnswer::TooSmall(8_741)));
-    assert!(rt; sink.written().is_empty());
-    drop(board);
+    let refused = Status::StoreRefused(OpenAnswer::TooSmall(8_741));
+    check(&rt, alloc, small, OPEN, "", refused)?;
     let image = blank(alloc)?.image(alloc)?;
     let used = MemBoard::of_image(alloc, image, 3, [0; 32])?;
-    let (status, sink, board) = run_on(alloc, used, "keep open 1\n")?;
-    assert_eq!(rt; status, Status::StoreRefused(OpenAnswer::NoVolume(3)));
-    assert!(rt; sink.written().is_empty());
-    drop(board);
-    Ok(())
+    let refused = Status::StoreRefused(OpenAnswer::NoVolume(3));
+    check(&rt, alloc, used, OPEN, "", refused)
 }
 
 /// The board after a script that makes one object, with another counter.
@@ -138,32 +154,33 @@ fn used_board(alloc: Global, counter: u64) -> Result<MemBoard, Fail> {
     Ok(MemBoard::of_image(alloc, image, counter, [0; 32])?)
 }
 
+/// By the counter that the board tells: the volume's sequence is 2.
+const COUNTED: [(u64, &'static str, Status); 4] = [
+    (2, OPENED, Status::Done),
+    (1, OPENED, Status::Done),
+    (
+        3,
+        "",
+        Status::StoreRefused(OpenAnswer::Rollback {
+            sequence: 2,
+            counter: 3,
+        }),
+    ),
+    (
+        0,
+        "",
+        Status::StoreRefused(OpenAnswer::Ahead {
+            sequence: 2,
+            counter: 0,
+        }),
+    ),
+];
+
 #[test]
 fn an_older_or_a_newer_image_is_refused(rt: HostRuntime) -> Result<(), Fail> {
-    let alloc = rt.alloc();
-    let rows = [
-        (2, Status::Done),
-        (1, Status::Done),
-        (
-            3,
-            Status::StoreRefused(OpenAnswer::Rollback {
-                sequence: 2,
-                counter: 3,
-            }),
-        ),
-        (
-            0,
-            Status::StoreRefused(OpenAnswer::Ahead {
-                sequence: 2,
-                counter: 0,
-            }),
-        ),
-    ];
-    for (counter, wanted) in rows {
-        let (status, sink, board) = run_on(alloc, used_board(alloc, counter)?, "keep open 1\n")?;
-        assert_eq!(rt; status, wanted);
-        assert_eq!(rt; sink.written().is_empty(), wanted != Status::Done);
-        drop(board);
+    for (counter, output, wanted) in COUNTED {
+        let board = used_board(rt.alloc(), counter)?;
+        check(&rt, rt.alloc(), board, OPEN, output, wanted)?;
     }
     Ok(())
 }
@@ -192,11 +209,8 @@ fn board_at_zero(alloc: Global) -> Result<MemBoard, Fail> {
 fn a_header_of_sequence_0_is_opened(rt: HostRuntime) -> Result<(), Fail> {
     let alloc = rt.alloc();
     let script = "vault open 1\nvault invoke 1 2 mi:61 vi:7:0 mi:6f6c64 vo\n";
-    let (status, sink, board) = run_on(alloc, board_at_zero(alloc)?, script)?;
-    drop(board);
-    assert_eq!(rt; status, Status::Done);
-    assert_eq!(rt; sink.written(), FIRST.as_bytes());
-    Ok(())
+    let board = board_at_zero(alloc)?;
+    check(&rt, alloc, board, script, FIRST, Status::Done)
 }
 
 #[test]
@@ -204,21 +218,14 @@ fn a_board_whose_first_call_fails_is_told(rt: HostRuntime) -> Result<(), Fail> {
     let alloc = rt.alloc();
     let mut board = blank(alloc)?;
     board.failing(&[0])?;
-    let (status, sink, board) = run_on(alloc, board, "keep open 1\n")?;
-    assert_eq!(rt; status, Status::BoardFault);
-    assert!(rt; sink.written().is_empty());
-    drop(board);
-    Ok(())
+    check(&rt, alloc, board, OPEN, "", Status::BoardFault)
 }
 
 #[test]
 fn a_second_run_finds_the_objects_of_the_first(rt: HostRuntime) -> Result<(), Fail> {
     let alloc = rt.alloc();
     let script = "vault open 1\nvault invoke 1 1 mi:61 vi:1:1 vo\nvault invoke 1 7 vi:1:1 mo:8\n";
-    let (status, sink, board) = run_on(alloc, used_board(alloc, 2)?, script)?;
-    drop(board);
-    assert_eq!(rt; status, Status::Done);
-    let wanted = "vault 1 00000000 4\nvault 2 00000000 4 p2=1,0\nvault 3 00000000 4 p1=1:31\n";
-    assert_eq!(rt; sink.written(), wanted.as_bytes());
-    Ok(())
+    let written = "vault 1 00000000 4\nvault 2 00000000 4 p2=1,0\nvault 3 00000000 4 p1=1:31\n";
+    let board = used_board(alloc, 2)?;
+    check(&rt, alloc, board, script, written, Status::Done)
 }

@@ -1,0 +1,6 @@
+//! A flat volume on boards in memory: formatting, commits, each failure of a call within a commit, a header of sequence 0,
+//! and older images.
+#![tactic(auto)]
+
+#[cfg(test)]
+mod volumes;

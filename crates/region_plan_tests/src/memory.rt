@@ -1,0 +1,114 @@
+//! The leaves of a region in memory.
+ghost use Rattle.std.specs.Prelude.{◌≡◌, [], None, Some, true, slice_index_or, vec_len};
+ghost use Rattle.store_api.specs.Foundations.{no_foundation};
+
+use region_plan::LeafSource;
+use std::alloc::Global;
+use std::test::Fail;
+use store_api::{LeafAnswer, Leaves};
+use tee_base::limits::{BLOCK_BYTES, LEAVES};
+
+#[derive(Drop)]
+pub struct Memory {
+    leaves: Vec<[u8; BLOCK_BYTES]>,
+    pub lost: bool,
+    ghost whole: { vec_len leaves ≡ 256 },
+}
+
+impl LeafSource for Memory {
+    ghost keeper = { record {
+      tells_reads = true;
+      held = λ m. record { leaves = λ r l. slice_index_or m.leaves.items l []; sequence = 0 };
+      condition = λ m. record { lost = m.lost; faults = 0; foundation = no_foundation };
+      honest_below = λ m. Unit {0};
+      honest = λ m. Unit {0};
+      damage = λ m r l. None;
+      moment = λ m. 0;
+      left_since = λ m t o. o ≡ Some (record { leaves = λ r l. slice_index_or m.leaves.items l []; sequence = 0 });
+    } };
+
+    ghost region = { λ m. 0 };
+
+    ghost rests = { λ m h works. record { only = λ o left. left } };
+
+    fn leaf(&mut self, number: u8, into: &mut [u8; BLOCK_BYTES]) -> Result<(), LeafAnswer> {
+        if self.lost {
+            return Err(LeafAnswer::Lost);
+        }
+        *into = self.leaves[number as usize];
+        Ok(())
+    }
+
+    fn faults(&self) -> u64 {
+        0
+    }
+
+    fn is_lost(&self) -> bool {
+        self.lost
+    }
+}
+
+/// A byte of a leaf: the leaf, the place and the byte.
+pub type Byte = (u8, u16, u8);
+
+/// Leaves of zeros.
+pub fn blank(alloc: Global) -> Result<Memory, Fail> {
+    let mut leaves = Vec::new(alloc);
+    leaves.resize(LEAVES, [0; BLOCK_BYTES])?;
+    Ok(Memory {
+        leaves,
+        lost: false,
+    })
+}
+
+/// Sets bytes of leaves.
+pub fn set(memory: &mut Memory, bytes: &[Byte]) {
+    for (leaf, place, byte) in bytes {
+        if usize::from(*place) < BLOCK_BYTES {
+            memory.leaves[*leaf as usize][*place as usize] = *byte;
+        }
+    }
+}
+
+/// Writes leaves, as a commit does.
+pub fn commit(memory: &mut Memory, leaves: &Leaves) {
+    for leaf in leaves.as_slice() {
+        memory.leaves[leaf.number as usize] = leaf.bytes;
+    }
+}
+
+// Leaf 2 is the inode of `b`, without content; leaf 5 that of `a`, with 1,026 bytes in the leaves 9 and 3.
+const OBJECTS: &[Byte] = &[
+    (0, 8, 1),
+    (0, 9, 2),
+    (0, 20, 1),
+    (0, 21, 5),
+    (0, 36, 2),
+    (0, 37, 5),
+    (0, 12, 2),
+    (0, 13, 5),
+    (0, 14, 1),
+    (2, 0, 7),
+    (2, 12, 1),
+    (2, 16, 0x62),
+    (5, 0, 8),
+    (5, 4, 9),
+    (5, 8, 2),
+    (5, 9, 4),
+    (5, 12, 1),
+    (5, 13, 2),
+    (5, 16, 0x61),
+    (5, 80, 0x31),
+    (5, 81, 0x32),
+    (9, 1022, 21),
+    (9, 1023, 22),
+    (3, 0, 23),
+    (3, 1, 24),
+];
+
+/// A region of two objects.
+pub fn objects(alloc: Global) -> Result<Memory, Fail> {
+    let mut memory = blank(alloc)?;
+    set(&mut memory, OBJECTS);
+    Ok(memory)
+}

@@ -1,0 +1,309 @@
+mod words;
+
+use app_api::{Answer, Application, Given, Properties, hosts_fit};
+use sample_apps::{Count, Crypt, Rogue, Sample, Store, sample_hosts};
+use std::alloc::Global;
+use std::process::Abort;
+use std::test::Fail;
+use tee_base::NoMemory;
+use words::run;
+
+const STORE: &str = "\
+create > 00000000
+start > 00000000
+1 mi:a vi:3:7 vo > open 7 3 a
+number 5 > 00000000 p2=5,0
+1 mi:a vi:3:7 vo > open 7 3 a
+refused ffff0008 > ffff0008
+1 mi:a vi:3:7 vo vi:0:0 > ffff0006
+2 mi:a vi:1024:9 mi:xyz vo > create 1 1024 9 a xyz
+number 5 > 00000000 p3=5,0
+2 mi:a vi:1024:9 mi:xyz vo > create 1 1024 9 a xyz
+refused ffff0003 > ffff0003
+3 vi:5:1 > ObjClose { object: 5 }
+done > 00000000
+3 vi:5:1 > ObjClose { object: 5 }
+refused f0100001 > f0100001
+4 vi:5:1 > ObjDelete { object: 5 }
+done > 00000000
+4 vi:5:1 > ObjDelete { object: 5 }
+refused f0100003 > f0100003
+5 vi:5:1 mi:b > rename 5 b
+done > 00000000
+5 vi:5:1 mi:b > rename 5 b
+refused ffff0003 > ffff0003
+6 vi:5:1 vo vo > ObjInfo { object: 5 }
+object 191 10 4 3 > 00000000 p1=10,4 p2=191,3
+6 vi:5:1 vo vo > ObjInfo { object: 5 }
+refused f0100001 > f0100001
+7 vi:5:3 mo:2 > ObjRead { object: 5, count: 3 }
+content xyz > 00000000 p1=xyz
+7 vi:5:3 mo:2 > ObjRead { object: 5, count: 3 }
+refused f0100001 > f0100001
+7 vi:5:3 mo:2 > ObjRead { object: 5, count: 3 }
+short 3 > ffff0010 p1=3!
+8 vi:5:1 mi:xyz > write 5 xyz
+done > 00000000
+8 vi:5:1 mi:xyz > write 5 xyz
+refused ffff3041 > ffff3041
+9 vi:5:70 > ObjTruncate { object: 5, length: 70 }
+done > 00000000
+9 vi:5:70 > ObjTruncate { object: 5, length: 70 }
+refused ffff3041 > ffff3041
+10 vi:5:2 vi:4294967295:4294967295 > ObjSeek { object: 5, offset: -1, whence: 2 }
+done > 00000000
+10 vi:5:0 vi:1:2 > ObjSeek { object: 5, offset: 8589934593, whence: 0 }
+refused ffff300f > ffff300f
+10 vi:5:0 vi:0:2147483648 > ObjSeek { object: 5, offset: -9223372036854775808, whence: 0 }
+11 mo:100 > EnumNew
+number 2 > EnumStart { list: 2, storage: 1 }
+done > EnumNext { list: 2 }
+found a > EnumNext { list: 2 }
+found bcd > EnumNext { list: 2 }
+refused ffff0008 > EnumFree { list: 2 }
+done > 00000000 p0=<1>a<3>bcd
+11 mo:100 > EnumNew
+number 2 > EnumStart { list: 2, storage: 1 }
+refused ffff0008 > EnumFree { list: 2 }
+done > 00000000 p0=
+11 mo:100 > EnumNew
+refused ffff000d > ffff000d
+11 mo:100 > EnumNew
+number 2 > EnumStart { list: 2, storage: 1 }
+refused f0100003 > f0100003
+11 mo:100 > EnumNew
+number 2 > EnumStart { list: 2, storage: 1 }
+done > EnumNext { list: 2 }
+found a > EnumNext { list: 2 }
+refused f0100001 > f0100001
+12 vi:77:1 > Panic { code: Code(77) }
+12 vi:77:1 vi:0:0 > ffff0006
+13 vi:2:1 > CancelFlag
+true > CancelFlag
+false > 00000000
+13 vi:0:1 > 00000000
+13 vi:1:1 > CancelFlag
+refused ffff000d > ffff000d
+14 vi:2:1 > CancelUnmask
+true > CancelFlag
+false > CancelFlag
+true > ffff0002
+14 vi:1:2 > CancelFlag
+false > 00000000
+14 vi:0:1 > CancelUnmask
+false > 00000000
+15 mo:3 > Random { count: 3 }
+content xyz > 00000000 p0=xyz
+15 mo:3 > Random { count: 3 }
+refused ffff000d > ffff000d
+16 vi:5:1 > ffff0006
+3 vi:5:1 > ObjClose { object: 5 }
+number 5 > ffff0000
+done > ffff0000
+3 vi:5:1 > ObjClose { object: 5 }
+stop > 00000000
+destroy > 00000000
+";
+
+const COUNT: &str = "\
+create > 00000000
+start > 00000000
+start > 00000000
+1 vi:5:9 vo > 00000000 p1=5,2
+2 vo > 00000000 p0=5,2
+stop > 00000000
+1 vi:4294967290:9 vo > 00000000 p1=4294967295,1
+1 vi:1:9 vo > ffff300f
+2 vo > 00000000 p0=4294967295,1
+stop > 00000000
+2 vo > 00000000 p0=4294967295,0
+stop > 00000000
+2 vo > 00000000 p0=4294967295,0
+2 vo vo > ffff0006
+3 vo > ffff0006
+done > ffff0000
+destroy > 00000000
+";
+
+const CRYPT: &str = "\
+create > 00000000
+start > 00000000
+2 mi:a mo:4 > ffff0007
+3 mi:a mo:4 > ffff0007
+4 mi:a mi:b > ffff0007
+2 mi:a mo:4 vo > ffff0006
+3 mi:a mo:4 - vo > ffff0006
+4 mi:a mo:4 > ffff0006
+1 mi:k vi:268435728:0 mi:v vo > ffff0006
+1 mi:k vi:268435728:0 mi:v > OpFree { op: 0 }
+done > OpNew { alg: 268435728, mode: 0, max_bits: 256 }
+number 3 > KeyNew { kind: 2684354576, max_bits: 8 }
+number 5 > KeyPopulate { object: 5, secret: Bytes { items: [107] } }
+done > OpSetKey { op: 3, object: 5 }
+done > ObjClose { object: 5 }
+done > CipherInit { op: 3, iv: Bytes { items: [118] } }
+done > 00000000
+2 mi:ab mo:4 > CipherUpdate { op: 3, bytes: Bytes { items: [97, 98] }, room: 4 }
+content xyz > 00000000 p1=xyz
+2 mi:ab mo:4 > CipherUpdate { op: 3, bytes: Bytes { items: [97, 98] }, room: 4 }
+short 16 > ffff0010 p1=16!
+3 mi:ab mo:4 > CipherFinal { op: 3, bytes: Bytes { items: [97, 98] }, room: 4 }
+short 16 > ffff0010 p1=16!
+3 mi:ab mo:4 > CipherFinal { op: 3, bytes: Bytes { items: [97, 98] }, room: 4 }
+content xyz > CipherInit { op: 3, iv: Bytes { items: [118] } }
+done > 00000000 p1=xyz
+4 mi:a mi:b > ffff0007
+1 vo > ffff0006
+2 mi:ab mo:4 > CipherUpdate { op: 3, bytes: Bytes { items: [97, 98] }, room: 4 }
+done > ffff0000
+1 mi:kk vi:805306372:4 mi: > OpFree { op: 3 }
+done > OpNew { alg: 805306372, mode: 4, max_bits: 1024 }
+number 4 > KeyNew { kind: 2684354564, max_bits: 16 }
+number 6 > KeyPopulate { object: 6, secret: Bytes { items: [107, 107] } }
+done > OpSetKey { op: 4, object: 6 }
+done > ObjClose { object: 6 }
+done > MacInit { op: 4 }
+done > 00000000
+2 mi:ab mo:0 > MacUpdate { op: 4, bytes: Bytes { items: [97, 98] } }
+done > 00000000 p1=
+3 mi:ab mo:32 > MacFinal { op: 4, bytes: Bytes { items: [97, 98] }, room: 32 }
+content t > MacInit { op: 4 }
+done > 00000000 p1=t
+4 mi:ab mi:t > MacCompare { op: 4, bytes: Bytes { items: [97, 98] }, mac: Bytes { items: [116] } }
+done > MacInit { op: 4 }
+done > 00000000
+4 mi:ab mi:t > MacCompare { op: 4, bytes: Bytes { items: [97, 98] }, mac: Bytes { items: [116] } }
+refused ffff3071 > MacInit { op: 4 }
+done > ffff3071
+1 mi: vi:1342177284:5 mi: > OpFree { op: 4 }
+done > OpNew { alg: 1342177284, mode: 5, max_bits: 0 }
+number 2 > 00000000
+2 mi:ab mo:0 > DigestUpdate { op: 2, bytes: Bytes { items: [97, 98] } }
+done > 00000000 p1=
+3 mi:c mo:32 > DigestFinal { op: 2, bytes: Bytes { items: [99] }, room: 32 }
+content d > 00000000 p1=d
+4 mi:a mi:b > ffff0007
+1 mi:k vi:1:0 mi:v > OpFree { op: 2 }
+done > OpNew { alg: 1, mode: 0, max_bits: 0 }
+refused ffff000a > ffff000a
+2 mi:a mo:4 > ffff0007
+1 mi:k vi:268435472:1 mi: > OpFree { op: 0 }
+done > OpNew { alg: 268435472, mode: 1, max_bits: 256 }
+number 7 > KeyNew { kind: 2684354576, max_bits: 8 }
+refused ffff000a > ffff000a
+2 mi:a mo:4 > ffff0007
+1 mi:k vi:268435472:1 mi: > OpFree { op: 7 }
+true > ffff0000
+5 > ffff0006
+done > ffff0000
+stop > 00000000
+destroy > 00000000
+";
+
+const ROGUE: &str = "\
+create > 00000000
+start > 00000000
+1 vi:7:9 > Panic { code: Code(7) }
+1 vi:7:9 vo > ffff0006
+2 > ObjClose { object: 99 }
+done > 00000000
+2 vo > ffff0006
+3 > CancelFlag
+true > CancelFlag
+false > CancelFlag
+done > ffff0000
+4 vo > create 1 3 0 <0> 
+number 5 > ObjClose { object: 5 }
+done > create 1 3 0 <1> 
+refused ffff3041 > 00000000 p0=1,0
+4 vo > create 1 3 0 <0> 
+refused ffff0003 > ffff0003
+5 mo:4 > ffff0010 p0=1000!
+5 mo:4 vo > ffff0006
+6 > create 1 1031 0 h 
+number 5 > 00000000
+6 > create 1 1031 0 h 
+refused ffff0003 > ffff0003
+7 > ffff0006
+done > ffff0000
+stop > 00000000
+destroy > 00000000
+";
+
+/// Rogue's command 4 has closed the handle of the 256th object.
+const FILLED: &str = "\
+number 5 > ObjClose { object: 5 }
+done > 00000000 p0=256,0
+";
+
+#[test]
+fn store_by_its_table(rt: HostRuntime) -> Result<(), Fail> {
+    run(&rt, rt.alloc(), &mut Sample::Store(Store::Idle), STORE)
+}
+
+#[test]
+fn count_by_its_table(rt: HostRuntime) -> Result<(), Fail> {
+    run(&rt, rt.alloc(), &mut Sample::Count(Count::new()), COUNT)
+}
+
+#[test]
+fn crypt_by_its_table(rt: HostRuntime) -> Result<(), Fail> {
+    run(&rt, rt.alloc(), &mut Sample::Crypt(Crypt::new()), CRYPT)
+}
+
+#[test]
+fn rogue_by_its_table(rt: HostRuntime) -> Result<(), Fail> {
+    run(&rt, rt.alloc(), &mut Sample::Rogue(Rogue::Idle), ROGUE)
+}
+
+fn answer(alloc: Global, sample: &mut Sample, answer: Answer) -> Result<(), NoMemory> {
+    sample.step(alloc, Given::Answer(answer))?;
+    Ok(())
+}
+
+/// All that Rogue's command 4 creates.
+fn fill(rt: &impl Abort, alloc: Global, rogue: &mut Sample) -> Result<(), Fail> {
+    run(rt, alloc, rogue, "4 vo > create 1 3 0 <0> ")?;
+    for _ in 0..255u8 {
+        answer(alloc, rogue, Answer::Number(5))?;
+        answer(alloc, rogue, Answer::Done)?;
+    }
+    run(rt, alloc, rogue, FILLED)
+}
+
+#[test]
+fn all_one_byte_identifiers(rt: HostRuntime) -> Result<(), Fail> {
+    fill(&rt, rt.alloc(), &mut Sample::Rogue(Rogue::Idle))
+}
+
+/// Name, identifier, the three properties, the application as it begins.
+const HOSTS: [&str; 6] = [
+    "vault 00000000-0000-4000-8000-000000000001 true false false Store(Idle)",
+    "twin 00000000-0000-4000-8000-000000000002 false false false Store(Idle)",
+    "keep 00000000-0000-4000-8000-000000000003 true true true Count(Count { number: 0, sessions: 0 })",
+    "tally 00000000-0000-4000-8000-000000000004 true true false Count(Count { number: 0, sessions: 0 })",
+    "cipher 00000000-0000-4000-8000-000000000005 false false false Crypt(Crypt { op: 0, class: None, waiting: Nothing })",
+    "rogue 00000000-0000-4000-8000-000000000006 true true false Rogue(Idle)",
+];
+
+#[test]
+fn hosts_by_their_table(rt: HostRuntime) -> Result<(), Fail> {
+    let alloc = rt.alloc();
+    let hosts = sample_hosts(alloc)?;
+    assert!(rt; hosts_fit(hosts.as_slice()));
+    assert_eq!(rt; hosts.len(), HOSTS.len());
+    for (host, row) in hosts.iter().zip(HOSTS.iter()) {
+        let name = str::from_utf8(host.name.as_slice())?;
+        let Properties {
+            single,
+            multi,
+            keep,
+        } = host.properties;
+        let text = format!(in alloc;
+            "{name} {} {single} {multi} {keep} {:?}",
+            host.id, host.template
+        )?;
+        assert_eq!(rt; text.as_str(), *row);
+    }
+    Ok(())
+}

@@ -1,0 +1,195 @@
+ghost use Rattle.std.specs.Prelude.{◌≡◌, IfOk};
+ghost use Rattle.app_api.specs.Hosts.{HostsFit};
+ghost use Rattle.app_api.specs.declared.ask.Ask.TheVariants.{CancelFlag};
+
+use app_api::{Application, Ask, Given, Host, Properties, hosts_fit};
+use script::{Dialect, ScriptAnswer, parse, parse_in, print, print_reads_back};
+use std::alloc::Global;
+use std::process::Abort;
+use std::test::Fail;
+use tee_base::{Bytes, NoMemory};
+use uuid::Uuid;
+
+/// It asks for the same again and again.
+#[derive(Clone, Copy, Debug)]
+struct Idle;
+
+impl Application for Idle {
+    ghost behaviour = { record { next = λ state given. state; asks = λ state given. CancelFlag } };
+
+    fn step(&mut self, _alloc: Global, _given: Given) -> Result<Ask, NoMemory> {
+        Ok(Ask::CancelFlag)
+    }
+
+    fn fresh(&self, _alloc: Global) -> Result<Idle, NoMemory> {
+        Ok(*self)
+    }
+}
+
+fn host(alloc: Global, name: &[u8], id: u128) -> Result<Host<Idle>, Fail> {
+    Ok(Host {
+        name: Bytes::from_slice(alloc, name)?,
+        id: Uuid::from_u128(id),
+        properties: Properties {
+            single: false,
+            multi: false,
+            keep: false,
+        },
+        template: Idle,
+    })
+}
+
+/// Two hosts, with the identifiers 1 and 2.
+fn two(rt: &impl Abort, alloc: Global) -> Result<Vec<Host<Idle>>, Fail>
+    ensures { IfOk result (λ hosts. HostsFit hosts.items) }
+{
+    let mut hosts = Vec::new(alloc);
+    hosts.push(host(alloc, b"one", 1)?)?;
+    hosts.push(host(alloc, b"two", 2)?)?;
+    assert!(rt; hosts_fit(hosts.as_slice()));
+    Ok(hosts)
+}
+
+/// Asserts that the text reads, and that this is its canonical text.
+fn assert_printed(
+    rt: &impl Abort,
+    alloc: Global,
+    hosts: &[Host<Idle>],
+    text: &[u8],
+    canonical: &[u8],
+) -> Result<(), Fail>
+    requires { HostsFit hosts.now }
+{
+    let script = parse(alloc, text, hosts)?;
+    let printed = print(alloc, &script, hosts)?;
+    assert_eq!(rt; printed.as_slice(), canonical);
+    let again = print_reads_back(alloc, &script, hosts)?;
+    assert_eq!(rt; again.as_slice().len(), script.as_slice().len());
+    Ok(())
+}
+
+/// The number of the first line that a caller of the dialect doesn't take.
+fn first_bad(
+    alloc: Global,
+    hosts: &[Host<Idle>],
+    text: &[u8],
+    dialect: Dialect,
+) -> Result<Option<u64>, Fail>
+    requires { HostsFit hosts.now }
+{
+    match parse_in(alloc, text, hosts, dialect) {
+        Ok(_script) => Ok(None),
+        Err(ScriptAnswer::BadLine(number)) => Ok(Some(number)),
+        Err(ScriptAnswer::NoMemory) => Err(Fail::from(NoMemory)),
+    }
+}
+
+const PRINTED: [(&[u8], &[u8]); 8] = [
+    (b"", b""),
+    (b"one open 1\n", b"one open 1\n"),
+    (
+        b"  one   open  001 - vi:07:00 -  -\r\n",
+        b"one open 1 - vi:7:0\n",
+    ),
+    (
+        b"one invoke 1 2 mi:6B mio: mo:4294967295 vo",
+        b"one invoke 1 2 mi:6b mio: mo:4294967295 vo\n",
+    ),
+    (
+        b"one invoke 1 2 mf:3:aF vio:1:2\n",
+        b"one invoke 1 2 mi:afafaf vio:1:2\n",
+    ),
+    (
+        b"one close 1 \n# a comment\x01\n\none post close 2\n\r\n",
+        b"one close 1\none post close 2\n",
+    ),
+    (
+        b"client 3\none post open 1\nclient 3\ntwo turn 4 1000000\nclient 0\nclient 7\none cancel 18446744073709551615\nboard fuse 1000000\nboard power 18446744073709551615\nclient 0\ntwo post invoke 1 1\n",
+        b"client 3\none post open 1\ntwo turn 4 1000000\nclient 7\none cancel 18446744073709551615\nboard fuse 1000000\nboard power 18446744073709551615\nclient 0\ntwo post invoke 1 1\n",
+    ),
+    (
+        b"00000000-0000-0000-0000-000000000002 open 1\nurn:uuid:00000000-0000-0000-0000-000000000002 open 2\n{00000000-0000-0000-0000-000000000001} open 3\n00000000000000000000000000000001 open 4\n",
+        b"two open 1\ntwo open 2\none open 3\none open 4\n",
+    ),
+];
+
+#[test]
+fn each_spelling_has_its_canonical_text(rt: HostRuntime) -> Result<(), Fail> {
+    let alloc = rt.alloc();
+    let hosts = two(&rt, alloc)?;
+    for (text, canonical) in PRINTED {
+        assert_printed(&rt, alloc, hosts.as_slice(), text, canonical)?;
+    }
+    Ok(())
+}
+
+const BAD: [(&[u8], u64); 22] = [
+    (b"one open 1\none opn 2\n", 2),
+    (b"one open 1\n \n", 2),
+    (b" # no comment\n", 1),
+    (b"one open 1\r", 1),
+    (b"# a comment\n# \xff\n", 2),
+    (b"one\topen 1\n", 1),
+    (b"one open +1\n", 1),
+    (b"one open 4294967296\n", 1),
+    (b"one open 1 mi:6\n", 1),
+    (b"one open 1 mf:524289:00\n", 1),
+    (b"one open 1 - - - - -\n", 1),
+    (b"one close 1 -\n", 1),
+    (b"one turn 5 1\n", 1),
+    (b"one turn 0 1\n", 1),
+    (b"one turn 1 0\n", 1),
+    (b"one turn 1 1000001\n", 1),
+    (b"client 8\n", 1),
+    (b"three open 1\n", 1),
+    (b"00000000-0000-0000-0000-000000000003 open 1\n", 1),
+    (b"one cancel 18446744073709551616\n", 1),
+    (b"board fuse 1000001\n", 1),
+    (b"board power 18446744073709551616\n", 1),
+];
+
+#[test]
+fn the_first_line_outside_is_named(rt: HostRuntime) -> Result<(), Fail> {
+    let alloc = rt.alloc();
+    let hosts = two(&rt, alloc)?;
+    for (text, number) in BAD {
+        let bad = first_bad(alloc, hosts.as_slice(), text, Dialect::Whole)?;
+        assert_eq!(rt; bad, Some(number));
+    }
+    let board = b"one open 1\nclient 1\none turn 1 1\nboard power 0\n".as_slice();
+    assert_eq!(rt;
+        first_bad(alloc, hosts.as_slice(), board, Dialect::Whole)?,
+        None
+    );
+    assert_eq!(rt;
+        first_bad(alloc, hosts.as_slice(), board, Dialect::WithoutBoard)?,
+        Some(4)
+    );
+    Ok(())
+}
+
+/// How many lines a text has, its last one too where that has no end.
+fn count_of_lines(text: &[u8]) -> u64 {
+    let mut count = 1u32;
+    for byte in text {
+        if *byte == b'\n' {
+            count = count.saturating_add(1);
+        }
+    }
+    u64::from(count)
+}
+
+#[test]
+fn a_script_that_is_cut_is_read_up_to_its_last_line(rt: HostRuntime) -> Result<(), Fail> {
+    let alloc = rt.alloc();
+    let hosts = two(&rt, alloc)?;
+    let text =
+        b"one open 1\r\none post invoke 1 14 vi:100:1\none cancel 2\none turn 1 300\n# end\nboard fuse 3\n".as_slice();
+    for cut in 0..text.len() {
+        let front = &text[..cut];
+        if let Some(number) = first_bad(alloc, hosts.as_slice(), front, Dialect::Whole)? {
+            assert_eq!(rt; number, count_of_lines(front));
+        }
+    }
+    Ok(())
+}
