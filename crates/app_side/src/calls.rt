@@ -127,12 +127,15 @@ impl<A: Application> AppSide<A> {
         ensures err { OnErr result (machine_of self.new ≡ machine_of self.old) }
     {
         if params.check().is_err() {
+            drop(params);
             return Ok(self.refuse(Code::BAD_PARAMETERS, Origin::Api));
         }
         if self.sessions.find(client, label).is_some() {
+            drop(params);
             return Ok(self.refuse(Code::BAD_STATE, Origin::Api));
         }
         if self.queue.is_full() {
+            drop(params);
             return Ok(self.refuse(Code::BUSY, Origin::Tee));
         }
         match self.sessions.admit(client, label) {
@@ -140,7 +143,10 @@ impl<A: Application> AppSide<A> {
                 client, label, params, admission,
             ),
             Ok(admission) => self.enter_shared(client, label, params, admission),
-            Err(refusal) => Ok(self.refuse(refusal.code, refusal.origin)),
+            Err(refusal) => {
+                drop(params);
+                Ok(self.refuse(refusal.code, refusal.origin))
+            }
         }
     }
 
@@ -158,19 +164,25 @@ impl<A: Application> AppSide<A> {
         ensures err { OnErr result (machine_of self.new ≡ machine_of self.old) }
     {
         if params.check().is_err() {
+            drop(params);
             return Ok(self.refuse(Code::BAD_PARAMETERS, Origin::Api));
         }
         let Some(known) = self.sessions.find(client, label) else {
+            drop(params);
             return Ok(self.refuse(Code::BAD_STATE, Origin::Api));
         };
         match known.state {
-            SessionState::Opening | SessionState::Closing => Ok(self.refuse(
-                Code::BAD_STATE,
-                Origin::Api,
-            )),
-            SessionState::Dead => Ok(self.refuse(Code::TARGET_DEAD, Origin::Tee)),
+            SessionState::Opening | SessionState::Closing => {
+                drop(params);
+                Ok(self.refuse(Code::BAD_STATE, Origin::Api))
+            }
+            SessionState::Dead => {
+                drop(params);
+                Ok(self.refuse(Code::TARGET_DEAD, Origin::Tee))
+            }
             SessionState::Open => {
                 if self.queue.is_full() {
+                    drop(params);
                     return Ok(self.refuse(Code::BUSY, Origin::Tee));
                 }
                 let call = Call::Invoke {

@@ -109,7 +109,10 @@ impl<A: Application> AppSide<A> {
     {
         match ask {
             Ask::KeyGenerate { object, bits } => self.generate(instance, object, bits),
-            _ => Ok(panicked()),
+            _ => {
+                drop(ask);
+                Ok(panicked())
+            }
         }
     }
 }

@@ -75,6 +75,7 @@ impl<A: Application> AppSide<A> {
             ((m : Machine A) → Represents self.old m → Represents self.new m) }
     {
         if self.queue.next_number() >= MOST {
+            drop(call);
             return Err(NoMemory);
         }
         self.serve(client, call)

@@ -10,10 +10,12 @@ ghost use Rattle.app_side.specs.Represents.{machine_of, IsTurned};
 
 use crate::side::AppSide;
 use alone::{
-    Ending, EntryPoint, Outputs, Places, Replies, Reply, deliver, destroy_entry, start_entry,
+    ActiveEntry, Ending, EntryPoint, Instance, Outputs, Places, Replies, Reply, deliver,
+    destroy_entry, start_entry,
 };
 use app_api::{Application, Params};
 use instances::SessionState;
+use std::mem;
 use tee_base::{Code, Origin};
 
 /// A reply that the application itself gives.
@@ -33,9 +35,20 @@ fn reply_to(op: Option<u64>, code: Code, outputs: Outputs) -> Option<Reply>
     ensures { result ≡ option_map (λ n. reply_of n code Origin.App outputs) op }
 {
     match op {
-        None => None,
+        None => {
+            drop(outputs);
+            None
+        }
         Some(op) => Some(own_reply(op, code, outputs)),
     }
+}
+
+/// What the instance runs from now on.
+pub(crate) fn set_running<A>(instance: &mut Instance<A>, running: Option<ActiveEntry>)
+    ensures { instance.new ≡ record instance.old { running = running } }
+{
+    let before = mem::replace(&mut instance.running, running);
+    drop(before);
 }
 
 fn is_success(code: Code) -> bool
@@ -61,10 +74,13 @@ impl<A: Application> AppSide<A> {
             → IsTurned self.new replies.new
             (answered (machine_of self.old) inst op code outputs) }
     {
-        self.instances[place].running = None;
-        if let Some(op) = op {
-            self.queue.answer(op);
-            replies.push(own_reply(op, code, outputs));
+        set_running(&mut self.instances[place], None);
+        match op {
+            None => drop(outputs),
+            Some(op) => {
+                self.queue.answer(op);
+                replies.push(own_reply(op, code, outputs));
+            }
         }
     }
 
@@ -91,7 +107,7 @@ impl<A: Application> AppSide<A> {
     {
         self.mask_again(op);
         self.sessions.begin_destroy(number);
-        self.instances[place].running = Some(destroy_entry(op, reply));
+        set_running(&mut self.instances[place], Some(destroy_entry(op, reply)));
     }
 
     /// A session of the instance has gone: where it is left without one and isn't kept alive, Destroy runs before the reply.
@@ -140,7 +156,7 @@ impl<A: Application> AppSide<A> {
         self.mask_again(op);
         let current = &mut self.instances[place];
         current.created = true;
-        current.running = Some(start_entry(op, session, params, places));
+        set_running(current, Some(start_entry(op, session, params, places)));
     }
 
     /// A start entry returned: its session is open and the operation answered, or the session is gone.
@@ -191,33 +207,38 @@ impl<A: Application> AppSide<A> {
             → IsTurned self.new replies.new
             (returned (machine_of self.old) inst op stage ending.code ending.outs) }
     {
-        let code = ending.code;
+        let Ending { code, outs } = ending;
         match stage {
             EntryPoint::Create {
                 session,
                 params,
                 places,
             } => {
+                drop(outs);
                 if is_success(code) {
                     self.start(place, number, op, session, params, places);
                 } else {
+                    drop(params);
+                    drop(places);
                     self.tear_down(number, code, Origin::App, replies);
                 }
             }
             EntryPoint::Start { session, places } => {
-                let outputs = deliver(self.alloc, places, ending.outs);
+                let outputs = deliver(self.alloc, places, outs);
                 self.end_start(place, number, op, session, code, outputs, replies);
             }
             EntryPoint::Invoke { places, .. } => {
-                let outputs = deliver(self.alloc, places, ending.outs);
+                let outputs = deliver(self.alloc, places, outs);
                 self.answer(place, number, op, code, outputs, replies);
             }
             EntryPoint::Stop { session } => {
+                drop(outs);
                 self.sessions.remove(session);
                 let outputs = Outputs::nothing();
                 self.after_session(place, number, op, Code::SUCCESS, outputs, replies);
             }
             EntryPoint::Destroy { reply } => {
+                drop(outs);
                 self.end_instance(number);
                 if let Some(reply) = reply {
                     replies.push(reply);

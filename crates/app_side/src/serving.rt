@@ -68,7 +68,10 @@ impl<A: Application> AppSide<A> {
                 entry.masked,
                 false,
             ))),
-            _ => panicked(),
+            _ => {
+                drop(ask);
+                panicked()
+            }
         }
     }
 

@@ -14,6 +14,7 @@ ghost use Rattle.app_side.specs.Represents.{machine_of, IsTornAlike};
 ghost use Rattle.app_side.specs.Serving.{AdvancesTurn, TakesTurn};
 ghost use Rattle.app_side.specs.Asking.{asked_turn, changing, comes, given_next, reaching};
 
+use crate::returns::set_running;
 use crate::side::AppSide;
 use alone::{ActiveEntry, EntryPoint, Replies, Waits, first_entry, place_of};
 use app_api::{Answer, Application, Ask, Given};
@@ -70,7 +71,7 @@ impl<A: Application> AppSide<A> {
             Some(begun) => {
                 let created = self.instances[place].created;
                 let running = first_entry(self.alloc, created, begun)?;
-                self.instances[place].running = Some(running);
+                set_running(&mut self.instances[place], Some(running));
                 Ok(())
             }
         }
@@ -101,14 +102,21 @@ impl<A: Application> AppSide<A> {
     {
         let alloc = self.alloc;
         let current = &mut self.instances[place];
-        let ask = current.state.step(alloc, given)?;
-        current.running = Some(ActiveEntry {
+        let ask = match current.state.step(alloc, given) {
+            Ok(ask) => ask,
+            Err(want) => {
+                drop(entry);
+                return Err(want);
+            }
+        };
+        let running = ActiveEntry {
             op: entry.op,
             stage: entry.stage,
             waits: Waits::Ask(ask),
             asks: entry.asks,
             masked: entry.masked,
-        });
+        };
+        set_running(current, Some(running));
         Ok(())
     }
 
@@ -127,13 +135,14 @@ impl<A: Application> AppSide<A> {
             → machine_of self.new ≡ with_instance (machine_of self.old)
             (record inst { running = Some (given_next entry masked answer) }) }
     {
-        self.instances[place].running = Some(ActiveEntry {
+        let running = ActiveEntry {
             op: entry.op,
             stage: entry.stage,
             waits: Waits::Given(Given::Answer(answer)),
             asks: entry.asks + 1,
             masked,
-        });
+        };
+        set_running(&mut self.instances[place], Some(running));
     }
 
     /// The entry's ask is carried out.
@@ -154,17 +163,28 @@ impl<A: Application> AppSide<A> {
             (changes_store ask) number result self.old self.new replies.new store.old store.new }
     {
         if entry.asks >= limits::MAX_ASKS {
+            drop(entry);
+            drop(ask);
             self.tear_down(number, Code::TARGET_DEAD, Origin::Tee, replies);
             return Ok(TurnKind::Plain);
         }
         let masked = mask_after(entry.masked, &ask);
-        let Served { kind, outcome } = self.carry_out(store, number, &entry, ask)?;
+        let Served { kind, outcome } = match self.carry_out(store, number, &entry, ask) {
+            Ok(served) => served,
+            Err(want) => {
+                drop(entry);
+                return Err(want);
+            }
+        };
         match outcome {
             Outcome::Answered(answer) => self.answer_next(place, number, entry, masked, answer),
             Outcome::Returned(ending) => {
                 self.end_entry(place, number, entry.op, entry.stage, ending, replies)
             }
-            Outcome::Panicked => self.tear_down(number, Code::TARGET_DEAD, Origin::Tee, replies),
+            Outcome::Panicked => {
+                drop(entry);
+                self.tear_down(number, Code::TARGET_DEAD, Origin::Tee, replies);
+            }
         }
         Ok(kind)
     }

@@ -169,6 +169,47 @@ fn have_lengths<F: OpenFile>(image: &Option<F>, counter: &Option<F>) -> io::Resu
     }
 }
 
+/// Makes what is missing of the files that were found, where their lengths fit. Where that is refused nothing is made.
+fn complete<R: Files>(
+    rt: &R,
+    names: &Names<'_>,
+    image: Option<R::File>,
+    counter: Option<R::File>,
+) -> Result<Pair<R::File>, FileBoardFailed>
+where
+    R::File: Lock,
+{
+    if !have_lengths(&image, &counter)? {
+        return Err(FileBoardFailed::Failed);
+    }
+    let made = make_missing(rt, names, image, counter);
+    if made.is_err() {
+        let _ = clear(rt, names.new_image);
+        let _ = clear(rt, names.new_counter);
+    }
+    Ok(made?)
+}
+
+/// Takes the image and the counter file of these names for this process, and makes what is missing.
+fn take_named<R: Files>(rt: &R, names: &Names<'_>) -> Result<Pair<R::File>, FileBoardFailed>
+where
+    R::File: Lock,
+{
+    let image = find(rt, names.image)?;
+    let counter = find(rt, names.counter)?;
+    complete(rt, names, image, counter)
+}
+
+/// Has the system put both files and their folder on the disk.
+fn sync_pair<R: Files>(rt: &R, image: &str, pair: &Pair<R::File>) -> io::Result<()>
+where
+    R::File: Lock,
+{
+    pair.image.sync_all()?;
+    pair.counter.sync_all()?;
+    fs::open(rt, folder_of(image))?.sync_all()
+}
+
 /// Takes the image and the counter file for this process, makes what is missing, and syncs both and their folder.
 /// Where that is refused nothing is made.
 pub fn take_pair<R: Files>(
@@ -188,19 +229,7 @@ where
         new_image: new_image.as_str(),
         new_counter: new_counter.as_str(),
     };
-    let found = find(rt, names.image)?;
-    let found_counter = find(rt, names.counter)?;
-    if !have_lengths(&found, &found_counter)? {
-        return Err(FileBoardFailed::Failed);
-    }
-    let made = make_missing(rt, &names, found, found_counter);
-    if made.is_err() {
-        let _ = clear(rt, names.new_image);
-        let _ = clear(rt, names.new_counter);
-    }
-    let pair = made?;
-    pair.image.sync_all()?;
-    pair.counter.sync_all()?;
-    fs::open(rt, folder_of(image))?.sync_all()?;
+    let pair = take_named(rt, &names)?;
+    sync_pair(rt, image, &pair)?;
     Ok(pair)
 }

@@ -200,7 +200,10 @@ impl Held {
             true self.old self.old self.new store.old store.new }
     {
         self.table.start_rename(instance, number, to.as_slice())?;
-        match store.apply(&Change::Rename { id, to }) {
+        let change = Change::Rename { id, to };
+        let answer = store.apply(&change);
+        drop(change);
+        match answer {
             Ok(()) => {
                 self.table.end_rename(true);
                 Ok(done())

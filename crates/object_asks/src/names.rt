@@ -56,7 +56,10 @@ fn delete_through<T: AppStore>(
         (deleted_by (holding before kept) (change before.store (deletion id)))
         true held.old kept held.new store.old store.new }
 {
-    match store.apply(&Change::Delete { id }) {
+    let change = Change::Delete { id };
+    let answer = store.apply(&change);
+    drop(change);
+    match answer {
         Ok(()) => {
             held.close(instance, object);
             Ok(done())

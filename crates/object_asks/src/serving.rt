@@ -32,7 +32,9 @@ pub fn serve<T: AppStore>(
 {
     match ask {
         Ask::ObjOpen { storage, id, flags } => {
-            opening::open(held, store, instance, storage, id.as_slice(), flags)
+            let served = opening::open(held, store, instance, storage, id.as_slice(), flags);
+            drop(id);
+            served
         }
         Ask::ObjCreate {
             storage,
@@ -71,12 +73,11 @@ pub fn serve<T: AppStore>(
         Ask::KeyNew { kind, max_bits } => {
             Ok(Served::plain(keys::create(held, instance, kind, max_bits)?))
         }
-        Ask::KeyPopulate { object, secret } => Ok(Served::plain(keys::populate(
-            held,
-            instance,
-            object,
-            secret.as_slice(),
-        ))),
+        Ask::KeyPopulate { object, secret } => {
+            let outcome = keys::populate(held, instance, object, secret.as_slice());
+            drop(secret);
+            Ok(Served::plain(outcome))
+        }
         Ask::KeyReset { object } => Ok(Served::plain(keys::reset(held, instance, object))),
         Ask::KeySecret { object, room } => {
             keys::secret(alloc, held, store, instance, object, room)
@@ -85,6 +86,9 @@ pub fn serve<T: AppStore>(
         Ask::KeyRestrict { object, usage } => Ok(Served::plain(keys::restrict(
             held, instance, object, usage,
         ))),
-        _ => Ok(panicked()),
+        _ => {
+            drop(ask);
+            Ok(panicked())
+        }
     }
 }

@@ -111,11 +111,14 @@ fn write_through<T: AppStore>(
         true held.old held.old held.new store.old store.new }
 {
     let end = behind(position, bytes.len());
-    store.apply(&Change::Write {
+    let change = Change::Write {
         id,
         at: position,
         bytes,
-    })?;
+    };
+    let answer = store.apply(&change);
+    drop(change);
+    answer?;
     held.seek(instance, object, end);
     Ok(done())
 }
@@ -175,7 +178,10 @@ fn truncate_through<T: AppStore>(
         (truncated_by before (change before.store (truncate_to id length)))
         true held.old held.old held.new store.old store.new }
 {
-    store.apply(&Change::Truncate { id, length })?;
+    let change = Change::Truncate { id, length };
+    let answer = store.apply(&change);
+    drop(change);
+    answer?;
     Ok(done())
 }
 

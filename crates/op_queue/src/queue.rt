@@ -75,11 +75,13 @@ impl OpQueue {
         if !is_close_call(&call)
             && scans::count_others(self.operations.as_slice()) >= limits::MAX_OPERATIONS
         {
+            drop(call);
             return Err(QueueAnswer::Full);
         }
         if is_close_call(&call)
             && scans::count_closes(self.operations.as_slice()) >= limits::MAX_SESSIONS
         {
+            drop(call);
             return Err(QueueAnswer::NoMemory);
         }
         let operation = Operation {

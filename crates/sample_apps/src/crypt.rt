@@ -80,11 +80,25 @@ impl Crypt {
         }
     }
 
+    fn set_class(&mut self, class: Option<Class>)
+        ensures { self.new ≡ record self.old { class = class } }
+    {
+        let before = mem::replace(&mut self.class, class);
+        drop(before);
+    }
+
+    fn set_waiting(&mut self, waiting: Waiting)
+        ensures { self.new ≡ record self.old { waiting = waiting } }
+    {
+        let before = mem::replace(&mut self.waiting, waiting);
+        drop(before);
+    }
+
     /// The command asks, and waits for the answer.
     fn wait_for(&mut self, waiting: Waiting, ask: Ask) -> Ask
         ensures { ask_for self.new result ≡ wait_for self.old waiting ask }
     {
-        self.waiting = waiting;
+        self.set_waiting(waiting);
         ask
     }
 
@@ -92,7 +106,7 @@ impl Crypt {
     fn return_with(&mut self, code: Code, outs: Outs) -> Ask
         ensures { ask_for self.new result ≡ return_with (idle self.old) code outs }
     {
-        self.waiting = Waiting::Nothing;
+        self.set_waiting(Waiting::Nothing);
         Ask::Return { code, outs }
     }
 
@@ -115,7 +129,10 @@ impl Crypt {
     {
         match answer {
             Answer::Refused(code) => self.fail(code),
-            _ => self.fail(Code::GENERIC),
+            other => {
+                drop(other);
+                self.fail(Code::GENERIC)
+            }
         }
     }
 
@@ -202,7 +219,10 @@ impl Crypt {
                 self.after_key_close(class.take(), beginning.take(), answer)
             }
             Waiting::Beginning { class } => self.after_first_beginning(class.take(), answer),
-            _ => self.fail(Code::GENERIC),
+            _ => {
+                drop(answer);
+                self.fail(Code::GENERIC)
+            }
         }
     }
 
@@ -238,7 +258,9 @@ impl Crypt {
             ≡ rows.reaction_while (idle self.old) self.old.waiting beginning.old answer }
     {
         let mut waiting = mem::replace(&mut self.waiting, Waiting::Nothing);
-        self.go_on(alloc, &mut waiting, beginning, answer)
+        let ask = self.go_on(alloc, &mut waiting, beginning, answer);
+        drop(waiting);
+        ask
     }
 
     /// An answer comes. On `Err` the state stays.
@@ -247,8 +269,16 @@ impl Crypt {
             ask_for self.new ask ≡ rows.reaction_to_answer self.old answer) }
         ensures err { OnErr result (self.new ≡ self.old) }
     {
-        let mut beginning = self.beginning(alloc)?;
-        Ok(self.resume(alloc, &mut beginning, answer))
+        let mut beginning = match self.beginning(alloc) {
+            Ok(beginning) => beginning,
+            Err(want) => {
+                drop(answer);
+                return Err(want);
+            }
+        };
+        let ask = self.resume(alloc, &mut beginning, answer);
+        drop(beginning);
+        Ok(ask)
     }
 }
 

@@ -31,7 +31,10 @@ impl Crypt {
     {
         let op = self.op;
         match &self.class {
-            None => self.fail(Code::BAD_STATE),
+            None => {
+                drop(bytes);
+                self.fail(Code::BAD_STATE)
+            }
             Some(Class::Cipher { .. }) => self.wait_for(
                 Waiting::Enciphering,
                 Ask::CipherUpdate { op, bytes, room },
@@ -70,7 +73,10 @@ impl Crypt {
     {
         let op = self.op;
         let ask = match &self.class {
-            None => return self.fail(Code::BAD_STATE),
+            None => {
+                drop(bytes);
+                return self.fail(Code::BAD_STATE);
+            }
             Some(Class::Cipher { .. }) => Ask::CipherFinal { op, bytes, room },
             Some(Class::Mac) => Ask::MacFinal { op, bytes, room },
             Some(Class::Digest) => Ask::DigestFinal { op, bytes, room },
@@ -88,8 +94,14 @@ impl Crypt {
                 Some(ask) => self.wait_for(Waiting::Renewing { content }, ask),
                 None => self.deliver(content),
             },
-            Answer::Short(size) => self.fall_short(size),
-            other => self.refuse(other),
+            Answer::Short(size) => {
+                drop(beginning);
+                self.fall_short(size)
+            }
+            other => {
+                drop(beginning);
+                self.refuse(other)
+            }
         }
     }
 
@@ -99,7 +111,10 @@ impl Crypt {
     {
         match answer {
             Answer::Done => self.deliver(content),
-            other => self.refuse(other),
+            other => {
+                drop(content);
+                self.refuse(other)
+            }
         }
     }
 
@@ -112,7 +127,11 @@ impl Crypt {
             Some(Class::Mac) => {
                 self.wait_for(Waiting::Comparing, Ask::MacCompare { op, bytes, mac })
             }
-            _ => self.fail(Code::BAD_STATE),
+            _ => {
+                drop(bytes);
+                drop(mac);
+                self.fail(Code::BAD_STATE)
+            }
         }
     }
 
@@ -137,7 +156,10 @@ impl Crypt {
                     self.fail(code)
                 }
             }
-            _ => self.fail(Code::GENERIC),
+            other => {
+                drop(other);
+                self.fail(Code::GENERIC)
+            }
         }
     }
 

@@ -106,9 +106,8 @@ impl Crypt {
         ensures { ask_for self.new result ≡ rows.set_up self.old plan }
     {
         let op = mem::replace(&mut self.op, 0);
-        self.class = None;
-        self.waiting = Waiting::Freeing { plan };
-        Ask::OpFree { op }
+        self.set_class(None);
+        self.wait_for(Waiting::Freeing { plan }, Ask::OpFree { op })
     }
 
     #[tactic(auto, unfolding(crate::specs::CryptSetUp::after_op_free))]
@@ -124,7 +123,10 @@ impl Crypt {
                 };
                 self.wait_for(Waiting::Allocating { plan }, ask)
             }
-            other => self.refuse(other),
+            other => {
+                drop(plan);
+                self.refuse(other)
+            }
         }
     }
 
@@ -137,7 +139,10 @@ impl Crypt {
                 self.op = op;
                 self.make_key(plan)
             }
-            other => self.refuse(other),
+            other => {
+                drop(plan);
+                self.refuse(other)
+            }
         }
     }
 
@@ -148,6 +153,8 @@ impl Crypt {
     {
         let Plan { alg, key, iv, .. } = plan;
         let Some(kind) = key_kind(alg) else {
+            drop(key);
+            drop(iv);
             return self.be_ready(Class::Digest);
         };
         let ask = Ask::KeyNew {
@@ -170,7 +177,11 @@ impl Crypt {
                     secret: key,
                 },
             ),
-            other => self.refuse(other),
+            other => {
+                drop(key);
+                drop(class);
+                self.refuse(other)
+            }
         }
     }
 
@@ -186,7 +197,10 @@ impl Crypt {
                     Ask::OpSetKey { op, object },
                 )
             }
-            other => self.refuse(other),
+            other => {
+                drop(class);
+                self.refuse(other)
+            }
         }
     }
 
@@ -198,7 +212,10 @@ impl Crypt {
             Answer::Done => {
                 self.wait_for(Waiting::ClosingKey { class }, Ask::ObjClose { object })
             }
-            other => self.refuse(other),
+            other => {
+                drop(class);
+                self.refuse(other)
+            }
         }
     }
 
@@ -212,7 +229,11 @@ impl Crypt {
                 Some(ask) => self.wait_for(Waiting::Beginning { class }, ask),
                 None => self.be_ready(class),
             },
-            other => self.refuse(other),
+            other => {
+                drop(class);
+                drop(beginning);
+                self.refuse(other)
+            }
         }
     }
 
@@ -222,7 +243,10 @@ impl Crypt {
     {
         match answer {
             Answer::Done => self.be_ready(class),
-            other => self.refuse(other),
+            other => {
+                drop(class);
+                self.refuse(other)
+            }
         }
     }
 
@@ -230,7 +254,7 @@ impl Crypt {
     fn be_ready(&mut self, class: Class) -> Ask
         ensures { ask_for self.new result ≡ rows.readiness self.old class }
     {
-        self.class = Some(class);
+        self.set_class(Some(class));
         self.succeed(Outs::nothing())
     }
 }

@@ -93,10 +93,10 @@ fn create_object(params: Params) -> Reaction<Store>
 
 /// Closes a handle.
 #[tactic(auto, unfolding(crate::specs::StoreCommands::close_object))]
-fn close_object(params: Params) -> Reaction<Store>
-    ensures { result ≡ rows.close_object params.p0 params.p1 params.p2 params.p3 }
+fn close_object(params: &Params) -> Reaction<Store>
+    ensures { result ≡ rows.close_object params.now.p0 params.now.p1 params.now.p2 params.now.p3 }
 {
-    match params {
+    match *params {
         Params {
             p0: Param::ValueIn(object, _),
             p1: Param::Nothing,
@@ -109,10 +109,10 @@ fn close_object(params: Params) -> Reaction<Store>
 
 /// Deletes an object.
 #[tactic(auto, unfolding(crate::specs::StoreCommands::delete_object))]
-fn delete_object(params: Params) -> Reaction<Store>
-    ensures { result ≡ rows.delete_object params.p0 params.p1 params.p2 params.p3 }
+fn delete_object(params: &Params) -> Reaction<Store>
+    ensures { result ≡ rows.delete_object params.now.p0 params.now.p1 params.now.p2 params.now.p3 }
 {
-    match params {
+    match *params {
         Params {
             p0: Param::ValueIn(object, _),
             p1: Param::Nothing,
@@ -143,10 +143,11 @@ fn rename_object(params: Params) -> Reaction<Store>
 
 /// What is known of an object.
 #[tactic(auto, unfolding(crate::specs::StoreCommands::describe_object))]
-fn describe_object(params: Params) -> Reaction<Store>
-    ensures { result ≡ rows.describe_object params.p0 params.p1 params.p2 params.p3 }
+fn describe_object(params: &Params) -> Reaction<Store>
+    ensures { result
+        ≡ rows.describe_object params.now.p0 params.now.p1 params.now.p2 params.now.p3 }
 {
-    match params {
+    match *params {
         Params {
             p0: Param::ValueIn(object, _),
             p1: Param::ValueOut,
@@ -159,10 +160,10 @@ fn describe_object(params: Params) -> Reaction<Store>
 
 /// The next bytes of an object.
 #[tactic(auto, unfolding(crate::specs::StoreCommands::read_object))]
-fn read_object(params: Params) -> Reaction<Store>
-    ensures { result ≡ rows.read_object params.p0 params.p1 params.p2 params.p3 }
+fn read_object(params: &Params) -> Reaction<Store>
+    ensures { result ≡ rows.read_object params.now.p0 params.now.p1 params.now.p2 params.now.p3 }
 {
-    match params {
+    match *params {
         Params {
             p0: Param::ValueIn(object, count),
             p1: Param::MemOut(_),
@@ -193,10 +194,11 @@ fn write_object(params: Params) -> Reaction<Store>
 
 /// Gives an object a length.
 #[tactic(auto, unfolding(crate::specs::StoreCommands::truncate_object))]
-fn truncate_object(params: Params) -> Reaction<Store>
-    ensures { result ≡ rows.truncate_object params.p0 params.p1 params.p2 params.p3 }
+fn truncate_object(params: &Params) -> Reaction<Store>
+    ensures { result
+        ≡ rows.truncate_object params.now.p0 params.now.p1 params.now.p2 params.now.p3 }
 {
-    match params {
+    match *params {
         Params {
             p0: Param::ValueIn(object, length),
             p1: Param::Nothing,
@@ -209,10 +211,10 @@ fn truncate_object(params: Params) -> Reaction<Store>
 
 /// Moves an object's position.
 #[tactic(auto, unfolding(crate::specs::StoreCommands::seek_object))]
-fn seek_object(params: Params) -> Reaction<Store>
-    ensures { result ≡ rows.seek_object params.p0 params.p1 params.p2 params.p3 }
+fn seek_object(params: &Params) -> Reaction<Store>
+    ensures { result ≡ rows.seek_object params.now.p0 params.now.p1 params.now.p2 params.now.p3 }
 {
-    match params {
+    match *params {
         Params {
             p0: Param::ValueIn(object, whence),
             p1: Param::ValueIn(low, high),
@@ -232,10 +234,10 @@ fn seek_object(params: Params) -> Reaction<Store>
 
 /// The identifiers of all objects.
 #[tactic(auto, unfolding(crate::specs::StoreCommands::list_objects))]
-fn list_objects(params: Params) -> Reaction<Store>
-    ensures { result ≡ rows.list_objects params.p0 params.p1 params.p2 params.p3 }
+fn list_objects(params: &Params) -> Reaction<Store>
+    ensures { result ≡ rows.list_objects params.now.p0 params.now.p1 params.now.p2 params.now.p3 }
 {
-    match params {
+    match *params {
         Params {
             p0: Param::MemOut(_),
             p1: Param::Nothing,
@@ -248,10 +250,10 @@ fn list_objects(params: Params) -> Reaction<Store>
 
 /// Panics; nothing comes after it.
 #[tactic(auto, unfolding(crate::specs::StoreCommands::panic_with))]
-fn panic_with(params: Params) -> Reaction<Store>
-    ensures { result ≡ rows.panic_with params.p0 params.p1 params.p2 params.p3 }
+fn panic_with(params: &Params) -> Reaction<Store>
+    ensures { result ≡ rows.panic_with params.now.p0 params.now.p1 params.now.p2 params.now.p3 }
 {
-    match params {
+    match *params {
         Params {
             p0: Param::ValueIn(code, _),
             p1: Param::Nothing,
@@ -264,10 +266,10 @@ fn panic_with(params: Params) -> Reaction<Store>
 
 /// Asks for the cancellation flag so many times.
 #[tactic(auto, unfolding(crate::specs::StoreCommands::poll_flag))]
-fn poll_flag(params: Params) -> Reaction<Store>
-    ensures { result ≡ rows.poll_flag params.p0 params.p1 params.p2 params.p3 }
+fn poll_flag(params: &Params) -> Reaction<Store>
+    ensures { result ≡ rows.poll_flag params.now.p0 params.now.p1 params.now.p2 params.now.p3 }
 {
-    match params {
+    match *params {
         Params {
             p0: Param::ValueIn(polls, _),
             p1: Param::Nothing,
@@ -280,10 +282,10 @@ fn poll_flag(params: Params) -> Reaction<Store>
 
 /// Asks for the cancellation flag up to so many times until it is set, after it is unmasked where that is wanted.
 #[tactic(auto, unfolding(crate::specs::StoreCommands::watch_flag))]
-fn watch_flag(params: Params) -> Reaction<Store>
-    ensures { result ≡ rows.watch_flag params.p0 params.p1 params.p2 params.p3 }
+fn watch_flag(params: &Params) -> Reaction<Store>
+    ensures { result ≡ rows.watch_flag params.now.p0 params.now.p1 params.now.p2 params.now.p3 }
 {
-    match params {
+    match *params {
         Params {
             p0: Param::ValueIn(polls, unmask),
             p1: Param::Nothing,
@@ -302,10 +304,10 @@ fn watch_flag(params: Params) -> Reaction<Store>
 
 /// As many random bytes as there is room for.
 #[tactic(auto, unfolding(crate::specs::StoreCommands::draw_random))]
-fn draw_random(params: Params) -> Reaction<Store>
-    ensures { result ≡ rows.draw_random params.p0 params.p1 params.p2 params.p3 }
+fn draw_random(params: &Params) -> Reaction<Store>
+    ensures { result ≡ rows.draw_random params.now.p0 params.now.p1 params.now.p2 params.now.p3 }
 {
-    match params {
+    match *params {
         Params {
             p0: Param::MemOut(count),
             p1: Param::Nothing,
@@ -321,22 +323,24 @@ fn draw_random(params: Params) -> Reaction<Store>
 pub fn command(number: u32, params: Params) -> Reaction<Store>
     ensures { result ≡ rows.command number params }
 {
-    match number {
-        1 => open_object(params),
-        2 => create_object(params),
-        3 => close_object(params),
-        4 => delete_object(params),
-        5 => rename_object(params),
-        6 => describe_object(params),
-        7 => read_object(params),
-        8 => write_object(params),
-        9 => truncate_object(params),
-        10 => seek_object(params),
-        11 => list_objects(params),
-        12 => panic_with(params),
-        13 => poll_flag(params),
-        14 => watch_flag(params),
-        15 => draw_random(params),
+    let reaction = match number {
+        1 => return open_object(params),
+        2 => return create_object(params),
+        3 => close_object(&params),
+        4 => delete_object(&params),
+        5 => return rename_object(params),
+        6 => describe_object(&params),
+        7 => read_object(&params),
+        8 => return write_object(params),
+        9 => truncate_object(&params),
+        10 => seek_object(&params),
+        11 => list_objects(&params),
+        12 => panic_with(&params),
+        13 => poll_flag(&params),
+        14 => watch_flag(&params),
+        15 => draw_random(&params),
         _ => misfit(),
-    }
+    };
+    drop(params);
+    reaction
 }
