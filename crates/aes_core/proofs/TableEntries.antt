@@ -159,35 +159,6 @@ entry_decrypt_3 t x e h =
     (ap (λ (l : List ℕ). length (take 256 (drop 768 l))) e ∙ refl) refl h
     ∙ ap inv_mixed_3 (entry_inverse_substitute INVERSE_SUBSTITUTE x refl h)
 
--- the substitution of each byte is undone
-test_undone : map inverse_substitute SUBSTITUTE ≡ range_with_len 0 256
-unfolding xtimes multiply_powers multiply power inverse byte_of_bits inverse_affine inverse_substitute
-test_undone = refl
-
-pub inverse_substitute-substitute : (x : ℕ) → x < 2 ^ 8 → inverse_substitute (substitute x) ≡ x
-inverse_substitute-substitute x h =
-    ap inverse_substitute (sym (entry_substitute SUBSTITUTE x refl h)) ∙ sym (get_or-map inverse_substitute SUBSTITUTE x 0 0 h)
-    ∙ ap (λ (l : List ℕ). get_or l x 0) test_undone ∙ get_or-range_with_len 0 256 x 0 h ∙ zero-add x
-
--- and so is its inverse
-test_redone : map substitute INVERSE_SUBSTITUTE ≡ range_with_len 0 256
-unfolding xtimes multiply_powers multiply power inverse byte_of_bits affine substitute
-test_redone = refl
-
-pub substitute-inverse_substitute : (x : ℕ) → x < 2 ^ 8 → substitute (inverse_substitute x) ≡ x
-substitute-inverse_substitute x h =
-    ap substitute (sym (entry_inverse_substitute INVERSE_SUBSTITUTE x refl h)) ∙ sym (get_or-map substitute INVERSE_SUBSTITUTE x 0 0 h)
-    ∙ ap (λ (l : List ℕ). get_or l x 0) test_redone ∙ get_or-range_with_len 0 256 x 0 h ∙ zero-add x
-
-test_round_constants : ROUND_CONSTANTS ≡ map round_constant (range_with_len 1 10)
-unfolding xtimes multiply_powers multiply power round_constant
-test_round_constants = refl
-
-pub entry_round_constant : (t : List ℕ) (j : ℕ) → t ≡ ROUND_CONSTANTS → 1 ≤ j → j ≤ 10 → get_or t (j - 1) 0 ≡ round_constant j
-entry_round_constant t j e low high =
-    ap (λ (l : List ℕ). get_or l (j - 1) 0) (e ∙ test_round_constants)
-    ∙ get_or-map-range_with_len round_constant 1 10 (j - 1) j 0 (omega arith) (omega arith)
-
 -- what the substitution gives is a byte
 test_bytes : map (λ (s : ℕ). s % 256) SUBSTITUTE ≡ SUBSTITUTE
 test_bytes = refl
@@ -208,3 +179,30 @@ inverse_substitute_below x h =
     let m : get_or INVERSE_SUBSTITUTE x 0 ≡ get_or INVERSE_SUBSTITUTE x 0 % 256 =
     ap (λ (l : List ℕ). get_or l x 0) (sym test_inverse_bytes) ∙ get_or-map (λ (s : ℕ). s % 256) INVERSE_SUBSTITUTE x 0 0 h in
     omega arith
+
+-- the substitution of each byte is undone, and so is its inverse: each table leads back through the other
+undone_at : (s t : List ℕ) (f g : ℕ → ℕ) (x : ℕ) → map (λ (y : ℕ). get_or t y 0) s ≡ range_with_len 0 256 → length s ≡ 256 → x < 256
+    → get_or s x 0 ≡ f x → get_or t (f x) 0 ≡ g (f x) → g (f x) ≡ x
+undone_at s t f g x e long h there back =
+    sym back ∙ ap (λ (y : ℕ). get_or t y 0) (sym there)
+    ∙ sym (get_or-map (λ (y : ℕ). get_or t y 0) s x 0 0 (subst (λ (n : ℕ). x < n) (sym long) h))
+    ∙ ap (λ (l : List ℕ). get_or l x 0) e ∙ get_or-range_with_len 0 256 x 0 h ∙ zero-add x
+
+pub inverse_substitute-substitute : (x : ℕ) → x < 2 ^ 8 → inverse_substitute (substitute x) ≡ x
+inverse_substitute-substitute x h =
+    undone_at SUBSTITUTE INVERSE_SUBSTITUTE substitute inverse_substitute x refl refl h (entry_substitute SUBSTITUTE x refl h)
+    (entry_inverse_substitute INVERSE_SUBSTITUTE (substitute x) refl (substitute_below x h))
+
+pub substitute-inverse_substitute : (x : ℕ) → x < 2 ^ 8 → substitute (inverse_substitute x) ≡ x
+substitute-inverse_substitute x h =
+    undone_at INVERSE_SUBSTITUTE SUBSTITUTE inverse_substitute substitute x refl refl h (entry_inverse_substitute INVERSE_SUBSTITUTE x refl h)
+    (entry_substitute SUBSTITUTE (inverse_substitute x) refl (inverse_substitute_below x h))
+
+test_round_constants : ROUND_CONSTANTS ≡ map round_constant (range_with_len 1 10)
+unfolding xtimes multiply_powers multiply power round_constant
+test_round_constants = refl
+
+pub entry_round_constant : (t : List ℕ) (j : ℕ) → t ≡ ROUND_CONSTANTS → 1 ≤ j → j ≤ 10 → get_or t (j - 1) 0 ≡ round_constant j
+entry_round_constant t j e low high =
+    ap (λ (l : List ℕ). get_or l (j - 1) 0) (e ∙ test_round_constants)
+    ∙ get_or-map-range_with_len round_constant 1 10 (j - 1) j 0 (omega arith) (omega arith)
