@@ -1,5 +1,5 @@
 //! A board over three files: the blocks, the counter and the keys. It is an edge that is trusted, and tells no contents.
-ghost use Rattle.std.specs.Prelude.{◌≡◌, ◌<◌, ◌^◌, false, IfOk};
+ghost use Rattle.std.specs.Prelude.{◌≡◌, ◌≢◌, ◌+◌, ◌-◌, ◌<◌, ◌^◌, true, false, not, Ok, Some, None, is_ok, IsErr, IfOk, IfSome, IfNone, OnErr};
 ghost use Rattle.std.specs.IoError.{error_kind};
 ghost use Rattle.boards.specs.FileBoardFailed.{failed_by};
 ghost use Rattle.boards.specs.declared.file.FileBoardFailed.TheVariants.{NoMemory};
@@ -126,11 +126,19 @@ fn write_number<F: Write + Seek + OpenFile>(file: &mut F, number: u64) -> io::Re
     file.sync_all()
 }
 
-/// Raises the number by one, on the disk. After a failure the number isn't known any more.
-pub(crate) fn raise_number<F: Write + Seek + OpenFile>(
+/// Raises the number by one, on the disk. After a failure the number isn't known any more; at its type's end it stays,
+/// and nothing is written.
+fn raise_number<F: Write + Seek + OpenFile>(
     file: &mut F,
     number: &mut Option<u64>,
-) -> io::Result<u64> {
+) -> io::Result<u64>
+    ensures unknown { IfNone number.old (IsErr result) }
+    ensures stays { IfNone number.old (number.new ≡ None) }
+    ensures raised { IfOk result (λ n. number.new ≡ Some n) }
+    ensures next { IfOk result (λ n. IfSome number.old (λ before. n ≡ before + 1)) }
+    ensures lost { OnErr result (number.old ≢ Some (2 ^ 64 - 1) → number.new ≡ None) }
+    ensures full { number.old ≡ Some (2 ^ 64 - 1) → number.new ≡ number.old }
+{
     let next = known(*number)?.checked_add(1);
     let Some(next) = next else {
         return Err(io::ErrorKind::InvalidData.into());
@@ -142,7 +150,10 @@ pub(crate) fn raise_number<F: Write + Seek + OpenFile>(
 }
 
 /// The number, where it is on the disk.
-fn known(number: Option<u64>) -> io::Result<u64> {
+fn known(number: Option<u64>) -> io::Result<u64>
+    ensures some { IfSome number (λ n. result ≡ Ok n) }
+    ensures none { IfNone number (IsErr result) }
+{
     match number {
         Some(number) => Ok(number),
         None => Err(io::ErrorKind::Other.into()),
@@ -150,7 +161,11 @@ fn known(number: Option<u64>) -> io::Result<u64> {
 }
 
 /// Syncs the file, unless a sync of it failed before.
-pub(crate) fn sync_once<F: OpenFile>(file: &F, failed: &mut bool) -> io::Result<()> {
+fn sync_once<F: OpenFile>(file: &F, failed: &mut bool) -> io::Result<()>
+    ensures refused { failed.old ≡ true → IsErr result }
+    ensures stays { failed.old ≡ true → failed.new ≡ true }
+    ensures told { failed.new ≡ not (is_ok result) }
+{
     if *failed {
         return Err(io::ErrorKind::Other.into());
     }

@@ -12,8 +12,3 @@ mod schedule;
 
 pub use file::{FileBoard, FileBoardFailed, NEW_BLOCKS};
 pub use memory::MemBoard;
-
-#[cfg(test)]
-mod file_tests;
-#[cfg(test)]
-mod memory_tests;

@@ -10,8 +10,6 @@ mod keys;
 mod mac;
 mod operation;
 mod random;
-#[cfg(test)]
-mod tests;
 
 pub use about::OpAbout;
 pub use algorithm::{Algorithm, algorithm_at};

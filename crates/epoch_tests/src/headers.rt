@@ -78,7 +78,7 @@ fn header_of(version: u32, sequence: u64) -> Header {
 
 /// The bytes are these, in hexadecimal.
 fn are(rt: &impl Abort, alloc: Global, bytes: &[u8], wanted: &str) -> Result<(), Fail> {
-    assert_eq!(rt; hex::encode(alloc, bytes)?.as_str(), wanted);
+    assert!(rt; hex::encode(alloc, bytes)?.as_str() == wanted);
     Ok(())
 }
 
@@ -215,13 +215,13 @@ fn check(rt: &impl Abort, alloc: Global, row: &Row) -> Result<(), Fail> {
     let written = board.writes();
     let found = find_header(&mut board);
     let answer = found.map(|header| header.map(|header| header.sequence));
-    assert_eq!(rt; answer, row.answer);
-    assert_eq!(rt; board.writes(), written);
+    assert!(rt; answer == row.answer);
+    assert!(rt; board.writes() == written);
     let counter = match row.answer {
         Ok(Some(sequence)) => sequence,
         _ => u64::from(row.counter),
     };
-    assert_eq!(rt; board.counter()?, counter);
+    assert!(rt; board.counter()? == counter);
     Ok(())
 }
 
@@ -256,7 +256,7 @@ fn a_header_has_the_bytes_computed_outside(rt: HostRuntime) -> Result<(), Fail> 
     assert!(rt; board.blocks() >= 4);
     shut(&mut board, 1)?;
     lay(&mut board, &header)?;
-    assert_eq!(rt; flip(&mut board, 1)?, 5);
+    assert!(rt; flip(&mut board, 1)? == 5);
     assert!(rt; find_header(&mut board) == Ok(Some(header)));
     let block = block_of(&rt, &mut board, 3)?;
     is_header(&rt, rt.alloc(), &block, TOLD)?;

@@ -72,9 +72,9 @@ fn is_filled(
 /// An image of sequence 2, whose leaf is filled with 0x11.
 fn image_of_two(rt: &impl Abort, alloc: Global) -> Result<Bytes, Fail> {
     let mut volume = opened(alloc, MemBoard::blank(alloc, KEY, BLOCKS)?)?;
-    assert_eq!(rt; volume.sequence(), 1);
+    assert!(rt; volume.sequence() == 1);
     is_filled(rt, &mut volume, 0)?;
-    assert_eq!(rt; replace(alloc, &mut volume, 0x11)?, Ok(2));
+    assert!(rt; replace(alloc, &mut volume, 0x11)? == Ok(2));
     is_filled(rt, &mut volume, 0x11)?;
     Ok(volume.into_board().image(alloc)?)
 }
@@ -92,11 +92,11 @@ fn commit_twice(
     alloc: Global,
     volume: &mut FlatVolume<MemBoard>,
 ) -> Result<(), Fail> {
-    assert_eq!(rt; volume.sequence(), 2);
+    assert!(rt; volume.sequence() == 2);
     is_filled(rt, volume, 0x11)?;
-    assert_eq!(rt; replace(alloc, volume, 0x22)?, Ok(3));
-    assert_eq!(rt; replace(alloc, volume, 0x33)?, Ok(4));
-    assert_eq!(rt; volume.reopen()?, 4);
+    assert!(rt; replace(alloc, volume, 0x22)? == Ok(3));
+    assert!(rt; replace(alloc, volume, 0x33)? == Ok(4));
+    assert!(rt; volume.reopen()? == 4);
     is_filled(rt, volume, 0x33)?;
     Ok(())
 }
@@ -108,7 +108,7 @@ fn a_commit_is_found_at_the_next_opening(rt: HostRuntime) -> Result<(), Fail> {
         let board = board_of(&rt, rt.alloc(), &image, counter)?;
         let mut volume = opened(rt.alloc(), board)?;
         commit_twice(&rt, rt.alloc(), &mut volume)?;
-        assert_eq!(rt; volume.into_board().counter()?, 4);
+        assert!(rt; volume.into_board().counter()? == 4);
     }
     Ok(())
 }
@@ -138,12 +138,12 @@ fn begin_at_zero(
     volume: &mut FlatVolume<MemBoard>,
     pick: u64,
 ) -> Result<(), Fail> {
-    assert_eq!(rt; volume.sequence(), 0);
-    assert_eq!(rt; volume.reopen()?, 0);
+    assert!(rt; volume.sequence() == 0);
+    assert!(rt; volume.reopen()? == 0);
     is_filled(rt, volume, 0)?;
-    assert_eq!(rt; volume.power(pick)?, 0);
-    assert_eq!(rt; replace(alloc, volume, 0x11)?, Ok(1));
-    assert_eq!(rt; volume.power(pick)?, 1);
+    assert!(rt; volume.power(pick)? == 0);
+    assert!(rt; replace(alloc, volume, 0x11)? == Ok(1));
+    assert!(rt; volume.power(pick)? == 1);
     is_filled(rt, volume, 0x11)?;
     Ok(())
 }
@@ -167,7 +167,7 @@ fn an_older_image_is_refused(rt: HostRuntime) -> Result<(), Fail> {
         sequence: 2,
         counter: 3,
     };
-    assert_eq!(rt; opened(rt.alloc(), board).err(), Some(refused));
+    assert!(rt; opened(rt.alloc(), board).err() == Some(refused));
     Ok(())
 }
 
@@ -192,7 +192,7 @@ fn go_on(
 ) -> Result<(), Fail> {
     let byte = if sequence == 2 { 0x11 } else { 0x22 };
     is_filled(rt, volume, byte)?;
-    assert_eq!(rt; replace(alloc, volume, 0x44)?, Ok(sequence.wrapping_add(1)));
+    assert!(rt; replace(alloc, volume, 0x44)? == Ok(sequence.wrapping_add(1)));
     is_filled(rt, volume, 0x44)?;
     Ok(())
 }
@@ -204,10 +204,10 @@ fn interrupt(
     volume: &mut FlatVolume<MemBoard>,
     pick: u64,
 ) -> Result<(), Fail> {
-    assert_eq!(rt; replace(alloc, volume, 0x22)?, Err(LeafAnswer::Failed));
+    assert!(rt; replace(alloc, volume, 0x22)? == Err(LeafAnswer::Failed));
     assert!(rt; volume.is_lost());
-    assert_eq!(rt; replace(alloc, volume, 0x22)?, Err(LeafAnswer::Lost));
-    assert_eq!(rt; volume.sequence(), 2);
+    assert!(rt; replace(alloc, volume, 0x22)? == Err(LeafAnswer::Lost));
+    assert!(rt; volume.sequence() == 2);
     let sequence = volume.power(pick)?;
     go_on(rt, alloc, volume, sequence)
 }
@@ -220,7 +220,7 @@ fn each_call_of_a_commit_may_fail(rt: HostRuntime) -> Result<(), Fail> {
         interrupt(&rt, rt.alloc(), &mut volume, pick_of(call))?;
     }
     let mut volume = failing(&rt, rt.alloc(), &image, CALLS_OF_COMMIT)?;
-    assert_eq!(rt; replace(rt.alloc(), &mut volume, 0x22)?, Ok(3));
+    assert!(rt; replace(rt.alloc(), &mut volume, 0x22)? == Ok(3));
     Ok(())
 }
 
@@ -231,10 +231,10 @@ fn open_again(
     volume: &mut FlatVolume<MemBoard>,
     sequence: u64,
 ) -> Result<(), Fail> {
-    assert_eq!(rt; replace(alloc, volume, 0x22)?, Err(LeafAnswer::Failed));
+    assert!(rt; replace(alloc, volume, 0x22)? == Err(LeafAnswer::Failed));
     assert!(rt; volume.is_lost());
-    assert_eq!(rt; volume.reopen()?, sequence);
-    assert_eq!(rt; volume.sequence(), sequence);
+    assert!(rt; volume.reopen()? == sequence);
+    assert!(rt; volume.sequence() == sequence);
     go_on(rt, alloc, volume, sequence)
 }
 

@@ -4,8 +4,6 @@
 mod handle;
 mod lists;
 mod table;
-#[cfg(test)]
-mod tests;
 
 pub use handle::{Handle, HandleAnswer};
 pub use table::HandleTable;

@@ -4,8 +4,6 @@
 mod instances;
 mod session;
 mod tables;
-#[cfg(test)]
-mod tests;
 
 pub use instances::{Admission, Instances, Refusal};
 pub use session::{SessionFacts, SessionState};

@@ -80,9 +80,9 @@ fn commits(alloc: Global, step: Step) -> Result<u64, Fail> {
 #[test]
 fn no_commit(rt: HostRuntime) -> Result<(), Fail> {
     let alloc = rt.alloc();
-    assert_eq!(rt; commits(alloc, Step::Truncate(b'a', 1500))?, 1);
-    assert_eq!(rt; commits(alloc, Step::Write(b'a', 9, 0))?, 1);
-    assert_eq!(rt; commits(alloc, Step::Overwrite(b'a', 1500))?, 1);
-    assert_eq!(rt; commits(alloc, Step::Write(b'a', 9, 1))?, 2);
+    assert!(rt; commits(alloc, Step::Truncate(b'a', 1500))? == 1);
+    assert!(rt; commits(alloc, Step::Write(b'a', 9, 0))? == 1);
+    assert!(rt; commits(alloc, Step::Overwrite(b'a', 1500))? == 1);
+    assert!(rt; commits(alloc, Step::Write(b'a', 9, 1))? == 2);
     Ok(())
 }

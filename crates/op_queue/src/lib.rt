@@ -4,8 +4,6 @@
 mod operation;
 mod queue;
 mod scans;
-#[cfg(test)]
-mod tests;
 
 pub use operation::{Begun, Cancelled, OpFacts, Operation, Progress, QueueAnswer};
 pub use queue::OpQueue;

@@ -7,8 +7,6 @@ mod operations;
 mod outcome;
 mod past;
 mod table;
-#[cfg(test)]
-mod tests;
 
 pub use operations::Operations;
 pub use outcome::{CryptoOutcome, KeyGiven, Outcome};

@@ -18,13 +18,10 @@ const FACTS_OF_A: Facts = Facts {
 fn a_blank_region(rt: HostRuntime) -> Result<(), Fail> {
     let alloc = rt.alloc();
     let mut memory = blank(alloc)?;
-    assert_eq!(rt;
-        locate(alloc, &mut memory, b"a"),
-        Err(StoreAnswer::NotFound)
-    );
+    assert!(rt; locate(alloc, &mut memory, b"a") == Err(StoreAnswer::NotFound));
     assert!(rt; next_after(alloc, &mut memory, None).is_err());
     memory.lost = true;
-    assert_eq!(rt; locate(alloc, &mut memory, b"a"), Err(StoreAnswer::Lost));
+    assert!(rt; locate(alloc, &mut memory, b"a") == Err(StoreAnswer::Lost));
     Ok(())
 }
 
@@ -32,12 +29,12 @@ fn a_blank_region(rt: HostRuntime) -> Result<(), Fail> {
 fn two_objects(rt: HostRuntime) -> Result<(), Fail> {
     let alloc = rt.alloc();
     let mut memory = objects(alloc)?;
-    assert_eq!(rt; locate(alloc, &mut memory, b"a"), Ok(5));
-    assert_eq!(rt; facts(alloc, &mut memory, b"a"), Ok(FACTS_OF_A));
+    assert!(rt; locate(alloc, &mut memory, b"a") == Ok(5));
+    assert!(rt; facts(alloc, &mut memory, b"a") == Ok(FACTS_OF_A));
     let secret = secret(alloc, &mut memory, b"a")?;
-    assert_eq!(rt; secret.as_slice(), b"12".as_slice());
+    assert!(rt; secret.as_slice() == b"12".as_slice());
     let content = content(alloc, &mut memory, b"a", 1022, 9)?;
-    assert_eq!(rt; content.as_slice(), [21, 22, 23, 24].as_slice());
+    assert!(rt; content.as_slice() == [21, 22, 23, 24].as_slice());
     Ok(())
 }
 
@@ -46,10 +43,10 @@ fn in_order(rt: HostRuntime) -> Result<(), Fail> {
     let alloc = rt.alloc();
     let mut memory = objects(alloc)?;
     let first = next_after(alloc, &mut memory, None)?;
-    assert_eq!(rt; first.id.as_slice(), b"a".as_slice());
-    assert_eq!(rt; first.facts, FACTS_OF_A);
+    assert!(rt; first.id.as_slice() == b"a".as_slice());
+    assert!(rt; first.facts == FACTS_OF_A);
     let second = next_after(alloc, &mut memory, Some(b"a"))?;
-    assert_eq!(rt; second.id.as_slice(), b"b".as_slice());
+    assert!(rt; second.id.as_slice() == b"b".as_slice());
     assert!(rt; next_after(alloc, &mut memory, Some(b"b")).is_err());
     Ok(())
 }
@@ -66,11 +63,11 @@ fn each_leaf_is_read_once(rt: HostRuntime) -> Result<(), Fail> {
         reads: [0; LEAVES],
     };
     let content = content(alloc, &mut counted, b"a", 1022, 9)?;
-    assert_eq!(rt; content.len(), 4);
+    assert!(rt; content.len() == 4);
     let mut wanted = [0; LEAVES];
     for leaf in READ {
         wanted[*leaf as usize] = 1;
     }
-    assert_eq!(rt; counted.reads, wanted);
+    assert!(rt; counted.reads == wanted);
     Ok(())
 }

@@ -83,6 +83,6 @@ fn bytes_past_the_end(rt: HostRuntime) -> Result<(), Fail> {
     let mut memory = objects(alloc)?;
     set(&mut memory, &[(3, 2, 1)]);
     let told = told_of_content(alloc, &mut memory);
-    assert_eq!(rt; told, Some(StoreAnswer::Garbled(3)));
+    assert!(rt; told == Some(StoreAnswer::Garbled(3)));
     Ok(())
 }

@@ -62,9 +62,9 @@ fn assert_printed(
 {
     let script = parse(alloc, text, hosts)?;
     let printed = print(alloc, &script, hosts)?;
-    assert_eq!(rt; printed.as_slice(), canonical);
+    assert!(rt; printed.as_slice() == canonical);
     let again = print_reads_back(alloc, &script, hosts)?;
-    assert_eq!(rt; again.as_slice().len(), script.as_slice().len());
+    assert!(rt; again.as_slice().len() == script.as_slice().len());
     Ok(())
 }
 
@@ -154,17 +154,11 @@ fn the_first_line_outside_is_named(rt: HostRuntime) -> Result<(), Fail> {
     let hosts = two(&rt, alloc)?;
     for (text, number) in BAD {
         let bad = first_bad(alloc, hosts.as_slice(), text, Dialect::Whole)?;
-        assert_eq!(rt; bad, Some(number));
+        assert!(rt; bad == Some(number));
     }
     let board = b"one open 1\nclient 1\none turn 1 1\nboard power 0\n".as_slice();
-    assert_eq!(rt;
-        first_bad(alloc, hosts.as_slice(), board, Dialect::Whole)?,
-        None
-    );
-    assert_eq!(rt;
-        first_bad(alloc, hosts.as_slice(), board, Dialect::WithoutBoard)?,
-        Some(4)
-    );
+    assert!(rt; first_bad(alloc, hosts.as_slice(), board, Dialect::Whole)? == None);
+    assert!(rt; first_bad(alloc, hosts.as_slice(), board, Dialect::WithoutBoard)? == Some(4));
     Ok(())
 }
 
@@ -188,7 +182,7 @@ fn a_script_that_is_cut_is_read_up_to_its_last_line(rt: HostRuntime) -> Result<(
     for cut in 0..text.len() {
         let front = &text[..cut];
         if let Some(number) = first_bad(alloc, hosts.as_slice(), front, Dialect::Whole)? {
-            assert_eq!(rt; number, count_of_lines(front));
+            assert!(rt; number == count_of_lines(front));
         }
     }
     Ok(())

@@ -82,7 +82,7 @@ fn applies(
     want: Result<(), StoreAnswer>,
 ) -> Result<(), Fail> {
     let change = change_of(alloc, step)?;
-    assert_eq!(rt; store.apply(&change), want);
+    assert!(rt; store.apply(&change) == want);
     Ok(())
 }
 
@@ -109,7 +109,7 @@ fn found(store: &mut MapStore, id: &[u8]) -> Result<Facts, StoreAnswer> {
 
 /// Compares them.
 fn has_facts(rt: &impl Abort, store: &mut MapStore, id: &[u8], want: Result<Facts, StoreAnswer>) {
-    assert_eq!(rt; found(store, id), want);
+    assert!(rt; found(store, id) == want);
 }
 
 /// Compares a part of some content.
@@ -124,7 +124,7 @@ fn holds(
         return Err("an identifier has at most 64 bytes".into());
     }
     let content = store.read(id, from, 7)?;
-    assert_eq!(rt; content.as_slice(), want);
+    assert!(rt; content.as_slice() == want);
     Ok(())
 }
 
@@ -137,8 +137,8 @@ fn follows(
     length: u32,
 ) -> Result<(), Fail> {
     let next = store.next_after(last)?;
-    assert_eq!(rt; next.id.as_slice(), want);
-    assert_eq!(rt; next.facts.length, length);
+    assert!(rt; next.id.as_slice() == want);
+    assert!(rt; next.facts.length == length);
     Ok(())
 }
 
@@ -225,7 +225,7 @@ fn a_renamed_object(rt: HostRuntime) -> Result<(), Fail> {
     applies(&rt, alloc, &mut store, Step::Rename(b"a", b"z"), DONE)?;
     has_facts(&rt, &mut store, b"a", Err(StoreAnswer::NotFound));
     let secret = store.secret(b"z")?;
-    assert_eq!(rt; secret.as_slice(), b"a".as_slice());
+    assert!(rt; secret.as_slice() == b"a".as_slice());
     Ok(())
 }
 
@@ -312,8 +312,8 @@ fn a_failure_loses_the_store(rt: HostRuntime) -> Result<(), Fail> {
     let alloc = rt.alloc();
     let mut store = MapStore::new(alloc, &[3, 1])?;
     run(&rt, alloc, &mut store, &FAILING)?;
-    assert_eq!(rt; store.faults(), 1);
+    assert!(rt; store.faults() == 1);
     has_facts(&rt, &mut store, b"a", Err(StoreAnswer::Lost));
-    assert_eq!(rt; store.faults(), 1);
+    assert!(rt; store.faults() == 1);
     Ok(())
 }

@@ -9,8 +9,6 @@ pub mod keys;
 pub mod limits;
 mod numbers;
 mod streams;
-#[cfg(test)]
-mod tests;
 mod transfer;
 
 pub use bytes::{Bytes, NoMemory};

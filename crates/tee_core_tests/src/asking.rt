@@ -169,7 +169,7 @@ pub fn run(rt: &impl Abort, tee: &mut Pair, app: u8, call: Call) -> Result<Went,
             replies = replies.saturating_add(1);
         }
     }
-    assert_eq!(rt; replies, 1);
+    assert!(rt; replies == 1);
     Ok(went)
 }
 
@@ -180,8 +180,8 @@ pub fn succeed(rt: &impl Abort, tee: &mut Pair, app: u8, call: Call) -> Result<u
     ensures boots { OnOk result (boots_of tee.new ≡ boots_of tee.old) }
 {
     let went = run(rt, tee, app, call)?;
-    assert_eq!(rt; went.code, Code::SUCCESS);
-    assert_eq!(rt; went.lost, None);
+    assert!(rt; went.code == Code::SUCCESS);
+    assert!(rt; went.lost == None);
     Ok(went.value)
 }
 

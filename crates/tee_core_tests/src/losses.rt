@@ -64,12 +64,12 @@ fn interrupt(
     let told = power(rt, tee, 0, pick)?;
     let found = length_of(rt, alloc, tee, 0, b"a")?;
     assert!(rt; found == old || found == new);
-    assert_eq!(rt; told, wanted(&went, found == new));
+    assert!(rt; told == wanted(&went, found == new));
     if went.lost.is_some() {
-        assert_eq!(rt; went.code, Code::STORAGE_NOT_AVAILABLE);
+        assert!(rt; went.code == Code::STORAGE_NOT_AVAILABLE);
         return Ok(true);
     }
-    assert_eq!(rt; (went.code, found), (Code::SUCCESS, new));
+    assert!(rt; (went.code, found) == (Code::SUCCESS, new));
     Ok(false)
 }
 
@@ -112,12 +112,9 @@ fn lose(rt: &impl Abort, alloc: Global, tee: &mut Pair) -> Result<(), Fail>
     succeed(rt, tee, 1, session())?;
     tee.fuse(0);
     let went = run(rt, tee, 0, make(alloc, b"a", 2 * OLD as usize)?)?;
-    assert_eq!(rt;
-        (went.code, went.lost.is_some()),
-        (Code::STORAGE_NOT_AVAILABLE, true)
-    );
+    assert!(rt; (went.code, went.lost.is_some()) == (Code::STORAGE_NOT_AVAILABLE, true));
     let went = run(rt, tee, 1, make(alloc, b"a", 2 * OLD as usize)?)?;
-    assert_eq!(rt; (went.code, went.lost), (Code::STORAGE_NOT_AVAILABLE, None));
+    assert!(rt; (went.code, went.lost) == (Code::STORAGE_NOT_AVAILABLE, None));
     Ok(())
 }
 
@@ -146,9 +143,9 @@ fn a_board_is_handed_back_with_the_objects(rt: HostRuntime) -> Result<(), Fail> 
     keep(&rt, alloc, &mut tee, 1, b"a", OLD as usize)?;
     tee.fuse(1_000_000);
     let board = tee.into_board();
-    assert_eq!(rt; (board.orders(), board.ordered()), (1, 1_000_000));
+    assert!(rt; (board.orders(), board.ordered()) == (1, 1_000_000));
     let mut tee = over(&rt, alloc, board)?;
     succeed(&rt, &mut tee, 1, session())?;
-    assert_eq!(rt; length_of(&rt, alloc, &mut tee, 1, b"a")?, OLD);
+    assert!(rt; length_of(&rt, alloc, &mut tee, 1, b"a")? == OLD);
     Ok(())
 }

@@ -20,7 +20,7 @@ fn fill(rt: &impl Abort, alloc: Global, tee: &mut Pair) -> Result<(), Fail>
     succeed(rt, tee, 0, session())?;
     succeed(rt, tee, 0, make(alloc, b"a", FULL)?)?;
     let went = run(rt, tee, 0, make(alloc, b"b", 0)?)?;
-    assert_eq!(rt; (went.code, went.lost), (Code::STORAGE_NO_SPACE, None));
+    assert!(rt; (went.code, went.lost) == (Code::STORAGE_NO_SPACE, None));
     succeed(rt, tee, 1, session())?;
     succeed(rt, tee, 1, make(alloc, b"a", FULL)?)?;
     Ok(())
@@ -43,7 +43,7 @@ fn call(rt: &impl Abort, tee: &mut Pair, app: u8) -> Result<(), Fail>
         client: 0,
         call: session(),
     })?;
-    assert_eq!(rt; (called.turn, called.op, called.instance), (0, 1, 1));
+    assert!(rt; (called.turn, called.op, called.instance) == (0, 1, 1));
     Ok(())
 }
 
@@ -54,12 +54,12 @@ fn turn(rt: &impl Abort, tee: &mut Pair, app: u8, wanted: (u64, u64)) -> Result<
 {
     assert!(rt; tee.turns(app) < FEW);
     let happened = tee.event(Event::Turn { app, instance: 1 })?;
-    assert_eq!(rt; happened.kind, TurnKind::Plain);
+    assert!(rt; happened.kind == TurnKind::Plain);
     let mut op = 0;
     for reply in happened.replies.as_slice() {
         op = reply.op;
     }
-    assert_eq!(rt; (happened.turn, op), wanted);
+    assert!(rt; (happened.turn, op) == wanted);
     Ok(())
 }
 
@@ -101,10 +101,10 @@ fn cancel(rt: &impl Abort, tee: &mut Pair, app: u8, answered: bool) -> Result<()
 {
     assert!(rt; tee.turns(app) < FEW);
     let happened = tee.event(Event::Cancel { app, op: 1 })?;
-    assert_eq!(rt; (happened.op, happened.instance), (1, 0));
-    assert_eq!(rt; happened.replies.is_empty(), !answered);
+    assert!(rt; (happened.op, happened.instance) == (1, 0));
+    assert!(rt; happened.replies.is_empty() == !answered);
     for reply in happened.replies.as_slice() {
-        assert_eq!(rt; (reply.op, reply.code), (1, Code::CANCEL));
+        assert!(rt; (reply.op, reply.code) == (1, Code::CANCEL));
     }
     Ok(())
 }

@@ -65,8 +65,8 @@ fn check(
     wanted: Status,
 ) -> Result<(), Fail> {
     let (status, sink) = run(alloc, "run", script, &[], &[])?;
-    assert_eq!(rt; status, wanted, "{script}");
-    assert_eq!(rt; sink.written(), output.as_bytes(), "{script}");
+    assert!(rt; status == wanted, "{script}");
+    assert!(rt; sink.written() == output.as_bytes(), "{script}");
     Ok(())
 }
 
@@ -80,8 +80,8 @@ fn check_faults(
     wanted: Status,
 ) -> Result<(), Fail> {
     let (status, sink) = run(alloc, "run", script, reads, writes)?;
-    assert_eq!(rt; status, wanted);
-    assert_eq!(rt; sink.written(), output.as_bytes());
+    assert!(rt; status == wanted);
+    assert!(rt; sink.written() == output.as_bytes());
     Ok(())
 }
 
@@ -215,7 +215,7 @@ fn a_write_that_fails_within_turns_ends_the_run(rt: HostRuntime) -> Result<(), F
 fn faults_and_words_have_statuses(rt: HostRuntime) -> Result<(), Fail> {
     let alloc = rt.alloc();
     let (status, sink) = run(alloc, "walk", USE, &[], &[])?;
-    assert_eq!(rt; status, Status::BadWords);
+    assert!(rt; status == Status::BadWords);
     assert!(rt; sink.written().is_empty());
     check_faults(&rt, alloc, USE, (&[1], &[]), "", Status::ReadFault)?;
     let written = "keep 1 00000000 4\n";
@@ -231,7 +231,7 @@ fn a_long_script_is_refused(rt: HostRuntime) -> Result<(), Fail> {
     }
     script.push_str("#")?;
     let (status, _) = run(alloc, "run", script.as_str(), &[], &[])?;
-    assert_eq!(rt; status, Status::TooLong);
+    assert!(rt; status == Status::TooLong);
     Ok(())
 }
 
@@ -288,11 +288,8 @@ const STATUSES: [(Status, u8, &'static str); 13] = [
 #[test]
 fn statuses_have_numbers_and_texts(rt: HostRuntime) -> Result<(), Fail> {
     for (status, number, text) in STATUSES {
-        assert_eq!(rt; status.number(), number);
-        assert_eq!(rt;
-            status_line(rt.alloc(), &status, &[])?.as_slice(),
-            text.as_bytes()
-        );
+        assert!(rt; status.number() == number);
+        assert!(rt; status_line(rt.alloc(), &status, &[])?.as_slice() == text.as_bytes());
     }
     Ok(())
 }
@@ -401,7 +398,7 @@ fn a_quota_is_one_application_s(rt: HostRuntime) -> Result<(), Fail> {
     let hosts = vec![in alloc; store_host(alloc, "one", 1)?, store_host(alloc, "two", 2)?]?;
     assert!(rt; hosts_fit(hosts.as_slice()));
     let (status, sink) = run_for(alloc, hosts, "run", FILLED, &[], &[])?;
-    assert_eq!(rt; status, Status::Done);
-    assert_eq!(rt; sink.written(), FILLED_LINES.as_bytes());
+    assert!(rt; status == Status::Done);
+    assert!(rt; sink.written() == FILLED_LINES.as_bytes());
     Ok(())
 }

@@ -1,7 +1,7 @@
 //! Streams that fail once, and the source and the sink over them.
-use crate::{ReadAnswer, Sink, SinkFailed, Source, SourceFailed, StdSink, StdSource, read_all};
 use std::io;
 use std::io::{Read, Write};
+use tee_base::{ReadAnswer, Sink, SinkFailed, Source, SourceFailed, StdSink, StdSource, read_all};
 
 /// A stream of single bytes whose second call fails. It ends after three calls.
 #[derive(Drop)]
@@ -49,14 +49,14 @@ impl Write for FailsOnce {
 fn a_failed_read_is_not_the_end(rt: HostRuntime) {
     let mut source = StdSource::new(FailsOnce { calls: 0 });
     let mut into = [9; 4];
-    assert_eq!(rt; source.read(&mut into), Ok(1));
-    assert_eq!(rt; source.faults(), 0);
-    assert_eq!(rt; source.read(&mut into), Err(SourceFailed));
-    assert_eq!(rt; source.faults(), 1);
-    assert_eq!(rt; source.read(&mut into), Ok(1));
-    assert_eq!(rt; source.read(&mut into), Ok(0));
-    assert_eq!(rt; source.faults(), 1);
-    assert_eq!(rt; into, [2, 9, 9, 9]);
+    assert!(rt; source.read(&mut into) == Ok(1));
+    assert!(rt; source.faults() == 0);
+    assert!(rt; source.read(&mut into) == Err(SourceFailed));
+    assert!(rt; source.faults() == 1);
+    assert!(rt; source.read(&mut into) == Ok(1));
+    assert!(rt; source.read(&mut into) == Ok(0));
+    assert!(rt; source.faults() == 1);
+    assert!(rt; into == [2, 9, 9, 9]);
     let mut cut = StdSource::new(FailsOnce { calls: 0 });
     let answer = read_all(rt.alloc(), &mut cut, 100);
     assert!(rt; matches!(answer, Err(ReadAnswer::ReadFault)));
@@ -65,13 +65,13 @@ fn a_failed_read_is_not_the_end(rt: HostRuntime) {
 #[test]
 fn a_failed_write_is_not_written(rt: HostRuntime) {
     let mut sink = StdSink::new(FailsOnce { calls: 0 });
-    assert_eq!(rt; sink.write(b"ab"), Ok(1));
-    assert_eq!(rt; sink.faults(), 0);
-    assert_eq!(rt; sink.write(b"b"), Err(SinkFailed));
-    assert_eq!(rt; sink.faults(), 1);
-    assert_eq!(rt; sink.write(b"b"), Ok(1));
-    assert_eq!(rt; sink.faults(), 1);
-    assert_eq!(rt; sink.write(b"c"), Err(SinkFailed), "it took nothing");
-    assert_eq!(rt; sink.faults(), 2);
-    assert_eq!(rt; sink.write(b""), Ok(0));
+    assert!(rt; sink.write(b"ab") == Ok(1));
+    assert!(rt; sink.faults() == 0);
+    assert!(rt; sink.write(b"b") == Err(SinkFailed));
+    assert!(rt; sink.faults() == 1);
+    assert!(rt; sink.write(b"b") == Ok(1));
+    assert!(rt; sink.faults() == 1);
+    assert!(rt; sink.write(b"c") == Err(SinkFailed), "it took nothing");
+    assert!(rt; sink.faults() == 2);
+    assert!(rt; sink.write(b"") == Ok(0));
 }

@@ -1,7 +1,7 @@
 //! Full tables of each kind, and what ends with an instance.
 
-use crate::{Admission, Instances, Refusal, SessionFacts, SessionState};
 use app_api::Properties;
+use instances::{Admission, Instances, Refusal, SessionFacts, SessionState};
 use std::test::Fail;
 use tee_base::{Code, Origin};
 
@@ -49,7 +49,6 @@ fn admitted(session: u8, instance: u8, new_instance: bool) -> Result<Admission, 
 }
 
 /// Sets the state of the session that the client knows by this label.
-#[tactic(auto, using(crate::proofs::Known::facts_are_there))]
 fn change(instances: &mut Instances, client: u8, label: u32, state: SessionState) {
     if let Some(facts) = instances.find(client, label) {
         instances.set(facts.session, state);
@@ -57,7 +56,6 @@ fn change(instances: &mut Instances, client: u8, label: u32, state: SessionState
 }
 
 /// Removes the session that the client knows by this label.
-#[tactic(auto, using(crate::proofs::Known::facts_are_there))]
 fn close(instances: &mut Instances, client: u8, label: u32) {
     if let Some(facts) = instances.find(client, label) {
         instances.remove(facts.session);
@@ -81,37 +79,34 @@ fn facts(session: u8, instance: u8, state: SessionState) -> Option<SessionFacts>
 #[test]
 fn four_instances_of_their_own(rt: HostRuntime) -> Result<(), Fail> {
     let mut instances = Instances::new(OWN);
-    assert_eq!(rt; open(&mut instances, 0, 7), admitted(1, 1, true));
-    assert_eq!(rt; open(&mut instances, 0, 8), admitted(2, 2, true));
-    assert_eq!(rt; open(&mut instances, 1, 7), admitted(3, 3, true));
-    assert_eq!(rt; open(&mut instances, 0, 7), Err(LABEL_IN_USE));
-    assert_eq!(rt; open(&mut instances, 2, 7), admitted(4, 4, true));
-    assert_eq!(rt; open(&mut instances, 3, 7), Err(BUSY));
+    assert!(rt; open(&mut instances, 0, 7) == admitted(1, 1, true));
+    assert!(rt; open(&mut instances, 0, 8) == admitted(2, 2, true));
+    assert!(rt; open(&mut instances, 1, 7) == admitted(3, 3, true));
+    assert!(rt; open(&mut instances, 0, 7) == Err(LABEL_IN_USE));
+    assert!(rt; open(&mut instances, 2, 7) == admitted(4, 4, true));
+    assert!(rt; open(&mut instances, 3, 7) == Err(BUSY));
     instances.end(2);
     assert!(rt; !instances.exists(2));
     assert!(rt; instances.is_left(2));
     assert!(rt; !instances.is_left(1));
-    assert_eq!(rt; instances.find(0, 8), None);
-    assert_eq!(rt; open(&mut instances, 3, 7), admitted(2, 2, true));
+    assert!(rt; instances.find(0, 8) == None);
+    assert!(rt; open(&mut instances, 3, 7) == admitted(2, 2, true));
     Ok(())
 }
 
 #[test]
 fn eight_sessions_of_one_instance(rt: HostRuntime) -> Result<(), Fail> {
     let mut instances = Instances::new(SHARED);
-    assert_eq!(rt; open(&mut instances, 0, 0), admitted(1, 1, true));
+    assert!(rt; open(&mut instances, 0, 0) == admitted(1, 1, true));
     for label in 1..8u8 {
-        assert_eq!(rt;
-            open(&mut instances, 0, u32::from(label)),
-            admitted(label + 1, 1, false)
-        );
+        assert!(rt; open(&mut instances, 0, u32::from(label)) == admitted(label + 1, 1, false));
     }
-    assert_eq!(rt; open(&mut instances, 0, 8), Err(BUSY));
+    assert!(rt; open(&mut instances, 0, 8) == Err(BUSY));
     close(&mut instances, 0, 4);
-    assert_eq!(rt; open(&mut instances, 5, 8), admitted(5, 1, false));
+    assert!(rt; open(&mut instances, 5, 8) == admitted(5, 1, false));
     destroy(&mut instances, 1);
     close(&mut instances, 0, 0);
-    assert_eq!(rt; open(&mut instances, 5, 9), Err(BUSY));
+    assert!(rt; open(&mut instances, 5, 9) == Err(BUSY));
     instances.bounds();
     Ok(())
 }
@@ -125,28 +120,28 @@ fn dead_sessions_count_towards_eight(rt: HostRuntime) -> Result<(), Fail> {
     }
     instances.end(1);
     assert!(rt; !instances.has_session(1));
-    assert_eq!(rt; instances.find(0, 3), facts(4, 1, SessionState::Dead));
-    assert_eq!(rt; open(&mut instances, 1, 0), Err(BUSY));
+    assert!(rt; instances.find(0, 3) == facts(4, 1, SessionState::Dead));
+    assert!(rt; open(&mut instances, 1, 0) == Err(BUSY));
     close(&mut instances, 0, 3);
-    assert_eq!(rt; open(&mut instances, 1, 0), admitted(4, 1, true));
+    assert!(rt; open(&mut instances, 1, 0) == admitted(4, 1, true));
     Ok(())
 }
 
 #[test]
 fn one_session_of_one_instance(rt: HostRuntime) -> Result<(), Fail> {
     let mut instances = Instances::new(ALONE);
-    assert_eq!(rt; open(&mut instances, 0, 0), admitted(1, 1, true));
+    assert!(rt; open(&mut instances, 0, 0) == admitted(1, 1, true));
     assert!(rt; instances.exists(1));
     assert!(rt; instances.has_session(1));
-    assert_eq!(rt; open(&mut instances, 1, 0), Err(BUSY));
+    assert!(rt; open(&mut instances, 1, 0) == Err(BUSY));
     close(&mut instances, 0, 0);
     assert!(rt; !instances.has_session(1));
     assert!(rt; !instances.is_left(1));
-    assert_eq!(rt; open(&mut instances, 1, 0), admitted(1, 1, false));
+    assert!(rt; open(&mut instances, 1, 0) == admitted(1, 1, false));
     instances.reset();
     assert!(rt; !instances.exists(1));
-    assert_eq!(rt; instances.find(1, 0), None);
-    assert_eq!(rt; open(&mut instances, 1, 0), admitted(1, 1, true));
+    assert!(rt; instances.find(1, 0) == None);
+    assert!(rt; open(&mut instances, 1, 0) == admitted(1, 1, true));
     Ok(())
 }
 
@@ -158,10 +153,10 @@ fn what_ends_with_an_instance(rt: HostRuntime) -> Result<(), Fail> {
     }
     change(&mut instances, 0, 1, SessionState::Open);
     change(&mut instances, 0, 2, SessionState::Closing);
-    assert_eq!(rt; instances.find(0, 0), facts(1, 1, SessionState::Opening));
+    assert!(rt; instances.find(0, 0) == facts(1, 1, SessionState::Opening));
     instances.end(1);
-    assert_eq!(rt; instances.find(0, 0), None);
-    assert_eq!(rt; instances.find(0, 1), facts(2, 1, SessionState::Dead));
-    assert_eq!(rt; instances.find(0, 2), None);
+    assert!(rt; instances.find(0, 0) == None);
+    assert!(rt; instances.find(0, 1) == facts(2, 1, SessionState::Dead));
+    assert!(rt; instances.find(0, 2) == None);
     Ok(())
 }

@@ -1,15 +1,15 @@
 //! Each ask with an Ok, with each refusal and with each misuse; published vectors in pieces.
 
-use crate::{CryptoOutcome, KeyGiven, Operations, Outcome};
 use app_api::{Answer, Ask};
+use operation_asks::{CryptoOutcome, KeyGiven, Operations, Outcome};
 use std::alloc::Global;
 use std::process::Abort;
 use std::test::Fail;
-use tee_base::{Bytes, Code, keys};
+use tee_base::{Bytes, Code, NoMemory, keys};
 use transient_obj::{ObjectKey, Secret};
 
 /// An ask in words that a table can hold.
-#[derive(Clone, Copy, Debug)]
+#[derive(Clone, Copy)]
 enum Do<'a> {
     Random(u32),
     New(u32, u32, u32),
@@ -38,7 +38,7 @@ enum Do<'a> {
 }
 
 /// What comes of it.
-#[derive(Clone, Copy, Debug, PartialEq)]
+#[derive(Clone, Copy, PartialEq)]
 enum Told<'a> {
     Done,
     Number(u32),
@@ -53,7 +53,8 @@ enum Told<'a> {
     Other,
 }
 
-fn on_ciphers(alloc: Global, what: Do<'_>) -> Result<Option<Ask>, Fail> {
+/// An ask about a cipher or a digest.
+fn on_ciphers(alloc: Global, what: Do<'_>) -> Result<Option<Ask>, NoMemory> {
     Ok(Some(match what {
         Do::Init(op, iv) => Ask::CipherInit {
             op,
@@ -82,7 +83,8 @@ fn on_ciphers(alloc: Global, what: Do<'_>) -> Result<Option<Ask>, Fail> {
     }))
 }
 
-fn on_codes(alloc: Global, what: Do<'_>) -> Result<Option<Ask>, Fail> {
+/// An ask about an authentication code.
+fn on_codes(alloc: Global, what: Do<'_>) -> Result<Option<Ask>, NoMemory> {
     Ok(Some(match what {
         Do::MacInit(op) => Ask::MacInit { op },
         Do::MacUpdate(op, bytes) => Ask::MacUpdate {
@@ -103,7 +105,8 @@ fn on_codes(alloc: Global, what: Do<'_>) -> Result<Option<Ask>, Fail> {
     }))
 }
 
-fn ask(alloc: Global, what: Do<'_>) -> Result<Ask, Fail> {
+/// Any ask.
+fn ask(alloc: Global, what: Do<'_>) -> Result<Ask, NoMemory> {
     if let Some(ask) = on_ciphers(alloc, what)? {
         return Ok(ask);
     }
@@ -126,35 +129,39 @@ fn ask(alloc: Global, what: Do<'_>) -> Result<Ask, Fail> {
     })
 }
 
+/// An object gives this key.
+fn key_of(rt: &impl Abort, kind: u32, usage: u32, secret: &[u8]) -> KeyGiven {
+    assert!(rt; secret.len() <= 128);
+    KeyGiven::Key(ObjectKey {
+        kind,
+        usage,
+        secret: Secret::from_slice(secret),
+    })
+}
+
+/// The rest of an ask for a key.
+fn settled(crypto: &mut Operations, instance: u8, op: u32, given: KeyGiven) -> CryptoOutcome {
+    CryptoOutcome::Settled(crypto.set_key(instance, op, given))
+}
+
+/// What comes of an ask, or of the rest of one.
 fn served(
     rt: &impl Abort,
     alloc: Global,
     crypto: &mut Operations,
     instance: u8,
     what: Do<'_>,
-) -> Result<CryptoOutcome, Fail> {
-    match what {
-        Do::Key(op, kind, usage, secret) => {
-            assert!(rt; secret.len() <= 128);
-            let key = ObjectKey {
-                kind,
-                usage,
-                secret: Secret::from_slice(secret),
-            };
-            Ok(CryptoOutcome::Settled(crypto.set_key(instance, op, KeyGiven::Key(key))))
-        }
-        Do::NoKey(op) => Ok(CryptoOutcome::Settled(crypto.set_key(instance, op, KeyGiven::NoKey))),
-        Do::Gone(op) => {
-            let given = KeyGiven::Refused(Code::STORAGE_NOT_AVAILABLE);
-            Ok(CryptoOutcome::Settled(crypto.set_key(instance, op, given)))
-        }
-        _ => {
-            let ask = ask(alloc, what)?;
-            Ok(crypto.serve(alloc, instance, ask)?)
-        }
-    }
+) -> Result<CryptoOutcome, NoMemory> {
+    let (op, given) = match what {
+        Do::Key(op, kind, usage, secret) => (op, key_of(rt, kind, usage, secret)),
+        Do::NoKey(op) => (op, KeyGiven::NoKey),
+        Do::Gone(op) => (op, KeyGiven::Refused(Code::STORAGE_NOT_AVAILABLE)),
+        _ => return crypto.serve(alloc, instance, ask(alloc, what)?),
+    };
+    Ok(settled(crypto, instance, op, given))
 }
 
+/// The same in words that a table can hold.
 fn shown(asked: &CryptoOutcome) -> Told<'_> {
     match asked {
         CryptoOutcome::Settled(Outcome::Answered(Answer::Done)) => Told::Done,
@@ -182,16 +189,40 @@ fn shown(asked: &CryptoOutcome) -> Told<'_> {
 }
 
 /// An instance, its ask, and what comes of it.
-type Row = (u8, Do<'static>, Told<'static>);
+type Row<'a> = (u8, Do<'a>, Told<'a>);
 
-/// Checks that each ask of the rows, in order, comes to what its row says.
-fn check(rt: &impl Abort, alloc: Global, rows: &[(u8, Do<'_>, Told<'_>)]) -> Result<(), Fail> {
-    let mut crypto = Operations::new(alloc, [0; 32], 0, 0);
-    for (instance, what, wanted) in rows {
-        let asked = served(rt, alloc, &mut crypto, *instance, *what)?;
-        assert_eq!(rt; shown(&asked), *wanted);
+/// Checks that the ask of a row comes to what the row says.
+fn check_row(
+    rt: &impl Abort,
+    alloc: Global,
+    crypto: &mut Operations,
+    number: usize,
+    row: &Row<'_>,
+) -> Result<(), Fail> {
+    let (instance, what, wanted) = *row;
+    let asked = served(rt, alloc, crypto, instance, what)?;
+    let holds = shown(&asked) == wanted;
+    assert!(rt; holds, "row {number}");
+    Ok(())
+}
+
+/// Checks it of each row, in order.
+fn check_on(
+    rt: &impl Abort,
+    alloc: Global,
+    crypto: &mut Operations,
+    rows: &[Row<'_>],
+) -> Result<(), Fail> {
+    for (number, row) in rows.iter().enumerate() {
+        check_row(rt, alloc, crypto, number, row)?;
     }
     Ok(())
+}
+
+/// Checks it of each row, in order, over no operations.
+fn check(rt: &impl Abort, alloc: Global, rows: &[Row<'_>]) -> Result<(), Fail> {
+    let mut crypto = Operations::new(alloc, [0; 32], 0, 0);
+    check_on(rt, alloc, &mut crypto, rows)
 }
 
 const UNSUPPORTED: Told<'static> = Told::Refused(Code::NOT_SUPPORTED);
@@ -495,61 +526,98 @@ fn random_bytes(rt: HostRuntime) -> Result<(), Fail> {
     check(&rt, rt.alloc(), ROWS)
 }
 
-#[test]
-fn bytes_are_drawn_and_instances_end(rt: HostRuntime) -> Result<(), Fail> {
-    let alloc = rt.alloc();
-    let mut crypto = Operations::new(alloc, [0; 32], 0, 0);
+/// Draws the first six bytes of the stream.
+fn draw(rt: &impl Abort, alloc: Global, crypto: &mut Operations) -> Result<(), Fail> {
     let bytes = crypto.draw(alloc, 6)?;
     assert_eq!(rt;
         bytes.as_slice(),
         [0x76, 0xb8, 0xe0, 0xad, 0xa0, 0xf1].as_slice()
     );
-    let rows = [
+    Ok(())
+}
+
+#[test]
+fn bytes_are_drawn_and_instances_end(rt: HostRuntime) -> Result<(), Fail> {
+    const DRAWN: &[Row] = &[
         (1, Do::Random(4), Told::Bytes(&[0x40, 0x5d, 0x6a, 0xe5])),
         (1, Do::New(CBC, 0, 128), Told::Number(1)),
         (2, Do::New(CBC, 0, 128), Told::Number(1)),
     ];
-    for (instance, what, wanted) in rows {
-        let asked = served(&rt, alloc, &mut crypto, instance, what)?;
-        assert_eq!(rt; shown(&asked), wanted);
-    }
+    const ENDED: &[Row] = &[
+        (1, Do::Info(1), Told::Panicked),
+        (2, Do::Info(1), Told::About(CBC, 0, 128, 0, false)),
+    ];
+    let alloc = rt.alloc();
+    let mut crypto = Operations::new(alloc, [0; 32], 0, 0);
+    draw(&rt, alloc, &mut crypto)?;
+    check_on(&rt, alloc, &mut crypto, DRAWN)?;
     crypto.end_instance(1);
-    let asked = served(&rt, alloc, &mut crypto, 1, Do::Info(1))?;
-    assert_eq!(rt; shown(&asked), Told::Panicked);
-    let asked = served(&rt, alloc, &mut crypto, 2, Do::Info(1))?;
-    assert_eq!(rt; shown(&asked), Told::About(CBC, 0, 128, 0, false));
-    Ok(())
+    check_on(&rt, alloc, &mut crypto, ENDED)
+}
+
+/// Checks that these bytes are no vector of operation 1.
+fn check_long_vector(
+    rt: &impl Abort,
+    alloc: Global,
+    crypto: &mut Operations,
+    long: &[u8],
+) -> Result<(), Fail> {
+    check_on(rt, alloc, crypto, &[(1, Do::Init(1, long), Told::Panicked)])
+}
+
+/// Checks that these bytes are misuse in each ask about the cipher 1, the code 2 and the digest 3.
+fn check_long_messages(
+    rt: &impl Abort,
+    alloc: Global,
+    crypto: &mut Operations,
+    long: &[u8],
+) -> Result<(), Fail> {
+    let rows = [
+        (1, Do::Update(1, long, 524_288), Told::Panicked),
+        (1, Do::Final(1, long, 524_288), Told::Panicked),
+        (1, Do::MacUpdate(2, long), Told::Panicked),
+        (1, Do::MacFinal(2, long, 32), Told::Panicked),
+        (1, Do::Compare(2, long, MAC), Told::Panicked),
+        (1, Do::Compare(2, &[], long), Told::Panicked),
+        (1, Do::DigestUpdate(3, long), Told::Panicked),
+        (1, Do::DigestFinal(3, long, 32), Told::Panicked),
+    ];
+    check_on(rt, alloc, crypto, &rows)
+}
+
+/// Checks both between the asks that make the three and begin, and that the cipher goes on.
+fn check_long(
+    rt: &impl Abort,
+    alloc: Global,
+    crypto: &mut Operations,
+    long: &[u8],
+) -> Result<(), Fail> {
+    const KEYED: &[Row] = &[
+        (1, Do::New(keys::AES_CTR, 0, 128), Told::Number(1)),
+        (1, Do::New(HMAC, 4, 256), Told::Number(2)),
+        (1, Do::New(keys::SHA256, 5, 0), Told::Number(3)),
+        (1, Do::Key(1, AES, ALL, KEY), Told::Done),
+        (
+            1,
+            Do::Key(2, keys::KIND_HMAC_SHA256, ALL, MAC_KEY),
+            Told::Done,
+        ),
+    ];
+    const BEGUN: &[Row] = &[
+        (1, Do::Init(1, COUNTER), Told::Done),
+        (1, Do::MacInit(2), Told::Done),
+    ];
+    const GOES_ON: &[Row] = &[(1, Do::Update(1, PLAIN_1, 5), Told::Bytes(CTR_1))];
+    check_on(rt, alloc, crypto, KEYED)?;
+    check_long_vector(rt, alloc, crypto, long)?;
+    check_on(rt, alloc, crypto, BEGUN)?;
+    check_long_messages(rt, alloc, crypto, long)?;
+    check_on(rt, alloc, crypto, GOES_ON)
 }
 
 #[test]
 fn too_many_bytes_are_misuse(rt: HostRuntime) -> Result<(), Fail> {
     let long = vec![in rt.alloc(); 0u8; 524_289]?;
-    let long = long.as_slice();
-    check(
-        &rt,
-        rt.alloc(),
-        &[
-            (1, Do::New(keys::AES_CTR, 0, 128), Told::Number(1)),
-            (1, Do::New(HMAC, 4, 256), Told::Number(2)),
-            (1, Do::New(keys::SHA256, 5, 0), Told::Number(3)),
-            (1, Do::Key(1, AES, ALL, KEY), Told::Done),
-            (
-                1,
-                Do::Key(2, keys::KIND_HMAC_SHA256, ALL, MAC_KEY),
-                Told::Done,
-            ),
-            (1, Do::Init(1, long), Told::Panicked),
-            (1, Do::Init(1, COUNTER), Told::Done),
-            (1, Do::MacInit(2), Told::Done),
-            (1, Do::Update(1, long, 524_288), Told::Panicked),
-            (1, Do::Final(1, long, 524_288), Told::Panicked),
-            (1, Do::MacUpdate(2, long), Told::Panicked),
-            (1, Do::MacFinal(2, long, 32), Told::Panicked),
-            (1, Do::Compare(2, long, MAC), Told::Panicked),
-            (1, Do::Compare(2, &[], long), Told::Panicked),
-            (1, Do::DigestUpdate(3, long), Told::Panicked),
-            (1, Do::DigestFinal(3, long, 32), Told::Panicked),
-            (1, Do::Update(1, PLAIN_1, 5), Told::Bytes(CTR_1)),
-        ],
-    )
+    let mut crypto = Operations::new(rt.alloc(), [0; 32], 0, 0);
+    check_long(&rt, rt.alloc(), &mut crypto, long.as_slice())
 }

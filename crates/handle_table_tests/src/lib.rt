@@ -1,0 +1,5 @@
+//! A walk through the calls of a table of handles, with values by hand.
+#![tactic(auto)]
+
+#[cfg(test)]
+mod handles;

@@ -1,0 +1,5 @@
+//! Full tables of each kind, and what ends with an instance.
+#![tactic(auto)]
+
+#[cfg(test)]
+mod sessions;

@@ -1,0 +1,5 @@
+//! A full queue, and the way of an operation through it.
+#![tactic(auto)]
+
+#[cfg(test)]
+mod queues;

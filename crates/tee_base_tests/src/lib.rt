@@ -1,0 +1,5 @@
+//! Streams that fail once, and the source and the sink over them.
+#![tactic(auto)]
+
+#[cfg(test)]
+mod streams;
