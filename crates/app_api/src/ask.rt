@@ -2,6 +2,7 @@
 
 use crate::out::Outs;
 use crate::param::Params;
+use std::fmt;
 use tee_base::{Bytes, Code};
 
 /// An entry point that is called (TEE Internal Core API 1.3, section 4.3).
@@ -36,7 +37,9 @@ pub enum Given {
 }
 
 /// One call of the internal API, or the end of the entry (TEE Internal Core API 1.3, chapters 4 to 6).
-#[derive(Debug, Drop)]
+///
+/// It may hold a secret, so `Debug` writes nothing of what it holds.
+#[derive(Drop)]
 pub enum Ask {
     /// The entry returns, with its code and outputs: the end of each `TA_` function.
     Return {
@@ -244,8 +247,16 @@ pub enum Ask {
     },
 }
 
+impl fmt::Debug for Ask {
+    fn fmt<W: fmt::Write>(&self, f: &mut fmt::Formatter<W>) -> fmt::Result {
+        f.write_str("Ask { .. }")
+    }
+}
+
 /// The answer to an ask.
-#[derive(Debug, Drop)]
+///
+/// It may hold a secret, so `Debug` writes nothing of what it holds.
+#[derive(Drop)]
 pub enum Answer {
     Done,
     Refused(Code),
@@ -276,4 +287,10 @@ pub enum Answer {
         key_bits: u32,
         active: bool,
     },
+}
+
+impl fmt::Debug for Answer {
+    fn fmt<W: fmt::Write>(&self, f: &mut fmt::Formatter<W>) -> fmt::Result {
+        f.write_str("Answer { .. }")
+    }
 }
