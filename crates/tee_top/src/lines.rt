@@ -204,11 +204,15 @@ fn run_event<B: Board, V: BoardVolume<B>, A: Application, W: Sink>(
     ensures later { W.failures sink.old ≤ W.failures sink.new }
 {
     if !has_room(tee, app) {
+        drop(event);
         return Err(Stop::NoMemory);
     }
     let happened = tee.event(event)?;
-    write_happened(alloc, names[app as usize].as_slice(), &happened, sink)?;
-    Ok((happened.op, happened.instance))
+    let written = write_happened(alloc, names[app as usize].as_slice(), &happened, sink);
+    let made = (happened.op, happened.instance);
+    drop(happened);
+    written?;
+    Ok(made)
 }
 
 /// So many turns of an instance.

@@ -1,6 +1,6 @@
 //! How a run ends.
 
-ghost use Rattle.std.specs.Prelude.{◌≡◌, ◌++◌, IfOk, OnOk, codes};
+ghost use Rattle.std.specs.Prelude.{◌≡◌, ◌++◌, [], IfOk, OnOk, codes};
 ghost use Rattle.std.specs.Fmt.{decimal};
 ghost use Rattle.tee_top.specs.Statuses.{number_of, status_text, why_text};
 
@@ -97,29 +97,37 @@ fn write_pair(line: &mut LineBuffer, first: u64, second: u64) -> Result<(), NoMe
     line.number(second)
 }
 
+/// Writes to an empty line what is told of a status, with a line feed; nothing of one that is Done.
+fn write_status(line: &mut LineBuffer, status: &Status) -> Result<(), NoMemory>
+    requires { line.old ≡ [] }
+    ensures { OnOk result (line.new ≡ status_text status.now) }
+{
+    match status {
+        Status::Done => Ok(()),
+        Status::BadWords => line.text(b"teectl: usage: teectl run [IMAGE] | race | gen N\n"),
+        Status::BadLine(number) => {
+            line.text(b"teectl: line ")?;
+            line.number(*number)?;
+            line.text(b" is not a script line\n")
+        }
+        Status::TooLong => line.text(b"teectl: script too long\n"),
+        Status::StoreRefused(why) => {
+            line.text(b"teectl: store refused: ")?;
+            write_why(line, why)?;
+            line.text(b"\n")
+        }
+        Status::NoMemory => line.text(b"teectl: out of memory\n"),
+        Status::ReadFault => line.text(b"teectl: cannot read\n"),
+        Status::WriteFault => line.text(b"teectl: cannot write\n"),
+        Status::BoardFault => line.text(b"teectl: board failed\n"),
+    }
+}
+
 /// What is told of a status, with a line feed; nothing of one that is Done. The names are those of the hosts.
 pub fn status_line(alloc: Global, status: &Status, _names: &[Bytes]) -> Result<Bytes, NoMemory>
     ensures { IfOk result (λ line. line ≡ status_text status.now) }
 {
     let mut line = LineBuffer::new(alloc);
-    match status {
-        Status::Done => {}
-        Status::BadWords => line.text(b"teectl: usage: teectl run [IMAGE] | race | gen N\n")?,
-        Status::BadLine(number) => {
-            line.text(b"teectl: line ")?;
-            line.number(*number)?;
-            line.text(b" is not a script line\n")?;
-        }
-        Status::TooLong => line.text(b"teectl: script too long\n")?,
-        Status::StoreRefused(why) => {
-            line.text(b"teectl: store refused: ")?;
-            write_why(&mut line, why)?;
-            line.text(b"\n")?;
-        }
-        Status::NoMemory => line.text(b"teectl: out of memory\n")?,
-        Status::ReadFault => line.text(b"teectl: cannot read\n")?,
-        Status::WriteFault => line.text(b"teectl: cannot write\n")?,
-        Status::BoardFault => line.text(b"teectl: board failed\n")?,
-    }
+    write_status(&mut line, status)?;
     Ok(line.into_bytes())
 }

@@ -44,8 +44,8 @@ pub returns-in_err-happened-clause-honest : goal.returns-in_err-happened-clause-
 returns-in_err-happened-clause-honest g c = λ honest.
     subst (λ v. g.B.Board.honest (g.V.BoardVolume.board_of v)) (sym c.in_err-happened.ensures.err.1) honest
 
-pub returns-in_err-write_happened-clause-stopped : goal.returns-in_err-write_happened-clause-stopped
-returns-in_err-write_happened-clause-stopped g c =
+pub returns-in_err-written-clause-stopped : goal.returns-in_err-written-clause-stopped
+returns-in_err-written-clause-stopped g c =
     let behaviour = g.A.Application.behaviour in
     let names = c.args.names.now in
     let tee = c.args.tee.now in
@@ -54,24 +54,24 @@ returns-in_err-write_happened-clause-stopped g c =
     let h = c.in_ok-happened.happened in
     let known = event_known names (app_count tee) (λ i. turns_made tee i) c.as_slice.result.now (app_of e) c.args.app c.requires.own c.requires.names c.requires.known
     c.index-names-app.result c.index-names-app.is c.as_slice.ensures (c.has_room.ensures.0 c.if-not-has_room.false) in
-    on_err_known c.from_residual-in_err-write_happened.result _
+    on_err_known c.from_residual-in_err-written.result _
     (λ w stands.
     let p = side_at tee.sides.items w (app_of e) stands.sides_are known.there in
     one_stops behaviour g.V.BoardVolume.form names w e h p.0 p.1 (c.in_ok-happened.ensures.told w p.0 stands p.1) _ _ known.within
     (omega (arith, known.room, sides_turns tee.sides.items w (app_of e) p.0 stands.sides_are p.1))
     (c.in_ok-happened.ensures.stands w p.0 stands p.1) (c.in_ok-happened.ensures.sound w stands)
     (stands_leaves g.V.Volume.keeper g.V.BoardVolume.form then.sides.items (volume_of then) _ _ (g.met.V.BoardVolume.seen (volume_of then)) (c.in_ok-happened.ensures.world w stands))
-    (subst (λ name. AppendsFront (happened_lines name h) (g.W.Sink.written c.args.sink.now) (g.W.Sink.written c.write_happened.new.sink)) known.named c.in_err-write_happened.ensures.err))
+    (subst (λ name. AppendsFront (happened_lines name h) (g.W.Sink.written c.args.sink.now) (g.W.Sink.written c.write_happened-written.new.sink)) known.named c.in_err-written.ensures.err))
 
-pub returns-in_err-write_happened-clause-orders : goal.returns-in_err-write_happened-clause-orders
-returns-in_err-write_happened-clause-orders g c =
+pub returns-in_err-written-clause-orders : goal.returns-in_err-written-clause-orders
+returns-in_err-written-clause-orders g c =
     let old = volume_of c.args.tee.now in
     let new = volume_of c.event.new.self in
     let counts = c.in_ok-happened.ensures.counts in
     unordered g.V.Volume.keeper g.V.BoardVolume.form old new _ _ (g.met.V.BoardVolume.seen old) (g.met.V.BoardVolume.seen new) counts.foundation counts.faults
 
-pub returns-in_err-write_happened-clause-honest : goal.returns-in_err-write_happened-clause-honest
-returns-in_err-write_happened-clause-honest g c = λ honest.
+pub returns-in_err-written-clause-honest : goal.returns-in_err-written-clause-honest
+returns-in_err-written-clause-honest g c = λ honest.
     let old = volume_of c.args.tee.now in
     let new = volume_of c.event.new.self in
     (g.met.V.BoardVolume.below new).0 (c.in_ok-happened.ensures.below ((g.met.V.BoardVolume.below old).1 honest))
@@ -94,7 +94,7 @@ returns-clause-whole g c =
     (event_span g.V.Volume.keeper g.V.BoardVolume.form (volume_of tee) (volume_of then) _ _ (g.met.V.BoardVolume.seen (volume_of tee))
     (g.met.V.BoardVolume.seen (volume_of then)) e h.kind c.in_ok-happened.ensures.counts)
     (c.in_ok-happened.ensures.world w stands)
-    (subst (λ name. Appends (g.W.Sink.written c.args.sink.now) (g.W.Sink.written c.write_happened.new.sink) (happened_lines name h)) known.named c.in_ok-write_happened.ensures.ok)
+    (subst (λ name. Appends (g.W.Sink.written c.args.sink.now) (g.W.Sink.written c.write_happened-written.new.sink) (happened_lines name h)) known.named c.in_ok-written.ensures.ok)
 
 pub returns-clause-called : goal.returns-clause-called
 returns-clause-called g c = λ w m client call stands here is.
@@ -124,4 +124,4 @@ returns-clause-losses g c =
     let named : c.as_slice.result.now ≡ get_or names c.args.app [] = c.as_slice.ensures ∙ get_or_read names c.args.app c.index-names-app.result within c.index-names-app.is [] in
     losses_event g.V.Volume.keeper g.V.BoardVolume.form old new _ _ (g.met.V.BoardVolume.seen old) (g.met.V.BoardVolume.seen new) names c.args.app h _ _ c.requires.words within
     c.in_ok-happened.ensures.counts
-    (subst (λ name. Appends (g.W.Sink.written c.args.sink.now) (g.W.Sink.written c.write_happened.new.sink) (happened_lines name h)) named c.in_ok-write_happened.ensures.ok)
+    (subst (λ name. Appends (g.W.Sink.written c.args.sink.now) (g.W.Sink.written c.write_happened-written.new.sink) (happened_lines name h)) named c.in_ok-written.ensures.ok)
