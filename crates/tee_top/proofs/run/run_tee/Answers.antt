@@ -1,7 +1,7 @@
 use Rattle.std.proofs.Common.{Err, ⊎_elim, ap, inl, inr, refl, subst, sym}
 use Rattle.script.specs.declared.dialect.Dialect.TheVariants.{Whole}
 use Rattle.script.proofs.Places.{not_both}
-use Rattle.tee_top.specs.Runs.{IsBadAt, IsStopped, ReadsTo}
+use Rattle.tee_top.specs.Runs.{IsBadAt, IsReadStatus, IsServed, IsStopped, ReadsTo}
 use Rattle.tee_top.proofs.Ended.{bad_line_told, read_unopened, script_told, served_told, too_long_told, within_for}
 use Rattle.tee_top.proofs.run.run_tee.Goals as goal
 
@@ -70,3 +70,99 @@ pub returns-clause-complete : goal.returns-clause-complete
 returns-clause-complete g c = λ text script stores readable written honest begins unfailed good.
     served_told c.serve.result.0 c.serve.ensures.few (λ same. written (c.serve.ensures.fault same)) (λ same. unfailed (c.serve.ensures.cause same))
     (λ why same. c.serve.ensures.accepted why same honest stores begins)
+
+-- a status of reading is none of these
+pub returns-in-Err-clause-written : goal.returns-in-Err-clause-written
+returns-in-Err-clause-written g c = λ e. absurd (subst IsReadStatus e c.in-Err.ensures.few)
+
+pub returns-in-Err-clause-cut_short : goal.returns-in-Err-clause-cut_short
+returns-in-Err-clause-cut_short g c = λ e. absurd (subst IsReadStatus e c.in-Err.ensures.few)
+
+pub returns-in-Err-clause-board_fault : goal.returns-in-Err-clause-board_fault
+returns-in-Err-clause-board_fault g c = λ e. absurd (subst IsReadStatus e c.in-Err.ensures.few)
+
+pub returns-in-Err-clause-refusal : goal.returns-in-Err-clause-refusal
+returns-in-Err-clause-refusal g c = λ why e. absurd (subst IsReadStatus e c.in-Err.ensures.few)
+
+pub returns-in-Err-clause-accepted : goal.returns-in-Err-clause-accepted
+returns-in-Err-clause-accepted g c = λ why e. absurd (subst IsReadStatus e c.in-Err.ensures.few)
+
+pub returns-in-Err-clause-refused : goal.returns-in-Err-clause-refused
+returns-in-Err-clause-refused g c = λ why e. absurd (subst IsReadStatus e c.in-Err.ensures.few)
+
+pub returns-in-Err-clause-write_fault : goal.returns-in-Err-clause-write_fault
+returns-in-Err-clause-write_fault g c = λ e. absurd (subst IsReadStatus e c.in-Err.ensures.few)
+
+pub returns-in-Err-clause-cause : goal.returns-in-Err-clause-cause
+returns-in-Err-clause-cause g c = λ e. absurd (subst IsReadStatus e c.in-Err.ensures.few)
+
+pub returns-in-Err-clause-orders : goal.returns-in-Err-clause-orders
+returns-in-Err-clause-orders g c = λ e. absurd (subst IsReadStatus e c.in-Err.ensures.few)
+
+pub returns-in-Err-clause-losses : goal.returns-in-Err-clause-losses
+returns-in-Err-clause-losses g c = λ e. absurd (subst IsReadStatus e c.in-Err.ensures.few)
+
+pub returns-in-Err-clause-done : goal.returns-in-Err-clause-done
+returns-in-Err-clause-done g c = λ e. absurd (subst IsReadStatus e c.in-Err.ensures.few)
+
+pub returns-in-Err-clause-no_memory : goal.returns-in-Err-clause-no_memory
+returns-in-Err-clause-no_memory g c = λ e honest stores begins. inl (refl, refl)
+
+-- a status of a run that read its script is none of these
+pub returns-clause-bad_line : goal.returns-clause-bad_line
+returns-clause-bad_line g c = λ n e. absurd (subst IsServed e c.serve.ensures.few)
+
+pub returns-clause-too_long : goal.returns-clause-too_long
+returns-clause-too_long g c = λ e. absurd (subst IsServed e c.serve.ensures.few)
+
+pub returns-clause-read_fault : goal.returns-clause-read_fault
+returns-clause-read_fault g c = λ e. absurd (subst IsServed e c.serve.ensures.few)
+
+pub returns-clause-unread : goal.returns-clause-unread
+returns-clause-unread g c = λ e. absurd (subst IsServed e c.serve.ensures.few)
+
+pub returns-clause-unfailed : goal.returns-clause-unfailed
+returns-clause-unfailed g c = λ e. absurd (subst IsServed e c.serve.ensures.few)
+
+pub returns-clause-written : goal.returns-clause-written
+returns-clause-written g c = λ same honest stores begins.
+    let reads = subst (λ hosts. ReadsTo hosts (g.S.Source.left c.args.source.now) c.in-Ok.lines.items) c.as_slice.ensures.value c.in-Ok.ensures.read in
+    (c.in-Ok.lines.items, reads, c.serve.ensures.done same honest stores begins)
+
+pub returns-clause-cut_short : goal.returns-clause-cut_short
+returns-clause-cut_short g c = λ same honest stores begins.
+    let reads = subst (λ hosts. ReadsTo hosts (g.S.Source.left c.args.source.now) c.in-Ok.lines.items) c.as_slice.ensures.value c.in-Ok.ensures.read in
+    (c.in-Ok.lines.items, reads, c.serve.ensures.stopped (subst IsStopped (sym same) tt) honest stores begins)
+
+pub returns-clause-refused : goal.returns-clause-refused
+returns-clause-refused g c = λ why same honest.
+    let reads = subst (λ hosts. ReadsTo hosts (g.S.Source.left c.args.source.now) c.in-Ok.lines.items) c.as_slice.ensures.value c.in-Ok.ensures.read in
+    ⊎_elim (λ none. inl none) (λ power. inr (c.in-Ok.lines.items, reads, power)) (c.serve.ensures.refused why same honest)
+
+pub returns-clause-orders : goal.returns-clause-orders
+returns-clause-orders g c = λ same.
+    let reads = subst (λ hosts. ReadsTo hosts (g.S.Source.left c.args.source.now) c.in-Ok.lines.items) c.as_slice.ensures.value c.in-Ok.ensures.read in
+    (c.in-Ok.lines.items, reads, c.serve.ensures.orders same)
+
+pub returns-clause-first_orders : goal.returns-clause-first_orders
+returns-clause-first_orders g c = 
+    let reads = subst (λ hosts. ReadsTo hosts (g.S.Source.left c.args.source.now) c.in-Ok.lines.items) c.as_slice.ensures.value c.in-Ok.ensures.read in
+    inr (c.in-Ok.lines.items, reads, c.serve.ensures.first_orders)
+
+pub returns-clause-refusal : goal.returns-clause-refusal
+returns-clause-refusal g c = c.serve.ensures.refusal
+
+pub returns-clause-accepted : goal.returns-clause-accepted
+returns-clause-accepted g c = c.serve.ensures.accepted
+
+pub returns-clause-opened : goal.returns-clause-opened
+returns-clause-opened g c = c.serve.ensures.opened
+
+pub returns-clause-write_fault : goal.returns-clause-write_fault
+returns-clause-write_fault g c = c.serve.ensures.fault
+
+pub returns-clause-cause : goal.returns-clause-cause
+returns-clause-cause g c = c.serve.ensures.cause
+
+pub returns-clause-losses : goal.returns-clause-losses
+returns-clause-losses g c = c.serve.ensures.losses
