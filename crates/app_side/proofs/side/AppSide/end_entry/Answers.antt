@@ -1,3 +1,4 @@
+use Rattle.std.proofs.Common.{rules}
 use Rattle.std.proofs.Common.{cond, sym, subst}
 use Rattle.instances.specs.declared.session.SessionState.TheVariants.{Open}
 use Rattle.instances.specs.Instances.{session_removed, state_set}
@@ -17,3 +18,6 @@ returns-in-Start g c inst found numbered =
     (answered (record m { table = state_set m.table c.in-Start.session Open }) inst c.args.op code o)
     (after_session (record m { table = session_removed m.table c.in-Start.session }) inst c.args.op code o)))
     c.deliver-outputs.ensures (c.end_start.ensures inst found))
+
+pub returns-in-Stop : goal.returns-in-Stop
+returns-in-Stop g c = search rules
