@@ -13,3 +13,6 @@ invariant_of-self-2 c =
     let pushed : c.push.new.self.items ≡ (submitted q c.args.client c.args.instance c.args.session c.args.call).operations = search rules in
     subst (λ (os : List Operation). IsQueue (record { next = c.self.inside.next + 1; operations = os })) (sym pushed)
     (submitted_IsQueue q c.args.client c.args.instance c.args.session c.args.call free few_closes c.self.invariant)
+
+pub returns-then-count_others-ge-MAX_OPERATIONS-clause-full : goal.returns-then-count_others-ge-MAX_OPERATIONS-clause-full
+returns-then-count_others-ge-MAX_OPERATIONS-clause-full c = search rules
