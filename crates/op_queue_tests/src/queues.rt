@@ -1,5 +1,6 @@
 //! A full queue, and the way of an operation through it.
 
+use crate::beginning::begin;
 use app_api::{Call, Params};
 use op_queue::{Cancelled, OpFacts, OpQueue, QueueAnswer};
 use std::process::Abort;
@@ -32,10 +33,6 @@ fn skip(queue: &mut OpQueue) -> Option<u64> {
     } else {
         None
     }
-}
-
-fn begin(queue: &mut OpQueue, instance: u8) -> Option<u64> {
-    queue.begin(instance).map(|begun| begun.op)
 }
 
 fn facts(instance: u8, running: bool, close: bool) -> Option<OpFacts> {
