@@ -1,12 +1,13 @@
 //! Each ask with an Ok, with each refusal and with each misuse; published vectors in pieces.
 
+use crate::given::key_with;
 use app_api::{Answer, Ask};
 use operation_asks::{CryptoOutcome, KeyGiven, Operations, Outcome};
 use std::alloc::Global;
 use std::process::Abort;
 use std::test::Fail;
 use tee_base::{Bytes, Code, NoMemory, keys};
-use transient_obj::{ObjectKey, Secret};
+use transient_obj::Secret;
 
 /// An ask in words that a table can hold.
 #[derive(Clone, Copy)]
@@ -132,11 +133,7 @@ fn ask(alloc: Global, what: Do<'_>) -> Result<Ask, NoMemory> {
 /// An object gives this key.
 fn key_of(rt: &impl Abort, kind: u32, usage: u32, secret: &[u8]) -> KeyGiven {
     assert!(rt; secret.len() <= 128);
-    KeyGiven::Key(ObjectKey {
-        kind,
-        usage,
-        secret: Secret::from_slice(secret),
-    })
+    key_with(kind, usage, Secret::from_slice(secret))
 }
 
 /// The rest of an ask for a key.

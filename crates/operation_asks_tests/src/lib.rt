@@ -3,3 +3,4 @@
 
 #[cfg(test)]
 mod asks;
+pub mod given;
