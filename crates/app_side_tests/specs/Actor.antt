@@ -76,17 +76,22 @@ ask_at_start ps =
     else if second_of ps.p0 == 1 then asked.CancelUnmask
     else asked.CancelFlag
 
--- a command: 1 adds, 2 panics, 3 and 4 read the flag, 5 shows a size, 6 creates an object, 7 masks
-abbrev pub ask_at_command : (number sessions command : ℕ) → Params → Ask
-ask_at_command number sessions command ps =
+-- a command: 1 adds, 2 panics, 3 and 4 read the flag, 5 shows a size, 7 masks
+abbrev pub ask_without_object : (number sessions command : ℕ) → Ask
+ask_without_object number sessions command =
     if command == 1 then return_with SUCCESS (outs.Value number sessions)
     else if command == 2 then asked.Panic SUCCESS
     else if command == 3 then asked.CancelFlag
     else if command == 4 then asked.CancelUnmask
     else if command == 5 then return_with SHORT_BUFFER (outs.Size 1000)
-    else if command == 6 then create_of (first_of ps.p0) 0 ps.p2 ps.p3
     else if command == 7 then asked.CancelMask
     else return_with BAD_PARAMETERS outs.Nothing
+
+-- a command: 6 creates an object, and the others need no parameter
+abbrev pub ask_at_command : (number sessions command : ℕ) → Params → Ask
+ask_at_command number sessions command ps =
+    if command == 6 then create_of (first_of ps.p0) 0 ps.p2 ps.p3
+    else ask_without_object number sessions command
 
 -- create fails with this code, or reads the flag unmasked; each stop fails
 abbrev pub ask_at : (create : Code) → (unmasks : Bool) → (number sessions : ℕ) → Entry → Ask

@@ -48,16 +48,25 @@ abbrev pub write_of : ℕ → Param → Ask
 write_of object (params.MemIn bytes) = asked.ObjWrite object bytes
 write_of object p = fine outs.Nothing
 
--- what a command asks for: 1 opens, 2 creates, 3 closes, 6 describes, 7 reads and 8 writes an object; any other returns
-abbrev pub ask_of : ℕ → Params → Ask
-ask_of command ps =
-    if command == 1 then open_of (first_of ps.p0) (second_of ps.p0) ps.p1
-    else if command == 2 then create_of (first_of ps.p0) (second_of ps.p0) ps.p1 ps.p2
-    else if command == 3 then asked.ObjClose (first_of ps.p0)
-    else if command == 6 then asked.ObjInfo (first_of ps.p0)
-    else if command == 7 then asked.ObjRead (first_of ps.p0) (second_of ps.p0)
-    else if command == 8 then write_of (first_of ps.p0) ps.p1
+-- what a command about two numbers asks for: 3 closes, 6 describes and 7 reads an object; any other returns
+abbrev pub ask_without_bytes : (command a b : ℕ) → Ask
+ask_without_bytes command a b =
+    if command == 3 then asked.ObjClose a
+    else if command == 6 then asked.ObjInfo a
+    else if command == 7 then asked.ObjRead a b
     else fine outs.Nothing
+
+-- what a command asks for: 1 opens, 2 creates and 8 writes an object, and the others need two numbers alone
+abbrev pub ask_with_bytes : (command a b : ℕ) → Param → Param → Ask
+ask_with_bytes command a b id content =
+    if command == 1 then open_of a b id
+    else if command == 2 then create_of a b id content
+    else if command == 8 then write_of a id
+    else ask_without_bytes command a b
+
+-- what a command asks for, by its numbers and by the second and the third parameter
+abbrev pub ask_of : ℕ → Params → Ask
+ask_of command ps = ask_with_bytes command (first_of ps.p0) (second_of ps.p0) ps.p1 ps.p2
 
 -- the return of what was answered
 abbrev pub told_by : Answer → Ask

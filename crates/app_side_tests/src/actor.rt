@@ -4,11 +4,12 @@ ghost use Rattle.std.specs.Prelude.{◌≡◌};
 ghost use Rattle.app_side_tests.specs.Actor as actor;
 
 use super::probe::{create, first, second};
-use app_api::{Answer, Application, Ask, Entry, Given, Out, Outs, Params};
+use crate::flag::{ask_for_truth, return_with};
+use app_api::{Answer, Application, Ask, Entry, Given, Out, Params};
 use std::alloc::Global;
 use tee_base::{Bytes, Code, NoMemory};
 
-#[derive(Clone, Copy, Debug)]
+#[derive(Clone, Copy)]
 pub struct Actor {
     pub number: u32,
     pub sessions: u32,
@@ -98,16 +99,8 @@ fn unmasking_after(unmasks: bool, given: &Given) -> bool
     }
 }
 
-fn return_with(code: Code, out: Out) -> Ask
-    ensures { result ≡ actor.return_with code out }
-{
-    let mut outs = Outs::nothing();
-    outs.p1 = out;
-    Ask::Return { code, outs }
-}
-
-fn ask_at_start(params: Params) -> Ask
-    ensures { result ≡ actor.ask_at_start params }
+fn ask_at_start(params: &Params) -> Ask
+    ensures { result ≡ actor.ask_at_start params.now }
 {
     match second(&params.p0) {
         0 => return_with(Code(first(&params.p0)), Out::Nothing),
@@ -116,8 +109,8 @@ fn ask_at_start(params: Params) -> Ask
     }
 }
 
-fn ask_at_command(number: u32, sessions: u32, command: u32, params: Params) -> Ask
-    ensures { result ≡ actor.ask_at_command number sessions command params }
+fn ask_without_object(number: u32, sessions: u32, command: u32) -> Ask
+    ensures { result ≡ actor.ask_without_object number sessions command }
 {
     match command {
         1 => return_with(Code::SUCCESS, Out::Value(number, sessions)),
@@ -127,10 +120,23 @@ fn ask_at_command(number: u32, sessions: u32, command: u32, params: Params) -> A
         3 => Ask::CancelFlag,
         4 => Ask::CancelUnmask,
         5 => return_with(Code::SHORT_BUFFER, Out::Size(1000)),
-        6 => create(first(&params.p0), 0, params.p2, params.p3),
         7 => Ask::CancelMask,
         _ => return_with(Code::BAD_PARAMETERS, Out::Nothing),
     }
+}
+
+fn ask_at_command(number: u32, sessions: u32, command: u32, params: Params) -> Ask
+    ensures { result ≡ actor.ask_at_command number sessions command params }
+{
+    if command != 6 {
+        drop(params);
+        return ask_without_object(number, sessions, command);
+    }
+    let Params { p0, p1, p2, p3 } = params;
+    let flags = first(&p0);
+    drop(p0);
+    drop(p1);
+    create(flags, 0, p2, p3)
 }
 
 fn ask_at(create: Code, unmasks: bool, number: u32, sessions: u32, entry: Entry) -> Ask
@@ -140,7 +146,11 @@ fn ask_at(create: Code, unmasks: bool, number: u32, sessions: u32, entry: Entry)
         Entry::Create if unmasks => Ask::CancelUnmask,
         Entry::Create => return_with(create, Out::Nothing),
         Entry::Destroy => return_with(Code::SUCCESS, Out::Nothing),
-        Entry::Start { params, .. } => ask_at_start(params),
+        Entry::Start { params, .. } => {
+            let ask = ask_at_start(&params);
+            drop(params);
+            ask
+        }
         Entry::Stop { .. } => return_with(Code::GENERIC, Out::Nothing),
         Entry::Invoke {
             command,
@@ -148,21 +158,6 @@ fn ask_at(create: Code, unmasks: bool, number: u32, sessions: u32, entry: Entry)
             ..
         } => ask_at_command(number, sessions, command, params),
     }
-}
-
-fn ask_for_truth(left: u32, unmasking: bool, flag: bool) -> Ask
-    ensures { result ≡ actor.ask_for_truth left unmasking flag }
-{
-    if unmasking {
-        return Ask::CancelFlag;
-    }
-    if flag {
-        return return_with(Code::CANCEL, Out::Nothing);
-    }
-    if left == 0 {
-        return return_with(Code::SUCCESS, Out::Nothing);
-    }
-    Ask::CancelFlag
 }
 
 fn ask_for(left: u32, unmasking: bool, answer: Answer) -> Ask
@@ -174,6 +169,13 @@ fn ask_for(left: u32, unmasking: bool, answer: Answer) -> Ask
         Answer::Refused(code) => return_with(code, Out::Nothing),
         _ => return_with(Code::GENERIC, Out::Nothing),
     }
+}
+
+/// Takes a little memory, and gives it back.
+fn take_memory(alloc: Global) -> Result<(), NoMemory> {
+    let spare = Bytes::from_slice(alloc, b"spare")?;
+    drop(spare);
+    Ok(())
 }
 
 impl Application for Actor {
@@ -190,7 +192,10 @@ impl Application for Actor {
 
     /// It takes a little memory, so that each step may find none.
     fn step(&mut self, alloc: Global, given: Given) -> Result<Ask, NoMemory> {
-        let _spare = Bytes::from_slice(alloc, b"spare")?;
+        if let Err(error) = take_memory(alloc) {
+            drop(given);
+            return Err(error);
+        }
         let left = self.left;
         let unmasking = self.unmasking;
         self.number = number_after(self.number, &given);

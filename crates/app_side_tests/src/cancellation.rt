@@ -1,9 +1,8 @@
 //! Operations that are cancelled.
 
-use super::tables::{API, APP, Do, FINE, NONE, PLAIN, Row, TEE, Table, ZEROS, check};
+use super::tables::{API, APP, Do, FINE, NONE, PLAIN, Row, TEE, Table, ZEROS, check_all};
 use app_api::Properties;
-use std::test::Fail;
-use tee_base::Code;
+use tee_base::{Code, NoMemory};
 
 const ROWS: &[Row] = &[
     (Do::Open(1), &[]),
@@ -92,9 +91,6 @@ const TABLES: &[Table] = &[
 ];
 
 #[test]
-fn operations_are_cancelled(rt: HostRuntime) -> Result<(), Fail> {
-    for table in TABLES {
-        check(&rt, rt.alloc(), table)?;
-    }
-    Ok(())
+fn operations_are_cancelled(rt: HostRuntime) -> Result<(), NoMemory> {
+    check_all(&rt, rt.alloc(), TABLES)
 }

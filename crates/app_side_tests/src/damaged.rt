@@ -3,8 +3,7 @@
 use super::turns::{ALL, PLAIN, Row, Step, Told, check_over};
 use app_side::TurnKind;
 use damaged_store::{Damaged, Meets};
-use std::test::Fail;
-use tee_base::Code;
+use tee_base::{Code, NoMemory};
 
 const DAMAGED: TurnKind = TurnKind::Corrupted;
 
@@ -22,7 +21,7 @@ const STEPS: &[Row] = &[
 ];
 
 #[test]
-fn damage_is_told_and_loses_nothing(rt: HostRuntime) -> Result<(), Fail> {
+fn damage_is_told_and_loses_nothing(rt: HostRuntime) -> Result<(), NoMemory> {
     let mut store = Damaged::new(Some(Meets::OtherTag), Some(Meets::BrokenRule), None);
     check_over(&rt, rt.alloc(), &mut store, STEPS)
 }

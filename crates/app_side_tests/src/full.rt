@@ -1,9 +1,10 @@
 //! Full tables, and the limit of asks.
 
-use super::tables::{API, APP, Do, FINE, NONE, PLAIN, Row, Seen, TEE, Table, Told, ZEROS, check};
+use super::tables::{
+    API, APP, Do, FINE, NONE, PLAIN, Row, Seen, TEE, Table, Told, ZEROS, check_all,
+};
 use app_api::Properties;
-use std::test::Fail;
-use tee_base::Code;
+use tee_base::{Code, NoMemory};
 
 const OPENED: &[Told] = &[
     (1, FINE, APP, NONE),
@@ -156,9 +157,6 @@ const TABLES: &[Table] = &[
 ];
 
 #[test]
-fn tables_are_full(rt: HostRuntime) -> Result<(), Fail> {
-    for table in TABLES {
-        check(&rt, rt.alloc(), table)?;
-    }
-    Ok(())
+fn tables_are_full(rt: HostRuntime) -> Result<(), NoMemory> {
+    check_all(&rt, rt.alloc(), TABLES)
 }

@@ -8,6 +8,7 @@ mod actor;
 mod cancellation;
 #[cfg(test)]
 mod damaged;
+pub mod flag;
 #[cfg(test)]
 mod full;
 #[cfg(test)]

@@ -1,16 +1,16 @@
 //! Want of memory, and the loss of the storage and of the power.
 
-ghost use Rattle.std.specs.Prelude.{◌≡◌, OnOk};
+ghost use Rattle.std.specs.Prelude.{◌≡◌, false, OnOk};
 ghost use Rattle.app_side.specs.Represents.{is_lost};
 
 use super::actor::Actor;
 use super::tables::{
-    API, APP, Do, FINE, NONE, PLAIN, Row, Seen, TEE, Table, ZEROS, check, host, make, turn,
+    API, APP, Do, FINE, NONE, PLAIN, Row, Seen, TEE, Table, ZEROS, begun, check_all, make_call,
+    turn,
 };
-use app_side::{AppSide, TurnKind};
+use app_side::{AppSide, Reply, TurnKind};
 use std::alloc::Global;
 use std::process::Abort;
-use std::test::Fail;
 use store_api::MapStore;
 use tee_base::{Code, NoMemory};
 
@@ -100,11 +100,16 @@ const TABLES: &[Table] = &[
 ];
 
 #[test]
-fn instances_end_and_numbers_go_on(rt: HostRuntime) -> Result<(), Fail> {
-    for table in TABLES {
-        check(&rt, rt.alloc(), table)?;
+fn instances_end_and_numbers_go_on(rt: HostRuntime) -> Result<(), NoMemory> {
+    check_all(&rt, rt.alloc(), TABLES)
+}
+
+/// There is one reply, of an operation that found no memory.
+fn assert_want(rt: &impl Abort, replies: &[Reply]) {
+    assert!(rt; replies.len() == 1);
+    for reply in replies {
+        assert!(rt; reply.code == Code::OUT_OF_MEMORY && reply.origin == TEE);
     }
-    Ok(())
 }
 
 /// A turn that may find no memory: then there is no instance left, and its operation is answered so.
@@ -114,11 +119,10 @@ fn turn_of_want(rt: &impl Abort, side: &mut AppSide<Actor>, store: &mut MapStore
 {
     let turned = turn(rt, side, store, 1);
     if turned.kind == TurnKind::Starved {
-        assert!(rt; side.live() == 0 && turned.replies.as_slice().len() == 1);
-        for reply in turned.replies.as_slice() {
-            assert!(rt; reply.code == Code::OUT_OF_MEMORY && reply.origin == TEE);
-        }
+        assert!(rt; side.live() == 0);
+        assert_want(rt, turned.replies.as_slice());
     }
+    drop(turned);
 }
 
 /// So many turns, of which each may find no memory.
@@ -143,7 +147,7 @@ fn call_and_turns(
     requires { is_lost side.old ≡ store.old.lost }
     ensures { OnOk result (is_lost side.new ≡ store.new.lost) }
 {
-    make(alloc, side, what)?;
+    make_call(alloc, side, what)?;
     turns_of_want(rt, side, store, count);
     Ok(())
 }
@@ -162,13 +166,21 @@ fn calls_of_want(
     call_and_turns(rt, alloc, side, store, Do::Object(1, b"h"), 5)
 }
 
+/// The same, of an application that has run nothing.
+fn begin_in_want(rt: &impl Abort, alloc: Global, store: &mut MapStore) -> Result<(), NoMemory>
+    requires { store.old.lost ≡ false }
+{
+    let mut side = begun(alloc, PLAIN.properties, Actor::new(FINE, false))?;
+    let ran = calls_of_want(rt, alloc, &mut side, store);
+    drop(side);
+    ran
+}
+
 /// Where the fifth allocation fails, the open's entry finds no memory as it begins, and where the ninth fails, the invoke's.
 #[test]
-fn a_turn_may_want_memory(rt: HostRuntime) -> Result<(), Fail> {
+fn a_turn_may_want_memory(rt: HostRuntime) -> Result<(), NoMemory> {
     let mut store = MapStore::new(rt.alloc(), &[])?;
-    let actor = Actor::new(FINE, false);
-    let host = host(rt.alloc(), PLAIN.properties, actor)?;
-    let mut side = AppSide::new(rt.alloc(), host, 0, [0; 32])?;
-    calls_of_want(&rt, rt.alloc(), &mut side, &mut store)?;
-    Ok(())
+    let ran = begin_in_want(&rt, rt.alloc(), &mut store);
+    drop(store);
+    ran
 }

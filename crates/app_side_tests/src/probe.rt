@@ -1,13 +1,13 @@
 //! The application of the tests: a command names the ask that it makes, and it returns what it is answered.
 
 ghost use Rattle.std.specs.Prelude.{◌≡◌};
-ghost use Rattle.app_side_tests.specs.Probe.{ask_of, at_entry, create_of, fine, first_of, next_ask, open_of, returns, second_of, told_by, write_of};
+ghost use Rattle.app_side_tests.specs.Probe.{ask_of, ask_with_bytes, ask_without_bytes, at_entry, create_of, fine, first_of, next_ask, open_of, returns, second_of, told_by, write_of};
 
 use app_api::{Answer, Application, Ask, Entry, Given, Out, Outs, Param, Params};
 use std::alloc::Global;
 use tee_base::{Code, NoMemory};
 
-#[derive(Clone, Copy, Debug)]
+#[derive(Clone, Copy)]
 pub struct Probe {
     pub number: u32,
 }
@@ -77,23 +77,50 @@ fn write(object: u32, bytes: Param) -> Ask
     }
 }
 
-fn ask(command: u32, params: Params) -> Ask
-    ensures { result ≡ ask_of command params }
+fn ask_without_bytes(command: u32, a: u32, b: u32) -> Ask
+    ensures { result ≡ ask_without_bytes command a b }
 {
-    let a = first(&params.p0);
-    let b = second(&params.p0);
     match command {
-        1 => open(a, b, params.p1),
-        2 => create(a, b, params.p1, params.p2),
         3 => Ask::ObjClose { object: a },
         6 => Ask::ObjInfo { object: a },
         7 => Ask::ObjRead {
             object: a,
             count: b,
         },
-        8 => write(a, params.p1),
         _ => fine(Out::Nothing),
     }
+}
+
+fn ask_with_bytes(command: u32, a: u32, b: u32, id: Param, content: Param) -> Ask
+    ensures { result ≡ ask_with_bytes command a b id content }
+{
+    match command {
+        1 => {
+            drop(content);
+            open(a, b, id)
+        }
+        2 => create(a, b, id, content),
+        8 => {
+            drop(content);
+            write(a, id)
+        }
+        _ => {
+            drop(id);
+            drop(content);
+            ask_without_bytes(command, a, b)
+        }
+    }
+}
+
+fn ask(command: u32, params: Params) -> Ask
+    ensures { result ≡ ask_of command params }
+{
+    let Params { p0, p1, p2, p3 } = params;
+    let a = first(&p0);
+    let b = second(&p0);
+    drop(p0);
+    drop(p3);
+    ask_with_bytes(command, a, b, p1, p2)
 }
 
 fn tell(answer: Answer) -> Ask

@@ -1,9 +1,8 @@
 //! Sessions and instances: from open to close, by the properties, and how an instance ends.
 
-use super::tables::{API, APP, Do, FINE, NONE, PLAIN, Row, Seen, TEE, Table, ZEROS, check};
+use super::tables::{API, APP, Do, FINE, NONE, PLAIN, Row, Seen, TEE, Table, ZEROS, check_all};
 use app_api::Properties;
-use std::test::Fail;
-use tee_base::Code;
+use tee_base::{Code, NoMemory};
 
 /// From open to close, and another open: the instance is kept, with its number, and doesn't run create again.
 const KEPT: &[Row] = &[
@@ -155,7 +154,8 @@ const APART: &[Row] = &[
     (Do::Live(0), &[]),
 ];
 
-const TABLES: &[Table] = &[
+/// From open to close.
+const COMING: &[Table] = &[
     Table {
         rows: KEPT,
         turns: 23,
@@ -181,6 +181,10 @@ const TABLES: &[Table] = &[
         turns: 11,
         ..PLAIN
     },
+];
+
+/// How an instance ends.
+const ENDING: &[Table] = &[
     Table {
         create: Code::GENERIC,
         rows: CREATE_FAILS,
@@ -215,9 +219,11 @@ const TABLES: &[Table] = &[
 ];
 
 #[test]
-fn sessions_come_and_go(rt: HostRuntime) -> Result<(), Fail> {
-    for table in TABLES {
-        check(&rt, rt.alloc(), table)?;
-    }
-    Ok(())
+fn sessions_come_and_go(rt: HostRuntime) -> Result<(), NoMemory> {
+    check_all(&rt, rt.alloc(), COMING)
+}
+
+#[test]
+fn instances_end(rt: HostRuntime) -> Result<(), NoMemory> {
+    check_all(&rt, rt.alloc(), ENDING)
 }

@@ -1,15 +1,15 @@
 //! Tables of events with their replies, and how they are run.
 
-ghost use Rattle.std.specs.Prelude.{◌≡◌, OnOk};
+ghost use Rattle.std.specs.Prelude.{◌≡◌, false, IfOk, OnOk};
 ghost use Rattle.app_side.specs.Represents.{is_lost};
 
 use super::actor::Actor;
 use alone::Shown;
-use app_api::{Host, Param, Params, Properties};
+use app_api::{Application, Host, Param, Params, Properties};
 use app_side::{AppSide, Call, Replies, Reply, TurnKind, Turned};
 use std::alloc::Global;
+use std::mem;
 use std::process::Abort;
-use std::test::Fail;
 use store_api::MapStore;
 use tee_base::{Bytes, Code, NoMemory, Origin};
 use uuid::Uuid;
@@ -117,13 +117,25 @@ pub const PLAIN: Table = Table {
 /// Most turns that a test makes, far below the bound of the calls.
 pub const MOST: u64 = 1 << 40;
 
-pub fn host<A: Drop>(alloc: Global, properties: Properties, template: A) -> Result<Host<A>, Fail> {
+fn host<A: Drop>(alloc: Global, properties: Properties, template: A) -> Result<Host<A>, NoMemory> {
     Ok(Host {
         name: Bytes::from_slice(alloc, b"tests")?,
         id: Uuid::nil(),
         properties,
         template,
     })
+}
+
+/// An application with these properties that has run nothing.
+pub fn begun<A: Application>(
+    alloc: Global,
+    properties: Properties,
+    template: A,
+) -> Result<AppSide<A>, NoMemory>
+    ensures { IfOk result (λ side. is_lost side ≡ false) }
+{
+    let host = host(alloc, properties, template)?;
+    AppSide::new(alloc, host, 0, [0; 32])
 }
 
 fn large() -> Params {
@@ -173,6 +185,21 @@ fn in_out(bytes: Bytes) -> Params {
     }
 }
 
+fn open_in_out(alloc: Global, label: u32, bytes: &[u8]) -> Result<Call, NoMemory> {
+    let bytes = Bytes::from_slice(alloc, bytes)?;
+    Ok(open(label, in_out(bytes)))
+}
+
+fn invoke_in_out(alloc: Global, label: u32, bytes: &[u8]) -> Result<Call, NoMemory> {
+    let bytes = Bytes::from_slice(alloc, bytes)?;
+    Ok(invoke(label, 1, in_out(bytes)))
+}
+
+fn invoke_object(alloc: Global, label: u32, id: &[u8]) -> Result<Call, NoMemory> {
+    let id = Bytes::from_slice(alloc, id)?;
+    Ok(invoke(label, 6, object(id, Bytes::empty(alloc))))
+}
+
 fn open(label: u32, params: Params) -> Call {
     Call::Open { label, params }
 }
@@ -214,27 +241,40 @@ fn client_of(what: Do) -> u8 {
 /// The call that the event is. What is no call is taken for a close.
 fn call_of(alloc: Global, what: Do) -> Result<Call, NoMemory> {
     match what {
-        Do::Open(label) => Ok(open(label, Params::nothing())),
-        Do::OpenFor(_, label) => Ok(open(label, Params::nothing())),
-        Do::OpenWith(label, a, b) => Ok(open(label, numbers(a, b))),
-        Do::OpenLarge(label) => Ok(open(label, large())),
-        Do::OpenInOut(label, bytes) => Ok(open(label, in_out(Bytes::from_slice(alloc, bytes)?))),
-        Do::InvokeLarge(label) => Ok(invoke(label, 1, large())),
-        Do::Invoke(label, command, a, b) => Ok(invoke(label, command, numbers(a, b))),
-        Do::Add(label, value) => Ok(invoke(label, 1, numbers(value, 0))),
-        Do::Size(label, size) => Ok(invoke(label, 5, room(size))),
-        Do::Object(label, id) => {
-            let id = Bytes::from_slice(alloc, id)?;
-            Ok(invoke(label, 6, object(id, Bytes::empty(alloc))))
-        }
-        Do::InOut(label, bytes) => Ok(invoke(label, 1, in_out(Bytes::from_slice(alloc, bytes)?))),
-        Do::Close(label) => Ok(Call::Close { label }),
-        _ => Ok(Call::Close { label: 0 }),
+        Do::OpenInOut(label, bytes) => open_in_out(alloc, label, bytes),
+        Do::Object(label, id) => invoke_object(alloc, label, id),
+        Do::InOut(label, bytes) => invoke_in_out(alloc, label, bytes),
+        _ => Ok(plain_call(what)),
     }
 }
 
+/// The call that the event is, where it brings no bytes.
+fn plain_call(what: Do) -> Call {
+    match what {
+        Do::Open(label) => open(label, Params::nothing()),
+        Do::OpenFor(_, label) => open(label, Params::nothing()),
+        Do::OpenWith(label, a, b) => open(label, numbers(a, b)),
+        Do::OpenLarge(label) => open(label, large()),
+        Do::InvokeLarge(label) => invoke(label, 1, large()),
+        Do::Invoke(label, command, a, b) => invoke(label, command, numbers(a, b)),
+        Do::Add(label, value) => invoke(label, 1, numbers(value, 0)),
+        Do::Size(label, size) => invoke(label, 5, room(size)),
+        Do::Close(label) => Call::Close { label },
+        _ => Call::Close { label: 0 },
+    }
+}
+
+/// Makes the call that the event is, whatever it is answered.
+pub fn make_call(alloc: Global, side: &mut AppSide<Actor>, what: Do) -> Result<(), NoMemory>
+    ensures { OnOk result (is_lost side.new ≡ is_lost side.old) }
+{
+    let replies = make(alloc, side, what)?;
+    drop(replies);
+    Ok(())
+}
+
 /// Makes the call that the event is.
-pub fn make(alloc: Global, side: &mut AppSide<Actor>, what: Do) -> Result<Replies, NoMemory>
+fn make(alloc: Global, side: &mut AppSide<Actor>, what: Do) -> Result<Replies, NoMemory>
     ensures { is_lost side.new ≡ is_lost side.old }
 {
     let call = call_of(alloc, what)?;
@@ -255,6 +295,11 @@ fn is_told(reply: &Reply, wanted: &Told) -> bool {
     reply.op == op && reply.code == code && reply.origin == origin && shown(reply) == output
 }
 
+/// The reply of this operation is the one that is wanted.
+fn assert_told(rt: &impl Abort, holds: bool, op: u64) {
+    assert!(rt; holds, "operation {op}");
+}
+
 /// The replies are the first of those wanted, and their operations are answered. The rest of those wanted.
 fn compare<'a>(
     rt: &impl Abort,
@@ -265,10 +310,10 @@ fn compare<'a>(
     let replies = replies.as_slice();
     assert!(rt; replies.len() <= wanted.len());
     for (reply, wanted) in replies.iter().zip(wanted.iter()) {
-        assert!(rt;
+        assert_told(
+            rt,
             is_told(reply, wanted) && side.answered(reply.op),
-            "operation {}",
-            reply.op
+            reply.op,
         );
     }
     &wanted[replies.len()..]
@@ -283,6 +328,21 @@ fn one_of(what: Do, label: u32) -> Do {
     }
 }
 
+/// A call that isn't answered.
+fn make_unanswered(
+    rt: &impl Abort,
+    alloc: Global,
+    side: &mut AppSide<Actor>,
+    what: Do,
+) -> Result<(), NoMemory>
+    ensures { OnOk result (is_lost side.new ≡ is_lost side.old) }
+{
+    let replies = make(alloc, side, what)?;
+    assert!(rt; replies.is_empty());
+    drop(replies);
+    Ok(())
+}
+
 /// Calls of which none is answered.
 fn many(
     rt: &impl Abort,
@@ -294,8 +354,7 @@ fn many(
     ensures { OnOk result (is_lost side.new ≡ is_lost side.old) }
 {
     for label in 1..=count {
-        let replies = make(alloc, side, one_of(what, label))?;
-        assert!(rt; replies.is_empty());
+        make_unanswered(rt, alloc, side, one_of(what, label))?;
     }
     Ok(())
 }
@@ -314,6 +373,24 @@ pub fn turn(
     side.turn(instance, store)
 }
 
+/// A turn that goes as it is to, with the first of the replies. The rest of those.
+fn plain_turn<'a>(
+    rt: &impl Abort,
+    side: &mut AppSide<Actor>,
+    store: &mut MapStore,
+    instance: u8,
+    wanted: &'a [Told],
+) -> &'a [Told]
+    requires { is_lost side.old ≡ store.old.lost }
+    ensures { is_lost side.new ≡ store.new.lost }
+{
+    let turned = turn(rt, side, store, instance);
+    assert!(rt; turned.kind == TurnKind::Plain);
+    let rest = compare(rt, side, &turned.replies, wanted);
+    drop(turned);
+    rest
+}
+
 /// Turns of the instance, of which the last has the last of the replies.
 fn turns(
     rt: &impl Abort,
@@ -329,26 +406,36 @@ fn turns(
     let mut rest = wanted;
     for _ in 0..count {
         assert!(rt; wanted.is_empty() || !rest.is_empty());
-        let turned = turn(rt, side, store, instance);
-        assert!(rt; turned.kind == TurnKind::Plain);
-        rest = compare(rt, side, &turned.replies, rest);
+        rest = plain_turn(rt, side, store, instance, rest);
     }
     assert!(rt; rest.is_empty());
 }
 
-/// A turn in which the store fails.
+/// A turn in which the store fails, with all of these replies.
 fn lost_turn(
     rt: &impl Abort,
     side: &mut AppSide<Actor>,
     store: &mut MapStore,
     instance: u8,
-) -> Replies
+    wanted: &[Told],
+)
     requires { is_lost side.old ≡ store.old.lost }
     ensures { is_lost side.new ≡ store.new.lost }
 {
     let turned = turn(rt, side, store, instance);
     assert!(rt; turned.kind == TurnKind::Lost { change: true });
-    turned.replies
+    compare_all(rt, side, &turned.replies, wanted);
+    drop(turned);
+}
+
+/// The store serves again, with no object.
+fn empty(alloc: Global, store: &mut MapStore) -> Result<(), NoMemory>
+    ensures { OnOk result (store.new.lost ≡ false) }
+{
+    let fresh = MapStore::new(alloc, &[])?;
+    let before = mem::replace(store, fresh);
+    drop(before);
+    Ok(())
 }
 
 /// The power comes back, and the store serves again.
@@ -363,8 +450,7 @@ fn restart(
 {
     assert!(rt; side.boots() < 9);
     side.restart(took);
-    *store = MapStore::new(alloc, &[])?;
-    Ok(())
+    empty(alloc, store)
 }
 
 /// The storage is lost where the event says so.
@@ -383,6 +469,15 @@ fn starve(rt: &impl Abort, side: &mut AppSide<Actor>, instance: u8) -> Replies
     side.starve(instance)
 }
 
+/// What is asked of the application, if the event is that.
+fn look(rt: &impl Abort, side: &AppSide<Actor>, what: Do) {
+    match what {
+        Do::Live(count) => assert!(rt; side.live() == count),
+        Do::NeedsStore(instance) => assert!(rt; side.needs_store(instance)),
+        _ => {}
+    }
+}
+
 /// What is no call and makes no turn of the application, with its replies.
 fn other(rt: &impl Abort, side: &mut AppSide<Actor>, what: Do) -> Replies
     ensures { is_lost side.new ≡ is_lost side.old }
@@ -391,41 +486,57 @@ fn other(rt: &impl Abort, side: &mut AppSide<Actor>, what: Do) -> Replies
         Do::Cancel(op) => side.cancel(op),
         Do::Starve(instance) => starve(rt, side, instance),
         Do::Teardown(instance, code) => side.teardown(instance, code),
-        Do::Live(count) => {
-            assert!(rt; side.live() == count);
+        _ => {
+            look(rt, side, what);
             Replies::none()
         }
-        Do::NeedsStore(instance) => {
-            assert!(rt; side.needs_store(instance));
-            Replies::none()
-        }
-        _ => Replies::none(),
     }
 }
 
-/// Makes an event whose replies all come at once, and answers them.
-fn make_event(
-    rt: &impl Abort,
-    alloc: Global,
-    side: &mut AppSide<Actor>,
-    what: Do,
-) -> Result<Replies, NoMemory>
-    ensures { OnOk result (is_lost side.new ≡ is_lost side.old) }
-{
-    match what {
-        Do::Opens(count) | Do::Closes(count) | Do::Adds(count) => {
-            many(rt, alloc, side, what, count)?;
-            Ok(Replies::none())
-        }
-        _ if is_call(what) => make(alloc, side, what),
-        _ => Ok(other(rt, side, what)),
-    }
+/// No reply is wanted of an event that has none.
+fn assert_unanswered(rt: &impl Abort, wanted: &[Told]) {
+    assert!(rt; wanted.is_empty());
 }
 
 /// All replies of an event are those wanted.
 fn compare_all(rt: &impl Abort, side: &AppSide<Actor>, replies: &Replies, wanted: &[Told]) {
     let rest = compare(rt, side, replies, wanted);
-    assert!(rt; rest.is_empty());
+    assert_unanswered(rt, rest);
+}
+
+/// Makes an event whose replies all come at once, and compares them.
+fn run_event(
+    rt: &impl Abort,
+    alloc: Global,
+    side: &mut AppSide<Actor>,
+    what: Do,
+    wanted: &[Told],
+) -> Result<(), NoMemory>
+    ensures { OnOk result (is_lost side.new ≡ is_lost side.old) }
+{
+    let replies = if is_call(what) {
+        make(alloc, side, what)?
+    } else {
+        other(rt, side, what)
+    };
+    compare_all(rt, side, &replies, wanted);
+    drop(replies);
+    Ok(())
+}
+
+/// The power is lost, and comes back.
+fn run_restart(
+    rt: &impl Abort,
+    alloc: Global,
+    side: &mut AppSide<Actor>,
+    store: &mut MapStore,
+    took: bool,
+    what: Do,
+) -> Result<(), NoMemory>
+    ensures { OnOk result (is_lost side.new ≡ store.new.lost) }
+{
+    lose(rt, side, what);
+    restart(rt, alloc, side, store, took)
 }
 
 /// Makes the event, and compares its replies.
@@ -442,22 +553,24 @@ fn run_row(
 {
     let (what, wanted) = row;
     match what {
-        Do::Turns(instance, count) => turns(rt, side, store, instance, count, wanted),
+        Do::Turns(instance, count) => {
+            turns(rt, side, store, instance, count, wanted);
+            Ok(())
+        }
         Do::LostTurn(instance) => {
-            let replies = lost_turn(rt, side, store, instance);
-            compare_all(rt, side, &replies, wanted);
+            lost_turn(rt, side, store, instance, wanted);
+            Ok(())
         }
         Do::Restart | Do::LoseAndRestart => {
-            assert!(rt; wanted.is_empty());
-            lose(rt, side, what);
-            restart(rt, alloc, side, store, took)?;
+            assert_unanswered(rt, wanted);
+            run_restart(rt, alloc, side, store, took, what)
         }
-        _ => {
-            let replies = make_event(rt, alloc, side, what)?;
-            compare_all(rt, side, &replies, wanted);
+        Do::Opens(count) | Do::Closes(count) | Do::Adds(count) => {
+            assert_unanswered(rt, wanted);
+            many(rt, alloc, side, what, count)
         }
+        _ => run_event(rt, alloc, side, what, wanted),
     }
-    Ok(())
 }
 
 /// Makes the event of each row, and compares its replies.
@@ -477,11 +590,34 @@ fn run(
     Ok(())
 }
 
-/// Makes the table's events with an application that has run nothing.
-pub fn check(rt: &impl Abort, alloc: Global, table: &Table) -> Result<(), Fail> {
-    let mut store = MapStore::new(alloc, table.failing)?;
+/// Makes the table's events with an application that has run nothing, over this store.
+fn check_over(
+    rt: &impl Abort,
+    alloc: Global,
+    store: &mut MapStore,
+    table: &Table,
+) -> Result<(), NoMemory>
+    requires { store.old.lost ≡ false }
+{
     let actor = Actor::new(table.create, table.unmasks);
-    let mut side = AppSide::new(alloc, host(alloc, table.properties, actor)?, 0, [0; 32])?;
-    run(rt, alloc, &mut side, &mut store, table)?;
+    let mut side = begun(alloc, table.properties, actor)?;
+    let ran = run(rt, alloc, &mut side, store, table);
+    drop(side);
+    ran
+}
+
+/// Makes the table's events with an application that has run nothing.
+fn check(rt: &impl Abort, alloc: Global, table: &Table) -> Result<(), NoMemory> {
+    let mut store = MapStore::new(alloc, table.failing)?;
+    let ran = check_over(rt, alloc, &mut store, table);
+    drop(store);
+    ran
+}
+
+/// Makes the events of each table with an application of its own.
+pub fn check_all(rt: &impl Abort, alloc: Global, tables: &[Table]) -> Result<(), NoMemory> {
+    for table in tables {
+        check(rt, alloc, table)?;
+    }
     Ok(())
 }

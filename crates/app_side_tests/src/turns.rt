@@ -4,13 +4,12 @@ ghost use Rattle.std.specs.Prelude.{◌≡◌, false};
 ghost use Rattle.app_side.specs.Represents.{is_lost};
 
 use super::probe::Probe;
-use super::tables::{self, MOST, host};
+use super::tables::{self, MOST, begun};
 use alone::{Reply, Shown};
 use app_api::{Param, Params};
 use app_side::{AppSide, Call, Replies, TurnKind, Turned};
 use std::alloc::Global;
 use std::process::Abort;
-use std::test::Fail;
 use store_api::{AppStore, MapStore};
 use tee_base::{Bytes, Code, NoMemory};
 
@@ -116,18 +115,39 @@ fn open() -> Call {
     }
 }
 
+fn call_open(alloc: Global, flags: u32, id: &[u8]) -> Result<Call, NoMemory> {
+    let id = Bytes::from_slice(alloc, id)?;
+    Ok(open_object(flags, id))
+}
+
+fn create_with(alloc: Global, flags: u32, id: &[u8], content: Bytes) -> Result<Call, NoMemory> {
+    match Bytes::from_slice(alloc, id) {
+        Ok(id) => Ok(create(flags, id, content)),
+        Err(error) => {
+            drop(content);
+            Err(error)
+        }
+    }
+}
+
+fn call_create(alloc: Global, flags: u32, id: &[u8], content: &[u8]) -> Result<Call, NoMemory> {
+    let content = Bytes::from_slice(alloc, content)?;
+    create_with(alloc, flags, id, content)
+}
+
+fn call_write(alloc: Global, object: u32, bytes: &[u8]) -> Result<Call, NoMemory> {
+    let bytes = Bytes::from_slice(alloc, bytes)?;
+    Ok(write(object, bytes))
+}
+
 fn call_of(alloc: Global, step: Step<'_>) -> Result<Call, NoMemory> {
     match step {
-        Step::Open(flags, id) => Ok(open_object(flags, Bytes::from_slice(alloc, id)?)),
-        Step::Create(flags, id, content) => {
-            let id = Bytes::from_slice(alloc, id)?;
-            let content = Bytes::from_slice(alloc, content)?;
-            Ok(create(flags, id, content))
-        }
+        Step::Open(flags, id) => call_open(alloc, flags, id),
+        Step::Create(flags, id, content) => call_create(alloc, flags, id, content),
         Step::Close(object) => Ok(about(3, object)),
         Step::Info(object) => Ok(about(6, object)),
         Step::Read(object, count) => Ok(read(object, count)),
-        Step::Write(object, bytes) => Ok(write(object, Bytes::from_slice(alloc, bytes)?)),
+        Step::Write(object, bytes) => call_write(alloc, object, bytes),
         Step::Again => Ok(open()),
     }
 }
@@ -165,6 +185,25 @@ fn count(rt: &impl Abort, replies: &Replies, wanted: Option<&Told<'_>>) -> usize
     replies.as_slice().len()
 }
 
+/// A turn of this kind, or a plain one: whether it is of this kind, and how many replies it has.
+fn run_turn<T: AppStore>(
+    rt: &impl Abort,
+    side: &mut AppSide<Probe>,
+    store: &mut T,
+    kind: TurnKind,
+    wanted: Option<&Told<'_>>,
+) -> (bool, usize)
+    requires { is_lost side.old ≡ (T.keeper.status store.old).lost }
+    ensures { is_lost side.new ≡ (T.keeper.status store.new).lost }
+{
+    let turned = turn(rt, side, store);
+    let of_kind = turned.kind == kind;
+    assert!(rt; of_kind || turned.kind == TurnKind::Plain);
+    let told = count(rt, &turned.replies, wanted);
+    drop(turned);
+    (of_kind, told)
+}
+
 /// Eight turns: enough for an entry with one ask. Some turn is of this kind, and one has the reply that is wanted.
 fn run<T: AppStore>(
     rt: &impl Abort,
@@ -179,10 +218,9 @@ fn run<T: AppStore>(
     let mut met = false;
     let mut replies = 0usize;
     for _ in 0..8u8 {
-        let turned = turn(rt, side, store);
-        met = met || turned.kind == kind;
-        assert!(rt; turned.kind == kind || turned.kind == TurnKind::Plain);
-        replies = replies.saturating_add(count(rt, &turned.replies, wanted));
+        let (of_kind, told) = run_turn(rt, side, store, kind, wanted);
+        met = met || of_kind;
+        replies = replies.saturating_add(told);
     }
     assert!(rt; met && replies == 1);
 }
@@ -191,7 +229,8 @@ fn run<T: AppStore>(
 fn call(side: &mut AppSide<Probe>, call: Call) -> Result<(), NoMemory>
     ensures { is_lost side.new ≡ is_lost side.old }
 {
-    side.call(0, call)?;
+    let called = side.call(0, call)?;
+    drop(called);
     Ok(())
 }
 
@@ -205,7 +244,8 @@ fn make(alloc: Global, side: &mut AppSide<Probe>, step: Step<'_>) -> Result<(), 
     if matches!(step, Step::Again) {
         call(side, Call::Close { label: 1 })?;
     }
-    call(side, call_of(alloc, step)?)
+    let made = call_of(alloc, step)?;
+    call(side, made)
 }
 
 /// Opens a session, and makes the steps.
@@ -233,12 +273,33 @@ pub fn check_over<T: AppStore>(
     alloc: Global,
     store: &mut T,
     steps: &[Row],
-) -> Result<(), Fail>
+) -> Result<(), NoMemory>
     requires { (T.keeper.status store.old).lost ≡ false }
 {
-    let host = host(alloc, tables::PLAIN.properties, Probe { number: 0 })?;
-    let mut side = AppSide::new(alloc, host, 0, [0; 32])?;
-    make_steps(rt, alloc, &mut side, store, steps)?;
+    let mut side = begun(alloc, tables::PLAIN.properties, Probe { number: 0 })?;
+    let ran = make_steps(rt, alloc, &mut side, store, steps);
+    drop(side);
+    ran
+}
+
+/// Makes the steps over a store of which these calls fail.
+fn check_failing(
+    rt: &impl Abort,
+    alloc: Global,
+    failing: &[u64],
+    steps: &[Row],
+) -> Result<(), NoMemory> {
+    let mut store = MapStore::new(alloc, failing)?;
+    let ran = check_over(rt, alloc, &mut store, steps);
+    drop(store);
+    ran
+}
+
+/// Makes the steps of each table.
+fn check_all(rt: &impl Abort, alloc: Global, tables: &[(&[u64], &[Row])]) -> Result<(), NoMemory> {
+    for (failing, steps) in tables {
+        check_failing(rt, alloc, failing, steps)?;
+    }
     Ok(())
 }
 
@@ -340,10 +401,6 @@ const TABLES: &[(&[u64], &[Row])] = &[
 ];
 
 #[test]
-fn objects_are_kept_shared_and_lost(rt: HostRuntime) -> Result<(), Fail> {
-    for (failing, steps) in TABLES {
-        let mut store = MapStore::new(rt.alloc(), failing)?;
-        check_over(&rt, rt.alloc(), &mut store, steps)?;
-    }
-    Ok(())
+fn objects_are_kept_shared_and_lost(rt: HostRuntime) -> Result<(), NoMemory> {
+    check_all(&rt, rt.alloc(), TABLES)
 }
