@@ -5,9 +5,8 @@ use damaged_store::{Damaged, Meets};
 use object_asks::{Held, TurnKind};
 use std::alloc::Global;
 use std::process::Abort;
-use std::test::Fail;
 use store_api::MapStore;
-use tee_base::Code;
+use tee_base::{Code, NoMemory};
 
 const DAMAGED: TurnKind = TurnKind::Corrupted;
 
@@ -44,16 +43,34 @@ const ROWS: &[Row] = &[
     (1, Do::Close(1), PLAIN, PANICKED),
 ];
 
-fn run_damaged(rt: &impl Abort, alloc: Global, met: Meets) -> Result<(), Fail> {
-    let mut held = Held::new(alloc);
-    let mut whole = MapStore::new(alloc, &[])?;
-    run(rt, alloc, &mut held, &mut whole, WHOLE)?;
+/// Makes the objects over a store that serves.
+fn make_whole(rt: &impl Abort, alloc: Global, held: &mut Held) -> Result<(), NoMemory> {
+    let mut store = MapStore::new(alloc, &[])?;
+    let ran = run(rt, alloc, held, &mut store, WHOLE);
+    drop(store);
+    ran
+}
+
+/// Asks for them over one that is damaged.
+fn meet(rt: &impl Abort, alloc: Global, held: &mut Held, met: Meets) -> Result<(), NoMemory> {
     let mut store = Damaged::always(met);
-    run(rt, alloc, &mut held, &mut store, ROWS)
+    let ran = run(rt, alloc, held, &mut store, ROWS);
+    drop(store);
+    ran
+}
+
+fn run_damaged(rt: &impl Abort, alloc: Global, met: Meets) -> Result<(), NoMemory> {
+    let mut held = Held::new(alloc);
+    let ran = match make_whole(rt, alloc, &mut held) {
+        Ok(()) => meet(rt, alloc, &mut held, met),
+        Err(error) => Err(error),
+    };
+    drop(held);
+    ran
 }
 
 #[test]
-fn damage_is_told_and_a_delete_ends_the_handle(rt: HostRuntime) -> Result<(), Fail> {
+fn damage_is_told_and_a_delete_ends_the_handle(rt: HostRuntime) -> Result<(), NoMemory> {
     run_damaged(&rt, rt.alloc(), Meets::OtherTag)?;
     run_damaged(&rt, rt.alloc(), Meets::BrokenRule)
 }

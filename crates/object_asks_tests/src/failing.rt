@@ -4,7 +4,9 @@ use super::rows::{
     AES, ALL, DONE, DOUBT, Do, GONE, LOST, MADE, META, NO_BYTES, NOT_FOUND, OVERFLOW, PANICKED,
     PLAIN, Row, Told, UNSUPPORTED, run_table,
 };
-use std::test::Fail;
+use std::alloc::Global;
+use std::process::Abort;
+use tee_base::NoMemory;
 
 /// The number of the call that fails, from 0 on, and the rows.
 type Failing = (u64, &'static [Row]);
@@ -246,14 +248,26 @@ const WITHOUT_THE_STORE: &[Row] = &[
     (1, Do::Close(1), PLAIN, PANICKED),
 ];
 
-const TABLES: &[&[Failing]] = &[OPENING, CHANGING, READING, &[(1, WITHOUT_THE_STORE)]];
-
-#[test]
-fn a_failed_call_leaves_what_is_stated(rt: HostRuntime) -> Result<(), Fail> {
-    for tables in TABLES {
-        for (call, rows) in *tables {
-            run_table(&rt, rt.alloc(), &[*call], rows)?;
-        }
+/// The rows of each table over an empty store of which its call fails.
+fn run_failing(rt: &impl Abort, alloc: Global, tables: &[Failing]) -> Result<(), NoMemory> {
+    for (call, rows) in tables {
+        run_table(rt, alloc, &[*call], rows)?;
     }
     Ok(())
+}
+
+#[test]
+fn a_failed_open_or_change_leaves_what_is_stated(rt: HostRuntime) -> Result<(), NoMemory> {
+    run_failing(&rt, rt.alloc(), OPENING)?;
+    run_failing(&rt, rt.alloc(), CHANGING)
+}
+
+#[test]
+fn a_failed_read_leaves_what_is_stated(rt: HostRuntime) -> Result<(), NoMemory> {
+    run_failing(&rt, rt.alloc(), READING)
+}
+
+#[test]
+fn what_needs_no_store_goes_on(rt: HostRuntime) -> Result<(), NoMemory> {
+    run_table(&rt, rt.alloc(), &[1], WITHOUT_THE_STORE)
 }

@@ -1,15 +1,14 @@
 //! Asks about keys in memory, and about the keys of persistent objects.
 
 use super::rows::{
-    AES, BAD, DATA, DONE, Do, EVERY, META, NOT_FOUND, PANICKED, PLAIN, Row, Told, UNSUPPORTED, run,
-    run_table,
+    AES, BAD, DATA, DONE, Do, EVERY, META, NOT_FOUND, PANICKED, PLAIN, Row, Told, UNSUPPORTED,
+    assert_row, run, run_tables,
 };
 use object_asks::{Held, KeyFound, generate, key_of, random_wanted};
 use std::alloc::Global;
 use std::process::Abort;
-use std::test::Fail;
 use store_api::MapStore;
-use tee_base::keys;
+use tee_base::{NoMemory, keys};
 
 const SEVENS: &[u8] = &[7; 24];
 
@@ -146,10 +145,12 @@ const COPY_AND_RESTRICT: &[Row] = &[
 ];
 
 #[test]
-fn each_ask_about_keys(rt: HostRuntime) -> Result<(), Fail> {
-    run_table(&rt, rt.alloc(), &[], NEW_AND_POPULATE)?;
-    run_table(&rt, rt.alloc(), &[], SECRET)?;
-    run_table(&rt, rt.alloc(), &[], COPY_AND_RESTRICT)
+fn each_ask_about_keys(rt: HostRuntime) -> Result<(), NoMemory> {
+    run_tables(
+        &rt,
+        rt.alloc(),
+        &[NEW_AND_POPULATE, SECRET, COPY_AND_RESTRICT],
+    )
 }
 
 /// Two keys in memory, the first initialised, and an object of each kind.
@@ -193,29 +194,41 @@ fn bits_of(
     held: &Held,
     store: &mut MapStore,
     object: u32,
-) -> Result<Option<usize>, Fail> {
-    match key_of(alloc, held, store, 1, object)?.found {
-        KeyFound::Key(key) => Ok(Some(8 * key.secret.len())),
-        _ => Ok(None),
+) -> Result<Option<usize>, NoMemory> {
+    let lent = key_of(alloc, held, store, 1, object)?;
+    let bits = match &lent.found {
+        KeyFound::Key(key) => Some(8 * key.secret.len()),
+        _ => None,
+    };
+    drop(lent);
+    Ok(bits)
+}
+
+/// Each key takes as many random bytes as are stated.
+fn wants(rt: &impl Abort, held: &Held, stated: &[(u32, u32, Option<u32>)]) {
+    for (place, (object, bits, wanted)) in stated.iter().enumerate() {
+        let found = random_wanted(held, 1, *object, *bits);
+        assert_row(rt, found == *wanted, place);
     }
 }
 
 fn generates(rt: &impl Abort, held: &mut Held) {
-    for (object, bits, wanted) in GENERATED {
-        assert!(rt;
-            random_wanted(held, 1, *object, *bits) == *wanted,
-            "{object} {bits}"
-        );
-    }
+    wants(rt, held, GENERATED);
     assert!(rt; random_wanted(held, 1, 2, 128) == Some(16));
     generate(held, 1, 2, &[3; 16]);
 }
 
 /// Each object gives the key that is stated.
-fn gives(rt: &impl Abort, alloc: Global, held: &Held, store: &mut MapStore) -> Result<(), Fail> {
-    for (object, wanted) in GIVEN {
+fn gives(
+    rt: &impl Abort,
+    alloc: Global,
+    held: &Held,
+    store: &mut MapStore,
+    stated: &[(u32, Option<usize>)],
+) -> Result<(), NoMemory> {
+    for (place, (object, wanted)) in stated.iter().enumerate() {
         let bits = bits_of(alloc, held, store, *object)?;
-        assert!(rt; bits == *wanted, "{object}");
+        assert_row(rt, bits == *wanted, place);
     }
     Ok(())
 }
@@ -232,18 +245,26 @@ fn generated_given_and_closed(
     alloc: Global,
     held: &mut Held,
     store: &mut MapStore,
-) -> Result<(), Fail> {
+) -> Result<(), NoMemory> {
     run(rt, alloc, held, store, OF_BOTH_SORTS)?;
     generates(rt, held);
     run(rt, alloc, held, store, MADE_OF_THREES)?;
-    gives(rt, alloc, held, store)?;
+    gives(rt, alloc, held, store, GIVEN)?;
     held.close_instance(1);
     run(rt, alloc, held, store, ENDED)
 }
 
+fn run_keys(rt: &impl Abort, alloc: Global, store: &mut MapStore) -> Result<(), NoMemory> {
+    let mut held = Held::new(alloc);
+    let ran = generated_given_and_closed(rt, alloc, &mut held, store);
+    drop(held);
+    ran
+}
+
 #[test]
-fn random_keys_and_those_of_operations(rt: HostRuntime) -> Result<(), Fail> {
+fn random_keys_and_those_of_operations(rt: HostRuntime) -> Result<(), NoMemory> {
     let mut store = MapStore::new(rt.alloc(), &[])?;
-    let mut held = Held::new(rt.alloc());
-    generated_given_and_closed(&rt, rt.alloc(), &mut held, &mut store)
+    let ran = run_keys(&rt, rt.alloc(), &mut store);
+    drop(store);
+    ran
 }

@@ -2,6 +2,7 @@
 //! memory, and serves, fails and is lost as a table says, or tells of damage.
 #![tactic(auto)]
 
+pub mod content;
 #[cfg(test)]
 mod damaged;
 #[cfg(test)]

@@ -1,7 +1,7 @@
 //! Asks about enumerators.
 
-use super::rows::{BUSY, DATA, DONE, Do, EVERY, NOT_FOUND, PANICKED, PLAIN, Row, Told, run_table};
-use std::test::Fail;
+use super::rows::{BUSY, DATA, DONE, Do, EVERY, NOT_FOUND, PANICKED, PLAIN, Row, Told, run_tables};
+use tee_base::NoMemory;
 
 const NUMBERS: &[Row] = &[
     (1, Do::ListNew, PLAIN, Told::Number(1)),
@@ -78,7 +78,6 @@ const WALK: &[Row] = &[
 ];
 
 #[test]
-fn each_ask_about_enumerators(rt: HostRuntime) -> Result<(), Fail> {
-    run_table(&rt, rt.alloc(), &[], NUMBERS)?;
-    run_table(&rt, rt.alloc(), &[], WALK)
+fn each_ask_about_enumerators(rt: HostRuntime) -> Result<(), NoMemory> {
+    run_tables(&rt, rt.alloc(), &[NUMBERS, WALK])
 }

@@ -2,9 +2,9 @@
 
 use super::rows::{
     AES, ALL, BUSY, CONFLICT, DATA, DONE, Do, EVERY, MADE, META, NO_BYTES, NO_SPACE, NOT_FOUND,
-    OVERFLOW, PANICKED, PLAIN, Row, Told, UNSUPPORTED, run_table,
+    OVERFLOW, PANICKED, PLAIN, Row, Told, UNSUPPORTED, run_tables,
 };
-use std::test::Fail;
+use tee_base::NoMemory;
 
 /// The longest identifier, and one that is too long.
 const LONGEST: &[u8] = &[7; 64];
@@ -347,24 +347,32 @@ const FULL: &[Row] = &[
     (1, KEY, PLAIN, Told::Number(7)),
 ];
 
-const TABLES: &[&[Row]] = &[
-    SHARED,
-    OPEN,
-    CREATE,
-    CLOSE_AND_DELETE,
-    RENAME,
-    INFO,
-    READ,
-    WRITE,
-    TRUNCATE,
-    SEEK,
-    FULL,
-];
+/// Handles are opened and closed.
+const OPENING: &[&[Row]] = &[SHARED, OPEN, CREATE];
+
+/// Objects end, and get other names.
+const NAMING: &[&[Row]] = &[CLOSE_AND_DELETE, RENAME, INFO];
+
+const CONTENT: &[&[Row]] = &[READ, WRITE];
+
+const PLACES: &[&[Row]] = &[TRUNCATE, SEEK, FULL];
 
 #[test]
-fn each_ask_about_objects(rt: HostRuntime) -> Result<(), Fail> {
-    for rows in TABLES {
-        run_table(&rt, rt.alloc(), &[], rows)?;
-    }
-    Ok(())
+fn handles_are_opened(rt: HostRuntime) -> Result<(), NoMemory> {
+    run_tables(&rt, rt.alloc(), OPENING)
+}
+
+#[test]
+fn objects_end_and_are_named(rt: HostRuntime) -> Result<(), NoMemory> {
+    run_tables(&rt, rt.alloc(), NAMING)
+}
+
+#[test]
+fn content_is_read_and_written(rt: HostRuntime) -> Result<(), NoMemory> {
+    run_tables(&rt, rt.alloc(), CONTENT)
+}
+
+#[test]
+fn places_and_handles_have_limits(rt: HostRuntime) -> Result<(), NoMemory> {
+    run_tables(&rt, rt.alloc(), PLACES)
 }

@@ -1,10 +1,10 @@
 //! Rows of asks with what comes of them, and how they are run.
 
+use crate::content::zeros;
 use app_api::{Answer, Ask};
 use object_asks::{Held, Outcome, Served, TurnKind, serve};
 use std::alloc::Global;
 use std::process::Abort;
-use std::test::Fail;
 use store_api::{AppStore, MapStore};
 use tee_base::{Bytes, Code, NoMemory, keys};
 
@@ -138,62 +138,103 @@ fn plain_ask(what: Do) -> Ask {
     }
 }
 
-fn zeros(alloc: Global, count: u32) -> Result<Bytes, NoMemory> {
-    let mut bytes = Vec::new(alloc);
-    bytes.resize(count as usize, 0u8)?;
-    Ok(Bytes::from_vec(bytes))
+/// The bytes that the ask brings: the content where it has one beside an identifier.
+fn bytes_of(alloc: Global, what: Do) -> Result<Bytes, NoMemory> {
+    match what {
+        Do::Open(_, _, bytes)
+        | Do::Create(_, _, _, _, bytes)
+        | Do::Rename(_, bytes)
+        | Do::Write(_, bytes)
+        | Do::KeyPopulate(_, bytes) => Bytes::from_slice(alloc, bytes),
+        Do::CreateZeros(_, count) | Do::WriteZeros(_, count) => zeros(alloc, count),
+        _ => Ok(Bytes::empty(alloc)),
+    }
+}
+
+/// An ask that makes no object, with these bytes if it brings some.
+fn with_bytes(what: Do, bytes: Bytes) -> Ask {
+    match what {
+        Do::Open(storage, flags, _) => Ask::ObjOpen {
+            storage,
+            id: bytes,
+            flags,
+        },
+        Do::Rename(object, _) => Ask::ObjRename { object, id: bytes },
+        Do::Write(object, _) | Do::WriteZeros(object, _) => Ask::ObjWrite { object, bytes },
+        Do::KeyPopulate(object, _) => Ask::KeyPopulate {
+            object,
+            secret: bytes,
+        },
+        _ => {
+            drop(bytes);
+            plain_ask(what)
+        }
+    }
+}
+
+fn create(
+    alloc: Global,
+    storage: u32,
+    flags: u32,
+    id: &[u8],
+    attr: u32,
+    content: Bytes,
+) -> Result<Ask, NoMemory> {
+    match Bytes::from_slice(alloc, id) {
+        Ok(id) => Ok(Ask::ObjCreate {
+            storage,
+            id,
+            flags,
+            attr,
+            content,
+        }),
+        Err(error) => {
+            drop(content);
+            Err(error)
+        }
+    }
 }
 
 fn ask(alloc: Global, what: Do) -> Result<Ask, NoMemory> {
+    let bytes = bytes_of(alloc, what)?;
     match what {
-        Do::Open(storage, flags, id) => Ok(Ask::ObjOpen {
-            storage,
-            id: Bytes::from_slice(alloc, id)?,
-            flags,
-        }),
-        Do::Create(storage, flags, id, attr, content) => Ok(Ask::ObjCreate {
-            storage,
-            id: Bytes::from_slice(alloc, id)?,
-            flags,
-            attr,
-            content: Bytes::from_slice(alloc, content)?,
-        }),
-        Do::CreateZeros(id, count) => Ok(Ask::ObjCreate {
-            storage: 1,
-            id: Bytes::from_slice(alloc, id)?,
-            flags: META,
-            attr: 0,
-            content: zeros(alloc, count)?,
-        }),
-        Do::Rename(object, id) => Ok(Ask::ObjRename {
-            object,
-            id: Bytes::from_slice(alloc, id)?,
-        }),
-        Do::Write(object, bytes) => Ok(Ask::ObjWrite {
-            object,
-            bytes: Bytes::from_slice(alloc, bytes)?,
-        }),
-        Do::WriteZeros(object, count) => Ok(Ask::ObjWrite {
-            object,
-            bytes: zeros(alloc, count)?,
-        }),
-        Do::KeyPopulate(object, secret) => Ok(Ask::KeyPopulate {
-            object,
-            secret: Bytes::from_slice(alloc, secret)?,
-        }),
-        other => Ok(plain_ask(other)),
+        Do::Create(storage, flags, id, attr, _) => create(alloc, storage, flags, id, attr, bytes),
+        Do::CreateZeros(id, _) => create(alloc, 1, META, id, 0, bytes),
+        _ => Ok(with_bytes(what, bytes)),
     }
+}
+
+fn is_number(number: u32, wanted: &Told) -> bool {
+    matches!(wanted, Told::Number(wanted) if *wanted == number)
+}
+
+fn is_content(bytes: &[u8], wanted: &Told) -> bool {
+    matches!(wanted, Told::Bytes(wanted) if *wanted == bytes)
+}
+
+fn is_short(needed: u32, wanted: &Told) -> bool {
+    matches!(wanted, Told::Short(wanted) if *wanted == needed)
+}
+
+fn is_object(facts: [u32; 7], wanted: &Told) -> bool {
+    matches!(wanted, Told::Object(wanted) if *wanted == facts)
+}
+
+fn is_found(id: &[u8], facts: [u32; 3], wanted: &Told) -> bool {
+    matches!(wanted, Told::Found(wanted, rest) if *wanted == id && *rest == facts)
+}
+
+fn is_refused(code: Code, wanted: &Told) -> bool {
+    matches!(wanted, Told::Refused(wanted) if *wanted == code)
 }
 
 /// Whether the answer is the one that is wanted.
 fn answers(answer: &Answer, wanted: &Told) -> bool {
     match answer {
         Answer::Done => matches!(wanted, Told::Done),
-        Answer::Number(number) => matches!(wanted, Told::Number(wanted) if wanted == number),
-        Answer::Content(bytes) => {
-            matches!(wanted, Told::Bytes(wanted) if *wanted == bytes.as_slice())
-        }
-        Answer::Short(needed) => matches!(wanted, Told::Short(wanted) if wanted == needed),
+        Answer::Number(number) => is_number(*number, wanted),
+        Answer::Content(bytes) => is_content(bytes.as_slice(), wanted),
+        Answer::Short(needed) => is_short(*needed, wanted),
         Answer::Object {
             kind,
             bits,
@@ -204,18 +245,15 @@ fn answers(answer: &Answer, wanted: &Told) -> bool {
             flags,
         } => {
             let facts = [*kind, *bits, *max_bits, *usage, *length, *position, *flags];
-            matches!(wanted, Told::Object(wanted) if *wanted == facts)
+            is_object(facts, wanted)
         }
         Answer::Found {
             id,
             kind,
             usage,
             length,
-        } => {
-            let facts = [*kind, *usage, *length];
-            matches!(wanted, Told::Found(wanted, rest) if *wanted == id.as_slice() && *rest == facts)
-        }
-        Answer::Refused(code) => matches!(wanted, Told::Refused(wanted) if wanted == code),
+        } => is_found(id.as_slice(), [*kind, *usage, *length], wanted),
+        Answer::Refused(code) => is_refused(*code, wanted),
         _ => false,
     }
 }
@@ -240,7 +278,14 @@ fn holds<T: AppStore>(
     let (instance, what, kind, wanted) = row;
     let ask = ask(alloc, *what)?;
     let served = serve(alloc, held, store, *instance, ask)?;
-    Ok(comes(&served, *kind, wanted))
+    let holds = comes(&served, *kind, wanted);
+    drop(served);
+    Ok(holds)
+}
+
+/// The row at this place of its table holds.
+pub fn assert_row(rt: &impl Abort, holds: bool, place: usize) {
+    assert!(rt; holds, "row {place}");
 }
 
 /// Makes the ask of each row, and compares what came of it.
@@ -250,11 +295,25 @@ pub fn run<T: AppStore>(
     held: &mut Held,
     store: &mut T,
     rows: &[Row],
-) -> Result<(), Fail> {
+) -> Result<(), NoMemory> {
     for (place, row) in rows.iter().enumerate() {
-        assert!(rt; holds(alloc, held, store, row)?, "row {place}");
+        let holds = holds(alloc, held, store, row)?;
+        assert_row(rt, holds, place);
     }
     Ok(())
+}
+
+/// The rows over this store, of which nothing is open.
+fn run_over<T: AppStore>(
+    rt: &impl Abort,
+    alloc: Global,
+    store: &mut T,
+    rows: &[Row],
+) -> Result<(), NoMemory> {
+    let mut held = Held::new(alloc);
+    let ran = run(rt, alloc, &mut held, store, rows);
+    drop(held);
+    ran
 }
 
 /// The rows over an empty store of which these calls fail.
@@ -263,8 +322,17 @@ pub fn run_table(
     alloc: Global,
     failing: &[u64],
     rows: &[Row],
-) -> Result<(), Fail> {
-    let mut held = Held::new(alloc);
+) -> Result<(), NoMemory> {
     let mut store = MapStore::new(alloc, failing)?;
-    run(rt, alloc, &mut held, &mut store, rows)
+    let ran = run_over(rt, alloc, &mut store, rows);
+    drop(store);
+    ran
+}
+
+/// The rows of each table over an empty store that serves.
+pub fn run_tables(rt: &impl Abort, alloc: Global, tables: &[&[Row]]) -> Result<(), NoMemory> {
+    for rows in tables {
+        run_table(rt, alloc, &[], rows)?;
+    }
+    Ok(())
 }
