@@ -1,5 +1,6 @@
-//! A table of commands on a store in memory, and each call once.
+//! Rows of calls on a store in memory.
 #![tactic(auto)]
 
 #[cfg(test)]
 mod calls;
+pub mod identifiers;
