@@ -2,5 +2,8 @@
 //! and older images.
 #![tactic(auto)]
 
+pub mod filling;
+#[cfg(test)]
+mod steps;
 #[cfg(test)]
 mod volumes;

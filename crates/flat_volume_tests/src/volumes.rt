@@ -1,12 +1,15 @@
-use board::Board;
+//! A flat volume from an image on: commits, failures of the board, losses of power, and what is refused.
+
+use super::steps::{Row, opened, run};
+use crate::filling::{NEW, OLD};
+use board::{Board, BoardFailed};
 use boards::MemBoard;
-use epoch::{BoardVolume, FLAT_VERSION, Header, OpenAnswer, TreeEntry, flip, lay};
-use flat_volume::FlatVolume;
+use epoch::{FLAT_VERSION, Header, OpenAnswer, TreeEntry, flip, lay};
 use std::alloc::Global;
 use std::process::Abort;
 use std::test::Fail;
-use store_api::{Leaf, LeafAnswer, Leaves, Volume};
-use tee_base::Bytes;
+use store_api::LeafAnswer;
+use tee_base::{Bytes, NoMemory};
 
 const KEY: [u8; 32] = [7; 32];
 
@@ -28,214 +31,193 @@ fn pick_of(call: u64) -> u64 {
     }
 }
 
-fn opened(alloc: Global, board: MemBoard) -> Result<FlatVolume<MemBoard>, OpenAnswer> {
-    match FlatVolume::open(alloc, board) {
-        Ok(volume) => Ok(volume),
-        Err(unopened) => Err(unopened.why),
-    }
-}
+/// A blank board.
+const FIRST: &[Row] = &[
+    Row::Sequence(1),
+    Row::Filled(0),
+    Row::Replace(OLD, Ok(2)),
+    Row::Filled(OLD),
+];
 
-/// One leaf, filled with a byte.
-fn leaf_of(alloc: Global, number: u8, byte: u8) -> Result<Leaves, Fail> {
-    let mut leaves = Leaves::none(alloc);
-    leaves.push(Leaf {
-        number,
-        bytes: [byte; 1024],
-    })?;
-    Ok(leaves)
-}
-
-/// Replaces leaf 5 of region 2 by one filled with a byte.
-fn replace(
-    alloc: Global,
-    volume: &mut FlatVolume<MemBoard>,
-    byte: u8,
-) -> Result<Result<u64, LeafAnswer>, Fail> {
-    let leaves = leaf_of(alloc, 5, byte)?;
-    Ok(volume.commit(2, &leaves))
-}
-
-/// That leaf is filled with a byte, and its neighbour with zeros.
-fn is_filled(
-    rt: &impl Abort,
-    volume: &mut FlatVolume<MemBoard>,
-    byte: u8,
-) -> Result<(), LeafAnswer> {
-    let mut bytes = [1; 1024];
-    volume.read_leaf(2, 5, &mut bytes)?;
-    assert!(rt; bytes == [byte; 1024]);
-    volume.read_leaf(2, 6, &mut bytes)?;
-    assert!(rt; bytes == [0; 1024]);
-    Ok(())
-}
-
-/// An image of sequence 2, whose leaf is filled with 0x11.
+/// An image of sequence 2, whose leaf is filled with the old byte.
 fn image_of_two(rt: &impl Abort, alloc: Global) -> Result<Bytes, Fail> {
-    let mut volume = opened(alloc, MemBoard::blank(alloc, KEY, BLOCKS)?)?;
-    assert!(rt; volume.sequence() == 1);
-    is_filled(rt, &mut volume, 0)?;
-    assert!(rt; replace(alloc, &mut volume, 0x11)? == Ok(2));
-    is_filled(rt, &mut volume, 0x11)?;
-    Ok(volume.into_board().image(alloc)?)
+    let board = run(rt, alloc, MemBoard::blank(alloc, KEY, BLOCKS)?, FIRST)?;
+    let image = board.image(alloc);
+    drop(board);
+    Ok(image?)
 }
 
-/// A board with this image.
-fn board_of(rt: &impl Abort, alloc: Global, image: &Bytes, counter: u64) -> Result<MemBoard, Fail> {
+/// A board with this image, whose calls with the numbers in `failing` fail.
+fn board_of(
+    rt: &impl Abort,
+    alloc: Global,
+    image: &Bytes,
+    counter: u64,
+    failing: &[u64],
+) -> Result<MemBoard, NoMemory> {
     let image = image.copy(alloc)?;
     assert!(rt; image.as_slice().len() % 1024 == 0);
-    Ok(MemBoard::of_image(alloc, image, counter, KEY)?)
+    let mut board = MemBoard::of_image(alloc, image, counter, KEY)?;
+    board.failing(failing)?;
+    Ok(board)
+}
+
+/// Makes the calls in order on the volume of such a board, and answers the board's counter behind them, if it is told.
+fn run_over(
+    rt: &impl Abort,
+    alloc: Global,
+    image: &Bytes,
+    counter: u64,
+    failing: &[u64],
+    rows: &[Row],
+) -> Result<Option<u64>, Fail> {
+    let board = board_of(rt, alloc, image, counter, failing)?;
+    let mut board = run(rt, alloc, board, rows)?;
+    let counter = board.counter();
+    drop(board);
+    Ok(counter.ok())
 }
 
 /// Two commits behind sequence 2, and an opening again.
-fn commit_twice(
-    rt: &impl Abort,
-    alloc: Global,
-    volume: &mut FlatVolume<MemBoard>,
-) -> Result<(), Fail> {
-    assert!(rt; volume.sequence() == 2);
-    is_filled(rt, volume, 0x11)?;
-    assert!(rt; replace(alloc, volume, 0x22)? == Ok(3));
-    assert!(rt; replace(alloc, volume, 0x33)? == Ok(4));
-    assert!(rt; volume.reopen()? == 4);
-    is_filled(rt, volume, 0x33)?;
-    Ok(())
-}
+const TWICE: &[Row] = &[
+    Row::Sequence(2),
+    Row::Filled(OLD),
+    Row::Replace(NEW, Ok(3)),
+    Row::Replace(0x33, Ok(4)),
+    Row::Reopen(4),
+    Row::Filled(0x33),
+];
 
 #[test]
 fn a_commit_is_found_at_the_next_opening(rt: HostRuntime) -> Result<(), Fail> {
     let image = image_of_two(&rt, rt.alloc())?;
     for counter in [1, 2] {
-        let board = board_of(&rt, rt.alloc(), &image, counter)?;
-        let mut volume = opened(rt.alloc(), board)?;
-        commit_twice(&rt, rt.alloc(), &mut volume)?;
-        assert!(rt; volume.into_board().counter()? == 4);
+        assert!(rt; run_over(&rt, rt.alloc(), &image, counter, &[], TWICE)? == Some(4));
     }
     Ok(())
 }
 
-/// An image with a header of sequence 0, whose root stands for zeros.
-fn image_of_zero(alloc: Global) -> Result<Bytes, Fail> {
-    let header = Header {
-        version: FLAT_VERSION,
+/// A header of sequence 0, whose root stands for zeros.
+const OF_ZERO: Header = Header {
+    version: FLAT_VERSION,
+    sequence: 0,
+    root: TreeEntry {
+        copy: 1,
         sequence: 0,
-        root: TreeEntry {
-            copy: 1,
-            sequence: 0,
-            iv: [0; 16],
-            tag: [0; 32],
-        },
-    };
-    let mut board = MemBoard::blank(alloc, KEY, BLOCKS)?;
-    lay(&mut board, &header)?;
-    flip(&mut board, 0)?;
+        iv: [0; 16],
+        tag: [0; 32],
+    },
+};
+
+/// Gives the board a header of sequence 0.
+fn begin_at_zero<B: Board>(rt: &impl Abort, board: &mut B) -> Result<(), BoardFailed> {
+    assert!(rt; board.blocks() >= 4);
+    lay(board, &OF_ZERO)?;
+    flip(board, 0)?;
+    Ok(())
+}
+
+/// What the board's image is then.
+fn zero_image(rt: &impl Abort, alloc: Global, board: &mut MemBoard) -> Result<Bytes, Fail> {
+    begin_at_zero(rt, board)?;
     Ok(board.image(alloc)?)
 }
 
+/// An image with a header of sequence 0.
+fn image_of_zero(rt: &impl Abort, alloc: Global) -> Result<Bytes, Fail> {
+    let mut board = MemBoard::blank(alloc, KEY, BLOCKS)?;
+    let image = zero_image(rt, alloc, &mut board);
+    drop(board);
+    image
+}
+
 /// The first commit behind sequence 0, between two losses of power.
-fn begin_at_zero(
-    rt: &impl Abort,
-    alloc: Global,
-    volume: &mut FlatVolume<MemBoard>,
-    pick: u64,
-) -> Result<(), Fail> {
-    assert!(rt; volume.sequence() == 0);
-    assert!(rt; volume.reopen()? == 0);
-    is_filled(rt, volume, 0)?;
-    assert!(rt; volume.power(pick)? == 0);
-    assert!(rt; replace(alloc, volume, 0x11)? == Ok(1));
-    assert!(rt; volume.power(pick)? == 1);
-    is_filled(rt, volume, 0x11)?;
-    Ok(())
+fn rows_at_zero(pick: u64) -> [Row; 7] {
+    [
+        Row::Sequence(0),
+        Row::Reopen(0),
+        Row::Filled(0),
+        Row::Power(pick, 0),
+        Row::Replace(0x11, Ok(1)),
+        Row::Power(pick, 1),
+        Row::Filled(0x11),
+    ]
 }
 
 #[test]
 fn a_header_of_sequence_0_is_opened(rt: HostRuntime) -> Result<(), Fail> {
-    let image = image_of_zero(rt.alloc())?;
+    let image = image_of_zero(&rt, rt.alloc())?;
     for pick in [0, 1] {
-        let board = board_of(&rt, rt.alloc(), &image, 0)?;
-        let mut volume = opened(rt.alloc(), board)?;
-        begin_at_zero(&rt, rt.alloc(), &mut volume, pick)?;
+        run_over(&rt, rt.alloc(), &image, 0, &[], &rows_at_zero(pick))?;
     }
     Ok(())
+}
+
+const REFUSED: OpenAnswer = OpenAnswer::Rollback {
+    sequence: 2,
+    counter: 3,
+};
+
+/// Whether the board isn't opened, since its image is older than its counter.
+fn is_refused(alloc: Global, board: MemBoard) -> bool {
+    match opened(alloc, board) {
+        Ok(_) => false,
+        Err(why) => why == REFUSED,
+    }
 }
 
 #[test]
 fn an_older_image_is_refused(rt: HostRuntime) -> Result<(), Fail> {
     let image = image_of_two(&rt, rt.alloc())?;
-    let board = board_of(&rt, rt.alloc(), &image, 3)?;
-    let refused = OpenAnswer::Rollback {
-        sequence: 2,
-        counter: 3,
-    };
-    assert!(rt; opened(rt.alloc(), board).err() == Some(refused));
+    let board = board_of(&rt, rt.alloc(), &image, 3, &[])?;
+    assert!(rt; is_refused(rt.alloc(), board));
     Ok(())
 }
 
-/// The volume of an image of sequence 2, over a board that fails one call of the next commit.
-fn failing(
+/// Makes the calls in order on a volume of sequence 2, over a board that fails one call of the next commit.
+fn run_failing(
     rt: &impl Abort,
     alloc: Global,
     image: &Bytes,
     call: u64,
-) -> Result<FlatVolume<MemBoard>, Fail> {
-    let mut board = board_of(rt, alloc, image, 2)?;
-    board.failing(&[CALLS_OF_OPENING.wrapping_add(call)])?;
-    Ok(opened(alloc, board)?)
-}
-
-/// The leaf is the old or the new one at this sequence, and the next commit is found.
-fn go_on(
-    rt: &impl Abort,
-    alloc: Global,
-    volume: &mut FlatVolume<MemBoard>,
-    sequence: u64,
+    rows: &[Row],
 ) -> Result<(), Fail> {
-    let byte = if sequence == 2 { 0x11 } else { 0x22 };
-    is_filled(rt, volume, byte)?;
-    assert!(rt; replace(alloc, volume, 0x44)? == Ok(sequence.wrapping_add(1)));
-    is_filled(rt, volume, 0x44)?;
+    let failing = [CALLS_OF_OPENING.wrapping_add(call)];
+    run_over(rt, alloc, image, 2, &failing, rows)?;
     Ok(())
 }
 
 /// A commit to sequence 3 that fails, and then the power.
-fn interrupt(
-    rt: &impl Abort,
-    alloc: Global,
-    volume: &mut FlatVolume<MemBoard>,
-    pick: u64,
-) -> Result<(), Fail> {
-    assert!(rt; replace(alloc, volume, 0x22)? == Err(LeafAnswer::Failed));
-    assert!(rt; volume.is_lost());
-    assert!(rt; replace(alloc, volume, 0x22)? == Err(LeafAnswer::Lost));
-    assert!(rt; volume.sequence() == 2);
-    let sequence = volume.power(pick)?;
-    go_on(rt, alloc, volume, sequence)
+fn interrupted(pick: u64) -> [Row; 6] {
+    [
+        Row::Replace(NEW, Err(LeafAnswer::Failed)),
+        Row::Lost,
+        Row::Replace(NEW, Err(LeafAnswer::Lost)),
+        Row::Sequence(2),
+        Row::AnyPower(pick),
+        Row::GoOn,
+    ]
 }
 
 #[test]
 fn each_call_of_a_commit_may_fail(rt: HostRuntime) -> Result<(), Fail> {
     let image = image_of_two(&rt, rt.alloc())?;
     for call in 0..CALLS_OF_COMMIT {
-        let mut volume = failing(&rt, rt.alloc(), &image, call)?;
-        interrupt(&rt, rt.alloc(), &mut volume, pick_of(call))?;
+        run_failing(&rt, rt.alloc(), &image, call, &interrupted(pick_of(call)))?;
     }
-    let mut volume = failing(&rt, rt.alloc(), &image, CALLS_OF_COMMIT)?;
-    assert!(rt; replace(rt.alloc(), &mut volume, 0x22)? == Ok(3));
-    Ok(())
+    let through = [Row::Replace(NEW, Ok(3))];
+    run_failing(&rt, rt.alloc(), &image, CALLS_OF_COMMIT, &through)
 }
 
 /// A commit to sequence 3 that fails, after which the volume is opened again at this sequence.
-fn open_again(
-    rt: &impl Abort,
-    alloc: Global,
-    volume: &mut FlatVolume<MemBoard>,
-    sequence: u64,
-) -> Result<(), Fail> {
-    assert!(rt; replace(alloc, volume, 0x22)? == Err(LeafAnswer::Failed));
-    assert!(rt; volume.is_lost());
-    assert!(rt; volume.reopen()? == sequence);
-    assert!(rt; volume.sequence() == sequence);
-    go_on(rt, alloc, volume, sequence)
+fn opened_again(sequence: u64) -> [Row; 5] {
+    [
+        Row::Replace(NEW, Err(LeafAnswer::Failed)),
+        Row::Lost,
+        Row::Reopen(sequence),
+        Row::Sequence(sequence),
+        Row::GoOn,
+    ]
 }
 
 #[test]
@@ -243,8 +225,7 @@ fn a_volume_is_opened_again_after_a_failed_commit(rt: HostRuntime) -> Result<(),
     let image = image_of_two(&rt, rt.alloc())?;
     // the write of the leaf fails, and the advance of the counter
     for (call, sequence) in [(256 + 3, 2), (CALLS_OF_COMMIT - 1, 3)] {
-        let mut volume = failing(&rt, rt.alloc(), &image, call)?;
-        open_again(&rt, rt.alloc(), &mut volume, sequence)?;
+        run_failing(&rt, rt.alloc(), &image, call, &opened_again(sequence))?;
     }
     Ok(())
 }
