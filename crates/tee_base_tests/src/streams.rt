@@ -1,4 +1,5 @@
 //! Streams that fail once, and the source and the sink over them.
+use crate::calls::fails;
 use std::io;
 use std::io::{Read, Write};
 use tee_base::{ReadAnswer, Sink, SinkFailed, Source, SourceFailed, StdSink, StdSource, read_all};
@@ -14,7 +15,7 @@ impl FailsOnce {
     fn call(&mut self) -> io::Result<u8> {
         let call = self.calls;
         self.calls = call.saturating_add(1);
-        if call == 1 {
+        if fails(call) {
             return Err(io::ErrorKind::Other.into());
         }
         Ok(call)
