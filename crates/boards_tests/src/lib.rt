@@ -4,5 +4,6 @@
 
 #[cfg(test)]
 mod file;
+pub mod loss;
 #[cfg(test)]
 mod memory;

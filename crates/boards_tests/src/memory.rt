@@ -1,4 +1,5 @@
 //! The board in memory against rows that were worked by hand, and against a plain model.
+use crate::loss::left_of;
 use board::{Board, BoardFailed};
 use boards::MemBoard;
 use std::alloc::Global;
@@ -341,12 +342,7 @@ impl PlainBoard {
         self.unsettled = false;
         for block in self.blocks.iter_mut() {
             if block.pending {
-                block.durable = match rest % 4 {
-                    0 => block.durable,
-                    1 => block.offered,
-                    2 => (block.offered.0, block.durable.1),
-                    _ => (0xA5, 0xA5),
-                };
+                block.durable = left_of(block.durable, block.offered, rest % 4);
                 rest /= 4;
             }
             block.seen = block.durable;
