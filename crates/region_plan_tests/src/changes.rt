@@ -1,7 +1,7 @@
 //! Every change with its refusals, beside a store in memory.
 
-use super::steps::{Row, Step, Told, run};
-use std::test::Fail;
+use super::steps::{Row, Step, Table, Told, run};
+use tee_base::NoMemory;
 
 // No object is there.
 const ABSENT: &[Row] = &[
@@ -97,47 +97,23 @@ const NO_ROOM: &[Row] = &[
     (Step::Overwrite(b'a', 260_097), Told::NoSpace),
 ];
 
-#[test]
-fn absent(rt: HostRuntime) -> Result<(), Fail> {
-    run(&rt, rt.alloc(), ABSENT)
-}
+/// What each table is about, and its rows.
+const TABLES: &[Table] = &[
+    ("absent", ABSENT),
+    ("put", PUT),
+    ("overwrite", OVERWRITE),
+    ("rename", RENAME),
+    ("write", WRITE),
+    ("truncate", TRUNCATE),
+    ("full", FULL),
+    ("no leaf", NO_LEAF),
+    ("no room", NO_ROOM),
+];
 
 #[test]
-fn put(rt: HostRuntime) -> Result<(), Fail> {
-    run(&rt, rt.alloc(), PUT)
-}
-
-#[test]
-fn overwrite(rt: HostRuntime) -> Result<(), Fail> {
-    run(&rt, rt.alloc(), OVERWRITE)
-}
-
-#[test]
-fn rename(rt: HostRuntime) -> Result<(), Fail> {
-    run(&rt, rt.alloc(), RENAME)
-}
-
-#[test]
-fn write(rt: HostRuntime) -> Result<(), Fail> {
-    run(&rt, rt.alloc(), WRITE)
-}
-
-#[test]
-fn truncate(rt: HostRuntime) -> Result<(), Fail> {
-    run(&rt, rt.alloc(), TRUNCATE)
-}
-
-#[test]
-fn full(rt: HostRuntime) -> Result<(), Fail> {
-    run(&rt, rt.alloc(), FULL)
-}
-
-#[test]
-fn no_leaf(rt: HostRuntime) -> Result<(), Fail> {
-    run(&rt, rt.alloc(), NO_LEAF)
-}
-
-#[test]
-fn no_room(rt: HostRuntime) -> Result<(), Fail> {
-    run(&rt, rt.alloc(), NO_ROOM)
+fn each_change(rt: HostRuntime) -> Result<(), NoMemory> {
+    for table in TABLES {
+        run(&rt, rt.alloc(), table)?;
+    }
+    Ok(())
 }

@@ -6,6 +6,7 @@
 mod changes;
 #[cfg(test)]
 mod counted;
+pub mod letters;
 #[cfg(test)]
 mod memory;
 #[cfg(test)]

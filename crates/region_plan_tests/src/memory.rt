@@ -4,8 +4,8 @@ ghost use Rattle.store_api.specs.Foundations.{no_foundation};
 
 use region_plan::LeafSource;
 use std::alloc::Global;
-use std::test::Fail;
 use store_api::{LeafAnswer, Leaves};
+use tee_base::NoMemory;
 use tee_base::limits::{BLOCK_BYTES, LEAVES};
 
 #[derive(Drop)]
@@ -51,14 +51,16 @@ impl LeafSource for Memory {
 /// A byte of a leaf: the leaf, the place and the byte.
 pub type Byte = (u8, u16, u8);
 
-/// Leaves of zeros.
-pub fn blank(alloc: Global) -> Result<Memory, Fail> {
+/// Leaves of zeros but for these bytes.
+pub fn with(alloc: Global, bytes: &[Byte]) -> Result<Memory, NoMemory> {
     let mut leaves = Vec::new(alloc);
     leaves.resize(LEAVES, [0; BLOCK_BYTES])?;
-    Ok(Memory {
+    let mut memory = Memory {
         leaves,
         lost: false,
-    })
+    };
+    set(&mut memory, bytes);
+    Ok(memory)
 }
 
 /// Sets bytes of leaves.
@@ -78,7 +80,7 @@ pub fn commit(memory: &mut Memory, leaves: &Leaves) {
 }
 
 // Leaf 2 is the inode of `b`, without content; leaf 5 that of `a`, with 1,026 bytes in the leaves 9 and 3.
-const OBJECTS: &[Byte] = &[
+pub const OBJECTS: &[Byte] = &[
     (0, 8, 1),
     (0, 9, 2),
     (0, 20, 1),
@@ -105,10 +107,3 @@ const OBJECTS: &[Byte] = &[
     (3, 0, 23),
     (3, 1, 24),
 ];
-
-/// A region of two objects.
-pub fn objects(alloc: Global) -> Result<Memory, Fail> {
-    let mut memory = blank(alloc)?;
-    set(&mut memory, OBJECTS);
-    Ok(memory)
-}

@@ -1,11 +1,113 @@
 //! What is told of no object, and of two, and which leaves are read for it.
 
 use super::counted::Counted;
-use super::memory::{blank, objects};
-use region_plan::{content, facts, locate, next_after, secret};
-use std::test::Fail;
+use super::memory::{Byte, Memory, OBJECTS, with};
+use region_plan::{LeafSource, content, facts, locate, next_after, secret};
+use std::alloc::Global;
+use std::process::Abort;
 use store_api::{Facts, StoreAnswer};
+use tee_base::NoMemory;
 use tee_base::limits::LEAVES;
+
+/// A question, and what has to be told.
+#[derive(Clone, Copy)]
+enum Row {
+    /// The object `a` has its inode in this leaf, or isn't found so.
+    Leaf(Result<u8, StoreAnswer>),
+    /// The object `a` has these facts.
+    Facts(Facts),
+    /// The object `a` has this secret.
+    Secret(&'static [u8]),
+    /// From byte 1,022 on the content of the object `a` is this.
+    End(&'static [u8]),
+    /// Behind this identifier comes that one, with these facts.
+    Next(Option<&'static [u8]>, &'static [u8], Facts),
+    /// Behind this identifier comes none.
+    Last(Option<&'static [u8]>),
+    /// The source is lost from then on.
+    Lose,
+}
+
+/// Compares the facts.
+fn has_facts(alloc: Global, memory: &mut Memory, want: &Facts) -> bool {
+    match facts(alloc, memory, b"a") {
+        Ok(facts) => facts == *want,
+        Err(_) => false,
+    }
+}
+
+/// Compares the secret.
+fn has_secret(alloc: Global, memory: &mut Memory, want: &[u8]) -> bool {
+    match secret(alloc, memory, b"a") {
+        Ok(secret) => secret.as_slice() == want,
+        Err(_) => false,
+    }
+}
+
+/// Compares the end of the content.
+fn ends_so<L: LeafSource>(alloc: Global, leaves: &mut L, want: &[u8]) -> bool {
+    match content(alloc, leaves, b"a", 1022, 9) {
+        Ok(content) => content.as_slice() == want,
+        Err(_) => false,
+    }
+}
+
+/// Compares what comes next.
+fn is_next(
+    alloc: Global,
+    memory: &mut Memory,
+    last: Option<&[u8]>,
+    want: &[u8],
+    facts: &Facts,
+) -> bool {
+    match next_after(alloc, memory, last) {
+        Ok(next) => next.id.as_slice() == want && next.facts == *facts,
+        Err(_) => false,
+    }
+}
+
+/// Asks the question of a row, and says whether that is told which has to be.
+fn is_told(alloc: Global, memory: &mut Memory, row: &Row) -> bool {
+    match row {
+        Row::Leaf(want) => locate(alloc, memory, b"a") == *want,
+        Row::Facts(want) => has_facts(alloc, memory, want),
+        Row::Secret(want) => has_secret(alloc, memory, want),
+        Row::End(want) => ends_so(alloc, memory, want),
+        Row::Next(last, want, facts) => is_next(alloc, memory, *last, want, facts),
+        Row::Last(last) => next_after(alloc, memory, *last).is_err(),
+        Row::Lose => {
+            memory.lost = true;
+            true
+        }
+    }
+}
+
+/// Asks the questions in order.
+fn go_through(rt: &impl Abort, alloc: Global, memory: &mut Memory, rows: &[Row]) {
+    for (place, row) in rows.iter().enumerate() {
+        assert!(rt; is_told(alloc, memory, row), "row {place}");
+    }
+}
+
+/// Asks the questions in order, of leaves with these bytes.
+fn ask(rt: &impl Abort, alloc: Global, bytes: &[Byte], rows: &[Row]) -> Result<(), NoMemory> {
+    let mut memory = with(alloc, bytes)?;
+    go_through(rt, alloc, &mut memory, rows);
+    drop(memory);
+    Ok(())
+}
+
+const BLANK: &[Row] = &[
+    Row::Leaf(Err(StoreAnswer::NotFound)),
+    Row::Last(None),
+    Row::Lose,
+    Row::Leaf(Err(StoreAnswer::Lost)),
+];
+
+#[test]
+fn a_blank_region(rt: HostRuntime) -> Result<(), NoMemory> {
+    ask(&rt, rt.alloc(), &[], BLANK)
+}
 
 const FACTS_OF_A: Facts = Facts {
     kind: 8,
@@ -14,60 +116,65 @@ const FACTS_OF_A: Facts = Facts {
     length: 1026,
 };
 
-#[test]
-fn a_blank_region(rt: HostRuntime) -> Result<(), Fail> {
-    let alloc = rt.alloc();
-    let mut memory = blank(alloc)?;
-    assert!(rt; locate(alloc, &mut memory, b"a") == Err(StoreAnswer::NotFound));
-    assert!(rt; next_after(alloc, &mut memory, None).is_err());
-    memory.lost = true;
-    assert!(rt; locate(alloc, &mut memory, b"a") == Err(StoreAnswer::Lost));
-    Ok(())
-}
+const TWO: &[Row] = &[
+    Row::Leaf(Ok(5)),
+    Row::Facts(FACTS_OF_A),
+    Row::Secret(b"12"),
+    Row::End(&[21, 22, 23, 24]),
+];
 
 #[test]
-fn two_objects(rt: HostRuntime) -> Result<(), Fail> {
-    let alloc = rt.alloc();
-    let mut memory = objects(alloc)?;
-    assert!(rt; locate(alloc, &mut memory, b"a") == Ok(5));
-    assert!(rt; facts(alloc, &mut memory, b"a") == Ok(FACTS_OF_A));
-    let secret = secret(alloc, &mut memory, b"a")?;
-    assert!(rt; secret.as_slice() == b"12".as_slice());
-    let content = content(alloc, &mut memory, b"a", 1022, 9)?;
-    assert!(rt; content.as_slice() == [21, 22, 23, 24].as_slice());
-    Ok(())
+fn two_objects(rt: HostRuntime) -> Result<(), NoMemory> {
+    ask(&rt, rt.alloc(), OBJECTS, TWO)
 }
+
+const FACTS_OF_B: Facts = Facts {
+    kind: 7,
+    usage: 0,
+    secret: 0,
+    length: 0,
+};
+
+const IN_ORDER: &[Row] = &[
+    Row::Next(None, b"a", FACTS_OF_A),
+    Row::Next(Some(b"a"), b"b", FACTS_OF_B),
+    Row::Last(Some(b"b")),
+];
 
 #[test]
-fn in_order(rt: HostRuntime) -> Result<(), Fail> {
-    let alloc = rt.alloc();
-    let mut memory = objects(alloc)?;
-    let first = next_after(alloc, &mut memory, None)?;
-    assert!(rt; first.id.as_slice() == b"a".as_slice());
-    assert!(rt; first.facts == FACTS_OF_A);
-    let second = next_after(alloc, &mut memory, Some(b"a"))?;
-    assert!(rt; second.id.as_slice() == b"b".as_slice());
-    assert!(rt; next_after(alloc, &mut memory, Some(b"b")).is_err());
-    Ok(())
+fn in_order(rt: HostRuntime) -> Result<(), NoMemory> {
+    ask(&rt, rt.alloc(), OBJECTS, IN_ORDER)
 }
 
-// A read takes the map, which is leaf 0, then both inode leaves, 2 and 5, since identifiers stand in them alone, and then the leaves
-// of its bytes. Those from 1,022 to 1,025 are the last two of leaf 9 and the first two of leaf 3. That makes five reads.
+// A read takes the map, which is leaf 0, then both inode leaves, 2 and 5, since identifiers stand in them alone, and then
+// the leaves of its bytes. Those from 1,022 to 1,025 are the last two of leaf 9 and the first two of leaf 3. That makes
+// five reads.
 const READ: &[u8] = &[0, 2, 5, 9, 3];
 
-#[test]
-fn each_leaf_is_read_once(rt: HostRuntime) -> Result<(), Fail> {
-    let alloc = rt.alloc();
+/// Each of those leaves once.
+fn once_each() -> [u8; LEAVES] {
+    let mut reads = [0; LEAVES];
+    for leaf in READ {
+        reads[*leaf as usize] = 1;
+    }
+    reads
+}
+
+/// Whether the end of the content is as it should be, and each of those leaves is read once for it, and no other.
+fn is_read_once(alloc: Global, memory: Memory) -> bool {
     let mut counted = Counted {
-        source: objects(alloc)?,
+        source: memory,
         reads: [0; LEAVES],
     };
-    let content = content(alloc, &mut counted, b"a", 1022, 9)?;
-    assert!(rt; content.len() == 4);
-    let mut wanted = [0; LEAVES];
-    for leaf in READ {
-        wanted[*leaf as usize] = 1;
-    }
-    assert!(rt; counted.reads == wanted);
+    let ends = ends_so(alloc, &mut counted, &[21, 22, 23, 24]);
+    let reads = counted.reads;
+    drop(counted);
+    ends && reads == once_each()
+}
+
+#[test]
+fn each_leaf_is_read_once(rt: HostRuntime) -> Result<(), NoMemory> {
+    let memory = with(rt.alloc(), OBJECTS)?;
+    assert!(rt; is_read_once(rt.alloc(), memory));
     Ok(())
 }

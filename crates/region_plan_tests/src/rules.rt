@@ -1,11 +1,11 @@
 //! Each rule of the format broken once, and the leaf that is told.
 
-use super::memory::{Byte, Memory, objects, set};
+use super::memory::{Byte, Memory, OBJECTS, set, with};
 use region_plan::{content, locate};
 use std::alloc::Global;
 use std::process::Abort;
-use std::test::Fail;
 use store_api::StoreAnswer;
+use tee_base::NoMemory;
 
 /// Bytes that break a rule, and the leaf that breaks it.
 type Row = (&'static [Byte], u8);
@@ -42,47 +42,54 @@ const TIES: &[Row] = &[
     (&[(5, 8, 0)], 5),
 ];
 
-/// Whether looking for an object tells the leaf.
-fn is_told(alloc: Global, row: &Row) -> Result<bool, Fail> {
-    let mut memory = objects(alloc)?;
-    set(&mut memory, row.0);
-    let answer = locate(alloc, &mut memory, b"a");
-    Ok(matches!(answer, Err(StoreAnswer::Garbled(leaf)) if leaf == row.1))
+/// What is asked for.
+#[derive(Clone, Copy)]
+enum Ask {
+    Object,
+    Content,
 }
 
-fn are_told(rt: &impl Abort, alloc: Global, rows: &[Row]) -> Result<(), Fail> {
-    for (place, row) in rows.iter().enumerate() {
-        assert!(rt; is_told(alloc, row)?, "row {place}");
+/// What is told where the object `a` is asked for.
+fn answer_of(alloc: Global, memory: &mut Memory, ask: Ask) -> Option<StoreAnswer> {
+    match ask {
+        Ask::Object => locate(alloc, memory, b"a").err(),
+        Ask::Content => content(alloc, memory, b"a", 0, 4096).err(),
+    }
+}
+
+/// Whether the leaf is told.
+fn is_told(alloc: Global, ask: Ask, row: &Row) -> Result<bool, NoMemory> {
+    let mut memory = with(alloc, OBJECTS)?;
+    set(&mut memory, row.0);
+    let answer = answer_of(alloc, &mut memory, ask);
+    drop(memory);
+    Ok(matches!(answer, Some(StoreAnswer::Garbled(leaf)) if leaf == row.1))
+}
+
+/// What a table is about, what is asked for, and the rows.
+type Table = (&'static str, Ask, &'static [Row]);
+
+fn are_told(rt: &impl Abort, alloc: Global, table: &Table) -> Result<(), NoMemory> {
+    for (place, row) in table.2.iter().enumerate() {
+        assert!(rt; is_told(alloc, table.1, row)?, "{}, row {place}", table.0);
     }
     Ok(())
 }
 
-#[test]
-fn rules_of_the_map(rt: HostRuntime) -> Result<(), Fail> {
-    are_told(&rt, rt.alloc(), MAP)
-}
+// A byte behind the end of the content, in its last leaf, which only who reads the content finds.
+const PAST_THE_END: &[Row] = &[(&[(3, 2, 1)], 3)];
+
+const TABLES: &[Table] = &[
+    ("the map", Ask::Object, MAP),
+    ("inode leaves", Ask::Object, INODE_LEAVES),
+    ("what ties leaves", Ask::Object, TIES),
+    ("bytes past the end", Ask::Content, PAST_THE_END),
+];
 
 #[test]
-fn rules_of_inode_leaves(rt: HostRuntime) -> Result<(), Fail> {
-    are_told(&rt, rt.alloc(), INODE_LEAVES)
-}
-
-#[test]
-fn rules_that_tie_leaves(rt: HostRuntime) -> Result<(), Fail> {
-    are_told(&rt, rt.alloc(), TIES)
-}
-
-/// The leaf that is told where a content is read.
-fn told_of_content(alloc: Global, memory: &mut Memory) -> Option<StoreAnswer> {
-    content(alloc, memory, b"a", 0, 4096).err()
-}
-
-#[test]
-fn bytes_past_the_end(rt: HostRuntime) -> Result<(), Fail> {
-    let alloc = rt.alloc();
-    let mut memory = objects(alloc)?;
-    set(&mut memory, &[(3, 2, 1)]);
-    let told = told_of_content(alloc, &mut memory);
-    assert!(rt; told == Some(StoreAnswer::Garbled(3)));
+fn each_rule(rt: HostRuntime) -> Result<(), NoMemory> {
+    for table in TABLES {
+        are_told(&rt, rt.alloc(), table)?;
+    }
     Ok(())
 }

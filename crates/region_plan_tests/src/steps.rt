@@ -2,14 +2,14 @@
 ghost use Rattle.std.specs.Prelude.{◌≡◌, ◌≤◌, IfOk, length};
 ghost use Rattle.store_api.specs.Limits.{IsChange, IsIdentifier, IsSecret};
 
-use super::memory::{Memory, blank, commit};
+use super::memory::{Memory, commit, with};
+use crate::letters::identifier_bytes;
 use region_plan::{content, next_after, plan, secret};
 use std::alloc::Global;
 use std::process::Abort;
-use std::test::Fail;
 use store_api::{AppStore, Change, Listed, MapStore, StoreAnswer};
-use tee_base::Bytes;
 use tee_base::limits::MAX_ASK_BYTES;
+use tee_base::{Bytes, NoMemory};
 
 /// A change. An object's identifier is one letter, or the longest of that letter where it is a capital.
 #[derive(Clone, Copy)]
@@ -36,6 +36,9 @@ pub enum Told {
 
 pub type Row = (Step, Told);
 
+/// A name, and rows.
+pub type Table = (&'static str, &'static [Row]);
+
 /// Fills bytes, so that no two leaves are alike.
 fn paint(bytes: &mut [u8], first: u8) {
     let mut byte = first;
@@ -46,7 +49,7 @@ fn paint(bytes: &mut [u8], first: u8) {
 }
 
 /// So many bytes.
-fn painted(alloc: Global, first: u8, count: usize) -> Result<Bytes, Fail>
+fn painted(alloc: Global, first: u8, count: usize) -> Result<Bytes, NoMemory>
     ensures { IfOk result (λ bytes. length bytes ≡ count) }
 {
     let mut bytes = Vec::new(alloc);
@@ -56,20 +59,20 @@ fn painted(alloc: Global, first: u8, count: usize) -> Result<Bytes, Fail>
 }
 
 /// The identifier of a letter.
-fn identifier(alloc: Global, letter: u8) -> Result<Bytes, Fail>
+fn identifier(alloc: Global, letter: u8) -> Result<Bytes, NoMemory>
     ensures { IfOk result (λ id. IsIdentifier id) }
 {
-    painted(alloc, letter, if letter < b'a' { 64 } else { 1 })
+    painted(alloc, letter, identifier_bytes(letter))
 }
 
 /// The secret of the object of a letter.
-fn secret_of(alloc: Global, letter: u8) -> Result<Bytes, Fail>
+fn secret_of(alloc: Global, letter: u8) -> Result<Bytes, NoMemory>
     ensures { IfOk result (λ secret. IsSecret secret) }
 {
     painted(alloc, letter, if letter < b'a' { 128 } else { 3 })
 }
 
-fn put(alloc: Global, letter: u8, count: u32, overwrite: bool) -> Result<Change, Fail>
+fn put(alloc: Global, letter: u8, count: u32, overwrite: bool) -> Result<Change, NoMemory>
     ensures { IfOk result (λ change. IsChange change) }
 {
     Ok(Change::Put {
@@ -82,7 +85,7 @@ fn put(alloc: Global, letter: u8, count: u32, overwrite: bool) -> Result<Change,
     })
 }
 
-fn change_of(alloc: Global, step: Step) -> Result<Change, Fail>
+fn change_of(alloc: Global, step: Step) -> Result<Change, NoMemory>
     ensures { IfOk result (λ change. IsChange change) }
 {
     match step {
@@ -141,31 +144,29 @@ fn is_made(store: &mut MapStore, change: &Change, wanted: Told) -> bool
 }
 
 /// Whether the secret of an object is the same in both.
-fn is_same_secret(
-    alloc: Global,
-    memory: &mut Memory,
-    store: &mut MapStore,
-    id: &[u8],
-) -> Result<bool, StoreAnswer>
+fn is_same_secret(alloc: Global, memory: &mut Memory, store: &mut MapStore, id: &[u8]) -> bool
     requires { IsIdentifier id.now }
 {
-    let one = secret(alloc, memory, id)?;
-    let other = store.secret(id)?;
-    Ok(one.as_slice() == other.as_slice())
+    let one = secret(alloc, memory, id);
+    let other = store.secret(id);
+    are_same_bytes(&one, &other)
 }
 
 /// Whether the content of an object is the same in both.
-fn is_same_content(
-    alloc: Global,
-    memory: &mut Memory,
-    store: &mut MapStore,
-    id: &[u8],
-) -> Result<bool, StoreAnswer>
+fn is_same_content(alloc: Global, memory: &mut Memory, store: &mut MapStore, id: &[u8]) -> bool
     requires { IsIdentifier id.now }
 {
-    let one = content(alloc, memory, id, 0, MAX_ASK_BYTES)?;
-    let other = store.read(id, 0, MAX_ASK_BYTES)?;
-    Ok(one.as_slice() == other.as_slice())
+    let one = content(alloc, memory, id, 0, MAX_ASK_BYTES);
+    let other = store.read(id, 0, MAX_ASK_BYTES);
+    are_same_bytes(&one, &other)
+}
+
+/// Whether both answers are bytes, and the same.
+fn are_same_bytes(one: &Result<Bytes, StoreAnswer>, other: &Result<Bytes, StoreAnswer>) -> bool {
+    match (one, other) {
+        (Ok(one), Ok(other)) => one.as_slice() == other.as_slice(),
+        _ => false,
+    }
 }
 
 /// Whether both list the same object with the same facts, or none.
@@ -179,28 +180,42 @@ fn is_same_listed(one: &Result<Listed, StoreAnswer>, other: &Result<Listed, Stor
     }
 }
 
-/// Whether both have the same objects.
-fn are_same(alloc: Global, memory: &mut Memory, store: &mut MapStore) -> Result<bool, Fail> {
-    let mut last = Bytes::from_slice(alloc, &[])?;
-    for _ in 0..9 {
-        let one = next_after(alloc, memory, Some(last.as_slice()));
-        let other = store.next_after(Some(last.as_slice()));
-        if !is_same_listed(&one, &other) {
-            return Ok(false);
-        }
-        let Ok(listed) = other else {
-            return Ok(true);
-        };
-        let id = listed.id.as_slice();
-        if !is_same_secret(alloc, memory, store, id)? {
-            return Ok(false);
-        }
-        if !is_same_content(alloc, memory, store, id)? {
-            return Ok(false);
-        }
-        last = listed.id;
+/// Whether both list the same behind an identifier.
+fn is_same_next(alloc: Global, memory: &mut Memory, store: &mut MapStore, last: &[u8]) -> bool {
+    let one = next_after(alloc, memory, Some(last));
+    let other = store.next_after(Some(last));
+    is_same_listed(&one, &other)
+}
+
+/// What the store lists behind an identifier.
+fn next_in(store: &mut MapStore, last: &[u8]) -> Result<Bytes, StoreAnswer>
+    ensures { IfOk result (λ id. IsIdentifier id) }
+{
+    match store.next_after(Some(last)) {
+        Ok(listed) => Ok(listed.id),
+        Err(answer) => Err(answer),
     }
-    Ok(false)
+}
+
+/// Whether both have the same objects.
+fn are_same(alloc: Global, memory: &mut Memory, store: &mut MapStore) -> bool {
+    let mut last = Bytes::empty(alloc);
+    for _ in 0..9 {
+        if !is_same_next(alloc, memory, store, last.as_slice()) {
+            return false;
+        }
+        let id = match next_in(store, last.as_slice()) {
+            Ok(id) => id,
+            Err(answer) => return matches!(answer, StoreAnswer::NotFound),
+        };
+        if !is_same_secret(alloc, memory, store, id.as_slice())
+            || !is_same_content(alloc, memory, store, id.as_slice())
+        {
+            return false;
+        }
+        last = id;
+    }
+    false
 }
 
 /// Makes a change, and says whether that came which is wanted, and both are the same after it.
@@ -209,23 +224,48 @@ fn holds(
     memory: &mut Memory,
     store: &mut MapStore,
     row: &Row,
-) -> Result<bool, Fail> {
+) -> Result<bool, NoMemory> {
     let change = change_of(alloc, row.0)?;
-    if !is_planned(alloc, memory, &change, row.1) {
-        return Ok(false);
+    let came = is_planned(alloc, memory, &change, row.1) && is_made(store, &change, row.1);
+    drop(change);
+    Ok(came && are_same(alloc, memory, store))
+}
+
+/// Makes the change of each row.
+fn go_through(
+    rt: &impl Abort,
+    alloc: Global,
+    memory: &mut Memory,
+    store: &mut MapStore,
+    table: &Table,
+) -> Result<(), NoMemory> {
+    for (place, row) in table.1.iter().enumerate() {
+        assert!(rt;
+            holds(alloc, memory, store, row)?,
+            "{}, row {place}",
+            table.0
+        );
     }
-    if !is_made(store, &change, row.1) {
-        return Ok(false);
-    }
-    are_same(alloc, memory, store)
+    Ok(())
+}
+
+/// Makes the change of each row on a new store, beside these leaves.
+fn run_beside(
+    rt: &impl Abort,
+    alloc: Global,
+    memory: &mut Memory,
+    table: &Table,
+) -> Result<(), NoMemory> {
+    let mut store = MapStore::new(alloc, &[])?;
+    let outcome = go_through(rt, alloc, memory, &mut store, table);
+    drop(store);
+    outcome
 }
 
 /// Makes the change of each row, from a region of zeros and an empty store.
-pub fn run(rt: &impl Abort, alloc: Global, rows: &[Row]) -> Result<(), Fail> {
-    let mut memory = blank(alloc)?;
-    let mut store = MapStore::new(alloc, &[])?;
-    for (place, row) in rows.iter().enumerate() {
-        assert!(rt; holds(alloc, &mut memory, &mut store, row)?, "row {place}");
-    }
-    Ok(())
+pub fn run(rt: &impl Abort, alloc: Global, table: &Table) -> Result<(), NoMemory> {
+    let mut memory = with(alloc, &[])?;
+    let outcome = run_beside(rt, alloc, &mut memory, table);
+    drop(memory);
+    outcome
 }
