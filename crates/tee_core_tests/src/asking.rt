@@ -1,6 +1,6 @@
 //! Two applications that keep objects, what is asked of them, and what is told of it.
 
-ghost use Rattle.std.specs.Prelude.{◌≡◌, ◌<◌, IfOk, OnOk, length};
+ghost use Rattle.std.specs.Prelude.{◌≡◌, ◌<◌, IfOk, length};
 ghost use Rattle.app_api.specs.Hosts.{HostsFit};
 ghost use Rattle.tee_core.specs.Represents.{app_count, boots_of};
 
@@ -10,9 +10,8 @@ use boards::MemBoard;
 use sample_apps::Store;
 use std::alloc::Global;
 use std::process::Abort;
-use std::test::Fail;
 use tee_base::{Bytes, Code};
-use tee_core::{OpenAnswer, Tee, TurnKind};
+use tee_core::{Happened, OpenAnswer, Tee, TurnKind, Unopened};
 use uuid::Uuid;
 
 pub type Pair = Tee<MemBoard, Store>;
@@ -29,9 +28,14 @@ const READ: u32 = 1;
 
 const ANEW: u32 = 1_025;
 
-fn host(alloc: Global, name: &[u8], id: u128) -> Result<Host<Store>, Fail> {
-    Ok(Host {
-        name: Bytes::from_slice(alloc, name)?,
+/// The bytes in memory of their own.
+fn bytes(rt: &impl Abort, alloc: Global, from: &[u8]) -> Bytes {
+    Bytes::from_slice(alloc, from).expect(rt, "bytes")
+}
+
+fn host(rt: &impl Abort, alloc: Global, name: &[u8], id: u128) -> Host<Store> {
+    Host {
+        name: bytes(rt, alloc, name),
         id: Uuid::from_u128(id),
         properties: Properties {
             single: true,
@@ -39,19 +43,19 @@ fn host(alloc: Global, name: &[u8], id: u128) -> Result<Host<Store>, Fail> {
             keep: true,
         },
         template: Store::Idle,
-    })
+    }
 }
 
-/// Two applications over a board.
-pub fn over(rt: &impl Abort, alloc: Global, board: MemBoard) -> Result<Pair, Fail>
-    ensures apps { IfOk result (λ tee. app_count tee ≡ 2) }
-    ensures boots { IfOk result (λ tee. boots_of tee ≡ 0) }
+/// Two applications, `one` and `two`.
+fn hosts(rt: &impl Abort, alloc: Global) -> Vec<Host<Store>>
+    ensures fit { HostsFit result.items }
+    ensures count { length result.items ≡ 2 }
 {
-    let mut hosts = Vec::new(alloc);
-    hosts.push(host(alloc, b"one", 1)?)?;
-    hosts.push(host(alloc, b"two", 2)?)?;
+    let one = host(rt, alloc, b"one", 1);
+    let two = host(rt, alloc, b"two", 2);
+    let hosts = Vec::from_array(alloc, [one, two]).expect(rt, "hosts");
     assert!(rt; hosts_fit(hosts.as_slice()));
-    Ok(opened(alloc, board, hosts)?)
+    hosts
 }
 
 fn opened(alloc: Global, board: MemBoard, hosts: Vec<Host<Store>>) -> Result<Pair, OpenAnswer>
@@ -61,16 +65,30 @@ fn opened(alloc: Global, board: MemBoard, hosts: Vec<Host<Store>>) -> Result<Pai
 {
     match Tee::open(alloc, board, hosts, [0; 32]) {
         Ok(tee) => Ok(tee),
-        Err(unopened) => Err(unopened.why),
+        Err(unopened) => {
+            let Unopened { board, why } = unopened;
+            drop(board);
+            Err(why)
+        }
     }
 }
 
-/// Two applications over a blank board.
-pub fn two(rt: &impl Abort, alloc: Global) -> Result<Pair, Fail>
-    ensures apps { IfOk result (λ tee. app_count tee ≡ 2) }
-    ensures boots { IfOk result (λ tee. boots_of tee ≡ 0) }
+/// The two over a board.
+pub fn over(rt: &impl Abort, alloc: Global, board: MemBoard) -> Pair
+    ensures apps { app_count result ≡ 2 }
+    ensures boots { boots_of result ≡ 0 }
 {
-    over(rt, alloc, MemBoard::blank(alloc, KEY, BLOCKS)?)
+    let hosts = hosts(rt, alloc);
+    opened(alloc, board, hosts).expect(rt, "an opening")
+}
+
+/// The two over a blank board.
+pub fn two(rt: &impl Abort, alloc: Global) -> Pair
+    ensures apps { app_count result ≡ 2 }
+    ensures boots { boots_of result ≡ 0 }
+{
+    let board = MemBoard::blank(alloc, KEY, BLOCKS).expect(rt, "a board");
+    over(rt, alloc, board)
 }
 
 /// A session with the label 1.
@@ -89,46 +107,58 @@ fn command(command: u32, params: Params) -> Call {
     }
 }
 
+fn zeros(rt: &impl Abort, alloc: Global, count: usize) -> Bytes {
+    let zeros = vec![in alloc; 0u8; count].expect(rt, "zeros");
+    Bytes::from_vec(zeros)
+}
+
 /// Makes the object of this identifier anew, with so many bytes.
-pub fn make(alloc: Global, id: &[u8], count: usize) -> Result<Call, Fail> {
-    let mut content = Vec::new(alloc);
-    content.resize(count, 0u8)?;
-    let mut params = Params::nothing();
-    params.p0 = Param::MemIn(Bytes::from_slice(alloc, id)?);
-    params.p1 = Param::ValueIn(ANEW, 0);
-    params.p2 = Param::MemIn(Bytes::from_vec(content));
-    params.p3 = Param::ValueOut;
-    Ok(command(2, params))
+pub fn make(rt: &impl Abort, alloc: Global, id: &[u8], count: usize) -> Call {
+    let params = Params {
+        p0: Param::MemIn(bytes(rt, alloc, id)),
+        p1: Param::ValueIn(ANEW, 0),
+        p2: Param::MemIn(zeros(rt, alloc, count)),
+        p3: Param::ValueOut,
+    };
+    command(2, params)
 }
 
 /// Opens the object of this identifier.
-pub fn find(alloc: Global, id: &[u8]) -> Result<Call, Fail> {
-    let mut params = Params::nothing();
-    params.p0 = Param::MemIn(Bytes::from_slice(alloc, id)?);
-    params.p1 = Param::ValueIn(READ, 1);
-    params.p2 = Param::ValueOut;
-    Ok(command(1, params))
+pub fn find(rt: &impl Abort, alloc: Global, id: &[u8]) -> Call {
+    let params = Params {
+        p0: Param::MemIn(bytes(rt, alloc, id)),
+        p1: Param::ValueIn(READ, 1),
+        p2: Param::ValueOut,
+        p3: Param::Nothing,
+    };
+    command(1, params)
 }
 
 /// Asks for the length of the object of a handle.
 pub fn measure(object: u32) -> Call {
-    let mut params = Params::nothing();
-    params.p0 = Param::ValueIn(object, 0);
-    params.p1 = Param::ValueOut;
-    params.p2 = Param::ValueOut;
+    let params = Params {
+        p0: Param::ValueIn(object, 0),
+        p1: Param::ValueOut,
+        p2: Param::ValueOut,
+        p3: Param::Nothing,
+    };
     command(6, params)
 }
 
 /// Closes a handle.
 pub fn close(object: u32) -> Call {
-    let mut params = Params::nothing();
-    params.p0 = Param::ValueIn(object, 0);
+    let params = Params {
+        p0: Param::ValueIn(object, 0),
+        p1: Param::Nothing,
+        p2: Param::Nothing,
+        p3: Param::Nothing,
+    };
     command(3, params)
 }
 
-/// What became of a call: the code of its reply and the first value that the reply shows, and whether a turn of it lost the
-/// storage, with a change in doubt or without.
-#[derive(Debug, PartialEq, Eq, Drop)]
+/// What became of a call: the code of its reply and the first value that the reply shows, and whether a turn of it lost
+/// the storage, with a change in doubt or without.
+#[derive(Clone, Copy)]
 pub struct Went {
     pub code: Code,
     pub value: u32,
@@ -145,21 +175,15 @@ fn value_of(reply: &Reply) -> u32 {
     }
 }
 
-/// Runs a call until it is answered, by one reply.
-pub fn run(rt: &impl Abort, tee: &mut Pair, app: u8, call: Call) -> Result<Went, Fail>
-    requires { app < app_count tee.old }
-    ensures apps { OnOk result (app_count tee.new ≡ app_count tee.old) }
-    ensures boots { OnOk result (boots_of tee.new ≡ boots_of tee.old) }
-{
-    assert!(rt; tee.turns(app) < FEW);
-    let told = tee.run(app, 0, call)?;
+/// What is told of a call that was answered by one reply.
+fn went_of(rt: &impl Abort, told: &[Happened]) -> Went {
     let mut replies = 0u32;
     let mut went = Went {
         code: Code::SUCCESS,
         value: 0,
         lost: None,
     };
-    for happened in told.as_slice() {
+    for happened in told {
         if let TurnKind::Lost { change } = happened.kind {
             went.lost = Some(change);
         }
@@ -170,53 +194,55 @@ pub fn run(rt: &impl Abort, tee: &mut Pair, app: u8, call: Call) -> Result<Went,
         }
     }
     assert!(rt; replies == 1);
-    Ok(went)
+    went
+}
+
+/// Runs a call until it is answered, by one reply.
+pub fn run(rt: &impl Abort, tee: &mut Pair, app: u8, call: Call) -> Went
+    requires { app < app_count tee.old }
+    ensures apps { app_count tee.new ≡ app_count tee.old }
+    ensures boots { boots_of tee.new ≡ boots_of tee.old }
+{
+    assert!(rt; tee.turns(app) < FEW);
+    let told = tee.run(app, 0, call).expect(rt, "a call");
+    went_of(rt, told.as_slice())
+}
+
+/// Compares the code of a call's reply, and whether a turn of it lost the storage.
+pub fn check_went(rt: &impl Abort, went: Went, code: Code, lost: Option<bool>) {
+    let holds = went.code == code && went.lost == lost;
+    assert!(rt; holds);
 }
 
 /// Runs a call that succeeds, and gives the first value that its reply shows.
-pub fn succeed(rt: &impl Abort, tee: &mut Pair, app: u8, call: Call) -> Result<u32, Fail>
+pub fn succeed(rt: &impl Abort, tee: &mut Pair, app: u8, call: Call) -> u32
     requires { app < app_count tee.old }
-    ensures apps { OnOk result (app_count tee.new ≡ app_count tee.old) }
-    ensures boots { OnOk result (boots_of tee.new ≡ boots_of tee.old) }
+    ensures apps { app_count tee.new ≡ app_count tee.old }
+    ensures boots { boots_of tee.new ≡ boots_of tee.old }
 {
-    let went = run(rt, tee, app, call)?;
-    assert!(rt; went.code == Code::SUCCESS);
-    assert!(rt; went.lost == None);
-    Ok(went.value)
+    let went = run(rt, tee, app, call);
+    check_went(rt, went, Code::SUCCESS, None);
+    went.value
 }
 
 /// Makes the object of this identifier anew, with so many bytes, and closes it.
-pub fn keep(
-    rt: &impl Abort,
-    alloc: Global,
-    tee: &mut Pair,
-    app: u8,
-    id: &[u8],
-    count: usize,
-) -> Result<(), Fail>
+pub fn keep(rt: &impl Abort, alloc: Global, tee: &mut Pair, app: u8, id: &[u8], count: usize)
     requires { app < app_count tee.old }
-    ensures apps { OnOk result (app_count tee.new ≡ app_count tee.old) }
-    ensures boots { OnOk result (boots_of tee.new ≡ boots_of tee.old) }
+    ensures apps { app_count tee.new ≡ app_count tee.old }
+    ensures boots { boots_of tee.new ≡ boots_of tee.old }
 {
-    let object = succeed(rt, tee, app, make(alloc, id, count)?)?;
-    succeed(rt, tee, app, close(object))?;
-    Ok(())
+    let object = succeed(rt, tee, app, make(rt, alloc, id, count));
+    succeed(rt, tee, app, close(object));
 }
 
 /// The length of the object of this identifier.
-pub fn length_of(
-    rt: &impl Abort,
-    alloc: Global,
-    tee: &mut Pair,
-    app: u8,
-    id: &[u8],
-) -> Result<u32, Fail>
+pub fn length_of(rt: &impl Abort, alloc: Global, tee: &mut Pair, app: u8, id: &[u8]) -> u32
     requires { app < app_count tee.old }
-    ensures apps { OnOk result (app_count tee.new ≡ app_count tee.old) }
-    ensures boots { OnOk result (boots_of tee.new ≡ boots_of tee.old) }
+    ensures apps { app_count tee.new ≡ app_count tee.old }
+    ensures boots { boots_of tee.new ≡ boots_of tee.old }
 {
-    let object = succeed(rt, tee, app, find(alloc, id)?)?;
-    let length = succeed(rt, tee, app, measure(object))?;
-    succeed(rt, tee, app, close(object))?;
-    Ok(length)
+    let object = succeed(rt, tee, app, find(rt, alloc, id));
+    let length = succeed(rt, tee, app, measure(object));
+    succeed(rt, tee, app, close(object));
+    length
 }

@@ -7,3 +7,4 @@ mod asking;
 mod losses;
 #[cfg(test)]
 mod pairs;
+pub mod told;
