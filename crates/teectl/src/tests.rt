@@ -10,27 +10,53 @@ use epoch::OpenAnswer;
 use sample_apps::{Sample, Store, sample_hosts};
 use std::alloc::Global;
 use std::process::Abort;
-use std::test::Fail;
 use tee_base::{Bytes, MemSink, MemSource, limits};
 use tee_top::{Status, run_tee, status_line};
 use uuid::Uuid;
 
-/// What a script makes of a run for these hosts, whose reads and writes of these numbers fail.
-fn run_for(
+/// What a run reads and writes, and the word of its command line.
+#[derive(Drop)]
+struct Streams {
+    word: String,
+    source: MemSource,
+    sink: MemSink,
+}
+
+/// A source of this script, whose reads of these numbers fail.
+fn source_of(rt: &impl Abort, alloc: Global, script: &str, reads: &[u64]) -> MemSource {
+    let text = Bytes::from_slice(alloc, script.as_bytes()).expect(rt, "a script");
+    MemSource::new(alloc, text, reads).expect(rt, "a source")
+}
+
+/// The word, the script and an empty sink, where the reads and writes of these numbers fail.
+fn streams_of(
+    rt: &impl Abort,
     alloc: Global,
-    hosts: Vec<Host<Sample>>,
-    word: &str,
-    script: &str,
+    (word, script): (&str, &str),
     reads: &[u64],
     writes: &[u64],
-) -> Result<(Status, MemSink), Fail>
+) -> Streams {
+    let word = String::from_str(alloc, word).expect(rt, "a word");
+    let source = source_of(rt, alloc, script, reads);
+    let sink = MemSink::new(alloc, writes).expect(rt, "a sink");
+    Streams { word, source, sink }
+}
+
+/// The status of a run over this board for these hosts, what it wrote, and the board that it handed back.
+fn run_over(
+    alloc: Global,
+    streams: Streams,
+    board: MemBoard,
+    hosts: Vec<Host<Sample>>,
+) -> (Status, MemSink, MemBoard)
     requires { HostsFit hosts.items }
 {
-    let text = Bytes::from_slice(alloc, script.as_bytes())?;
-    let mut source = MemSource::new(alloc, text, reads)?;
-    let mut sink = MemSink::new(alloc, writes)?;
-    let words = vec![in alloc; String::from_str(alloc, word)?]?;
-    let board = MemBoard::blank(alloc, [0; 32], limits::BOARD_BLOCKS)?;
+    let Streams {
+        word,
+        mut source,
+        mut sink,
+    } = streams;
+    let words = [word];
     let (status, board) = run_tee(
         alloc,
         words.as_slice(),
@@ -40,34 +66,60 @@ fn run_for(
         hosts,
         [0; 32],
     );
+    (status, sink, board)
+}
+
+/// A blank board.
+fn blank(rt: &impl Abort, alloc: Global) -> MemBoard {
+    MemBoard::blank(alloc, [0; 32], limits::BOARD_BLOCKS).expect(rt, "a board")
+}
+
+/// The status of a run over a blank board for these hosts, and what it wrote.
+fn run_over_blank(
+    rt: &impl Abort,
+    alloc: Global,
+    streams: Streams,
+    hosts: Vec<Host<Sample>>,
+) -> (Status, MemSink)
+    requires { HostsFit hosts.items }
+{
+    let board = blank(rt, alloc);
+    let (status, sink, board) = run_over(alloc, streams, board, hosts);
     drop(board);
-    Ok((status, sink))
+    (status, sink)
 }
 
 /// The same for the sample applications.
 fn run(
+    rt: &impl Abort,
     alloc: Global,
-    word: &str,
-    script: &str,
+    asked: (&str, &str),
     reads: &[u64],
     writes: &[u64],
-) -> Result<(Status, MemSink), Fail> {
-    let hosts = sample_hosts(alloc)?;
-    run_for(alloc, hosts, word, script, reads, writes)
+) -> (Status, MemSink) {
+    let streams = streams_of(rt, alloc, asked, reads, writes);
+    let hosts = sample_hosts(alloc).expect(rt, "hosts");
+    run_over_blank(rt, alloc, streams, hosts)
+}
+
+/// Whether a run of this word and script, whose reads and writes of these numbers fail, has this status and writes
+/// this.
+fn comes(
+    rt: &impl Abort,
+    alloc: Global,
+    asked: (&str, &str),
+    (reads, writes): (&[u64], &[u64]),
+    output: &str,
+    wanted: Status,
+) -> bool {
+    let (status, sink) = run(rt, alloc, asked, reads, writes);
+    status == wanted && sink.written() == output.as_bytes()
 }
 
 /// Compares the status of a run for the sample applications, and what is written.
-fn check(
-    rt: &impl Abort,
-    alloc: Global,
-    script: &str,
-    output: &str,
-    wanted: Status,
-) -> Result<(), Fail> {
-    let (status, sink) = run(alloc, "run", script, &[], &[])?;
-    assert!(rt; status == wanted, "{script}");
-    assert!(rt; sink.written() == output.as_bytes(), "{script}");
-    Ok(())
+fn check(rt: &impl Abort, alloc: Global, script: &str, output: &str, wanted: Status) {
+    let holds = comes(rt, alloc, ("run", script), (&[], &[]), output, wanted);
+    assert!(rt; holds, "{script}");
 }
 
 /// The same where the reads and writes of these numbers fail.
@@ -75,21 +127,29 @@ fn check_faults(
     rt: &impl Abort,
     alloc: Global,
     script: &str,
-    (reads, writes): (&[u64], &[u64]),
+    faults: (&[u64], &[u64]),
     output: &str,
     wanted: Status,
-) -> Result<(), Fail> {
-    let (status, sink) = run(alloc, "run", script, reads, writes)?;
-    assert!(rt; status == wanted);
-    assert!(rt; sink.written() == output.as_bytes());
-    Ok(())
+) {
+    let holds = comes(rt, alloc, ("run", script), faults, output, wanted);
+    assert!(rt; holds);
+}
+
+/// A script, what is written of it, and the status.
+type Row = (&'static str, &'static str, Status);
+
+/// The same for each row.
+fn check_rows(rt: &impl Abort, alloc: Global, rows: &[Row]) {
+    for (script, output, wanted) in rows {
+        check(rt, alloc, script, output, *wanted);
+    }
 }
 
 const USE: &str = "keep open 1\nkeep invoke 1 1 vi:5:0 vo\nkeep close 1\n";
 
 const USED: &str = "keep 1 00000000 4\nkeep 2 00000000 4 p1=5,1\nkeep 3 00000000 4\n";
 
-const WRITTEN: [(&'static str, &'static str, Status); 11] = [
+const WRITTEN: [Row; 11] = [
     (USE, USED, Status::Done),
     ("", "", Status::Done),
     (
@@ -120,11 +180,8 @@ const WRITTEN: [(&'static str, &'static str, Status); 11] = [
 ];
 
 #[test]
-fn scripts_give_their_lines(rt: HostRuntime) -> Result<(), Fail> {
-    for (script, output, wanted) in WRITTEN {
-        check(&rt, rt.alloc(), script, output, wanted)?;
-    }
-    Ok(())
+fn scripts_give_their_lines(rt: HostRuntime) {
+    check_rows(&rt, rt.alloc(), &WRITTEN);
 }
 
 const CANCELLED: &str = "\
@@ -170,7 +227,7 @@ rogue 6 00000000 4
 rogue 7 00000000 4
 ";
 
-const TURNED: [(&'static str, &'static str, Status); 8] = [
+const TURNED: [Row; 8] = [
     (CANCELLED, CANCELLED_LINES, Status::Done),
     (PANICKED, PANICKED_LINES, Status::Done),
     (
@@ -190,15 +247,12 @@ const TURNED: [(&'static str, &'static str, Status); 8] = [
 ];
 
 #[test]
-fn waiting_calls_get_the_turns_that_the_script_gives(rt: HostRuntime) -> Result<(), Fail> {
-    for (script, output, wanted) in TURNED {
-        check(&rt, rt.alloc(), script, output, wanted)?;
-    }
-    Ok(())
+fn waiting_calls_get_the_turns_that_the_script_gives(rt: HostRuntime) {
+    check_rows(&rt, rt.alloc(), &TURNED);
 }
 
 #[test]
-fn a_write_that_fails_within_turns_ends_the_run(rt: HostRuntime) -> Result<(), Fail> {
+fn a_write_that_fails_within_turns_ends_the_run(rt: HostRuntime) {
     let written =
         "rogue 1 00000000 4\nrogue 2 00000000 4\nrogue 3 00000000 4\nrogue 4 ffff3024 3\n";
     check_faults(
@@ -208,31 +262,40 @@ fn a_write_that_fails_within_turns_ends_the_run(rt: HostRuntime) -> Result<(), F
         (&[], &[4]),
         written,
         Status::WriteFault,
-    )
+    );
+}
+
+/// Another word is no command.
+fn check_words(rt: &impl Abort, alloc: Global) {
+    let holds = comes(rt, alloc, ("walk", USE), (&[], &[]), "", Status::BadWords);
+    assert!(rt; holds);
 }
 
 #[test]
-fn faults_and_words_have_statuses(rt: HostRuntime) -> Result<(), Fail> {
+fn faults_and_words_have_statuses(rt: HostRuntime) {
     let alloc = rt.alloc();
-    let (status, sink) = run(alloc, "walk", USE, &[], &[])?;
-    assert!(rt; status == Status::BadWords);
-    assert!(rt; sink.written().is_empty());
-    check_faults(&rt, alloc, USE, (&[1], &[]), "", Status::ReadFault)?;
+    check_words(&rt, alloc);
+    check_faults(&rt, alloc, USE, (&[1], &[]), "", Status::ReadFault);
     let written = "keep 1 00000000 4\n";
-    check_faults(&rt, alloc, USE, (&[], &[1]), written, Status::WriteFault)
+    check_faults(&rt, alloc, USE, (&[], &[1]), written, Status::WriteFault);
 }
 
-#[test]
-fn a_long_script_is_refused(rt: HostRuntime) -> Result<(), Fail> {
-    let alloc = rt.alloc();
+/// A script of 1,048,577 bytes.
+fn long_script(rt: &impl Abort, alloc: Global) -> String {
     let mut script = String::new(alloc);
     for _ in 0..524_288 {
-        script.push_str("#\n")?;
+        script.push_str("#\n").expect(rt, "a script");
     }
-    script.push_str("#")?;
-    let (status, _) = run(alloc, "run", script.as_str(), &[], &[])?;
+    script.push_str("#").expect(rt, "a script");
+    script
+}
+
+#[test]
+fn a_long_script_is_refused(rt: HostRuntime) {
+    let script = long_script(&rt, rt.alloc());
+    let (status, sink) = run(&rt, rt.alloc(), ("run", script.as_str()), &[], &[]);
+    drop(sink);
     assert!(rt; status == Status::TooLong);
-    Ok(())
 }
 
 const STATUSES: [(Status, u8, &'static str); 13] = [
@@ -285,13 +348,18 @@ const STATUSES: [(Status, u8, &'static str); 13] = [
     ),
 ];
 
+/// Compares the number of a status, and its text.
+fn check_status(rt: &impl Abort, alloc: Global, status: &Status, number: u8, text: &str) {
+    let line = status_line(alloc, status, &[]).expect(rt, "a line");
+    let holds = status.number() == number && line.as_slice() == text.as_bytes();
+    assert!(rt; holds);
+}
+
 #[test]
-fn statuses_have_numbers_and_texts(rt: HostRuntime) -> Result<(), Fail> {
-    for (status, number, text) in STATUSES {
-        assert!(rt; status.number() == number);
-        assert!(rt; status_line(rt.alloc(), &status, &[])?.as_slice() == text.as_bytes());
+fn statuses_have_numbers_and_texts(rt: HostRuntime) {
+    for (status, number, text) in &STATUSES {
+        check_status(&rt, rt.alloc(), status, *number, text);
     }
-    Ok(())
 }
 
 const KEPT: [&str; 5] = [
@@ -310,62 +378,65 @@ const KEPT_LINES: [&str; 5] = [
     "vault 5 00000000 4 p1=0:\n",
 ];
 
+fn push(rt: &impl Abort, text: &mut String, line: &str) {
+    text.push_str(line).expect(rt, "a text");
+}
+
+/// Appends those of two lines whose place is this.
+fn push_others(
+    rt: &impl Abort,
+    text: &mut String,
+    place: usize,
+    (first, second): (usize, usize),
+    others: [&str; 2],
+) {
+    if place == first {
+        push(rt, text, others[0]);
+    }
+    if place == second {
+        push(rt, text, others[1]);
+    }
+}
+
 /// The lines, with two others put in before those of these places.
 fn with_two(
+    rt: &impl Abort,
     alloc: Global,
     lines: &[&str; 5],
-    first: usize,
-    second: usize,
+    places: (usize, usize),
     others: [&str; 2],
-) -> Result<String, Fail> {
+) -> String {
     let mut text = String::new(alloc);
     for (place, line) in lines.iter().enumerate() {
-        if place == first {
-            text.push_str(others[0])?;
-        }
-        if place == second {
-            text.push_str(others[1])?;
-        }
-        text.push_str(line)?;
+        push_others(rt, &mut text, place, places, others);
+        push(rt, &mut text, line);
     }
-    if first >= lines.len() {
-        text.push_str(others[0])?;
-    }
-    if second >= lines.len() {
-        text.push_str(others[1])?;
-    }
-    Ok(text)
+    push_others(rt, &mut text, lines.len(), places, others);
+    text
+}
+
+/// Compares a run where two lines of another application stand before the lines of these places.
+fn check_two(rt: &impl Abort, alloc: Global, first: usize, second: usize) {
+    let lines = ["keep open 1\n", "keep invoke 1 1 vi:5:0 vo\n"];
+    let script = with_two(rt, alloc, &KEPT, (first, second), lines);
+    let lines = ["keep 1 00000000 4\n", "keep 2 00000000 4 p1=5,1\n"];
+    let output = with_two(rt, alloc, &KEPT_LINES, (first, second), lines);
+    check(rt, alloc, script.as_str(), output.as_str(), Status::Done);
 }
 
 #[test]
-fn applications_stand_side_by_side(rt: HostRuntime) -> Result<(), Fail> {
-    let alloc = rt.alloc();
+fn applications_stand_side_by_side(rt: HostRuntime) {
     for first in 0..6usize {
         for second in first..6usize {
-            let script = with_two(
-                alloc,
-                &KEPT,
-                first,
-                second,
-                ["keep open 1\n", "keep invoke 1 1 vi:5:0 vo\n"],
-            )?;
-            let output = with_two(
-                alloc,
-                &KEPT_LINES,
-                first,
-                second,
-                ["keep 1 00000000 4\n", "keep 2 00000000 4 p1=5,1\n"],
-            )?;
-            check(&rt, alloc, script.as_str(), output.as_str(), Status::Done)?;
+            check_two(&rt, rt.alloc(), first, second);
         }
     }
-    Ok(())
 }
 
 /// A host of the name that runs Store.
-fn store_host(alloc: Global, name: &str, id: u128) -> Result<Host<Sample>, Fail> {
-    Ok(Host {
-        name: Bytes::from_slice(alloc, name.as_bytes())?,
+fn store_host(rt: &impl Abort, alloc: Global, name: &str, id: u128) -> Host<Sample> {
+    Host {
+        name: Bytes::from_slice(alloc, name.as_bytes()).expect(rt, "a name"),
         id: Uuid::from_u128(id),
         properties: Properties {
             single: true,
@@ -373,7 +444,7 @@ fn store_host(alloc: Global, name: &str, id: u128) -> Result<Host<Sample>, Fail>
             keep: true,
         },
         template: Sample::Store(Store::Idle),
-    })
+    }
 }
 
 const FILLED: &str = "\
@@ -392,13 +463,22 @@ two 1 00000000 4
 two 2 00000000 4 p3=1,0
 ";
 
-#[test]
-fn a_quota_is_one_application_s(rt: HostRuntime) -> Result<(), Fail> {
-    let alloc = rt.alloc();
-    let hosts = vec![in alloc; store_host(alloc, "one", 1)?, store_host(alloc, "two", 2)?]?;
+/// Two hosts that run Store.
+fn two_hosts(rt: &impl Abort, alloc: Global) -> Vec<Host<Sample>>
+    ensures { HostsFit result.items }
+{
+    let one = store_host(rt, alloc, "one", 1);
+    let two = store_host(rt, alloc, "two", 2);
+    let hosts = Vec::from_array(alloc, [one, two]).expect(rt, "hosts");
     assert!(rt; hosts_fit(hosts.as_slice()));
-    let (status, sink) = run_for(alloc, hosts, "run", FILLED, &[], &[])?;
-    assert!(rt; status == Status::Done);
-    assert!(rt; sink.written() == FILLED_LINES.as_bytes());
-    Ok(())
+    hosts
+}
+
+#[test]
+fn a_quota_is_one_application_s(rt: HostRuntime) {
+    let alloc = rt.alloc();
+    let streams = streams_of(&rt, alloc, ("run", FILLED), &[], &[]);
+    let (status, sink) = run_over_blank(&rt, alloc, streams, two_hosts(&rt, alloc));
+    let holds = status == Status::Done && sink.written() == FILLED_LINES.as_bytes();
+    assert!(rt; holds);
 }
