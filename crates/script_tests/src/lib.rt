@@ -3,3 +3,4 @@
 
 #[cfg(test)]
 mod lines;
+pub mod text;

@@ -2,6 +2,7 @@ ghost use Rattle.std.specs.Prelude.{◌≡◌, IfOk};
 ghost use Rattle.app_api.specs.Hosts.{HostsFit};
 ghost use Rattle.app_api.specs.declared.ask.Ask.TheVariants.{CancelFlag};
 
+use crate::text::count_of_lines;
 use app_api::{Application, Ask, Given, Host, Properties, hosts_fit};
 use script::{Dialect, ScriptAnswer, parse, parse_in, print, print_reads_back};
 use std::alloc::Global;
@@ -162,17 +163,6 @@ fn the_first_line_outside_is_named(rt: HostRuntime) -> Result<(), Fail> {
     Ok(())
 }
 
-/// How many lines a text has, its last one too where that has no end.
-fn count_of_lines(text: &[u8]) -> u64 {
-    let mut count = 1u32;
-    for byte in text {
-        if *byte == b'\n' {
-            count = count.saturating_add(1);
-        }
-    }
-    u64::from(count)
-}
-
 #[test]
 fn a_script_that_is_cut_is_read_up_to_its_last_line(rt: HostRuntime) -> Result<(), Fail> {
     let alloc = rt.alloc();
@@ -182,7 +172,7 @@ fn a_script_that_is_cut_is_read_up_to_its_last_line(rt: HostRuntime) -> Result<(
     for cut in 0..text.len() {
         let front = &text[..cut];
         if let Some(number) = first_bad(alloc, hosts.as_slice(), front, Dialect::Whole)? {
-            assert!(rt; number == count_of_lines(front));
+            assert!(rt; number == count_of_lines(front) as u64);
         }
     }
     Ok(())
