@@ -2,6 +2,7 @@
 //! refuses.
 #![tactic(auto)]
 
+pub mod about;
 #[cfg(test)]
 mod calls;
 #[cfg(test)]

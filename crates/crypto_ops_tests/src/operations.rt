@@ -1,10 +1,11 @@
 //! Published vectors in pieces, what `new` refuses, and each call once.
 
+use crate::about::is_new;
 use crate::calls::{Do, NO_BYTES, Row, Told, check, content};
 use crate::vectors::{
     ABC, AES_KEY, CBC, CBC_VECTOR, COUNTER, CTR, ECB, HMAC_CODE, HMAC_KEY, LARGEST, PLAIN,
 };
-use crypto_ops::{OpAbout, OpAnswer, Operation};
+use crypto_ops::{OpAnswer, Operation};
 use std::alloc::Global;
 use std::process::Abort;
 use std::test::Fail;
@@ -356,22 +357,10 @@ const TABLE: [(u32, [bool; 6], [bool; 6]); 11] = [
 
 const SIZES: [u32; 6] = [0, 128, 192, 256, 1_016, 1_032];
 
-/// Whether it is this one, initial and without a key.
-fn is_new(operation: &Operation, alg: u32, mode: u32, max_bits: u32) -> bool {
-    let wanted = OpAbout {
-        alg,
-        mode,
-        max_bits,
-        key_bits: 0,
-        active: false,
-    };
-    operation.info() == wanted
-}
-
 /// Asks for a new operation, and compares what comes of it.
 fn check_new(rt: &impl Abort, alg: u32, mode: u32, max_bits: u32, fits: bool) {
     let holds = match &Operation::new(alg, mode, max_bits) {
-        Ok(operation) => fits && is_new(operation, alg, mode, max_bits),
+        Ok(operation) => fits && is_new(&operation.info(), alg, mode, max_bits),
         Err(answer) => !fits && *answer == OpAnswer::NotSupported,
     };
     assert!(rt; holds, "{alg:x} in mode {mode} of {max_bits} bits");
