@@ -1,5 +1,6 @@
 //! A walk through the calls, with values by hand.
 
+use crate::renames::rename;
 use handle_table::{Handle, HandleAnswer, HandleTable};
 use std::test::Fail;
 use tee_base::Flags;
@@ -39,12 +40,10 @@ fn shares_go_with_the_handles(rt: HostRuntime) -> Result<(), Fail> {
     );
     table.close(1, 1);
     assert!(rt; table.get(1, 1).is_none());
-    table.start_rename(2, 1, b"b")?;
-    table.end_rename(false);
+    rename(&mut table, 2, 1, b"b", false)?;
     assert!(rt; table.is_open(b"a") && !table.is_open(b"b"));
     assert!(rt; table.may_open(b"b", Flags::ACCESS_WRITE_META));
-    table.start_rename(2, 1, b"b")?;
-    table.end_rename(true);
+    rename(&mut table, 2, 1, b"b", true)?;
     assert!(rt; table.is_open(b"b") && !table.is_open(b"a"));
     assert!(rt; table.may_open(b"a", Flags::ACCESS_WRITE_META));
     table.close_all(2);

@@ -3,3 +3,4 @@
 
 #[cfg(test)]
 mod handles;
+pub mod renames;
