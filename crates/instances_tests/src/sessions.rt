@@ -1,5 +1,6 @@
 //! Full tables of each kind, and what ends with an instance.
 
+use crate::openings::open;
 use app_api::Properties;
 use instances::{Admission, Instances, Refusal, SessionFacts, SessionState};
 use std::test::Fail;
@@ -32,13 +33,6 @@ const LABEL_IN_USE: Refusal = Refusal {
     code: Code::BAD_STATE,
     origin: Origin::Api,
 };
-
-/// Admits and enters.
-fn open(instances: &mut Instances, client: u8, label: u32) -> Result<Admission, Refusal> {
-    let admission = instances.admit(client, label)?;
-    instances.enter(client, label, admission);
-    Ok(admission)
-}
 
 fn admitted(session: u8, instance: u8, new_instance: bool) -> Result<Admission, Refusal> {
     Ok(Admission {
