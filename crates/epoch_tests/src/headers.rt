@@ -1,3 +1,4 @@
+use crate::counters::counter_behind;
 use board::{BLOCK, Board, BoardFailed};
 use boards::MemBoard;
 use epoch::{
@@ -217,11 +218,7 @@ fn check(rt: &impl Abort, alloc: Global, row: &Row) -> Result<(), Fail> {
     let answer = found.map(|header| header.map(|header| header.sequence));
     assert!(rt; answer == row.answer);
     assert!(rt; board.writes() == written);
-    let counter = match row.answer {
-        Ok(Some(sequence)) => sequence,
-        _ => u64::from(row.counter),
-    };
-    assert!(rt; board.counter()? == counter);
+    assert!(rt; board.counter()? == counter_behind(&row.answer, row.counter));
     Ok(())
 }
 

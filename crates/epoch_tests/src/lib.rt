@@ -2,5 +2,6 @@
 //! opening rule.
 #![tactic(auto)]
 
+pub mod counters;
 #[cfg(test)]
 mod headers;
