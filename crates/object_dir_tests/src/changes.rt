@@ -1,15 +1,18 @@
 //! One table of changes, over the objects in a volume and over a store in memory.
 
 ghost use Rattle.std.specs.Prelude.{◌<◌};
+ghost use Rattle.store_api.specs.Limits.{IsChange};
 ghost use Rattle.tee_base.specs.declared.limits.TheConstants.{MAX_HOSTS};
 
-use super::memory::blank;
+use super::memory::{Memory, blank};
+use super::over::change_over;
 use super::same::are_same;
 use super::steps::{Step, change_of};
 use object_dir::ObjectDir;
 use std::alloc::Global;
+use std::process::Abort;
 use std::test::Fail;
-use store_api::{AppStore, MapStore, Volume};
+use store_api::{AppStore, Change, MapStore, Volume};
 
 const STEPS: &[Step] = &[
     Step::Delete(b'a'),
@@ -29,6 +32,46 @@ const STEPS: &[Step] = &[
     Step::Delete(b'c'),
 ];
 
+/// Makes a change in a store.
+pub fn make_in<S: AppStore>(alloc: Global, store: &mut S, step: Step) -> Result<(), Fail> {
+    let change = change_of(alloc, step)?;
+    let answer = store.apply(&change);
+    drop(change);
+    answer?;
+    Ok(())
+}
+
+/// Makes a change of the objects of a region of a volume.
+pub fn make<V: Volume>(alloc: Global, volume: &mut V, region: u8, step: Step) -> Result<(), Fail>
+    requires { region < MAX_HOSTS }
+{
+    let change = change_of(alloc, step)?;
+    let answer = change_over(alloc, volume, region, &change);
+    drop(change);
+    answer?;
+    Ok(())
+}
+
+/// Whether a region of a volume and another store have the same objects.
+pub fn has_same<V: Volume, S: AppStore>(
+    alloc: Global,
+    volume: &mut V,
+    region: u8,
+    store: &mut S,
+) -> Result<bool, Fail>
+    requires { region < MAX_HOSTS }
+{
+    let mut objects = ObjectDir::of(alloc, volume, region);
+    are_same(alloc, &mut objects, store)
+}
+
+/// Makes a change in two stores, and says whether they answer alike.
+fn answer_alike<S: AppStore, T: AppStore>(one: &mut S, other: &mut T, change: &Change) -> bool
+    requires { IsChange change.now }
+{
+    one.apply(change) == other.apply(change)
+}
+
 /// Makes a change in a region of a volume and in another store, and says whether they answer alike and have the same objects then.
 fn is_alike<V: Volume, S: AppStore>(
     alloc: Global,
@@ -41,14 +84,16 @@ fn is_alike<V: Volume, S: AppStore>(
 {
     let change = change_of(alloc, step)?;
     let mut objects = ObjectDir::of(alloc, volume, region);
-    if objects.apply(&change) != store.apply(&change) {
+    let alike = answer_alike(&mut objects, store, &change);
+    drop(change);
+    if !alike {
         return Ok(false);
     }
     are_same(alloc, &mut objects, store)
 }
 
 /// The first row where they differ, if there is one.
-pub fn first_unlike<V: Volume, S: AppStore>(
+fn first_unlike<V: Volume, S: AppStore>(
     alloc: Global,
     volume: &mut V,
     region: u8,
@@ -64,23 +109,38 @@ pub fn first_unlike<V: Volume, S: AppStore>(
     Ok(None)
 }
 
-/// Makes an object in a region of a volume.
-fn make_one<V: Volume>(alloc: Global, volume: &mut V, region: u8) -> Result<(), Fail>
+/// Whether a region of a volume goes through all rows as a store in memory does.
+pub fn is_as_in_memory<V: Volume>(alloc: Global, volume: &mut V, region: u8) -> Result<bool, Fail>
     requires { region < MAX_HOSTS }
 {
-    let change = change_of(alloc, Step::New(b'k', 2000))?;
-    ObjectDir::of(alloc, volume, region).apply(&change)?;
-    Ok(())
+    let mut store = MapStore::new(alloc, &[])?;
+    let place = first_unlike(alloc, volume, region, &mut store);
+    drop(store);
+    Ok(place? == None)
 }
 
-/// Whether that object is still the one in the region.
+/// What each region but the changed one has.
+const OTHER: Step = Step::New(b'k', 2000);
+
+/// Whether the object that was made there is still the one in the region.
 fn is_that_one<V: Volume>(alloc: Global, volume: &mut V, region: u8) -> Result<bool, Fail>
     requires { region < MAX_HOSTS }
 {
     let mut store = MapStore::new(alloc, &[])?;
-    store.apply(&change_of(alloc, Step::New(b'k', 2000))?)?;
-    let mut objects = ObjectDir::of(alloc, volume, region);
-    are_same(alloc, &mut objects, &mut store)
+    let same = match make_in(alloc, &mut store, OTHER) {
+        Ok(()) => has_same(alloc, volume, region, &mut store),
+        Err(failed) => Err(failed),
+    };
+    drop(store);
+    same
+}
+
+/// Each change of a region answers alike and leaves the same objects, and another region stays.
+fn check(rt: &impl Abort, alloc: Global, volume: &mut Memory) -> Result<(), Fail> {
+    make(alloc, volume, 4, OTHER)?;
+    assert!(rt; is_as_in_memory(alloc, volume, 3)?);
+    assert!(rt; is_that_one(alloc, volume, 4)?);
+    Ok(())
 }
 
 /// Each change answers alike and leaves the same objects, and no region but its own changes.
@@ -88,9 +148,7 @@ fn is_that_one<V: Volume>(alloc: Global, volume: &mut V, region: u8) -> Result<b
 fn as_in_memory(rt: HostRuntime) -> Result<(), Fail> {
     let alloc = rt.alloc();
     let mut volume = blank(alloc)?;
-    make_one(alloc, &mut volume, 4)?;
-    let mut store = MapStore::new(alloc, &[])?;
-    assert!(rt; first_unlike(alloc, &mut volume, 3, &mut store)? == None);
-    assert!(rt; is_that_one(alloc, &mut volume, 4)?);
-    Ok(())
+    let checked = check(&rt, alloc, &mut volume);
+    drop(volume);
+    checked
 }

@@ -9,8 +9,7 @@ mod losses;
 mod memory;
 #[cfg(test)]
 mod on_a_board;
-#[cfg(test)]
-mod over;
+pub mod over;
 #[cfg(test)]
 mod same;
 #[cfg(test)]

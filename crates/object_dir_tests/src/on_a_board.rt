@@ -1,16 +1,16 @@
 //! The objects of a region on a board in memory: the table of changes, and each call of the device stopped within a change.
 
-use super::changes::first_unlike;
-use super::losses::{FIRST, REGION, SECOND, has_objects, make};
+use super::changes::{is_as_in_memory, make};
+use super::losses::{FIRST, REGION, SECOND, has_objects};
+use super::over::change_over;
 use super::steps::change_of;
 use boards::MemBoard;
 use epoch::{BoardVolume, OpenAnswer};
 use flat_volume::FlatVolume;
-use object_dir::ObjectDir;
 use std::alloc::Global;
 use std::test::Fail;
-use store_api::{AppStore, MapStore, StoreAnswer};
-use tee_base::Bytes;
+use store_api::{StoreAnswer, Volume};
+use tee_base::{Bytes, NoMemory};
 
 const KEY: [u8; 32] = [3; 32];
 
@@ -20,7 +20,7 @@ const BLOCKS: u64 = 8_742;
 const MANY: u32 = 2_000;
 
 /// How a change ended that was stopped after some calls of the device, and what was there when the power came back.
-#[derive(Clone, Copy, Debug, PartialEq, Eq)]
+#[derive(Drop)]
 enum Ending {
     /// It was made before it could be stopped.
     Made,
@@ -48,16 +48,30 @@ fn blank(alloc: Global) -> Result<FlatVolume<MemBoard>, Fail> {
 fn as_in_memory_on_a_board(rt: HostRuntime) -> Result<(), Fail> {
     let alloc = rt.alloc();
     let mut volume = blank(alloc)?;
-    let mut store = MapStore::new(alloc, &[])?;
-    assert!(rt; first_unlike(alloc, &mut volume, 3, &mut store)? == None);
+    let alike = is_as_in_memory(alloc, &mut volume, 3);
+    drop(volume);
+    assert!(rt; alike?);
     Ok(())
+}
+
+/// The image of the board of a volume.
+fn image_of(alloc: Global, volume: FlatVolume<MemBoard>) -> Result<Bytes, NoMemory> {
+    let board = volume.into_board();
+    let image = board.image(alloc);
+    drop(board);
+    image
 }
 
 /// The image of a board with one object. Its sequence is 2.
 fn image_with_one(alloc: Global) -> Result<Bytes, Fail> {
     let mut volume = blank(alloc)?;
-    make(alloc, &mut volume, FIRST)?;
-    Ok(volume.into_board().image(alloc)?)
+    match make(alloc, &mut volume, REGION, FIRST) {
+        Ok(()) => Ok(image_of(alloc, volume)?),
+        Err(failed) => {
+            drop(volume);
+            Err(failed)
+        }
+    }
 }
 
 /// A board with that image, opened.
@@ -70,31 +84,40 @@ fn with_one(alloc: Global, image: &Bytes) -> Result<FlatVolume<MemBoard>, Fail> 
     Ok(opened(alloc, board)?)
 }
 
-/// What a change answers.
-fn answer_to(
-    alloc: Global,
-    volume: &mut FlatVolume<MemBoard>,
-) -> Result<Result<(), StoreAnswer>, Fail> {
+/// What the second change answers.
+fn answer_to<V: Volume>(alloc: Global, volume: &mut V) -> Result<Result<(), StoreAnswer>, Fail> {
     let second = change_of(alloc, SECOND)?;
-    let mut objects = ObjectDir::of(alloc, volume, REGION);
-    Ok(objects.apply(&second))
+    let answer = change_over(alloc, volume, REGION, &second);
+    drop(second);
+    Ok(answer)
 }
 
-/// Stops a change after so many calls of the device, and lets the power go and come back.
-fn stop_after(alloc: Global, image: &Bytes, calls: u32, pick: u64) -> Result<Ending, Fail> {
-    let mut volume = with_one(alloc, image)?;
+/// Stops the second change after so many calls of the device, and lets the power go and come back.
+fn stop<V: BoardVolume<MemBoard>>(
+    alloc: Global,
+    volume: &mut V,
+    calls: u32,
+    pick: u64,
+) -> Result<Ending, Fail> {
     volume.fuse(calls);
-    let answer = answer_to(alloc, &mut volume)?;
-    if answer == Ok(()) {
+    let answer = answer_to(alloc, volume)?;
+    if answer.is_ok() {
         return Ok(Ending::Made);
     }
-    let sequence = volume.power(pick)?;
-    let both = sequence == 3;
-    let is_there = has_objects(alloc, &mut volume, both)?;
-    if answer == Err(StoreAnswer::Failed) && is_there {
+    let both = volume.power(pick)? == 3;
+    let is_there = has_objects(alloc, volume, both)?;
+    if is_there && answer == Err(StoreAnswer::Failed) {
         return Ok(Ending::Stopped);
     }
     Ok(Ending::Wrong)
+}
+
+/// The same on a board of its own.
+fn stop_after(alloc: Global, image: &Bytes, calls: u32, pick: u64) -> Result<Ending, Fail> {
+    let mut volume = with_one(alloc, image)?;
+    let ending = stop(alloc, &mut volume, calls, pick);
+    drop(volume);
+    ending
 }
 
 /// Each call of the device within a change is stopped, until the change is made.
@@ -104,11 +127,11 @@ fn each_call_stopped(rt: HostRuntime) -> Result<(), Fail> {
     let image = image_with_one(alloc)?;
     for calls in 0..MANY {
         let pick = if calls % 2 == 0 { 0 } else { 1 };
-        let ending = stop_after(alloc, &image, calls, pick)?;
-        if ending == Ending::Made {
-            return Ok(());
+        match stop_after(alloc, &image, calls, pick)? {
+            Ending::Made => return Ok(()),
+            Ending::Stopped => {}
+            Ending::Wrong => assert!(rt; false),
         }
-        assert!(rt; ending == Ending::Stopped);
     }
     assert!(rt; false);
     Ok(())

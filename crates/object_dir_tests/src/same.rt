@@ -9,6 +9,32 @@ use store_api::{AppStore, Listed, StoreAnswer};
 use tee_base::Bytes;
 use tee_base::limits::MAX_ASK_BYTES;
 
+/// Whether the secret of an object is the same in both.
+fn is_same_secret<S: AppStore, T: AppStore>(
+    one: &mut S,
+    other: &mut T,
+    id: &[u8],
+) -> Result<bool, StoreAnswer>
+    requires { IsIdentifier id.now }
+{
+    let secret = one.secret(id)?;
+    let wanted = other.secret(id)?;
+    Ok(secret.as_slice() == wanted.as_slice())
+}
+
+/// Whether the content of an object is the same in both.
+fn is_same_content<S: AppStore, T: AppStore>(
+    one: &mut S,
+    other: &mut T,
+    id: &[u8],
+) -> Result<bool, StoreAnswer>
+    requires { IsIdentifier id.now }
+{
+    let content = one.read(id, 0, MAX_ASK_BYTES)?;
+    let wanted = other.read(id, 0, MAX_ASK_BYTES)?;
+    Ok(content.as_slice() == wanted.as_slice())
+}
+
 /// Whether the secret and the content of an object are the same in both.
 fn is_same_object<S: AppStore, T: AppStore>(
     one: &mut S,
@@ -17,12 +43,7 @@ fn is_same_object<S: AppStore, T: AppStore>(
 ) -> Result<bool, StoreAnswer>
     requires { IsIdentifier id.now }
 {
-    if one.secret(id)?.as_slice() != other.secret(id)?.as_slice() {
-        return Ok(false);
-    }
-    let content = one.read(id, 0, MAX_ASK_BYTES)?;
-    let wanted = other.read(id, 0, MAX_ASK_BYTES)?;
-    Ok(content.as_slice() == wanted.as_slice())
+    Ok(is_same_secret(one, other, id)? && is_same_content(one, other, id)?)
 }
 
 /// Whether both list the same object with the same facts, or none.
@@ -46,16 +67,21 @@ pub fn are_same<S: AppStore, T: AppStore>(
     for _ in 0..9 {
         let first = one.next_after(Some(last.as_slice()));
         let second = other.next_after(Some(last.as_slice()));
-        if !is_same_listed(&first, &second) {
+        let alike = is_same_listed(&first, &second);
+        drop(first);
+        drop(last);
+        if !alike {
+            drop(second);
             return Ok(false);
         }
         let Ok(listed) = second else {
             return Ok(true);
         };
-        if !is_same_object(one, other, listed.id.as_slice())? {
+        let id = listed.id;
+        if !is_same_object(one, other, id.as_slice())? {
             return Ok(false);
         }
-        last = listed.id;
+        last = id;
     }
     Ok(false)
 }
