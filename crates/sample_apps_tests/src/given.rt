@@ -1,9 +1,10 @@
 mod words;
 
-use app_api::{Answer, Application, Given, Properties, hosts_fit};
+use app_api::{Answer, Application, Given, Host, Properties, hosts_fit};
 use sample_apps::{Count, Crypt, Rogue, Sample, Store, sample_hosts};
 use std::alloc::Global;
 use std::process::Abort;
+use std::string::String;
 use std::test::Fail;
 use tee_base::NoMemory;
 use words::run;
@@ -236,33 +237,51 @@ number 5 > ObjClose { object: 5 }
 done > 00000000 p0=256,0
 ";
 
+/// Gives the rows to an application that begins so.
+fn run_from<A: Application>(
+    rt: &impl Abort,
+    alloc: Global,
+    application: A,
+    table: &str,
+) -> Result<(), Fail> {
+    let mut application = application;
+    let ran = run(rt, alloc, &mut application, table);
+    drop(application);
+    ran
+}
+
 #[test]
 fn store_by_its_table(rt: HostRuntime) -> Result<(), Fail> {
-    run(&rt, rt.alloc(), &mut Sample::Store(Store::Idle), STORE)
+    run_from(&rt, rt.alloc(), Sample::Store(Store::Idle), STORE)
 }
 
 #[test]
 fn count_by_its_table(rt: HostRuntime) -> Result<(), Fail> {
-    run(&rt, rt.alloc(), &mut Sample::Count(Count::new()), COUNT)
+    run_from(&rt, rt.alloc(), Sample::Count(Count::new()), COUNT)
 }
 
 #[test]
 fn crypt_by_its_table(rt: HostRuntime) -> Result<(), Fail> {
-    run(&rt, rt.alloc(), &mut Sample::Crypt(Crypt::new()), CRYPT)
+    run_from(&rt, rt.alloc(), Sample::Crypt(Crypt::new()), CRYPT)
 }
 
 #[test]
 fn rogue_by_its_table(rt: HostRuntime) -> Result<(), Fail> {
-    run(&rt, rt.alloc(), &mut Sample::Rogue(Rogue::Idle), ROGUE)
+    run_from(&rt, rt.alloc(), Sample::Rogue(Rogue::Idle), ROGUE)
 }
 
-fn answer(alloc: Global, sample: &mut Sample, answer: Answer) -> Result<(), NoMemory> {
-    sample.step(alloc, Given::Answer(answer))?;
+fn answer<A: Application>(
+    alloc: Global,
+    application: &mut A,
+    answer: Answer,
+) -> Result<(), NoMemory> {
+    let ask = application.step(alloc, Given::Answer(answer))?;
+    drop(ask);
     Ok(())
 }
 
 /// All that Rogue's command 4 creates.
-fn fill(rt: &impl Abort, alloc: Global, rogue: &mut Sample) -> Result<(), Fail> {
+fn fill<A: Application>(rt: &impl Abort, alloc: Global, rogue: &mut A) -> Result<(), Fail> {
     run(rt, alloc, rogue, "4 vo > create 1 3 0 <0> ")?;
     for _ in 0..255u8 {
         answer(alloc, rogue, Answer::Number(5))?;
@@ -273,7 +292,10 @@ fn fill(rt: &impl Abort, alloc: Global, rogue: &mut Sample) -> Result<(), Fail> 
 
 #[test]
 fn all_one_byte_identifiers(rt: HostRuntime) -> Result<(), Fail> {
-    fill(&rt, rt.alloc(), &mut Sample::Rogue(Rogue::Idle))
+    let mut rogue = Sample::Rogue(Rogue::Idle);
+    let filled = fill(&rt, rt.alloc(), &mut rogue);
+    drop(rogue);
+    filled
 }
 
 /// Name, identifier, the three properties, the application as it begins.
@@ -286,24 +308,35 @@ const HOSTS: [&str; 6] = [
     "rogue 00000000-0000-4000-8000-000000000006 true true false Rogue(Idle)",
 ];
 
+/// A host in the words of its row.
+fn told(alloc: Global, host: &Host<Sample>) -> Result<String, Fail> {
+    let name = str::from_utf8(host.name.as_slice())?;
+    let Properties {
+        single,
+        multi,
+        keep,
+    } = host.properties;
+    Ok(format!(in alloc;
+        "{name} {} {single} {multi} {keep} {:?}",
+        host.id, host.template
+    )?)
+}
+
+fn check_hosts(rt: &impl Abort, alloc: Global, hosts: &[Host<Sample>]) -> Result<(), Fail> {
+    assert!(rt; hosts_fit(hosts));
+    assert!(rt; hosts.len() == HOSTS.len());
+    for (host, row) in hosts.iter().zip(HOSTS.iter()) {
+        let text = told(alloc, host)?;
+        assert!(rt; text.as_str() == *row);
+    }
+    Ok(())
+}
+
 #[test]
 fn hosts_by_their_table(rt: HostRuntime) -> Result<(), Fail> {
     let alloc = rt.alloc();
     let hosts = sample_hosts(alloc)?;
-    assert!(rt; hosts_fit(hosts.as_slice()));
-    assert!(rt; hosts.len() == HOSTS.len());
-    for (host, row) in hosts.iter().zip(HOSTS.iter()) {
-        let name = str::from_utf8(host.name.as_slice())?;
-        let Properties {
-            single,
-            multi,
-            keep,
-        } = host.properties;
-        let text = format!(in alloc;
-            "{name} {} {single} {multi} {keep} {:?}",
-            host.id, host.template
-        )?;
-        assert!(rt; text.as_str() == *row);
-    }
-    Ok(())
+    let checked = check_hosts(&rt, alloc, hosts.as_slice());
+    drop(hosts);
+    checked
 }

@@ -1,13 +1,13 @@
 //! What a sample is given and what it asks for, in words that a table can hold.
 
+use crate::afresh::asked_afresh;
 use app_api::{Answer, Application, Ask, Entry, Given, Out, Param, Params};
-use sample_apps::Sample;
 use std::alloc::Global;
 use std::fmt::Write;
 use std::process::Abort;
 use std::string::String;
 use std::test::Fail;
-use tee_base::{Bytes, Code};
+use tee_base::{Bytes, Code, NoMemory};
 
 fn number(word: Option<&str>) -> Result<u32, Fail> {
     Ok(word.ok_or("a number is missing")?.parse::<u32>()?)
@@ -34,49 +34,89 @@ fn param(alloc: Global, word: Option<&str>) -> Result<Param, Fail> {
     })
 }
 
+/// Two parameters.
+fn params(
+    alloc: Global,
+    first: Option<&str>,
+    second: Option<&str>,
+) -> Result<(Param, Param), Fail> {
+    let first = param(alloc, first)?;
+    match param(alloc, second) {
+        Ok(second) => Ok((first, second)),
+        Err(failed) => {
+            drop(first);
+            Err(failed)
+        }
+    }
+}
+
 /// The number of a command, and its parameters.
 fn invoke(alloc: Global, text: &str) -> Result<Entry, Fail> {
     let mut words = text.split(' ');
-    Ok(Entry::Invoke {
-        session: 1,
-        command: number(words.next())?,
-        params: Params {
-            p0: param(alloc, words.next())?,
-            p1: param(alloc, words.next())?,
-            p2: param(alloc, words.next())?,
-            p3: param(alloc, words.next())?,
-        },
+    let command = number(words.next())?;
+    let (p0, p1) = params(alloc, words.next(), words.next())?;
+    match params(alloc, words.next(), words.next()) {
+        Ok((p2, p3)) => Ok(Entry::Invoke {
+            session: 1,
+            command,
+            params: Params { p0, p1, p2, p3 },
+        }),
+        Err(failed) => {
+            drop(p0);
+            drop(p1);
+            Err(failed)
+        }
+    }
+}
+
+/// What is told of an object: its kind, its length, its position and its flags.
+fn object(text: &str) -> Result<Answer, Fail> {
+    let mut words = text.split(' ');
+    let kind = number(words.next())?;
+    let length = number(words.next())?;
+    let position = number(words.next())?;
+    let flags = number(words.next())?;
+    Ok(Answer::Object {
+        kind,
+        bits: 91,
+        max_bits: 92,
+        usage: 93,
+        length,
+        position,
+        flags,
     })
+}
+
+/// The answer that these words behind its name make.
+fn answer_with(alloc: Global, name: &str, words: &str) -> Result<Answer, Fail> {
+    match name {
+        "refused" => Ok(Answer::Refused(code(Some(words))?)),
+        "number" => Ok(Answer::Number(number(Some(words))?)),
+        "short" => Ok(Answer::Short(number(Some(words))?)),
+        "content" => Ok(Answer::Content(bytes(alloc, Some(words))?)),
+        "found" => Ok(Answer::Found {
+            id: bytes(alloc, Some(words))?,
+            kind: 94,
+            usage: 95,
+            length: 96,
+        }),
+        _ => object(words),
+    }
 }
 
 /// An answer, and none where the first word is none of an answer.
 fn answer(alloc: Global, text: &str) -> Result<Option<Answer>, Fail> {
-    let mut words = text.split(' ');
-    Ok(Some(match words.next().unwrap_or("") {
-        "done" => Answer::Done,
-        "true" => Answer::Truth(true),
-        "false" => Answer::Truth(false),
-        "refused" => Answer::Refused(code(words.next())?),
-        "number" => Answer::Number(number(words.next())?),
-        "content" => Answer::Content(bytes(alloc, words.next())?),
-        "short" => Answer::Short(number(words.next())?),
-        "object" => Answer::Object {
-            kind: number(words.next())?,
-            bits: 91,
-            max_bits: 92,
-            usage: 93,
-            length: number(words.next())?,
-            position: number(words.next())?,
-            flags: number(words.next())?,
-        },
-        "found" => Answer::Found {
-            id: bytes(alloc, words.next())?,
-            kind: 94,
-            usage: 95,
-            length: 96,
-        },
-        _ => return Ok(None),
-    }))
+    match text {
+        "done" => return Ok(Some(Answer::Done)),
+        "true" => return Ok(Some(Answer::Truth(true))),
+        "false" => return Ok(Some(Answer::Truth(false))),
+        _ => {}
+    }
+    match text.split_once(' ') {
+        Some((name @ ("refused" | "number" | "short" | "content" | "found" | "object"), words)) =>
+            Ok(Some(answer_with(alloc, name, words)?)),
+        _ => Ok(None),
+    }
 }
 
 fn entry(alloc: Global, text: &str) -> Result<Entry, Fail> {
@@ -124,12 +164,25 @@ fn put_out(text: &mut String, place: &str, out: &Out) -> Result<(), Fail> {
     Ok(())
 }
 
+/// What is done with an object and these bytes.
+fn put_bytes_of(text: &mut String, what: &str, object: u32, bytes: &Bytes) -> Result<(), Fail> {
+    write!(text, "{what} {object} ")?;
+    put_bytes(text, bytes)
+}
+
+/// What is created, behind its numbers.
+fn put_contents(text: &mut String, id: &Bytes, content: &Bytes) -> Result<(), Fail> {
+    put_bytes(text, id)?;
+    write!(text, " ")?;
+    put_bytes(text, content)
+}
+
 /// An ask that brings bytes, or any other as it is.
 fn put_ask(text: &mut String, ask: &Ask) -> Result<(), Fail> {
     match ask {
         Ask::ObjOpen { storage, id, flags } => {
             write!(text, "open {storage} {flags} ")?;
-            put_bytes(text, id)?;
+            put_bytes(text, id)
         }
         Ask::ObjCreate {
             storage,
@@ -139,21 +192,15 @@ fn put_ask(text: &mut String, ask: &Ask) -> Result<(), Fail> {
             content,
         } => {
             write!(text, "create {storage} {flags} {attr} ")?;
-            put_bytes(text, id)?;
-            write!(text, " ")?;
-            put_bytes(text, content)?;
+            put_contents(text, id, content)
         }
-        Ask::ObjRename { object, id } => {
-            write!(text, "rename {object} ")?;
-            put_bytes(text, id)?;
+        Ask::ObjRename { object, id } => put_bytes_of(text, "rename", *object, id),
+        Ask::ObjWrite { object, bytes } => put_bytes_of(text, "write", *object, bytes),
+        other => {
+            write!(text, "{other:?}")?;
+            Ok(())
         }
-        Ask::ObjWrite { object, bytes } => {
-            write!(text, "write {object} ")?;
-            put_bytes(text, bytes)?;
-        }
-        other => write!(text, "{other:?}")?,
     }
-    Ok(())
 }
 
 /// What is asked for as text: of a return its code and its outputs.
@@ -173,44 +220,46 @@ fn told(alloc: Global, ask: &Ask) -> Result<String, Fail> {
     Ok(text)
 }
 
-/// What the sample asks for when it is given this.
-fn reaction(alloc: Global, sample: &mut Sample, text: &str) -> Result<String, Fail> {
-    let given = given(alloc, text)?;
-    let ask = sample.step(alloc, given)?;
-    told(alloc, &ask)
-}
-
-/// Gives the row, and compares what is asked for then.
-fn run_row(
+/// What is asked for is this.
+fn check(
     rt: &impl Abort,
     alloc: Global,
-    sample: &mut Sample,
+    asked: Result<Ask, NoMemory>,
     text: &str,
     wanted: &str,
 ) -> Result<(), Fail> {
-    let told = reaction(alloc, sample, text)?;
+    let ask = asked?;
+    let told = told(alloc, &ask);
+    drop(ask);
+    let told = told?;
     assert!(rt; told.as_str() == wanted, "{text} > {told}");
     Ok(())
 }
 
-/// Another value of the same state asks for the same.
-fn run_afresh(
+/// Gives the row to another value of the application's state, which asks for the same, and then to the application.
+fn run_row<A: Application>(
     rt: &impl Abort,
     alloc: Global,
-    sample: &Sample,
+    application: &mut A,
     text: &str,
     wanted: &str,
 ) -> Result<(), Fail> {
-    let mut fresh = sample.fresh(alloc)?;
-    run_row(rt, alloc, &mut fresh, text, wanted)
+    let asked = asked_afresh(alloc, application, given(alloc, text)?);
+    check(rt, alloc, asked, text, wanted)?;
+    let asked = application.step(alloc, given(alloc, text)?);
+    check(rt, alloc, asked, text, wanted)
 }
 
-/// Gives each row to the sample, and first to another value of its state.
-pub fn run(rt: &impl Abort, alloc: Global, sample: &mut Sample, table: &str) -> Result<(), Fail> {
+/// Gives each row to the application, and first to another value of its state.
+pub fn run<A: Application>(
+    rt: &impl Abort,
+    alloc: Global,
+    application: &mut A,
+    table: &str,
+) -> Result<(), Fail> {
     for row in table.lines() {
         let (text, wanted) = row.split_once(" > ").ok_or("a row without a sign")?;
-        run_afresh(rt, alloc, sample, text, wanted)?;
-        run_row(rt, alloc, sample, text, wanted)?;
+        run_row(rt, alloc, application, text, wanted)?;
     }
     Ok(())
 }
