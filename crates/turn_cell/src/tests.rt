@@ -6,6 +6,7 @@ ghost use Rattle.turn_cell.specs.Words.{view, IsFree, IsSeatOf, original_parts};
 
 use crate::{Busy, CellSeat, NoMemory, Parted, TurnCell};
 use std::alloc::Global;
+use std::process::Abort;
 use std::sync::Wait;
 use std::test::Fail;
 use std::thread::join;
@@ -83,34 +84,94 @@ fn two_seats(alloc: Global) -> Result<(TurnCell<Tally>, CellSeat<Tally>, CellSea
     }
 }
 
+// Tries in vain while the first seat has the value.
+fn try_in_vain(rt: &impl Abort, cell: &TurnCell<Tally>, seat: &mut CellSeat<Tally>)
+    requires own { IsSeatOf cell.now seat.old }
+    requires free { IsFree seat.old }
+    ensures own { IsSeatOf cell.now seat.new }
+    ensures free { IsFree seat.new }
+    ensures first { (view seat.new).first ≡ (view seat.old).first }
+    ensures size { length (view seat.new).own ≡ length (view seat.old).own }
+{
+    match cell.try_take(seat) {
+        Ok(tally) => {
+            cell.give(seat, tally);
+            assert!(rt; false, "the first seat has the value");
+        }
+        Err(busy) => assert!(rt; busy == Busy { cell: 7, word: 1 }),
+    }
+    assert!(rt; cell.word(seat) == 1);
+}
+
+// The first seat takes the value, the other tries in vain, and the first gives it back.
+fn try_while_out<R: Wait + Abort>(
+    rt: &R,
+    cell: &TurnCell<Tally>,
+    first: &mut CellSeat<Tally>,
+    other: &mut CellSeat<Tally>,
+)
+    requires own { IsSeatOf cell.now first.old × IsSeatOf cell.now other.old }
+    requires free { IsFree first.old × IsFree other.old }
+    ensures own { IsSeatOf cell.now first.new × IsSeatOf cell.now other.new }
+    ensures free { IsFree first.new × IsFree other.new }
+    ensures first { ((view first.new).first ≡ (view first.old).first)
+        × (length (view first.new).own ≡ length (view first.old).own) }
+    ensures other { ((view other.new).first ≡ (view other.old).first)
+        × (length (view other.new).own ≡ length (view other.old).own) }
+{
+    let tally = cell.take(rt, first);
+    try_in_vain(rt, cell, other);
+    cell.give(first, tally);
+}
+
+// The seat that owns part 1 takes the value in one try, counts, and gives it back. The first seat sees who has it.
+fn count_by_a_try(
+    rt: &impl Abort,
+    cell: &TurnCell<Tally>,
+    first: &mut CellSeat<Tally>,
+    seat: &mut CellSeat<Tally>,
+)
+    requires own { IsSeatOf cell.now first.old × IsSeatOf cell.now seat.old }
+    requires free { IsFree first.old × IsFree seat.old }
+    requires part { ((view seat.old).first ≡ 1) × (length (view seat.old).own ≡ 1) }
+    ensures own { IsSeatOf cell.now first.new × IsSeatOf cell.now seat.new }
+    ensures free { IsFree first.new × IsFree seat.new }
+    ensures first { ((view first.new).first ≡ (view first.old).first)
+        × (length (view first.new).own ≡ length (view first.old).own) }
+    ensures part { ((view seat.new).first ≡ 1) × (length (view seat.new).own ≡ 1) }
+{
+    match cell.try_take(seat) {
+        Ok(mut tally) => {
+            assert!(rt; cell.word(first) == 2);
+            tally.count(1);
+            cell.give(seat, tally);
+        }
+        Err(_busy) => assert!(rt; false, "the value is in the cell"),
+    }
+}
+
+// Brings the second part back to the first seat, and ends the cell.
+fn close(cell: TurnCell<Tally>, first: CellSeat<Tally>, second: CellSeat<Tally>) -> Tally
+    requires cell { length (original_parts ⟦<Tally as Parted>⟧.parts_of cell) ≡ 2 }
+    requires own { IsSeatOf cell first × IsSeatOf cell second }
+    requires free { IsFree first × IsFree second }
+    requires first { ((view first).first ≡ 0) × (length (view first).own ≡ 1) }
+    requires second { ((view second).first ≡ 1) × (length (view second).own ≡ 1) }
+{
+    let mut first = first;
+    cell.join(&mut first, second);
+    cell.close(first)
+}
+
 #[test]
 fn a_try_finds_who_has_the_value(rt: HostRuntime) -> Result<(), Fail> {
     let (cell, mut first, mut second) = two_seats(rt.alloc())?;
-
-    let tally = cell.take(&rt, &mut first);
-    match cell.try_take(&mut second) {
-        Ok(tally) => {
-            cell.give(&mut second, tally);
-            assert!(rt; false, "the first seat has the value");
-        }
-        Err(busy) => assert_eq!(rt; busy, Busy { cell: 7, word: 1 }),
-    }
-    assert_eq!(rt; cell.word(&mut second), 1);
-    cell.give(&mut first, tally);
-
-    let Ok(mut tally) = cell.try_take(&mut second) else {
-        assert!(rt; false, "the value is in the cell");
-        return Ok(());
-    };
-    assert_eq!(rt; cell.word(&mut first), 2);
-    tally.count(1);
-    cell.give(&mut second, tally);
-
-    cell.join(&mut first, second);
-    let tally = cell.close(first);
-    assert_eq!(rt; tally.first, 0);
-    assert_eq!(rt; tally.second, 1);
-    assert_eq!(rt; tally.counted.as_slice(), [1].as_slice());
+    try_while_out(&rt, &cell, &mut first, &mut second);
+    count_by_a_try(&rt, &cell, &mut first, &mut second);
+    let tally = close(cell, first, second);
+    assert!(rt; tally.first == 0);
+    assert!(rt; tally.second == 1);
+    assert!(rt; tally.counted.as_slice() == [1].as_slice());
     Ok(())
 }
 
@@ -141,7 +202,7 @@ fn two_threads_take_turns(rt: HostRuntime) -> Result<(), Fail> {
     let (cell, first, second) = two_seats(rt.alloc())?;
     let shared = &cell;
     let runtime = &rt;
-    let (mut first, second) = join(
+    let (first, second) = join(
         runtime,
         move || -> CellSeat<Tally>
             requires { IsSeatOf shared.now first × IsFree first × ((view first).first ≡ 0)
@@ -157,10 +218,9 @@ fn two_threads_take_turns(rt: HostRuntime) -> Result<(), Fail> {
         { count_often(runtime, shared, second, 1) },
     );
 
-    cell.join(&mut first, second);
-    let tally = cell.close(first);
-    assert_eq!(rt; tally.first, u64::from(TURNS));
-    assert_eq!(rt; tally.second, u64::from(TURNS));
-    assert_eq!(rt; tally.counted.len(), 2 * TURNS as usize);
+    let tally = close(cell, first, second);
+    assert!(rt; tally.first == u64::from(TURNS));
+    assert!(rt; tally.second == u64::from(TURNS));
+    assert!(rt; tally.counted.len() == 2 * TURNS as usize);
     Ok(())
 }
