@@ -1,19 +1,133 @@
 //! Published digests and codes, and each call once.
-use crate::{Hash, Tag, digest, hmac};
+use crate::{Digester, Hash, Mac, Tag, digest, hmac};
 use std::alloc::Global;
 use std::fmt::Write;
 use std::process::Abort;
 use std::test::Fail;
 
-const HASHES: [Hash; 3] = [Hash::Sha256, Hash::Sha384, Hash::Sha512];
+const HASHES: &[Hash] = &[Hash::Sha256, Hash::Sha384, Hash::Sha512];
 
-#[derive(Drop)]
-struct Example<'a> {
-    key: &'a [u8],
-    message: &'a [u8],
+struct Example {
+    key: &'static [u8],
+    message: &'static [u8],
     // Under each of `HASHES`.
-    tags: [&'a str; 3],
+    tags: [&'static str; 3],
 }
+
+// RFC 4231 sections 4.2 to 4.5, 4.7 and 4.8.
+const CODES: &[Example] = &[
+    Example {
+        key: &[0x0b; 20],
+        message: b"Hi There",
+        tags: [
+            "b0344c61d8db38535ca8afceaf0bf12b881dc200c9833da726e9376c2e32cff7",
+            "afd03944d84895626b0825f4ab46907f15f9dadbe4101ec682aa034c7cebc59cfaea9ea9076ede7f4af152e8b2fa9cb6",
+            "87aa7cdea5ef619d4ff0b4241a1d6cb02379f4e2ce4ec2787ad0b30545e17cdedaa833b7d6b8a702038b274eaea3f4e4be9d914eeb61f1702e696c203a126854",
+        ],
+    },
+    Example {
+        key: b"Jefe",
+        message: b"what do ya want for nothing?",
+        tags: [
+            "5bdcc146bf60754e6a042426089575c75a003f089d2739839dec58b964ec3843",
+            "af45d2e376484031617f78d2b58a6b1b9c7ef464f5a01b47e42ec3736322445e8e2240ca5e69e2c78b3239ecfab21649",
+            "164b7a7bfcf819e2e395fbe73b56e0a387bd64222e831fd610270cd7ea2505549758bf75c05a994a6d034f65f8f0e6fdcaeab1a34d4a6b4b636e070a38bce737",
+        ],
+    },
+    Example {
+        key: &[0xaa; 20],
+        message: &[0xdd; 50],
+        tags: [
+            "773ea91e36800e46854db8ebd09181a72959098b3ef8c122d9635514ced565fe",
+            "88062608d3e6ad8a0aa2ace014c8a86f0aa635d947ac9febe83ef4e55966144b2a5ab39dc13814b94e3ab6e101a34f27",
+            "fa73b0089d56a284efb0f0756c890be9b1b5dbdd8ee81a3655f83e33b2279d39bf3e848279a722c806b485a47e67c807b946a337bee8942674278859e13292fb",
+        ],
+    },
+    Example {
+        key: b"\x01\x02\x03\x04\x05\x06\x07\x08\x09\x0a\x0b\x0c\x0d\x0e\x0f\x10\x11\x12\x13\x14\x15\x16\x17\x18\x19",
+        message: &[0xcd; 50],
+        tags: [
+            "82558a389a443c0ea4cc819899f2083a85f0faa3e578f8077a2e3ff46729665b",
+            "3e8a69b7783c25851933ab6290af6ca77a9981480850009cc5577c6e1f573b4e6801dd23c4a7d679ccf8a386c674cffb",
+            "b0ba465637458c6990e5a8c5f61d4af7e576d97ff94b872de76f8050361ee3dba91ca5c11aa25eb4d679275cc5788063a5f19741120c4f2de2adebeb10a298dd",
+        ],
+    },
+    Example {
+        key: &[0xaa; 131],
+        message: b"Test Using Larger Than Block-Size Key - Hash Key First",
+        tags: [
+            "60e431591ee0b67f0d8a26aacbf5b77f8e0bc6213728c5140546040f0ee37f54",
+            "4ece084485813e9088d2c63a041bc5b44f9ef1012a2b588f3cd11f05033ac4c60c2ef6ab4030fe8296248df163f44952",
+            "80b24263c7c1a3ebb71493c1dd7be8b49b46d1f41b4aeec1121b013783f8f3526b56d037e05f2598bd0fd2215d6a1e5295e64f73f63f0aec8b915a985d786598",
+        ],
+    },
+    Example {
+        key: &[0xaa; 131],
+        message: b"This is a test using a larger than block-size key and a larger than block-size data. The key needs to be hashed before being used by the HMAC algorithm.",
+        tags: [
+            "9b09ffa71b942fcb27635fbcd5b0e944bfdc63644f0713938a7f51535c3a35e2",
+            "6617178e941f020d351e2f254e8fd32c602420feb0b8fb9adccebb82461e99c5a678cc31e799176d3860e6110c46523e",
+            "e37b6a775dc87dbaa4dfa9f96e5e3ffddebd71f8867289865df5a32d20cdc944b6022cac3c4982b10d5eeb55c3e4de15134676fb6de0446065c97440fa8c6a58",
+        ],
+    },
+];
+
+// How many bytes of a key that counts from 1, and the codes of `message` under it. A key as long as a block stands as
+// it is, and one more byte has it hashed. The codes are those of Python's `hmac`.
+const KEYS: &[(usize, [&str; 3])] = &[
+    (
+        64,
+        [
+            "2c0cad6f39bb306a50959b431754de20f89dd052f0f9ec9d01bea0a7c65a172d",
+            "fa109da900e90a0ff3a49275f608d41a3b645687c659a7b359297a745e1ae57858f26e33cffbc5a21babf985011f2a51",
+            "d2bd0fca8656e19ae2e9a5099927c54c0db2a09b043576e2eb9dfb373bddd7b4401efc8df6e3f4e1056962944a9e97457beac676fe9324503eb240f4955d40b2",
+        ],
+    ),
+    (
+        65,
+        [
+            "7a2d13317a634cfa226d4c0cc6bb3d920092720a07d209f346bffd8ef4a10fc6",
+            "df7a6af7aa9a0ad65fbf4df27786e36d4b9c4acb95e6df1a11506789119bb2fa2500c47de59385c60b9c1b1632f8b3dc",
+            "fbd5e975a01c6a2e0c3f1d140cf78d5e5a39da906406c024930d4c3aaf92c573e61059c2a45cf9bae51fbb9882549a9d685da7c6b8d84ed28503628365b843ed",
+        ],
+    ),
+    (
+        128,
+        [
+            "ae80106ad2bd1c2e91c6047d6f969122c1d9acddcd27445424d6e6bbed0d019d",
+            "8fe9ee559f6af92cf31410fc4bdf5a88ab906703106c4f7814bef47d145785e4881fc07b55d70e9453794a8c286a6e14",
+            "08a35b8c40ec310a7645cfee5ae4979461fee5d2a8310a8043ae2ab3960a782f0fd4284b6d3324d4adc6f9f7fc3573525806bf659ef3db8939f7e7980bcb3d5b",
+        ],
+    ),
+    (
+        129,
+        [
+            "66e2d88596febbf1c54f780567402c149339aced3066ef46ab399b20a5746335",
+            "e38d2f6fc61fc2829dc27cc69200b7d95f855d2bb9041752fcf6ea1a07f3a71ce6897fab37620b471c0931b9d954f039",
+            "c6c342aeed6f896ea1d1672e8b0a9e215a03f3a6dc5455b69e8cff9b9ddc911898defac8e324a4880ecf8f5e7ca85b81fa34452f648aa3c02a412373d4921c71",
+        ],
+    ),
+];
+
+// The digests of the empty message and of `abc`, in the examples to FIPS 180-4.
+const DIGESTS: &[(&[u8], [&str; 3])] = &[
+    (
+        b"",
+        [
+            "e3b0c44298fc1c149afbf4c8996fb92427ae41e4649b934ca495991b7852b855",
+            "38b060a751ac96384cd9327eb1b1e36a21fdb71114be07434c0cc7bf63f6e1da274edebfe76f65fbd51ad2f14898b95b",
+            "cf83e1357eefb8bdf1542850d66d8007d620e4050b5715dc83f4a921d36ce9ce47d0d13c5d85f2b0ff8318d2877eec2f63b931bd47417a81a538327af927da3e",
+        ],
+    ),
+    (
+        b"abc",
+        [
+            "ba7816bf8f01cfea414140de5dae2223b00361a396177a9cb410ff61f20015ad",
+            "cb00753f45a35e8bb5a03d699ac65007272c32ab0eded1631a8b605a43ff5bed8086072ba1e7cc2358baeca134c825a7",
+            "ddaf35a193617abacc417349ae20413112e6fa4e89a97ea20a9eeee64b55d39a2192992a274fc1a836ba3c23a3feebbd454d4423643ce80e2a9ac94fa54ca49f",
+        ],
+    ),
+];
 
 fn hex_of(alloc: Global, tag: &Tag) -> Result<String, Fail> {
     let mut text = String::new(alloc);
@@ -21,6 +135,14 @@ fn hex_of(alloc: Global, tag: &Tag) -> Result<String, Fail> {
         write!(text, "{byte:02x}")?;
     }
     Ok(text)
+}
+
+// The tag is this, in hexadecimal.
+fn is_tag(rt: &impl Abort, alloc: Global, tag: Tag, wanted: &str) -> Result<(), Fail> {
+    let text = hex_of(alloc, &tag);
+    drop(tag);
+    assert!(rt; text?.as_str() == wanted);
+    Ok(())
 }
 
 // Bytes that count from 1.
@@ -32,217 +154,166 @@ fn count_from_1() -> [u8; 129] {
     bytes
 }
 
-// The code comes out in one piece, byte by byte, and again after each `finish` and `compare`.
-fn check(rt: &impl Abort, alloc: Global, example: &Example<'_>) -> Result<(), Fail> {
-    for i in 0..3 {
-        let mut mac = hmac(HASHES[i], example.key);
-        mac.update(example.message);
-        let tag = mac.finish();
-        let text = hex_of(alloc, &tag)?;
-        assert_eq!(rt; text.as_str(), example.tags[i]);
+// A message that comes byte by byte has this code, and the empty one behind it has another.
+fn check_bytes(rt: &impl Abort, mac: &mut Mac, message: &[u8], code: &[u8]) {
+    for byte in message {
+        mac.update(&[]);
+        mac.update(&[*byte]);
+    }
+    assert!(rt; mac.compare(code));
+    assert!(rt; !mac.compare(code));
+}
 
-        for byte in example.message {
-            mac.update(&[]);
-            mac.update(&[*byte]);
-        }
-        assert!(rt; mac.compare(tag.as_slice()));
-        assert!(rt; !mac.compare(tag.as_slice()));
-        mac.update(example.message);
-        let again = hex_of(alloc, &mac.finish())?;
-        assert_eq!(rt; again.as_str(), example.tags[i]);
+// The code comes out in one piece, byte by byte, and again after each `finish` and `compare`.
+fn check_mac(
+    rt: &impl Abort,
+    alloc: Global,
+    mac: &mut Mac,
+    message: &[u8],
+    wanted: &str,
+) -> Result<(), Fail> {
+    mac.update(message);
+    let tag = mac.finish();
+    check_bytes(rt, mac, message, tag.as_slice());
+    is_tag(rt, alloc, tag, wanted)?;
+    mac.update(message);
+    is_tag(rt, alloc, mac.finish(), wanted)
+}
+
+fn check(
+    rt: &impl Abort,
+    alloc: Global,
+    key: &[u8],
+    message: &[u8],
+    tags: &[&str; 3],
+) -> Result<(), Fail> {
+    for i in 0..3 {
+        let mut mac = hmac(HASHES[i], key);
+        let checked = check_mac(rt, alloc, &mut mac, message, tags[i]);
+        drop(mac);
+        checked?;
     }
     Ok(())
 }
 
-// RFC 4231 sections 4.2 to 4.5, 4.7 and 4.8.
 #[test]
 fn published_codes(rt: HostRuntime) -> Result<(), Fail> {
-    let examples = [
-        Example {
-            key: &[0x0b; 20],
-            message: b"Hi There",
-            tags: [
-                "b0344c61d8db38535ca8afceaf0bf12b881dc200c9833da726e9376c2e32cff7",
-                "afd03944d84895626b0825f4ab46907f15f9dadbe4101ec682aa034c7cebc59cfaea9ea9076ede7f4af152e8b2fa9cb6",
-                "87aa7cdea5ef619d4ff0b4241a1d6cb02379f4e2ce4ec2787ad0b30545e17cdedaa833b7d6b8a702038b274eaea3f4e4be9d914eeb61f1702e696c203a126854",
-            ],
-        },
-        Example {
-            key: b"Jefe",
-            message: b"what do ya want for nothing?",
-            tags: [
-                "5bdcc146bf60754e6a042426089575c75a003f089d2739839dec58b964ec3843",
-                "af45d2e376484031617f78d2b58a6b1b9c7ef464f5a01b47e42ec3736322445e8e2240ca5e69e2c78b3239ecfab21649",
-                "164b7a7bfcf819e2e395fbe73b56e0a387bd64222e831fd610270cd7ea2505549758bf75c05a994a6d034f65f8f0e6fdcaeab1a34d4a6b4b636e070a38bce737",
-            ],
-        },
-        Example {
-            key: &[0xaa; 20],
-            message: &[0xdd; 50],
-            tags: [
-                "773ea91e36800e46854db8ebd09181a72959098b3ef8c122d9635514ced565fe",
-                "88062608d3e6ad8a0aa2ace014c8a86f0aa635d947ac9febe83ef4e55966144b2a5ab39dc13814b94e3ab6e101a34f27",
-                "fa73b0089d56a284efb0f0756c890be9b1b5dbdd8ee81a3655f83e33b2279d39bf3e848279a722c806b485a47e67c807b946a337bee8942674278859e13292fb",
-            ],
-        },
-        Example {
-            key: b"\x01\x02\x03\x04\x05\x06\x07\x08\x09\x0a\x0b\x0c\x0d\x0e\x0f\x10\x11\x12\x13\x14\x15\x16\x17\x18\x19",
-            message: &[0xcd; 50],
-            tags: [
-                "82558a389a443c0ea4cc819899f2083a85f0faa3e578f8077a2e3ff46729665b",
-                "3e8a69b7783c25851933ab6290af6ca77a9981480850009cc5577c6e1f573b4e6801dd23c4a7d679ccf8a386c674cffb",
-                "b0ba465637458c6990e5a8c5f61d4af7e576d97ff94b872de76f8050361ee3dba91ca5c11aa25eb4d679275cc5788063a5f19741120c4f2de2adebeb10a298dd",
-            ],
-        },
-        Example {
-            key: &[0xaa; 131],
-            message: b"Test Using Larger Than Block-Size Key - Hash Key First",
-            tags: [
-                "60e431591ee0b67f0d8a26aacbf5b77f8e0bc6213728c5140546040f0ee37f54",
-                "4ece084485813e9088d2c63a041bc5b44f9ef1012a2b588f3cd11f05033ac4c60c2ef6ab4030fe8296248df163f44952",
-                "80b24263c7c1a3ebb71493c1dd7be8b49b46d1f41b4aeec1121b013783f8f3526b56d037e05f2598bd0fd2215d6a1e5295e64f73f63f0aec8b915a985d786598",
-            ],
-        },
-        Example {
-            key: &[0xaa; 131],
-            message: b"This is a test using a larger than block-size key and a larger than block-size data. The key needs to be hashed before being used by the HMAC algorithm.",
-            tags: [
-                "9b09ffa71b942fcb27635fbcd5b0e944bfdc63644f0713938a7f51535c3a35e2",
-                "6617178e941f020d351e2f254e8fd32c602420feb0b8fb9adccebb82461e99c5a678cc31e799176d3860e6110c46523e",
-                "e37b6a775dc87dbaa4dfa9f96e5e3ffddebd71f8867289865df5a32d20cdc944b6022cac3c4982b10d5eeb55c3e4de15134676fb6de0446065c97440fa8c6a58",
-            ],
-        },
-    ];
-    for example in &examples {
-        check(&rt, rt.alloc(), example)?;
+    for example in CODES {
+        check(&rt, rt.alloc(), example.key, example.message, &example.tags)?;
     }
     Ok(())
 }
 
-// A key as long as a block stands as it is, and one more byte has it hashed. The codes are those of
-// Python's `hmac`.
 #[test]
 fn keys_about_a_block(rt: HostRuntime) -> Result<(), Fail> {
-    let key_from_1 = count_from_1();
-    let examples = [
-        Example {
-            key: &key_from_1[..64],
-            message: b"message",
-            tags: [
-                "2c0cad6f39bb306a50959b431754de20f89dd052f0f9ec9d01bea0a7c65a172d",
-                "fa109da900e90a0ff3a49275f608d41a3b645687c659a7b359297a745e1ae57858f26e33cffbc5a21babf985011f2a51",
-                "d2bd0fca8656e19ae2e9a5099927c54c0db2a09b043576e2eb9dfb373bddd7b4401efc8df6e3f4e1056962944a9e97457beac676fe9324503eb240f4955d40b2",
-            ],
-        },
-        Example {
-            key: &key_from_1[..65],
-            message: b"message",
-            tags: [
-                "7a2d13317a634cfa226d4c0cc6bb3d920092720a07d209f346bffd8ef4a10fc6",
-                "df7a6af7aa9a0ad65fbf4df27786e36d4b9c4acb95e6df1a11506789119bb2fa2500c47de59385c60b9c1b1632f8b3dc",
-                "fbd5e975a01c6a2e0c3f1d140cf78d5e5a39da906406c024930d4c3aaf92c573e61059c2a45cf9bae51fbb9882549a9d685da7c6b8d84ed28503628365b843ed",
-            ],
-        },
-        Example {
-            key: &key_from_1[..128],
-            message: b"message",
-            tags: [
-                "ae80106ad2bd1c2e91c6047d6f969122c1d9acddcd27445424d6e6bbed0d019d",
-                "8fe9ee559f6af92cf31410fc4bdf5a88ab906703106c4f7814bef47d145785e4881fc07b55d70e9453794a8c286a6e14",
-                "08a35b8c40ec310a7645cfee5ae4979461fee5d2a8310a8043ae2ab3960a782f0fd4284b6d3324d4adc6f9f7fc3573525806bf659ef3db8939f7e7980bcb3d5b",
-            ],
-        },
-        Example {
-            key: &key_from_1[..129],
-            message: b"message",
-            tags: [
-                "66e2d88596febbf1c54f780567402c149339aced3066ef46ab399b20a5746335",
-                "e38d2f6fc61fc2829dc27cc69200b7d95f855d2bb9041752fcf6ea1a07f3a71ce6897fab37620b471c0931b9d954f039",
-                "c6c342aeed6f896ea1d1672e8b0a9e215a03f3a6dc5455b69e8cff9b9ddc911898defac8e324a4880ecf8f5e7ca85b81fa34452f648aa3c02a412373d4921c71",
-            ],
-        },
-    ];
-    for example in &examples {
-        check(&rt, rt.alloc(), example)?;
+    let key = count_from_1();
+    for (length, tags) in KEYS {
+        assert!(rt; *length <= 129);
+        check(&rt, rt.alloc(), &key[..*length], b"message", tags)?;
     }
     Ok(())
 }
 
-// The digests of the empty message and of `abc`, in the examples to FIPS 180-4.
+// The digest comes out in one piece and byte by byte, and is as long as the hash says.
+fn check_digester(
+    rt: &impl Abort,
+    alloc: Global,
+    digester: &mut Digester,
+    message: &[u8],
+    wanted: &str,
+) -> Result<usize, Fail> {
+    digester.update(message);
+    let first = digester.finish();
+    let length = first.as_slice().len();
+    is_tag(rt, alloc, first, wanted)?;
+    for byte in message {
+        digester.update(&[*byte]);
+    }
+    is_tag(rt, alloc, digester.finish(), wanted)?;
+    Ok(length)
+}
+
+fn check_digests(
+    rt: &impl Abort,
+    alloc: Global,
+    message: &[u8],
+    digests: &[&str; 3],
+) -> Result<(), Fail> {
+    for i in 0..3 {
+        let mut digester = digest(HASHES[i]);
+        let length = check_digester(rt, alloc, &mut digester, message, digests[i]);
+        drop(digester);
+        assert!(rt; length? == HASHES[i].digest_len());
+    }
+    Ok(())
+}
+
 #[test]
 fn published_digests(rt: HostRuntime) -> Result<(), Fail> {
-    let examples = [
-        (
-            b"".as_slice(),
-            [
-                "e3b0c44298fc1c149afbf4c8996fb92427ae41e4649b934ca495991b7852b855",
-                "38b060a751ac96384cd9327eb1b1e36a21fdb71114be07434c0cc7bf63f6e1da274edebfe76f65fbd51ad2f14898b95b",
-                "cf83e1357eefb8bdf1542850d66d8007d620e4050b5715dc83f4a921d36ce9ce47d0d13c5d85f2b0ff8318d2877eec2f63b931bd47417a81a538327af927da3e",
-            ],
-        ),
-        (
-            b"abc".as_slice(),
-            [
-                "ba7816bf8f01cfea414140de5dae2223b00361a396177a9cb410ff61f20015ad",
-                "cb00753f45a35e8bb5a03d699ac65007272c32ab0eded1631a8b605a43ff5bed8086072ba1e7cc2358baeca134c825a7",
-                "ddaf35a193617abacc417349ae20413112e6fa4e89a97ea20a9eeee64b55d39a2192992a274fc1a836ba3c23a3feebbd454d4423643ce80e2a9ac94fa54ca49f",
-            ],
-        ),
-    ];
-    for (message, digests) in &examples {
-        for i in 0..3 {
-            let mut digester = digest(HASHES[i]);
-            digester.update(message);
-            let first = digester.finish();
-            assert_eq!(rt; first.as_slice().len(), HASHES[i].digest_len());
-            assert_eq!(rt; hex_of(rt.alloc(), &first)?.as_str(), digests[i]);
-            for byte in *message {
-                digester.update(&[*byte]);
-            }
-            assert_eq!(rt;
-                hex_of(rt.alloc(), &digester.finish())?.as_str(),
-                digests[i]
-            );
-        }
+    for (message, digests) in DIGESTS {
+        check_digests(&rt, rt.alloc(), message, digests)?;
     }
     Ok(())
 }
 
-#[test]
-fn compare_wants_all_bytes_and_no_more(rt: HostRuntime) {
-    let mut mac = hmac(Hash::Sha256, b"key");
-    let tag = mac.finish();
-    let bytes = tag.as_slice();
-    assert_eq!(rt; bytes.len(), 32);
-    let mut exact = [0; 32];
-    exact.copy_from_slice(bytes);
+// A copy of a code of 32 bytes.
+fn copy_of(rt: &impl Abort, code: &[u8]) -> [u8; 32] {
+    assert!(rt; code.len() == 32);
+    let mut copy = [0; 32];
+    copy.copy_from_slice(code);
+    copy
+}
+
+// Of the code, a longer one, a shorter one and none, the code alone compares.
+fn compare_lengths(rt: &impl Abort, mac: &mut Mac, exact: &[u8; 32]) {
     let mut long = [0; 33];
-    long[..32].copy_from_slice(bytes);
-    let prefix = &exact[..31];
-    assert!(rt; mac.compare(&exact));
+    long[..32].copy_from_slice(exact);
+    assert!(rt; mac.compare(exact));
     assert!(rt; !mac.compare(&long));
-    assert!(rt; !mac.compare(prefix));
+    assert!(rt; !mac.compare(&exact[..31]));
     assert!(rt; !mac.compare(&[]));
+}
+
+// No code with another byte compares.
+fn compare_bytes(rt: &impl Abort, mac: &mut Mac, exact: &[u8; 32]) {
     for i in 0..32 {
-        let mut other = exact;
+        let mut other = *exact;
         other[i] ^= 0x80;
         assert!(rt; !mac.compare(&other), "at byte {i}");
     }
 }
 
 #[test]
-fn clones_go_on_apart(rt: HostRuntime) -> Result<(), Fail> {
+fn compare_wants_all_bytes_and_no_more(rt: HostRuntime) {
+    let mut mac = hmac(Hash::Sha256, b"key");
+    let tag = mac.finish();
+    let exact = copy_of(&rt, tag.as_slice());
+    drop(tag);
+    compare_lengths(&rt, &mut mac, &exact);
+    compare_bytes(&rt, &mut mac, &exact);
+}
+
+// The digester's message is this one, which another takes in whole.
+fn has_taken(rt: &impl Abort, digester: &mut Digester, whole: &mut Digester, message: &[u8]) {
+    whole.update(message);
+    let wanted = whole.finish();
+    let found = digester.finish();
+    assert!(rt; found.as_slice() == wanted.as_slice());
+}
+
+fn digesters_go_on_apart(rt: &impl Abort) -> Result<(), Fail> {
     let mut digester = digest(Hash::Sha512);
     digester.update(b"ab");
     let mut other = digester.clone()?;
     digester.update(b"c");
     other.update(b"d");
     let mut whole = digest(Hash::Sha512);
-    whole.update(b"abc");
-    assert!(rt; digester.finish().as_slice() == whole.finish().as_slice());
-    whole.update(b"abd");
-    assert!(rt; other.finish().as_slice() == whole.finish().as_slice());
+    has_taken(rt, &mut digester, &mut whole, b"abc");
+    has_taken(rt, &mut other, &mut whole, b"abd");
+    Ok(())
+}
 
+fn macs_go_on_apart(rt: &impl Abort) -> Result<(), Fail> {
     let mut mac = hmac(Hash::Sha384, b"key");
     mac.update(b"ab");
     let mut copy = mac.clone()?;
@@ -250,6 +321,13 @@ fn clones_go_on_apart(rt: HostRuntime) -> Result<(), Fail> {
     copy.update(b"c");
     let tag = mac.finish();
     assert!(rt; copy.compare(tag.as_slice()));
-    assert_eq!(rt; Hash::Sha384.block_len(), 128);
+    Ok(())
+}
+
+#[test]
+fn clones_go_on_apart(rt: HostRuntime) -> Result<(), Fail> {
+    digesters_go_on_apart(&rt)?;
+    macs_go_on_apart(&rt)?;
+    assert!(rt; Hash::Sha384.block_len() == 128);
     Ok(())
 }
