@@ -117,7 +117,7 @@ struct Row {
     answer: Result<Option<u64>, OpenAnswer>,
 }
 
-const ROWS: [Row; 8] = [
+const ROWS: &[Row] = &[
     Row {
         blocks: 8_741,
         counter: 0,
@@ -197,29 +197,45 @@ fn write_header<B: Board>(
     fill(rt, board, 2 * (header.sequence % 2), &[0xA5; BLOCK])
 }
 
-fn prepared(rt: &impl Abort, alloc: Global, row: &Row) -> Result<MemBoard, Fail> {
-    let mut board = MemBoard::blank(alloc, KEY, row.blocks)?;
-    for _ in 0..row.counter {
+/// Advances the counter so often.
+fn raise<B: Board>(board: &mut B, times: u32) -> Result<(), BoardFailed> {
+    for _ in 0..times {
         let _raised = board.advance()?;
     }
-    for (version, sequence) in row.headers.iter() {
-        write_header(rt, &mut board, &header_of(*version, *sequence))?;
-    }
-    let mut block = block_of(rt, &mut board, 3)?;
-    block[60] ^= row.changed;
-    fill(rt, &mut board, 3, &block)?;
-    Ok(board)
+    Ok(())
 }
 
-fn check(rt: &impl Abort, alloc: Global, row: &Row) -> Result<(), Fail> {
-    let mut board = prepared(rt, alloc, row)?;
+fn prepare<B: Board>(rt: &impl Abort, board: &mut B, row: &Row) -> Result<(), BoardFailed> {
+    raise(board, row.counter)?;
+    for (version, sequence) in row.headers.iter() {
+        write_header(rt, board, &header_of(*version, *sequence))?;
+    }
+    let mut block = block_of(rt, board, 3)?;
+    block[60] ^= row.changed;
+    fill(rt, board, 3, &block)
+}
+
+/// The opening answers as the row says, writes nothing, and leaves the counter where it belongs.
+fn check_opening<B: Board>(rt: &impl Abort, board: &mut B, row: &Row) -> Result<(), BoardFailed> {
     let written = board.writes();
-    let found = find_header(&mut board);
+    let found = find_header(board);
     let answer = found.map(|header| header.map(|header| header.sequence));
     assert!(rt; answer == row.answer);
     assert!(rt; board.writes() == written);
     assert!(rt; board.counter()? == counter_behind(&row.answer, row.counter));
     Ok(())
+}
+
+fn check_on<B: Board>(rt: &impl Abort, board: &mut B, row: &Row) -> Result<(), BoardFailed> {
+    prepare(rt, board, row)?;
+    check_opening(rt, board, row)
+}
+
+fn check(rt: &impl Abort, alloc: Global, row: &Row) -> Result<(), Fail> {
+    let mut board = MemBoard::blank(alloc, KEY, row.blocks)?;
+    let checked = check_on(rt, &mut board, row);
+    drop(board);
+    Ok(checked?)
 }
 
 #[test]
@@ -242,26 +258,39 @@ fn is_header(
     Ok(())
 }
 
-// The last three steps of a commit to sequence 5, and the first of one to sequence 7.
+/// The last three steps of a commit to sequence 5.
+fn end_commit<B: Board>(rt: &impl Abort, board: &mut B, header: Header) -> Result<(), Fail> {
+    assert!(rt; board.blocks() >= 4);
+    shut(board, 1)?;
+    lay(board, &header)?;
+    assert!(rt; flip(board, 1)? == 5);
+    assert!(rt; find_header(board) == Ok(Some(header)));
+    Ok(())
+}
+
+/// The block of that header, and of its gate, which the first step of a commit to sequence 7 shuts.
+fn check_blocks<B: Board>(rt: &impl Abort, alloc: Global, board: &mut B) -> Result<(), Fail> {
+    let block = block_of(rt, board, 3)?;
+    is_header(rt, alloc, &block, TOLD)?;
+    assert!(rt; block_of(rt, board, 2)? == [0xA5; BLOCK]);
+    assert!(rt; board.blocks() >= 4);
+    shut(board, 1)?;
+    assert!(rt; block_of(rt, board, 2)? == [0; BLOCK]);
+    Ok(())
+}
+
+fn check_commit<B: Board>(rt: &impl Abort, alloc: Global, board: &mut B) -> Result<(), Fail> {
+    raise(board, 4)?;
+    end_commit(rt, board, header_of(FLAT_VERSION, 5))?;
+    check_blocks(rt, alloc, board)
+}
+
 #[test]
 fn a_header_has_the_bytes_computed_outside(rt: HostRuntime) -> Result<(), Fail> {
-    let header = header_of(FLAT_VERSION, 5);
     let mut board = MemBoard::blank(rt.alloc(), KEY, 8_742)?;
-    for _ in 0..4 {
-        let _raised = board.advance()?;
-    }
-    assert!(rt; board.blocks() >= 4);
-    shut(&mut board, 1)?;
-    lay(&mut board, &header)?;
-    assert!(rt; flip(&mut board, 1)? == 5);
-    assert!(rt; find_header(&mut board) == Ok(Some(header)));
-    let block = block_of(&rt, &mut board, 3)?;
-    is_header(&rt, rt.alloc(), &block, TOLD)?;
-    assert!(rt; block_of(&rt, &mut board, 2)? == [0xA5; BLOCK]);
-    assert!(rt; board.blocks() >= 4);
-    shut(&mut board, 1)?;
-    assert!(rt; block_of(&rt, &mut board, 2)? == [0; BLOCK]);
-    Ok(())
+    let checked = check_commit(&rt, rt.alloc(), &mut board);
+    drop(board);
+    checked
 }
 
 #[test]
