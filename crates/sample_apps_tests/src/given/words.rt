@@ -1,8 +1,8 @@
 //! What a sample is given and what it asks for, in words that a table can hold.
 
 use crate::afresh::asked_afresh;
-use app_api::{Answer, Application, Ask, Entry, Given, Out, Param, Params};
-use std::alloc::Global;
+use app_api::{Answer, Application, Ask, Entry, Given, Out, Outs, Param, Params};
+use std::alloc::{AllocError, Global};
 use std::fmt::Write;
 use std::process::Abort;
 use std::string::String;
@@ -87,35 +87,39 @@ fn object(text: &str) -> Result<Answer, Fail> {
     })
 }
 
-/// The answer that these words behind its name make.
-fn answer_with(alloc: Global, name: &str, words: &str) -> Result<Answer, Fail> {
-    match name {
-        "refused" => Ok(Answer::Refused(code(Some(words))?)),
-        "number" => Ok(Answer::Number(number(Some(words))?)),
-        "short" => Ok(Answer::Short(number(Some(words))?)),
-        "content" => Ok(Answer::Content(bytes(alloc, Some(words))?)),
-        "found" => Ok(Answer::Found {
+/// The answer that these words behind a name make, and none where it names no answer.
+fn answer_with(alloc: Global, name: &str, words: &str) -> Result<Option<Answer>, Fail> {
+    Ok(Some(match name {
+        "refused" => Answer::Refused(code(Some(words))?),
+        "number" => Answer::Number(number(Some(words))?),
+        "short" => Answer::Short(number(Some(words))?),
+        "content" => Answer::Content(bytes(alloc, Some(words))?),
+        "object" => object(words)?,
+        "found" => Answer::Found {
             id: bytes(alloc, Some(words))?,
             kind: 94,
             usage: 95,
             length: 96,
-        }),
-        _ => object(words),
+        },
+        _ => return Ok(None),
+    }))
+}
+
+/// The answer of one word, and none where that is no answer.
+fn answer_of(word: &str) -> Option<Answer> {
+    match word {
+        "done" => Some(Answer::Done),
+        "true" => Some(Answer::Truth(true)),
+        "false" => Some(Answer::Truth(false)),
+        _ => None,
     }
 }
 
 /// An answer, and none where the first word is none of an answer.
 fn answer(alloc: Global, text: &str) -> Result<Option<Answer>, Fail> {
-    match text {
-        "done" => return Ok(Some(Answer::Done)),
-        "true" => return Ok(Some(Answer::Truth(true))),
-        "false" => return Ok(Some(Answer::Truth(false))),
-        _ => {}
-    }
     match text.split_once(' ') {
-        Some((name @ ("refused" | "number" | "short" | "content" | "found" | "object"), words)) =>
-            Ok(Some(answer_with(alloc, name, words)?)),
-        _ => Ok(None),
+        Some((name, words)) => answer_with(alloc, name, words),
+        None => Ok(answer_of(text)),
     }
 }
 
@@ -140,7 +144,7 @@ fn given(alloc: Global, text: &str) -> Result<Given, Fail> {
 }
 
 /// Bytes as text, those that aren't printed as numbers.
-fn put_bytes(text: &mut String, bytes: &Bytes) -> Result<(), Fail> {
+fn put_bytes(text: &mut String, bytes: &Bytes) -> Result<(), AllocError> {
     for byte in bytes.as_slice() {
         if byte.is_ascii_graphic() {
             text.push(*byte as char)?;
@@ -151,35 +155,50 @@ fn put_bytes(text: &mut String, bytes: &Bytes) -> Result<(), Fail> {
     Ok(())
 }
 
-fn put_out(text: &mut String, place: &str, out: &Out) -> Result<(), Fail> {
+fn put_out(text: &mut String, place: &str, out: &Out) -> Result<(), AllocError> {
     match out {
-        Out::Nothing => {}
-        Out::Value(a, b) => write!(text, " {place}={a},{b}")?,
+        Out::Nothing => Ok(()),
+        Out::Value(a, b) => write!(text, " {place}={a},{b}"),
         Out::Mem(bytes) => {
             write!(text, " {place}=")?;
-            put_bytes(text, bytes)?;
+            put_bytes(text, bytes)
         }
-        Out::Size(size) => write!(text, " {place}={size}!")?,
+        Out::Size(size) => write!(text, " {place}={size}!"),
     }
-    Ok(())
 }
 
 /// What is done with an object and these bytes.
-fn put_bytes_of(text: &mut String, what: &str, object: u32, bytes: &Bytes) -> Result<(), Fail> {
+fn put_bytes_of(
+    text: &mut String,
+    what: &str,
+    object: u32,
+    bytes: &Bytes,
+) -> Result<(), AllocError> {
     write!(text, "{what} {object} ")?;
     put_bytes(text, bytes)
 }
 
 /// What is created, behind its numbers.
-fn put_contents(text: &mut String, id: &Bytes, content: &Bytes) -> Result<(), Fail> {
+fn put_contents(text: &mut String, id: &Bytes, content: &Bytes) -> Result<(), AllocError> {
     put_bytes(text, id)?;
     write!(text, " ")?;
     put_bytes(text, content)
 }
 
-/// An ask that brings bytes, or any other as it is.
-fn put_ask(text: &mut String, ask: &Ask) -> Result<(), Fail> {
+/// A return: its code and its outputs.
+fn put_return(text: &mut String, code: Code, outs: &Outs) -> Result<(), AllocError> {
+    let code = code.0;
+    write!(text, "{code:08x}")?;
+    put_out(text, "p0", &outs.p0)?;
+    put_out(text, "p1", &outs.p1)?;
+    put_out(text, "p2", &outs.p2)?;
+    put_out(text, "p3", &outs.p3)
+}
+
+/// A return, an ask that brings bytes, or any other as it is.
+fn put_ask(text: &mut String, ask: &Ask) -> Result<(), AllocError> {
     match ask {
+        Ask::Return { code, outs } => put_return(text, *code, outs),
         Ask::ObjOpen { storage, id, flags } => {
             write!(text, "open {storage} {flags} ")?;
             put_bytes(text, id)
@@ -196,27 +215,14 @@ fn put_ask(text: &mut String, ask: &Ask) -> Result<(), Fail> {
         }
         Ask::ObjRename { object, id } => put_bytes_of(text, "rename", *object, id),
         Ask::ObjWrite { object, bytes } => put_bytes_of(text, "write", *object, bytes),
-        other => {
-            write!(text, "{other:?}")?;
-            Ok(())
-        }
+        other => write!(text, "{other:?}"),
     }
 }
 
-/// What is asked for as text: of a return its code and its outputs.
+/// What is asked for as text.
 fn told(alloc: Global, ask: &Ask) -> Result<String, Fail> {
     let mut text = String::new(alloc);
-    match ask {
-        Ask::Return { code, outs } => {
-            let code = code.0;
-            write!(text, "{code:08x}")?;
-            put_out(&mut text, "p0", &outs.p0)?;
-            put_out(&mut text, "p1", &outs.p1)?;
-            put_out(&mut text, "p2", &outs.p2)?;
-            put_out(&mut text, "p3", &outs.p3)?;
-        }
-        other => put_ask(&mut text, other)?,
-    }
+    put_ask(&mut text, ask)?;
     Ok(text)
 }
 
