@@ -72,7 +72,8 @@ fn answer_alike<S: AppStore, T: AppStore>(one: &mut S, other: &mut T, change: &C
     one.apply(change) == other.apply(change)
 }
 
-/// Makes a change in a region of a volume and in another store, and says whether they answer alike and have the same objects then.
+/// Makes a change in a region of a volume and in another store, and says whether they answer alike and have the same
+/// objects then.
 fn is_alike<V: Volume, S: AppStore>(
     alloc: Global,
     volume: &mut V,
@@ -119,7 +120,7 @@ pub fn is_as_in_memory<V: Volume>(alloc: Global, volume: &mut V, region: u8) -> 
     Ok(place? == None)
 }
 
-/// What each region but the changed one has.
+/// What is made in another region first.
 const OTHER: Step = Step::New(b'k', 2000);
 
 /// Whether the object that was made there is still the one in the region.

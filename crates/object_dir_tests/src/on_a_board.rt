@@ -1,4 +1,5 @@
-//! The objects of a region on a board in memory: the table of changes, and each call of the device stopped within a change.
+//! The objects of a region on a board in memory: the table of changes, and each call of the device stopped within a
+//! change.
 
 use super::changes::{is_as_in_memory, make};
 use super::losses::{FIRST, REGION, SECOND, has_objects};
