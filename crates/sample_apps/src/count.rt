@@ -81,14 +81,24 @@ impl Count {
     {
         let mut count = self;
         match entry {
-            Entry::Create | Entry::Destroy => {}
-            Entry::Start { .. } => count.sessions = self.sessions.saturating_add(1),
-            Entry::Stop { .. } => count.sessions = self.sessions.saturating_sub(1),
+            Entry::Create | Entry::Destroy => drop(entry),
+            Entry::Start { .. } => {
+                drop(entry);
+                count.sessions = self.sessions.saturating_add(1);
+            }
+            Entry::Stop { .. } => {
+                drop(entry);
+                count.sessions = self.sessions.saturating_sub(1);
+            }
             Entry::Invoke {
                 command,
                 params,
                 ..
-            } => return self.command(command, &params),
+            } => {
+                let reaction = self.command(command, &params);
+                drop(params);
+                return reaction;
+            }
         }
         Reaction::succeed_with(count, Outs::nothing())
     }

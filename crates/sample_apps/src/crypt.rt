@@ -8,7 +8,7 @@ mod set_up;
 use app_api::{Answer, Application, Ask, Entry, Given, Outs};
 use commands::{Command, Plan, command_of};
 use std::alloc::Global;
-use std::mem;
+use std::{fmt, mem};
 use tee_base::{Bytes, Code, NoMemory};
 
 /// What the operation computes.
@@ -23,7 +23,9 @@ pub enum Class {
 }
 
 /// The ask whose answer a command waits for, with what the command keeps meanwhile.
-#[derive(Debug, Drop)]
+///
+/// A key may be among it, so `Debug` writes nothing of what it holds.
+#[derive(Drop)]
 pub enum Waiting {
     /// No command waits.
     Nothing,
@@ -53,6 +55,12 @@ pub enum Waiting {
     Comparing,
     /// 4: the next message begins, after this was said of the one before.
     Judging { code: Code },
+}
+
+impl fmt::Debug for Waiting {
+    fn fmt<W: fmt::Write>(&self, f: &mut fmt::Formatter<W>) -> fmt::Result {
+        f.write_str("Waiting { .. }")
+    }
 }
 
 /// The number of the operation, 0 where there is none; its class, where the last set-up succeeded; and what waits.
@@ -165,6 +173,7 @@ impl Crypt {
     {
         match entry {
             Entry::Create | Entry::Destroy | Entry::Start { .. } | Entry::Stop { .. } => {
+                drop(entry);
                 self.succeed(Outs::nothing())
             }
             Entry::Invoke {

@@ -49,12 +49,18 @@ fn host(
 ) -> Result<Host<Sample>, NoMemory>
     ensures { IfOk result (λ host. host ≡ samples.host_of name.now last properties template) }
 {
-    Ok(Host {
-        name: Bytes::from_slice(alloc, name)?,
-        id: Uuid::from_u128(0x0000_0000_0000_4000_8000_0000_0000_0000 + last as u128),
-        properties,
-        template,
-    })
+    match Bytes::from_slice(alloc, name) {
+        Ok(name) => Ok(Host {
+            name,
+            id: Uuid::from_u128(0x0000_0000_0000_4000_8000_0000_0000_0000 + last as u128),
+            properties,
+            template,
+        }),
+        Err(answer) => {
+            drop(template);
+            Err(answer)
+        }
+    }
 }
 
 fn vault(alloc: Global) -> Result<Host<Sample>, NoMemory>

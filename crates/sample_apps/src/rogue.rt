@@ -125,13 +125,18 @@ impl Rogue {
     {
         match entry {
             Entry::Create | Entry::Destroy | Entry::Start { .. } | Entry::Stop { .. } => {
+                drop(entry);
                 Ok(Reaction::succeed_with(Rogue::Idle, Outs::nothing()))
             }
             Entry::Invoke {
                 command,
                 params,
                 ..
-            } => Rogue::invoke(alloc, command_of(command, &params)),
+            } => {
+                let command = command_of(command, &params);
+                drop(params);
+                Rogue::invoke(alloc, command)
+            }
         }
     }
 

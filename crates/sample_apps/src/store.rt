@@ -54,6 +54,7 @@ impl Store {
     {
         match entry {
             Entry::Create | Entry::Destroy | Entry::Start { .. } | Entry::Stop { .. } => {
+                drop(entry);
                 Reaction::succeed_with(Store::Idle, Outs::nothing())
             }
             Entry::Invoke {
@@ -72,7 +73,10 @@ impl Store {
         ensures err { OnErr result (self.new ≡ self.old) }
     {
         let reaction = match self {
-            Store::Idle => Reaction::fail_with(Store::Idle, Code::GENERIC),
+            Store::Idle => {
+                drop(answer);
+                Reaction::fail_with(Store::Idle, Code::GENERIC)
+            }
             Store::Opening => answers::object_opened(answer),
             Store::Creating => answers::object_created(answer),
             Store::Acting => answers::object_changed(answer),
