@@ -1,3 +1,4 @@
+use Rattle.std.proofs.lemmas.Grind.{common_steps}
 use Rattle.std.proofs.Common.{◌≡◌, ◌<◌, ◌≤◌, ℕ, true, length, map, filter, take, ap, arith, lit<}
 use Rattle.std.specs.List.{count_by}
 use Rattle.std.proofs.lemmas.List.{length-map}
@@ -30,3 +31,6 @@ push-requires c = (
   room c.args.instance c.args.handles.now c.loop-entry.entry-index c.entry-item.result c.loop-entry.taken.items c.loop-entry.invariant
       c.loop-entry-test.true c.entry-item.is c.if-entry-instance.true c.requires,
 )
+
+pub returns : goal.returns
+returns c = grind (arith, common_steps)

@@ -1,3 +1,4 @@
+use Rattle.std.proofs.lemmas.Grind.{common_steps}
 use Rattle.std.proofs.Common.{◌++◌, take, arith, length-append, length-take}
 use Rattle.std.proofs.KnownBytes.{Consumes-trans}
 use Rattle.tee_base.proofs.transfer.read_all.Goals as goal
@@ -19,3 +20,6 @@ returns-then-is_err-clause-err g c = (
   ),
   Consumes-trans _ _ _ _ _ c.loop.invariant.taken c.in-Ok.ensures.taken.0,
 )
+
+pub loop-preserved : goal.loop-preserved
+loop-preserved g c = grind (arith, common_steps)
