@@ -145,7 +145,7 @@ returns-clause-orders g c = λ same.
     (c.in-Ok.lines.items, reads, c.serve.ensures.orders same)
 
 pub returns-clause-first_orders : goal.returns-clause-first_orders
-returns-clause-first_orders g c = 
+returns-clause-first_orders g c =
     let reads = subst (λ hosts. ReadsTo hosts (g.S.Source.left c.args.source.now) c.in-Ok.lines.items) c.as_slice.ensures.value c.in-Ok.ensures.read in
     inr (c.in-Ok.lines.items, reads, c.serve.ensures.first_orders)
 
