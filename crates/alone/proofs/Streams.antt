@@ -1,5 +1,5 @@
 -- What asks about operations and random bytes leave of the random stream: as it was, or moved.
-use Rattle.std.proofs.Common.{ℕ, ◌≡◌, ◌⊎◌, inl, inr, cond, List, Option, None, Some, refl}
+use Rattle.std.proofs.Common.{ℕ, ◌≡◌, ◌⊎◌, inl, inr, List, Option, None, Some, refl}
 use Rattle.std.proofs.lemmas.Bool.{cond_both}
 use Rattle.app_api.specs.declared.ask.Ask.{Ask}
 use Rattle.app_api.specs.declared.ask.Ask.TheVariants as asked

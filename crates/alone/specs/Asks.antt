@@ -10,7 +10,6 @@ use Rattle.app_api.specs.declared.ask.Answer.TheVariants as answers
 use Rattle.app_api.specs.declared.out.Outs.{Outs}
 use Rattle.object_asks.specs.Asks.{Answered, Returned, Panicked, Resolution, Settled, resolution_in, object_resolution}
 use Rattle.object_asks.specs.Serving.{plainly}
-use Rattle.object_asks.specs.declared.outcome.Ending.{Ending}
 use Rattle.object_asks.specs.declared.outcome.Outcome.TheVariants as outcomes
 use Rattle.object_asks.specs.declared.outcome.Served.{Served}
 use Rattle.op_queue.specs.Queue.{Queue, flag_of, mask_at, mask_set}

@@ -1,26 +1,24 @@
 -- From what operations, stream and keys give to what an ask leaves of the machine.
-use Rattle.std.proofs.Common.{ℕ, ◌≡◌, Bool, true, false, cond, List, Option, None, Some, Result, Ok, Err, IfOk, OnErr, refl, sym, ap, subst, ◌∙◌}
+use Rattle.std.proofs.Common.{ℕ, ◌≡◌, Bool, true, false, cond, Option, None, Some, Result, Ok, Err, IfOk, OnErr, refl, sym, ap, subst, ◌∙◌}
 use Rattle.std.proofs.lemmas.Result.{IfOk-weaker}
 use Rattle.std.specs.Prelude.{◌||◌}
 use Rattle.tee_base.proofs.Crash.{weaker}
 use Rattle.tee_base.specs.declared.bytes.NoMemory.{NoMemory as WantOfMemory}
-use Rattle.tee_base.specs.declared.codes.TheConstants.Code.{CORRUPT_OBJECT, STORAGE_NOT_AVAILABLE}
+use Rattle.tee_base.specs.declared.codes.TheConstants.Code.{STORAGE_NOT_AVAILABLE}
 use Rattle.app_api.specs.declared.ask.Ask.{Ask}
 use Rattle.app_api.specs.declared.ask.Ask.TheVariants as asked
 use Rattle.app_api.specs.declared.ask.Answer.{Answer}
 use Rattle.app_api.specs.declared.ask.Answer.TheVariants.{Done, Refused}
-use Rattle.rand_chacha.specs.ChaCha.{ChaCha}
 use Rattle.crypto_ops.specs.Random.{random_from}
 use Rattle.store_api.specs.Stores.{Store}
-use Rattle.store_api.specs.Keeping.{CrashLeaves, Keeper, LeavesJust, Status}
+use Rattle.store_api.specs.Keeping.{CrashLeaves, Keeper, LeavesJust}
 use Rattle.object_asks.specs.Asks.{changes_store}
-use Rattle.object_asks.specs.Resolutions.{Outcome, Answered, Returned, Panicked, Resolution, Settled, ComesToStore, Serving, Serves, Fails, Damaged, resolution_in, refused}
-use Rattle.object_asks.specs.KeyOf.{IsKeyServed, KeyResolution, KeySettled, KeyComesToStore, RefusesUnlessPlain, key_came_of, key_comes_to_store, key_resolution}
+use Rattle.object_asks.specs.Resolutions.{Outcome, Answered, Panicked, Resolution, Settled, ComesToStore, Serving, Serves, Fails, Damaged, resolution_in, refused}
+use Rattle.object_asks.specs.KeyOf.{KeyResolution, KeySettled, KeyComesToStore, RefusesUnlessPlain, key_came_of, key_comes_to_store, key_resolution}
 use Rattle.object_asks.specs.Keys.{generated_of, random_wanted}
 use Rattle.object_asks.specs.Serving.{CrashTurns, EndsUnchanged, HasStatus, IsKept, Meets, SaysChange, UnlessAnswered, UnlessInDoubt, objects_in, plainly, serving_of}
 use Rattle.object_asks.specs.declared.lending.KeyFound.{KeyFound}
 use Rattle.object_asks.specs.declared.lending.KeyFound.TheVariants as finds
-use Rattle.object_asks.specs.declared.outcome.Outcome.{Outcome as Result_of}
 use Rattle.object_asks.specs.declared.outcome.Outcome.TheVariants as outcomes
 use Rattle.object_asks.specs.declared.outcome.Served.{Served}
 use Rattle.object_asks.specs.declared.turn.TurnKind.{TurnKind}
@@ -31,7 +29,7 @@ use Rattle.operation_asks.specs.Asks.{CryptoState, operation_resolution}
 use Rattle.operation_asks.specs.Asks as operations
 use Rattle.operation_asks.specs.Effects.{Effect}
 use Rattle.operation_asks.specs.Kept.{state_of}
-use Rattle.operation_asks.specs.Past.{drawn, key_effect}
+use Rattle.operation_asks.specs.Past.{key_effect}
 use Rattle.operation_asks.specs.declared.outcome.Outcome.{Outcome as Told}
 use Rattle.operation_asks.specs.declared.outcome.Outcome.TheVariants as told
 use Rattle.operation_asks.specs.Represents.{left_by, told_by}

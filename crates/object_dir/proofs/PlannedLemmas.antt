@@ -1,16 +1,11 @@
 -- A plan, and behind it reads of the leaves that it names.
-use Rattle.std.proofs.Common.{◌≡◌, ◌∙◌, ℕ, true, List, [], Option, None, Some, Result, Ok, Err, refl, sym, ap, subst, arith}
-use Rattle.store_api.specs.declared.answer.StoreAnswer.{StoreAnswer}
-use Rattle.store_api.specs.declared.answer.StoreAnswer.TheVariants.{NotFound, Exists, NoSpace, Lost, Failed, Corrupt, Garbled, NoMemory}
+use Rattle.std.proofs.Common.{◌≡◌, ◌∙◌, ℕ, true, List, [], None, Ok, sym, ap, subst, arith}
 use Rattle.store_api.specs.declared.change.Change.{Change}
 use Rattle.store_api.specs.declared.leaves.Leaf.{Leaf}
-use Rattle.store_api.specs.Keeping.{Answers}
-use Rattle.store_api.specs.Stores.{Store}
 use Rattle.store_api.specs.Volumes.{VolumeKeeper}
 use Rattle.region_plan.specs.Layout.{version_one}
-use Rattle.region_plan.specs.Planning.{IsPlanOf, PlansChange}
-use Rattle.region_plan.specs.Plans.{with_leaves}
-use Rattle.region_plan.specs.Reading.{IfGarbled, IsUnread, ReadsOnly, leaves_of}
+use Rattle.region_plan.specs.Planning.{PlansChange}
+use Rattle.region_plan.specs.Reading.{ReadsOnly, leaves_of}
 use Rattle.region_plan.specs.Regions.{region_of}
 use Rattle.region_plan.proofs.ReadLemmas.{leaves_stay, reads_joined}
 use Rattle.object_dir.specs.Changing.{are_there}

@@ -1,6 +1,6 @@
 -- What an ask does to values that are operations, one by one.
-use Rattle.std.proofs.Common.{◌≡◌, ◌-◌, ◌<◌, ◌≤◌, ◌==◌, ◌≢◌, ℕ, zero, suc, Bool, true, false, not, ◌||◌, ⊎_elim, List, Option, None, Some, Result, Ok, Err, [], ◌∷◌}
-use Rattle.std.proofs.Common.{◌++◌, length, get_or, set, filter, map, count_by, nat_le, nat_lt, IsTrue, refl, sym, ap, subst, ◌∙◌, arith, eq-eqb}
+use Rattle.std.proofs.Common.{◌≡◌, ◌-◌, ◌<◌, ◌≤◌, ◌==◌, ℕ, true, false, not, ◌||◌, ⊎_elim, List, Option, None, Some, Result, Ok, Err, [], ◌∷◌}
+use Rattle.std.proofs.Common.{◌++◌, length, get_or, set, filter, map, count_by, nat_le, nat_lt, refl, sym, ap, subst, ◌∙◌, arith, eq-eqb}
 use Rattle.std.specs.Prelude.{IfOk, OnErr}
 use Rattle.std.proofs.lemmas.Result.{IfOk-weaker}
 use Rattle.std.proofs.lemmas.List.Quantifiers.{position-Some}
@@ -19,7 +19,7 @@ use Rattle.crypto_ops.specs.declared.algorithm.Algorithm.{Algorithm}
 use Rattle.crypto_ops.specs.declared.answer.OpAnswer.{OpAnswer}
 use Rattle.crypto_ops.specs.Algorithms.{is_digest, algorithm_number, mode_number, key_kind}
 use Rattle.crypto_ops.specs.Operations.{may_change_key, clear_key_answer, unkeyed, is_active, CryptoOperation, KeyFits, KeyOfKind, after_ok}
-use Rattle.crypto_ops.specs.Operations.{copy_answer, copied, keyed, set_key_answer, key_bits, is_same_algorithm}
+use Rattle.crypto_ops.specs.Operations.{copy_answer, copied, keyed, set_key_answer, key_bits}
 use Rattle.secret.specs.Bits.{bits_of}
 use Rattle.crypto_ops.specs.Represents.{Represents, IsAllocated}
 use Rattle.operation_asks.specs.declared.outcome.Outcome.{Outcome}
@@ -30,7 +30,7 @@ use Rattle.operation_asks.specs.Effects.{Effect, told_refusal, told_done}
 use Rattle.operation_asks.specs.OneOperation.{one_effect}
 use Rattle.operation_asks.specs.Table.{NumberedOperation, changed, is_full, free_number, operation_at, freed}
 use Rattle.operation_asks.specs.Asks.{Resolution, Settled, WantsKey, resolution_in, set_key_resolution, new_by, free_effect, on_operation, copy_effect, key_set}
-use Rattle.operation_asks.specs.Represents.{IsEntry, AreOperations, IsEffect, IsResolution, told_by, left_by, has_number, has_instance}
+use Rattle.operation_asks.specs.Represents.{AreOperations, IsEffect, IsResolution, told_by, left_by, has_number, has_instance}
 use Rattle.operation_asks.proofs.TableLemmas.{Slot, slot, slot_at, some_none, count_same, numbers_same, freed_same, push_same}
 
 pub same_some : {X : Type 0} (a b : X) → Some a ≡ Some b → a ≡ b

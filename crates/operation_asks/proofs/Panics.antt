@@ -1,5 +1,5 @@
 -- A panic leaves what there was.
-use Rattle.std.proofs.Common.{ℕ, ◌≡◌, ◌==◌, ◌&&◌, Bool, true, false, not, cond, List, [], ◌∷◌, Option, None, Some, option_map, find, Result, Ok, Err, refl, sym, ap, subst, ◌∙◌}
+use Rattle.std.proofs.Common.{ℕ, ◌≡◌, ◌==◌, Bool, true, false, not, cond, List, [], ◌∷◌, Option, None, Some, option_map, find, Result, Ok, Err, refl, sym, ap, subst, ◌∙◌}
 use Rattle.std.proofs.lemmas.Bool.{cond_both}
 use Rattle.app_api.specs.declared.ask.Ask.{Ask}
 use Rattle.app_api.specs.declared.ask.Ask.TheVariants as asked
@@ -9,19 +9,18 @@ use Rattle.tee_base.specs.declared.codes.TheConstants.Code.{BUSY, MAC_INVALID}
 use Rattle.transient_obj.specs.declared.object_key.ObjectKey.{ObjectKey}
 use Rattle.crypto_ops.specs.declared.answer.OpAnswer.{OpAnswer}
 use Rattle.crypto_ops.specs.declared.answer.OpAnswer.TheVariants.{MacInvalid, Misuse, NotSupported, Short, NoMemory}
-use Rattle.crypto_ops.specs.Operations.{CryptoOperation, after_ok, allocated, compared, copy_answer, copied, is_too_much, keyed, may_change_key, mac_compare_answer, set_key_answer, unkeyed}
+use Rattle.crypto_ops.specs.Operations.{CryptoOperation, allocated, compared, copy_answer, copied, is_too_much, keyed, may_change_key, mac_compare_answer, set_key_answer, unkeyed}
 use Rattle.crypto_ops.specs.Random.{moved, random_from}
 use Rattle.operation_asks.specs.declared.outcome.KeyGiven.{KeyGiven}
 use Rattle.operation_asks.specs.declared.outcome.KeyGiven.TheVariants as gives
-use Rattle.operation_asks.specs.declared.outcome.Outcome.{Outcome}
 use Rattle.operation_asks.specs.declared.outcome.Outcome.TheVariants.{Answered, Panicked}
 use Rattle.operation_asks.proofs.AskLemmas.{same_some}
-use Rattle.operation_asks.specs.Asks.{CryptoState, Resolution, Settled, WantsKey, copy_between, copy_effect, resolution_in, free_by, free_effect, key_set, new_by, on_found}
-use Rattle.operation_asks.specs.Asks.{on_operation, operation_resolution, random_effect, set_key_resolution, set_key_effect, set_key_on, with_operations}
-use Rattle.operation_asks.specs.Effects.{Effect, answered, content_by, done, done_by, effect_in, panicked, refused, told_content, told_done, told_refusal}
+use Rattle.operation_asks.specs.Asks.{CryptoState, Resolution, Settled, WantsKey, copy_between, resolution_in, free_by, free_effect, key_set, new_by, on_found}
+use Rattle.operation_asks.specs.Asks.{operation_resolution, random_effect, set_key_on, with_operations}
+use Rattle.operation_asks.specs.Effects.{Effect, answered, content_by, done, done_by, effect_in, panicked, refused, told_done}
 use Rattle.operation_asks.specs.OneOperation.{one_effect}
 use Rattle.operation_asks.specs.Past.{key_effect}
-use Rattle.operation_asks.specs.Table.{NumberedOperation, added, changed, free_number, freed, is_at, is_full, operation_at}
+use Rattle.operation_asks.specs.Table.{NumberedOperation, added, changed, free_number, is_at, is_full, operation_at}
 
 -- where it tells a panic, it leaves this
 abbrev pub KeepsAtPanic : {S : Type 0} → S → Effect S → Type 0

@@ -1,7 +1,7 @@
 -- Values that are operations, one by one: what is found, counted, changed, added and taken out of the one is of the other.
-use Rattle.std.proofs.Common.{◌≡◌, ◌<◌, ◌≤◌, ◌+◌, ◌==◌, ℕ, zero, suc, Bool, true, false, not, cond, List, Option, None, Some, [], ◌∷◌, ◌++◌, length, get_or}
-use Rattle.std.proofs.Common.{set, find, filter, map, position, nat_lt, count_by, option_map, refl, sym, ap, subst, ◌∙◌, ⊎_elim, arith}
-use Rattle.std.specs.List.{position_or_len, AllZip}
+use Rattle.std.proofs.Common.{◌≡◌, ◌<◌, ℕ, zero, suc, Bool, true, false, not, cond, List, None, Some, [], ◌∷◌, ◌++◌, length, get_or}
+use Rattle.std.proofs.Common.{set, filter, map, position, nat_lt, count_by, refl, sym, ap, subst, ◌∙◌, ⊎_elim, arith}
+use Rattle.std.specs.List.{position_or_len}
 use Rattle.std.proofs.lemmas.Bool.{cases_Bool, cond-true, ltb-false}
 use Rattle.std.proofs.lemmas.List.Quantifiers.{position-Some}
 use Rattle.std.proofs.lemmas.List.Sums.{sum_by-cons, fails_before_first}

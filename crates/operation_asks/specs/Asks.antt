@@ -1,7 +1,6 @@
 -- The asks about operations and random bytes: one definition for the family, in it one for each ask, with its misuse first,
 -- then its refusals in their order, then its answer (TEE Internal Core API 1.3, chapter 6 and section 6.9).
 use Rattle.std.specs.Prelude.{ℕ, ◌==◌, not, List, [], Option, None, Some, Result, Ok, Err, if◌then◌else◌}
-use Rattle.tee_base.specs.declared.codes.Code.{Code}
 use Rattle.tee_base.specs.declared.codes.TheConstants.Code.{BUSY}
 use Rattle.app_api.specs.declared.ask.Ask.{Ask}
 use Rattle.app_api.specs.declared.ask.Ask.TheVariants as asked

@@ -1,5 +1,5 @@
 -- What comes of an ask: what the application is told, and what is left.
-use Rattle.std.specs.Prelude.{List, ℕ, Result, Ok, Err, Bool}
+use Rattle.std.specs.Prelude.{List, ℕ, Result, Ok, Err}
 use Rattle.tee_base.specs.declared.codes.Code.{Code}
 use Rattle.tee_base.specs.declared.codes.TheConstants.Code.{NOT_SUPPORTED, MAC_INVALID, OUT_OF_MEMORY}
 use Rattle.app_api.specs.declared.ask.Answer.{Answer}

@@ -1,6 +1,6 @@
 -- The asks on one operation, by what the operation is: its algorithm, its key, and its whole message so far
 -- (TEE Internal Core API 1.3, sections 6.2 to 6.6).
-use Rattle.std.specs.Prelude.{ℕ, List, length}
+use Rattle.std.specs.Prelude.{ℕ, List}
 use Rattle.app_api.specs.declared.ask.Ask.{Ask}
 use Rattle.app_api.specs.declared.ask.Ask.TheVariants as asked
 use Rattle.app_api.specs.declared.ask.Answer.{Answer}

@@ -7,7 +7,6 @@ use Rattle.store_api.specs.declared.answer.Mismatch.{Mismatch}
 use Rattle.store_api.specs.declared.answer.StoreAnswer.{StoreAnswer}
 use Rattle.store_api.specs.declared.answer.StoreAnswer.TheVariants as answers
 use Rattle.store_api.specs.declared.leaves.LeafAnswer.{LeafAnswer}
-use Rattle.store_api.specs.declared.leaves.LeafAnswer.TheVariants as leaf_answers
 use Rattle.store_api.specs.Keeping.{Answers}
 use Rattle.store_api.specs.Stores.{Store}
 use Rattle.store_api.specs.Volumes.{Held, Condition, VolumeKeeper, AddsNothing, ReadsLeaf}

@@ -1,5 +1,5 @@
 -- The sample hosts can stand side by side.
-use Rattle.std.proofs.Common.{List, [], ◌∷◌, rules, arith, All, AllPairs}
+use Rattle.std.proofs.Common.{[], ◌∷◌, rules, arith, All, AllPairs}
 use Rattle.std.proofs.lemmas.List.Elements.{All-from_recursion}
 use Rattle.std.proofs.lemmas.List.Kept.{AllPairs-cons}
 use Rattle.app_api.specs.declared.host.Host.{Host}

@@ -1,8 +1,7 @@
 -- Command 1 of the sample application Crypt: the asks that set up an operation, each after the answer to the one before
 -- (TEE Internal Core API 1.3, sections 5.6 and 6.2 to 6.5). A refusal ends the command with its code; an answer that the ask
 -- can't give ends it with GENERIC.
-use Rattle.std.specs.Prelude.{ℕ, ◌-◌, ◌*◌, ◌^◌, ◌==◌, ◌||◌, min, List, length, Option, None, Some, if◌then◌else◌}
-use Rattle.tee_base.specs.declared.codes.Code.{Code}
+use Rattle.std.specs.Prelude.{ℕ, ◌-◌, ◌*◌, ◌^◌, ◌==◌, min, List, length, Option, None, Some, if◌then◌else◌}
 use Rattle.tee_base.specs.declared.keys.TheConstants as numbers
 use Rattle.app_api.specs.declared.ask.Answer.{Answer}
 use Rattle.app_api.specs.declared.ask.Answer.TheVariants.{Done, Refused, Number}

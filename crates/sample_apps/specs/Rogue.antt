@@ -1,6 +1,5 @@
 -- The sample application Rogue, which misbehaves.
-use Rattle.std.specs.Prelude.{ℕ, ◌+◌, ◌==◌, nat_lt, List, [], ◌∷◌, Option, None, Some, if◌then◌else◌}
-use Rattle.tee_base.specs.declared.codes.Code.{Code}
+use Rattle.std.specs.Prelude.{ℕ, ◌+◌, ◌==◌, nat_lt, [], ◌∷◌, Option, None, Some, if◌then◌else◌}
 use Rattle.app_api.specs.declared.ask.Answer.{Answer}
 use Rattle.app_api.specs.declared.ask.Answer.TheVariants.{Done, Refused, Number, Truth}
 use Rattle.app_api.specs.declared.ask.Ask.{Ask}

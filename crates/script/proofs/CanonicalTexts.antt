@@ -1,7 +1,7 @@
 -- The canonical text of a script that some text reads to reads to that script.
-use Rattle.std.proofs.Common.{◌≡◌, ◌≢◌, ℕ, zero, suc, ◌+◌, ◌-◌, ◌^◌, ◌<◌, ◌≤◌, ◌⊎◌, Bool, true, false, cond, ◌&&◌, eqb, List, [], ◌∷◌, ◌++◌, length}
-use Rattle.std.proofs.Common.{map, replicate, get_or, Ok, Some, refl, sym, ap, subst, ◌∙◌, append_assoc, arith, inl, inr}
-use Rattle.std.specs.Prelude.{All, codes, slice_get, slice_index, slice_index_or}
+use Rattle.std.proofs.Common.{◌≡◌, ◌≢◌, ℕ, zero, suc, ◌-◌, ◌^◌, ◌<◌, ◌≤◌, ◌⊎◌, Bool, true, false, cond, eqb, List, [], ◌∷◌, ◌++◌, length}
+use Rattle.std.proofs.Common.{map, replicate, get_or, Ok, Some, refl, sym, ap, subst, append_assoc, arith, inl, inr}
+use Rattle.std.specs.Prelude.{codes, slice_get, slice_index}
 use Rattle.std.specs.Fmt.{decimal}
 use Rattle.std.specs.List.{AllByRecursion, flat_map}
 use Rattle.std.specs.Str.{IsAscii}
@@ -14,7 +14,7 @@ use Rattle.std.proofs.lemmas.Option.{get_or_from_slice_get}
 use Rattle.std.proofs.lemmas.Str.Ascii.{IsAscii-from_all}
 use Rattle.hex.specs.Hex.{decode_of, encode_lower, IsBytes}
 use Rattle.hex.proofs.HexLemmas.{decode_of-encode_lower, decode_of-ok}
-use Rattle.tee_base.specs.declared.limits.TheConstants.{MAX_CLIENTS, MAX_FILL_BYTES, MAX_FUSE_CALLS, MAX_INSTANCES, MAX_LINE_TURNS}
+use Rattle.tee_base.specs.declared.limits.TheConstants.{MAX_CLIENTS}
 use Rattle.app_api.specs.declared.call.Call.{Call}
 use Rattle.app_api.specs.declared.call.Call.TheVariants as calls
 use Rattle.app_api.specs.declared.host.Host.{Host}
@@ -29,13 +29,12 @@ use Rattle.script.specs.declared.line.Meaning.{Meaning}
 use Rattle.script.specs.declared.line.Meaning.TheVariants.{Nothing, Client, Script}
 use Rattle.script.specs.Canonical.{are_none, behind_spaces, call_words, canonical, canonical_from, client_of, client_text, is_none, line_text, name_at, param_word, params_words}
 use Rattle.script.specs.Dialects.{Takes}
-use Rattle.script.specs.Grammar.{AreNext, HasNoLineFeed, IsCall, IsFirstLine, IsHost, IsLine, IsNext, IsSilent, Means, Place, Reads, client_after, lines_of, names_of, post_words, start_of}
-use Rattle.script.specs.Words.{AreParams, AreWords, IsNumber, IsNumber32, IsParam, IsWord}
+use Rattle.script.specs.Grammar.{AreNext, HasNoLineFeed, IsCall, IsFirstLine, IsHost, IsLine, IsNext, IsSilent, Means, Place, Reads, lines_of, post_words, start_of}
+use Rattle.script.specs.Words.{AreParams, AreWords, IsNumber32, IsParam, IsWord}
 use Rattle.script.proofs.Cuts.{all_append, all_weaker}
 use Rattle.script.proofs.Decimals.{IsGraphic, decimal_number, digits_part}
 use Rattle.script.proofs.HostWords.{mapped_get, named_at}
 use Rattle.script.proofs.ParamWords.{are_graphic, graphic_word, param_graphic}
-use Rattle.script.proofs.Places.{at_feed}
 use Rattle.script.proofs.WordTexts.{word_alone, word_before}
 
 -- ---- printed words

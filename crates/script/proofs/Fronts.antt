@@ -8,7 +8,7 @@ use Rattle.script.specs.declared.line.Line.{Line}
 use Rattle.script.specs.declared.line.Meaning.{Meaning}
 use Rattle.script.specs.Dialects.{Takes}
 use Rattle.script.specs.Grammar.{AreNext, HasNoLineFeed, IsFirstLine, IsNext, Place, Reads, lines_of, start_of}
-use Rattle.script.proofs.Places.{at_feed, none_first}
+use Rattle.script.proofs.Places.{at_feed}
 use Rattle.script.proofs.WordTexts.{all_split}
 
 -- it is empty, or a line feed is its last byte

@@ -1,8 +1,8 @@
 -- What a line means, by the grammar and as it is computed.
-use Rattle.std.proofs.Common.{◌≡◌, ◌≢◌, ℕ, ◌+◌, ◌-◌, ◌^◌, ◌<◌, ◌≤◌, ◌⊎◌, Bool, true, false, cond, eqb, List, [], ◌∷◌, ◌++◌, length, map, Option, Some, None, refl, sym, ap, subst, ◌∙◌, arith, inl, inr}
+use Rattle.std.proofs.Common.{◌≡◌, ℕ, ◌-◌, ◌^◌, ◌<◌, ◌≤◌, Bool, true, false, List, [], ◌∷◌, ◌++◌, Option, Some, None, refl, sym, ap, subst, ◌∙◌, arith, inl, inr}
 use Rattle.std.specs.Prelude.{codes}
 use Rattle.std.specs.Str.{IsAscii, bytes_eq}
-use Rattle.std.proofs.lemmas.Bool.{cond-false, cond-true, eqb-true, false_from_ne_true}
+use Rattle.std.proofs.lemmas.Bool.{eqb-true, false_from_ne_true}
 use Rattle.std.proofs.lemmas.Option.{none-some, same_Some}
 use Rattle.tee_base.specs.declared.limits.TheConstants.{MAX_CLIENTS, MAX_FUSE_CALLS, MAX_INSTANCES, MAX_LINE_TURNS}
 use Rattle.app_api.specs.declared.call.Call.{Call}
@@ -19,7 +19,7 @@ use Rattle.script.specs.Grammar.{IsCall, IsHost, IsLine, IsSilent, Means, post_w
 use Rattle.script.specs.Lines.{all_ascii, app_line, board_line, call_line, call_of, cancel_line, client_line, closed_by, host_at, invoked_by}
 use Rattle.script.specs.Lines.{is_silent, meaning_of, meaning_of_words, opened_by, plain_line, turns_line, words_of}
 use Rattle.script.specs.Numbers.{number_of, number32_of, within}
-use Rattle.script.specs.Parameters.{◌>>=◌, parameters_of}
+use Rattle.script.specs.Parameters.{parameters_of}
 use Rattle.script.specs.Words.{AreWords, IsNumber}
 use Rattle.script.proofs.Decimals.{number32_again, number32_reads, number_again, number_reads, within_again, within_reads}
 use Rattle.script.proofs.HexDigits.{chosen}

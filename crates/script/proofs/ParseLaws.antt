@@ -1,5 +1,5 @@
 -- What a caller of the reading is told, and what follows of the grammar.
-use Rattle.std.proofs.Common.{◌≡◌, ℕ, ◌⊎◌, List, Result, Ok, Err, refl, sym, ap, subst, ◌∙◌, inl, inr}
+use Rattle.std.proofs.Common.{◌≡◌, ℕ, ◌⊎◌, List, Result, Ok, Err, refl, ap, subst, inl, inr}
 use Rattle.std.specs.Prelude.{IfOk, IsErrOf}
 use Rattle.app_api.specs.declared.host.Host.{Host}
 use Rattle.app_api.specs.Hosts.{HostsFit}

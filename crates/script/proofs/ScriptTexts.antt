@@ -1,10 +1,10 @@
 -- What is computed of a text is what the grammar says of it.
-use Rattle.std.proofs.Common.{◌≡◌, ◌≢◌, ℕ, suc, ◌+◌, ◌-◌, ◌<◌, ◌≤◌, Bool, true, false, cond, eqb, ltb, List, [], ◌∷◌, ◌++◌, length, get_or, take}
+use Rattle.std.proofs.Common.{◌≡◌, ◌≢◌, ℕ, ◌+◌, ◌-◌, ◌<◌, ◌≤◌, Bool, true, false, cond, eqb, ltb, List, [], ◌∷◌, ◌++◌, length, get_or, take}
 use Rattle.std.proofs.Common.{Option, Some, None, Result, Ok, Err, refl, sym, ap, subst, ◌∙◌, append_assoc, arith, inl, inr}
-use Rattle.std.specs.Prelude.{codes, slice_index}
+use Rattle.std.specs.Prelude.{slice_index}
 use Rattle.std.specs.List.{AllByRecursion, flat_map, slice_split, join_with_byte}
 use Rattle.std.specs.Str.Lines.{strip_carriage_return}
-use Rattle.std.proofs.lemmas.Bool.{both_ways, eqb-false, eqb-true, false_from_ne_true, lt-ltb, ltb-false, ltb-true}
+use Rattle.std.proofs.lemmas.Bool.{both_ways, eqb-false, eqb-true, ltb-false, ltb-true}
 use Rattle.std.proofs.lemmas.List.{append-nil, get_or_at, length_push, take_at}
 use Rattle.std.proofs.lemmas.List.Splits.{join_with_byte-slice_split, length-slice_split}
 use Rattle.std.proofs.lemmas.Option.{none-some, same_Some}
@@ -17,7 +17,7 @@ use Rattle.script.specs.declared.line.Meaning.{Meaning}
 use Rattle.script.specs.declared.line.Meaning.TheVariants.{Nothing, Client, Script}
 use Rattle.script.specs.declared.line.ReadMeaning.{ReadMeaning}
 use Rattle.script.specs.Dialects.{Takes, takes}
-use Rattle.script.specs.Grammar.{AreNext, FirstBad, HasNoLineFeed, IsFirstLine, IsNext, Place, Reads, client_after, lines_of, start_of}
+use Rattle.script.specs.Grammar.{AreNext, FirstBad, HasNoLineFeed, IsFirstLine, IsNext, Place, Reads, client_after, lines_of}
 use Rattle.script.specs.Lines.{meaning_of}
 use Rattle.script.specs.Scripts.{Reading, after_lines, ended_by, no_reading, onward, read_from, reading_after, script_from, script_of, with_line, with_meaning}
 use Rattle.script.proofs.Cuts.{Lacks, all_weaker, parts_lack}

@@ -1,5 +1,5 @@
 -- The grammar of a script, by cases on its lines and their words.
-use Rattle.std.specs.Prelude.{ℕ, ◌≡◌, ◌≢◌, ◌+◌, ◌^◌, ◌-◌, ◌<◌, ◌≤◌, ◌⊎◌, Bool, true, false, List, [], ◌∷◌, ◌++◌, Some, All, codes, length, map, slice_get, slice_index}
+use Rattle.std.specs.Prelude.{ℕ, ◌≡◌, ◌≢◌, ◌+◌, ◌^◌, ◌-◌, ◌<◌, ◌≤◌, ◌⊎◌, Bool, true, false, List, [], ◌∷◌, ◌++◌, Some, codes, length, map, slice_get, slice_index}
 use Rattle.std.specs.List.{AllByRecursion, flat_map}
 use Rattle.std.specs.Str.{IsAscii}
 use Rattle.std.specs.Str.Lines.{strip_carriage_return}

@@ -1,5 +1,5 @@
 -- What a line means, as it is computed from its words.
-use Rattle.std.specs.Prelude.{ℕ, ◌==◌, ◌+◌, ◌-◌, ◌^◌, Bool, true, false, not, nat_lt, List, [], ◌∷◌, Option, None, Some, codes, if◌then◌else◌, length, map}
+use Rattle.std.specs.Prelude.{ℕ, ◌==◌, ◌+◌, ◌-◌, Bool, true, false, not, nat_lt, List, [], ◌∷◌, Option, None, Some, codes, if◌then◌else◌, length, map}
 use Rattle.std.specs.List.{filter, list_all, slice_split}
 use Rattle.std.specs.Str.{bytes_eq}
 use Rattle.uuid.specs.Text.{parsed}

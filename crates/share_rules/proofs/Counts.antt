@@ -1,5 +1,5 @@
 -- Shares counted by any test: one more, and one less.
-use Rattle.std.proofs.Common.{◌≡◌, ◌≤◌, ◌+◌, ℕ, refl, Bool, true, false, cond, List, Option, None, Some, [], ◌∷◌, ◌++◌, length, get_or}
+use Rattle.std.proofs.Common.{◌≡◌, ◌≤◌, ◌+◌, ℕ, refl, Bool, true, false, cond, List, None, Some, [], ◌∷◌, ◌++◌, length, get_or}
 use Rattle.std.proofs.Common.{position, remove, nat_lt, count_by, IsTrue, ap, sym, ◌∙◌, ⊎_elim, arith, rules}
 use Rattle.std.specs.List.{list_any, position_or_len}
 use Rattle.std.proofs.lemmas.Bool.{cases_Bool, and_parts, and_from, eq-eqb, both_ways, cond-true, ltb-false, eqb-true}

@@ -1,6 +1,6 @@
 -- The world over a board that was opened.
 use Rattle.std.proofs.Common.{◌≡◌, ◌<◌, ◌≤◌, ◌+◌, ℕ, zero, suc, true, false, List, [], ◌∷◌, Option, None, Some, Result, Ok, Err}
-use Rattle.std.proofs.Common.{IfOk, drop, is_some, length, refl, sym, subst, ◌∙◌, ap, inl, ⊎_elim, arith}
+use Rattle.std.proofs.Common.{drop, is_some, length, refl, sym, subst, ◌∙◌, ap, inl, ⊎_elim, arith}
 use Rattle.std.specs.Prelude.{◌⊎◌, slice_get}
 use Rattle.app_api.specs.declared.host.Host.{Host}
 use Rattle.alone.specs.Machine.{Machine, start}

@@ -1,3 +1,4 @@
+use Rattle.std.proofs.Common.{rules}
 use Rattle.epoch.proofs.PastLemmas.{itself, once}
 use Rattle.epoch.proofs.find.raise.Goals as goal
 
@@ -9,3 +10,6 @@ returns-then-counter-header-clause-past g c h = once _ _ (c.in_ok-_raised.ensure
 
 pub returns-clause-past : goal.returns-clause-past
 returns-clause-past g c h = itself _
+
+pub returns-then-counter-header-clause-counter : goal.returns-then-counter-header-clause-counter
+returns-then-counter-header-clause-counter g c = search rules

@@ -43,3 +43,6 @@ pub returns-in_err-write-clause-elsewhere : goal.returns-in_err-write-clause-els
 returns-in_err-write-clause-elsewhere g c h k ne =
     let w = c.in_err-write.ensures.honest (c.loop-i.invariant.honest h) in
     w.2.elsewhere k (λ e. ne c.loop-i.i (omega arith) (e ∙ c.block_at.ensures.block)) ∙ c.loop-i.invariant.elsewhere h k ne
+
+pub returns-clause-placed : goal.returns-clause-placed
+returns-clause-placed g c = search rules

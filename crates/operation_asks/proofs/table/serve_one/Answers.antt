@@ -1,8 +1,5 @@
 use Rattle.operation_asks.proofs.TableLemmas.{slot, nowhere, Slot}
 use Rattle.operation_asks.proofs.AskLemmas.{on_none, on_slot, want_slot}
-use Rattle.std.proofs.Common.{List}
-use Rattle.operation_asks.specs.Table.{NumberedOperation}
-use Rattle.operation_asks.specs.Represents.{AreOperations}
 use Rattle.operation_asks.proofs.table.serve_one.Goals as goal
 
 pub returns-in_default-clause-served : goal.returns-in_default-clause-served

@@ -15,7 +15,7 @@ use Rattle.alone.specs.Step.{served}
 use Rattle.app_side.specs.declared.side.AppSide.{AppSide}
 use Rattle.app_side.specs.Crypto.{outcome_of}
 use Rattle.app_side.specs.Represents.{IsLeft, machine_over}
-use Rattle.app_side.proofs.Carried.{none_tried, plain_turn_as}
+use Rattle.app_side.proofs.Carried.{plain_turn_as}
 use Rattle.app_side.proofs.CryptoLemmas.{settled_left, wanted_whole, wants_is}
 use Rattle.app_side.proofs.side.AppSide.operate.Goals as goal
 

@@ -1,3 +1,4 @@
+use Rattle.std.proofs.Common.{rules}
 use Rattle.std.proofs.Common.{◌≡◌, ◌++◌, ◌∙◌, List, ℕ, refl}
 use Rattle.mac_digest.specs.declared.digests.Hash.{Hash}
 use Rattle.mac_digest.specs.Hash.{digest_of}
@@ -25,3 +26,6 @@ returns-clause-code c hash key message held =
 pub returns-clause-length : goal.returns-clause-length
 returns-clause-length c hash key message held =
     c.finish.ensures.length hash (outer_block hash key ++ c.as_slice.result.now) (outer_holds c hash key message held)
+
+pub returns-clause-started : goal.returns-clause-started
+returns-clause-started c = search rules

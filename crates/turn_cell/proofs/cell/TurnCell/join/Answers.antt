@@ -1,3 +1,4 @@
+use Rattle.std.proofs.lemmas.Grind.{common_steps}
 -- A join keeps the rule, and so does the load after it.
 use Rattle.std.proofs.Common.{ap, ◌∙◌, arith}
 use Rattle.turn_cell.specs.View.{hand_of}
@@ -23,3 +24,6 @@ load-requires g c = (
   omega (arith, c.args.self.now.shaped.0),
   settles_allowed g.T.Parted.parts_of g.T.Parted.trail_of _ _ _ c.join_seat.new.seat.me,
 )
+
+pub invariant_of-seat : goal.invariant_of-seat
+invariant_of-seat g c = grind (arith, common_steps)

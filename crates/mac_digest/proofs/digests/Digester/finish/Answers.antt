@@ -1,0 +1,5 @@
+use Rattle.std.proofs.Common.{rules}
+use Rattle.mac_digest.proofs.digests.Digester.finish.Goals as goal
+
+pub returns-clause-started : goal.returns-clause-started
+returns-clause-started c = search rules
