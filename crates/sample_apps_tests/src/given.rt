@@ -21,63 +21,63 @@ refused ffff0008 > ffff0008
 number 5 > 00000000 p3=5,0
 2 mi:a vi:1024:9 mi:xyz vo > create 1 1024 9 a xyz
 refused ffff0003 > ffff0003
-3 vi:5:1 > ObjClose { object: 5 }
+3 vi:5:1 > ObjClose 5
 done > 00000000
-3 vi:5:1 > ObjClose { object: 5 }
+3 vi:5:1 > ObjClose 5
 refused f0100001 > f0100001
-4 vi:5:1 > ObjDelete { object: 5 }
+4 vi:5:1 > ObjDelete 5
 done > 00000000
-4 vi:5:1 > ObjDelete { object: 5 }
+4 vi:5:1 > ObjDelete 5
 refused f0100003 > f0100003
 5 vi:5:1 mi:b > rename 5 b
 done > 00000000
 5 vi:5:1 mi:b > rename 5 b
 refused ffff0003 > ffff0003
-6 vi:5:1 vo vo > ObjInfo { object: 5 }
+6 vi:5:1 vo vo > ObjInfo 5
 object 191 10 4 3 > 00000000 p1=10,4 p2=191,3
-6 vi:5:1 vo vo > ObjInfo { object: 5 }
+6 vi:5:1 vo vo > ObjInfo 5
 refused f0100001 > f0100001
-7 vi:5:3 mo:2 > ObjRead { object: 5, count: 3 }
+7 vi:5:3 mo:2 > ObjRead 5 3
 content xyz > 00000000 p1=xyz
-7 vi:5:3 mo:2 > ObjRead { object: 5, count: 3 }
+7 vi:5:3 mo:2 > ObjRead 5 3
 refused f0100001 > f0100001
-7 vi:5:3 mo:2 > ObjRead { object: 5, count: 3 }
+7 vi:5:3 mo:2 > ObjRead 5 3
 short 3 > ffff0010 p1=3!
 8 vi:5:1 mi:xyz > write 5 xyz
 done > 00000000
 8 vi:5:1 mi:xyz > write 5 xyz
 refused ffff3041 > ffff3041
-9 vi:5:70 > ObjTruncate { object: 5, length: 70 }
+9 vi:5:70 > ObjTruncate 5 70
 done > 00000000
-9 vi:5:70 > ObjTruncate { object: 5, length: 70 }
+9 vi:5:70 > ObjTruncate 5 70
 refused ffff3041 > ffff3041
-10 vi:5:2 vi:4294967295:4294967295 > ObjSeek { object: 5, offset: -1, whence: 2 }
+10 vi:5:2 vi:4294967295:4294967295 > ObjSeek 5 -1 2
 done > 00000000
-10 vi:5:0 vi:1:2 > ObjSeek { object: 5, offset: 8589934593, whence: 0 }
+10 vi:5:0 vi:1:2 > ObjSeek 5 8589934593 0
 refused ffff300f > ffff300f
-10 vi:5:0 vi:0:2147483648 > ObjSeek { object: 5, offset: -9223372036854775808, whence: 0 }
+10 vi:5:0 vi:0:2147483648 > ObjSeek 5 -9223372036854775808 0
 11 mo:100 > EnumNew
-number 2 > EnumStart { list: 2, storage: 1 }
-done > EnumNext { list: 2 }
-found a > EnumNext { list: 2 }
-found bcd > EnumNext { list: 2 }
-refused ffff0008 > EnumFree { list: 2 }
+number 2 > EnumStart 2 1
+done > EnumNext 2
+found a > EnumNext 2
+found bcd > EnumNext 2
+refused ffff0008 > EnumFree 2
 done > 00000000 p0=<1>a<3>bcd
 11 mo:100 > EnumNew
-number 2 > EnumStart { list: 2, storage: 1 }
-refused ffff0008 > EnumFree { list: 2 }
+number 2 > EnumStart 2 1
+refused ffff0008 > EnumFree 2
 done > 00000000 p0=
 11 mo:100 > EnumNew
 refused ffff000d > ffff000d
 11 mo:100 > EnumNew
-number 2 > EnumStart { list: 2, storage: 1 }
+number 2 > EnumStart 2 1
 refused f0100003 > f0100003
 11 mo:100 > EnumNew
-number 2 > EnumStart { list: 2, storage: 1 }
-done > EnumNext { list: 2 }
-found a > EnumNext { list: 2 }
+number 2 > EnumStart 2 1
+done > EnumNext 2
+found a > EnumNext 2
 refused f0100001 > f0100001
-12 vi:77:1 > Panic { code: Code(77) }
+12 vi:77:1 > Panic 77
 12 vi:77:1 vi:0:0 > ffff0006
 13 vi:2:1 > CancelFlag
 true > CancelFlag
@@ -93,15 +93,15 @@ true > ffff0002
 false > 00000000
 14 vi:0:1 > CancelUnmask
 false > 00000000
-15 mo:3 > Random { count: 3 }
+15 mo:3 > Random 3
 content xyz > 00000000 p0=xyz
-15 mo:3 > Random { count: 3 }
+15 mo:3 > Random 3
 refused ffff000d > ffff000d
 16 vi:5:1 > ffff0006
-3 vi:5:1 > ObjClose { object: 5 }
+3 vi:5:1 > ObjClose 5
 number 5 > ffff0000
 done > ffff0000
-3 vi:5:1 > ObjClose { object: 5 }
+3 vi:5:1 > ObjClose 5
 stop > 00000000
 destroy > 00000000
 ";
@@ -136,64 +136,64 @@ start > 00000000
 3 mi:a mo:4 - vo > ffff0006
 4 mi:a mo:4 > ffff0006
 1 mi:k vi:268435728:0 mi:v vo > ffff0006
-1 mi:k vi:268435728:0 mi:v > OpFree { op: 0 }
-done > OpNew { alg: 268435728, mode: 0, max_bits: 256 }
-number 3 > KeyNew { kind: 2684354576, max_bits: 8 }
-number 5 > KeyPopulate { object: 5, secret: Bytes { items: [107] } }
-done > OpSetKey { op: 3, object: 5 }
-done > ObjClose { object: 5 }
-done > CipherInit { op: 3, iv: Bytes { items: [118] } }
+1 mi:k vi:268435728:0 mi:v > OpFree 0
+done > OpNew 268435728 0 256
+number 3 > KeyNew 2684354576 8
+number 5 > KeyPopulate 5 k
+done > OpSetKey 3 5
+done > ObjClose 5
+done > CipherInit 3 v
 done > 00000000
-2 mi:ab mo:4 > CipherUpdate { op: 3, bytes: Bytes { items: [97, 98] }, room: 4 }
+2 mi:ab mo:4 > CipherUpdate 3 ab 4
 content xyz > 00000000 p1=xyz
-2 mi:ab mo:4 > CipherUpdate { op: 3, bytes: Bytes { items: [97, 98] }, room: 4 }
+2 mi:ab mo:4 > CipherUpdate 3 ab 4
 short 16 > ffff0010 p1=16!
-3 mi:ab mo:4 > CipherFinal { op: 3, bytes: Bytes { items: [97, 98] }, room: 4 }
+3 mi:ab mo:4 > CipherFinal 3 ab 4
 short 16 > ffff0010 p1=16!
-3 mi:ab mo:4 > CipherFinal { op: 3, bytes: Bytes { items: [97, 98] }, room: 4 }
-content xyz > CipherInit { op: 3, iv: Bytes { items: [118] } }
+3 mi:ab mo:4 > CipherFinal 3 ab 4
+content xyz > CipherInit 3 v
 done > 00000000 p1=xyz
 4 mi:a mi:b > ffff0007
 1 vo > ffff0006
-2 mi:ab mo:4 > CipherUpdate { op: 3, bytes: Bytes { items: [97, 98] }, room: 4 }
+2 mi:ab mo:4 > CipherUpdate 3 ab 4
 done > ffff0000
-1 mi:kk vi:805306372:4 mi: > OpFree { op: 3 }
-done > OpNew { alg: 805306372, mode: 4, max_bits: 1024 }
-number 4 > KeyNew { kind: 2684354564, max_bits: 16 }
-number 6 > KeyPopulate { object: 6, secret: Bytes { items: [107, 107] } }
-done > OpSetKey { op: 4, object: 6 }
-done > ObjClose { object: 6 }
-done > MacInit { op: 4 }
+1 mi:kk vi:805306372:4 mi: > OpFree 3
+done > OpNew 805306372 4 1024
+number 4 > KeyNew 2684354564 16
+number 6 > KeyPopulate 6 kk
+done > OpSetKey 4 6
+done > ObjClose 6
+done > MacInit 4
 done > 00000000
-2 mi:ab mo:0 > MacUpdate { op: 4, bytes: Bytes { items: [97, 98] } }
+2 mi:ab mo:0 > MacUpdate 4 ab
 done > 00000000 p1=
-3 mi:ab mo:32 > MacFinal { op: 4, bytes: Bytes { items: [97, 98] }, room: 32 }
-content t > MacInit { op: 4 }
+3 mi:ab mo:32 > MacFinal 4 ab 32
+content t > MacInit 4
 done > 00000000 p1=t
-4 mi:ab mi:t > MacCompare { op: 4, bytes: Bytes { items: [97, 98] }, mac: Bytes { items: [116] } }
-done > MacInit { op: 4 }
+4 mi:ab mi:t > MacCompare 4 ab t
+done > MacInit 4
 done > 00000000
-4 mi:ab mi:t > MacCompare { op: 4, bytes: Bytes { items: [97, 98] }, mac: Bytes { items: [116] } }
-refused ffff3071 > MacInit { op: 4 }
+4 mi:ab mi:t > MacCompare 4 ab t
+refused ffff3071 > MacInit 4
 done > ffff3071
-1 mi: vi:1342177284:5 mi: > OpFree { op: 4 }
-done > OpNew { alg: 1342177284, mode: 5, max_bits: 0 }
+1 mi: vi:1342177284:5 mi: > OpFree 4
+done > OpNew 1342177284 5 0
 number 2 > 00000000
-2 mi:ab mo:0 > DigestUpdate { op: 2, bytes: Bytes { items: [97, 98] } }
+2 mi:ab mo:0 > DigestUpdate 2 ab
 done > 00000000 p1=
-3 mi:c mo:32 > DigestFinal { op: 2, bytes: Bytes { items: [99] }, room: 32 }
+3 mi:c mo:32 > DigestFinal 2 c 32
 content d > 00000000 p1=d
 4 mi:a mi:b > ffff0007
-1 mi:k vi:1:0 mi:v > OpFree { op: 2 }
-done > OpNew { alg: 1, mode: 0, max_bits: 0 }
+1 mi:k vi:1:0 mi:v > OpFree 2
+done > OpNew 1 0 0
 refused ffff000a > ffff000a
 2 mi:a mo:4 > ffff0007
-1 mi:k vi:268435472:1 mi: > OpFree { op: 0 }
-done > OpNew { alg: 268435472, mode: 1, max_bits: 256 }
-number 7 > KeyNew { kind: 2684354576, max_bits: 8 }
+1 mi:k vi:268435472:1 mi: > OpFree 0
+done > OpNew 268435472 1 256
+number 7 > KeyNew 2684354576 8
 refused ffff000a > ffff000a
 2 mi:a mo:4 > ffff0007
-1 mi:k vi:268435472:1 mi: > OpFree { op: 7 }
+1 mi:k vi:268435472:1 mi: > OpFree 7
 true > ffff0000
 5 > ffff0006
 done > ffff0000
@@ -204,9 +204,9 @@ destroy > 00000000
 const ROGUE: &str = "\
 create > 00000000
 start > 00000000
-1 vi:7:9 > Panic { code: Code(7) }
+1 vi:7:9 > Panic 7
 1 vi:7:9 vo > ffff0006
-2 > ObjClose { object: 99 }
+2 > ObjClose 99
 done > 00000000
 2 vo > ffff0006
 3 > CancelFlag
@@ -214,7 +214,7 @@ true > CancelFlag
 false > CancelFlag
 done > ffff0000
 4 vo > create 1 3 0 <0> 
-number 5 > ObjClose { object: 5 }
+number 5 > ObjClose 5
 done > create 1 3 0 <1> 
 refused ffff3041 > 00000000 p0=1,0
 4 vo > create 1 3 0 <0> 
@@ -233,7 +233,7 @@ destroy > 00000000
 
 /// Rogue's command 4 has closed the handle of the 256th object.
 const FILLED: &str = "\
-number 5 > ObjClose { object: 5 }
+number 5 > ObjClose 5
 done > 00000000 p0=256,0
 ";
 
@@ -304,7 +304,7 @@ const HOSTS: [&str; 6] = [
     "twin 00000000-0000-4000-8000-000000000002 false false false Store(Idle)",
     "keep 00000000-0000-4000-8000-000000000003 true true true Count(Count { number: 0, sessions: 0 })",
     "tally 00000000-0000-4000-8000-000000000004 true true false Count(Count { number: 0, sessions: 0 })",
-    "cipher 00000000-0000-4000-8000-000000000005 false false false Crypt(Crypt { op: 0, class: None, waiting: Nothing })",
+    "cipher 00000000-0000-4000-8000-000000000005 false false false Crypt(Crypt { op: 0, class: None, waiting: Waiting { .. } })",
     "rogue 00000000-0000-4000-8000-000000000006 true true false Rogue(Idle)",
 ];
 

@@ -195,8 +195,151 @@ fn put_return(text: &mut String, code: Code, outs: &Outs) -> Result<(), AllocErr
     put_out(text, "p3", &outs.p3)
 }
 
-/// A return, an ask that brings bytes, or any other as it is.
+/// The name of an ask that holds no bytes, and its numbers.
+#[derive(Clone, Copy)]
+struct Numbered {
+    name: &'static str,
+    first: Option<i64>,
+    second: Option<i64>,
+    third: Option<i64>,
+}
+
+fn without_number(name: &'static str) -> Numbered {
+    Numbered {
+        name,
+        first: None,
+        second: None,
+        third: None,
+    }
+}
+
+fn with_number(name: &'static str, first: u32) -> Numbered {
+    Numbered {
+        name,
+        first: Some(i64::from(first)),
+        second: None,
+        third: None,
+    }
+}
+
+fn with_numbers(name: &'static str, first: u32, second: u32) -> Numbered {
+    Numbered {
+        name,
+        first: Some(i64::from(first)),
+        second: Some(i64::from(second)),
+        third: None,
+    }
+}
+
+fn with_three(name: &'static str, first: u32, second: i64, third: u32) -> Numbered {
+    Numbered {
+        name,
+        first: Some(i64::from(first)),
+        second: Some(second),
+        third: Some(i64::from(third)),
+    }
+}
+
+/// An ask about objects and enumerators that holds no bytes.
+fn numbers_of_object_ask(ask: &Ask) -> Option<Numbered> {
+    Some(match ask {
+        Ask::ObjClose { object } => with_number("ObjClose", *object),
+        Ask::ObjDelete { object } => with_number("ObjDelete", *object),
+        Ask::ObjInfo { object } => with_number("ObjInfo", *object),
+        Ask::ObjRead { object, count } => with_numbers("ObjRead", *object, *count),
+        Ask::ObjTruncate { object, length } => with_numbers("ObjTruncate", *object, *length),
+        Ask::ObjSeek {
+            object,
+            offset,
+            whence,
+        } => with_three("ObjSeek", *object, *offset, *whence),
+        Ask::EnumNew => without_number("EnumNew"),
+        Ask::EnumFree { list } => with_number("EnumFree", *list),
+        Ask::EnumStart { list, storage } => with_numbers("EnumStart", *list, *storage),
+        Ask::EnumNext { list } => with_number("EnumNext", *list),
+        _ => return None,
+    })
+}
+
+/// An ask that holds no bytes.
+fn numbers_of(ask: &Ask) -> Option<Numbered> {
+    Some(match ask {
+        Ask::Panic { code } => with_number("Panic", code.0),
+        Ask::CancelFlag => without_number("CancelFlag"),
+        Ask::CancelUnmask => without_number("CancelUnmask"),
+        Ask::Random { count } => with_number("Random", *count),
+        Ask::KeyNew { kind, max_bits } => with_numbers("KeyNew", *kind, *max_bits),
+        Ask::OpNew {
+            alg,
+            mode,
+            max_bits,
+        } => with_three("OpNew", *alg, i64::from(*mode), *max_bits),
+        Ask::OpFree { op } => with_number("OpFree", *op),
+        Ask::OpSetKey { op, object } => with_numbers("OpSetKey", *op, *object),
+        Ask::MacInit { op } => with_number("MacInit", *op),
+        _ => return numbers_of_object_ask(ask),
+    })
+}
+
+/// What is done with an operation, these bytes and so much room.
+fn put_bytes_into(
+    text: &mut String,
+    what: &str,
+    op: u32,
+    bytes: &Bytes,
+    room: u32,
+) -> Result<(), AllocError> {
+    put_bytes_of(text, what, op, bytes)?;
+    write!(text, " {room}")
+}
+
+/// An ask about a key or an operation that brings bytes.
+fn put_operation(text: &mut String, ask: &Ask) -> Result<(), AllocError> {
+    match ask {
+        Ask::KeyPopulate { object, secret } => put_bytes_of(text, "KeyPopulate", *object, secret),
+        Ask::CipherInit { op, iv } => put_bytes_of(text, "CipherInit", *op, iv),
+        Ask::CipherUpdate { op, bytes, room } => {
+            put_bytes_into(text, "CipherUpdate", *op, bytes, *room)
+        }
+        Ask::CipherFinal { op, bytes, room } => {
+            put_bytes_into(text, "CipherFinal", *op, bytes, *room)
+        }
+        Ask::MacUpdate { op, bytes } => put_bytes_of(text, "MacUpdate", *op, bytes),
+        Ask::MacFinal { op, bytes, room } => put_bytes_into(text, "MacFinal", *op, bytes, *room),
+        Ask::MacCompare { op, bytes, mac } => {
+            put_bytes_of(text, "MacCompare", *op, bytes)?;
+            write!(text, " ")?;
+            put_bytes(text, mac)
+        }
+        Ask::DigestUpdate { op, bytes } => put_bytes_of(text, "DigestUpdate", *op, bytes),
+        Ask::DigestFinal { op, bytes, room } => {
+            put_bytes_into(text, "DigestFinal", *op, bytes, *room)
+        }
+        _ => write!(text, "an ask that no row has"),
+    }
+}
+
+fn put_number(text: &mut String, number: Option<i64>) -> Result<(), AllocError> {
+    match number {
+        Some(number) => write!(text, " {number}"),
+        None => Ok(()),
+    }
+}
+
+/// The name, and the numbers behind it.
+fn put_numbers(text: &mut String, numbered: &Numbered) -> Result<(), AllocError> {
+    let name = numbered.name;
+    write!(text, "{name}")?;
+    put_number(text, numbered.first)?;
+    put_number(text, numbered.second)?;
+    put_number(text, numbered.third)
+}
+
+/// A return, an ask that brings bytes, or the name of any other with its numbers.
 fn put_ask(text: &mut String, ask: &Ask) -> Result<(), AllocError> {
+    if let Some(numbered) = numbers_of(ask) {
+        return put_numbers(text, &numbered);
+    }
     match ask {
         Ask::Return { code, outs } => put_return(text, *code, outs),
         Ask::ObjOpen { storage, id, flags } => {
@@ -215,7 +358,7 @@ fn put_ask(text: &mut String, ask: &Ask) -> Result<(), AllocError> {
         }
         Ask::ObjRename { object, id } => put_bytes_of(text, "rename", *object, id),
         Ask::ObjWrite { object, bytes } => put_bytes_of(text, "write", *object, bytes),
-        other => write!(text, "{other:?}"),
+        other => put_operation(text, other),
     }
 }
 
