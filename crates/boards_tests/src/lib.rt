@@ -7,3 +7,5 @@ mod file;
 pub mod loss;
 #[cfg(test)]
 mod memory;
+#[cfg(test)]
+mod rows;

@@ -1,100 +1,87 @@
 //! The board in memory against rows that were worked by hand, and against a plain model.
 use crate::loss::left_of;
-use board::{Board, BoardFailed};
+use crate::rows::{Row, go_through};
+use board::Board;
 use boards::MemBoard;
 use std::alloc::Global;
 use std::process::Abort;
-use std::test::Fail;
-use tee_base::{Bytes, NoMemory};
+use tee_base::Bytes;
 
 const KEY: [u8; 32] = [7; 32];
 
-/// What a read gives: the first and the last byte of the block.
-fn ends<B: Board>(rt: &impl Abort, board: &mut B, block: u64) -> Result<(u8, u8), BoardFailed> {
-    assert!(rt; block < board.blocks());
-    let mut bytes = [0; 1024];
-    board.read(block, &mut bytes)?;
-    Ok((bytes[0], bytes[1023]))
+/// A board of so many zero blocks.
+fn blank(rt: &impl Abort, alloc: Global, blocks: u64) -> MemBoard {
+    MemBoard::blank(alloc, KEY, blocks).expect(rt, "a board")
 }
 
-/// Fills the block with this byte.
-fn fill<B: Board>(rt: &impl Abort, board: &mut B, block: u64, byte: u8) -> Result<(), BoardFailed> {
-    assert!(rt; block < board.blocks());
-    board.write(block, &[byte; 1024])
+/// Makes the calls in order on a blank board of one block.
+fn run(rt: &impl Abort, alloc: Global, number: u64, failing: &[u64], rows: &[Row]) {
+    let mut board = blank(rt, alloc, 1);
+    board.failing(failing).expect(rt, "names");
+    go_through(rt, &mut board, number, rows);
+    drop(board);
 }
 
 /// Block 0 has a durable 0x11 and a pending 0x22.
-fn leave_pending<B: Board>(rt: &impl Abort, board: &mut B) -> Result<(), Fail> {
-    fill(rt, board, 0, 0x11)?;
-    board.sync()?;
-    fill(rt, board, 0, 0x22)?;
-    Ok(())
-}
+const PENDING: &[Row] = &[
+    Row::Fill(0, 0x11, true),
+    Row::Sync(true),
+    Row::Fill(0, 0x22, true),
+];
 
-/// The next two calls are interrupted: a write of 0x33 to block 2, and an advance.
-fn interrupt<B: Board>(rt: &impl Abort, board: &mut B) -> Result<(), Fail> {
-    assert!(rt; fill(rt, board, 2, 0x33).is_err());
-    assert!(rt; board.advance().is_err());
-    assert!(rt; board.faults() == 2);
-    let seen = (ends(rt, board, 0)?, ends(rt, board, 2)?);
-    assert!(rt;
-        seen == ((0x22, 0x22), (0, 0)),
-        "an interrupted write isn't read"
-    );
-    Ok(())
-}
+/// A write of 0x33 to block 2 and an advance are interrupted. An interrupted write isn't read.
+const INTERRUPTED: &[Row] = &[
+    Row::Fill(2, 0x33, false),
+    Row::Advance(None),
+    Row::Faults(2),
+    Row::Ends(0, Some((0x22, 0x22))),
+    Row::Ends(2, Some((0, 0))),
+];
 
 /// A write to block 2 and an advance are interrupted behind what is pending.
-fn unsettle(rt: &impl Abort, board: &mut MemBoard) -> Result<(), Fail> {
-    leave_pending(rt, board)?;
-    board.failing(&[3, 4])?;
-    interrupt(rt, board)
-}
-
-fn unsettled(rt: &impl Abort, alloc: Global) -> Result<MemBoard, Fail> {
-    let mut board = MemBoard::blank(alloc, KEY, 3)?;
-    unsettle(rt, &mut board)?;
-    Ok(board)
-}
-
-/// The ends of blocks 0, 1 and 2.
-type Ends = ((u8, u8), (u8, u8), (u8, u8));
-
-fn three<B: Board>(rt: &impl Abort, board: &mut B) -> Result<Ends, BoardFailed> {
-    let first = ends(rt, board, 0)?;
-    let second = ends(rt, board, 1)?;
-    Ok((first, second, ends(rt, board, 2)?))
-}
-
-/// The counter, and what reads give.
-fn found<B: Board>(rt: &impl Abort, board: &mut B) -> Result<(u64, Ends), BoardFailed> {
-    let counter = board.counter()?;
-    Ok((counter, three(rt, board)?))
-}
-
-/// What is found behind a loss of power.
-fn left<B: Board>(rt: &impl Abort, board: &mut B, pick: u64) -> Result<(u64, Ends), BoardFailed> {
-    board.power(pick);
-    found(rt, board)
+fn unsettle(rt: &impl Abort, board: &mut MemBoard) {
+    go_through(rt, board, 0, PENDING);
+    board.failing(&[3, 4]).expect(rt, "names");
+    go_through(rt, board, 0, INTERRUPTED);
 }
 
 /// What power leaves by this number: the counter, and the ends of blocks 0 and 2.
-fn leaves<B: Board>(
-    rt: &impl Abort,
-    board: &mut B,
-    pick: u64,
-    counter: u64,
-    first: (u8, u8),
-    third: (u8, u8),
-) -> Result<(), Fail> {
-    let left = left(rt, board, pick)?;
-    assert!(rt; left == (counter, (first, (0, 0), third)), "at {pick}");
-    assert!(rt; (board.orders(), board.ordered()) == (1, pick));
-    Ok(())
+type Left = (u64, u64, (u8, u8), (u8, u8));
+
+/// The power is lost by the number, and leaves this.
+fn lost(left: &Left) -> [Row; 6] {
+    let (pick, counter, first, third) = *left;
+    [
+        Row::Power(pick),
+        Row::Counter(Some(counter)),
+        Row::Ends(0, Some(first)),
+        Row::Ends(1, Some((0, 0))),
+        Row::Ends(2, Some(third)),
+        Row::Orders(1, pick),
+    ]
 }
 
-/// A number, and what power leaves by it.
-const PICKS: [(u64, u64, (u8, u8), (u8, u8)); 9] = [
+/// The counter of a board that is lent.
+fn told<B: Board + Drop>(mut board: B) -> Option<u64> {
+    board.counter().ok()
+}
+
+/// Whether the counter is 0.
+fn tell<B: Board>(board: &mut B) -> bool {
+    told(&mut *board) == Some(0)
+}
+
+/// Behind both interrupted calls the power is lost, where that is wanted once the counter is told.
+fn lose(rt: &impl Abort, alloc: Global, tells: bool, left: &Left) {
+    let mut board = blank(rt, alloc, 3);
+    unsettle(rt, &mut board);
+    let holds = !tells || tell(&mut board);
+    go_through(rt, &mut board, left.0, &lost(left));
+    drop(board);
+    assert!(rt; holds);
+}
+
+const PICKS: &[Left] = &[
     (0, 0, (0x11, 0x11), (0, 0)),
     (1, 1, (0x11, 0x11), (0, 0)),
     (3, 1, (0x22, 0x22), (0, 0)),
@@ -107,156 +94,114 @@ const PICKS: [(u64, u64, (u8, u8), (u8, u8)); 9] = [
 ];
 
 #[test]
-fn power_picks_what_it_leaves(rt: HostRuntime) -> Result<(), Fail> {
-    for (pick, counter, first, third) in PICKS {
-        let mut board = unsettled(&rt, rt.alloc())?;
-        leaves(&rt, &mut board, pick, counter, first, third)?;
+fn power_picks_what_it_leaves(rt: HostRuntime) {
+    for left in PICKS {
+        lose(&rt, rt.alloc(), false, left);
     }
-    Ok(())
-}
-
-/// The counter of a board that is lent.
-fn told<B: Board + Drop>(mut board: B) -> Result<u64, BoardFailed> {
-    board.counter()
-}
-
-/// The counter is told before the power is lost.
-fn tell_first<B: Board>(rt: &impl Abort, board: &mut B) -> Result<(), Fail> {
-    assert!(rt; told(&mut *board)? == 0);
-    leaves(rt, board, 1, 0, (0x22, 0x22), (0, 0))
 }
 
 #[test]
-fn a_told_counter_is_settled(rt: HostRuntime) -> Result<(), Fail> {
-    let mut board = unsettled(&rt, rt.alloc())?;
-    tell_first(&rt, &mut board)
-}
-
-/// Two calls pass, and the third is interrupted.
-fn burn<B: Board>(rt: &impl Abort, board: &mut B) -> Result<(), Fail> {
-    board.fuse(9);
-    board.fuse(2);
-    assert!(rt; board.advance()? == 1);
-    fill(rt, board, 0, 1)?;
-    assert!(rt; fill(rt, board, 0, 2).is_err());
-    Ok(())
-}
-
-/// A further fuse doesn't mend it.
-fn stay_blown<B: Board>(rt: &impl Abort, board: &mut B) {
-    board.fuse(5);
-    assert!(rt; fill(rt, board, 0, 3).is_err(), "what has blown stays so");
-    assert!(rt; board.sync().is_err());
-    have_counted(rt, board);
-}
-
-/// Three faults, three writes, and three orders.
-fn have_counted<B: Board>(rt: &impl Abort, board: &B) {
-    assert!(rt; (board.faults(), board.writes()) == (3, 3));
-    assert!(rt; (board.orders(), board.ordered()) == (3, 16));
-}
-
-/// The power comes back.
-fn recover<B: Board>(rt: &impl Abort, board: &mut B) -> Result<(), Fail> {
-    board.power(1);
-    assert!(rt;
-        ends(rt, board, 0)? == (2, 2),
-        "the refused write offered nothing"
-    );
-    assert!(rt; (board.orders(), board.ordered()) == (4, 17));
-    Ok(())
-}
-
-fn blow<B: Board>(rt: &impl Abort, board: &mut B) -> Result<(), Fail> {
-    burn(rt, board)?;
-    stay_blown(rt, board);
-    recover(rt, board)
+fn a_told_counter_is_settled(rt: HostRuntime) {
+    lose(&rt, rt.alloc(), true, &(1, 0, (0x22, 0x22), (0, 0)));
 }
 
 #[test]
-fn a_fuse_lets_its_calls_pass(rt: HostRuntime) -> Result<(), Fail> {
-    let mut board = MemBoard::blank(rt.alloc(), KEY, 1)?;
-    blow(&rt, &mut board)
-}
-
-/// A board whose last byte is 255, with its counter at the end.
-fn at_its_end<B: Board>(rt: &impl Abort, board: &mut B) -> Result<(), Fail> {
-    assert!(rt; (board.blocks(), board.key()) == (2, KEY));
-    assert!(rt; ends(rt, board, 1)? == (128, 255));
-    stay_at_its_end(rt, board)
-}
-
-/// No advance passes the end of the counter.
-fn stay_at_its_end<B: Board>(rt: &impl Abort, board: &mut B) -> Result<(), Fail> {
-    assert!(rt; board.counter()? == u64::MAX);
-    assert!(rt; board.advance().is_err(), "at its end it always fails");
-    assert!(rt; board.faults() == 1);
-    Ok(())
+fn a_fuse_lets_its_calls_pass(rt: HostRuntime) {
+    const ROWS: &[Row] = &[
+        Row::Fuse(9),
+        Row::Fuse(2),
+        Row::Advance(Some(1)),
+        Row::Fill(0, 1, true),
+        Row::Fill(0, 2, false),
+        // a further fuse doesn't mend it: what has blown stays so
+        Row::Fuse(5),
+        Row::Fill(0, 3, false),
+        Row::Sync(false),
+        Row::Faults(3),
+        Row::Writes(3),
+        Row::Orders(3, 16),
+        // the power comes back: the refused write offered nothing
+        Row::Power(1),
+        Row::Ends(0, Some((2, 2))),
+        Row::Orders(4, 17),
+    ];
+    run(&rt, rt.alloc(), 0, &[], ROWS);
 }
 
 /// 2,048 bytes, each of them eight times.
-fn rising(alloc: Global) -> Result<Vec<u8>, NoMemory> {
+fn rising(rt: &impl Abort, alloc: Global) -> Vec<u8> {
     let mut bytes = Vec::new(alloc);
     for n in 0..2048u16 {
-        bytes.push((n / 8) as u8)?;
+        bytes.push((n / 8) as u8).expect(rt, "a byte");
     }
-    Ok(bytes)
+    bytes
 }
 
 /// A board of this image, with its counter at the end.
-fn ended(rt: &impl Abort, alloc: Global, bytes: &[u8]) -> Result<MemBoard, NoMemory> {
-    let image = Bytes::from_slice(alloc, bytes)?;
+fn ended(rt: &impl Abort, alloc: Global, bytes: &[u8]) -> MemBoard {
+    let image = Bytes::from_slice(alloc, bytes).expect(rt, "an image");
     assert!(rt; image.len() == 2048);
-    MemBoard::of_image(alloc, image, u64::MAX, KEY)
+    MemBoard::of_image(alloc, image, u64::MAX, KEY).expect(rt, "a board")
+}
+
+/// Whether reads give these bytes.
+fn gives_back(rt: &impl Abort, alloc: Global, board: &MemBoard, bytes: &[u8]) -> bool {
+    let image = board.image(alloc).expect(rt, "an image");
+    image.as_slice() == bytes
 }
 
 /// The image of a board gives the bytes that it was made of.
-fn go_through(rt: &impl Abort, alloc: Global, bytes: &[u8]) -> Result<(), Fail> {
-    let mut board = ended(rt, alloc, bytes)?;
-    at_its_end(rt, &mut board)?;
-    give_back(rt, alloc, &board, bytes)
-}
-
-/// Reads give these bytes.
-fn give_back(rt: &impl Abort, alloc: Global, board: &MemBoard, bytes: &[u8]) -> Result<(), Fail> {
-    let image = board.image(alloc)?;
-    assert!(rt; image.as_slice() == bytes);
-    Ok(())
+fn give_back(rt: &impl Abort, alloc: Global, bytes: &[u8], rows: &[Row]) {
+    let mut board = ended(rt, alloc, bytes);
+    go_through(rt, &mut board, 0, rows);
+    let holds = gives_back(rt, alloc, &board, bytes);
+    drop(board);
+    assert!(rt; holds);
 }
 
 #[test]
-fn an_image_comes_back(rt: HostRuntime) -> Result<(), Fail> {
-    let bytes = rising(rt.alloc())?;
-    go_through(&rt, rt.alloc(), &bytes)
+fn an_image_comes_back(rt: HostRuntime) {
+    // at its end the counter always fails to advance
+    const ROWS: &[Row] = &[
+        Row::Blocks(2),
+        Row::Key(7),
+        Row::Ends(1, Some((128, 255))),
+        Row::Counter(Some(u64::MAX)),
+        Row::Advance(None),
+        Row::Faults(1),
+    ];
+    let bytes = rising(&rt, rt.alloc());
+    give_back(&rt, rt.alloc(), bytes.as_slice(), ROWS);
 }
 
-/// Which of five calls pass.
-fn passed<B: Board>(rt: &impl Abort, board: &mut B) -> [bool; 5] {
+/// Of five calls just the named one fails. An interrupted write isn't read, and an interrupted advance isn't told.
+fn alone(named: u64) -> [Row; 6] {
+    let advanced = if named == 2 { None } else { Some(1) };
+    let counter = match named {
+        2 => Some(0),
+        3 => None,
+        _ => Some(1),
+    };
+    let ends = match named {
+        0 => Some((0, 0)),
+        4 => None,
+        _ => Some((1, 1)),
+    };
     [
-        fill(rt, board, 0, 1).is_ok(),
-        board.sync().is_ok(),
-        board.advance().is_ok(),
-        board.counter().is_ok(),
-        ends(rt, board, 0).is_ok(),
+        Row::Fill(0, 1, named != 0),
+        Row::Sync(named != 1),
+        Row::Advance(advanced),
+        Row::Counter(counter),
+        Row::Ends(0, ends),
+        Row::Faults(u64::from(named < 5)),
     ]
 }
 
-/// Of the five calls just the named one fails.
-fn fail_alone<B: Board>(rt: &impl Abort, board: &mut B, named: u64) {
-    let wanted = [named != 0, named != 1, named != 2, named != 3, named != 4];
-    let passed = passed(rt, board);
-    assert!(rt; passed == wanted, "where {named} is named");
-    assert!(rt; board.faults() == u64::from(named < 5));
-}
-
 #[test]
-fn each_named_call_fails_alone(rt: HostRuntime) -> Result<(), Fail> {
+fn each_named_call_fails_alone(rt: HostRuntime) {
     for named in 0..6u64 {
-        let mut board = MemBoard::blank(rt.alloc(), KEY, 1)?;
-        board.failing(&[named])?;
-        fail_alone(&rt, &mut board, named);
+        run(&rt, rt.alloc(), named, &[named], &alone(named));
     }
-    Ok(())
 }
 
 /// A block by its first and its last byte: what is durable, what is read, what was offered last.
@@ -328,9 +273,19 @@ impl PlainBoard {
         }
     }
 
-    /// The counter, and what reads of both blocks give.
-    fn both(&self) -> (u64, (u8, u8), (u8, u8)) {
-        (self.counter, self.blocks[0].seen, self.blocks[1].seen)
+    /// One of eight steps, as a call on a board; the fourth bit says that it is interrupted.
+    fn step(&mut self, step: u32) -> Row {
+        let passes = step % 16 < 8;
+        self.take(step, passes);
+        let byte = (step % 8 + 1) as u8;
+        let counter = if passes { Some(self.counter) } else { None };
+        match step % 8 {
+            0..=2 => Row::Fill(0, byte, passes),
+            3 | 4 => Row::Fill(1, byte, passes),
+            5 => Row::Sync(passes),
+            6 => Row::Counter(counter),
+            _ => Row::Advance(counter),
+        }
     }
 
     fn power(&mut self, pick: u64) {
@@ -349,109 +304,92 @@ impl PlainBoard {
             block.pending = false;
         }
     }
-}
 
-/// Whether the step passes: one of eight.
-fn passes<B: Board>(rt: &impl Abort, board: &mut B, step: u32) -> bool {
-    let byte = (step % 8 + 1) as u8;
-    match step % 8 {
-        0..=2 => fill(rt, board, 0, byte).is_ok(),
-        3 | 4 => fill(rt, board, 1, byte).is_ok(),
-        5 => board.sync().is_ok(),
-        6 => board.counter().is_ok(),
-        _ => board.advance().is_ok(),
+    /// A loss of power, the ends of both blocks, and the counter.
+    fn lose(&mut self, pick: u64) -> [Row; 4] {
+        self.power(pick);
+        [
+            Row::Power(pick),
+            Row::Ends(0, Some(self.blocks[0].seen)),
+            Row::Ends(1, Some(self.blocks[1].seen)),
+            Row::Counter(Some(self.counter)),
+        ]
     }
-}
-
-/// One of eight steps, on both boards; the fourth bit says that it is interrupted.
-fn take<B: Board>(rt: &impl Abort, board: &mut B, plain: &mut PlainBoard, step: u32) {
-    let is_to_pass = step % 16 < 8;
-    assert!(rt; passes(rt, board, step) == is_to_pass);
-    plain.take(step, is_to_pass);
 }
 
 /// Four steps, the lowest bits first.
-fn take_four<B: Board>(rt: &impl Abort, board: &mut B, plain: &mut PlainBoard, code: u32) {
-    for shift in 0..4u32 {
-        take(rt, board, plain, code >> (4 * shift));
-    }
-}
-
-/// The counter, and the ends of both blocks.
-fn both<B: Board>(
-    rt: &impl Abort,
-    board: &mut B,
-) -> Result<(u64, (u8, u8), (u8, u8)), BoardFailed> {
-    let (first, second) = (ends(rt, board, 0)?, ends(rt, board, 1)?);
-    Ok((board.counter()?, first, second))
-}
-
-/// Of both boards, by the same number.
-fn lose_power<B: Board>(board: &mut B, plain: &mut PlainBoard, pick: u64) {
-    board.power(pick);
-    plain.power(pick);
-}
-
-/// Four steps and a loss of power leave the same of both boards.
-fn agree<B: Board>(rt: &impl Abort, board: &mut B, code: u32) -> Result<(), Fail> {
-    let mut plain = PlainBoard::blank();
-    take_four(rt, board, &mut plain, code);
-    lose_power(board, &mut plain, u64::from(code % 61));
-    let found = both(rt, board)?;
-    assert!(rt; found == plain.both(), "at {code}");
-    Ok(())
+fn steps(plain: &mut PlainBoard, code: u32) -> [Row; 4] {
+    [
+        plain.step(code),
+        plain.step(code >> 4),
+        plain.step(code >> 8),
+        plain.step(code >> 12),
+    ]
 }
 
 /// Names the calls that the code's steps interrupt.
-fn name_steps(board: &mut MemBoard, code: u32) -> Result<(), NoMemory> {
+fn name_steps(rt: &impl Abort, board: &mut MemBoard, code: u32) {
     for call in 0..4u32 {
         if (code >> (4 * call)) % 16 >= 8 {
-            board.failing(&[u64::from(call)])?;
+            board.failing(&[u64::from(call)]).expect(rt, "names");
         }
     }
-    Ok(())
+}
+
+/// Four steps and a loss of power leave the same of both boards.
+fn agree<B: Board>(rt: &impl Abort, board: &mut B, code: u32) {
+    let number = u64::from(code);
+    let mut plain = PlainBoard::blank();
+    let rows = steps(&mut plain, code);
+    go_through(rt, board, number, &rows);
+    let lost = plain.lose(number % 61);
+    go_through(rt, board, number, &lost);
 }
 
 /// A blank board, whose calls fail as the code says.
-fn run_code(rt: &impl Abort, alloc: Global, code: u32) -> Result<(), Fail> {
-    let mut board = MemBoard::blank(alloc, KEY, 2)?;
-    name_steps(&mut board, code)?;
-    agree(rt, &mut board, code)
+fn run_code(rt: &impl Abort, alloc: Global, code: u32) {
+    let mut board = blank(rt, alloc, 2);
+    name_steps(rt, &mut board, code);
+    agree(rt, &mut board, code);
+    drop(board);
 }
 
 #[test]
-fn four_steps_and_power_agree_with_the_plain_model(rt: HostRuntime) -> Result<(), Fail> {
+fn four_steps_and_power_agree_with_the_plain_model(rt: HostRuntime) {
     for code in 0..65536u32 {
-        run_code(&rt, rt.alloc(), code)?;
+        run_code(&rt, rt.alloc(), code);
     }
-    Ok(())
 }
 
 /// A write, an advance, a counter, a read and a fuse.
-fn make_five<B: Board>(rt: &impl Abort, board: &mut B, block: u64) -> Result<(), BoardFailed> {
-    fill(rt, board, block, 1)?;
-    board.advance()?;
-    board.counter()?;
-    ends(rt, board, block)?;
-    board.fuse(10);
-    Ok(())
+fn five(n: u64) -> [Row; 5] {
+    let block = n % 8742;
+    let next = n.wrapping_add(1);
+    [
+        Row::Fill(block, 1, true),
+        Row::Advance(Some(next)),
+        Row::Counter(Some(next)),
+        Row::Ends(block, Some((1, 1))),
+        Row::Fuse(10),
+    ]
 }
 
 /// Five calls for each number.
-fn make_calls<B: Board>(rt: &impl Abort, board: &mut B, rounds: u64) -> Result<(), Fail> {
+fn make_calls<B: Board>(rt: &impl Abort, board: &mut B, rounds: u64) {
     for n in 0..rounds {
-        make_five(rt, board, n % 8742)?;
+        let rows = five(n);
+        go_through(rt, board, n, &rows);
         if n % 100 == 0 {
-            board.sync()?;
+            go_through(rt, board, n, &[Row::Sync(true)]);
         }
     }
-    let counter = board.counter()?;
-    assert!(rt; (board.writes(), counter) == (rounds, rounds));
-    Ok(())
+    let counted = [Row::Counter(Some(rounds)), Row::Writes(rounds)];
+    go_through(rt, board, rounds, &counted);
 }
 
 #[test]
-fn three_million_calls_stay_fast(rt: HostRuntime) -> Result<(), Fail> {
-    let mut board = MemBoard::blank(rt.alloc(), KEY, 8742)?;
-    make_calls(&rt, &mut board, 600_000)
+fn three_million_calls_stay_fast(rt: HostRuntime) {
+    let mut board = blank(&rt, rt.alloc(), 8742);
+    make_calls(&rt, &mut board, 600_000);
+    drop(board);
 }
