@@ -45,36 +45,6 @@ pub type Row<'a> = (Do<'a>, Told<'a>);
 
 pub const NO_BYTES: Told<'static> = Told::Bytes(&[]);
 
-/// Makes a call that gives no content.
-fn changed(operation: &mut Operation, what: Do<'_>) -> Option<Result<(), OpAnswer>> {
-    Some(match what {
-        Do::Reset => operation.reset(),
-        Do::SetKey(kind, usage, secret) => operation.set_key(kind, usage, secret),
-        Do::ClearKey => operation.clear_key(),
-        Do::CipherInit(iv) => operation.cipher_init(iv),
-        Do::MacInit => operation.mac_init(),
-        Do::MacUpdate(bytes) => operation.mac_update(bytes),
-        Do::Compare(bytes, mac) => operation.mac_compare(bytes, mac),
-        Do::DigestUpdate(bytes) => operation.digest_update(bytes),
-        _ => return None,
-    })
-}
-
-/// Makes a call that gives a content.
-fn given(
-    alloc: Global,
-    operation: &mut Operation,
-    what: Do<'_>,
-) -> Option<Result<Bytes, OpAnswer>> {
-    Some(match what {
-        Do::CipherUpdate(bytes, room) => operation.cipher_update(alloc, bytes, room),
-        Do::CipherFinal(bytes, room) => operation.cipher_final(alloc, bytes, room),
-        Do::MacFinal(bytes, room) => operation.mac_final(alloc, bytes, room),
-        Do::DigestFinal(bytes, room) => operation.digest_final(alloc, bytes, room),
-        _ => return None,
-    })
-}
-
 /// Looks at it.
 fn seen(operation: &Operation, what: Do<'_>) -> Told<'static> {
     if matches!(what, Do::MayChangeKey) {
@@ -103,22 +73,39 @@ fn done(answer: &Result<(), OpAnswer>) -> Told<'static> {
 }
 
 /// What came of a call that gives one.
-pub fn content(answer: &Result<Bytes, OpAnswer>) -> Told<'_> {
+fn content(answer: &Result<Bytes, OpAnswer>) -> Told<'_> {
     match answer {
         Ok(bytes) => Told::Bytes(bytes.as_slice()),
         Err(answer) => refused(answer),
     }
 }
 
+/// Makes a call that gives no content.
+fn changed(operation: &mut Operation, what: Do<'_>) -> Told<'static> {
+    let answer = match what {
+        Do::Reset => operation.reset(),
+        Do::SetKey(kind, usage, secret) => operation.set_key(kind, usage, secret),
+        Do::ClearKey => operation.clear_key(),
+        Do::CipherInit(iv) => operation.cipher_init(iv),
+        Do::MacInit => operation.mac_init(),
+        Do::MacUpdate(bytes) => operation.mac_update(bytes),
+        Do::Compare(bytes, mac) => operation.mac_compare(bytes, mac),
+        Do::DigestUpdate(bytes) => operation.digest_update(bytes),
+        _ => return seen(operation, what),
+    };
+    done(&answer)
+}
+
 /// Makes the call, and says whether what comes of it is what is wanted.
 fn comes(alloc: Global, operation: &mut Operation, what: Do<'_>, wanted: Told<'_>) -> bool {
-    if let Some(answer) = changed(operation, what) {
-        return done(&answer) == wanted;
-    }
-    if let Some(answer) = given(alloc, operation, what) {
-        return content(&answer) == wanted;
-    }
-    seen(operation, what) == wanted
+    let answer = match what {
+        Do::CipherUpdate(bytes, room) => operation.cipher_update(alloc, bytes, room),
+        Do::CipherFinal(bytes, room) => operation.cipher_final(alloc, bytes, room),
+        Do::MacFinal(bytes, room) => operation.mac_final(alloc, bytes, room),
+        Do::DigestFinal(bytes, room) => operation.digest_final(alloc, bytes, room),
+        _ => return changed(operation, what) == wanted,
+    };
+    content(&answer) == wanted
 }
 
 /// Makes the calls of the rows in order, and compares what comes of each.

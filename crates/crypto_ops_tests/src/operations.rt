@@ -1,148 +1,200 @@
 //! Published vectors in pieces, what `new` refuses, and each call once.
 
 use crate::about::is_new;
-use crate::calls::{Do, NO_BYTES, Row, Told, check, content};
+use crate::calls::{Do, NO_BYTES, Row, Told, check};
 use crate::vectors::{
     ABC, AES_KEY, CBC, CBC_VECTOR, COUNTER, CTR, ECB, HMAC_CODE, HMAC_KEY, LARGEST, PLAIN,
+    SHORT_CODE, WRONG_CODE,
 };
 use crypto_ops::{OpAnswer, Operation};
 use std::alloc::Global;
 use std::process::Abort;
-use std::test::Fail;
-use tee_base::keys;
+use tee_base::{Bytes, keys};
 
-/// A cipher that has begun.
-fn cipher(alg: u32, mode: u32, iv: &[u8]) -> Result<Operation, Fail> {
-    let mut operation = Operation::new(alg, mode, 256)?;
-    operation.set_key(keys::KIND_AES, keys::USAGE_NEW, &AES_KEY)?;
-    operation.cipher_init(iv)?;
-    Ok(operation)
+/// What a new operation is of: the algorithm, the mode and the greatest size.
+type Kind = (u32, u32, u32);
+
+const ECB_ENCRYPTION: Kind = (keys::AES_ECB, keys::MODE_ENCRYPT, 256);
+
+const ECB_DECRYPTION: Kind = (keys::AES_ECB, keys::MODE_DECRYPT, 256);
+
+const CBC_ENCRYPTION: Kind = (keys::AES_CBC, keys::MODE_ENCRYPT, 256);
+
+const CBC_DECRYPTION: Kind = (keys::AES_CBC, keys::MODE_DECRYPT, 256);
+
+const CTR_ENCRYPTION: Kind = (keys::AES_CTR, keys::MODE_ENCRYPT, 256);
+
+const CTR_DECRYPTION: Kind = (keys::AES_CTR, keys::MODE_DECRYPT, 256);
+
+const CODE: Kind = (keys::HMAC_SHA256, keys::MODE_MAC, 1_024);
+
+const DIGEST: Kind = (keys::SHA256, keys::MODE_DIGEST, 0);
+
+/// A cipher and an authentication code get their keys.
+const AES_KEYED: Row<'static> = (
+    Do::SetKey(keys::KIND_AES, keys::USAGE_NEW, AES_KEY),
+    Told::Done,
+);
+
+const CODE_KEYED: Row<'static> = (
+    Do::SetKey(keys::KIND_HMAC_SHA256, keys::USAGE_MAC, HMAC_KEY),
+    Told::Done,
+);
+
+/// They begin.
+const CBC_BEGUN: Row<'static> = (Do::CipherInit(CBC_VECTOR), Told::Done);
+
+const CTR_BEGUN: Row<'static> = (Do::CipherInit(COUNTER), Told::Done);
+
+const CODE_BEGUN: Row<'static> = (Do::MacInit, Told::Done);
+
+/// A new operation.
+fn new(rt: &impl Abort, kind: Kind) -> Operation {
+    let (alg, mode, max_bits) = kind;
+    Operation::new(alg, mode, max_bits).expect(rt, "an operation")
 }
 
-/// An authentication code that has begun.
-fn authentication() -> Result<Operation, Fail> {
-    let mut operation = Operation::new(keys::HMAC_SHA256, keys::MODE_MAC, 1_024)?;
-    operation.set_key(keys::KIND_HMAC_SHA256, keys::USAGE_MAC, &HMAC_KEY)?;
-    operation.mac_init()?;
-    Ok(operation)
+/// Makes the calls of the rows in order on a new operation.
+fn run(rt: &impl Abort, alloc: Global, kind: Kind, rows: &[Row<'_>]) {
+    let mut operation = new(rt, kind);
+    check(rt, alloc, &mut operation, rows);
+    drop(operation);
 }
 
-/// A piece, tried with a room too short by one before, where it gives bytes.
+/// Where a piece begins and ends.
+type Range = (usize, usize);
+
+/// A piece of some bytes.
+fn part<'a>(rt: &impl Abort, bytes: &'a [u8], range: Range) -> &'a [u8] {
+    let (from, to) = range;
+    assert!(rt; from <= to && to <= bytes.len());
+    &bytes[from..to]
+}
+
+/// Takes a piece, which gives this one, with a room too short by one before, where it gives bytes.
 fn take_piece(
     rt: &impl Abort,
     alloc: Global,
     operation: &mut Operation,
     piece: &[u8],
-    output: &mut Vec<u8>,
-) -> Result<(), Fail> {
-    let first = operation.cipher_update(alloc, piece, 0);
-    let Told::Short(needed) = content(&first) else {
-        return Ok(());
-    };
-    assert!(rt; 0 < needed && needed <= 32);
-    check(
-        rt,
-        alloc,
-        operation,
-        &[(Do::CipherUpdate(piece, needed - 1), Told::Short(needed))],
-    );
-    let part = operation.cipher_update(alloc, piece, needed)?;
-    assert_eq!(rt; part.len(), needed as usize);
-    output.extend_from_slice(part.as_slice())?;
-    Ok(())
+    given: &[u8],
+) {
+    assert!(rt; given.len() <= 64);
+    let room = given.len() as u32;
+    let short = Told::Short(room);
+    if 0 < room {
+        let rows = [
+            (Do::CipherUpdate(piece, 0), short),
+            (Do::CipherUpdate(piece, room - 1), short),
+        ];
+        check(rt, alloc, operation, &rows);
+    }
+    let row = [(Do::CipherUpdate(piece, room), Told::Bytes(given))];
+    check(rt, alloc, operation, &row);
 }
 
-/// Pieces of 1, 15, 16, 17 and 15 bytes, and the end.
-fn check_pieces(
+/// Pieces of 1, 15, 16, 17 and 15 bytes, and the pieces that they give where whole blocks come out, and where each byte
+/// does.
+type Piece = (Range, Range);
+
+const BY_BLOCKS: &[Piece] = &[
+    ((0, 1), (0, 0)),
+    ((1, 16), (0, 16)),
+    ((16, 32), (16, 32)),
+    ((32, 49), (32, 48)),
+    ((49, 64), (48, 64)),
+];
+
+const BY_BYTES: &[Piece] = &[
+    ((0, 1), (0, 1)),
+    ((1, 16), (1, 16)),
+    ((16, 32), (16, 32)),
+    ((32, 49), (32, 49)),
+    ((49, 64), (49, 64)),
+];
+
+/// The pieces in order.
+fn take_pieces(
     rt: &impl Abort,
     alloc: Global,
     operation: &mut Operation,
-    input: &[u8; 64],
-    text: &[u8; 64],
-) -> Result<(), Fail> {
+    pieces: &[Piece],
+    input: &[u8],
+    output: &[u8],
+) {
+    for (taken, given) in pieces {
+        let piece = part(rt, input, *taken);
+        take_piece(rt, alloc, operation, piece, part(rt, output, *given));
+    }
+}
+
+/// A cipher, its vector, the pieces, the input and the output.
+type Vector = (
+    Kind,
+    &'static [u8],
+    &'static [Piece],
+    &'static [u8],
+    &'static [u8],
+);
+
+const CIPHERS: &[Vector] = &[
+    (ECB_ENCRYPTION, &[], BY_BLOCKS, PLAIN, ECB),
+    (ECB_DECRYPTION, &[], BY_BLOCKS, ECB, PLAIN),
+    (CBC_ENCRYPTION, CBC_VECTOR, BY_BLOCKS, PLAIN, CBC),
+    (CBC_DECRYPTION, CBC_VECTOR, BY_BLOCKS, CBC, PLAIN),
+    (CTR_ENCRYPTION, COUNTER, BY_BYTES, PLAIN, CTR),
+    (CTR_DECRYPTION, COUNTER, BY_BYTES, CTR, PLAIN),
+];
+
+/// In pieces, then the whole at once.
+fn check_vector(rt: &impl Abort, alloc: Global, operation: &mut Operation, vector: &Vector) {
     const END: &[Row] = &[
         (Do::Info, Told::About(256, 256, true)),
         (Do::CipherFinal(&[], 0), NO_BYTES),
         (Do::Info, Told::About(256, 256, false)),
     ];
-    let mut output = Vec::new(alloc);
-    let mut taken = 0;
-    for size in [1, 15, 16, 17, 15] {
-        assert!(rt; taken <= 64 && size <= 64 - taken);
-        let piece = &input[taken..taken + size];
-        take_piece(rt, alloc, operation, piece, &mut output)?;
-        taken += size;
-    }
+    let (_, iv, pieces, input, output) = *vector;
+    let begun = (Do::CipherInit(iv), Told::Done);
+    check(rt, alloc, operation, &[AES_KEYED, begun]);
+    take_pieces(rt, alloc, operation, pieces, input, output);
     check(rt, alloc, operation, END);
-    assert_eq!(rt; output.as_slice(), text.as_slice());
-    Ok(())
-}
-
-const CIPHERS: [(u32, &'static [u8], &'static [u8; 64]); 3] = [
-    (keys::AES_ECB, &[], &ECB),
-    (keys::AES_CBC, &CBC_VECTOR, &CBC),
-    (keys::AES_CTR, &COUNTER, &CTR),
-];
-
-/// In pieces, then the whole at once.
-fn check_encryption(
-    rt: &impl Abort,
-    alloc: Global,
-    alg: u32,
-    iv: &[u8],
-    text: &[u8; 64],
-) -> Result<(), Fail> {
-    let mut operation = cipher(alg, keys::MODE_ENCRYPT, iv)?;
-    check_pieces(rt, alloc, &mut operation, &PLAIN, text)?;
-    let whole = [
-        (Do::CipherInit(iv), Told::Done),
-        (Do::CipherFinal(&PLAIN, 64), Told::Bytes(text)),
-    ];
-    check(rt, alloc, &mut operation, &whole);
-    Ok(())
-}
-
-/// The way back, in pieces.
-fn check_decryption(
-    rt: &impl Abort,
-    alloc: Global,
-    alg: u32,
-    iv: &[u8],
-    text: &[u8; 64],
-) -> Result<(), Fail> {
-    let mut operation = cipher(alg, keys::MODE_DECRYPT, iv)?;
-    check_pieces(rt, alloc, &mut operation, text, &PLAIN)
+    let whole = [begun, (Do::CipherFinal(input, 64), Told::Bytes(output))];
+    check(rt, alloc, operation, &whole);
 }
 
 #[test]
-fn ciphers_in_pieces(rt: HostRuntime) -> Result<(), Fail> {
-    for (alg, iv, text) in CIPHERS {
-        check_encryption(&rt, rt.alloc(), alg, iv, text)?;
-        check_decryption(&rt, rt.alloc(), alg, iv, text)?;
+fn ciphers_in_pieces(rt: HostRuntime) {
+    for vector in CIPHERS {
+        let mut operation = new(&rt, vector.0);
+        check_vector(&rt, rt.alloc(), &mut operation, vector);
+        drop(operation);
     }
-    Ok(())
 }
 
 #[test]
-fn part_of_a_block_is_misuse_at_the_end(rt: HostRuntime) -> Result<(), Fail> {
-    let mut operation = cipher(keys::AES_CBC, keys::MODE_ENCRYPT, &CBC_VECTOR)?;
+fn part_of_a_block_is_misuse_at_the_end(rt: HostRuntime) {
+    let first = part(&rt, PLAIN, (0, 1));
+    let few = part(&rt, PLAIN, (1, 15));
+    let rest = part(&rt, PLAIN, (1, 16));
+    let text = part(&rt, CBC, (0, 16));
     let rows = [
-        (Do::CipherUpdate(&PLAIN[..1], 0), NO_BYTES),
-        (Do::CipherFinal(&PLAIN[1..15], 64), Told::Misuse),
-        (Do::CipherFinal(&PLAIN[1..16], 15), Told::Short(16)),
-        (Do::CipherFinal(&PLAIN[1..16], 16), Told::Bytes(&CBC[..16])),
-        (Do::CipherFinal(&PLAIN, 64), Told::Misuse),
+        AES_KEYED,
+        CBC_BEGUN,
+        (Do::CipherUpdate(first, 0), NO_BYTES),
+        (Do::CipherFinal(few, 64), Told::Misuse),
+        (Do::CipherFinal(rest, 15), Told::Short(16)),
+        (Do::CipherFinal(rest, 16), Told::Bytes(text)),
+        (Do::CipherFinal(PLAIN, 64), Told::Misuse),
     ];
-    check(&rt, rt.alloc(), &mut operation, &rows);
-    Ok(())
+    run(&rt, rt.alloc(), CBC_ENCRYPTION, &rows);
 }
 
 #[test]
-fn part_of_a_block_ends_a_counter(rt: HostRuntime) -> Result<(), Fail> {
-    let mut counter = cipher(keys::AES_CTR, keys::MODE_ENCRYPT, &COUNTER)?;
-    let rows = [(Do::CipherFinal(&PLAIN[..5], 5), Told::Bytes(&CTR[..5]))];
-    check(&rt, rt.alloc(), &mut counter, &rows);
-    Ok(())
+fn part_of_a_block_ends_a_counter(rt: HostRuntime) {
+    let bytes = part(&rt, PLAIN, (0, 5));
+    let text = Told::Bytes(part(&rt, CTR, (0, 5)));
+    let rows = [AES_KEYED, CTR_BEGUN, (Do::CipherFinal(bytes, 5), text)];
+    run(&rt, rt.alloc(), CTR_ENCRYPTION, &rows);
 }
 
 /// The front of the message of the code, the rest of it, and the whole.
@@ -152,113 +204,109 @@ const REST: &[u8] = &[0xcd; 30];
 
 const MESSAGE: &[u8] = &[0xcd; 50];
 
-/// A code that differs in its last bit, and one that lacks a byte.
-fn check_wrong_codes(rt: &impl Abort, alloc: Global, operation: &mut Operation) {
-    let mut wrong = HMAC_CODE;
-    wrong[31] ^= 1;
-    let rows = [
-        (Do::Compare(MESSAGE, &wrong), Told::MacInvalid),
-        (Do::Info, Told::About(200, 1_024, false)),
-        (Do::Compare(MESSAGE, &HMAC_CODE), Told::Misuse),
-        (Do::MacInit, Told::Done),
-        (Do::Compare(MESSAGE, &HMAC_CODE[..31]), Told::MacInvalid),
-    ];
-    check(rt, alloc, operation, &rows);
-}
-
 #[test]
-fn codes(rt: HostRuntime) -> Result<(), Fail> {
+fn codes(rt: HostRuntime) {
     const ROWS: &[Row] = &[
+        CODE_KEYED,
+        CODE_BEGUN,
         (Do::MacUpdate(FRONT), Told::Done),
         (Do::MacFinal(REST, 31), Told::Short(32)),
-        (Do::MacFinal(REST, 32), Told::Bytes(&HMAC_CODE)),
+        (Do::MacFinal(REST, 32), Told::Bytes(HMAC_CODE)),
         (Do::MacUpdate(&[]), Told::Misuse),
         (Do::MacInit, Told::Done),
-        (Do::Compare(MESSAGE, &HMAC_CODE), Told::Done),
+        (Do::Compare(MESSAGE, HMAC_CODE), Told::Done),
         (Do::MacInit, Told::Done),
+        (Do::Compare(MESSAGE, WRONG_CODE), Told::MacInvalid),
+        (Do::Info, Told::About(200, 1_024, false)),
+        (Do::Compare(MESSAGE, HMAC_CODE), Told::Misuse),
+        (Do::MacInit, Told::Done),
+        (Do::Compare(MESSAGE, SHORT_CODE), Told::MacInvalid),
     ];
-    let mut operation = authentication()?;
-    check(&rt, rt.alloc(), &mut operation, ROWS);
-    check_wrong_codes(&rt, rt.alloc(), &mut operation);
-    Ok(())
+    run(&rt, rt.alloc(), CODE, ROWS);
 }
 
 #[test]
-fn digests(rt: HostRuntime) -> Result<(), Fail> {
+fn digests(rt: HostRuntime) {
     const ROWS: &[Row] = &[
         (Do::DigestUpdate(b"a"), Told::Done),
         (Do::Info, Told::About(0, 0, true)),
         (Do::DigestFinal(b"bc", 31), Told::Short(32)),
-        (Do::DigestFinal(b"bc", 32), Told::Bytes(&ABC)),
+        (Do::DigestFinal(b"bc", 32), Told::Bytes(ABC)),
         (Do::Info, Told::About(0, 0, false)),
-        (Do::DigestFinal(b"abc", 64), Told::Bytes(&ABC)),
+        (Do::DigestFinal(b"abc", 64), Told::Bytes(ABC)),
         (Do::DigestUpdate(b"x"), Told::Done),
         (Do::Reset, Told::Done),
-        (Do::DigestFinal(b"abc", 32), Told::Bytes(&ABC)),
+        (Do::DigestFinal(b"abc", 32), Told::Bytes(ABC)),
         (Do::ClearKey, Told::Misuse),
     ];
-    let mut operation = Operation::new(keys::SHA256, keys::MODE_DIGEST, 0)?;
-    check(&rt, rt.alloc(), &mut operation, ROWS);
-    Ok(())
+    run(&rt, rt.alloc(), DIGEST, ROWS);
 }
 
-/// Has an operation of this algorithm, mode and greatest size take over another, and makes calls on the copy.
-fn check_copy(
-    rt: &impl Abort,
-    alloc: Global,
-    from: &Operation,
-    about: (u32, u32, u32),
-    rows: &[Row<'_>],
-) -> Result<(), Fail> {
-    let (alg, mode, max_bits) = about;
-    let mut copy = Operation::new(alg, mode, max_bits)?;
-    copy.copy_from(from)?;
+/// Has a new operation take over another, and makes calls on the copy.
+fn check_copy(rt: &impl Abort, alloc: Global, from: &Operation, kind: Kind, rows: &[Row<'_>]) {
+    let mut copy = new(rt, kind);
+    copy.copy_from(from).expect(rt, "a copy");
     check(rt, alloc, &mut copy, rows);
-    Ok(())
+    drop(copy);
 }
 
 /// The same, where the copy is misuse.
-fn check_no_copy(
+fn check_no_copy(rt: &impl Abort, from: &Operation, kind: Kind) {
+    let mut copy = new(rt, kind);
+    let answer = copy.copy_from(from);
+    drop(copy);
+    assert!(rt; matches!(answer, Err(OpAnswer::Misuse)));
+}
+
+/// Makes the calls that begin an operation and takes it over, and goes on with both.
+fn go_apart(
     rt: &impl Abort,
-    from: &Operation,
-    alg: u32,
-    mode: u32,
-    max_bits: u32,
-) -> Result<(), Fail> {
-    let mut copy = Operation::new(alg, mode, max_bits)?;
-    assert!(rt; copy.copy_from(from).err() == Some(OpAnswer::Misuse));
-    Ok(())
+    alloc: Global,
+    operation: &mut Operation,
+    begun: &[Row<'_>],
+    kind: Kind,
+    copied: &[Row<'_>],
+    ended: &[Row<'_>],
+) {
+    check(rt, alloc, operation, begun);
+    check_copy(rt, alloc, operation, kind, copied);
+    check(rt, alloc, operation, ended);
 }
 
 #[test]
-fn copies_of_codes_go_on_apart(rt: HostRuntime) -> Result<(), Fail> {
-    const BEGUN: &[Row] = &[(Do::MacUpdate(FRONT), Told::Done)];
+fn copies_of_codes_go_on_apart(rt: HostRuntime) {
+    const BEGUN: &[Row] = &[CODE_KEYED, CODE_BEGUN, (Do::MacUpdate(FRONT), Told::Done)];
     const COPIED: &[Row] = &[
         (Do::Info, Told::About(200, 200, true)),
-        (Do::Compare(REST, &HMAC_CODE), Told::Done),
+        (Do::Compare(REST, HMAC_CODE), Told::Done),
     ];
-    const ENDED: &[Row] = &[(Do::Compare(REST, &HMAC_CODE), Told::Done)];
-    let alloc = rt.alloc();
-    let mut operation = authentication()?;
-    check(&rt, alloc, &mut operation, BEGUN);
-    let small = (keys::HMAC_SHA256, keys::MODE_MAC, 200);
-    check_copy(&rt, alloc, &operation, small, COPIED)?;
-    check(&rt, alloc, &mut operation, ENDED);
-    check_no_copy(&rt, &operation, keys::HMAC_SHA256, keys::MODE_MAC, 192)?;
-    check_no_copy(&rt, &operation, keys::SHA256, keys::MODE_DIGEST, 0)
+    const ENDED: &[Row] = &[(Do::Compare(REST, HMAC_CODE), Told::Done)];
+    const SMALL: Kind = (keys::HMAC_SHA256, keys::MODE_MAC, 200);
+    const SMALLER: Kind = (keys::HMAC_SHA256, keys::MODE_MAC, 192);
+    let mut operation = new(&rt, CODE);
+    go_apart(&rt, rt.alloc(), &mut operation, BEGUN, SMALL, COPIED, ENDED);
+    check_no_copy(&rt, &operation, SMALLER);
+    check_no_copy(&rt, &operation, DIGEST);
+    drop(operation);
 }
 
 #[test]
-fn copies_of_ciphers_go_on_apart(rt: HostRuntime) -> Result<(), Fail> {
-    let alloc = rt.alloc();
-    let mut encryption = cipher(keys::AES_CBC, keys::MODE_ENCRYPT, &CBC_VECTOR)?;
-    let begun = [(Do::CipherUpdate(&PLAIN[..7], 0), NO_BYTES)];
-    check(&rt, alloc, &mut encryption, &begun);
-    let ended = [(Do::CipherFinal(&PLAIN[7..], 64), Told::Bytes(&CBC))];
-    let same = (keys::AES_CBC, keys::MODE_ENCRYPT, 256);
-    check_copy(&rt, alloc, &encryption, same, &ended)?;
-    check(&rt, alloc, &mut encryption, &ended);
-    Ok(())
+fn copies_of_ciphers_go_on_apart(rt: HostRuntime) {
+    let front = part(&rt, PLAIN, (0, 7));
+    let rest = part(&rt, PLAIN, (7, 64));
+    let begun = [AES_KEYED, CBC_BEGUN, (Do::CipherUpdate(front, 0), NO_BYTES)];
+    let ended = [(Do::CipherFinal(rest, 64), Told::Bytes(CBC))];
+    let mut operation = new(&rt, CBC_ENCRYPTION);
+    go_apart(
+        &rt,
+        rt.alloc(),
+        &mut operation,
+        &begun,
+        CBC_ENCRYPTION,
+        &ended,
+        &ended,
+    );
+    drop(operation);
 }
 
 const AES: u32 = keys::KIND_AES;
@@ -266,10 +314,10 @@ const AES: u32 = keys::KIND_AES;
 const DECRYPT: u32 = keys::USAGE_DECRYPT;
 
 #[test]
-fn keys_come_and_go(rt: HostRuntime) -> Result<(), Fail> {
+fn keys_come_and_go(rt: HostRuntime) {
     const ROWS: &[Row] = &[
         (Do::Reset, Told::Misuse),
-        (Do::CipherInit(&CBC_VECTOR), Told::Misuse),
+        (Do::CipherInit(CBC_VECTOR), Told::Misuse),
         (
             Do::SetKey(keys::KIND_HMAC_SHA256, DECRYPT, &[7; 24]),
             Told::Misuse,
@@ -289,7 +337,7 @@ fn keys_come_and_go(rt: HostRuntime) -> Result<(), Fail> {
         (Do::Reset, Told::Done),
         (Do::CipherInit(&[]), Told::Misuse),
         (Do::MayChangeKey, Told::May(true)),
-        (Do::CipherInit(&CBC_VECTOR), Told::Done),
+        (Do::CipherInit(CBC_VECTOR), Told::Done),
         (Do::MayChangeKey, Told::May(false)),
         (Do::SetKey(AES, DECRYPT, &[7; 16]), Told::Misuse),
         (Do::ClearKey, Told::Misuse),
@@ -299,13 +347,12 @@ fn keys_come_and_go(rt: HostRuntime) -> Result<(), Fail> {
         (Do::ClearKey, Told::Done),
         (Do::Info, Told::About(0, 192, false)),
     ];
-    let mut operation = Operation::new(keys::AES_CBC, keys::MODE_DECRYPT, 192)?;
-    check(&rt, rt.alloc(), &mut operation, ROWS);
-    Ok(())
+    const KIND: Kind = (keys::AES_CBC, keys::MODE_DECRYPT, 192);
+    run(&rt, rt.alloc(), KIND, ROWS);
 }
 
 /// Which of the modes 0 to 5 each algorithm has, and whether the greatest sizes 0, 128, 192, 256, 1,016 and 1,032 fit.
-const TABLE: [(u32, [bool; 6], [bool; 6]); 11] = [
+const TABLE: &[(u32, [bool; 6], [bool; 6])] = &[
     (
         keys::AES_ECB,
         [true, true, false, false, false, false],
@@ -357,79 +404,90 @@ const TABLE: [(u32, [bool; 6], [bool; 6]); 11] = [
 
 const SIZES: [u32; 6] = [0, 128, 192, 256, 1_016, 1_032];
 
-/// Asks for a new operation, and compares what comes of it.
-fn check_new(rt: &impl Abort, alg: u32, mode: u32, max_bits: u32, fits: bool) {
-    let holds = match &Operation::new(alg, mode, max_bits) {
-        Ok(operation) => fits && is_new(&operation.info(), alg, mode, max_bits),
-        Err(answer) => !fits && *answer == OpAnswer::NotSupported,
-    };
-    assert!(rt; holds, "{alg:x} in mode {mode} of {max_bits} bits");
+/// Whether a new operation is had where it fits, and is refused elsewhere.
+fn comes_new(alg: u32, mode: u32, max_bits: u32, fits: bool) -> bool {
+    match Operation::new(alg, mode, max_bits) {
+        Ok(operation) => {
+            let about = operation.info();
+            drop(operation);
+            fits && is_new(&about, alg, mode, max_bits)
+        }
+        Err(answer) => !fits && answer == OpAnswer::NotSupported,
+    }
+}
+
+/// Asks for a new operation of each greatest size, and compares what comes of it.
+fn check_sizes(rt: &impl Abort, alg: u32, mode: u32, has_mode: bool, sizes: &[bool; 6]) {
+    for i in 0..6 {
+        let max_bits = SIZES[i];
+        let holds = comes_new(alg, mode, max_bits, has_mode && sizes[i]);
+        assert!(rt; holds, "{alg:x} in mode {mode} of {max_bits} bits");
+    }
 }
 
 #[test]
 fn what_new_refuses(rt: HostRuntime) {
     for (alg, modes, sizes) in TABLE {
         for mode in 0..6u32 {
-            for i in 0..6 {
-                check_new(&rt, alg, mode, SIZES[i], modes[mode as usize] && sizes[i]);
-            }
+            check_sizes(&rt, *alg, mode, modes[mode as usize], sizes);
         }
     }
 }
 
-/// Compares the size and the digest of what the largest ask gave.
-fn check_largest_digest(rt: &impl Abort, alloc: Global, text: &[u8]) -> Result<(), Fail> {
-    assert_eq!(rt; text.len(), 524_288);
-    let mut digest = Operation::new(keys::SHA256, keys::MODE_DIGEST, 0)?;
-    let rows = [(Do::DigestFinal(text, 32), Told::Bytes(&LARGEST))];
-    check(rt, alloc, &mut digest, &rows);
-    Ok(())
+/// Encrypts as many bytes as one ask may have.
+fn largest(rt: &impl Abort, alloc: Global, operation: &mut Operation, zeros: &[u8]) -> Bytes {
+    check(rt, alloc, operation, &[AES_KEYED, CTR_BEGUN]);
+    let text = operation.cipher_update(alloc, zeros, 524_288);
+    text.expect(rt, "a text")
 }
 
-/// Encrypts as many bytes as one ask may have.
-fn check_largest(
-    rt: &impl Abort,
-    alloc: Global,
-    operation: &mut Operation,
-    zeros: &[u8],
-) -> Result<(), Fail> {
-    let text = operation.cipher_update(alloc, zeros, 524_288)?;
-    check_largest_digest(rt, alloc, text.as_slice())
+/// Compares the size and the digest of what the largest ask gave.
+fn check_digest(rt: &impl Abort, alloc: Global, text: &[u8]) {
+    assert!(rt; text.len() == 524_288);
+    let rows = [(Do::DigestFinal(text, 32), Told::Bytes(LARGEST))];
+    run(rt, alloc, DIGEST, &rows);
+}
+
+/// So many zeros.
+fn zeros(rt: &impl Abort, alloc: Global, count: usize) -> Vec<u8> {
+    vec![in alloc; 0u8; count].expect(rt, "zeros")
 }
 
 #[test]
-fn one_ask_of_the_largest_size(rt: HostRuntime) -> Result<(), Fail> {
-    let mut operation = cipher(keys::AES_CTR, keys::MODE_ENCRYPT, &COUNTER)?;
-    let zeros = vec![in rt.alloc(); 0u8; 524_288]?;
-    check_largest(&rt, rt.alloc(), &mut operation, zeros.as_slice())
+fn one_ask_of_the_largest_size(rt: HostRuntime) {
+    let zeros = zeros(&rt, rt.alloc(), 524_288);
+    let mut operation = new(&rt, CTR_ENCRYPTION);
+    let text = largest(&rt, rt.alloc(), &mut operation, zeros.as_slice());
+    drop(operation);
+    check_digest(&rt, rt.alloc(), text.as_slice());
 }
 
 /// A cipher takes neither so long a text nor so much room.
-fn check_long_text(rt: &impl Abort, alloc: Global, long: &[u8]) -> Result<(), Fail> {
-    let mut operation = cipher(keys::AES_CTR, keys::MODE_ENCRYPT, &COUNTER)?;
+fn check_long_text(rt: &impl Abort, alloc: Global, long: &[u8]) {
     let rows = [
+        AES_KEYED,
+        CTR_BEGUN,
         (Do::CipherUpdate(&[], 524_289), Told::Misuse),
         (Do::CipherFinal(long, 0), Told::Misuse),
     ];
-    check(rt, alloc, &mut operation, &rows);
-    Ok(())
+    run(rt, alloc, CTR_ENCRYPTION, &rows);
 }
 
 /// An authentication code takes neither so long a message nor so long a code.
-fn check_long_message(rt: &impl Abort, alloc: Global, long: &[u8]) -> Result<(), Fail> {
-    let mut operation = authentication()?;
+fn check_long_message(rt: &impl Abort, alloc: Global, long: &[u8]) {
     let rows = [
+        CODE_KEYED,
+        CODE_BEGUN,
         (Do::MacUpdate(long), Told::Misuse),
         (Do::Compare(&[], long), Told::Misuse),
         (Do::Info, Told::About(200, 1_024, true)),
     ];
-    check(rt, alloc, &mut operation, &rows);
-    Ok(())
+    run(rt, alloc, CODE, &rows);
 }
 
 #[test]
-fn too_much_is_misuse(rt: HostRuntime) -> Result<(), Fail> {
-    let long = vec![in rt.alloc(); 0u8; 524_289]?;
-    check_long_text(&rt, rt.alloc(), long.as_slice())?;
-    check_long_message(&rt, rt.alloc(), long.as_slice())
+fn too_much_is_misuse(rt: HostRuntime) {
+    let long = zeros(&rt, rt.alloc(), 524_289);
+    check_long_text(&rt, rt.alloc(), long.as_slice());
+    check_long_message(&rt, rt.alloc(), long.as_slice());
 }
