@@ -5,8 +5,7 @@ use app_api::{Answer, Ask};
 use operation_asks::{CryptoOutcome, KeyGiven, Operations, Outcome};
 use std::alloc::Global;
 use std::process::Abort;
-use std::test::Fail;
-use tee_base::{Bytes, Code, NoMemory, keys};
+use tee_base::{Bytes, Code, keys};
 use transient_obj::Secret;
 
 /// An ask in words that a table can hold.
@@ -54,67 +53,14 @@ enum Told<'a> {
     Other,
 }
 
-/// An ask about a cipher or a digest.
-fn on_ciphers(alloc: Global, what: Do<'_>) -> Result<Option<Ask>, NoMemory> {
-    Ok(Some(match what {
-        Do::Init(op, iv) => Ask::CipherInit {
-            op,
-            iv: Bytes::from_slice(alloc, iv)?,
-        },
-        Do::Update(op, bytes, room) => Ask::CipherUpdate {
-            op,
-            bytes: Bytes::from_slice(alloc, bytes)?,
-            room,
-        },
-        Do::Final(op, bytes, room) => Ask::CipherFinal {
-            op,
-            bytes: Bytes::from_slice(alloc, bytes)?,
-            room,
-        },
-        Do::DigestUpdate(op, bytes) => Ask::DigestUpdate {
-            op,
-            bytes: Bytes::from_slice(alloc, bytes)?,
-        },
-        Do::DigestFinal(op, bytes, room) => Ask::DigestFinal {
-            op,
-            bytes: Bytes::from_slice(alloc, bytes)?,
-            room,
-        },
-        _ => return Ok(None),
-    }))
+/// The bytes in memory of their own.
+fn owned(rt: &impl Abort, alloc: Global, bytes: &[u8]) -> Bytes {
+    Bytes::from_slice(alloc, bytes).expect(rt, "bytes")
 }
 
-/// An ask about an authentication code.
-fn on_codes(alloc: Global, what: Do<'_>) -> Result<Option<Ask>, NoMemory> {
-    Ok(Some(match what {
-        Do::MacInit(op) => Ask::MacInit { op },
-        Do::MacUpdate(op, bytes) => Ask::MacUpdate {
-            op,
-            bytes: Bytes::from_slice(alloc, bytes)?,
-        },
-        Do::MacFinal(op, bytes, room) => Ask::MacFinal {
-            op,
-            bytes: Bytes::from_slice(alloc, bytes)?,
-            room,
-        },
-        Do::Compare(op, bytes, mac) => Ask::MacCompare {
-            op,
-            bytes: Bytes::from_slice(alloc, bytes)?,
-            mac: Bytes::from_slice(alloc, mac)?,
-        },
-        _ => return Ok(None),
-    }))
-}
-
-/// Any ask.
-fn ask(alloc: Global, what: Do<'_>) -> Result<Ask, NoMemory> {
-    if let Some(ask) = on_ciphers(alloc, what)? {
-        return Ok(ask);
-    }
-    if let Some(ask) = on_codes(alloc, what)? {
-        return Ok(ask);
-    }
-    Ok(match what {
+/// An ask with no bytes.
+fn without_bytes(what: Do<'_>) -> Ask {
+    match what {
         Do::Random(count) => Ask::Random { count },
         Do::New(alg, mode, max_bits) => Ask::OpNew {
             alg,
@@ -126,8 +72,47 @@ fn ask(alloc: Global, what: Do<'_>) -> Result<Ask, NoMemory> {
         Do::Reset(op) => Ask::OpReset { op },
         Do::SetKey(op, object) => Ask::OpSetKey { op, object },
         Do::Copy(to, from) => Ask::OpCopy { to, from },
+        Do::MacInit(op) => Ask::MacInit { op },
         _ => Ask::ObjClose { object: 0 },
-    })
+    }
+}
+
+/// An ask with bytes and room.
+fn with_room(op: u32, what: Do<'_>, bytes: Bytes, room: u32) -> Ask {
+    match what {
+        Do::Update(..) => Ask::CipherUpdate { op, bytes, room },
+        Do::Final(..) => Ask::CipherFinal { op, bytes, room },
+        Do::MacFinal(..) => Ask::MacFinal { op, bytes, room },
+        _ => Ask::DigestFinal { op, bytes, room },
+    }
+}
+
+/// Any ask.
+fn ask(rt: &impl Abort, alloc: Global, what: Do<'_>) -> Ask {
+    match what {
+        Do::Init(op, iv) => Ask::CipherInit {
+            op,
+            iv: owned(rt, alloc, iv),
+        },
+        Do::MacUpdate(op, bytes) => Ask::MacUpdate {
+            op,
+            bytes: owned(rt, alloc, bytes),
+        },
+        Do::DigestUpdate(op, bytes) => Ask::DigestUpdate {
+            op,
+            bytes: owned(rt, alloc, bytes),
+        },
+        Do::Compare(op, bytes, mac) => Ask::MacCompare {
+            op,
+            bytes: owned(rt, alloc, bytes),
+            mac: owned(rt, alloc, mac),
+        },
+        Do::Update(op, bytes, room)
+        | Do::Final(op, bytes, room)
+        | Do::MacFinal(op, bytes, room)
+        | Do::DigestFinal(op, bytes, room) => with_room(op, what, owned(rt, alloc, bytes), room),
+        _ => without_bytes(what),
+    }
 }
 
 /// An object gives this key.
@@ -148,14 +133,17 @@ fn served(
     crypto: &mut Operations,
     instance: u8,
     what: Do<'_>,
-) -> Result<CryptoOutcome, NoMemory> {
+) -> CryptoOutcome {
     let (op, given) = match what {
         Do::Key(op, kind, usage, secret) => (op, key_of(rt, kind, usage, secret)),
         Do::NoKey(op) => (op, KeyGiven::NoKey),
         Do::Gone(op) => (op, KeyGiven::Refused(Code::STORAGE_NOT_AVAILABLE)),
-        _ => return crypto.serve(alloc, instance, ask(alloc, what)?),
+        _ => {
+            let asked = crypto.serve(alloc, instance, ask(rt, alloc, what));
+            return asked.expect(rt, "an outcome");
+        }
     };
-    Ok(settled(crypto, instance, op, given))
+    settled(crypto, instance, op, given)
 }
 
 /// The same in words that a table can hold.
@@ -188,38 +176,28 @@ fn shown(asked: &CryptoOutcome) -> Told<'_> {
 /// An instance, its ask, and what comes of it.
 type Row<'a> = (u8, Do<'a>, Told<'a>);
 
-/// Checks that the ask of a row comes to what the row says.
-fn check_row(
-    rt: &impl Abort,
-    alloc: Global,
-    crypto: &mut Operations,
-    number: usize,
-    row: &Row<'_>,
-) -> Result<(), Fail> {
+/// Whether the ask of a row comes to what the row says.
+fn is_met(rt: &impl Abort, alloc: Global, crypto: &mut Operations, row: &Row<'_>) -> bool {
     let (instance, what, wanted) = *row;
-    let asked = served(rt, alloc, crypto, instance, what)?;
+    let asked = served(rt, alloc, crypto, instance, what);
     let holds = shown(&asked) == wanted;
-    assert!(rt; holds, "row {number}");
-    Ok(())
+    drop(asked);
+    holds
 }
 
 /// Checks it of each row, in order.
-fn check_on(
-    rt: &impl Abort,
-    alloc: Global,
-    crypto: &mut Operations,
-    rows: &[Row<'_>],
-) -> Result<(), Fail> {
+fn check_on(rt: &impl Abort, alloc: Global, crypto: &mut Operations, rows: &[Row<'_>]) {
     for (number, row) in rows.iter().enumerate() {
-        check_row(rt, alloc, crypto, number, row)?;
+        let holds = is_met(rt, alloc, crypto, row);
+        assert!(rt; holds, "row {number}");
     }
-    Ok(())
 }
 
 /// Checks it of each row, in order, over no operations.
-fn check(rt: &impl Abort, alloc: Global, rows: &[Row<'_>]) -> Result<(), Fail> {
+fn check(rt: &impl Abort, alloc: Global, rows: &[Row<'_>]) {
     let mut crypto = Operations::new(alloc, [0; 32], 0, 0);
-    check_on(rt, alloc, &mut crypto, rows)
+    check_on(rt, alloc, &mut crypto, rows);
+    drop(crypto);
 }
 
 const UNSUPPORTED: Told<'static> = Told::Refused(Code::NOT_SUPPORTED);
@@ -294,7 +272,7 @@ const HMAC: u32 = keys::HMAC_SHA256;
 const ALL: u32 = keys::USAGE_NEW;
 
 #[test]
-fn operations_come_and_go(rt: HostRuntime) -> Result<(), Fail> {
+fn operations_come_and_go(rt: HostRuntime) {
     const ROWS: &[Row] = &[
         (1, Do::New(CBC, 0, 128), Told::Number(1)),
         (1, Do::New(0, 0, 128), UNSUPPORTED),
@@ -324,11 +302,11 @@ fn operations_come_and_go(rt: HostRuntime) -> Result<(), Fail> {
         (1, Do::New(CBC, 1, 256), Told::Number(5)),
         (1, Do::Close(0), Told::Panicked),
     ];
-    check(&rt, rt.alloc(), ROWS)
+    check(&rt, rt.alloc(), ROWS);
 }
 
 #[test]
-fn keys_are_set_and_taken_away(rt: HostRuntime) -> Result<(), Fail> {
+fn keys_are_set_and_taken_away(rt: HostRuntime) {
     const GONE: Told<'static> = Told::Refused(Code::STORAGE_NOT_AVAILABLE);
     const ROWS: &[Row] = &[
         (1, Do::New(CBC, 1, 128), Told::Number(1)),
@@ -365,11 +343,11 @@ fn keys_are_set_and_taken_away(rt: HostRuntime) -> Result<(), Fail> {
         (1, Do::SetKey(1, 0), Told::Done),
         (1, Do::Info(1), Told::About(CBC, 1, 128, 0, false)),
     ];
-    check(&rt, rt.alloc(), ROWS)
+    check(&rt, rt.alloc(), ROWS);
 }
 
 #[test]
-fn operations_are_copied(rt: HostRuntime) -> Result<(), Fail> {
+fn operations_are_copied(rt: HostRuntime) {
     const ROWS: &[Row] = &[
         (1, Do::New(CBC, 0, 128), Told::Number(1)),
         (1, Do::New(CBC, 0, 256), Told::Number(2)),
@@ -395,11 +373,11 @@ fn operations_are_copied(rt: HostRuntime) -> Result<(), Fail> {
         (1, Do::Final(2, PLAIN_3, 16), Told::Bytes(CBC_2)),
         (1, Do::Final(1, PLAIN_3, 16), Told::Bytes(CBC_2)),
     ];
-    check(&rt, rt.alloc(), ROWS)
+    check(&rt, rt.alloc(), ROWS);
 }
 
 #[test]
-fn ciphers(rt: HostRuntime) -> Result<(), Fail> {
+fn ciphers(rt: HostRuntime) {
     const ROWS: &[Row] = &[
         (1, Do::New(CBC, 0, 128), Told::Number(1)),
         (1, Do::New(keys::AES_ECB, 0, 128), Told::Number(2)),
@@ -438,11 +416,11 @@ fn ciphers(rt: HostRuntime) -> Result<(), Fail> {
         (1, Do::Update(3, PLAIN_1, 5), Told::Bytes(CTR_1)),
         (1, Do::Final(3, PLAIN_2, 14), Told::Bytes(CTR_2)),
     ];
-    check(&rt, rt.alloc(), ROWS)
+    check(&rt, rt.alloc(), ROWS);
 }
 
 #[test]
-fn codes(rt: HostRuntime) -> Result<(), Fail> {
+fn codes(rt: HostRuntime) {
     const INVALID: Told<'static> = Told::Refused(Code::MAC_INVALID);
     const SOME: &[u8] = &[0xcd; 20];
     const REST: &[u8] = &[0xcd; 30];
@@ -480,11 +458,11 @@ fn codes(rt: HostRuntime) -> Result<(), Fail> {
         (1, Do::MacUpdate(1, SOME), Told::Done),
         (1, Do::Compare(1, REST, MAC_FRONT), INVALID),
     ];
-    check(&rt, rt.alloc(), ROWS)
+    check(&rt, rt.alloc(), ROWS);
 }
 
 #[test]
-fn digests(rt: HostRuntime) -> Result<(), Fail> {
+fn digests(rt: HostRuntime) {
     const SHA: u32 = keys::SHA256;
     const ROWS: &[Row] = &[
         (1, Do::New(SHA, 5, 0), Told::Number(1)),
@@ -503,12 +481,12 @@ fn digests(rt: HostRuntime) -> Result<(), Fail> {
         (1, Do::Reset(1), Told::Done),
         (1, Do::DigestFinal(1, b"abc", 32), Told::Bytes(ABC)),
     ];
-    check(&rt, rt.alloc(), ROWS)
+    check(&rt, rt.alloc(), ROWS);
 }
 
 // The first words of ChaCha20 under an all-zero key: 76b8e0ad a0f13d90 405d6ae5 5386bd28.
 #[test]
-fn random_bytes(rt: HostRuntime) -> Result<(), Fail> {
+fn random_bytes(rt: HostRuntime) {
     const ROWS: &[Row] = &[
         (1, Do::Random(524_289), Told::Panicked),
         (1, Do::Random(0), Told::Bytes(&[])),
@@ -520,21 +498,18 @@ fn random_bytes(rt: HostRuntime) -> Result<(), Fail> {
         (2, Do::Random(4), Told::Bytes(&[0x40, 0x5d, 0x6a, 0xe5])),
         (1, Do::Random(4), Told::Bytes(&[0x53, 0x86, 0xbd, 0x28])),
     ];
-    check(&rt, rt.alloc(), ROWS)
+    check(&rt, rt.alloc(), ROWS);
 }
 
 /// Draws the first six bytes of the stream.
-fn draw(rt: &impl Abort, alloc: Global, crypto: &mut Operations) -> Result<(), Fail> {
-    let bytes = crypto.draw(alloc, 6)?;
-    assert_eq!(rt;
-        bytes.as_slice(),
-        [0x76, 0xb8, 0xe0, 0xad, 0xa0, 0xf1].as_slice()
-    );
-    Ok(())
+fn draw(rt: &impl Abort, alloc: Global, crypto: &mut Operations) {
+    const DRAWN: &[u8] = &[0x76, 0xb8, 0xe0, 0xad, 0xa0, 0xf1];
+    let bytes = crypto.draw(alloc, 6).expect(rt, "bytes");
+    assert!(rt; bytes.as_slice() == DRAWN);
 }
 
-#[test]
-fn bytes_are_drawn_and_instances_end(rt: HostRuntime) -> Result<(), Fail> {
+/// Draws, makes an operation for each of two instances, and ends one of them.
+fn draw_and_end(rt: &impl Abort, alloc: Global, crypto: &mut Operations) {
     const DRAWN: &[Row] = &[
         (1, Do::Random(4), Told::Bytes(&[0x40, 0x5d, 0x6a, 0xe5])),
         (1, Do::New(CBC, 0, 128), Told::Number(1)),
@@ -544,52 +519,23 @@ fn bytes_are_drawn_and_instances_end(rt: HostRuntime) -> Result<(), Fail> {
         (1, Do::Info(1), Told::Panicked),
         (2, Do::Info(1), Told::About(CBC, 0, 128, 0, false)),
     ];
-    let alloc = rt.alloc();
-    let mut crypto = Operations::new(alloc, [0; 32], 0, 0);
-    draw(&rt, alloc, &mut crypto)?;
-    check_on(&rt, alloc, &mut crypto, DRAWN)?;
+    draw(rt, alloc, crypto);
+    check_on(rt, alloc, crypto, DRAWN);
     crypto.end_instance(1);
-    check_on(&rt, alloc, &mut crypto, ENDED)
+    check_on(rt, alloc, crypto, ENDED);
 }
 
-/// Checks that these bytes are no vector of operation 1.
-fn check_long_vector(
-    rt: &impl Abort,
-    alloc: Global,
-    crypto: &mut Operations,
-    long: &[u8],
-) -> Result<(), Fail> {
-    check_on(rt, alloc, crypto, &[(1, Do::Init(1, long), Told::Panicked)])
+#[test]
+fn bytes_are_drawn_and_instances_end(rt: HostRuntime) {
+    let mut crypto = Operations::new(rt.alloc(), [0; 32], 0, 0);
+    draw_and_end(&rt, rt.alloc(), &mut crypto);
+    drop(crypto);
 }
 
-/// Checks that these bytes are misuse in each ask about the cipher 1, the code 2 and the digest 3.
-fn check_long_messages(
-    rt: &impl Abort,
-    alloc: Global,
-    crypto: &mut Operations,
-    long: &[u8],
-) -> Result<(), Fail> {
+/// Checks that these bytes are misuse as a vector of the cipher 1, and in each ask about it, the code 2 and the digest 3,
+/// and that the cipher goes on.
+fn check_long(rt: &impl Abort, alloc: Global, long: &[u8]) {
     let rows = [
-        (1, Do::Update(1, long, 524_288), Told::Panicked),
-        (1, Do::Final(1, long, 524_288), Told::Panicked),
-        (1, Do::MacUpdate(2, long), Told::Panicked),
-        (1, Do::MacFinal(2, long, 32), Told::Panicked),
-        (1, Do::Compare(2, long, MAC), Told::Panicked),
-        (1, Do::Compare(2, &[], long), Told::Panicked),
-        (1, Do::DigestUpdate(3, long), Told::Panicked),
-        (1, Do::DigestFinal(3, long, 32), Told::Panicked),
-    ];
-    check_on(rt, alloc, crypto, &rows)
-}
-
-/// Checks both between the asks that make the three and begin, and that the cipher goes on.
-fn check_long(
-    rt: &impl Abort,
-    alloc: Global,
-    crypto: &mut Operations,
-    long: &[u8],
-) -> Result<(), Fail> {
-    const KEYED: &[Row] = &[
         (1, Do::New(keys::AES_CTR, 0, 128), Told::Number(1)),
         (1, Do::New(HMAC, 4, 256), Told::Number(2)),
         (1, Do::New(keys::SHA256, 5, 0), Told::Number(3)),
@@ -599,22 +545,24 @@ fn check_long(
             Do::Key(2, keys::KIND_HMAC_SHA256, ALL, MAC_KEY),
             Told::Done,
         ),
-    ];
-    const BEGUN: &[Row] = &[
+        (1, Do::Init(1, long), Told::Panicked),
         (1, Do::Init(1, COUNTER), Told::Done),
         (1, Do::MacInit(2), Told::Done),
+        (1, Do::Update(1, long, 524_288), Told::Panicked),
+        (1, Do::Final(1, long, 524_288), Told::Panicked),
+        (1, Do::MacUpdate(2, long), Told::Panicked),
+        (1, Do::MacFinal(2, long, 32), Told::Panicked),
+        (1, Do::Compare(2, long, MAC), Told::Panicked),
+        (1, Do::Compare(2, &[], long), Told::Panicked),
+        (1, Do::DigestUpdate(3, long), Told::Panicked),
+        (1, Do::DigestFinal(3, long, 32), Told::Panicked),
+        (1, Do::Update(1, PLAIN_1, 5), Told::Bytes(CTR_1)),
     ];
-    const GOES_ON: &[Row] = &[(1, Do::Update(1, PLAIN_1, 5), Told::Bytes(CTR_1))];
-    check_on(rt, alloc, crypto, KEYED)?;
-    check_long_vector(rt, alloc, crypto, long)?;
-    check_on(rt, alloc, crypto, BEGUN)?;
-    check_long_messages(rt, alloc, crypto, long)?;
-    check_on(rt, alloc, crypto, GOES_ON)
+    check(rt, alloc, &rows);
 }
 
 #[test]
-fn too_many_bytes_are_misuse(rt: HostRuntime) -> Result<(), Fail> {
-    let long = vec![in rt.alloc(); 0u8; 524_289]?;
-    let mut crypto = Operations::new(rt.alloc(), [0; 32], 0, 0);
-    check_long(&rt, rt.alloc(), &mut crypto, long.as_slice())
+fn too_many_bytes_are_misuse(rt: HostRuntime) {
+    let long = vec![in rt.alloc(); 0u8; 524_289].expect(&rt, "zeros");
+    check_long(&rt, rt.alloc(), long.as_slice());
 }
