@@ -3,8 +3,9 @@
 use crate::about::is_new;
 use crate::calls::{Do, NO_BYTES, Row, Told, check};
 use crate::vectors::{
-    ABC, AES_KEY, CBC, CBC_VECTOR, COUNTER, CTR, ECB, HMAC_CODE, HMAC_KEY, LARGEST, PLAIN,
-    SHORT_CODE, WRONG_CODE,
+    ABC, AES_KEY, CBC, CBC_1, CBC_VECTOR, COUNTER, CTR, CTR_5, ECB, HMAC_CODE, HMAC_KEY, LARGEST,
+    PLAIN, PLAIN_1, PLAIN_5, PLAIN_7, PLAIN_BEHIND_7, PLAIN_FEW, PLAIN_REST, SHORT_CODE,
+    WRONG_CODE,
 };
 use crypto_ops::{OpAnswer, Operation};
 use std::alloc::Global;
@@ -71,6 +72,19 @@ fn part<'a>(rt: &impl Abort, bytes: &'a [u8], range: Range) -> &'a [u8] {
     &bytes[from..to]
 }
 
+/// Takes a piece with this room.
+fn update(
+    rt: &impl Abort,
+    alloc: Global,
+    operation: &mut Operation,
+    piece: &[u8],
+    room: u32,
+    wanted: Told<'_>,
+) {
+    let row = (Do::CipherUpdate(piece, room), wanted);
+    check(rt, alloc, operation, &[row]);
+}
+
 /// Takes a piece, which gives this one, with a room too short by one before, where it gives bytes.
 fn take_piece(
     rt: &impl Abort,
@@ -81,16 +95,11 @@ fn take_piece(
 ) {
     assert!(rt; given.len() <= 64);
     let room = given.len() as u32;
-    let short = Told::Short(room);
     if 0 < room {
-        let rows = [
-            (Do::CipherUpdate(piece, 0), short),
-            (Do::CipherUpdate(piece, room - 1), short),
-        ];
-        check(rt, alloc, operation, &rows);
+        update(rt, alloc, operation, piece, 0, Told::Short(room));
+        update(rt, alloc, operation, piece, room - 1, Told::Short(room));
     }
-    let row = [(Do::CipherUpdate(piece, room), Told::Bytes(given))];
-    check(rt, alloc, operation, &row);
+    update(rt, alloc, operation, piece, room, Told::Bytes(given));
 }
 
 /// Pieces of 1, 15, 16, 17 and 15 bytes, and the pieces that they give where whole blocks come out, and where each byte
@@ -173,28 +182,26 @@ fn ciphers_in_pieces(rt: HostRuntime) {
 
 #[test]
 fn part_of_a_block_is_misuse_at_the_end(rt: HostRuntime) {
-    let first = part(&rt, PLAIN, (0, 1));
-    let few = part(&rt, PLAIN, (1, 15));
-    let rest = part(&rt, PLAIN, (1, 16));
-    let text = part(&rt, CBC, (0, 16));
-    let rows = [
+    const ROWS: &[Row] = &[
         AES_KEYED,
         CBC_BEGUN,
-        (Do::CipherUpdate(first, 0), NO_BYTES),
-        (Do::CipherFinal(few, 64), Told::Misuse),
-        (Do::CipherFinal(rest, 15), Told::Short(16)),
-        (Do::CipherFinal(rest, 16), Told::Bytes(text)),
+        (Do::CipherUpdate(PLAIN_1, 0), NO_BYTES),
+        (Do::CipherFinal(PLAIN_FEW, 64), Told::Misuse),
+        (Do::CipherFinal(PLAIN_REST, 15), Told::Short(16)),
+        (Do::CipherFinal(PLAIN_REST, 16), Told::Bytes(CBC_1)),
         (Do::CipherFinal(PLAIN, 64), Told::Misuse),
     ];
-    run(&rt, rt.alloc(), CBC_ENCRYPTION, &rows);
+    run(&rt, rt.alloc(), CBC_ENCRYPTION, ROWS);
 }
 
 #[test]
 fn part_of_a_block_ends_a_counter(rt: HostRuntime) {
-    let bytes = part(&rt, PLAIN, (0, 5));
-    let text = Told::Bytes(part(&rt, CTR, (0, 5)));
-    let rows = [AES_KEYED, CTR_BEGUN, (Do::CipherFinal(bytes, 5), text)];
-    run(&rt, rt.alloc(), CTR_ENCRYPTION, &rows);
+    const ROWS: &[Row] = &[
+        AES_KEYED,
+        CTR_BEGUN,
+        (Do::CipherFinal(PLAIN_5, 5), Told::Bytes(CTR_5)),
+    ];
+    run(&rt, rt.alloc(), CTR_ENCRYPTION, ROWS);
 }
 
 /// The front of the message of the code, the rest of it, and the whole.
@@ -292,20 +299,15 @@ fn copies_of_codes_go_on_apart(rt: HostRuntime) {
 
 #[test]
 fn copies_of_ciphers_go_on_apart(rt: HostRuntime) {
-    let front = part(&rt, PLAIN, (0, 7));
-    let rest = part(&rt, PLAIN, (7, 64));
-    let begun = [AES_KEYED, CBC_BEGUN, (Do::CipherUpdate(front, 0), NO_BYTES)];
-    let ended = [(Do::CipherFinal(rest, 64), Told::Bytes(CBC))];
+    const BEGUN: &[Row] = &[
+        AES_KEYED,
+        CBC_BEGUN,
+        (Do::CipherUpdate(PLAIN_7, 0), NO_BYTES),
+    ];
+    const ENDED: &[Row] = &[(Do::CipherFinal(PLAIN_BEHIND_7, 64), Told::Bytes(CBC))];
+    const SAME: Kind = CBC_ENCRYPTION;
     let mut operation = new(&rt, CBC_ENCRYPTION);
-    go_apart(
-        &rt,
-        rt.alloc(),
-        &mut operation,
-        &begun,
-        CBC_ENCRYPTION,
-        &ended,
-        &ended,
-    );
+    go_apart(&rt, rt.alloc(), &mut operation, BEGUN, SAME, ENDED, ENDED);
     drop(operation);
 }
 
@@ -416,20 +418,22 @@ fn comes_new(alg: u32, mode: u32, max_bits: u32, fits: bool) -> bool {
     }
 }
 
-/// Asks for a new operation of each greatest size, and compares what comes of it.
-fn check_sizes(rt: &impl Abort, alg: u32, mode: u32, has_mode: bool, sizes: &[bool; 6]) {
+/// Asks for a new operation of each greatest size, and says whether the wanted come of it.
+fn come_new(alg: u32, mode: u32, has_mode: bool, sizes: &[bool; 6]) -> bool {
+    let mut holds = true;
     for i in 0..6 {
-        let max_bits = SIZES[i];
-        let holds = comes_new(alg, mode, max_bits, has_mode && sizes[i]);
-        assert!(rt; holds, "{alg:x} in mode {mode} of {max_bits} bits");
+        holds = holds && comes_new(alg, mode, SIZES[i], has_mode && sizes[i]);
     }
+    holds
 }
 
 #[test]
 fn what_new_refuses(rt: HostRuntime) {
     for (alg, modes, sizes) in TABLE {
         for mode in 0..6u32 {
-            check_sizes(&rt, *alg, mode, modes[mode as usize], sizes);
+            let holds = come_new(*alg, mode, modes[mode as usize], sizes);
+            let number = *alg;
+            assert!(rt; holds, "{number:x} in mode {mode}");
         }
     }
 }
