@@ -532,8 +532,8 @@ fn bytes_are_drawn_and_instances_end(rt: HostRuntime) {
     drop(crypto);
 }
 
-/// Checks that these bytes are misuse as a vector of the cipher 1, and in each ask about it, the code 2 and the digest 3,
-/// and that the cipher goes on.
+/// These bytes are misuse as a vector of the cipher 1, and in each ask about it, about the code 2 and the digest 3.
+/// Then the cipher goes on.
 fn check_long(rt: &impl Abort, alloc: Global, long: &[u8]) {
     let rows = [
         (1, Do::New(keys::AES_CTR, 0, 128), Told::Number(1)),
