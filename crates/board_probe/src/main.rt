@@ -1,16 +1,24 @@
-//! Opens a board over files and works on it, so that its calls can be watched, cut off and starved from outside.
+//! Opens a board over files and works on it, so that its calls can be watched, cut off, starved and timed from outside.
 //!
-//! `board_probe IMAGE look` tells the board's size and counter, and the rounds of its first two blocks.
-//! `board_probe IMAGE rounds N` makes N rounds. `board_probe IMAGE hold` holds the files until its input ends.
+//! | `board_probe IMAGE ..` | What it does |
+//! |---|---|
+//! | `look` | tells the board's size and counter, and the rounds of its first two blocks |
+//! | `hold` | holds the files until the input ends |
+//! | `rounds N` | makes N rounds, and tells the number of each |
+//! | `commits N` | opens a flat volume, which formats a blank board, makes N commits of one leaf each, and tells how many blocks were written |
+//! | `syncs N` | writes a block that no flat volume uses and syncs, N times, and tells how many blocks were written |
 //!
 //! A round of number n writes n into block 0, syncs, writes n into block 1, syncs, and raises the counter to n. So
 //! after every end of the program the counter is at most the round of block 1, that at most the round of block 0, and
 //! that at most the counter plus one.
 #![tactic(auto)]
 
+mod commits;
+
 use anyhow::Result;
 use board::{BLOCK, Board, BoardFailed};
 use boards::FileBoard;
+use std::alloc::Global;
 use std::io::Read;
 use std::process::ExitCode;
 use std::{env, io};
@@ -20,9 +28,19 @@ const USAGE: u8 = 64;
 
 const FAILED: u8 = 75;
 
-/// The block of a round: its number in each eight bytes.
-fn block_of(round: u64) -> [u8; BLOCK] {
-    let number = round.to_le_bytes();
+/// What is done with the board, and how often.
+#[derive(Clone, Copy)]
+enum Work {
+    Look,
+    Hold,
+    Rounds(u32),
+    Commits(u32),
+    Syncs(u32),
+}
+
+/// A block that carries this number in each eight bytes.
+fn block_of(number: u64) -> [u8; BLOCK] {
+    let number = number.to_le_bytes();
     let mut block = [0; BLOCK];
     for (at, byte) in block.iter_mut().enumerate() {
         *byte = number[at % 8];
@@ -90,40 +108,75 @@ fn wait_for_end<R: Read>(input: &mut R) -> io::Result<()> {
     Ok(())
 }
 
+/// Tells the board's size and counter, and whether its rounds are in order.
+fn look<R: Print, B: Board>(rt: &R, board: &mut B) -> Result<()> {
+    let counter = board.counter()?;
+    let (first, second) = rounds(board)?;
+    let order = if is_in_order(counter, first, second) {
+        "in order"
+    } else {
+        "out of order"
+    };
+    println!(rt; "{} blocks, counter {counter}, {order}", board.blocks())?;
+    Ok(())
+}
+
+/// Makes so many rounds, and tells the number of each.
+fn make_rounds<R: Print, B: Board>(rt: &R, board: &mut B, count: u32) -> Result<()> {
+    for _ in 0..count {
+        let round = make_round(board)?;
+        println!(rt; "{round}")?;
+    }
+    Ok(())
+}
+
+/// Holds the board until the input ends.
+fn hold<R: Input + Print>(rt: &R) -> Result<()> {
+    println!(rt; "held")?;
+    wait_for_end(&mut rt.reader())?;
+    Ok(())
+}
+
+/// The work that a word and the number behind it ask for.
+fn work_of(word: &str, count: Option<u32>) -> Option<Work> {
+    match word {
+        "look" => Some(Work::Look),
+        "hold" => Some(Work::Hold),
+        "rounds" => Some(Work::Rounds(count?)),
+        "commits" => Some(Work::Commits(count?)),
+        "syncs" => Some(Work::Syncs(count?)),
+        _ => None,
+    }
+}
+
+/// Does the work on a board.
+fn run<R: Input + Print, B: Board + Drop>(
+    rt: &R,
+    alloc: Global,
+    mut board: B,
+    work: Work,
+) -> Result<()> {
+    match work {
+        Work::Look => look(rt, &mut board),
+        Work::Hold => hold(rt),
+        Work::Rounds(count) => make_rounds(rt, &mut board, count),
+        Work::Commits(count) => commits::run(rt, alloc, board, count),
+        Work::Syncs(count) => commits::run_syncs(rt, &mut board, count),
+    }
+}
+
 fn main(rt: HostRuntime) -> Result<ExitCode> {
     let mut words = env::args(&rt)?.skip(1);
-    let (Some(image), Some(work)) = (words.next(), words.next()) else {
-        eprintln!(rt; "usage: board_probe IMAGE look|rounds N|hold")?;
+    let (image, word) = (words.next(), words.next());
+    let count = words.next().and_then(|it| it.as_str().parse::<u32>().ok());
+    let (Some(image), Some(work)) = (image, word.and_then(|it| work_of(it.as_str(), count))) else {
+        eprintln!(rt; "usage: board_probe IMAGE look|hold|rounds N|commits N|syncs N")?;
         return Ok(ExitCode::from(USAGE));
     };
-    let count = words
-        .next()
-        .and_then(|word| word.as_str().parse::<u32>().ok());
-    let Ok(mut board) = FileBoard::open(&rt, rt.alloc(), image.as_str()) else {
+    let Ok(board) = FileBoard::open(&rt, rt.alloc(), image.as_str()) else {
         eprintln!(rt; "board_probe: the files can't be used")?;
         return Ok(ExitCode::from(FAILED));
     };
-    match work.as_str() {
-        "look" => {
-            let counter = board.counter()?;
-            let (first, second) = rounds(&mut board)?;
-            let order = if is_in_order(counter, first, second) {
-                "in order"
-            } else {
-                "out of order"
-            };
-            println!(rt; "{} blocks, counter {counter}, {order}", board.blocks())?;
-        }
-        "hold" => {
-            println!(rt; "held")?;
-            wait_for_end(&mut rt.reader())?;
-        }
-        _ => {
-            for _ in 0..count.unwrap_or(0) {
-                let round = make_round(&mut board)?;
-                println!(rt; "{round}")?;
-            }
-        }
-    }
+    run(&rt, rt.alloc(), board, work)?;
     Ok(ExitCode::SUCCESS)
 }

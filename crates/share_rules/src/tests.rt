@@ -10,22 +10,19 @@ fn conflict_of_two(one: u32, other: u32) -> bool {
     any & 0x4 != 0 || (any & 0x1 != 0 && all & 0x10 == 0) || (any & 0x2 != 0 && all & 0x20 == 0)
 }
 
+/// Whether an index in which one handle is noted lets another in where it should, and any on another object.
+fn agrees(index: &ShareIndex, noted: u32, new: u32) -> bool {
+    index.may_open(b"object", Flags(new)) != conflict_of_two(noted, new)
+        && index.may_open(b"objects", Flags(new))
+}
+
 #[test]
 fn two_handles_on_one_object(rt: HostRuntime) {
     for noted in 0..0x40u32 {
         let mut index = ShareIndex::new(rt.alloc());
         index.note(b"object", Flags(noted)).expect(&rt, "note");
         for new in 0..0x40u32 {
-            let wanted = !conflict_of_two(noted, new);
-            assert_eq!(rt;
-                index.may_open(b"object", Flags(new)),
-                wanted,
-                "{noted:x} beside {new:x}"
-            );
-            assert!(rt;
-                index.may_open(b"objects", Flags(new)),
-                "{new:x} on another object"
-            );
+            assert!(rt; agrees(&index, noted, new), "{noted:x} beside {new:x}");
         }
     }
 }

@@ -1,35 +1,52 @@
 //! Each call once.
-use crate::{KeyAnswer, Transient};
+use crate::Transient;
 use std::process::Abort;
-use std::test::Fail;
 use tee_base::keys;
 
+const SECRET: [u8; 24] = [7; 24];
+
+/// Whether a key has all usages and no secret.
+fn is_empty(key: &Transient) -> bool {
+    key.usage() == 0xFFFF_FFFF && key.secret().is_none()
+}
+
+/// Whether a key has this usage, and the secret.
+fn has_secret(key: &Transient, usage: u32) -> bool {
+    match key.secret() {
+        Some(secret) => key.usage() == usage && secret.as_slice() == SECRET.as_slice(),
+        None => false,
+    }
+}
+
+/// Copies the secret of a key, and says whether it was taken.
+fn copies(from: &Transient, to: &mut Transient) -> bool {
+    match from.secret() {
+        Some(secret) => to
+            .copy_from(from.kind(), from.usage(), secret.as_slice())
+            .is_ok(),
+        None => false,
+    }
+}
+
 #[test]
-fn each_call_once(rt: HostRuntime) -> Result<(), Fail> {
-    let mut key = Transient::allocate(keys::KIND_AES, 256)?;
+fn a_key_is_made_and_reset(rt: HostRuntime) {
+    let mut key = Transient::allocate(keys::KIND_AES, 256).expect(&rt, "allocate");
     key.bounds();
-    assert_eq!(rt; (key.kind(), key.max_bits()), (keys::KIND_AES, 256));
-    assert_eq!(rt; key.usage(), 0xFFFF_FFFF);
-    assert!(rt; key.secret().is_none());
-
-    key.populate(&[7; 24])?;
-    let secret = key.secret().ok_or("no secret")?.copy();
-    assert_eq!(rt; secret.len(), 24);
-    assert_eq!(rt; secret.as_slice(), [7; 24].as_slice());
-    key.restrict(keys::USAGE_ENCRYPT | keys::USAGE_MAC);
-    assert_eq!(rt; key.usage(), 0xA);
-
-    let mut other = Transient::allocate(keys::KIND_AES, 192)?;
-    other.restrict(keys::USAGE_ENCRYPT | keys::USAGE_EXTRACTABLE);
-    other.copy_from(keys::KIND_AES, key.usage(), secret.as_slice())?;
-    assert_eq!(rt; other.usage(), 0x2);
-    assert_eq!(rt;
-        other.secret().ok_or("no secret")?.as_slice(),
-        [7; 24].as_slice()
-    );
-
+    assert!(rt; (key.kind(), key.max_bits()) == (keys::KIND_AES, 256));
+    assert!(rt; is_empty(&key));
+    key.populate(&SECRET).expect(&rt, "populate");
+    assert!(rt; has_secret(&key, 0xFFFF_FFFF));
     key.reset();
-    assert_eq!(rt; key.usage(), 0xFFFF_FFFF);
-    assert!(rt; key.secret().is_none());
-    Ok(())
+    assert!(rt; is_empty(&key));
+}
+
+#[test]
+fn a_key_is_copied(rt: HostRuntime) {
+    let mut key = Transient::allocate(keys::KIND_AES, 256).expect(&rt, "allocate");
+    key.populate(&SECRET).expect(&rt, "populate");
+    key.restrict(keys::USAGE_ENCRYPT | keys::USAGE_MAC);
+    assert!(rt; has_secret(&key, 0xA));
+    let mut other = Transient::allocate(keys::KIND_AES, 192).expect(&rt, "allocate");
+    other.restrict(keys::USAGE_ENCRYPT | keys::USAGE_EXTRACTABLE);
+    assert!(rt; copies(&key, &mut other) && has_secret(&other, 0x2));
 }
