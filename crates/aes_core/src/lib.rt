@@ -5,14 +5,10 @@ mod block;
 mod columns;
 mod key;
 mod laws;
-#[cfg(test)]
-mod plain;
 mod rounds;
 mod schedule;
 mod shared;
 mod tables;
-#[cfg(test)]
-mod tests;
 
 pub use block::{decrypt_block, encrypt_block};
 pub use key::{Key, WrongKeyLength};

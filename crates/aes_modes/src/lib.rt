@@ -8,8 +8,6 @@ mod laws;
 mod modes;
 mod operations;
 mod stream;
-#[cfg(test)]
-mod tests;
 
 pub use laws::decryption_undoes_encryption;
 pub use modes::{Mode, ModeAnswer, Way};

@@ -16,8 +16,6 @@
 
 mod digests;
 mod macs;
-#[cfg(test)]
-mod tests;
 
 pub use digests::{Digester, Hash, Tag, digest};
 pub use macs::{Mac, hmac};

@@ -7,8 +7,6 @@
 mod codes;
 mod keys;
 mod leaf;
-#[cfg(test)]
-mod tests;
 
 pub use keys::{Keys, tag_of};
 pub use leaf::{Tags, open_leaf, seal_leaf};

@@ -15,6 +15,3 @@ mod view;
 pub use cell::{Busy, CellSeat, NoMemory, RangeSeat, TurnCell, Uncelled};
 pub use parted::Parted;
 pub use view::{SeatView, Turn};
-
-#[cfg(test)]
-mod tests;

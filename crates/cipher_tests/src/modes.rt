@@ -1,26 +1,26 @@
-// The vectors of SP 800-38A, appendix F, for a key of 128 bits, whole and in pieces.
+//! The vectors of SP 800-38A, appendix F, for a key of 128 bits, whole and in pieces.
 
-use super::{Mode, ModeAnswer, Stream, Way, start};
 use aes_core::expand;
+use aes_modes::{Mode, ModeAnswer, Stream, Way, start};
 use std::process::Abort;
 use std::test::Fail;
 
-// The key of 128 bits.
+/// The key of 128 bits.
 const KEY: [u8; 16] = [
     0x2b, 0x7e, 0x15, 0x16, 0x28, 0xae, 0xd2, 0xa6, 0xab, 0xf7, 0x15, 0x88, 0x09, 0xcf, 0x4f, 0x3c,
 ];
 
-// The vector of CBC.
+/// The vector of CBC.
 const CBC_VECTOR: [u8; 16] = [
     0x00, 0x01, 0x02, 0x03, 0x04, 0x05, 0x06, 0x07, 0x08, 0x09, 0x0a, 0x0b, 0x0c, 0x0d, 0x0e, 0x0f,
 ];
 
-// The first counter block of CTR.
+/// The first counter block of CTR.
 const COUNTER: [u8; 16] = [
     0xf0, 0xf1, 0xf2, 0xf3, 0xf4, 0xf5, 0xf6, 0xf7, 0xf8, 0xf9, 0xfa, 0xfb, 0xfc, 0xfd, 0xfe, 0xff,
 ];
 
-// The four blocks of plain text.
+/// The four blocks of plain text.
 const PLAIN: [u8; 64] = [
     0x6b, 0xc1, 0xbe, 0xe2, 0x2e, 0x40, 0x9f, 0x96, 0xe9, 0x3d, 0x7e, 0x11, 0x73, 0x93, 0x17, 0x2a,
     0xae, 0x2d, 0x8a, 0x57, 0x1e, 0x03, 0xac, 0x9c, 0x9e, 0xb7, 0x6f, 0xac, 0x45, 0xaf, 0x8e, 0x51,
@@ -28,7 +28,7 @@ const PLAIN: [u8; 64] = [
     0xf6, 0x9f, 0x24, 0x45, 0xdf, 0x4f, 0x9b, 0x17, 0xad, 0x2b, 0x41, 0x7b, 0xe6, 0x6c, 0x37, 0x10,
 ];
 
-// What ECB makes of them.
+/// What ECB makes of them.
 const ECB: [u8; 64] = [
     0x3a, 0xd7, 0x7b, 0xb4, 0x0d, 0x7a, 0x36, 0x60, 0xa8, 0x9e, 0xca, 0xf3, 0x24, 0x66, 0xef, 0x97,
     0xf5, 0xd3, 0xd5, 0x85, 0x03, 0xb9, 0x69, 0x9d, 0xe7, 0x85, 0x89, 0x5a, 0x96, 0xfd, 0xba, 0xaf,
@@ -36,7 +36,7 @@ const ECB: [u8; 64] = [
     0x7b, 0x0c, 0x78, 0x5e, 0x27, 0xe8, 0xad, 0x3f, 0x82, 0x23, 0x20, 0x71, 0x04, 0x72, 0x5d, 0xd4,
 ];
 
-// What CBC makes of them.
+/// What CBC makes of them.
 const CBC: [u8; 64] = [
     0x76, 0x49, 0xab, 0xac, 0x81, 0x19, 0xb2, 0x46, 0xce, 0xe9, 0x8e, 0x9b, 0x12, 0xe9, 0x19, 0x7d,
     0x50, 0x86, 0xcb, 0x9b, 0x50, 0x72, 0x19, 0xee, 0x95, 0xdb, 0x11, 0x3a, 0x91, 0x76, 0x78, 0xb2,
@@ -44,7 +44,7 @@ const CBC: [u8; 64] = [
     0x3f, 0xf1, 0xca, 0xa1, 0x68, 0x1f, 0xac, 0x09, 0x12, 0x0e, 0xca, 0x30, 0x75, 0x86, 0xe1, 0xa7,
 ];
 
-// What CTR makes of them.
+/// What CTR makes of them.
 const CTR: [u8; 64] = [
     0x87, 0x4d, 0x61, 0x91, 0xb6, 0x20, 0xe3, 0x26, 0x1b, 0xef, 0x68, 0x64, 0x99, 0x0d, 0xb6, 0xce,
     0x98, 0x06, 0xf6, 0x6b, 0x79, 0x70, 0xfd, 0xff, 0x86, 0x17, 0x18, 0x7b, 0xb9, 0xff, 0xfd, 0xff,
@@ -52,6 +52,18 @@ const CTR: [u8; 64] = [
     0x1e, 0x03, 0x1d, 0xda, 0x2f, 0xbe, 0x03, 0xd1, 0x79, 0x21, 0x70, 0xa0, 0xf3, 0x00, 0x9c, 0xee,
 ];
 
+const MODES: &[Mode] = &[Mode::Ecb, Mode::Cbc, Mode::Ctr];
+
+/// What the mode makes of the plain text.
+fn text_of(mode: Mode) -> &'static [u8; 64] {
+    match mode {
+        Mode::Ecb => &ECB,
+        Mode::Cbc => &CBC,
+        Mode::Ctr => &CTR,
+    }
+}
+
+/// A stream under the key and the mode's vector.
 fn begin(mode: Mode, way: Way) -> Result<Stream, Fail> {
     let iv = match mode {
         Mode::Ctr => COUNTER,
@@ -60,30 +72,19 @@ fn begin(mode: Mode, way: Way) -> Result<Stream, Fail> {
     Ok(start(expand(&KEY)?, mode, way, iv))
 }
 
-fn check_whole(
-    rt: &impl Abort,
-    mode: Mode,
-    way: Way,
-    input: &[u8; 64],
-    text: &[u8; 64],
-) -> Result<(), Fail> {
-    let mut stream = begin(mode, way)?;
+/// The input gives this text in one piece.
+fn converts_whole(stream: &mut Stream, input: &[u8; 64], text: &[u8; 64]) -> bool {
     let mut output = [0; 64];
-    let written = stream.finish(input, &mut output)?;
-    assert!(rt; written == 64);
-    assert!(rt; output == *text);
-    Ok(())
+    matches!(stream.finish(input, &mut output), Ok(64)) && output == *text
 }
 
-// Pieces of 1, 15, 16, 17 and 15 bytes.
+/// And in pieces of 1, 15, 16, 17 and 15 bytes.
 fn check_pieces(
     rt: &impl Abort,
-    mode: Mode,
-    way: Way,
+    stream: &mut Stream,
     input: &[u8; 64],
     text: &[u8; 64],
-) -> Result<(), Fail> {
-    let mut stream = begin(mode, way)?;
+) -> Result<(), ModeAnswer> {
     let mut output = [0; 64];
     let mut taken = 0;
     let mut written = 0;
@@ -95,24 +96,37 @@ fn check_pieces(
         taken = end;
         written += count;
     }
-    assert!(rt; written == 64);
-    assert!(rt; stream.finish(&[], &mut [])? == 0);
-    assert!(rt; output == *text);
+    let rest = stream.finish(&[], &mut [])?;
+    assert!(rt; written == 64 && rest == 0 && output == *text);
+    Ok(())
+}
+
+/// A stream of the mode converts the input to the text, whole and in pieces. `finish` starts it anew.
+fn check(
+    rt: &impl Abort,
+    mode: Mode,
+    way: Way,
+    input: &[u8; 64],
+    text: &[u8; 64],
+) -> Result<(), Fail> {
+    let mut stream = begin(mode, way)?;
+    assert!(rt; converts_whole(&mut stream, input, text));
+    check_pieces(rt, &mut begin(mode, way)?, input, text)?;
     Ok(())
 }
 
 #[test]
 fn standard_vectors(rt: HostRuntime) -> Result<(), Fail> {
-    for (mode, text) in [(Mode::Ecb, &ECB), (Mode::Cbc, &CBC), (Mode::Ctr, &CTR)] {
-        check_whole(&rt, mode, Way::Encrypt, &PLAIN, text)?;
-        check_whole(&rt, mode, Way::Decrypt, text, &PLAIN)?;
-        check_pieces(&rt, mode, Way::Encrypt, &PLAIN, text)?;
-        check_pieces(&rt, mode, Way::Decrypt, text, &PLAIN)?;
+    let plain = PLAIN;
+    for mode in MODES {
+        let text = text_of(*mode);
+        check(&rt, *mode, Way::Encrypt, &plain, text)?;
+        check(&rt, *mode, Way::Decrypt, text, &plain)?;
     }
     Ok(())
 }
 
-// The expected bytes are those of OpenSSL.
+/// The expected bytes are those of OpenSSL.
 #[test]
 fn counter_wraps(rt: HostRuntime) -> Result<(), Fail> {
     let mut stream = start(expand(&KEY)?, Mode::Ctr, Way::Encrypt, [0xff; 16]);
@@ -127,19 +141,34 @@ fn counter_wraps(rt: HostRuntime) -> Result<(), Fail> {
     Ok(())
 }
 
+/// Room for a byte too few, and a byte too few at the end, are refused.
+fn refuses(stream: &mut Stream, plain: &[u8; 64], output: &mut [u8; 64]) -> bool {
+    stream.needed(64) == 64
+        && matches!(
+            stream.update(plain, &mut output[..63]),
+            Err(ModeAnswer::ShortBuffer(64))
+        )
+        && matches!(
+            stream.finish(&plain[..63], output),
+            Err(ModeAnswer::Incomplete)
+        )
+}
+
+/// The next message of the stream gives this text, when it is fed and then ended.
+fn converts_and_ends(stream: &mut Stream, input: &[u8; 64], text: &[u8; 64]) -> bool {
+    let mut output = [0; 64];
+    matches!(stream.update(input, &mut output), Ok(64))
+        && output == *text
+        && matches!(stream.finish(&[], &mut []), Ok(0))
+}
+
 #[test]
 fn refusals(rt: HostRuntime) -> Result<(), Fail> {
+    let plain = PLAIN;
+    let text = CBC;
     let mut stream = begin(Mode::Cbc, Way::Encrypt)?;
-    let mut output = [0; 64];
-    assert!(rt; stream.needed(64) == 64);
-    assert!(rt;
-        stream.update(&PLAIN, &mut output[..63]).err() == Some(ModeAnswer::ShortBuffer(64))
-    );
-    assert!(rt; stream.finish(&PLAIN[..63], &mut output).err() == Some(ModeAnswer::Incomplete));
-    assert!(rt; stream.update(&PLAIN, &mut output)? == 64);
-    assert!(rt; output == CBC);
-    assert!(rt; stream.finish(&[], &mut [])? == 0);
-    assert!(rt; stream.finish(&PLAIN, &mut output)? == 64);
-    assert!(rt; output == CBC);
+    assert!(rt; refuses(&mut stream, &plain, &mut [0; 64]));
+    assert!(rt; converts_and_ends(&mut stream, &plain, &text));
+    assert!(rt; converts_whole(&mut stream, &plain, &text));
     Ok(())
 }

@@ -1,20 +1,20 @@
-//! Published digests and codes, and each call once.
-use crate::{Digester, Hash, Mac, Tag, digest, hmac};
-use std::alloc::Global;
-use std::fmt::Write;
+//! Published codes, keys about the length of a block, and what compares.
+
+use crate::bytes::are;
+use crate::digests::HASHES;
+use mac_digest::{Hash, Mac, hmac};
 use std::process::Abort;
 use std::test::Fail;
 
-const HASHES: &[Hash] = &[Hash::Sha256, Hash::Sha384, Hash::Sha512];
-
+/// A key, a message, and its codes.
 struct Example {
     key: &'static [u8],
     message: &'static [u8],
-    // Under each of `HASHES`.
+    /// Under each of `HASHES`.
     tags: [&'static str; 3],
 }
 
-// RFC 4231 sections 4.2 to 4.5, 4.7 and 4.8.
+/// RFC 4231 sections 4.2 to 4.5, 4.7 and 4.8.
 const CODES: &[Example] = &[
     Example {
         key: &[0x0b; 20],
@@ -72,8 +72,8 @@ const CODES: &[Example] = &[
     },
 ];
 
-// How many bytes of a key that counts from 1, and the codes of `message` under it. A key as long as a block stands as
-// it is, and one more byte has it hashed. The codes are those of Python's `hmac`.
+/// How many bytes of a key that counts from 1, and the codes of `message` under it. A key as long as a block stands as
+/// it is, and one more byte has it hashed. The codes are those of Python's `hmac`.
 const KEYS: &[(usize, [&str; 3])] = &[
     (
         64,
@@ -109,43 +109,7 @@ const KEYS: &[(usize, [&str; 3])] = &[
     ),
 ];
 
-// The digests of the empty message and of `abc`, in the examples to FIPS 180-4.
-const DIGESTS: &[(&[u8], [&str; 3])] = &[
-    (
-        b"",
-        [
-            "e3b0c44298fc1c149afbf4c8996fb92427ae41e4649b934ca495991b7852b855",
-            "38b060a751ac96384cd9327eb1b1e36a21fdb71114be07434c0cc7bf63f6e1da274edebfe76f65fbd51ad2f14898b95b",
-            "cf83e1357eefb8bdf1542850d66d8007d620e4050b5715dc83f4a921d36ce9ce47d0d13c5d85f2b0ff8318d2877eec2f63b931bd47417a81a538327af927da3e",
-        ],
-    ),
-    (
-        b"abc",
-        [
-            "ba7816bf8f01cfea414140de5dae2223b00361a396177a9cb410ff61f20015ad",
-            "cb00753f45a35e8bb5a03d699ac65007272c32ab0eded1631a8b605a43ff5bed8086072ba1e7cc2358baeca134c825a7",
-            "ddaf35a193617abacc417349ae20413112e6fa4e89a97ea20a9eeee64b55d39a2192992a274fc1a836ba3c23a3feebbd454d4423643ce80e2a9ac94fa54ca49f",
-        ],
-    ),
-];
-
-fn hex_of(alloc: Global, tag: &Tag) -> Result<String, Fail> {
-    let mut text = String::new(alloc);
-    for byte in tag.as_slice() {
-        write!(text, "{byte:02x}")?;
-    }
-    Ok(text)
-}
-
-// The tag is this, in hexadecimal.
-fn is_tag(rt: &impl Abort, alloc: Global, tag: Tag, wanted: &str) -> Result<(), Fail> {
-    let text = hex_of(alloc, &tag);
-    drop(tag);
-    assert!(rt; text?.as_str() == wanted);
-    Ok(())
-}
-
-// Bytes that count from 1.
+/// The bytes that count from 1.
 fn count_from_1() -> [u8; 129] {
     let mut bytes = [0; 129];
     for i in 0..129u8 {
@@ -154,109 +118,58 @@ fn count_from_1() -> [u8; 129] {
     bytes
 }
 
-// A message that comes byte by byte has this code, and the empty one behind it has another.
-fn check_bytes(rt: &impl Abort, mac: &mut Mac, message: &[u8], code: &[u8]) {
+/// A message that comes byte by byte has this code, and the empty one behind it has another.
+fn comes_in_bytes(mac: &mut Mac, message: &[u8], code: &[u8]) -> bool {
     for byte in message {
         mac.update(&[]);
         mac.update(&[*byte]);
     }
-    assert!(rt; mac.compare(code));
-    assert!(rt; !mac.compare(code));
+    mac.compare(code) && !mac.compare(code)
 }
 
-// The code comes out in one piece, byte by byte, and again after each `finish` and `compare`.
-fn check_mac(
-    rt: &impl Abort,
-    alloc: Global,
-    mac: &mut Mac,
-    message: &[u8],
-    wanted: &str,
-) -> Result<(), Fail> {
+/// The code comes out in one piece, byte by byte, and again after each `finish` and `compare`.
+fn has_code(mac: &mut Mac, message: &[u8], wanted: &str) -> bool {
     mac.update(message);
     let tag = mac.finish();
-    check_bytes(rt, mac, message, tag.as_slice());
-    is_tag(rt, alloc, tag, wanted)?;
+    let in_bytes = comes_in_bytes(mac, message, tag.as_slice());
+    let in_one = are(tag.as_slice(), wanted);
+    drop(tag);
     mac.update(message);
-    is_tag(rt, alloc, mac.finish(), wanted)
+    in_bytes && in_one && are(mac.finish().as_slice(), wanted)
 }
 
-fn check(
-    rt: &impl Abort,
-    alloc: Global,
-    key: &[u8],
-    message: &[u8],
-    tags: &[&str; 3],
-) -> Result<(), Fail> {
+/// The message has these codes under the key.
+fn has_codes(key: &[u8], message: &[u8], tags: &[&str; 3]) -> bool {
     for i in 0..3 {
         let mut mac = hmac(HASHES[i], key);
-        let checked = check_mac(rt, alloc, &mut mac, message, tags[i]);
+        let holds = has_code(&mut mac, message, tags[i]);
         drop(mac);
-        checked?;
+        if !holds {
+            return false;
+        }
     }
-    Ok(())
+    true
 }
 
 #[test]
-fn published_codes(rt: HostRuntime) -> Result<(), Fail> {
-    for example in CODES {
-        check(&rt, rt.alloc(), example.key, example.message, &example.tags)?;
+fn published_codes(rt: HostRuntime) {
+    for (number, example) in CODES.iter().enumerate() {
+        let holds = has_codes(example.key, example.message, &example.tags);
+        assert!(rt; holds, "example {number}");
     }
-    Ok(())
 }
 
 #[test]
-fn keys_about_a_block(rt: HostRuntime) -> Result<(), Fail> {
+fn keys_about_a_block(rt: HostRuntime) {
     let key = count_from_1();
     for (length, tags) in KEYS {
         assert!(rt; *length <= 129);
-        check(&rt, rt.alloc(), &key[..*length], b"message", tags)?;
+        let holds = has_codes(&key[..*length], b"message", tags);
+        assert!(rt; holds, "a key of {length} bytes");
     }
-    Ok(())
 }
 
-// The digest comes out in one piece and byte by byte, and is as long as the hash says.
-fn check_digester(
-    rt: &impl Abort,
-    alloc: Global,
-    digester: &mut Digester,
-    message: &[u8],
-    wanted: &str,
-) -> Result<usize, Fail> {
-    digester.update(message);
-    let first = digester.finish();
-    let length = first.as_slice().len();
-    is_tag(rt, alloc, first, wanted)?;
-    for byte in message {
-        digester.update(&[*byte]);
-    }
-    is_tag(rt, alloc, digester.finish(), wanted)?;
-    Ok(length)
-}
-
-fn check_digests(
-    rt: &impl Abort,
-    alloc: Global,
-    message: &[u8],
-    digests: &[&str; 3],
-) -> Result<(), Fail> {
-    for i in 0..3 {
-        let mut digester = digest(HASHES[i]);
-        let length = check_digester(rt, alloc, &mut digester, message, digests[i]);
-        drop(digester);
-        assert!(rt; length? == HASHES[i].digest_len());
-    }
-    Ok(())
-}
-
-#[test]
-fn published_digests(rt: HostRuntime) -> Result<(), Fail> {
-    for (message, digests) in DIGESTS {
-        check_digests(&rt, rt.alloc(), message, digests)?;
-    }
-    Ok(())
-}
-
-// A copy of a code of 32 bytes.
+/// A copy of a code of 32 bytes.
 fn copy_of(rt: &impl Abort, code: &[u8]) -> [u8; 32] {
     assert!(rt; code.len() == 32);
     let mut copy = [0; 32];
@@ -264,23 +177,23 @@ fn copy_of(rt: &impl Abort, code: &[u8]) -> [u8; 32] {
     copy
 }
 
-// Of the code, a longer one, a shorter one and none, the code alone compares.
-fn compare_lengths(rt: &impl Abort, mac: &mut Mac, exact: &[u8; 32]) {
+/// Of the code, a longer one, a shorter one and none, the code alone compares.
+fn compares_alone(mac: &mut Mac, exact: &[u8; 32]) -> bool {
     let mut long = [0; 33];
     long[..32].copy_from_slice(exact);
-    assert!(rt; mac.compare(exact));
-    assert!(rt; !mac.compare(&long));
-    assert!(rt; !mac.compare(&exact[..31]));
-    assert!(rt; !mac.compare(&[]));
+    mac.compare(exact) && !mac.compare(&long) && !mac.compare(&exact[..31]) && !mac.compare(&[])
 }
 
-// No code with another byte compares.
-fn compare_bytes(rt: &impl Abort, mac: &mut Mac, exact: &[u8; 32]) {
+/// No code with another byte compares.
+fn compares_in_no_part(mac: &mut Mac, exact: &[u8; 32]) -> bool {
     for i in 0..32 {
         let mut other = *exact;
         other[i] ^= 0x80;
-        assert!(rt; !mac.compare(&other), "at byte {i}");
+        if mac.compare(&other) {
+            return false;
+        }
     }
+    true
 }
 
 #[test]
@@ -289,31 +202,12 @@ fn compare_wants_all_bytes_and_no_more(rt: HostRuntime) {
     let tag = mac.finish();
     let exact = copy_of(&rt, tag.as_slice());
     drop(tag);
-    compare_lengths(&rt, &mut mac, &exact);
-    compare_bytes(&rt, &mut mac, &exact);
+    assert!(rt; compares_alone(&mut mac, &exact));
+    assert!(rt; compares_in_no_part(&mut mac, &exact));
 }
 
-// The digester's message is this one, which another takes in whole.
-fn has_taken(rt: &impl Abort, digester: &mut Digester, whole: &mut Digester, message: &[u8]) {
-    whole.update(message);
-    let wanted = whole.finish();
-    let found = digester.finish();
-    assert!(rt; found.as_slice() == wanted.as_slice());
-}
-
-fn digesters_go_on_apart(rt: &impl Abort) -> Result<(), Fail> {
-    let mut digester = digest(Hash::Sha512);
-    digester.update(b"ab");
-    let mut other = digester.clone()?;
-    digester.update(b"c");
-    other.update(b"d");
-    let mut whole = digest(Hash::Sha512);
-    has_taken(rt, &mut digester, &mut whole, b"abc");
-    has_taken(rt, &mut other, &mut whole, b"abd");
-    Ok(())
-}
-
-fn macs_go_on_apart(rt: &impl Abort) -> Result<(), Fail> {
+#[test]
+fn a_copy_goes_on_apart(rt: HostRuntime) -> Result<(), Fail> {
     let mut mac = hmac(Hash::Sha384, b"key");
     mac.update(b"ab");
     let mut copy = mac.clone()?;
@@ -321,13 +215,5 @@ fn macs_go_on_apart(rt: &impl Abort) -> Result<(), Fail> {
     copy.update(b"c");
     let tag = mac.finish();
     assert!(rt; copy.compare(tag.as_slice()));
-    Ok(())
-}
-
-#[test]
-fn clones_go_on_apart(rt: HostRuntime) -> Result<(), Fail> {
-    digesters_go_on_apart(&rt)?;
-    macs_go_on_apart(&rt)?;
-    assert!(rt; Hash::Sha384.block_len() == 128);
     Ok(())
 }

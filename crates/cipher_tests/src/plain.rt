@@ -1,4 +1,4 @@
-// The cipher byte by byte, with no table: what the tests compare the fast body with.
+//! The cipher byte by byte, with no table: what the fast body is compared with.
 
 ghost use Rattle.std.specs.Prelude.{◌≤◌, ◌<◌, ◌≡◌, ◌+◌, ◌*◌, length};
 
@@ -90,7 +90,7 @@ fn mix_columns(state: &mut [u8; 16]) {
 }
 
 /// Encrypts a block, step by step.
-pub(crate) fn encrypt_block(key: &[u8], block: &mut [u8; 16])
+pub fn encrypt_block(key: &[u8], block: &mut [u8; 16])
     requires some { 4 ≤ length key.now }
     requires fits { length key.now ≤ 32 }
 {

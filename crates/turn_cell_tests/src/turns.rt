@@ -1,60 +1,17 @@
-// One cell that two seats share, in one thread and in two.
-ghost use Rattle.std.specs.Prelude.{◌≡◌, ◌<◌, ◌∷◌, [], IfOk, length};
-ghost use mathlib.Core.List.{IsPrefix};
-ghost use Rattle.turn_cell.specs.View.{ChangesOnlyWithin};
+//! One cell that two seats share, in one thread and in two.
+
+ghost use Rattle.std.specs.Prelude.{◌≡◌, ◌<◌, IfOk, length};
 ghost use Rattle.turn_cell.specs.Words.{view, IsFree, IsSeatOf, original_parts};
 
-use crate::{Busy, CellSeat, NoMemory, Parted, TurnCell};
+use crate::tally::Tally;
 use std::alloc::Global;
 use std::process::Abort;
 use std::sync::Wait;
 use std::test::Fail;
 use std::thread::join;
+use turn_cell::{Busy, CellSeat, NoMemory, Parted, TurnCell};
 
 const TURNS: u32 = 1000;
-
-// How often each of two seats counted, and which of them counted when.
-#[derive(Drop)]
-struct Tally {
-    first: u64,
-    second: u64,
-    counted: Vec<u32>,
-}
-
-impl Parted for Tally {
-    type Part = u64;
-
-    type Entry = u32;
-
-    ghost use Rattle.std.specs.Prelude.{[], ◌∷◌};
-
-    ghost parts_of = { λ tally. tally.first ∷ tally.second ∷ [] };
-
-    ghost trail_of = { λ tally. tally.counted.items };
-
-    fn parts(&self) -> u32 {
-        2
-    }
-}
-
-impl Tally {
-    // Counts for the seat that owns this part.
-    fn count(&mut self, part: u32)
-        requires { part < 2 }
-        ensures parts { ChangesOnlyWithin part 1 (self.old.first ∷ self.old.second ∷ [])
-            (self.new.first ∷ self.new.second ∷ []) }
-        ensures trail { IsPrefix self.old.counted.items self.new.counted.items }
-    {
-        if self.counted.push(part).is_err() {
-            return;
-        }
-        if part == 0 {
-            self.first = self.first.wrapping_add(1);
-        } else {
-            self.second = self.second.wrapping_add(1);
-        }
-    }
-}
 
 fn empty(alloc: Global) -> Tally {
     Tally {
@@ -64,7 +21,7 @@ fn empty(alloc: Global) -> Tally {
     }
 }
 
-// A cell named 7 with its first seat, which owns part 0, and another, which owns part 1.
+/// A cell named 7 with its first seat, which owns part 0, and another, which owns part 1.
 fn two_seats(alloc: Global) -> Result<(TurnCell<Tally>, CellSeat<Tally>, CellSeat<Tally>), NoMemory>
     ensures cell { IfOk result (λ made.
         length (original_parts ⟦<Tally as Parted>⟧.parts_of made.0) ≡ 2) }
@@ -84,8 +41,8 @@ fn two_seats(alloc: Global) -> Result<(TurnCell<Tally>, CellSeat<Tally>, CellSea
     }
 }
 
-// Tries in vain while the first seat has the value.
-fn try_in_vain(rt: &impl Abort, cell: &TurnCell<Tally>, seat: &mut CellSeat<Tally>)
+/// Whether a try is in vain while the first seat has the value, and finds who has it.
+fn tries_in_vain(cell: &TurnCell<Tally>, seat: &mut CellSeat<Tally>) -> bool
     requires own { IsSeatOf cell.now seat.old }
     requires free { IsFree seat.old }
     ensures own { IsSeatOf cell.now seat.new }
@@ -96,20 +53,19 @@ fn try_in_vain(rt: &impl Abort, cell: &TurnCell<Tally>, seat: &mut CellSeat<Tall
     match cell.try_take(seat) {
         Ok(tally) => {
             cell.give(seat, tally);
-            assert!(rt; false, "the first seat has the value");
+            false
         }
-        Err(busy) => assert!(rt; busy == Busy { cell: 7, word: 1 }),
+        Err(busy) => busy == Busy { cell: 7, word: 1 } && cell.word(seat) == 1,
     }
-    assert!(rt; cell.word(seat) == 1);
 }
 
-// The first seat takes the value, the other tries in vain, and the first gives it back.
-fn try_while_out<R: Wait + Abort>(
+/// The first seat takes the value, the other tries in vain, and the first gives it back.
+fn tries_while_out<R: Wait>(
     rt: &R,
     cell: &TurnCell<Tally>,
     first: &mut CellSeat<Tally>,
     other: &mut CellSeat<Tally>,
-)
+) -> bool
     requires own { IsSeatOf cell.now first.old × IsSeatOf cell.now other.old }
     requires free { IsFree first.old × IsFree other.old }
     ensures own { IsSeatOf cell.now first.new × IsSeatOf cell.now other.new }
@@ -120,17 +76,17 @@ fn try_while_out<R: Wait + Abort>(
         × (length (view other.new).own ≡ length (view other.old).own) }
 {
     let tally = cell.take(rt, first);
-    try_in_vain(rt, cell, other);
+    let in_vain = tries_in_vain(cell, other);
     cell.give(first, tally);
+    in_vain
 }
 
-// The seat that owns part 1 takes the value in one try, counts, and gives it back. The first seat sees who has it.
-fn count_by_a_try(
-    rt: &impl Abort,
+/// The seat that owns part 1 takes the value in one try, counts, and gives it back. The first seat sees who has it.
+fn counts_by_a_try(
     cell: &TurnCell<Tally>,
     first: &mut CellSeat<Tally>,
     seat: &mut CellSeat<Tally>,
-)
+) -> bool
     requires own { IsSeatOf cell.now first.old × IsSeatOf cell.now seat.old }
     requires free { IsFree first.old × IsFree seat.old }
     requires part { ((view seat.old).first ≡ 1) × (length (view seat.old).own ≡ 1) }
@@ -142,15 +98,16 @@ fn count_by_a_try(
 {
     match cell.try_take(seat) {
         Ok(mut tally) => {
-            assert!(rt; cell.word(first) == 2);
+            let word = cell.word(first);
             tally.count(1);
             cell.give(seat, tally);
+            word == 2
         }
-        Err(_busy) => assert!(rt; false, "the value is in the cell"),
+        Err(_) => false,
     }
 }
 
-// Brings the second part back to the first seat, and ends the cell.
+/// Brings the second part back to the first seat, and ends the cell.
 fn close(cell: TurnCell<Tally>, first: CellSeat<Tally>, second: CellSeat<Tally>) -> Tally
     requires cell { length (original_parts ⟦<Tally as Parted>⟧.parts_of cell) ≡ 2 }
     requires own { IsSeatOf cell first × IsSeatOf cell second }
@@ -166,16 +123,18 @@ fn close(cell: TurnCell<Tally>, first: CellSeat<Tally>, second: CellSeat<Tally>)
 #[test]
 fn a_try_finds_who_has_the_value(rt: HostRuntime) -> Result<(), Fail> {
     let (cell, mut first, mut second) = two_seats(rt.alloc())?;
-    try_while_out(&rt, &cell, &mut first, &mut second);
-    count_by_a_try(&rt, &cell, &mut first, &mut second);
+    let in_vain = tries_while_out(&rt, &cell, &mut first, &mut second);
+    let counted = counts_by_a_try(&cell, &mut first, &mut second);
     let tally = close(cell, first, second);
-    assert!(rt; tally.first == 0);
-    assert!(rt; tally.second == 1);
-    assert!(rt; tally.counted.as_slice() == [1].as_slice());
+    let last = tally.second == 1 && tally.first == 0 && tally.counted.as_slice() == [1].as_slice();
+    drop(tally);
+    assert!(rt; in_vain, "the first seat has the value");
+    assert!(rt; counted, "the value is in the cell");
+    assert!(rt; last);
     Ok(())
 }
 
-// Takes as many turns, and counts in each.
+/// Takes as many turns, and counts in each.
 fn count_often<R: Wait>(
     rt: &R,
     cell: &TurnCell<Tally>,
@@ -219,8 +178,11 @@ fn two_threads_take_turns(rt: HostRuntime) -> Result<(), Fail> {
     );
 
     let tally = close(cell, first, second);
-    assert!(rt; tally.first == u64::from(TURNS));
-    assert!(rt; tally.second == u64::from(TURNS));
-    assert!(rt; tally.counted.len() == 2 * TURNS as usize);
+    let turns = u64::from(TURNS);
+    let counted = tally.counted.len() == 2 * TURNS as usize;
+    let each = tally.first == turns && tally.second == turns;
+    drop(tally);
+    assert!(rt; counted);
+    assert!(rt; each);
     Ok(())
 }

@@ -1,0 +1,6 @@
+//! A cell that two seats share, in one thread and in two.
+#![tactic(auto)]
+
+pub mod tally;
+#[cfg(test)]
+mod turns;
