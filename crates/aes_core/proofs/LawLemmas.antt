@@ -251,7 +251,7 @@ round_key_bytes w i =
 pub bytes_of_state : (s : List ℕ) → IsState s → AreBytes s
 bytes_of_state s h = record { each = h.bytes }
 
-IsState-cipher_rounds : (w b : List ℕ) (n : ℕ) → IsState b → IsState (cipher_rounds w b n)
+pub IsState-cipher_rounds : (w b : List ℕ) (n : ℕ) → IsState b → IsState (cipher_rounds w b n)
 unfolding cipher_rounds
 IsState-cipher_rounds w b zero h = IsState-add_round_key b (round_key w 0) (bytes_of_state b h) (round_key_bytes w 0)
 IsState-cipher_rounds w b (suc n) h =
