@@ -13,8 +13,9 @@ use Rattle.aes_core.proofs.FieldLemmas.{four_columns, four, four_sums}
 use Rattle.aes_core.proofs.KeyLemmas.{four_fit}
 use Rattle.aes_core.proofs.RoundLemmas.{block_written}
 use Rattle.aes_core.proofs.TableEntries.{substitute-inverse_substitute, inverse_substitute_below}
-use Rattle.aes_core.proofs.LawLemmas.{AreBytes, IsState, all_bytes, at_byte, multiply-sum_of, transposed, zeros_behind, bytes-map, bytes-append}
-use Rattle.aes_core.proofs.LawLemmas.{multiply_below, sum_below, IsState-add_round_key, round_key_bytes, bytes_of_state, state_of_same, added_twice}
+use Rattle.aes_core.proofs.LawLemmas.{AreBytes, IsState, multiply-sum_of, transposed, zeros_behind, bytes-map, bytes-append}
+use Rattle.aes_core.proofs.LawLemmas.{sum_below, IsState-add_round_key, round_key_bytes, bytes_of_state, state_of_same, added_twice}
+use Rattle.aes_core.proofs.PowerLemmas.{all_bytes, at_byte, multiply_below}
 
 -- ---- MixColumns undoes InvMixColumns
 -- a row of the matrix takes each byte of a column to a product, or leaves it; either goes over sums

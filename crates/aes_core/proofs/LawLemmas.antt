@@ -1,5 +1,5 @@
 -- The inverse cipher undoes the cipher.
-use Rattle.std.proofs.Common.{◌≡◌, inl, inr, ℕ, zero, suc, Bool, true, false, cond, eqb, ◌+◌, ◌-◌, ◌*◌, ◌/◌, ◌%◌, ◌^◌, ◌<◌, List, [], ◌∷◌}
+use Rattle.std.proofs.Common.{◌≡◌, inl, inr, ℕ, zero, suc, ◌+◌, ◌-◌, ◌*◌, ◌/◌, ◌%◌, ◌^◌, ◌<◌, List, [], ◌∷◌}
 use Rattle.std.proofs.Common.{◌++◌, map, bit_xor, length, get_or, slice_index, All, refl, sym, ap, ◌∙◌, arith, zero-add}
 use Rattle.std.proofs.lemmas.List.Elements.{All-get_or}
 use Rattle.std.proofs.lemmas.List.FromFn.{get_or-map-range_with_len, fill_by_all}
@@ -15,6 +15,7 @@ use Rattle.aes_core.specs.Transformations.{state_of, sum_of, sub_bytes, shift_ro
 use Rattle.aes_core.specs.Words.{word_bytes}
 use Rattle.aes_core.proofs.FieldLemmas.{multiply-xor, sum_of-xor, four_columns, four, four_sums}
 use Rattle.aes_core.proofs.KeyLemmas.{four_fit}
+use Rattle.aes_core.proofs.PowerLemmas.{all_bytes, at_byte, multiply_below}
 use Rattle.aes_core.proofs.RoundLemmas.{block_written}
 use Rattle.aes_core.proofs.TableEntries.{inverse_substitute-substitute, substitute_below}
 
@@ -31,16 +32,6 @@ third_share i j k l x = sum_of (multiply i x) (multiply j (multiply 3 x)) (multi
 
 fourth_share : ℕ → ℕ → ℕ → ℕ → ℕ → ℕ
 fourth_share i j k l x = sum_of (multiply i x) (multiply j x) (multiply k (multiply 3 x)) (multiply l (multiply 2 x))
-
--- the values of a function at all bytes
-unfoldable pub all_bytes : (ℕ → ℕ) → List ℕ
-all_bytes f = map f (range_with_len 0 256)
-
-pub at_byte : (f g : ℕ → ℕ) → all_bytes f ≡ all_bytes g → (x : ℕ) → x < 256 → f x ≡ g x
-unfolding all_bytes
-at_byte f g e x h =
-    sym (get_or-map-range_with_len f 0 256 x x 0 h (zero-add x)) ∙ ap (λ (l : List ℕ). get_or l x 0) e
-    ∙ get_or-map-range_with_len g 0 256 x x 0 h (zero-add x)
 
 same : ℕ → ℕ
 same x = x
@@ -183,24 +174,6 @@ joined_bytes (x ∷ xs) ys hx hy (suc i) = joined_bytes xs ys (λ k. hx (suc k))
 
 pub bytes-append : (xs ys : List ℕ) → AreBytes xs → AreBytes ys → AreBytes (xs ++ ys)
 bytes-append xs ys hx hy = record { each = joined_bytes xs ys hx.each hy.each }
-
-xtimes_below : (x : ℕ) → xtimes x < 256
-unfolding xtimes
-xtimes_below x = xor_lt 8 (x * 2 % 256) (x / 128 % 2 * 0x1b) (omega arith) (omega arith)
-
-chosen_below : (t : Bool) (x : ℕ) → x < 256 → cond t x 0 < 256
-chosen_below true x h = h
-chosen_below false x h = omega arith
-
-multiply_powers_below : (n a x : ℕ) → x < 256 → multiply_powers n a x < 256
-unfolding multiply_powers
-multiply_powers_below zero a x h = omega arith
-multiply_powers_below (suc n) a x h =
-    xor_lt 8 _ (multiply_powers n (a / 2) (xtimes x)) (chosen_below (eqb (a % 2) 1) x h) (multiply_powers_below n (a / 2) (xtimes x) (xtimes_below x))
-
-pub multiply_below : (a x : ℕ) → x < 256 → multiply a x < 256
-unfolding multiply
-multiply_below a x h = multiply_powers_below 8 a x h
 
 pub sum_below : (a b c d : ℕ) → a < 256 → b < 256 → c < 256 → d < 256 → sum_of a b c d < 256
 sum_below a b c d fa fb fc fd = xor_lt 8 (bit_xor (bit_xor a b) c) d (xor_lt 8 (bit_xor a b) c (xor_lt 8 a b fa fb) fc) fd

@@ -3,6 +3,7 @@ pub mod ColumnLemmas
 pub mod EncryptionLemmas
 pub mod FieldLemmas
 pub mod KeyLemmas
+pub mod PowerLemmas
 pub mod RoundLemmas
 pub mod StandardFacts
 pub mod TableEntries

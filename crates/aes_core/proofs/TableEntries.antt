@@ -4,29 +4,49 @@ use Rattle.std.proofs.lemmas.List.{get_or-map, get_or-take, get_or-drop}
 use Rattle.std.proofs.lemmas.List.FromFn.{get_or-map-range_with_len, get_or-range_with_len}
 use Rattle.std.specs.List.{range_with_len}
 use Rattle.aes_core.specs.declared.tables.TheConstants.{SUBSTITUTE, INVERSE_SUBSTITUTE, ENCRYPT, LAST, DECRYPT, ROUND_CONSTANTS}
-use Rattle.aes_core.specs.Field.{xtimes, multiply_powers, multiply, power, inverse, byte_of_bits, affine, inverse_affine, substitute, inverse_substitute}
+use Rattle.aes_core.specs.Field.{xtimes, multiply_powers, multiply, power, byte_of_bits, affine, inverse_affine, substitute, inverse_substitute}
 use Rattle.aes_core.specs.Columns.{mixed_0, mixed_1, mixed_2, mixed_3, placed_0, placed_1, placed_2, placed_3, inv_mixed_0, inv_mixed_1, inv_mixed_2, inv_mixed_3}
 use Rattle.aes_core.specs.KeyExpansion.{round_constant}
 use Rattle.aes_core.specs.Words.{word_bytes}
+use Rattle.aes_core.proofs.PowerLemmas.{all_bytes, at_byte, square, by_squares, inverse_by_squares, inverse-by_squares}
 
-table_substitute : SUBSTITUTE ≡ map substitute (range_with_len 0 256)
-unfolding xtimes multiply_powers multiply power inverse byte_of_bits affine substitute
+-- the substitutions with the inverse by squares
+squared_substitute : ℕ → ℕ
+squared_substitute x = affine (inverse_by_squares x)
+
+squared_inverse_substitute : ℕ → ℕ
+squared_inverse_substitute x = inverse_by_squares (inverse_affine x)
+
+table_substitute : SUBSTITUTE ≡ map squared_substitute (range_with_len 0 256)
+unfolding xtimes multiply_powers multiply square by_squares inverse_by_squares byte_of_bits affine squared_substitute
 table_substitute = refl
 
-table_inverse_substitute : INVERSE_SUBSTITUTE ≡ map inverse_substitute (range_with_len 0 256)
-unfolding xtimes multiply_powers multiply power inverse byte_of_bits inverse_affine inverse_substitute
+table_inverse_substitute : INVERSE_SUBSTITUTE ≡ map squared_inverse_substitute (range_with_len 0 256)
+unfolding xtimes multiply_powers multiply square by_squares inverse_by_squares byte_of_bits inverse_affine squared_inverse_substitute
 table_inverse_substitute = refl
+
+test_affine_bytes : all_bytes (λ (x : ℕ). inverse_affine x % 256) ≡ all_bytes inverse_affine
+unfolding all_bytes byte_of_bits inverse_affine
+test_affine_bytes = refl
+
+inverse_affine_below : (x : ℕ) → x < 256 → inverse_affine x < 256
+inverse_affine_below x h =
+    let e : inverse_affine x % 256 ≡ inverse_affine x = at_byte (λ (y : ℕ). inverse_affine y % 256) inverse_affine test_affine_bytes x h in
+    omega arith
 
 -- the substitutions at one byte
 pub entry_substitute : (t : List ℕ) (x : ℕ) → t ≡ SUBSTITUTE → x < 2 ^ 8 → get_or t x 0 ≡ substitute x
+unfolding substitute squared_substitute
 entry_substitute t x e h =
     ap (λ (l : List ℕ). get_or l x 0) (e ∙ table_substitute)
-    ∙ get_or-map-range_with_len substitute 0 256 x x 0 h (zero-add x)
+    ∙ get_or-map-range_with_len squared_substitute 0 256 x x 0 h (zero-add x) ∙ ap affine (sym (inverse-by_squares x h))
 
 pub entry_inverse_substitute : (t : List ℕ) (x : ℕ) → t ≡ INVERSE_SUBSTITUTE → x < 2 ^ 8 → get_or t x 0 ≡ inverse_substitute x
+unfolding inverse_substitute squared_inverse_substitute
 entry_inverse_substitute t x e h =
     ap (λ (l : List ℕ). get_or l x 0) (e ∙ table_inverse_substitute)
-    ∙ get_or-map-range_with_len inverse_substitute 0 256 x x 0 h (zero-add x)
+    ∙ get_or-map-range_with_len squared_inverse_substitute 0 256 x x 0 h (zero-add x)
+    ∙ sym (inverse-by_squares (inverse_affine x) (inverse_affine_below x h))
 
 -- one quarter of a table of words at one byte, from a test of that quarter against a table of bytes
 word_entry : (t s : List ℕ) (f : ℕ → List ℕ) (from x : ℕ) → map word_bytes (take 256 (drop from t)) ≡ map f s → length (take 256 (drop from t)) ≡ 256
