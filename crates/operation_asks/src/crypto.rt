@@ -42,15 +42,15 @@ impl Crypto {
         &mut self,
         alloc: Global,
         instance: u8,
-        ask: Ask,
+        ask: &Ask,
     ) -> Result<CryptoOutcome, NoMemory>
         ensures served { (s : CryptoState) → Represents self.old s
             → IfOk result (λ told.
-            IsResolution Represents told (operation_resolution s instance ask) s self.new) }
+            IsResolution Represents told (operation_resolution s instance ask.now) s self.new) }
         ensures want { (s : CryptoState) → Represents self.old s
             → OnErr result (Represents self.new s) }
     {
-        match &ask {
+        match ask {
             Ask::Random { count } => self.random(alloc, *count),
             Ask::OpNew {
                 alg,
@@ -58,19 +58,19 @@ impl Crypto {
                 max_bits,
             } => self.create(instance, *alg, *mode, *max_bits),
             Ask::OpFree { op } => Ok(self.free(instance, *op)),
-            Ask::OpInfo { op } => self.on_operation(alloc, instance, *op, &ask),
-            Ask::OpReset { op } => self.on_operation(alloc, instance, *op, &ask),
+            Ask::OpInfo { op } => self.on_operation(alloc, instance, *op, ask),
+            Ask::OpReset { op } => self.on_operation(alloc, instance, *op, ask),
             Ask::OpSetKey { op, object } => Ok(self.begin_set_key(instance, *op, *object)),
             Ask::OpCopy { to, from } => Ok(self.copy(instance, *to, *from)),
-            Ask::CipherInit { op, .. } => self.on_operation(alloc, instance, *op, &ask),
-            Ask::CipherUpdate { op, .. } => self.on_operation(alloc, instance, *op, &ask),
-            Ask::CipherFinal { op, .. } => self.on_operation(alloc, instance, *op, &ask),
-            Ask::MacInit { op } => self.on_operation(alloc, instance, *op, &ask),
-            Ask::MacUpdate { op, .. } => self.on_operation(alloc, instance, *op, &ask),
-            Ask::MacFinal { op, .. } => self.on_operation(alloc, instance, *op, &ask),
-            Ask::MacCompare { op, .. } => self.on_operation(alloc, instance, *op, &ask),
-            Ask::DigestUpdate { op, .. } => self.on_operation(alloc, instance, *op, &ask),
-            Ask::DigestFinal { op, .. } => self.on_operation(alloc, instance, *op, &ask),
+            Ask::CipherInit { op, .. } => self.on_operation(alloc, instance, *op, ask),
+            Ask::CipherUpdate { op, .. } => self.on_operation(alloc, instance, *op, ask),
+            Ask::CipherFinal { op, .. } => self.on_operation(alloc, instance, *op, ask),
+            Ask::MacInit { op } => self.on_operation(alloc, instance, *op, ask),
+            Ask::MacUpdate { op, .. } => self.on_operation(alloc, instance, *op, ask),
+            Ask::MacFinal { op, .. } => self.on_operation(alloc, instance, *op, ask),
+            Ask::MacCompare { op, .. } => self.on_operation(alloc, instance, *op, ask),
+            Ask::DigestUpdate { op, .. } => self.on_operation(alloc, instance, *op, ask),
+            Ask::DigestFinal { op, .. } => self.on_operation(alloc, instance, *op, ask),
             _ => Ok(CryptoOutcome::Settled(Outcome::Panicked)),
         }
     }

@@ -65,7 +65,9 @@ impl Operations {
             instance,
             ask: Snapshot::of(&ask),
         };
-        let told = self.crypto.serve(alloc, instance, ask)?;
+        let told = self.crypto.serve(alloc, instance, &ask);
+        drop(ask);
+        let told = told?;
         self.past = self.past.then(&asked);
         Ok(told)
     }

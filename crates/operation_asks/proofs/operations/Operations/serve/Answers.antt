@@ -15,8 +15,8 @@ invariant_of-self c = record { follows = ∥∥₁_map c.args.self.now.follows (
 pub invariant_of-self-2 : goal.invariant_of-self-2
 invariant_of-self-2 c = record {
   follows = ∥∥₁_map c.args.self.now.follows (λ r.
-      subst (λ p. Represents c.serve.new.self (state_after p)) (sym c.then.ensures)
-      (subst (λ (ask : Ask). Represents c.serve.new.self (left_by (state_of c.args.self.now) (operation_resolution (state_of c.args.self.now) c.args.instance ask))) (sym c.of.ensures)
+      subst (λ p. Represents c.serve-told.new.self (state_after p)) (sym c.then.ensures)
+      (subst (λ (ask : Ask). Represents c.serve-told.new.self (left_by (state_of c.args.self.now) (operation_resolution (state_of c.args.self.now) c.args.instance ask))) (sym c.of.ensures)
       (c.in_ok-told.ensures.served _ r).leaves));
 }
 
