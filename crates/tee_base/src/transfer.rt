@@ -58,7 +58,8 @@ pub fn read_all<S: Source>(alloc: Global, source: &mut S, limit: u32) -> Result<
             Ok(count) => count,
             Err(_) => return Err(ReadAnswer::ReadFault),
         };
-        if count == 0 {
+        let ended = count == 0;
+        if ended {
             return Ok(Bytes::from_vec(items));
         }
         if items.extend_from_slice(&buffer[..count]).is_err() {
