@@ -32,7 +32,7 @@ pub enum Line {
 }
 
 /// What a line of the text means.
-#[derive(Debug, Drop)]
+#[derive(Drop)]
 pub enum Meaning {
     /// Nothing: it is empty or a comment.
     Nothing,
@@ -43,14 +43,14 @@ pub enum Meaning {
 }
 
 /// A call, and how many bytes were filled in for its parameters.
-#[derive(Debug, Drop)]
+#[derive(Drop)]
 pub struct ReadCall {
     pub call: Call,
     pub fills: u32,
 }
 
 /// What a line means, and how many bytes were filled in for its parameters.
-#[derive(Debug, Drop)]
+#[derive(Drop)]
 pub struct ReadMeaning {
     pub meaning: Meaning,
     pub fills: u32,

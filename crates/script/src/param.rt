@@ -13,14 +13,14 @@ use std::alloc::Global;
 use tee_base::{Bytes, limits};
 
 /// A parameter, and how many bytes were filled in for it.
-#[derive(Debug, Drop)]
+#[derive(Drop)]
 pub struct Parameter {
     pub param: Param,
     pub fill: u32,
 }
 
 /// The four parameters of a line, and how many bytes were filled in for them.
-#[derive(Debug, Drop)]
+#[derive(Drop)]
 pub struct Parameters {
     pub params: Params,
     pub fills: u32,
@@ -145,9 +145,30 @@ pub fn params_of(alloc: Global, words: &[&[u8]]) -> Result<Parameters, LineError
         return Err(LineError::Bad);
     }
     let a = param_at(alloc, words, 0)?;
-    let b = param_at(alloc, words, 1)?;
-    let c = param_at(alloc, words, 2)?;
-    let d = param_at(alloc, words, 3)?;
+    let b = match param_at(alloc, words, 1) {
+        Ok(b) => b,
+        Err(error) => {
+            drop(a);
+            return Err(error);
+        }
+    };
+    let c = match param_at(alloc, words, 2) {
+        Ok(c) => c,
+        Err(error) => {
+            drop(a);
+            drop(b);
+            return Err(error);
+        }
+    };
+    let d = match param_at(alloc, words, 3) {
+        Ok(d) => d,
+        Err(error) => {
+            drop(a);
+            drop(b);
+            drop(c);
+            return Err(error);
+        }
+    };
     Ok(Parameters {
         params: Params {
             p0: a.param,

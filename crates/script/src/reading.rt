@@ -6,7 +6,7 @@ ghost use Rattle.script.specs.Parameters.{Gives};
 ghost use Rattle.script.specs.Scripts.{no_reading, reading_after, with_line, with_meaning};
 
 use crate::dialect::{Dialect, takes};
-use crate::line::{Line, Meaning};
+use crate::line::{Line, Meaning, ReadMeaning};
 use crate::meaning::meaning_of;
 use crate::words::LineError;
 use app_api::Host;
@@ -15,7 +15,7 @@ use std::marker::Model;
 use tee_base::limits;
 
 /// What was read so far: whose lines come, how many bytes were filled in, and the lines.
-#[derive(Debug, Drop)]
+#[derive(Drop)]
 pub struct Reader {
     client: u8,
     filled: u32,
@@ -68,29 +68,30 @@ fn with_meaning(
         mut lines,
         ..
     } = reader;
-    match meaning {
-        Meaning::Nothing => Ok(Reader {
-            client,
-            filled,
-            lines,
-        }),
-        Meaning::Client(client) => Ok(Reader {
-            client,
-            filled,
-            lines,
-        }),
+    let client = match meaning {
+        Meaning::Nothing => {
+            drop(meaning);
+            client
+        }
+        Meaning::Client(next) => {
+            drop(meaning);
+            next
+        }
         Meaning::Script(line) => {
             if !takes(dialect, &line) {
+                drop(line);
+                drop(lines);
                 return Err(LineError::Bad);
             }
             lines.push(line)?;
-            Ok(Reader {
-                client,
-                filled,
-                lines,
-            })
+            client
         }
-    }
+    };
+    Ok(Reader {
+        client,
+        filled,
+        lines,
+    })
 }
 
 /// What is read after one more line, which stands without its end.
@@ -107,10 +108,18 @@ pub fn read_line<A>(
     ensures value { Gives result (reading_after dialect hosts.now reader line.now) }
     ensures within { IfOk result (λ next. next.filled ≤ MAX_FILL_BYTES) }
 {
-    let read = meaning_of(alloc, hosts, reader.client, line)?;
-    let filled = reader.filled + read.fills;
+    let ReadMeaning { meaning, fills } = match meaning_of(alloc, hosts, reader.client, line) {
+        Ok(read) => read,
+        Err(error) => {
+            drop(reader);
+            return Err(error);
+        }
+    };
+    let filled = reader.filled + fills;
     if filled > limits::MAX_FILL_BYTES {
+        drop(meaning);
+        drop(reader);
         return Err(LineError::Bad);
     }
-    with_meaning(dialect, reader, filled, read.meaning)
+    with_meaning(dialect, reader, filled, meaning)
 }

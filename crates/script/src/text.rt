@@ -5,7 +5,7 @@ use std::marker::Model;
 use tee_base::{Bytes, NoMemory};
 
 /// The bytes of a text so far.
-#[derive(Debug, Drop)]
+#[derive(Drop)]
 pub struct Text {
     alloc: Global,
     bytes: Vec<u8>,

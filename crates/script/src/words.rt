@@ -9,7 +9,7 @@ ghost use Rattle.script.specs.declared.words.LineError.TheVariants.{NoMemory};
 use std::alloc::{AllocError, AllocFailed, Global};
 
 /// Why a line is not read.
-#[derive(Clone, Copy, Debug, PartialEq, Eq)]
+#[derive(Clone, Copy)]
 pub enum LineError {
     /// It is outside the grammar.
     Bad,

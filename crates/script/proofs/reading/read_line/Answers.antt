@@ -2,9 +2,9 @@ use Rattle.script.specs.Scripts.{reading_after}
 use Rattle.std.proofs.Common.{rules}
 use Rattle.script.proofs.reading.read_line.Goals as goal
 
-pub returns-in_err-read-clause-value : goal.returns-in_err-read-clause-value
+pub returns-in-Err-clause-value : goal.returns-in-Err-clause-value
 unfolding reading_after
-returns-in_err-read-clause-value g c = search rules
+returns-in-Err-clause-value g c = search rules
 
 pub returns-then-filled-gt-MAX_FILL_BYTES-clause-value : goal.returns-then-filled-gt-MAX_FILL_BYTES-clause-value
 unfolding reading_after
