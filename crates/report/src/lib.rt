@@ -1,8 +1,9 @@
 //! Printed lines: replies as clients read them, and what befell the board.
 #![tactic(auto)]
 
-ghost use Rattle.std.specs.Prelude.{◌≡◌, IfOk};
-ghost use Rattle.report.specs.Texts.{happened_text, mark_text, power_text, reply_text};
+ghost use Rattle.std.specs.Prelude.{◌≡◌, ◌++◌, IfOk, codes};
+ghost use Rattle.std.specs.Fmt.{decimal};
+ghost use Rattle.report.specs.Texts.{happened_text, power_text, reply_text};
 
 mod line;
 
@@ -69,14 +70,13 @@ pub fn reply_line(alloc: Global, name: &[u8], reply: &Reply) -> Result<Bytes, No
     Ok(line.into_bytes())
 }
 
-/// The line of what the board did to a turn: `board WORD NAME T`.
-fn mark_line(alloc: Global, word: &[u8], name: &[u8], turn: u64) -> Result<Bytes, NoMemory>
-    ensures { IfOk result (λ line. line ≡ mark_text word.now name.now turn) }
+/// The line of what the board did to a turn: `board WORD NAME T`, of which the front is told up to the name.
+fn mark_line(alloc: Global, front: &[u8], name: &[u8], turn: u64) -> Result<Bytes, NoMemory>
+    ensures { IfOk result (λ line. line
+        ≡ front.now ++ name.now ++ codes " " ++ decimal turn ++ codes "\n") }
 {
     let mut line = LineBuffer::new(alloc);
-    line.text(b"board ")?;
-    line.text(word)?;
-    line.text(b" ")?;
+    line.text(front)?;
     line.text(name)?;
     line.text(b" ")?;
     line.number(turn)?;
@@ -97,10 +97,21 @@ pub fn happened_line(
 {
     match kind {
         TurnKind::Plain => Ok(Bytes::empty(alloc)),
-        TurnKind::Lost { .. } => mark_line(alloc, b"lost", name, turn),
-        TurnKind::Starved => mark_line(alloc, b"starve", name, turn),
-        TurnKind::Corrupted => mark_line(alloc, b"corrupt", name, turn),
+        TurnKind::Lost { .. } => mark_line(alloc, b"board lost ", name, turn),
+        TurnKind::Starved => mark_line(alloc, b"board starve ", name, turn),
+        TurnKind::Corrupted => mark_line(alloc, b"board corrupt ", name, turn),
     }
+}
+
+/// A line that ends in a name.
+fn named_line(alloc: Global, front: &[u8], name: &[u8]) -> Result<Bytes, NoMemory>
+    ensures { IfOk result (λ line. line ≡ front.now ++ name.now ++ codes "\n") }
+{
+    let mut line = LineBuffer::new(alloc);
+    line.text(front)?;
+    line.text(name)?;
+    line.text(b"\n")?;
+    Ok(line.into_bytes())
 }
 
 /// The line of a power: `board power clean`, `board power kept NAME` or `board power absent NAME`. The name is that of the
@@ -108,19 +119,9 @@ pub fn happened_line(
 pub fn power_line(alloc: Global, name: &[u8], power: Power) -> Result<Bytes, NoMemory>
     ensures { IfOk result (λ line. line ≡ power_text name.now power) }
 {
-    let mut line = LineBuffer::new(alloc);
     match power {
-        Power::Clean => line.text(b"board power clean\n")?,
-        Power::Kept(_) => {
-            line.text(b"board power kept ")?;
-            line.text(name)?;
-            line.text(b"\n")?;
-        }
-        Power::Absent(_) => {
-            line.text(b"board power absent ")?;
-            line.text(name)?;
-            line.text(b"\n")?;
-        }
+        Power::Clean => Bytes::from_slice(alloc, b"board power clean\n"),
+        Power::Kept(_) => named_line(alloc, b"board power kept ", name),
+        Power::Absent(_) => named_line(alloc, b"board power absent ", name),
     }
-    Ok(line.into_bytes())
 }

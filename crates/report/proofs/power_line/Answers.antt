@@ -1,5 +1,5 @@
 use Rattle.std.proofs.Common.{rules}
 use Rattle.report.proofs.power_line.Goals as goal
 
-pub returns : goal.returns
-returns c = search rules
+pub returns-in-Kept : goal.returns-in-Kept
+returns-in-Kept c = search rules
