@@ -39,3 +39,9 @@ AreBlocks-push blocks block are whole k h =
 pub no_flag : (flags : List Bool) (n : ℕ) → flags ≡ replicate n false → (k : ℕ) → get_or flags k false ≡ false
 no_flag flags n none k =
     rw none (⊎_elim (λ (h : k < n). get_or-replicate n k false false h) (λ (h : n ≤ k). get_or_past (replicate n false) k false (rw length-replicate h)) (cases_lt k n))
+
+-- one more of the same
+pub repeated_more : (blocks : List (List ℕ)) (block : List ℕ) (at : ℕ) → length blocks ≡ at → ((k : ℕ) → k < at → get_or blocks k [] ≡ block) → (k : ℕ) → k < at + 1 →
+    get_or (blocks ++ block ∷ []) k [] ≡ block
+repeated_more blocks block at count below =
+    below_more _ _ (λ k h. get_or_append_left blocks (block ∷ []) [] k (omega arith) ∙ below k h) (get_or_push blocks block [] at count)

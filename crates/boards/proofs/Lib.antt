@@ -1,3 +1,5 @@
 pub mod Blocks
+pub mod Calls
+pub mod Counted
 pub mod Loops
 pub mod Power

@@ -1,9 +1,12 @@
 -- What the loops over the blocks keep.
 use Rattle.std.proofs.Common.{◌≡◌, ◌≢◌, ◌<◌, ◌≤◌, ◌+◌, ◌/◌, ◌%◌, ◌^◌, ℕ, Bool, true, false, cond, List, [], ◌∷◌, zero, suc, length}
-use Rattle.std.proofs.Common.{get_or, Vec, vec_len, sym, ap, ◌∙◌, refl, add-one, add-zero, arith, below_more}
+use Rattle.std.proofs.Common.{get_or, Vec, vec_len, sym, ap, subst, ⊎_elim, ◌∙◌, refl, add-one, add-zero, arith, below_more}
 use Rattle.std.proofs.Math.Nat.{div-one, div-div-eq-div-mul, pow-suc}
+use Rattle.std.proofs.lemmas.Bool.{cases_eq, cases_lt}
+use Rattle.std.proofs.lemmas.List.{get_or_past}
 use Rattle.std.specs.declared.alloc.Global.{Global}
-use Rattle.boards.specs.Disk.{IsWhole, Puts, durable_of, pending_of, offered_of}
+use Rattle.board.specs.Steps.{Synced}
+use Rattle.boards.specs.Disk.{IsWhole, Puts, durable_of, offered_of, pending_of, reads_of, state_of}
 use Rattle.boards.specs.Landing.{count_below, digit_at, landed, landed_image}
 use Rattle.boards.specs.declared.disk.Disk.{Disk}
 
@@ -35,6 +38,74 @@ pub record LandedBelow (at digits left : ℕ) (old new : Disk) : Type 0 where
   pub unsettled : new.unsettled ≡ old.unsettled
   pub faults : new.faults ≡ old.faults
   pub orders : new.orders ≡ old.orders
+
+-- before the first block
+pub synced_none : (old : Disk) → IsWhole old → SyncedBelow 0 old old
+synced_none old whole = record {
+  whole = whole;
+  size = refl;
+  done = λ k h. absurd (omega arith);
+  durable = λ k h. refl;
+  seen = refl;
+  offered = refl;
+  counter = refl;
+  unsettled = refl;
+  faults = refl;
+  orders = refl;
+}
+
+module _ (at : ℕ) (old mid : Disk) (below : SyncedBelow at old mid) where
+  -- past a block that isn't pending
+  pub synced_kept : pending_of mid at ≡ false → SyncedBelow (at + 1) old mid
+  synced_kept is = record {
+    whole = below.whole;
+    size = below.size;
+    done = below_more _ _ below.done is;
+    durable = below.durable;
+    seen = below.seen;
+    offered = below.offered;
+    counter = below.counter;
+    unsettled = below.unsettled;
+    faults = below.faults;
+    orders = below.orders;
+  }
+
+  -- past a block that is made durable as it reads
+  pub synced_taken : (new : Disk) → IsWhole old → Puts at (reads_of mid at) mid new → new.seen ≡ mid.seen → SyncedBelow (at + 1) old new
+  synced_taken new whole puts seen =
+      let others : (k : ℕ) → k < at → k ≢ at = λ k h. omega arith in
+      let read : reads_of mid at ≡ reads_of old at = ap (λ (v : Vec (List ℕ) Global). get_or v.items at []) below.seen in
+      record {
+        whole = puts.whole;
+        size = puts.size ∙ below.size;
+        done = below_more _ _ (λ k h. puts.pending k (others k h) ∙ below.done k h) puts.settled;
+        durable = λ k p. ⊎_elim
+            (λ (e : k ≡ at). subst (λ n. durable_of new n ≡ durable_of old n) (sym e) (puts.here ∙ read ∙ whole.as_read at (subst (λ n. pending_of old n ≡ false) e p)))
+            (λ (ne : k ≢ at). puts.elsewhere k ne ∙ below.durable k p)
+            (cases_eq k at);
+        seen = seen ∙ below.seen;
+        offered = puts.offered ∙ below.offered;
+        counter = puts.counter ∙ below.counter;
+        unsettled = puts.unsettled ∙ below.unsettled;
+        faults = puts.faults ∙ below.faults;
+        orders = puts.orders ∙ below.orders;
+      }
+
+-- past the last block
+pub all_synced : (at : ℕ) (old new : Disk) → SyncedBelow at old new → vec_len old.durable ≤ at → Synced true (state_of old) (state_of new)
+all_synced at old new below all =
+    let settled : (k : ℕ) → pending_of new k ≡ false = λ k. ⊎_elim (λ (h : k < at). below.done k h)
+    (λ (h : at ≤ k). get_or_past new.pending.items k false (omega (arith, h, all, below.size, below.whole.pending))) (cases_lt k at) in
+    let reads : reads_of new ≡ reads_of old = λ i k. (ap (λ (v : Vec (List ℕ) Global). get_or v.items k []) below.seen) i in
+    record {
+      reads = reads;
+      durable = λ ok k. sym (below.whole.as_read k (settled k)) ∙ ap (λ (f : ℕ → List ℕ). f k) reads;
+      settled = λ ok k. settled k;
+      failed_durable = λ failed. absurd (cc);
+      failed_pending = λ failed. absurd (cc);
+      counter = below.counter;
+      slack = ap (λ b. cond b 1 0) below.unsettled;
+    }
 
 -- no block is below the first
 rest_start : (digits : ℕ) (pending : ℕ → Bool) → digits ≡ digits / 4 ^ count_below pending 0
@@ -127,3 +198,20 @@ module _ (at digits left : ℕ) (old mid : Disk) (below : LandedBelow at digits 
         faults = puts.faults ∙ below.faults;
         orders = puts.orders ∙ below.orders;
       }
+
+-- past the last block
+module _ (at digits left : ℕ) (old new : Disk) (below : LandedBelow at digits left old new) (whole : IsWhole old) (all : vec_len old.durable ≤ at) where
+  none_past : (k : ℕ) → at ≤ k → pending_of old k ≡ false
+  none_past k h = get_or_past old.pending.items k false (omega (arith, h, all, whole.pending))
+
+  pub all_settled : (k : ℕ) → pending_of new k ≡ false
+  all_settled k = ⊎_elim (λ (h : k < at). below.done k h) (λ (h : at ≤ k). below.pending k h ∙ none_past k h) (cases_lt k at)
+
+  pub all_landed : (k : ℕ) → durable_of new k ≡ landed_image digits (pending_of old) (durable_of old) (offered_of old) k
+  all_landed k =
+      ⊎_elim (λ (h : k < at). below.image k h) (λ (h : at ≤ k). below.durable k h
+      ∙ sym (ap (λ b. cond b (landed (digit_at digits (pending_of old) k) (durable_of old k) (offered_of old k)) (durable_of old k)) (none_past k h))) (cases_lt k at)
+
+  pub all_blocks : (k : ℕ) → pending_of old k ≡ true → length (durable_of new k) ≡ 1024
+  all_blocks k p =
+      ⊎_elim (λ (h : k < at). below.blocks k h p) (λ (h : at ≤ k). absurd (let e : true ≡ false = sym p ∙ none_past k h in cc)) (cases_lt k at)

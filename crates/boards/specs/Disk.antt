@@ -1,6 +1,6 @@
 -- What the disk in memory holds, as a moment of the disk model.
 use Rattle.std.specs.Prelude.{◌≡◌, ◌≢◌, ◌<◌, ◌≤◌, ◌^◌, ℕ, if◌then◌else◌, Bool, true, false, List, [], length, slice_index_or, vec_len}
-use Rattle.std.proofs.Common.{◌⊎◌, ⊎_elim, sym, ◌∙◌, arith}
+use Rattle.std.proofs.Common.{⊎_elim, arith}
 use Rattle.std.proofs.lemmas.Bool.{cases_lt}
 use Rattle.std.proofs.lemmas.List.{get_or_past}
 use Rattle.tee_base.specs.declared.limits.TheConstants.{BLOCK_BYTES}

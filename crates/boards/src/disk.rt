@@ -1,5 +1,5 @@
 //! The disk in memory: the bytes that are durable, the bytes that reads give, and the counter.
-ghost use Rattle.std.specs.Prelude.{◌≡◌, ◌≢◌, ◌+◌, ◌-◌, ◌*◌, ◌/◌, ◌%◌, ◌^◌, ◌<◌, ◌≤◌, ℕ, if◌then◌else◌, ◌&&◌, ◌==◌, nat_lt, Bool, true, false, is_ok, OnOk, IfOk, ◌++◌, take, drop, length, slice_set, vec_len};
+ghost use Rattle.std.specs.Prelude.{◌≡◌, ◌≢◌, ◌+◌, ◌-◌, ◌*◌, ◌/◌, ◌%◌, ◌^◌, ◌<◌, ◌≤◌, ℕ, if◌then◌else◌, ◌&&◌, ◌==◌, nat_lt, Bool, true, false, is_ok, OnOk, IfOk, ◌++◌, take, drop, length, vec_len};
 ghost use Rattle.tee_base.specs.declared.limits.TheConstants.{BLOCK_BYTES};
 ghost use Rattle.board.specs.Fuse.{passes, is_interrupted, is_refused};
 ghost use Rattle.board.specs.Steps.{capped, Unchanged, Wrote, Synced, Counted, Advanced, Powered};
@@ -226,17 +226,8 @@ impl Disk {
     fn keep(&mut self, at: usize)
         requires whole { IsWhole self.old }
         requires within { at < vec_len self.old.durable }
-        ensures whole { IsWhole self.new }
-        ensures size { vec_len self.new.durable ≡ vec_len self.old.durable }
-        ensures durable { durable_of self.new at ≡ reads_of self.old at }
-        ensures elsewhere { (k : ℕ) → k ≢ at → durable_of self.new k ≡ durable_of self.old k }
-        ensures pending { self.new.pending.items ≡ slice_set self.old.pending.items at false }
+        ensures puts { Puts at (reads_of self.old at) self.old self.new }
         ensures seen { self.new.seen ≡ self.old.seen }
-        ensures offered { self.new.offered ≡ self.old.offered }
-        ensures counter { self.new.counter ≡ self.old.counter }
-        ensures unsettled { self.new.unsettled ≡ self.old.unsettled }
-        ensures faults { self.new.faults ≡ self.old.faults }
-        ensures orders { self.new.orders ≡ self.old.orders }
     {
         self.durable[at] = self.seen[at];
         self.pending[at] = false;

@@ -1,3 +1,4 @@
+pub mod CallLemmas
 pub mod CommitLemmas
 pub mod CommitStages
 pub mod FindLemmas

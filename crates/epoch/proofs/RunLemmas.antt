@@ -270,3 +270,8 @@ lay_answers slot block bytes start mid new (Ok done) P at wrote synced is =
     let here : Wrote (header_at slot) bytes true start mid = subst (λ (b : ℕ). Wrote b bytes true start mid) at wrote in
     (synced_write (header_at slot) bytes start mid new here synced, subst P (sym (ap (λ (f : ℕ → List ℕ). f (header_at slot)) synced.reads ∙ here.here refl)) is)
 lay_answers slot block bytes start mid new (Err e) P at wrote synced is = tt
+
+pub lay_holds : {A : Type 0} (slot block : ℕ) (bytes : List ℕ) (start mid new : Moment) (result : Result A BoardFailed) (P : List ℕ → Type 0)
+    → block ≡ header_at slot → Wrote block bytes true start mid → Synced (is_ok result) mid new → P bytes → OnOk result (P (new.reads (header_at slot)))
+lay_holds slot block bytes start mid new (Ok done) P at wrote synced is = (lay_answers slot block bytes start mid new (Ok done) P at wrote synced is).1
+lay_holds slot block bytes start mid new (Err e) P at wrote synced is = tt

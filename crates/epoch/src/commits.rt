@@ -11,7 +11,8 @@ ghost use Rattle.epoch.specs.Past.{KeepsPast};
 ghost use Rattle.epoch.specs.declared.header.TreeEntry.{TreeEntry as Entry};
 
 use crate::header::{Header, TreeEntry};
-use crate::steps::{flip, lay, shut};
+use crate::laying::lay;
+use crate::steps::{flip, shut};
 use board::{Board, BoardFailed};
 
 /// What a commit writes beside the slots, for a form of the leaves.

@@ -1,22 +1,18 @@
-//! The three steps that end a commit: the gate of the spare slot is shut, its header laid, and its gate opened.
-ghost use Rattle.std.specs.Prelude.{◌≡◌, ◌≢◌, ◌≤◌, ◌<◌, ◌⊎◌, ◌+◌, ◌%◌, ℕ, Bool, true, false, List, IsTrue, Option, Some, Result, Ok, OnOk, IfOk, is_ok};
+//! The first and the last of the three steps that end a commit: the gate of the spare slot is shut, and is opened once its
+//! header is laid.
+ghost use Rattle.std.specs.Prelude.{◌≡◌, ◌≢◌, ◌≤◌, ◌<◌, ◌⊎◌, ◌+◌, ℕ, Bool, true, false, List, IsTrue, Some, Ok, OnOk, IfOk, is_ok};
 ghost use Rattle.tee_base.specs.Crash.{LeavesOnly};
 ghost use Rattle.board.specs.Moment.{View, moment, left_since};
 ghost use Rattle.board.specs.Runs.{Rests, RunsOver};
 ghost use Rattle.board.specs.Steps.{capped, CallRun};
-ghost use Rattle.epoch.specs.Gates.{gate_at, header_at, gate_open, shut_gate};
-ghost use Rattle.epoch.specs.Header.{IsHeaderBlock};
+ghost use Rattle.epoch.specs.Gates.{gate_at, gate_open, shut_gate};
 ghost use Rattle.epoch.specs.Opening.{opening_of};
 ghost use Rattle.epoch.specs.Past.{KeepsPast};
-ghost use Rattle.epoch.specs.Slots.{header_slot};
 ghost use Rattle.epoch.specs.Steps.{CountsElsewhere, IsFlipped, IsLaid, LeavesFlip, SyncedBut, outcome_opening};
 ghost use Rattle.epoch.specs.declared.header.Header.{Header as HeaderValue};
-ghost use Rattle.epoch.specs.declared.slots.Slot.TheVariants as slot_holds;
 
-use crate::gates::{OPEN_GATE, SHUT_GATE, gate_block, header_block, is_open};
-use crate::header::{Header, block_of_header};
+use crate::gates::{OPEN_GATE, SHUT_GATE, gate_block, is_open};
 use board::{Board, BoardFailed};
-use seal::Keys;
 
 /// Shuts the gate of a slot: where it is open it is written as zeros; then a sync.
 ///
@@ -67,45 +63,6 @@ pub fn shut<B: Board>(board: &mut B, slot: u8) -> Result<(), BoardFailed>
     board.sync()
 }
 
-/// Writes a header into the slot of its sequence; then a sync. It takes no memory.
-///
-/// # Errors
-///
-/// A call of the board failed. The header's block may then read as anything.
-pub fn lay<B: Board>(board: &mut B, header: &Header) -> Result<(), BoardFailed>
-    requires { 4 ≤ (B.view board.old).size }
-    ensures calls { CallRun (is_ok result) (B.view board.old) (B.view board.new) }
-    ensures writes { (B.view board.new).writes ≡ capped ((B.view board.old).writes + 1) }
-    ensures honest { B.honest board.old → B.honest board.new }
-    ensures past { B.honest board.old → KeepsPast (B.view board.old) (B.view board.new) }
-    ensures elsewhere { B.honest board.old → (k : ℕ) → k ≢ header_at (header.now.sequence % 2)
-        → (B.view board.new).state.reads k ≡ (B.view board.old).state.reads k }
-    ensures laid { B.honest board.old → let slot = header.now.sequence % 2 in
-        OnOk result (SyncedBut (header_at slot) (B.view board.old).state (B.view board.new).state
-        × IsHeaderBlock (B.view board.old).key slot header.now
-        ((B.view board.new).state.reads (header_at slot))) }
-    ensures good { B.honest board.old → let slot = header.now.sequence % 2 in
-        OnOk result (header_slot (B.view board.old).key slot
-        ((B.view board.new).state.reads (header_at slot))
-        ≡ slot_holds.Good header.now) }
-    ensures run { B.honest board.old
-        → (open_at : ℕ → Bool) (base : ℕ → List ℕ) (low high : ℕ) (first : View)
-        → open_at (header_at (header.now.sequence % 2)) ≡ true
-        → RunsOver open_at base low high first (B.view board.old)
-        → RunsOver open_at base low high first (B.view board.new) }
-    // behind a gate that isn't open all that a crash leaves opens as before
-    ensures crash { B.honest board.old → (version n : ℕ) → Rests n (B.view board.old).state
-        → gate_open ((B.view board.old).state.reads (gate_at (header.now.sequence % 2))) ≡ false
-        → LeavesOnly moment left_since (B.view board.old) (B.view board.new)
-        (λ c. outcome_opening version (B.view board.old).key c
-        ≡ opening_of version (B.view board.old).key (B.view board.old).state.reads n) }
-{
-    let keys = Keys::of(&board.key());
-    let slot = slot_for(header.sequence);
-    board.write(header_block(slot), &block_of_header(&keys, slot, *header))?;
-    board.sync()
-}
-
 /// Opens the gate of a slot; then a sync, and then the counter is advanced. It gives the new counter, and takes no
 /// memory.
 ///
@@ -146,12 +103,4 @@ pub fn flip<B: Board>(board: &mut B, slot: u8) -> Result<u64, BoardFailed>
     board.write(gate_block(slot), &OPEN_GATE)?;
     board.sync()?;
     board.advance()
-}
-
-/// The slot of a sequence.
-fn slot_for(sequence: u64) -> u8
-    ensures slot { result ≡ sequence % 2 }
-    ensures below { result < 2 }
-{
-    (sequence % 2) as u8
 }

@@ -1,4 +1,5 @@
-use Rattle.std.proofs.Common.{◌∙◌, ◌+◌, ℕ, sym, ap}
+use Rattle.std.proofs.Common.{◌∙◌, ◌+◌, ℕ, sym, ap, true, false}
+use Rattle.epoch.proofs.CallLemmas.{run_more, run_stops}
 use Rattle.epoch.specs.Commits.{next_held}
 use Rattle.epoch.proofs.PastLemmas.{followed}
 use Rattle.epoch.proofs.CommitLemmas.{on_err}
@@ -180,3 +181,27 @@ returns-clause-past g c h =
     let hon3 = c.in_ok-lay.ensures.honest hon2 in
     followed _ _ _ (c.in_ok-shut.ensures.past h)
     (followed _ _ _ (c.in_ok-root.ensures.past hon1) (followed _ _ _ (c.in_ok-lay.ensures.past hon2) (c.in_ok-_counter.ensures.past hon3)))
+
+pub returns-in_err-shut-clause-calls : goal.returns-in_err-shut-clause-calls
+returns-in_err-shut-clause-calls g c = run_stops c.from_residual.result _ _ c.from_residual.ensures.0 c.in_err-shut.ensures.calls
+
+pub returns-in_err-root-clause-calls : goal.returns-in_err-root-clause-calls
+returns-in_err-root-clause-calls g c =
+    run_stops c.from_residual-in_err-root.result _ _ c.from_residual-in_err-root.ensures.0 (run_more false _ _ _ c.in_ok-shut.ensures.calls c.in_err-root.ensures.calls)
+
+pub returns-in_err-lay-clause-calls : goal.returns-in_err-lay-clause-calls
+returns-in_err-lay-clause-calls g c =
+    let wrote = run_more true _ _ _ c.in_ok-shut.ensures.calls c.in_ok-root.ensures.calls in
+    run_stops c.from_residual-in_err-lay.result _ _ c.from_residual-in_err-lay.ensures.0 (run_more false _ _ _ wrote c.in_err-lay.ensures.calls)
+
+pub returns-in_err-_counter-clause-calls : goal.returns-in_err-_counter-clause-calls
+returns-in_err-_counter-clause-calls g c =
+    let wrote = run_more true _ _ _ c.in_ok-shut.ensures.calls c.in_ok-root.ensures.calls in
+    let laid = run_more true _ _ _ wrote c.in_ok-lay.ensures.calls in
+    run_stops c.from_residual-in_err-_counter.result _ _ c.from_residual-in_err-_counter.ensures.0 (run_more false _ _ _ laid c.in_err-_counter.ensures.calls)
+
+pub returns-clause-calls : goal.returns-clause-calls
+returns-clause-calls g c =
+    let wrote = run_more true _ _ _ c.in_ok-shut.ensures.calls c.in_ok-root.ensures.calls in
+    let laid = run_more true _ _ _ wrote c.in_ok-lay.ensures.calls in
+    run_more true _ _ _ laid c.in_ok-_counter.ensures.calls

@@ -1,5 +1,6 @@
+use Rattle.epoch.proofs.CallLemmas.{run_more, run_none, run_so_far}
 use Rattle.epoch.proofs.PastLemmas.{itself, followed}
-use Rattle.std.proofs.Common.{◌≡◌, ◌≢◌, ◌≤◌, ◌∙◌, ℕ, List, false, Some, None, Ok, Err, refl, sym, subst, arith}
+use Rattle.std.proofs.Common.{◌≡◌, ◌≢◌, ◌≤◌, ◌∙◌, ℕ, List, false, Some, None, Ok, Err, refl, sym, subst, arith, true}
 use Rattle.std.proofs.lemmas.Bool.{ltb-false}
 use Rattle.seal.specs.Keys.{AreKeysOf}
 use Rattle.epoch.specs.Opening.{header_answer}
@@ -111,4 +112,19 @@ returns-clause-past g c h =
       | in-Err w ↦ rw w.board-is one
       | in-Ok-None w ↦ rw w.board-is one
       | in-Ok-Some w ↦ rw w.board-is (followed _ _ _ one (w.raise.ensures.past (c.in_ok-seen.ensures.honest h)))
+    ]
+
+pub returns-then-blocks-lt-VOLUME_BLOCKS-clause-calls : goal.returns-then-blocks-lt-VOLUME_BLOCKS-clause-calls
+returns-then-blocks-lt-VOLUME_BLOCKS-clause-calls g c = run_none _
+
+pub returns-in_err-seen-clause-calls : goal.returns-in_err-seen-clause-calls
+returns-in_err-seen-clause-calls g c = run_so_far _ _ _ c.in_err-seen.ensures.calls
+
+pub returns-clause-calls : goal.returns-clause-calls
+returns-clause-calls g c =
+    let one = c.in_ok-seen.ensures.calls in
+    elim c.match-judge.branch [
+      | in-Err w ↦ rw w.board-is one
+      | in-Ok-None w ↦ rw w.board-is one
+      | in-Ok-Some w ↦ rw w.board-is (run_more true _ _ _ one w.raise.ensures.calls)
     ]

@@ -1,4 +1,5 @@
-use Rattle.std.proofs.Common.{rules}
+use Rattle.std.proofs.Common.{refl, rules, true, false}
+use Rattle.epoch.proofs.CallLemmas.{run_none, run_once, run_so_far}
 use Rattle.epoch.proofs.PastLemmas.{itself, once}
 use Rattle.epoch.proofs.find.raise.Goals as goal
 
@@ -13,3 +14,15 @@ returns-clause-past g c h = itself _
 
 pub returns-then-counter-header-clause-counter : goal.returns-then-counter-header-clause-counter
 returns-then-counter-header-clause-counter g c = search rules
+
+pub returns-in_err-_raised-clause-calls : goal.returns-in_err-_raised-clause-calls
+returns-in_err-_raised-clause-calls g c = run_so_far _ _ _ (run_once false _ _ c.in_err-_raised.ensures.call)
+
+pub returns-in_err-_raised-clause-cause : goal.returns-in_err-_raised-clause-cause
+returns-in_err-_raised-clause-cause g c failed = c.in_err-_raised.ensures.call.cause refl
+
+pub returns-then-counter-header-clause-calls : goal.returns-then-counter-header-clause-calls
+returns-then-counter-header-clause-calls g c = run_once true _ _ c.in_ok-_raised.ensures.call
+
+pub returns-clause-calls : goal.returns-clause-calls
+returns-clause-calls g c = run_none _

@@ -1,4 +1,5 @@
-use Rattle.std.proofs.Common.{refl, arith, rules}
+use Rattle.std.proofs.Common.{refl, arith, rules, true, false}
+use Rattle.epoch.proofs.CallLemmas.{run_more, run_once, run_so_far}
 use Rattle.epoch.proofs.MountLemmas.{again_failed, again_found, ruled_so, stopped}
 use Rattle.epoch.proofs.SettledLemmas.{settled_on, settled_sync}
 use Rattle.epoch.proofs.mounting.mount_again.Goals as goal
@@ -41,3 +42,9 @@ returns-clause-settled g c h =
     let v = (g.B.Board.view c.args.board.now).state in
     let mid = (g.B.Board.view c.sync.new.self).state in
     settled_on v mid (g.B.Board.view c.mount.new.board).state (settled_sync _ v mid step.2) (c.mount.ensures.settled step.0)
+
+pub returns-in_err-sync-clause-calls : goal.returns-in_err-sync-clause-calls
+returns-in_err-sync-clause-calls g c = run_so_far _ _ _ (run_once false _ _ c.in_err-sync.ensures.call)
+
+pub returns-clause-calls : goal.returns-clause-calls
+returns-clause-calls g c = run_more true _ _ _ (run_once true _ _ c.in_ok-sync.ensures.call) c.mount.ensures.calls

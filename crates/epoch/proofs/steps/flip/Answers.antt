@@ -1,3 +1,5 @@
+use Rattle.std.proofs.Common.{true, false}
+use Rattle.epoch.proofs.CallLemmas.{call_more, run_once, run_stops}
 use Rattle.epoch.proofs.PastLemmas.{once, followed}
 use Rattle.epoch.proofs.RunLemmas.{flip_wrote, flip_before, flip_advanced, flip_answers, opened_answers, flip_crash, over_sync}
 use Rattle.epoch.proofs.SettledLemmas.{settled_blocks, settled_sync, settled_wrote}
@@ -76,3 +78,13 @@ returns-clause-pending g c h k ne was =
     let s = c.in_ok-sync.ensures.honest w.0 in
     let a = c.advance.ensures.honest s.0 in
     (settled_blocks _ _ a.2.blocks k (settled_sync _ _ _ s.2 k (settled_wrote _ _ _ _ _ _ c.gate_block.ensures w.2 k ne was)).1).1
+
+pub returns-in_err-write-clause-calls : goal.returns-in_err-write-clause-calls
+returns-in_err-write-clause-calls g c = run_stops c.from_residual.result _ _ c.from_residual.ensures.0 (run_once false _ _ c.in_err-write.ensures.call)
+
+pub returns-in_err-sync-clause-calls : goal.returns-in_err-sync-clause-calls
+returns-in_err-sync-clause-calls g c =
+    run_stops c.from_residual-in_err-sync.result _ _ c.from_residual-in_err-sync.ensures.0 (call_more false _ _ _ (run_once true _ _ c.in_ok-write.ensures.call) c.in_err-sync.ensures.call)
+
+pub returns-clause-calls : goal.returns-clause-calls
+returns-clause-calls g c = call_more _ _ _ _ (call_more true _ _ _ (run_once true _ _ c.in_ok-write.ensures.call) c.in_ok-sync.ensures.call) c.advance.ensures.call

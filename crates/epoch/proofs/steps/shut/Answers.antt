@@ -1,5 +1,6 @@
+use Rattle.epoch.proofs.CallLemmas.{call_more, run_once, run_stops}
 use Rattle.epoch.proofs.PastLemmas.{once, followed}
-use Rattle.std.proofs.Common.{◌≡◌, true, false, rules}
+use Rattle.std.proofs.Common.{◌≡◌, ◌∙◌, true, false, sym, rules}
 use Rattle.epoch.specs.Steps.{shut_writes}
 use Rattle.epoch.proofs.RunLemmas.{rest_starts, over_read, over_sync, over_write, shut_crash, shut_answers, zeros_answers, still_answers, shut_itself, gate_was}
 use Rattle.epoch.proofs.steps.shut.Goals as goal
@@ -93,3 +94,30 @@ returns-clause-past g c h =
     let w = c.in_ok-write.ensures.honest r.0 in
     let s = c.sync-2.ensures.honest w.0 in
     followed _ _ _ (once _ _ r.1) (followed _ _ _ (once _ _ w.1) (once _ _ s.1))
+
+pub returns-in_err-read-clause-calls : goal.returns-in_err-read-clause-calls
+returns-in_err-read-clause-calls g c = run_stops c.from_residual.result _ _ c.from_residual.ensures.0 (run_once false _ _ c.in_err-read.ensures.call)
+
+pub returns-then-not-is_open-clause-calls : goal.returns-then-not-is_open-clause-calls
+returns-then-not-is_open-clause-calls g c = call_more _ _ _ _ (run_once true _ _ c.in_ok-read.ensures.call) c.sync.ensures.call
+
+pub returns-in_err-write-clause-calls : goal.returns-in_err-write-clause-calls
+returns-in_err-write-clause-calls g c =
+    run_stops c.from_residual-in_err-write.result _ _ c.from_residual-in_err-write.ensures.0 (call_more false _ _ _ (run_once true _ _ c.in_ok-read.ensures.call) c.in_err-write.ensures.call)
+
+pub returns-clause-calls : goal.returns-clause-calls
+returns-clause-calls g c = call_more _ _ _ _ (call_more true _ _ _ (run_once true _ _ c.in_ok-read.ensures.call) c.in_ok-write.ensures.call) c.sync-2.ensures.call
+
+pub returns-in_err-write-clause-unwritten : goal.returns-in_err-write-clause-unwritten
+returns-in_err-write-clause-unwritten g c tells shut =
+    let told : c.is_open.result ≡ true = search rules in
+    let was = gate_was c.gate_block.result _ (g.B.Board.view c.args.board.now).state.reads _ c.is_open.result true c.gate_block.ensures
+    (c.in_ok-read.ensures.bytes tells) c.is_open.ensures told in
+    absurd (let e : true ≡ false = sym was ∙ shut in cc)
+
+pub returns-clause-unwritten : goal.returns-clause-unwritten
+returns-clause-unwritten g c tells shut =
+    let told : c.is_open.result ≡ true = search rules in
+    let was = gate_was c.gate_block.result _ (g.B.Board.view c.args.board.now).state.reads _ c.is_open.result true c.gate_block.ensures
+    (c.in_ok-read.ensures.bytes tells) c.is_open.ensures told in
+    absurd (let e : true ≡ false = sym was ∙ shut in cc)

@@ -1,5 +1,5 @@
-use Rattle.std.proofs.Common.{arith, ◌<◌, length, ◌∙◌}
-use Rattle.boards.proofs.Loops.{landed_none, landed_kept, landed_taken, flag_at}
+use Rattle.std.proofs.Common.{◌<◌, ◌≤◌, length, vec_len, ◌∙◌, arith}
+use Rattle.boards.proofs.Loops.{all_blocks, all_landed, all_settled, landed_none, landed_kept, landed_taken, flag_at}
 use Rattle.boards.proofs.disk.Disk.land.Goals as goal
 use Rattle.boards.proofs.disk.Disk.land.Goals.{then-index, else-index}
 
@@ -22,3 +22,18 @@ loop-at-preserved c =
       | else-index w ↦ rw
           (w.self-is, w.digits-is) (landed_kept _ _ _ _ _ c.loop-at.invariant (flag ∙ w.if-index.false))
     ]
+
+pub returns-clause-image : goal.returns-clause-image
+returns-clause-image c =
+    let all : vec_len c.args.self.now.durable ≤ c.loop-at.at = omega (arith, c.len-at-end.ensures, c.requires.whole.pending) in
+    all_landed _ _ _ _ _ c.loop-at.invariant c.requires.whole all
+
+pub returns-clause-blocks : goal.returns-clause-blocks
+returns-clause-blocks c =
+    let all : vec_len c.args.self.now.durable ≤ c.loop-at.at = omega (arith, c.len-at-end.ensures, c.requires.whole.pending) in
+    all_blocks _ _ _ _ _ c.loop-at.invariant c.requires.whole all
+
+pub returns-clause-pending : goal.returns-clause-pending
+returns-clause-pending c =
+    let all : vec_len c.args.self.now.durable ≤ c.loop-at.at = omega (arith, c.len-at-end.ensures, c.requires.whole.pending) in
+    all_settled _ _ _ _ _ c.loop-at.invariant c.requires.whole all

@@ -1,9 +1,12 @@
-use Rattle.epoch.proofs.PastLemmas.{once, followed}
-use Rattle.std.proofs.Common.{◌∙◌, ◌==◌, ◌<◌, ◌%◌, ℕ, List, ap, subst}
+use Rattle.std.proofs.Common.{◌≡◌, ◌==◌, ◌<◌, ◌%◌, ◌∙◌, ℕ, List, ap, subst, true, false}
 use Rattle.epoch.specs.Gates.{header_at}
 use Rattle.epoch.specs.Header.{IsHeaderBlock}
-use Rattle.epoch.proofs.RunLemmas.{rest_starts, over_write, over_sync, lay_crash, lay_answers, is_itself}
-use Rattle.epoch.proofs.steps.lay.Goals as goal
+use Rattle.epoch.specs.Slots.{header_slot}
+use Rattle.epoch.specs.declared.slots.Slot.TheVariants.{Good}
+use Rattle.epoch.proofs.CallLemmas.{call_more, run_once, run_stops}
+use Rattle.epoch.proofs.PastLemmas.{once, followed}
+use Rattle.epoch.proofs.RunLemmas.{rest_starts, over_write, over_sync, lay_crash, lay_answers, lay_holds, is_itself}
+use Rattle.epoch.proofs.laying.lay.Goals as goal
 
 pub returns-in_err-write-clause-run : goal.returns-in_err-write-clause-run
 returns-in_err-write-clause-run g c h open_at base low high first opened run =
@@ -45,3 +48,41 @@ returns-clause-past g c h =
     let w = c.in_ok-write.ensures.honest h in
     let s = c.sync.ensures.honest w.0 in
     followed _ _ _ (once _ _ w.1) (once _ _ s.1)
+
+pub returns-in_err-write-clause-calls : goal.returns-in_err-write-clause-calls
+returns-in_err-write-clause-calls g c = run_stops c.from_residual.result _ _ c.from_residual.ensures.0 (run_once false _ _ c.in_err-write.ensures.call)
+
+pub returns-clause-calls : goal.returns-clause-calls
+returns-clause-calls g c = call_more _ _ _ _ (run_once true _ _ c.in_ok-write.ensures.call) c.sync.ensures.call
+
+pub returns-in_err-write-clause-writes : goal.returns-in_err-write-clause-writes
+returns-in_err-write-clause-writes g c = c.in_err-write.ensures.writes
+
+pub returns-clause-writes : goal.returns-clause-writes
+returns-clause-writes g c = c.sync.ensures.writes ∙ c.in_ok-write.ensures.writes
+
+pub returns-in_err-write-clause-honest : goal.returns-in_err-write-clause-honest
+returns-in_err-write-clause-honest g c h = (c.in_err-write.ensures.honest h).0
+
+pub returns-clause-honest : goal.returns-clause-honest
+returns-clause-honest g c h = (c.sync.ensures.honest (c.in_ok-write.ensures.honest h).0).0
+
+pub returns-in_err-write-clause-elsewhere : goal.returns-in_err-write-clause-elsewhere
+returns-in_err-write-clause-elsewhere g c h k ne =
+    (c.in_err-write.ensures.honest h).2.elsewhere k (λ e. ne (e ∙ c.header_block.ensures ∙ ap header_at c.slot_for-slot.ensures.slot))
+
+pub returns-clause-elsewhere : goal.returns-clause-elsewhere
+returns-clause-elsewhere g c h k ne =
+    let w = c.in_ok-write.ensures.honest h in
+    let s = c.sync.ensures.honest w.0 in
+    ap (λ (f : ℕ → List ℕ). f k) s.2.reads ∙ w.2.elsewhere k (λ e. ne (e ∙ c.header_block.ensures ∙ ap header_at c.slot_for-slot.ensures.slot))
+
+pub returns-clause-good : goal.returns-clause-good
+returns-clause-good g c h =
+    let w = c.in_ok-write.ensures.honest h in
+    let s = c.sync.ensures.honest w.0 in
+    lay_holds (c.args.header.now.sequence % 2) c.header_block.result _ _ _ _ c.sync.result
+    (λ (block : List ℕ). header_slot (g.B.Board.view c.args.board.now).key (c.args.header.now.sequence % 2) block ≡ Good c.args.header.now)
+    (c.header_block.ensures ∙ ap header_at c.slot_for-slot.ensures.slot) w.2 s.2
+    (subst (λ (k : List ℕ). header_slot k (c.args.header.now.sequence % 2) c.block_of_header.result ≡ Good c.args.header.now) c.key.ensures
+    (subst (λ (s : ℕ). header_slot c.key.result s c.block_of_header.result ≡ Good c.args.header.now) c.slot_for-slot.ensures.slot (c.block_of_header.ensures.good c.key.result c.of-keys.ensures)))

@@ -1,0 +1,64 @@
+-- Calls of a board, one after another, as a run.
+use Rattle.std.proofs.Common.{◌≡◌, ◌≤◌, ◌<◌, ◌-◌, ◌^◌, ◌∙◌, ℕ, Bool, true, false, Result, Ok, Err, is_ok, refl, inl, inr, ⊎_elim, arith}
+use Rattle.std.specs.Prelude.{IsErr}
+use Rattle.std.proofs.lemmas.Bool.{false≢true}
+use Rattle.tee_base.specs.Faults.{Rose}
+use Rattle.board.specs.Moment.{View}
+use Rattle.board.specs.Steps.{Called, CallRun}
+
+-- a fault that rose later rose
+pub rose_later : (a b c : ℕ) → a ≤ b → Rose b c → Rose a c
+rose_later a b c le rose = ⊎_elim (λ (h : b < c). inl (omega arith)) (λ (h : c ≡ 2 ^ 64 - 1). inr h) rose
+
+-- before the first call
+pub run_none : (v : View) → CallRun true v v
+run_none v = record {
+  size = refl;
+  key = refl;
+  orders = refl;
+  ordered = refl;
+  faults = omega arith;
+  cause = λ e. absurd (let f : true ≡ false = e in cc);
+}
+
+-- a call alone
+pub run_once : (ok : Bool) (old new : View) → Called ok old new → CallRun ok old new
+run_once ok old new called = record {
+  size = called.size;
+  key = called.key;
+  orders = called.orders;
+  ordered = called.ordered;
+  faults = called.faults;
+  cause = called.cause;
+}
+
+-- a run behind another
+pub run_more : (ok : Bool) (first old new : View) → CallRun true first old → CallRun ok old new → CallRun ok first new
+run_more ok first old new run more = record {
+  size = more.size ∙ run.size;
+  key = more.key ∙ run.key;
+  orders = more.orders ∙ run.orders;
+  ordered = more.ordered ∙ run.ordered;
+  faults = omega (arith, more.faults, run.faults);
+  cause = λ e. rose_later first.state.faults old.state.faults new.state.faults run.faults (more.cause e);
+}
+
+-- a call behind a run
+pub call_more : (ok : Bool) (first old new : View) → CallRun true first old → Called ok old new → CallRun ok first new
+call_more ok first old new run called = run_more ok first old new run (run_once ok old new called)
+
+-- a run that failed is a run
+pub run_so_far : (ok : Bool) (old new : View) → CallRun ok old new → CallRun true old new
+run_so_far ok old new run = record {
+  size = run.size;
+  key = run.key;
+  orders = run.orders;
+  ordered = run.ordered;
+  faults = run.faults;
+  cause = λ e. absurd (let f : true ≡ false = e in cc);
+}
+
+-- a run that ends in an error
+pub run_stops : {A E : Type 0} (r : Result A E) (old new : View) → IsErr r → CallRun false old new → CallRun (is_ok r) old new
+run_stops (Ok x) old new fails run = absurd (false≢true fails)
+run_stops (Err e) old new fails run = run

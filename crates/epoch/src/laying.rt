@@ -1,0 +1,65 @@
+//! The second of the three steps that end a commit: the header of the spare slot is laid, behind its shut gate.
+ghost use Rattle.std.specs.Prelude.{◌≡◌, ◌≢◌, ◌≤◌, ◌<◌, ◌+◌, ◌%◌, ℕ, Bool, true, false, List, OnOk, is_ok};
+ghost use Rattle.tee_base.specs.Crash.{LeavesOnly};
+ghost use Rattle.board.specs.Moment.{View, moment, left_since};
+ghost use Rattle.board.specs.Runs.{Rests, RunsOver};
+ghost use Rattle.board.specs.Steps.{capped, CallRun};
+ghost use Rattle.epoch.specs.Gates.{gate_at, header_at, gate_open};
+ghost use Rattle.epoch.specs.Header.{IsHeaderBlock};
+ghost use Rattle.epoch.specs.Opening.{opening_of};
+ghost use Rattle.epoch.specs.Past.{KeepsPast};
+ghost use Rattle.epoch.specs.Slots.{header_slot};
+ghost use Rattle.epoch.specs.Steps.{SyncedBut, outcome_opening};
+ghost use Rattle.epoch.specs.declared.slots.Slot.TheVariants as slot_holds;
+
+use crate::gates::header_block;
+use crate::header::{Header, block_of_header};
+use board::{Board, BoardFailed};
+use seal::Keys;
+
+/// Writes a header into the slot of its sequence; then a sync. It takes no memory.
+///
+/// # Errors
+///
+/// A call of the board failed. The header's block may then read as anything.
+pub fn lay<B: Board>(board: &mut B, header: &Header) -> Result<(), BoardFailed>
+    requires { 4 ≤ (B.view board.old).size }
+    ensures calls { CallRun (is_ok result) (B.view board.old) (B.view board.new) }
+    ensures writes { (B.view board.new).writes ≡ capped ((B.view board.old).writes + 1) }
+    ensures honest { B.honest board.old → B.honest board.new }
+    ensures past { B.honest board.old → KeepsPast (B.view board.old) (B.view board.new) }
+    ensures elsewhere { B.honest board.old → (k : ℕ) → k ≢ header_at (header.now.sequence % 2)
+        → (B.view board.new).state.reads k ≡ (B.view board.old).state.reads k }
+    ensures laid { B.honest board.old → let slot = header.now.sequence % 2 in
+        OnOk result (SyncedBut (header_at slot) (B.view board.old).state (B.view board.new).state
+        × IsHeaderBlock (B.view board.old).key slot header.now
+        ((B.view board.new).state.reads (header_at slot))) }
+    ensures good { B.honest board.old → let slot = header.now.sequence % 2 in
+        OnOk result (header_slot (B.view board.old).key slot
+        ((B.view board.new).state.reads (header_at slot))
+        ≡ slot_holds.Good header.now) }
+    ensures run { B.honest board.old
+        → (open_at : ℕ → Bool) (base : ℕ → List ℕ) (low high : ℕ) (first : View)
+        → open_at (header_at (header.now.sequence % 2)) ≡ true
+        → RunsOver open_at base low high first (B.view board.old)
+        → RunsOver open_at base low high first (B.view board.new) }
+    // behind a gate that isn't open all that a crash leaves opens as before
+    ensures crash { B.honest board.old → (version n : ℕ) → Rests n (B.view board.old).state
+        → gate_open ((B.view board.old).state.reads (gate_at (header.now.sequence % 2))) ≡ false
+        → LeavesOnly moment left_since (B.view board.old) (B.view board.new)
+        (λ c. outcome_opening version (B.view board.old).key c
+        ≡ opening_of version (B.view board.old).key (B.view board.old).state.reads n) }
+{
+    let keys = Keys::of(&board.key());
+    let slot = slot_for(header.sequence);
+    board.write(header_block(slot), &block_of_header(&keys, slot, *header))?;
+    board.sync()
+}
+
+/// The slot of a sequence.
+fn slot_for(sequence: u64) -> u8
+    ensures slot { result ≡ sequence % 2 }
+    ensures below { result < 2 }
+{
+    (sequence % 2) as u8
+}
