@@ -16,6 +16,7 @@ pub mod HeadLemmas
 pub mod HeldLemmas
 pub mod LeafLemmas
 pub mod LimitLemmas
+pub mod MadeLemmas
 pub mod MapLemmas
 pub mod MoveLemmas
 pub mod NamedLemmas

@@ -101,6 +101,36 @@ or_none false y e = refl
 true_false : {A : Type 0} {b : Bool} → b ≡ true → b ≡ false → A
 true_false is isnt = absurd (let f : true ≡ false = sym is ∙ isnt in cc)
 
+-- ---- numbers
+
+not_both : (a b : ℕ) → a < b → b ≤ a → ⊥
+not_both a b less past = omega (arith, less, past)
+
+above_zero : (i : ℕ) → i ≢ 0 → 1 ≤ i
+above_zero i later = omega (arith, later)
+
+not_zero : (i : ℕ) → 1 ≤ i → i ≢ 0
+not_zero i low is = omega (arith, low, is)
+
+not_one_and_two : (k : ℕ) → k ≡ 1 → k ≡ 2 → ⊥
+not_one_and_two k one two = omega (arith, one, two)
+
+below_too : (x kept had : ℕ) → x < kept → kept ≤ had → x < had
+below_too x kept had less most = omega (arith, less, most)
+
+not_before : (kept free index : ℕ) → index ≡ kept + free → index < kept → ⊥
+not_before kept free index is less = omega (arith, is, less)
+
+-- an index behind the kept ones is that of a free leaf
+place_left : (x kept blocks free all : ℕ) → kept ≤ x → free ≡ all → blocks ≤ kept + free → x < blocks → x - kept < all
+place_left x kept blocks free all past is enough inside = omega (arith, past, is, enough, inside)
+
+place_of : (x kept free rank : ℕ) → kept ≤ x → free ≡ rank → rank ≡ x - kept → kept + free ≡ x
+place_of x kept free rank past is left = omega (arith, past, is, left)
+
+same_place : (x kept one two a b : ℕ) → a ≡ kept + one → b ≡ kept + two → a ≡ x → b ≡ x → one ≡ two
+same_place x kept one two a b is too first second = omega (arith, is, too, first, second)
+
 module _ (leaves after : ℕ → List ℕ) (n had kept blocks : ℕ) (base : ℕ → Entry) (sound : Sound version_one leaves) (is_base : IsBase leaves n had) (is_with : IsWith leaves n base)
     (kept_had : kept ≤ had) (kept_blocks : kept ≤ blocks) (kept_all : (x : ℕ) → x < had → x < blocks → x < kept) (enough : blocks ≤ kept + free_before base 256)
     (mapped : (i : ℕ) → i < 256 → entry_at version_one after i ≡ placed base n kept blocks i)
@@ -172,7 +202,7 @@ module _ (leaves after : ℕ → List ℕ) (n had kept blocks : ℕ) (base : ℕ
           let data' : is_data_of version_one after n i ≡ true = ap (is_of n) now ∙ eq-eqb n n refl in
           let not_then : is_data_of version_one leaves n i ≡ false = sym is_then ∙ free_not_data (base i) n (free_of i t.was_free).1 in
           let index : (F i).index ≡ kept + free_before base i = ap (λ (e : Entry). e.index) now in
-          let inside : (F i).index < blocks = omega (arith, index, t.inside) in
+          let inside : (F i).index < blocks = subst (λ (k : ℕ). k < blocks) (sym index) t.inside in
           record {
             taken = λ d e. (t.was_free, index, inside);
             freed = λ d e. true_false d not_then;
@@ -191,7 +221,7 @@ module _ (leaves after : ℕ → List ℕ) (n had kept blocks : ℕ) (base : ℕ
             freed = λ d e. now;
             stays = λ d e. true_false e not_now;
             other = λ d e. true_false was d;
-            held = λ d e. absurd (omega (arith, e, past));
+            held = λ d e. absurd (not_both (E i).index blocks e past);
             used = λ d e. true_false f.own (free_not_data (base i) n (free_of i d).1);
           }
       each (inr (inr k)) =
@@ -203,7 +233,7 @@ module _ (leaves after : ℕ → List ℕ) (n had kept blocks : ℕ) (base : ℕ
             stays = λ d e. (now, subst (λ (x : Entry). x.index < blocks) same (k.inside (is_then ∙ d)));
             other = λ d e. now;
             held = λ d e. alike ∙ d;
-            used = λ d e. absurd (let past = k.untaken d in omega (arith, past, e));
+            used = λ d e. absurd (not_both (kept + free_before base i) blocks e (k.untaken d));
           }
 
   not_map : (i : ℕ) → is_used version_one leaves i ≡ true → i ≢ 0
@@ -258,7 +288,7 @@ module _ (leaves after : ℕ → List ℕ) (n had kept blocks : ℕ) (base : ℕ
   formed_later : (i : ℕ) → i ≢ 0 → form_of i (F i) (is_inode version_one after (F i).inode) ≡ true → is_well_formed version_one after i ≡ true
   unfolding is_well_formed
   formed_later i later form = ap (λ b. if b then entry_number version_one after i == 0 else form_of i (F i) (is_inode version_one after (F i).inode))
-      (le-ltb i 1 (let e : 1 ≤ i = omega (arith, later) in e)) ∙ form
+      (le-ltb i 1 (above_zero i later)) ∙ form
 
   formed_is : (i : ℕ) → i < 256 → is_own n after i ≡ true → is_well_formed version_one after i ≡ true
   formed_is i below now = each (is_inode_or_not i (i == n) refl)
@@ -273,7 +303,7 @@ module _ (leaves after : ℕ → List ℕ) (n had kept blocks : ℕ) (base : ℕ
       each : (i ≡ n) ⊎ (i ≢ n) → is_well_formed version_one after i ≡ true
       each (inl same) =
           subst (λ (k : ℕ). is_well_formed version_one after k ≡ true) (sym same)
-          (formed_later n (λ e. (let low = is_base.low in absurd (omega (arith, low, e)))) (ap (λ (e : Entry). form_of n e (is_inode version_one after e.inode)) inode_now
+          (formed_later n (not_zero n is_base.low) (ap (λ (e : Entry). form_of n e (is_inode version_one after e.inode)) inode_now
           ∙ ap (λ b. b && true) (eq-eqb n n refl)))
       each (inr other) =
           let data' : is_data_of version_one after n i ≡ true = sym (own_now i other) ∙ now in
@@ -294,7 +324,7 @@ module _ (leaves after : ℕ → List ℕ) (n had kept blocks : ℕ) (base : ℕ
       here = sym (ap (λ (i : ℕ). is_of n (E i)) same) ∙ data'
 
       state : (is_inode version_one leaves n ≡ true) ⊎ (is_used version_one leaves n ≡ false) → ⊥
-      state (inl is) = (let one : (E n).kind ≡ 1 = eqb-true (E n).kind 1 is in let two = (data_entry (E n) n here).0 in omega (arith, one, two))
+      state (inl is) = not_one_and_two (E n).kind (eqb-true (E n).kind 1 is) (data_entry (E n) n here).0
       state (inr is) = true_false (data_used (E n) n here) is
 
   index_is : (e : Entry) (x : ℕ) → (is_of n e && (e.index == x)) ≡ true → (is_of n e ≡ true) × (e.index ≡ x)
@@ -317,7 +347,7 @@ module _ (leaves after : ℕ → List ℕ) (n had kept blocks : ℕ) (base : ℕ
       elim (nat_lt x kept) as (λ b. nat_lt x kept ≡ b → (k : ℕ) × (k < 256) × (is_data_at version_one after n x k ≡ true)) [
         | true ↦ λ e.
             let less = ltb-true x kept e in
-            let met = is_base.present x (omega (arith, less, kept_had)) in
+            let met = is_base.present x (below_too x kept had less kept_had) in
             let parts = index_is (E met.0) x met.2 in
             let became' = became met.0 met.1 (not_inode_then met.0 parts.0) in
             let held = became'.held parts.0 (subst (λ (y : ℕ). y < blocks) (sym parts.1) inside) in
@@ -325,11 +355,10 @@ module _ (leaves after : ℕ → List ℕ) (n had kept blocks : ℕ) (base : ℕ
             (met.0, met.1, ap (λ (y : Entry). is_of n y && (y.index == x)) kept'.0 ∙ met.2)
         | false ↦ λ e.
             let past = ltb-false x kept e in
-            let room = rank_is 256 in
-            let met = ranked (λ j. is_free base j) 256 (x - kept) (omega (arith, past, room, enough, inside)) in
-            let rank : kept + free_before base met.0 ≡ x = (let here = rank_is met.0 in omega (arith, here, met.3, past)) in
+            let met = ranked (λ j. is_free base j) 256 (x - kept) (place_left x kept blocks (free_before base 256) _ past (rank_is 256) enough inside) in
+            let rank : kept + free_before base met.0 ≡ x = place_of x kept (free_before base met.0) _ past (rank_is met.0) met.3 in
             let other : met.0 ≢ n = λ same. true_false (free_of met.0 met.2).1 (ap (λ (k : ℕ). (base k).kind == FREE) same ∙ ap (λ (y : Entry). y.kind == FREE) is_with.inode) in
-            let now = (became met.0 met.1 other).used met.2 (omega (arith, rank, inside)) in
+            let now = (became met.0 met.1 other).used met.2 (subst (λ (y : ℕ). y < blocks) (sym rank) inside) in
             (met.0, met.1, ap (λ (y : Entry). is_of n y && (y.index == x)) now ∙ and_from (n == n) ((kept + free_before base met.0) == x) (eq-eqb n n refl) (eq-eqb _ x rank))
       ] refl
 
@@ -347,7 +376,7 @@ module _ (leaves after : ℕ → List ℕ) (n had kept blocks : ℕ) (base : ℕ
               let at : (E k).index ≡ x = sym (ap (λ (y : Entry). y.index) was.0) ∙ one.1 in
               let there' : (E j).index ≡ x = sym (ap (λ (y : Entry). y.index) too.0) ∙ two.1 in
               let early = is_base.before k low e in
-              is_base.single x k j (omega (arith, at, early)) low high (and_from _ _ e (eq-eqb _ x at)) (and_from _ _ f (eq-eqb _ x there'))
+              is_base.single x k j (subst (λ (y : ℕ). y < had) at early) low high (and_from _ _ e (eq-eqb _ x at)) (and_from _ _ f (eq-eqb _ x there'))
           | false ↦ λ f. absurd (apart k j low first second one two e f)
         ] refl
         | false ↦ λ e. elim (is_data_of version_one leaves n j) as (λ b. is_data_of version_one leaves n j ≡ b → k ≡ j) [
@@ -355,7 +384,7 @@ module _ (leaves after : ℕ → List ℕ) (n had kept blocks : ℕ) (base : ℕ
           | false ↦ λ f.
               let was = first.taken one.0 e in
               let too = second.taken two.0 f in
-              let same : free_before base k ≡ free_before base j = omega (arith, was.1, too.1, one.1, two.1) in
+              let same : free_before base k ≡ free_before base j = same_place x kept _ _ (F k).index (F j).index was.1 too.1 one.1 two.1 in
               rank_only (λ i. is_free base i) k j was.0 too.0 (sym (rank_is k) ∙ same ∙ rank_is j)
         ] refl
       ] refl
@@ -367,8 +396,8 @@ module _ (leaves after : ℕ → List ℕ) (n had kept blocks : ℕ) (base : ℕ
           let too = second.taken two.0 f in
           let at : (E a).index ≡ x = sym (ap (λ (y : Entry). y.index) was.0) ∙ one.1 in
           let early = is_base.before a below e in
-          let less = kept_all x (omega (arith, at, early)) inside in
-          omega (arith, less, too.1, two.1)
+          let less = kept_all x (subst (λ (y : ℕ). y < had) at early) inside in
+          not_before kept (free_before base b) (F b).index too.1 (subst (λ (y : ℕ). y < kept) (sym two.1) less)
 
   pub placed_each : HasEach after n blocks
   placed_each = record { present = present_is; single = single_is; before = before_is }
@@ -379,7 +408,7 @@ module _ (leaves after : ℕ → List ℕ) (n had kept blocks : ℕ) (base : ℕ
       let became' = became k below (not_inode k data') in
       elim (is_data_of version_one leaves n k) as (λ b. is_data_of version_one leaves n k ≡ b → (is_data_of version_one leaves n k ≡ true) × (F k ≡ E k)) [
         | true ↦ λ e. (e, (became'.stays e data').0)
-        | false ↦ λ e. absurd (let taken' = became'.taken data' e in omega (arith, taken'.1, early))
+        | false ↦ λ e. absurd (not_before kept (free_before base k) (F k).index (became'.taken data' e).1 early)
       ] refl
 
   -- the map is no data
