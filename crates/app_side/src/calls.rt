@@ -1,9 +1,9 @@
 //! Clients' calls.
 
-ghost use Rattle.std.specs.Prelude.{◌≡◌, ◌<◌, ◌^◌, IfOk, OnErr, Ok, true, false, not, ◌&&◌};
+ghost use Rattle.std.specs.Prelude.{◌≡◌, ◌<◌, ◌^◌, ◌++◌, [], ◌∷◌, IfOk, OnOk, OnErr, Ok, true, false, not, ◌&&◌};
 ghost use Rattle.instances.specs.Instances.{admission_of};
 ghost use Rattle.op_queue.specs.Queue.{is_full, is_close_call};
-ghost use Rattle.alone.specs.Step.{answered_at_once, called, called_open, called_invoke, closed_in, known, opened_as, queued};
+ghost use Rattle.alone.specs.Step.{answered_at_once, called, called_open, called_invoke, closed_in, known, new_instance, opened_as, queued};
 ghost use Rattle.app_side.specs.Represents.{machine_of, IsCalled};
 
 use crate::side::{AppSide, Called};
@@ -11,7 +11,29 @@ use alone::{Call, Instance, Outputs, Replies, Reply};
 use app_api::{Application, Params};
 use instances::{Admission, SessionState};
 use op_queue::QueueAnswer;
+use std::alloc::Global;
 use tee_base::{Code, NoMemory, Origin};
+
+/// An instance of this number behind the others, which has run no entry. Want of memory leaves them.
+fn add_instance<A: Application>(
+    alloc: Global,
+    template: &A,
+    instances: &mut Vec<Instance<A>>,
+    number: u8,
+) -> Result<(), NoMemory>
+    ensures ok { OnOk result (instances.new.items
+        ≡ instances.old.items ++ new_instance template.now number ∷ []) }
+    ensures err { OnErr result (instances.new.items ≡ instances.old.items) }
+{
+    let state = template.fresh(alloc)?;
+    instances.push(Instance {
+        number,
+        state,
+        created: false,
+        running: None,
+    })?;
+    Ok(())
+}
 
 impl<A: Application> AppSide<A> {
     /// A call that is answered at once.
@@ -99,13 +121,11 @@ impl<A: Application> AppSide<A> {
             (opened_as (machine_of self.old) client label params (Ok admission))) }
         ensures err { OnErr result (machine_of self.new ≡ machine_of self.old) }
     {
-        let state = self.template.fresh(self.alloc)?;
-        self.instances.push(Instance {
-            number: admission.instance,
-            state,
-            created: false,
-            running: None,
-        })?;
+        let number = admission.instance;
+        if let Err(want) = add_instance(self.alloc, &self.template, &mut self.instances, number) {
+            drop(params);
+            return Err(want);
+        }
         let call = Call::Open { label, params };
         match self.wait_for(client, admission.instance, admission.session, call) {
             Ok(waiting) => {
@@ -115,6 +135,28 @@ impl<A: Application> AppSide<A> {
             Err(answer) => {
                 drop(self.instances.pop());
                 Err(answer)
+            }
+        }
+    }
+
+    /// An open that is refused for want of a session or an instance, or that is admitted.
+    fn enter(&mut self, client: u8, label: u32, params: Params) -> Result<Called, NoMemory>
+        requires room { self.old.queue.next < 2 ^ 63 }
+        requires accepted { is_full self.old.queue ≡ false }
+        ensures ok { IfOk result (λ waiting.
+            IsCalled self.new waiting self.old.queue.next
+            (opened_as (machine_of self.old) client label params
+            (admission_of self.old.sessions client label))) }
+        ensures err { OnErr result (machine_of self.new ≡ machine_of self.old) }
+    {
+        match self.sessions.admit(client, label) {
+            Ok(admission) if admission.new_instance => self.enter_new(
+                client, label, params, admission,
+            ),
+            Ok(admission) => self.enter_shared(client, label, params, admission),
+            Err(refusal) => {
+                drop(params);
+                Ok(self.refuse(refusal.code, refusal.origin))
             }
         }
     }
@@ -138,16 +180,7 @@ impl<A: Application> AppSide<A> {
             drop(params);
             return Ok(self.refuse(Code::BUSY, Origin::Tee));
         }
-        match self.sessions.admit(client, label) {
-            Ok(admission) if admission.new_instance => self.enter_new(
-                client, label, params, admission,
-            ),
-            Ok(admission) => self.enter_shared(client, label, params, admission),
-            Err(refusal) => {
-                drop(params);
-                Ok(self.refuse(refusal.code, refusal.origin))
-            }
-        }
+        self.enter(client, label, params)
     }
 
     fn invoke(

@@ -1,7 +1,8 @@
-use Rattle.std.proofs.Common.{rules}
 use Rattle.std.proofs.Common.{cond, sym, subst}
 use Rattle.instances.specs.declared.session.SessionState.TheVariants.{Open}
-use Rattle.instances.specs.Instances.{session_removed, state_set}
+use Rattle.instances.specs.Instances.{Table, session_removed, state_set}
+use Rattle.tee_base.specs.declared.codes.TheConstants.Code.{SUCCESS}
+use Rattle.alone.specs.Replies.{no_outputs}
 use Rattle.alone.specs.declared.reply.Outputs.{Outputs}
 use Rattle.alone.specs.declared.active_entry.EntryPoint.{EntryPoint}
 use Rattle.alone.specs.Machine.{Machine}
@@ -20,4 +21,9 @@ returns-in-Start g c inst found numbered =
     c.deliver-outputs.ensures (c.end_start.ensures inst found))
 
 pub returns-in-Stop : goal.returns-in-Stop
-returns-in-Stop g c = search rules
+returns-in-Stop g c inst found numbered =
+    let m : Machine g.row.A.Denot = machine_of c.args.self.now in
+    subst (λ (stage : EntryPoint). IsTurned c.after_session.new.self c.after_session.new.replies (returned m inst c.args.op stage c.args.ending.code c.args.ending.outs)) (sym c.in-Stop.is)
+    (subst (λ (t : Table). IsTurned c.after_session.new.self c.after_session.new.replies (after_session (record m { table = t }) inst c.args.op SUCCESS no_outputs)) c.remove.ensures
+    (subst (λ (o : Outputs). IsTurned c.after_session.new.self c.after_session.new.replies (after_session (record m { table = c.remove.new.self }) inst c.args.op SUCCESS o))
+    c.nothing-outputs.ensures (c.after_session.ensures inst found)))
