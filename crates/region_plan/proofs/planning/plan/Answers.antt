@@ -11,10 +11,12 @@ pub returns-in-Put : goal.returns-in-Put
 returns-in-Put g c =
     let K = g.L.LeafSource.keeper in
     let R = g.L.LeafSource.region in
-    let same : Put c.as_slice.result.now c.in-Put.kind c.in-Put.usage c.as_slice-in-Put.result.now c.as_slice-in-Put-2.result.now c.in-Put.overwrite ≡ c.args.change.now = (λ i. Put (c.as_slice.ensures i) c.in-Put.kind c.in-Put.usage (c.as_slice-in-Put.ensures i)
+    let same : Put c.as_slice.result.now c.in-Put.kind c.in-Put.usage c.as_slice-in-Put.result.now c.as_slice-in-Put-2.result.now c.in-Put.overwrite ≡ c.args.change.now = (λ i. Put
+    (c.as_slice.ensures i) c.in-Put.kind c.in-Put.usage (c.as_slice-in-Put.ensures i)
     (c.as_slice-in-Put-2.ensures i) c.in-Put.overwrite) ∙ sym c.in-Put.is in
     subst (λ (change : Change). PlansChange K R version_one change c.plan_put.result c.args.from.now c.plan_put.new.from) same
-    (read_plan K R (Put c.as_slice.result.now c.in-Put.kind c.in-Put.usage c.as_slice-in-Put.result.now c.as_slice-in-Put-2.result.now c.in-Put.overwrite) c.plan_put.result c.args.from.now c.load.new.from c.plan_put.new.from c.load.new.map c.as_slice-inodes.result.now c.in_ok-inodes.ensures.reads
+    (read_plan K R (Put c.as_slice.result.now c.in-Put.kind c.in-Put.usage c.as_slice-in-Put.result.now c.as_slice-in-Put-2.result.now c.in-Put.overwrite) c.plan_put.result
+    c.args.from.now c.load.new.from c.plan_put.new.from c.load.new.map c.as_slice-inodes.result.now c.in_ok-inodes.ensures.reads
     c.in_ok-inodes.ensures.map (λ h. c.as_slice-inodes.ensures.value ∙ c.in_ok-inodes.ensures.inodes h)
     c.plan_put.ensures.plans c.plan_put.ensures.garbled c.plan_put.ensures.reads)
 
@@ -46,7 +48,8 @@ returns-in-Write g c =
     let same : Write c.as_slice-in-Write.result.now c.in-Write.at c.as_slice-in-Write-2.result.now ≡ c.args.change.now = (λ i. Write (c.as_slice-in-Write.ensures i) c.in-Write.at
     (c.as_slice-in-Write-2.ensures i)) ∙ sym c.in-Write.is in
     subst (λ (change : Change). PlansChange K R version_one change c.plan_write.result c.args.from.now c.plan_write.new.from) same
-    (read_plan K R (Write c.as_slice-in-Write.result.now c.in-Write.at c.as_slice-in-Write-2.result.now) c.plan_write.result c.args.from.now c.load.new.from c.plan_write.new.from c.load.new.map c.as_slice-inodes.result.now c.in_ok-inodes.ensures.reads
+    (read_plan K R (Write c.as_slice-in-Write.result.now c.in-Write.at c.as_slice-in-Write-2.result.now) c.plan_write.result c.args.from.now c.load.new.from c.plan_write.new.from
+    c.load.new.map c.as_slice-inodes.result.now c.in_ok-inodes.ensures.reads
     c.in_ok-inodes.ensures.map (λ h. c.as_slice-inodes.ensures.value ∙ c.in_ok-inodes.ensures.inodes h)
     c.plan_write.ensures.plans c.plan_write.ensures.garbled c.plan_write.ensures.reads)
 
