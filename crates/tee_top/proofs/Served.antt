@@ -1,21 +1,16 @@
 -- How a run ends, by how its lines ended and by why its board wasn't opened.
-use Rattle.std.proofs.Common.{◌≡◌, ◌⊎◌, Result, Ok, Err, OnErr, OnOk, inl, inr, refl, sym, subst, ◌∙◌, ap}
+use Rattle.std.proofs.Common.{◌≡◌, Result, Ok, Err, OnErr, OnOk, inl, inr, sym, subst, ◌∙◌, ap}
 use Rattle.epoch.specs.declared.answer.OpenAnswer.{OpenAnswer}
 use Rattle.epoch.specs.declared.answer.OpenAnswer.TheVariants as answers
 use Rattle.board.specs.Moment.{View}
 use Rattle.epoch.specs.Forms.{Form}
 use Rattle.epoch.specs.Mounts.{IsKeptFromOpening, IsRefusedNow}
-use Rattle.tee_top.specs.Runs.{IsStopped, IsUnopened, refusal_of, stopped_as}
+use Rattle.tee_top.specs.Runs.{IsStopped, IsUnopened, ended_as, refusal_of}
 use Rattle.tee_top.specs.Stops.{IfRefused, UnlessRefused}
 use Rattle.tee_top.specs.declared.lines.Stop.{Stop}
 use Rattle.tee_top.specs.declared.lines.Stop.TheVariants as stops
 use Rattle.tee_top.specs.declared.status.Status.{Status}
 use Rattle.tee_top.specs.declared.status.Status.TheVariants.{Done, BadWords, BadLine, TooLong, StoreRefused, NoMemory, ReadFault, WriteFault, BoardFault}
-
--- how a run ends whose lines ended so
-abbrev pub ended : {X : Type 0} → Result X Stop → Status
-ended (Ok x) = Done
-ended (Err stop) = stopped_as stop
 
 -- ---- kinds of status
 
@@ -99,28 +94,28 @@ never_opened answers.NoMemory = tt
 
 module _ {X : Type 0} where
   -- all lines were run
-  pub ended_done : (r : Result X Stop) (P : Type 0) → ended r ≡ Done → OnOk r P → P
+  pub ended_done : (r : Result X Stop) (P : Type 0) → ended_as r ≡ Done → OnOk r P → P
   ended_done (Ok x) P e p = p
   ended_done (Err stops.NoMemory) P e p = absurd (subst IsDone (sym e) tt)
   ended_done (Err stops.WriteFault) P e p = absurd (subst IsDone (sym e) tt)
   ended_done (Err (stops.Refused why)) P e p = absurd (never_done why (subst IsDone (sym e) tt))
 
   -- they stopped for want of memory or at a failed write
-  pub ended_stopped : (r : Result X Stop) (P : Type 0) (status : Status) → status ≡ ended r → IsStopped status → UnlessRefused r P → IfRefused r (λ why. why ≡ answers.Failed) → P
+  pub ended_stopped : (r : Result X Stop) (P : Type 0) (status : Status) → status ≡ ended_as r → IsStopped status → UnlessRefused r P → IfRefused r (λ why. why ≡ answers.Failed) → P
   ended_stopped (Ok x) P status e is p failed = absurd (subst IsStopped e is)
   ended_stopped (Err stops.NoMemory) P status e is p failed = p
   ended_stopped (Err stops.WriteFault) P status e is p failed = p
   ended_stopped (Err (stops.Refused why)) P status e is p failed = absurd (subst IsStopped (e ∙ ap refusal_of failed) is)
 
   -- the board failed
-  pub ended_fault : (r : Result X Stop) (P : OpenAnswer → Type 0) → ended r ≡ BoardFault → IfRefused r P → (why : OpenAnswer) × P why
+  pub ended_fault : (r : Result X Stop) (P : OpenAnswer → Type 0) → ended_as r ≡ BoardFault → IfRefused r P → (why : OpenAnswer) × P why
   ended_fault (Ok x) P e p = absurd (subst IsBoardFault (sym e) tt)
   ended_fault (Err stops.NoMemory) P e p = absurd (subst IsBoardFault (sym e) tt)
   ended_fault (Err stops.WriteFault) P e p = absurd (subst IsBoardFault (sym e) tt)
   ended_fault (Err (stops.Refused why)) P e p = (why, p)
 
   -- the board wasn't opened again
-  pub ended_refused : (r : Result X Stop) (P : OpenAnswer → Type 0) (told : OpenAnswer) → ended r ≡ StoreRefused told → IfRefused r P →
+  pub ended_refused : (r : Result X Stop) (P : OpenAnswer → Type 0) (told : OpenAnswer) → ended_as r ≡ StoreRefused told → IfRefused r P →
       (why : OpenAnswer) × P why × (refusal_of why ≡ StoreRefused told)
   ended_refused (Ok x) P told e p = absurd (subst IsRefused (sym e) tt)
   ended_refused (Err stops.NoMemory) P told e p = absurd (subst IsRefused (sym e) tt)

@@ -2,7 +2,6 @@
 use Rattle.app_api.specs.Behaviours.{Behaviour}
 use Rattle.std.proofs.Common.{ℕ, suc, ◌≡◌, ◌<◌, ◌≤◌, ◌+◌, ◌-◌, ◌^◌, inl, inr, true, List, [], ◌∷◌, ◌++◌, Option, None, Some, drop, get_or, length, refl, sym, subst, ◌∙◌, ap, append-nil, arith}
 use Rattle.std.specs.Prelude.{slice_get, slice_index_or}
-use Rattle.std.proofs.lemmas.List.{get_or_read}
 use Rattle.std.specs.Io.KnownBytes.{Appends}
 use Rattle.tee_base.specs.Transfer.{AppendsFront}
 use Rattle.board.specs.Moment.{View}
@@ -44,13 +43,13 @@ pub record IsKnownEvent (names : List (List ℕ)) (count : ℕ) (turns : ℕ →
   pub room : turns i < 2 ^ 63
 
 pub event_known : (names : List (List ℕ)) (count : ℕ) (turns : ℕ → ℕ) (name : List ℕ) (i app : ℕ) → i ≡ app → length names ≡ count → app < count
-    → (read : List ℕ) → read ≡ get_or names app read → name ≡ read → turns app + 1 ≤ 2 ^ 63 → IsKnownEvent names count turns name i
-event_known names count turns name i app own many known read here is fits =
+    → name ≡ get_or names app [] → turns app + 1 ≤ 2 ^ 63 → IsKnownEvent names count turns name i
+event_known names count turns name i app own many known is fits =
     let within : app < length names = omega (arith, many, known) in
     record {
       there = subst (λ k. k < count) (sym own) known;
       within = subst (λ k. k < length names) (sym own) within;
-      named = is ∙ get_or_read names app read within here [] ∙ ap (λ k. get_or names k []) (sym own);
+      named = is ∙ ap (λ k. get_or names k []) (sym own);
       room = subst (λ k. turns k < 2 ^ 63) (sym own) (omega (arith, fits));
     }
 

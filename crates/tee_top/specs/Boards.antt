@@ -15,7 +15,7 @@ use Rattle.tee_base.specs.declared.limits.TheConstants.{BOARD_BLOCKS}
 use Rattle.tee_core.specs.Opening.{IsSoundFor}
 use Rattle.tee_core.specs.Powers.{after_power}
 use Rattle.tee_core.specs.Represents.{HasStoresOf}
-use Rattle.tee_core.specs.World.{World, AppEvent, world_step}
+use Rattle.tee_core.specs.World.{World, world_step}
 use Rattle.tee_top.specs.BoardLines.{lost_lines, whole_text}
 use Rattle.tee_top.specs.Transcript.{WorldEvent, Happens, Fused, Powered}
 

@@ -1,7 +1,7 @@
 -- Parts of a run of a script: which events were made, how turns and losses of power went in them, what was written of them, and how
 -- the board went along.
 use Rattle.app_api.specs.Behaviours.{Behaviour}
-use Rattle.std.specs.Prelude.{ℕ, ◌≡◌, ◌+◌, Bool, List, [], ◌∷◌, ◌++◌, Option, None, Some, length, slice_get}
+use Rattle.std.specs.Prelude.{ℕ, ◌≡◌, ◌+◌, List, [], ◌∷◌, ◌++◌, Option, None, Some, slice_get}
 use Rattle.std.specs.Io.KnownBytes.{Appends}
 use Rattle.alone.specs.declared.power.Power.{Power}
 use Rattle.alone.specs.declared.power.Power.TheVariants.{Clean, Kept, Absent}

@@ -1,6 +1,6 @@
 -- What a run of the program is given, and what it writes.
 use Rattle.app_api.specs.Behaviours.{Behaviour}
-use Rattle.std.specs.Prelude.{ℕ, ◌≡◌, ◌≤◌, ◌<◌, ◌++◌, ◌⊎◌, List, [], ◌∷◌, Option, Some, IfSome, codes, length, map, String, string_bytes}
+use Rattle.std.specs.Prelude.{ℕ, ◌≡◌, ◌≤◌, ◌<◌, ◌++◌, ◌⊎◌, List, [], ◌∷◌, Option, Some, Result, Ok, Err, IfSome, codes, length, map, String, string_bytes}
 use Rattle.std.specs.Global.{Global}
 use Rattle.std.specs.Io.KnownBytes.{Appends}
 use Rattle.tee_base.specs.Faults.{Rose}
@@ -107,6 +107,11 @@ abbrev pub stopped_as : Stop → Status
 stopped_as stops.NoMemory = NoMemory
 stopped_as stops.WriteFault = WriteFault
 stopped_as (stops.Refused why) = refusal_of why
+
+-- how a run ends whose lines ended so
+abbrev pub ended_as : {X : Type 0} → Result X Stop → Status
+ended_as (Ok x) = Done
+ended_as (Err stop) = stopped_as stop
 
 -- the text is a script of these lines
 abbrev pub IsText : {A : Type 0} → List (Host A) → List ℕ → List Line → Type 0

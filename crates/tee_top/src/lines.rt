@@ -1,7 +1,7 @@
 //! Lines, one after the other: what happens in a line is written before the next line is run, and what happens in each event of
 //! a line before the next event is made.
 
-ghost use Rattle.std.specs.Prelude.{◌≡◌, ◌≤◌, ◌<◌, ◌+◌, ◌^◌, ◌↔◌, ℕ, IfOk, IsErrOf, IsTrue, Some, [], ◌∷◌, OnErr, OnOk, length, slice_get};
+ghost use Rattle.std.specs.Prelude.{◌≡◌, ◌≤◌, ◌<◌, ◌+◌, ◌^◌, ◌↔◌, ℕ, IfOk, IsErrOf, IsTrue, Some, [], ◌∷◌, OnErr, OnOk, length, slice_get, slice_index_or};
 ghost use Rattle.std.specs.Io.KnownBytes.{Appends};
 ghost use Rattle.std.specs.List.{AllByRecursion};
 ghost use Rattle.tee_base.specs.Faults.{Rose};
@@ -33,7 +33,7 @@ use tee_base::{Bytes, NoMemory, Sink, WriteFault, limits, write_all};
 use tee_core::{Event, Happened, TeeOver};
 
 /// Why the lines were not all run.
-#[derive(Clone, Copy, Debug, PartialEq, Eq)]
+#[derive(Clone, Copy)]
 pub enum Stop {
     NoMemory,
     WriteFault,
@@ -155,6 +155,14 @@ fn write_power<W: Sink>(
     write_bytes(sink, line.as_slice())
 }
 
+/// The name of the application of this index.
+fn name_of(names: &[Bytes], app: u8) -> &[u8]
+    requires { app < length names.now }
+    ensures { result.now ≡ slice_index_or names.now app [] }
+{
+    names[app as usize].as_slice()
+}
+
 /// One event of the application of this index, which is written.
 ///
 /// # Errors
@@ -208,7 +216,7 @@ fn run_event<B: Board, V: BoardVolume<B>, A: Application, W: Sink>(
         return Err(Stop::NoMemory);
     }
     let happened = tee.event(event)?;
-    let written = write_happened(alloc, names[app as usize].as_slice(), &happened, sink);
+    let written = write_happened(alloc, name_of(names, app), &happened, sink);
     let made = (happened.op, happened.instance);
     drop(happened);
     written?;

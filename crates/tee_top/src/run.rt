@@ -16,7 +16,7 @@ ghost use Rattle.tee_core.specs.InUse.{form_in_use};
 ghost use Rattle.tee_core.specs.World.{world_of};
 ghost use Rattle.tee_top.specs.Boards.{BeginsWith, HasFirstOrders, HasOpened, HasOrders, HasPower, LeavesStores, WritesLosses, orders_of};
 ghost use Rattle.epoch.specs.declared.answer.OpenAnswer.{OpenAnswer as OpenRefusal};
-ghost use Rattle.tee_top.specs.Runs.{AreRunWords, IsKnown, IsServed, IsStopped, IsUnopened, IsUnrun, IsReadStatus, ReadsTo, IsBadAt, IsOfScript, IsReadable, IsText, IsBadText, IsTooMuch, IsWithin, refusal_of, stopped_as, RunsFront, RunsToPower, RunsWhole};
+ghost use Rattle.tee_top.specs.Runs.{AreRunWords, IsKnown, IsServed, IsStopped, IsUnopened, IsUnrun, IsReadStatus, ReadsTo, IsBadAt, IsOfScript, IsReadable, IsText, IsBadText, IsTooMuch, IsWithin, ended_as, refusal_of, stopped_as, RunsFront, RunsToPower, RunsWhole};
 
 use crate::lines::{Stop, run_lines};
 use crate::status::Status;
@@ -110,6 +110,16 @@ fn stop_status(stop: Stop) -> Status
     }
 }
 
+/// How a run ends whose lines ended so.
+fn run_status(run: Result<(), Stop>) -> Status
+    ensures { result ≡ ended_as run }
+{
+    match run {
+        Ok(()) => Status::Done,
+        Err(stop) => stop_status(stop),
+    }
+}
+
 /// Runs the lines for these hosts over the objects of a board, and hands it back.
 fn serve<B: Board, V: BoardVolume<B>, W: Sink, A: Application>(
     alloc: Global,
@@ -165,10 +175,7 @@ fn serve<B: Board, V: BoardVolume<B>, W: Sink, A: Application>(
         Ok(tee) => tee,
         Err(Unopened { board, why }) => return (refusal_status(why), board),
     };
-    let status = match run_lines(alloc, names.as_slice(), &mut tee, lines, sink) {
-        Ok(()) => Status::Done,
-        Err(stop) => stop_status(stop),
-    };
+    let status = run_status(run_lines(alloc, names.as_slice(), &mut tee, lines, sink));
     (status, tee.into_board())
 }
 

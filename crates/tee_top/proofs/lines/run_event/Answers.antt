@@ -1,6 +1,5 @@
-use Rattle.std.proofs.Common.{◌≡◌, ◌<◌, ◌≤◌, ◌+◌, ◌^◌, ◌∙◌, [], get_or, length, ap, sym, subst, Some, arith}
+use Rattle.std.proofs.Common.{◌≡◌, ◌<◌, [], length, sym, subst, Some, arith}
 use Rattle.std.specs.Prelude.{slice_get}
-use Rattle.std.proofs.lemmas.List.{get_or_read}
 use Rattle.std.specs.Io.KnownBytes.{Appends}
 use Rattle.tee_base.specs.Transfer.{AppendsFront}
 use Rattle.tee_core.specs.Represents.{app_count, app_of, turns_made, volume_of}
@@ -52,8 +51,8 @@ returns-in_err-written-clause-stopped g c =
     let then = c.event.new.self in
     let e = c.args.event in
     let h = c.in_ok-happened.happened in
-    let known = event_known names (app_count tee) (λ i. turns_made tee i) c.as_slice.result.now (app_of e) c.args.app c.requires.own c.requires.names c.requires.known
-    c.index-names-app.result c.index-names-app.is c.as_slice.ensures (c.has_room.ensures.0 c.if-not-has_room.false) in
+    let known = event_known names (app_count tee) (λ i. turns_made tee i) c.name_of.result.now (app_of e) c.args.app c.requires.own c.requires.names c.requires.known
+    c.name_of.ensures (c.has_room.ensures.0 c.if-not-has_room.false) in
     on_err_known c.from_residual-in_err-written.result _
     (λ w stands.
     let p = side_at tee.sides.items w (app_of e) stands.sides_are known.there in
@@ -84,8 +83,8 @@ returns-clause-whole g c =
     let then = c.event.new.self in
     let e = c.args.event in
     let h = c.in_ok-happened.happened in
-    let known = event_known names (app_count tee) (λ i. turns_made tee i) c.as_slice.result.now (app_of e) c.args.app c.requires.own c.requires.names c.requires.known
-    c.index-names-app.result c.index-names-app.is c.as_slice.ensures (c.has_room.ensures.0 c.if-not-has_room.false) in
+    let known = event_known names (app_count tee) (λ i. turns_made tee i) c.name_of.result.now (app_of e) c.args.app c.requires.own c.requires.names c.requires.known
+    c.name_of.ensures (c.has_room.ensures.0 c.if-not-has_room.false) in
     λ w stands.
     let p = side_at tee.sides.items w (app_of e) stands.sides_are known.there in
     one_whole behaviour g.V.BoardVolume.form names w e h p.0 p.1 (c.in_ok-happened.ensures.told w p.0 stands p.1) _ _ _ known.within
@@ -121,7 +120,6 @@ returns-clause-losses g c =
     let new = volume_of c.event.new.self in
     let h = c.in_ok-happened.happened in
     let within : c.args.app < length names = omega (arith, c.requires.names, c.requires.known) in
-    let named : c.as_slice.result.now ≡ get_or names c.args.app [] = c.as_slice.ensures ∙ get_or_read names c.args.app c.index-names-app.result within c.index-names-app.is [] in
     losses_event g.V.Volume.keeper g.V.BoardVolume.form old new _ _ (g.met.V.BoardVolume.seen old) (g.met.V.BoardVolume.seen new) names c.args.app h _ _ c.requires.words within
     c.in_ok-happened.ensures.counts
-    (subst (λ name. Appends (g.W.Sink.written c.args.sink.now) (g.W.Sink.written c.write_happened-written.new.sink) (happened_lines name h)) named c.in_ok-written.ensures.ok)
+    (subst (λ name. Appends (g.W.Sink.written c.args.sink.now) (g.W.Sink.written c.write_happened-written.new.sink) (happened_lines name h)) c.name_of.ensures c.in_ok-written.ensures.ok)

@@ -6,6 +6,9 @@ use Rattle.tee_top.specs.Runs.{IsKnown}
 use Rattle.tee_top.proofs.Known.{known_lines}
 use Rattle.tee_top.proofs.run.read_lines.Goals as goal
 
+pub returns-in-Ok-parse_in-clause-few : goal.returns-in-Ok-parse_in-clause-few
+returns-in-Ok-parse_in-clause-few g c = tt
+
 pub returns-in-Ok-parse_in-clause-known : goal.returns-in-Ok-parse_in-clause-known
 returns-in-Ok-parse_in-clause-known g c =
     subst (λ (lines : List Line). AllByRecursion (IsKnown (length c.args.hosts.now)) lines) (sym c.into_lines.ensures)

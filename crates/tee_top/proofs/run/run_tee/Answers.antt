@@ -1,9 +1,16 @@
-use Rattle.std.proofs.Common.{Err, ⊎_elim, ap, inl, inr, refl, subst, sym}
+use Rattle.std.proofs.Common.{Err, length, ⊎_elim, ap, inl, inr, refl, subst, sym}
+use Rattle.std.specs.List.{AllByRecursion}
 use Rattle.script.specs.declared.dialect.Dialect.TheVariants.{Whole}
 use Rattle.script.proofs.Places.{not_both}
-use Rattle.tee_top.specs.Runs.{IsBadAt, IsReadStatus, IsServed, IsStopped, ReadsTo}
+use Rattle.tee_top.specs.Runs.{IsBadAt, IsKnown, IsReadStatus, IsServed, IsStopped, ReadsTo}
 use Rattle.tee_top.proofs.Ended.{bad_line_told, read_unopened, script_told, served_told, too_long_told, within_for}
 use Rattle.tee_top.proofs.run.run_tee.Goals as goal
+
+pub serve-requires-clause-known : goal.serve-requires-clause-known
+serve-requires-clause-known g c = subst (λ hosts. AllByRecursion (IsKnown (length hosts)) c.in-Ok.lines.items) c.as_slice.ensures.value c.in-Ok.ensures.known
+
+pub returns-in-Err-clause-unwritten : goal.returns-in-Err-clause-unwritten
+returns-in-Err-clause-unwritten g c = λ unrun. refl
 
 pub returns-in-Err-clause-bad_line : goal.returns-in-Err-clause-bad_line
 returns-in-Err-clause-bad_line g c = λ n e.

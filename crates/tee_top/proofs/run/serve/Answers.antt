@@ -1,26 +1,21 @@
-use Rattle.std.proofs.Common.{◌≡◌, ◌<◌, ◌≤◌, ◌∙◌, ℕ, List, [], ◌∷◌, ◌++◌, Err, Ok, inl, inr, length, ap, refl, subst, sym, arith}
+use Rattle.std.proofs.Common.{◌≡◌, ◌∙◌, [], inl, inr, ap, refl, subst, sym}
 use Rattle.std.specs.List.{AllByRecursion}
-use Rattle.epoch.specs.Mounts.{IsKeptFromOpening, LeavesOpening}
-use Rattle.epoch.specs.declared.answer.OpenAnswer.TheVariants as answers
 use Rattle.script.specs.Grammar.{names_of}
 use Rattle.tee_core.specs.Represents.{Represents, boots_of, volume_of}
-use Rattle.tee_core.specs.World.{World, world_of}
+use Rattle.tee_core.specs.World.{world_of}
 use Rattle.tee_top.specs.BoardLines.{AreFirstWords}
-use Rattle.tee_top.specs.Boards.{HasFirstOrders, HasOrders, LeavesStores, orders_of}
+use Rattle.tee_top.specs.Boards.{HasFirstOrders, HasOrders, orders_of}
 use Rattle.tee_top.specs.Parts.{IsRefusedIn, IsRunOf, StopsIn, point}
-use Rattle.tee_top.specs.Runs.{IsKnown, IsStopped, IsUnopened, refusal_of}
+use Rattle.tee_top.specs.Runs.{IsKnown, IsUnopened}
 use Rattle.tee_top.specs.Transcript.{events_of}
-use Rattle.tee_top.specs.declared.status.Status.TheVariants.{BoardFault, Done, StoreRefused}
 use Rattle.tee_top.proofs.Leaves.{stands_leaves}
 use Rattle.tee_top.proofs.Losses.{losses_both, losses_none}
 use Rattle.tee_top.proofs.Names.{hosts_begin}
 use Rattle.tee_top.proofs.Opened.{begin_leaves, first_orders_none, opening_leaves, orders_opened, run_behind, span_opened}
 use Rattle.tee_top.proofs.Parts.{all_orders_first, first_orders_more, orders_both}
 use Rattle.tee_top.proofs.Refusals.{refused_weaker}
-use Rattle.tee_top.proofs.Served.{ended, ended_done, ended_either, ended_fault, ended_refused, ended_stopped, never_opened, refused_never, refused_told}
+use Rattle.tee_top.proofs.Served.{ended_done, ended_either, ended_fault, ended_refused, ended_stopped, never_opened, refused_never, refused_told}
 use Rattle.tee_top.proofs.Whole.{all_written, front_written, nothing_written, power_written}
-use Rattle.tee_top.proofs.run.serve.Given.{Over}
-use Rattle.tee_top.proofs.run.serve.Goals.{in-Ok-run_lines, in-Err-run_lines}
 use Rattle.tee_top.proofs.run.serve.Goals as goal
 
 -- ---- no name was copied
@@ -72,18 +67,6 @@ pub run_lines-requires-clause-words : goal.run_lines-requires-clause-words
 run_lines-requires-clause-words g c =
     subst AreFirstWords (sym (c.as_slice-2.ensures.value ∙ c.in-Ok.ensures ∙ ap names_of c.as_slice.ensures.value)) (hosts_begin c.args.hosts.items c.requires.fit)
 
--- how the run ends
-ends_as : (g : Over) (c : goal.After-drop-names-2 g) → c.match-run_lines.status ≡ ended c.run_lines.result
-ends_as g c =
-    elim c.match-run_lines.branch [
-      | in-Ok-run_lines w ↦ w.status-is ∙ ap ended (sym w.in-Ok-run_lines.is)
-      | in-Err-run_lines w ↦ w.status-is ∙ w.stop_status-status.ensures
-          ∙ ap ended (sym w.in-Err-run_lines.is)
-    ]
-
-same_names : (g : Over) (c : goal.After-drop-names-2 g) → c.as_slice-2.result.now ≡ names_of c.args.hosts.items
-same_names g c = c.as_slice-2.ensures.value ∙ c.in-Ok.ensures ∙ ap names_of c.as_slice.ensures.value
-
 pub returns-clause-done : goal.returns-clause-done
 returns-clause-done g c = λ done honest stores begins.
     let behaviour = g.A.Application.behaviour in
@@ -94,17 +77,18 @@ returns-clause-done g c = λ done honest stores begins.
     let start = g.B.Board.view c.args.board in
     let view = g.B.Board.view (g.V.BoardVolume.board_of (volume_of tee)) in
     let left = g.B.Board.view (g.V.BoardVolume.board_of (volume_of new)) in
+    let same : c.as_slice-2.result.now ≡ names_of c.args.hosts.items = c.as_slice-2.ensures.value ∙ c.in-Ok.ensures ∙ ap names_of c.as_slice.ensures.value in
     let before = point (boots_of tee) view (g.W.Sink.written c.args.sink.now) in
     let after = point (boots_of new) left (g.W.Sink.written c.run_lines.new.sink) in
     let stands = (c.in-Ok-open.ensures.world honest begins.counter begins.held stores begins.rests begins.size begins.sound).0 in
-    let run = ended_done c.run_lines.result _ (sym (ends_as g c) ∙ done) c.run_lines.ensures.whole world stands in
+    let run = ended_done c.run_lines.result _ (sym c.run_status-status.ensures ∙ done) c.run_lines.ensures.whole world stands in
     rw c.into_board.ensures
     (all_written behaviour form c.args.hosts.items c.requires.fit c.args.seed stores c.args.lines.items (λ w. Represents new w)
     (point (boots_of tee) start (g.W.Sink.written c.args.sink.now)) after c.in-Ok-open.ensures.boots
     (λ w is. stands_leaves g.V.Volume.keeper form new.sides.items new.volume left w (g.met.V.BoardVolume.seen new.volume) is)
     (run_behind behaviour form (names_of c.args.hosts.items) (λ weather. events_of behaviour weather world c.args.lines.items) world (λ w. Represents new w) start before after
     (span_opened _ _ _ c.in-Ok-open.ensures.opened)
-    (subst (λ ns. IsRunOf behaviour form ns (λ weather. events_of behaviour weather world c.args.lines.items) world (λ w. Represents new w) before after) (same_names g c) run)))
+    (subst (λ ns. IsRunOf behaviour form ns (λ weather. events_of behaviour weather world c.args.lines.items) world (λ w. Represents new w) before after) same run)))
 
 pub returns-clause-stopped : goal.returns-clause-stopped
 returns-clause-stopped g c = λ stopped honest stores begins.
@@ -115,14 +99,15 @@ returns-clause-stopped g c = λ stopped honest stores begins.
     let new = c.run_lines.new.tee in
     let view = g.B.Board.view (g.V.BoardVolume.board_of (volume_of tee)) in
     let left = g.B.Board.view (g.V.BoardVolume.board_of (volume_of new)) in
+    let same : c.as_slice-2.result.now ≡ names_of c.args.hosts.items = c.as_slice-2.ensures.value ∙ c.in-Ok.ensures ∙ ap names_of c.as_slice.ensures.value in
     let before = point (boots_of tee) view (g.W.Sink.written c.args.sink.now) in
     let after = point (boots_of new) left (g.W.Sink.written c.run_lines.new.sink) in
     let stands = (c.in-Ok-open.ensures.world honest begins.counter begins.held stores begins.rests begins.size begins.sound).0 in
-    let run = ended_stopped c.run_lines.result _ c.match-run_lines.status (ends_as g c) stopped c.run_lines.ensures.stopped
+    let run = ended_stopped c.run_lines.result _ c.run_status-status.result c.run_status-status.ensures stopped c.run_lines.ensures.stopped
     (refused_weaker c.run_lines.result _ _ (λ why part. (part world stands).1) c.run_lines.ensures.refused) world stands in
     rw c.into_board.ensures
     (front_written behaviour form c.args.hosts.items c.requires.fit c.args.seed stores c.args.lines.items before after c.in-Ok-open.ensures.boots
-    (subst (λ ns. StopsIn behaviour form ns (λ weather. events_of behaviour weather world c.args.lines.items) world before after) (same_names g c) run))
+    (subst (λ ns. StopsIn behaviour form ns (λ weather. events_of behaviour weather world c.args.lines.items) world before after) same run))
 
 pub returns-clause-board_fault : goal.returns-clause-board_fault
 returns-clause-board_fault g c = λ fault honest stores begins.
@@ -133,29 +118,30 @@ returns-clause-board_fault g c = λ fault honest stores begins.
     let new = c.run_lines.new.tee in
     let view = g.B.Board.view (g.V.BoardVolume.board_of (volume_of tee)) in
     let left = g.B.Board.view (g.V.BoardVolume.board_of (volume_of new)) in
+    let same : c.as_slice-2.result.now ≡ names_of c.args.hosts.items = c.as_slice-2.ensures.value ∙ c.in-Ok.ensures ∙ ap names_of c.as_slice.ensures.value in
     let before = point (boots_of tee) view (g.W.Sink.written c.args.sink.now) in
     let after = point (boots_of new) left (g.W.Sink.written c.run_lines.new.sink) in
     let stands = (c.in-Ok-open.ensures.world honest begins.counter begins.held stores begins.rests begins.size begins.sound).0 in
-    let refused = (ended_fault c.run_lines.result _ (sym (ends_as g c) ∙ fault) c.run_lines.ensures.refused).1 world stands in
+    let refused = (ended_fault c.run_lines.result _ (sym c.run_status-status.ensures ∙ fault) c.run_lines.ensures.refused).1 world stands in
     inr (rw c.into_board.ensures
     (power_written behaviour form c.args.hosts.items c.requires.fit c.args.seed stores c.args.lines.items before after c.in-Ok-open.ensures.boots
-    (subst (λ ns. IsRefusedIn behaviour form ns c.args.lines.items world before after) (same_names g c) refused.0)))
+    (subst (λ ns. IsRefusedIn behaviour form ns c.args.lines.items world before after) same refused.0)))
 
 pub returns-clause-accepted : goal.returns-clause-accepted
 returns-clause-accepted g c = λ why same honest stores begins.
     let world = world_of c.args.hosts.items c.args.seed stores in
     let stands = (c.in-Ok-open.ensures.world honest begins.counter begins.held stores begins.rests begins.size begins.sound).0 in
-    let refused = ended_refused c.run_lines.result _ why (sym (ends_as g c) ∙ same) c.run_lines.ensures.refused in
+    let refused = ended_refused c.run_lines.result _ why (sym c.run_status-status.ensures ∙ same) c.run_lines.ensures.refused in
     refused_never refused.0 why (inl (refused.1 world stands).1) refused.2
 
 pub returns-clause-refused : goal.returns-clause-refused
 returns-clause-refused g c = λ why same honest.
-    inr (ended_refused c.run_lines.result _ why (sym (ends_as g c) ∙ same) c.run_lines.ensures.power).1
+    inr (ended_refused c.run_lines.result _ why (sym c.run_status-status.ensures ∙ same) c.run_lines.ensures.power).1
 
 pub returns-clause-refusal : goal.returns-clause-refusal
 returns-clause-refusal g c = λ why same honest.
     let left = g.B.Board.view (g.V.BoardVolume.board_of (volume_of c.run_lines.new.tee)) in
-    let refused = ended_refused c.run_lines.result _ why (sym (ends_as g c) ∙ same) c.run_lines.ensures.refusal in
+    let refused = ended_refused c.run_lines.result _ why (sym c.run_status-status.ensures ∙ same) c.run_lines.ensures.refusal in
     rw c.into_board.ensures (refused_told g.V.BoardVolume.form left refused.0 why refused.2 (refused.1 (c.in-Ok-open.ensures.honest honest)))
 
 pub returns-clause-opened : goal.returns-clause-opened
@@ -166,7 +152,8 @@ returns-clause-opened g c = λ honest.
 pub returns-clause-orders : goal.returns-clause-orders
 returns-clause-orders g c = λ done.
     rw c.into_board.ensures
-    (orders_both [] (orders_of c.args.lines.items) _ _ _ (orders_opened _ _ _ c.in-Ok-open.ensures.opened) (ended_done c.run_lines.result _ (sym (ends_as g c) ∙ done) c.run_lines.ensures.orders))
+    (orders_both [] (orders_of c.args.lines.items) _ _ _ (orders_opened _ _ _ c.in-Ok-open.ensures.opened)
+    (ended_done c.run_lines.result _ (sym c.run_status-status.ensures ∙ done) c.run_lines.ensures.orders))
 
 pub returns-clause-first_orders : goal.returns-clause-first_orders
 returns-clause-first_orders g c =
@@ -183,4 +170,4 @@ pub returns-clause-losses : goal.returns-clause-losses
 returns-clause-losses g c = λ done.
     rw c.into_board.ensures
     (losses_both _ _ _ _ _ _ (losses_none (g.W.Sink.written c.args.sink.now) _ _ c.in-Ok-open.ensures.opened.faults)
-    (ended_done c.run_lines.result _ (sym (ends_as g c) ∙ done) c.run_lines.ensures.losses))
+    (ended_done c.run_lines.result _ (sym c.run_status-status.ensures ∙ done) c.run_lines.ensures.losses))
