@@ -59,42 +59,38 @@ fn write_why(line: &mut LineBuffer, why: &OpenAnswer) -> Result<(), NoMemory>
     ensures { OnOk result (line.new ≡ line.old ++ why_text why.now) }
 {
     match why {
-        OpenAnswer::TooSmall(blocks) => {
-            line.text(b"too small ")?;
-            line.number(*blocks)
-        }
-        OpenAnswer::NoVolume(counter) => {
-            line.text(b"no volume at counter ")?;
-            line.number(*counter)
-        }
-        OpenAnswer::BadHeader { slot, .. } => {
-            line.text(b"bad header ")?;
-            line.number(u64::from(*slot))
-        }
+        OpenAnswer::TooSmall(blocks) => write_count(line, b"too small ", *blocks),
+        OpenAnswer::NoVolume(counter) => write_count(line, b"no volume at counter ", *counter),
+        OpenAnswer::BadHeader { slot, .. } => write_count(line, b"bad header ", u64::from(*slot)),
         OpenAnswer::UnknownVersion(version) => {
-            line.text(b"unknown version ")?;
-            line.number(u64::from(*version))
+            write_count(line, b"unknown version ", u64::from(*version))
         }
         OpenAnswer::Rollback { sequence, counter } => {
-            line.text(b"rollback ")?;
-            write_pair(line, *sequence, *counter)
+            write_pair(line, b"rollback ", *sequence, *counter)
         }
         OpenAnswer::Ahead { sequence, counter } => {
-            line.text(b"ahead ")?;
-            write_pair(line, *sequence, *counter)
+            write_pair(line, b"ahead ", *sequence, *counter)
         }
         OpenAnswer::Failed => line.text(b"failed"),
         OpenAnswer::NoMemory => line.text(b"out of memory"),
     }
 }
 
-/// Two numbers, with a space between.
-fn write_pair(line: &mut LineBuffer, first: u64, second: u64) -> Result<(), NoMemory>
-    ensures { OnOk result (line.new ≡ line.old ++ decimal first ++ codes " " ++ decimal second) }
+/// A number behind its words.
+fn write_count(line: &mut LineBuffer, words: &[u8], number: u64) -> Result<(), NoMemory>
+    ensures { OnOk result (line.new ≡ line.old ++ (words.now ++ decimal number)) }
 {
-    line.number(first)?;
-    line.text(b" ")?;
-    line.number(second)
+    line.text(words)?;
+    line.number(number)
+}
+
+/// Two numbers behind their words, with a space between.
+fn write_pair(line: &mut LineBuffer, words: &[u8], first: u64, second: u64) -> Result<(), NoMemory>
+    ensures { OnOk result (line.new
+        ≡ line.old ++ (words.now ++ decimal first ++ codes " " ++ decimal second)) }
+{
+    write_count(line, words, first)?;
+    write_count(line, b" ", second)
 }
 
 /// Writes to an empty line what is told of a status, with a line feed; nothing of one that is Done.
@@ -106,8 +102,7 @@ fn write_status(line: &mut LineBuffer, status: &Status) -> Result<(), NoMemory>
         Status::Done => Ok(()),
         Status::BadWords => line.text(b"teectl: usage: teectl run [IMAGE] | race | gen N\n"),
         Status::BadLine(number) => {
-            line.text(b"teectl: line ")?;
-            line.number(*number)?;
+            write_count(line, b"teectl: line ", *number)?;
             line.text(b" is not a script line\n")
         }
         Status::TooLong => line.text(b"teectl: script too long\n"),
