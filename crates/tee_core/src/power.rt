@@ -209,8 +209,7 @@ impl<B: Board, V: BoardVolume<B>, A: Application> TeeOver<B, V, A> {
             Ok(opened) => {
                 let kept = acknowledged < opened;
                 let taken = owner_kept(owner, kept);
-                restart_all(&mut self.sides, taken, self.boots);
-                self.boots += 1;
+                restart_all(&mut self.sides, taken, &mut self.boots);
                 Ok(power_of(owner, kept))
             }
             Err(why) => {

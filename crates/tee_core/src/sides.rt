@@ -69,21 +69,27 @@ fn lose_one<A: Application>(side: &mut AppSide<A>)
     side.lose();
 }
 
-/// The power of all of them came back, of which one may keep its change in doubt.
-pub(crate) fn restart_all<A: Application>(sides: &mut Vec<AppSide<A>>, kept: Option<u8>, boots: u32)
+/// The power of all of them came back, of which one may keep its change in doubt. It counts one loss of the power more.
+pub(crate) fn restart_all<A: Application>(
+    sides: &mut Vec<AppSide<A>>,
+    kept: Option<u8>,
+    boots: &mut u32,
+)
     requires few { length sides.old.items ≤ MAX_HOSTS }
-    requires booted { AreBooted boots sides.old.items }
-    requires room { boots < 2 ^ 32 - 1 }
+    requires booted { AreBooted boots.old sides.old.items }
+    requires room { boots.old < 2 ^ 32 - 1 }
     ensures sides { (world : World A) → AreSides sides.old.items world
         → AreSides sides.new.items (restarts_from A.behaviour (kept_one kept) 0 world) }
     ensures lost { AreLost false sides.new.items }
     ensures turns { map (λ s. turns_of s) sides.new.items ≡ map (λ s. turns_of s) sides.old.items }
-    ensures booted { AreBooted (boots + 1) sides.new.items }
+    ensures booted { AreBooted (boots.old + 1) sides.new.items }
+    ensures boots { boots.new ≡ boots.old + 1 }
 {
     for index in 0..sides.len() {
         let took = is_kept(kept, index);
         sides[index].restart(took);
     }
+    *boots += 1;
 }
 
 /// The application of this index keeps its change in doubt.

@@ -9,7 +9,7 @@ use Rattle.tee_core.proofs.sides.restart_all.Goals as goal
 
 pub restart-requires : goal.restart-requires
 restart-requires g c =
-    let boot = ap (λ (s : Side g.row.A.Denot). s.boot) c.index_mut.ensures.value ∙ back_next c.args.boots c.loop-index.index c.loop-index.sides.items _ c.loop-index.invariant.back (omega arith) in
+    let boot = ap (λ (s : Side g.row.A.Denot). s.boot) c.index_mut.ensures.value ∙ back_next c.args.boots.now c.loop-index.index c.loop-index.sides.items _ c.loop-index.invariant.back (omega arith) in
     omega (arith, boot, c.requires.room)
 
 pub loop-index-preserved : goal.loop-index-preserved
@@ -23,11 +23,12 @@ loop-index-preserved g c =
     let step = c.restart.ensures.step in
     let value = c.index_mut.ensures.value in
     let one : suc n ≡ n + 1 = omega arith in
-    let boot = restart_boot behaviour c.is_kept-took.result old new step ∙ ap (λ (s : Side g.row.A.Denot). s.boot + 1) value ∙ ap (λ b. b + 1) (back_next c.args.boots n ss _ inv.back (omega arith)) in
+    let before = back_next c.args.boots.now n ss _ inv.back (omega arith) in
+    let boot = restart_boot behaviour c.is_kept-took.result old new step ∙ ap (λ (s : Side g.row.A.Denot). s.boot + 1) value ∙ ap (λ b. b + 1) before in
     record {
       sides = λ world are. subst (λ k. AreSides (set ss n new) (first_restarts behaviour (kept_one c.args.kept) 0 k world)) one
           (sides_restarted behaviour c.is_kept-took.result old new step (kept_one c.args.kept) ss world n _ (inv.sides world are) (omega arith) value c.is_kept-took.ensures);
-      back = subst (λ k. AreBack c.args.boots k (set ss n new)) one (back_more c.args.boots n ss new inv.back c.restart.ensures.lost boot);
+      back = subst (λ k. AreBack c.args.boots.now k (set ss n new)) one (back_more c.args.boots.now n ss new inv.back c.restart.ensures.lost boot);
       turns = turns_set ss n old new _ (omega arith) value (restart_turns behaviour c.is_kept-took.result old new step) ∙ inv.turns;
       same = set_length ss n new ∙ inv.same;
     }
@@ -42,9 +43,9 @@ returns-clause-sides g c = λ world are.
 pub returns-clause-lost : goal.returns-clause-lost
 returns-clause-lost g c =
     let inv = c.loop-index.invariant in
-    back_lost c.args.boots c.loop-index.index c.loop-index.sides.items inv.back (omega (arith, inv.same))
+    back_lost c.args.boots.now c.loop-index.index c.loop-index.sides.items inv.back (omega (arith, inv.same))
 
 pub returns-clause-booted : goal.returns-clause-booted
 returns-clause-booted g c =
     let inv = c.loop-index.invariant in
-    back_booted c.args.boots c.loop-index.index c.loop-index.sides.items inv.back (omega (arith, inv.same))
+    back_booted c.args.boots.now c.loop-index.index c.loop-index.sides.items inv.back (omega (arith, inv.same))

@@ -1,9 +1,9 @@
-use Rattle.std.proofs.Common.{◌≡◌, Bool, true, List, Some, sym, subst, arith}
+use Rattle.std.proofs.Common.{◌≡◌, Bool, true, List, Some, Err, refl, sym, ap, subst, arith}
 use Rattle.std.specs.Prelude.{IfNone, IfSome, slice_get}
 use Rattle.app_side.specs.Represents.{has_doubt}
 use Rattle.app_side.specs.declared.side.AppSide.{AppSide as Side}
 use Rattle.epoch.specs.Mounts.{IsAdmitted}
-use Rattle.tee_core.specs.Sides.{AreLost, IsNoneInDoubt}
+use Rattle.tee_core.specs.Sides.{AreBooted, AreLost, IsNoneInDoubt}
 use Rattle.tee_core.proofs.Backs.{power_stands, power_told}
 use Rattle.tee_core.proofs.Counts.{mapped_length}
 use Rattle.tee_core.proofs.Powers.{always_sound, stand_refused, within_power}
@@ -18,8 +18,11 @@ invariant_of-self g c =
     record {
       few = omega (arith, tee.few, mapped_length c.restart_all.new.sides.items tee.sides.items c.restart_all.ensures.turns);
       served = subst (λ (b : Bool). AreLost b c.restart_all.new.sides.items) (sym c.in-Ok.ensures.back.works) c.restart_all.ensures.lost;
-      booted = c.restart_all.ensures.booted;
+      booted = subst (λ n. AreBooted n c.restart_all.new.sides.items) (sym c.restart_all.ensures.boots) c.restart_all.ensures.booted;
     }
+
+pub returns-in-Ok-clause-order : goal.returns-in-Ok-clause-order
+returns-in-Ok-clause-order g c = c.in-Ok.ensures.ordered
 
 pub returns-in-Ok-clause-world : goal.returns-in-Ok-clause-world
 returns-in-Ok-clause-world g c = λ world whole.
@@ -59,6 +62,12 @@ returns-in-Ok-clause-exact g c = λ honest.
     let view = g.B.Board.view (g.V.BoardVolume.board_of c.args.self.now.volume) in
     (left.0, left.1, tt, subst (λ n. IsAdmitted g.V.BoardVolume.form view left.0.image left.0.counter n) (sym c.in-Ok.ensures.back.sequence) left.3)
 
+pub returns-in-Ok-clause-honest : goal.returns-in-Ok-clause-honest
+returns-in-Ok-clause-honest g c = c.in-Ok.ensures.honest
+
+pub returns-in-Ok-clause-boots : goal.returns-in-Ok-clause-boots
+returns-in-Ok-clause-boots g c = c.restart_all.ensures.boots
+
 pub returns-in-Ok-clause-apps : goal.returns-in-Ok-clause-apps
 returns-in-Ok-clause-apps g c = mapped_length c.restart_all.new.sides.items c.args.self.now.sides.items c.restart_all.ensures.turns
 
@@ -75,6 +84,9 @@ invariant_of-self-in-Err g c =
       served = subst (λ (b : Bool). AreLost b c.lose_all.new.sides.items) (sym c.in-Err.ensures.back.lost) c.lose_all.ensures.lost;
       booted = c.lose_all.ensures.boots tee.boots tee.booted;
     }
+
+pub returns-in-Err-clause-order : goal.returns-in-Err-clause-order
+returns-in-Err-clause-order g c = c.in-Err.ensures.ordered
 
 pub returns-in-Err-clause-moments : goal.returns-in-Err-clause-moments
 returns-in-Err-clause-moments g c = λ world whole.
@@ -97,6 +109,21 @@ returns-in-Err-clause-refused g c = λ world whole.
     (always_sound g.V.Volume.keeper g.met.V.Volume.rests g.met.V.Volume.since_earlier g.A.Application.behaviour tee.sides.items world tee.volume c.power.new.self whole) in
     stand_refused g.V.Volume.keeper g.met.V.Volume.rests g.met.V.Volume.since_earlier g.A.Application.behaviour tee.sides.items world tee.volume c.power.new.self whole
     c.lose_all.new.sides.items (c.lose_all.ensures.sides world whole.sides_are) (after.again.honest whole.honest) (after.again.same whole.honest) c.in-Err.ensures.back.lost after.again.leaves
+
+pub returns-in-Err-clause-exact : goal.returns-in-Err-clause-exact
+returns-in-Err-clause-exact g c = λ honest. let left = c.in-Err.ensures.exact honest in (left.0, left.1, left.2, tt)
+
+pub returns-in-Err-clause-refusal : goal.returns-in-Err-clause-refusal
+returns-in-Err-clause-refusal g c = c.in-Err.ensures.refusal
+
+pub returns-in-Err-clause-honest : goal.returns-in-Err-clause-honest
+returns-in-Err-clause-honest g c = c.in-Err.ensures.honest
+
+pub returns-in-Err-clause-cause : goal.returns-in-Err-clause-cause
+returns-in-Err-clause-cause g c = λ failed. c.in-Err.ensures.cause (ap Err failed)
+
+pub returns-in-Err-clause-same_boots : goal.returns-in-Err-clause-same_boots
+returns-in-Err-clause-same_boots g c = refl
 
 pub returns-in-Err-clause-apps : goal.returns-in-Err-clause-apps
 returns-in-Err-clause-apps g c = mapped_length c.lose_all.new.sides.items c.args.self.now.sides.items c.lose_all.ensures.turns
