@@ -41,6 +41,11 @@ pub doubts_some : {A : Type 0} (ss : List (AppSide A)) (i : ℕ) → Some i ≡ 
 doubts_some {A} [] i is = absurd (let e : Some i ≡ None = is in cc)
 doubts_some {A} (s ∷ ss) i is = first_there (s ∷ ss) i s is
 
+-- which is within them
+pub place_below : {A : Type 0} (ss : List (AppSide A)) (i : ℕ) → Some i ≡ position (λ (x : AppSide A). has_doubt x) ss → i < length ss
+place_below {A} [] i is = absurd (let e : Some i ≡ None = is in cc)
+place_below {A} (s ∷ ss) i is = (position-Some (λ (x : AppSide A). has_doubt x) (s ∷ ss) i s (sym is)).0
+
 pub if_none_known : {X : Type 0} (o : Option X) (P : Type 0) → P → IfNone o P
 if_none_known None P p = p
 if_none_known (Some x) P p = tt

@@ -44,3 +44,18 @@ returns-clause-world g c = λ stores.
     subst (λ (w : World g.row.A.Denot). AreSides c.loop-host.sides.items w)
     (sym (append-nil was.0) ∙ ap (λ (hosts : List (Host g.row.A.Denot)). was.0 ++ starts_from (length c.loop-host.sides.items) hosts c.args.seed stores) (sym none) ∙ was.2)
     was.1
+
+pub overflow_cast-index : goal.overflow_cast-index
+overflow_cast-index g c = omega (arith, c.len-index.ensures, c.loop-host.sides.ok.0, c.loop-host.invariant.count, c.requires)
+
+pub returns-clause-lost : goal.returns-clause-lost
+returns-clause-lost g c = c.loop-host.invariant.lost
+
+pub returns-clause-booted : goal.returns-clause-booted
+returns-clause-booted g c = c.loop-host.invariant.booted
+
+pub returns-clause-count : goal.returns-clause-count
+returns-clause-count g c =
+    let none : c.loop-host.rest.items ≡ [] = none_left c.loop-host.rest.items (c.in_default.ensures.items ∙ c.in_default.ensures.rest) in
+    let zero = ap (λ (hosts : List (Host g.row.A.Denot)). length hosts) none in
+    omega (arith, zero, c.loop-host.invariant.count)

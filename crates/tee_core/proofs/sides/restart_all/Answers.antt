@@ -1,4 +1,4 @@
-use Rattle.std.proofs.Common.{◌≡◌, ◌≤◌, ◌+◌, suc, length, set, subst, ◌∙◌, ap, arith}
+use Rattle.std.proofs.Common.{◌≡◌, ◌≤◌, ◌+◌, suc, length, set, subst, ◌∙◌, ap, arith, rules}
 use Rattle.app_side.specs.declared.side.AppSide.{AppSide as Side}
 use Rattle.tee_core.specs.Powers.{kept_one}
 use Rattle.tee_core.specs.Sides.{AreSides}
@@ -49,3 +49,6 @@ pub returns-clause-booted : goal.returns-clause-booted
 returns-clause-booted g c =
     let inv = c.loop-index.invariant in
     back_booted c.args.boots.now c.loop-index.index c.loop-index.sides.items inv.back (omega (arith, inv.same))
+
+pub returns-clause-boots : goal.returns-clause-boots
+returns-clause-boots g c = search rules
