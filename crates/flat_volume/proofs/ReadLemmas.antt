@@ -1,15 +1,14 @@
 -- Runs of calls, one call more.
-use Rattle.std.proofs.Common.{◌≡◌, ◌≢◌, ◌≤◌, ◌*◌, ◌<◌, ◌+◌, ◌-◌, ◌^◌, ◌==◌, ◌∙◌, ℕ, Bool, true, false, List, Option, None, Some, Result}
-use Rattle.std.proofs.Common.{Ok, Err, IfOk, if◌then◌else◌, bytes_eq, refl, sym, ap, subst, inl, inr, ⊎_elim, arith}
+use Rattle.std.proofs.Common.{◌≡◌, ◌≢◌, ◌≤◌, ◌*◌, ◌<◌, ◌+◌, ◌-◌, ◌==◌, ◌∙◌, ℕ, true, false, List, Option, None, Some, Result}
+use Rattle.std.proofs.Common.{Ok, Err, IfOk, if◌then◌else◌, bytes_eq, refl, sym, ap, subst, ⊎_elim, arith}
 use Rattle.std.proofs.lemmas.Bool.{cases_lt}
 use Rattle.std.proofs.lemmas.Slice.Eq.{bytes_eq-Decides}
 use Rattle.store_api.specs.declared.answer.Mismatch.{Mismatch}
 use Rattle.store_api.specs.declared.leaves.LeafAnswer.{LeafAnswer}
 use Rattle.store_api.specs.declared.leaves.LeafAnswer.TheVariants as answers
 use Rattle.store_api.specs.Volumes.{ShowsLeaf}
-use Rattle.tee_base.specs.Faults.{Rose}
 use Rattle.board.specs.Moment.{View}
-use Rattle.board.specs.Steps.{Answered, Called, CallRun, Unchanged}
+use Rattle.board.specs.Steps.{Answered, Unchanged}
 use Rattle.seal.specs.Sealing.{ciphertext, plaintext, seal_tag}
 use Rattle.seal.proofs.SealLemmas.{reopened}
 use Rattle.epoch.specs.Parts.{part}
@@ -24,30 +23,7 @@ use Rattle.flat_volume.specs.Writing.{spare_block}
 use Rattle.flat_volume.proofs.FlatLemmas.{no_difference, tagged}
 use Rattle.flat_volume.proofs.LeafLemmas.{other_block}
 
--- a fault that rose later rose
-rose_later : (a b c : ℕ) → a ≤ b → Rose b c → Rose a c
-rose_later a b c le rose = ⊎_elim (λ (h : b < c). inl (omega arith)) (λ (h : c ≡ 2 ^ 64 - 1). inr h) rose
-
-pub call_more : (ok : Bool) (first old new : View) → CallRun true first old → Called ok old new → CallRun ok first new
-call_more ok first old new run called = record {
-  size = called.size ∙ run.size;
-  key = called.key ∙ run.key;
-  orders = called.orders ∙ run.orders;
-  ordered = called.ordered ∙ run.ordered;
-  faults = omega (arith, called.faults, run.faults);
-  cause = λ e. rose_later first.state.faults old.state.faults new.state.faults run.faults (called.cause e);
-}
-
-pub run_more : (ok : Bool) (first old new : View) → CallRun true first old → CallRun ok old new → CallRun ok first new
-run_more ok first old new run more = record {
-  size = more.size ∙ run.size;
-  key = more.key ∙ run.key;
-  orders = more.orders ∙ run.orders;
-  ordered = more.ordered ∙ run.ordered;
-  faults = omega (arith, more.faults, run.faults);
-  cause = λ e. rose_later first.state.faults old.state.faults new.state.faults run.faults (more.cause e);
-}
-
+-- calls that only read
 pub only_itself : (v : View) → OnlyReads v v
 only_itself v = record {
   state = record { reads = refl; durable = refl; pending = refl; counter = refl; slack = refl };
@@ -166,28 +142,6 @@ unfolding table_in
 table_read image root positive =
     let some : (root.sequence == 0) ≡ false = grind arith in
     rw some refl
-
--- a call alone, as a run that may go on
-pub run_once : (ok : Bool) (old new : View) → Called ok old new → CallRun ok old new
-run_once ok old new called = record {
-  size = called.size;
-  key = called.key;
-  orders = called.orders;
-  ordered = called.ordered;
-  faults = called.faults;
-  cause = called.cause;
-}
-
--- a run that failed is a run
-pub run_so_far : (ok : Bool) (old new : View) → CallRun ok old new → CallRun true old new
-run_so_far ok old new run = record {
-  size = run.size;
-  key = run.key;
-  orders = run.orders;
-  ordered = run.ordered;
-  faults = run.faults;
-  cause = λ e. absurd (let f : true ≡ false = e in cc);
-}
 
 -- a table that was found undamaged
 pub table_kept : (key bytes : List ℕ) (root : TreeEntry) (r : Result Table LeafAnswer) → IfOk r (λ t. t.bytes.items ≡ bytes)

@@ -1,12 +1,13 @@
-use Rattle.std.proofs.Common.{◌≡◌, ◌+◌, ◌∙◌, ℕ, List, true, length, refl, sym, ap, arith, rules}
+use Rattle.std.proofs.Common.{◌≡◌, ◌+◌, ◌∙◌, ℕ, List, true, length, refl, sym, ap, arith, rules, false}
+use Rattle.epoch.proofs.CallLemmas.{call_more, run_none, run_stops}
 use Rattle.flat_volume.specs.Flat.{block_at}
-use Rattle.flat_volume.proofs.ReadLemmas.{call_more, only_itself, only_once, only_more, filled_step}
+use Rattle.flat_volume.proofs.ReadLemmas.{only_itself, only_once, only_more, filled_step}
 use Rattle.flat_volume.proofs.TableLemmas.{joined_whole}
 use Rattle.flat_volume.proofs.load.fill.Goals as goal
 
 pub loop-i-init : goal.loop-i-init
 loop-i-init g c = record {
-  calls = search rules;
+  calls = run_none _;
   writes = refl;
   same = λ tells. refl;
   honest = λ h. (h, only_itself _);
@@ -40,3 +41,6 @@ returns-clause-table g c tells =
     let long : length c.loop-i.table.bytes.items ≡ 262144 = search rules in
     sym (joined_whole c.loop-i.table.bytes.items (λ i. reads (block_at (17 + i) c.args.copy)) long
     (λ i below. c.loop-i.invariant.blocks tells i (omega arith)))
+
+pub returns-in_err-read-clause-calls : goal.returns-in_err-read-clause-calls
+returns-in_err-read-clause-calls g c = run_stops c.from_residual.result _ _ c.from_residual.ensures.0 (call_more false _ _ _ c.loop-i.invariant.calls c.in_err-read.ensures.call)

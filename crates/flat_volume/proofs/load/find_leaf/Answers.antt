@@ -1,3 +1,5 @@
+use Rattle.std.proofs.Common.{true}
+use Rattle.epoch.proofs.CallLemmas.{rose_later, run_more}
 use Rattle.flat_volume.proofs.ReadLemmas.{only_more}
 use Rattle.flat_volume.proofs.load.find_leaf.Goals as goal
 
@@ -6,3 +8,12 @@ returns-clause-honest g c h =
     let one = c.in_ok-known.ensures.honest h in
     let two = c.load_leaf.ensures.honest one.0 in
     (two.0, only_more _ _ _ one.1 two.1)
+
+pub returns-in_err-known-clause-calls : goal.returns-in_err-known-clause-calls
+returns-in_err-known-clause-calls g c = c.in_err-known.ensures.calls
+
+pub returns-clause-calls : goal.returns-clause-calls
+returns-clause-calls g c = run_more true _ _ _ c.in_ok-known.ensures.calls c.load_leaf.ensures.calls
+
+pub returns-clause-cause : goal.returns-clause-cause
+returns-clause-cause g c failed = rose_later _ _ _ c.in_ok-known.ensures.calls.faults (c.load_leaf.ensures.cause failed)

@@ -1,5 +1,6 @@
 use Rattle.std.proofs.Common.{◌∙◌, ℕ, List, IfErr, refl, sym, subst, rules}
 use Rattle.seal.specs.Keys.{AreKeysOf}
+use Rattle.epoch.proofs.CallLemmas.{run_none, run_so_far}
 use Rattle.epoch.specs.Mounts.{IsKeptFromOpening}
 use Rattle.flat_volume.specs.declared.write.TheConstants.{NO_ROOT}
 use Rattle.flat_volume.proofs.OpenLemmas.{blank_stands, blank_undamaged, checked_under, format_done, format_failed, opens_without}
@@ -32,3 +33,15 @@ returns-clause-opens g c honest h mounts =
     let done = c.in_ok-root.ensures.done honest h mounts.0 mounted (record { keyed = keys; stands = stands }) in
     format_done v (g.B.Board.view c.commit.new.board) c.in_ok-root.root c.commit.new.change.root _ c.commit.new.change.table h mounts.0 c.in_ok-root.ensures.calls.key c.in_ok-root.ensures.root
     (c.in_ok-root.ensures.crash honest h mounts.0 mounted (record { keyed = keys; stands = stands })) done.0 done.1
+
+pub returns-in_err-blank_table-clause-calls : goal.returns-in_err-blank_table-clause-calls
+returns-in_err-blank_table-clause-calls g c = run_none _
+
+pub returns-in_err-root-clause-calls : goal.returns-in_err-root-clause-calls
+returns-in_err-root-clause-calls g c = run_so_far _ _ _ c.in_err-root.ensures.calls
+
+pub returns-in_err-root-clause-cause : goal.returns-in_err-root-clause-cause
+returns-in_err-root-clause-cause g c failed = c.in_err-root.ensures.calls.cause refl
+
+pub returns-clause-calls : goal.returns-clause-calls
+returns-clause-calls g c = c.in_ok-root.ensures.calls

@@ -1,4 +1,5 @@
-use Rattle.std.proofs.Common.{◌≡◌, Err, refl, rules}
+use Rattle.std.proofs.Common.{◌≡◌, Err, refl, rules, true}
+use Rattle.epoch.proofs.CallLemmas.{rose_later, run_more}
 use Rattle.epoch.specs.Mounts.{IsRefusal, IsRefusedNow}
 use Rattle.epoch.proofs.MountLemmas.{kept_refused, rests_holding}
 use Rattle.flat_volume.specs.Flat.{flat}
@@ -63,3 +64,12 @@ returns-clause-opens g c honest n h rests large is =
     let mounts = c.in_ok-found.ensures.holds honest flat h flat_framed refl large (rests_holding flat v.key h n v.state rests is) in
     opens_joined v (g.B.Board.view c.mount.new.board) (g.B.Board.view c.take_up.new.board) c.in_ok-found.found c.take_up.result h c.in_ok-found.ensures.calls.key mounts.mounted mounts.leaves
     (c.take_up.ensures.opens (c.in_ok-found.ensures.honest honest) h)
+
+pub returns-in_err-found-clause-calls : goal.returns-in_err-found-clause-calls
+returns-in_err-found-clause-calls g c = c.in_err-found.ensures.calls
+
+pub returns-clause-calls : goal.returns-clause-calls
+returns-clause-calls g c = run_more true _ _ _ c.in_ok-found.ensures.calls c.take_up.ensures.calls
+
+pub returns-clause-cause : goal.returns-clause-cause
+returns-clause-cause g c failed = rose_later _ _ _ c.in_ok-found.ensures.calls.faults (c.take_up.ensures.cause failed)

@@ -1,3 +1,4 @@
+use Rattle.epoch.proofs.CallLemmas.{run_none}
 use Rattle.flat_volume.proofs.OpenLemmas.{if_found, opens_found, opens_none}
 use Rattle.flat_volume.proofs.opening.take_up.Goals as goal
 
@@ -12,3 +13,12 @@ returns-in-Some-clause-opens g c honest h mounts =
 pub returns-in-None-clause-opens : goal.returns-in-None-clause-opens
 returns-in-None-clause-opens g c honest h mounts =
     opens_none (g.B.Board.view c.args.board.now) (g.B.Board.view c.format_board.new.board) c.format_board.result c.args.found h c.in-None.is (c.format_board.ensures.opens honest h) mounts
+
+pub returns-in-Some-clause-calls : goal.returns-in-Some-clause-calls
+returns-in-Some-clause-calls g c = run_none _
+
+pub returns-in-None-clause-calls : goal.returns-in-None-clause-calls
+returns-in-None-clause-calls g c = c.format_board.ensures.calls
+
+pub returns-in-None-clause-cause : goal.returns-in-None-clause-cause
+returns-in-None-clause-cause g c = c.format_board.ensures.cause

@@ -1,3 +1,5 @@
+use Rattle.std.proofs.Common.{refl, true, false}
+use Rattle.epoch.proofs.CallLemmas.{run_once, run_so_far}
 use Rattle.flat_volume.proofs.VolumeLemmas.{exhausted}
 use Rattle.flat_volume.proofs.volume.exhaust.Goals as goal
 
@@ -5,3 +7,12 @@ pub returns-in-Err-clause-failed : goal.returns-in-Err-clause-failed
 returns-in-Err-clause-failed g c h root table is =
     let told = c.in-Err.ensures.honest h in
     exhausted _ _ root table _ is c.in-Err.ensures.call.key told.1.time told.2
+
+pub returns-in-Ok-clause-calls : goal.returns-in-Ok-clause-calls
+returns-in-Ok-clause-calls g c = run_once true _ _ c.in-Ok.ensures.call
+
+pub returns-in-Err-clause-calls : goal.returns-in-Err-clause-calls
+returns-in-Err-clause-calls g c = run_so_far _ _ _ (run_once false _ _ c.in-Err.ensures.call)
+
+pub returns-in-Err-clause-cause : goal.returns-in-Err-clause-cause
+returns-in-Err-clause-cause g c failed = c.in-Err.ensures.call.cause refl

@@ -1,8 +1,9 @@
-use Rattle.std.proofs.Common.{◌∙◌, ℕ, List, Some, refl, sym, ap, subst}
+use Rattle.std.proofs.Common.{◌∙◌, ℕ, List, Some, refl, sym, ap, subst, true}
 use Rattle.std.proofs.lemmas.Result.{err_from_is_err_and}
 use Rattle.store_api.specs.declared.leaves.Leaf.{Leaf}
 use Rattle.store_api.specs.Volumes.{Held, after_commit}
 use Rattle.seal.specs.Keys.{AreKeysOf}
+use Rattle.epoch.proofs.CallLemmas.{run_more, run_so_far}
 use Rattle.epoch.specs.Commits.{IsSteady}
 use Rattle.epoch.proofs.SettledLemmas.{steady_rests}
 use Rattle.flat_volume.specs.Change.{FitsFlat}
@@ -65,3 +66,14 @@ returns-clause-replaced g c h is =
         crash = commit_crash v mid new root sequence table c.args.region named is told.calls.key read.1 (w.in-Err.ensures.crash read.0 before refl is'.mounted fits);
       })
     ])
+
+pub returns-in_err-known_table-clause-calls : goal.returns-in_err-known_table-clause-calls
+returns-in_err-known_table-clause-calls g c = c.in_err-known_table.ensures.calls
+
+pub returns-clause-calls : goal.returns-clause-calls
+returns-clause-calls g c =
+    let one = c.in_ok-known_table.ensures.calls in
+    elim c.match-commit.branch [
+      | in-Ok w ↦ run_more true _ _ _ one w.in-Ok.ensures.calls
+      | in-Err w ↦ run_more true _ _ _ one (run_so_far _ _ _ w.in-Err.ensures.calls)
+    ]

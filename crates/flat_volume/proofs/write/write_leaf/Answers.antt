@@ -1,4 +1,5 @@
-use Rattle.std.proofs.Common.{◌≡◌, ◌+◌, ◌-◌, ◌∙◌, refl, sym, ap}
+use Rattle.std.proofs.Common.{◌≡◌, ◌+◌, ◌-◌, ◌∙◌, refl, sym, ap, true, false}
+use Rattle.epoch.proofs.CallLemmas.{run_once, run_stops}
 use Rattle.epoch.proofs.PastLemmas.{once}
 use Rattle.epoch.proofs.RunLemmas.{over_write}
 use Rattle.epoch.specs.declared.header.TreeEntry.{TreeEntry}
@@ -55,3 +56,9 @@ returns-clause-text g c h key are =
     let here : reads (block_at (273 + c.args.number) c.other_copy-copy.result) ≡ c.seal_leaf.new.into = ap reads (sym c.block_at.ensures.block) ∙ w.here refl in
     ap (leaf_text key reads (273 + c.args.number)) c.set.ensures.here
     ∙ sealed_text key reads (273 + c.args.number) _ c.args.bytes.now c.seal_leaf.new.into c.requires.sequence here seals.text
+
+pub returns-in_err-write-clause-calls : goal.returns-in_err-write-clause-calls
+returns-in_err-write-clause-calls g c = run_stops c.from_residual.result _ _ c.from_residual.ensures.0 (run_once false _ _ c.in_err-write.ensures.call)
+
+pub returns-clause-calls : goal.returns-clause-calls
+returns-clause-calls g c = run_once true _ _ c.in_ok-write.ensures.call

@@ -1,12 +1,12 @@
-use Rattle.std.proofs.Common.{◌≡◌, ◌<◌, ◌+◌, ◌∷◌, ◌∙◌, ℕ, true, List, [], drop, get_or, refl, sym, ap, subst, rules}
+use Rattle.std.proofs.Common.{◌≡◌, ◌<◌, ◌+◌, ◌∷◌, ◌∙◌, ℕ, true, List, [], drop, get_or, refl, sym, ap, subst, rules, false}
 use Rattle.std.proofs.lemmas.List.{drop_more}
 use Rattle.store_api.specs.Ascending.{is_ascending}
 use Rattle.store_api.specs.declared.leaves.Leaf.{Leaf}
 use Rattle.store_api.specs.Volumes.{replaced}
+use Rattle.epoch.proofs.CallLemmas.{run_more, run_none, run_stops}
 use Rattle.epoch.proofs.PastLemmas.{followed, itself}
 use Rattle.flat_volume.specs.Writing.{AreSpare, leaves_by}
 use Rattle.flat_volume.proofs.LeafLemmas.{leaves_more, none_left, rest_ascends, sealed_more, spare_here, spare_more}
-use Rattle.flat_volume.proofs.ReadLemmas.{run_more}
 use Rattle.flat_volume.proofs.write.write_leaves.Goals as goal
 
 abbrev leaf_at : List Leaf → ℕ → Leaf
@@ -14,7 +14,7 @@ leaf_at xs i = get_or xs i (record { number = 0; bytes = [] })
 
 pub loop-leaf-init : goal.loop-leaf-init
 loop-leaf-init g c = record {
-  calls = search rules;
+  calls = run_none _;
   ascending = c.requires.ascending;
   honest = λ h. h;
   past = λ h. itself _;
@@ -82,3 +82,7 @@ returns-in_err-write_leaf-clause-run g c h open_at base low high first s run =
 pub returns-clause-leaves : goal.returns-clause-leaves
 returns-clause-leaves g c h key are =
     sym (none_left c.args.region c.args.leaves.now c.loop-leaf.leaf-index _ c.loop-leaf-test.false) ∙ c.loop-leaf.invariant.leaves h key are
+
+pub returns-in_err-write_leaf-clause-calls : goal.returns-in_err-write_leaf-clause-calls
+returns-in_err-write_leaf-clause-calls g c =
+    run_stops c.from_residual.result _ _ c.from_residual.ensures.0 (run_more false _ _ _ c.loop-leaf.invariant.calls c.in_err-write_leaf.ensures.calls)

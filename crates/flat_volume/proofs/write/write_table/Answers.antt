@@ -1,12 +1,13 @@
-use Rattle.std.proofs.Common.{◌∙◌, true, refl, sym, ap, rules, arith}
+use Rattle.std.proofs.Common.{◌∙◌, true, refl, sym, ap, rules, arith, false}
+use Rattle.epoch.proofs.CallLemmas.{call_more, run_none, run_stops}
 use Rattle.epoch.proofs.PastLemmas.{followed, itself, once}
 use Rattle.epoch.proofs.RunLemmas.{over_write}
-use Rattle.flat_volume.proofs.ReadLemmas.{call_more, placed_step}
+use Rattle.flat_volume.proofs.ReadLemmas.{placed_step}
 use Rattle.flat_volume.proofs.write.write_table.Goals as goal
 
 pub loop-i-init : goal.loop-i-init
 loop-i-init g c = record {
-  calls = search rules;
+  calls = run_none _;
   honest = λ h. h;
   past = λ h. itself _;
   run = λ h open_at base low high first opens run. run;
@@ -46,3 +47,6 @@ returns-in_err-write-clause-elsewhere g c h k ne =
 
 pub returns-clause-placed : goal.returns-clause-placed
 returns-clause-placed g c = search rules
+
+pub returns-in_err-write-clause-calls : goal.returns-in_err-write-clause-calls
+returns-in_err-write-clause-calls g c = run_stops c.from_residual.result _ _ c.from_residual.ensures.0 (call_more false _ _ _ c.loop-i.invariant.calls c.in_err-write.ensures.call)

@@ -15,3 +15,39 @@ returns-in-Call-clause-below g c = λ below. subst g.V.Volume.keeper.honest_belo
 
 pub returns-in-Cancel-clause-below : goal.returns-in-Cancel-clause-below
 returns-in-Cancel-clause-below g c = λ below. subst g.V.Volume.keeper.honest_below (sym c.cancel.ensures.volume) below
+
+pub returns-in-Cancel-clause-world : goal.returns-in-Cancel-clause-world
+returns-in-Cancel-clause-world g c = rw c.in-Cancel.is c.cancel.ensures.world
+
+pub returns-in-Cancel-clause-told : goal.returns-in-Cancel-clause-told
+returns-in-Cancel-clause-told g c = rw c.in-Cancel.is c.cancel.ensures.told
+
+pub returns-in-Call-clause-world : goal.returns-in-Call-clause-world
+returns-in-Call-clause-world g c = rw c.in-Call.is c.call.ensures.world
+
+pub returns-in-Call-clause-told : goal.returns-in-Call-clause-told
+returns-in-Call-clause-told g c = rw c.in-Call.is c.call.ensures.told
+
+pub returns-in-Turn-clause-world : goal.returns-in-Turn-clause-world
+returns-in-Turn-clause-world g c = rw c.in-Turn.is c.turn.ensures.world
+
+pub returns-in-Turn-clause-told : goal.returns-in-Turn-clause-told
+returns-in-Turn-clause-told g c = rw c.in-Turn.is c.turn.ensures.told
+
+pub returns-in-Turn-clause-stands : goal.returns-in-Turn-clause-stands
+returns-in-Turn-clause-stands g c = rw c.in-Turn.is c.turn.ensures.stands
+
+pub returns-in-Turn-clause-moments : goal.returns-in-Turn-clause-moments
+returns-in-Turn-clause-moments g c = rw c.in-Turn.is c.turn.ensures.moments
+
+pub returns-in-Turn-clause-others : goal.returns-in-Turn-clause-others
+returns-in-Turn-clause-others g c = rw c.in-Turn.is c.turn.ensures.others
+
+pub returns-in-Turn-clause-sound : goal.returns-in-Turn-clause-sound
+returns-in-Turn-clause-sound g c = c.turn.ensures.sound
+
+pub returns-in-Turn-clause-counts : goal.returns-in-Turn-clause-counts
+returns-in-Turn-clause-counts g c = c.turn.ensures.counts
+
+pub returns-in-Turn-clause-below : goal.returns-in-Turn-clause-below
+returns-in-Turn-clause-below g c = c.turn.ensures.below
