@@ -3,7 +3,7 @@ use Rattle.app_side.specs.Represents.{is_lost}
 use Rattle.app_side.specs.declared.side.AppSide.{AppSide as Side}
 use Rattle.tee_core.proofs.Advancing.{change_all, may_all, moved_lost, moved_plain, replies_all, served_lost, served_plain, sound_all, within_all}
 use Rattle.tee_core.proofs.Counts.{booted_kept, mapped_length, set_length, turns_apart, turns_one}
-use Rattle.tee_core.proofs.SideLemmas.{lost_at}
+use Rattle.tee_core.proofs.SideLemmas.{lost_at, turns_here}
 use Rattle.tee_core.proofs.Turning.{below_kept, counts_kept}
 use Rattle.tee_core.proofs.tee.TeeOver.advance.Goals as goal
 
@@ -179,3 +179,16 @@ returns-in_default-clause-replies g c =
     replies_all g.V.Volume.keeper g.met.V.Volume.rests g.met.V.Volume.since_earlier g.A.Application.behaviour items c.args.app c.args.instance c.turn_over-kind.result
     c.turn_over-kind.new.replies c.index_mut.result.now _ c.turn_over-kind.new.side c.args.self.now.volume c.turn_over-kind.new.volume c.requires.known
     c.index_mut.ensures.value c.turn_over-kind.ensures.turn
+
+pub turn_over-kind-requires-clause-few : goal.turn_over-kind-requires-clause-few
+turn_over-kind-requires-clause-few g c =
+    let here = turns_here c.args.self.now.sides.items c.args.app c.index_mut.result.now _ c.requires.known c.index_mut.ensures.value in
+    omega (arith, here, c.requires.room)
+
+pub returns-in-Lost-clause-apps : goal.returns-in-Lost-clause-apps
+returns-in-Lost-clause-apps g c =
+    let items = c.args.self.now.sides.items in
+    mapped_length c.lose_all.new.sides.items (set items c.args.app c.turn_over-kind.new.side) c.lose_all.ensures.turns ∙ set_length items c.args.app c.turn_over-kind.new.side
+
+pub returns-in_default-clause-apps : goal.returns-in_default-clause-apps
+returns-in_default-clause-apps g c = set_length c.args.self.now.sides.items c.args.app c.turn_over-kind.new.side

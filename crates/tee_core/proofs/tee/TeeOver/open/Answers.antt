@@ -39,3 +39,18 @@ returns-clause-world g c = λ honest n h stores at_rest size sound.
 
 pub returns-clause-turns : goal.returns-clause-turns
 returns-clause-turns g c = λ app. turns_started 0 c.args.hosts.items c.args.seed (λ k. empty_store) c.in-Ok.sides.items (c.in-Ok.ensures.world (λ k. empty_store)) app
+
+pub returns-clause-opened : goal.returns-clause-opened
+returns-clause-opened g c = c.in_ok-volume.ensures.calls
+
+pub returns-clause-apps : goal.returns-clause-apps
+returns-clause-apps g c = c.in-Ok.ensures.count
+
+pub returns-clause-honest : goal.returns-clause-honest
+returns-clause-honest g c = c.in_ok-volume.ensures.honest
+
+pub returns-clause-rule : goal.returns-clause-rule
+returns-clause-rule g c = c.in_ok-volume.ensures.rule
+
+pub returns-clause-exact : goal.returns-clause-exact
+returns-clause-exact g c = c.in_ok-volume.ensures.exact
