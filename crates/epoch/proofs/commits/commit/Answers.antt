@@ -205,3 +205,18 @@ returns-clause-calls g c =
     let wrote = run_more true _ _ _ c.in_ok-shut.ensures.calls c.in_ok-root.ensures.calls in
     let laid = run_more true _ _ _ wrote c.in_ok-lay.ensures.calls in
     run_more true _ _ _ laid c.in_ok-_counter.ensures.calls
+
+pub returns-clause-root : goal.returns-clause-root
+returns-clause-root g c = c.in_ok-root.ensures.root
+
+pub returns-clause-checked : goal.returns-clause-checked
+returns-clause-checked g c key checks = c.in_ok-root.ensures.checked key checks
+
+pub returns-clause-honest : goal.returns-clause-honest
+returns-clause-honest g c h = c.in_ok-_counter.ensures.honest (c.in_ok-lay.ensures.honest (c.in_ok-root.ensures.honest (c.in_ok-shut.ensures.honest h)))
+
+pub returns-clause-kept : goal.returns-clause-kept
+returns-clause-kept g c h before e mounted fits = tt
+
+pub returns-clause-steady : goal.returns-clause-steady
+returns-clause-steady g c h before e mounted fits = tt
