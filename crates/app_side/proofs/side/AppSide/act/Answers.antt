@@ -154,3 +154,13 @@ returns-in-Panicked g c inst found =
           (subst (λ (k : Resolution (Machine g.row.A.Denot)). CrashTurns t done.kind (in_doubt_by (served (serving_of done.kind) m ask k)) c.args.store.now c.carry_out.new.store)
           (sym (resolution_below m inst.number c.args.number r ask c.if-entry-ge-MAX_ASKS.false numbered)) (met.crash honest just doubt));
     }
+
+pub returns-in-Err : goal.returns-in-Err
+returns-in-Err g c inst found = record {
+  step = tt;
+  kind = tt;
+  crash = tt;
+  tried = c.carry_out.ensures.tried;
+  want = c.in-Err.ensures.want;
+  starves = record { alike = c.in-Err.ensures.starves; none = c.requires.none };
+}
