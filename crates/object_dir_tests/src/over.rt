@@ -20,7 +20,6 @@ fn change_in<S: AppStore>(store: &mut S, change: &Change) -> Result<(), StoreAns
 }
 
 /// Makes a change of the objects of a region of a volume.
-#[tactic(auto, using(crate::proofs::References::same_reference))]
 pub fn change_over<V: Volume>(
     alloc: Global,
     volume: &mut V,
