@@ -23,7 +23,7 @@ none_any (Lost true) (Some store) old new o left = inl left
 none_any (Lost false) in_doubt old new o left = left
 none_any Corrupted in_doubt old new o left = left
 
-whatever : (kind : TurnKind) (fact : Type 0) → fact → UnlessInDoubt kind fact
+pub whatever : (kind : TurnKind) (fact : Type 0) → fact → UnlessInDoubt kind fact
 whatever Plain fact holds = holds
 whatever (Lost true) fact holds = tt
 whatever (Lost false) fact holds = holds

@@ -1,4 +1,6 @@
+pub mod ChangeLemmas
 pub mod Crashes
+pub mod GivenLemmas
 pub mod HandleLemmas
 pub mod HeldLemmas
 pub mod KeyLemmas

@@ -9,10 +9,10 @@ use Rattle.store_api.specs.declared.answer.StoreAnswer.TheVariants as stores
 use Rattle.store_api.specs.declared.object.Object.{Object}
 use Rattle.store_api.specs.Keeping.{Answers, Cause, Contents, CrashLeaves, HasCause, IsCall, KeepsPast, Keeper, LeavesJust, Reads, Remains, Status, TellsDamage, damage_in}
 use Rattle.store_api.specs.declared.object.Facts.{Facts}
-use Rattle.store_api.specs.Limits.{IsWithinLimits}
+use Rattle.store_api.specs.Limits.{AreFacts, IsSecret, IsWithinLimits}
 use Rattle.store_api.specs.Stores.{Store, facts_of, found, object_at, secret_at, with_object}
 use Rattle.transient_obj.specs.declared.object_key.ObjectKey.{ObjectKey}
-use Rattle.object_asks.specs.Sources.{stored_key}
+use Rattle.object_asks.specs.Sources.{IsObjectKey, stored_key}
 use Rattle.object_asks.specs.declared.turn.TurnKind.{TurnKind}
 use Rattle.object_asks.specs.declared.outcome.Outcome.{Outcome as Result_of}
 use Rattle.object_asks.specs.declared.outcome.Outcome.TheVariants as outcomes
@@ -23,7 +23,7 @@ use Rattle.object_asks.proofs.Crashes.{only_old}
 
 -- ---- what doesn't rest on the type of an answer's value
 
-cause_of : (A B : Type 0) (e : StoreAnswer) (s t : Status) → Cause {A = A} (Err e) s t → Cause {A = B} (Err e) s t
+pub cause_of : (A B : Type 0) (e : StoreAnswer) (s t : Status) → Cause {A = A} (Err e) s t → Cause {A = B} (Err e) s t
 cause_of A B stores.NotFound s t met = met
 cause_of A B stores.Exists s t met = met
 cause_of A B stores.NoSpace s t met = met
@@ -33,7 +33,7 @@ cause_of A B (stores.Corrupt tags) s t met = met
 cause_of A B (stores.Garbled leaf) s t met = met
 cause_of A B stores.NoMemory s t met = met
 
-damage_of : (A B : Type 0) (e : StoreAnswer) (P : StoreAnswer → Type 0) → TellsDamage {A = A} (Err e) P → TellsDamage {A = B} (Err e) P
+pub damage_of : (A B : Type 0) (e : StoreAnswer) (P : StoreAnswer → Type 0) → TellsDamage {A = A} (Err e) P → TellsDamage {A = B} (Err e) P
 damage_of A B stores.NotFound P told = tt
 damage_of A B stores.Exists P told = tt
 damage_of A B stores.NoSpace P told = tt
@@ -43,7 +43,7 @@ damage_of A B (stores.Corrupt tags) P told = told
 damage_of A B (stores.Garbled leaf) P told = told
 damage_of A B stores.NoMemory P told = tt
 
-reports_of : (A B : Type 0) (e : StoreAnswer) → damage_in {A = A} (Err e) ≡ damage_in {A = B} (Err e)
+pub reports_of : (A B : Type 0) (e : StoreAnswer) → damage_in {A = A} (Err e) ≡ damage_in {A = B} (Err e)
 reports_of A B stores.NotFound = refl
 reports_of A B stores.Exists = refl
 reports_of A B stores.NoSpace = refl
@@ -55,7 +55,7 @@ reports_of A B stores.NoMemory = refl
 
 -- ---- answers that differ
 
-ok_err : {A : Type 0} (a : A) (e : StoreAnswer) → Ok a ≡ Err e → ⊥
+pub ok_err : {A : Type 0} (a : A) (e : StoreAnswer) → Ok a ≡ Err e → ⊥
 ok_err a e same = cc
 
 err_ok : {A : Type 0} (e : StoreAnswer) (a : A) → Err e ≡ Ok a → ⊥
@@ -236,44 +236,36 @@ module _ {D : Type 0} (K : Keeper D) where
       past = λ h. past_after old mid new (one.past h) (two.past (one.honest h));
     }
 
-    -- two reads are one of what both give
-    pub read_after : {A : Type 0} (stated : Store → Result A StoreAnswer) (Bounds : A → Type 0) (result : Result A StoreAnswer) (old mid new : D) → Looked old mid
-        → (K.has_model old → Answers result (stated (K.contents old).store)) → Reads K stated Bounds result mid new → Reads K stated Bounds result old new
-    read_after stated Bounds result old mid new one answers two = record {
+    -- a read after another is one from the beginning, of what both give
+    read_after : {A : Type 0} (stated : Store → Result A StoreAnswer) (Bounds : A → Type 0) (result : Result A StoreAnswer) (old mid new : D) → Looked old mid
+        → (K.has_model old → Answers result (stated (K.contents old).store)) → (K.has_model mid → K.contents new ≡ K.contents mid) → IfOk result (λ a. Bounds a) → IsCall K 0 result mid new
+        → (K.honest mid → LeavesJust K mid (K.contents mid) → CrashLeaves K (K.contents mid) mid new) → Reads K stated Bounds result old new
+    read_after stated Bounds result old mid new one answers same bounds call crash = record {
       answer = answers;
-      same = λ t. two.same (one.model t) ∙ one.same t;
-      bounds = two.bounds;
-      call = call_after result old mid new one one.same two.call;
+      same = λ t. same (one.model t) ∙ one.same t;
+      bounds = bounds;
+      call = call_after result old mid new one one.same call;
       crash = λ h just.
           let first = one.crash h just in
-          leaves_after old mid new one (honest_model old h) first (two.crash (one.honest h) (just_after old mid one (honest_model old h) first));
+          leaves_after old mid new one (honest_model old h) first (crash (one.honest h) (just_after old mid one (honest_model old h) first));
     }
 
-  -- a read that went well, as one of something else
-  pub ok_read : {A B : Type 0} (stated : Store → Result A StoreAnswer) (Bounds : A → Type 0) (stated_ : Store → Result B StoreAnswer) (Bounds_ : B → Type 0) (a : A) (b : B) (old new : D)
-      → ((store : Store) → stated store ≡ Ok a → stated_ store ≡ Ok b) → Bounds_ b → Reads K stated Bounds (Ok a) old new → Reads K stated_ Bounds_ (Ok b) old new
-  ok_read stated Bounds stated_ Bounds_ a b old new agree bounds read = record {
-    answer = λ t. agree (K.contents old).store (read.answer t);
-    same = read.same;
-    bounds = bounds;
-    call = record {
-      model = read.call.model;
-      still = read.call.still;
-      limits = read.call.limits;
-      cause =
-          record { cause = read.call.cause.cause; later = read.call.cause.later; foundation = read.call.cause.foundation; reports = read.call.cause.reports };
-      attempts =
-          read.call.attempts;
-      damage = tt;
-      below = read.call.below;
-      honest = λ h. ((read.call.honest h).0, tt);
-      quiet = read.call.quiet;
-      past = read.call.past;
-    };
-    crash = read.crash;
+  -- a call that went well, as one with another value
+  ok_call : {A B : Type 0} (a : A) (b : B) (old new : D) → IsCall K 0 (Ok a) old new → IsCall K 0 (Ok b) old new
+  ok_call a b old new call = record {
+    model = call.model;
+    still = call.still;
+    limits = call.limits;
+    cause = record { cause = call.cause.cause; later = call.cause.later; foundation = call.cause.foundation; reports = call.cause.reports };
+    attempts = call.attempts;
+    damage = tt;
+    below = call.below;
+    honest = λ h. ((call.honest h).0, tt);
+    quiet = call.quiet;
+    past = call.past;
   }
 
-  -- a read that gave nothing
+  -- a read that gave nothing, as one of something else
   pub err_read : {A B : Type 0} (stated : Store → Result A StoreAnswer) (Bounds : A → Type 0) (stated_ : Store → Result B StoreAnswer) (Bounds_ : B → Type 0) (e : StoreAnswer) (old new : D)
       → ((store : Store) → Answers {A = A} (Err e) (stated store) → Answers {A = B} (Err e) (stated_ store)) → Reads K stated Bounds (Err e) old new → Reads K stated_ Bounds_ (Err e) old new
   err_read {A} {B} stated Bounds stated_ Bounds_ e old new agree read = record {
@@ -304,7 +296,7 @@ module _ {D : Type 0} (K : Keeper D) where
 -- ---- of the same object
 
 -- what isn't there isn't there, whatever is asked of it
-pub not_there : {A B : Type 0} (o : Option Object) (f : Object → A) (g : Object → B) (e : StoreAnswer) → Answers {A = A} (Err e) (with_object o (λ x. Ok (f x))) →
+not_there : {A B : Type 0} (o : Option Object) (f : Object → A) (g : Object → B) (e : StoreAnswer) → Answers {A = A} (Err e) (with_object o (λ x. Ok (f x))) →
     Answers {A = B} (Err e) (with_object o (λ x. Ok (g x)))
 not_there None f g stores.NotFound told = refl
 not_there {A} None f g stores.Exists told = absurd (differ_exists A told)
@@ -319,6 +311,38 @@ not_there o f g (stores.Garbled leaf) told = tt
 not_there o f g stores.NoMemory told = tt
 
 -- kind and usage by the one read, the secret by the other
-pub key_of_both : (store : Store) (id : List ℕ) (facts : Facts) (secret : List ℕ) → found store id ≡ Ok facts → secret_at store id ≡ Ok secret →
+key_of_both : (store : Store) (id : List ℕ) (facts : Facts) (secret : List ℕ) → found store id ≡ Ok facts → secret_at store id ≡ Ok secret →
     stored_key store id ≡ Ok (record { kind = facts.kind; usage = facts.usage; secret = secret })
 key_of_both store id facts secret one two = both_of (object_at store id) facts secret one two
+
+-- who is honest has a store to answer from
+module _ {D : Type 0} (K : Keeper D) (honest_model : (d : D) → K.honest d → K.has_model d) (id : List ℕ) where
+  abbrev key_of : Store → Result ObjectKey StoreAnswer
+  key_of store = stored_key store id
+
+  abbrev key_in : Object → ObjectKey
+  key_in x = record { kind = x.kind; usage = x.usage; secret = x.secret }
+
+  -- what tells no facts gives no key
+  pub facts_refused : (e : StoreAnswer) (old new : D) → Reads K (λ store. found store id) AreFacts (Err e) old new → Reads K key_of IsObjectKey (Err e) old new
+  facts_refused e old new read =
+      err_read K (λ store. found store id) AreFacts key_of IsObjectKey e old new (λ store told. not_there (object_at store id) facts_of key_in e told) read
+
+  -- nor does what tells no secret behind them
+  pub secret_refused : (facts : Facts) (e : StoreAnswer) (old mid new : D) → Reads K (λ store. found store id) AreFacts (Ok facts) old mid
+      → Reads K (λ store. secret_at store id) IsSecret (Err e) mid new → Reads K key_of IsObjectKey (Err e) old new
+  secret_refused facts e old mid new one two =
+      let first = looked K (λ store. found store id) AreFacts facts old mid one in
+      let none : Reads K key_of IsObjectKey (Err e) mid new =
+      err_read K (λ store. secret_at store id) IsSecret key_of IsObjectKey e mid new (λ store told. not_there (object_at store id) (λ x. x.secret) key_in e told) two in
+      read_after K honest_model key_of IsObjectKey (Err e) old mid new first
+      (λ t. subst (λ (k : Contents). Answers {A = ObjectKey} (Err e) (key_of k.store)) (first.same t) (none.answer (first.model t))) none.same tt none.call none.crash
+
+  pub key_read : (facts : Facts) (secret : List ℕ) (old mid new : D) → Reads K (λ store. found store id) AreFacts (Ok facts) old mid
+      → Reads K (λ store. secret_at store id) IsSecret (Ok secret) mid new → Reads K key_of IsObjectKey (Ok (record { kind = facts.kind; usage = facts.usage; secret = secret })) old new
+  key_read facts secret old mid new one two =
+      let key : ObjectKey = record { kind = facts.kind; usage = facts.usage; secret = secret } in
+      let first = looked K (λ store. found store id) AreFacts facts old mid one in
+      read_after K honest_model key_of IsObjectKey (Ok key) old mid new first
+      (λ t. key_of_both (K.contents old).store id facts secret (one.answer t) (subst (λ (k : Contents). secret_at k.store id ≡ Ok secret) (first.same t) (two.answer (first.model t))))
+      two.same two.bounds (ok_call K secret key mid new two.call) two.crash

@@ -275,7 +275,7 @@ module _ {D : Type 0} (K : Keeper D) where
   }
 
   -- an ask that never needs the store
-  left_in : (outcome : Result_of) (stated : Outcome Held) (held left : Held) (old : D) → IsOutcome outcome stated held left
+  pub left_in : (outcome : Result_of) (stated : Outcome Held) (held left : Held) (old : D) → IsOutcome outcome stated held left
       → IsOutcome outcome (outcome_in (holding (objects_in held (K.contents old))) stated) (objects_in held (K.contents old)) (objects_in left (K.contents old))
   left_in (outcomes.Answered answer) stated held left old is = ap (outcome_in (holding (objects_in held (K.contents old)))) is
   left_in (outcomes.Returned ending) stated held left old is = (ap (outcome_in (holding (objects_in held (K.contents old)))) is.0, ap (λ h. objects_in h (K.contents old)) is.1)

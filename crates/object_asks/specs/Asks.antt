@@ -37,6 +37,13 @@ changes_store (asked.ObjWrite object bytes) = true
 changes_store (asked.ObjTruncate object n) = true
 changes_store ask = false
 
+-- an ask whose bytes are handed on to the store
+abbrev pub hands_on : Ask → Bool
+hands_on (asked.ObjCreate storage id flags attr content) = true
+hands_on (asked.ObjRename object id) = true
+hands_on (asked.ObjWrite object bytes) = true
+hands_on ask = false
+
 -- an ask that may need the store
 abbrev pub may_need_store : Ask → Bool
 may_need_store (asked.ObjOpen storage id flags) = true

@@ -140,7 +140,9 @@ fn create_closed<T: AppStore>(
         content,
         overwrite: has_bit(Flags::OVERWRITE, Flags(flags)),
     };
-    match store.apply(&change) {
+    let answer = store.apply(&change);
+    drop(change);
+    match answer {
         Ok(()) => Ok(Outcome::Answered(Answer::Number(number))),
         Err(answer) => {
             held.close(instance, number);

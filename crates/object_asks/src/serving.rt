@@ -1,7 +1,7 @@
 //! Asks, each to the function that serves it.
 
-ghost use Rattle.std.specs.Prelude.{◌≡◌};
-ghost use Rattle.object_asks.specs.Asks.{changes_store, object_resolution};
+ghost use Rattle.std.specs.Prelude.{◌≡◌, false};
+ghost use Rattle.object_asks.specs.Asks.{changes_store, hands_on, object_resolution};
 ghost use Rattle.object_asks.specs.Serving.{ServesAsk, objects_in};
 
 use crate::held::Held;
@@ -12,48 +12,31 @@ use std::alloc::Global;
 use store_api::AppStore;
 use tee_base::NoMemory;
 
-/// An ask about objects, enumerators or keys. `KeyGenerate` rests on random bytes, and `random_wanted` and `generate` serve it;
-/// an ask of another family doesn't come here. Both end the entry as a panic does.
-///
-/// # Errors
-///
-/// NoMemory changes nothing.
+/// An ask of which no bytes are handed on.
 #[tactic(auto, using(crate::proofs::ServingLemmas::serves_held), unfolding(crate::specs::Asks::object_resolution))]
-pub fn serve<T: AppStore>(
+fn serve_lent<T: AppStore>(
     alloc: Global,
     held: &mut Held,
     store: &mut T,
     instance: u8,
-    ask: Ask,
+    ask: &Ask,
 ) -> Result<Served, NoMemory>
+    requires { hands_on ask.now ≡ false }
     ensures { let before = objects_in held.old (T.keeper.contents store.old)
-        in ServesAsk T.keeper result (object_resolution before instance ask)
-        (changes_store ask) held.old held.new store.old store.new }
+        in ServesAsk T.keeper result (object_resolution before instance ask.now)
+        (changes_store ask.now) held.old held.new store.old store.new }
 {
-    match ask {
-        Ask::ObjOpen { storage, id, flags } => {
-            let served = opening::open(held, store, instance, storage, id.as_slice(), flags);
-            drop(id);
-            served
-        }
-        Ask::ObjCreate {
+    match *ask {
+        Ask::ObjOpen {
             storage,
-            id,
+            ref id,
             flags,
-            attr,
-            content,
-        } => opening::create(
-            alloc, held, store, instance, storage, id, flags, attr, content,
-        ),
+        } => opening::open(held, store, instance, storage, id.as_slice(), flags),
         Ask::ObjClose { object } => Ok(names::close(held, instance, object)),
         Ask::ObjDelete { object } => names::delete(alloc, held, store, instance, object),
-        Ask::ObjRename { object, id } => names::rename(alloc, held, store, instance, object, id),
         Ask::ObjInfo { object } => names::info(alloc, held, store, instance, object),
         Ask::ObjRead { object, count } => {
             stream::read(alloc, held, store, instance, object, count)
-        }
-        Ask::ObjWrite { object, bytes } => {
-            stream::write(alloc, held, store, instance, object, bytes)
         }
         Ask::ObjTruncate { object, length } => {
             stream::truncate(alloc, held, store, instance, object, length)
@@ -73,10 +56,8 @@ pub fn serve<T: AppStore>(
         Ask::KeyNew { kind, max_bits } => {
             Ok(Served::plain(keys::create(held, instance, kind, max_bits)?))
         }
-        Ask::KeyPopulate { object, secret } => {
-            let outcome = keys::populate(held, instance, object, secret.as_slice());
-            drop(secret);
-            Ok(Served::plain(outcome))
+        Ask::KeyPopulate { object, ref secret } => {
+            Ok(Served::plain(keys::populate(held, instance, object, secret.as_slice())))
         }
         Ask::KeyReset { object } => Ok(Served::plain(keys::reset(held, instance, object))),
         Ask::KeySecret { object, room } => {
@@ -86,9 +67,45 @@ pub fn serve<T: AppStore>(
         Ask::KeyRestrict { object, usage } => Ok(Served::plain(keys::restrict(
             held, instance, object, usage,
         ))),
-        _ => {
-            drop(ask);
-            Ok(panicked())
+        _ => Ok(panicked()),
+    }
+}
+
+/// An ask about objects, enumerators or keys. `KeyGenerate` rests on random bytes, and `random_wanted` and `generate` serve it;
+/// an ask of another family doesn't come here. Both end the entry as a panic does.
+///
+/// # Errors
+///
+/// NoMemory changes nothing.
+pub fn serve<T: AppStore>(
+    alloc: Global,
+    held: &mut Held,
+    store: &mut T,
+    instance: u8,
+    ask: Ask,
+) -> Result<Served, NoMemory>
+    ensures { let before = objects_in held.old (T.keeper.contents store.old)
+        in ServesAsk T.keeper result (object_resolution before instance ask)
+        (changes_store ask) held.old held.new store.old store.new }
+{
+    match ask {
+        Ask::ObjCreate {
+            storage,
+            id,
+            flags,
+            attr,
+            content,
+        } => opening::create(
+            alloc, held, store, instance, storage, id, flags, attr, content,
+        ),
+        Ask::ObjRename { object, id } => names::rename(alloc, held, store, instance, object, id),
+        Ask::ObjWrite { object, bytes } => {
+            stream::write(alloc, held, store, instance, object, bytes)
+        }
+        other => {
+            let served = serve_lent(alloc, held, store, instance, &other);
+            drop(other);
+            served
         }
     }
 }

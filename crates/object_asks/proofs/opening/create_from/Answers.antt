@@ -1,10 +1,20 @@
-use Rattle.std.proofs.Common.{true, ap, sym, ◌∙◌}
+use Rattle.std.proofs.Common.{◌≡◌, Err, true, ap, refl, rules, sym, ◌∙◌}
 use Rattle.store_api.specs.Keeping.{Contents}
+use Rattle.store_api.specs.Stores.{Store}
 use Rattle.object_asks.specs.Asks.{created, created_with}
 use Rattle.object_asks.specs.Serving.{objects_in}
 use Rattle.object_asks.specs.Sources.{IsObjectKey, stored_key}
+use Rattle.object_asks.proofs.GivenLemmas.{given_refusal}
 use Rattle.object_asks.proofs.ReadingLemmas.{given_after, looked}
 use Rattle.object_asks.proofs.opening.create_from.Goals as goal
+
+pub returns-in_err-key : goal.returns-in_err-key
+returns-in_err-key g c =
+    let t = g.T.AppStore.keeper in
+    let before = objects_in c.args.held.now (t.contents c.args.store.now) in
+    let is : c.from_residual.result ≡ Err c.in_err-key.field-0.0 = search rules in
+    rw is (given_refusal t g.met.T.AppStore.honest_model (λ (store : Store). stored_key store c.args.attr.now) _ c.args.store.now c.read_key.new.store c.in_err-key.field-0.0
+    (created_with before c.args.instance c.args.id c.args.flags c.args.content) true c.args.held.now refl c.in_err-key.ensures)
 
 pub returns : goal.returns
 returns g c =
