@@ -1,4 +1,5 @@
 pub mod Reactions
+pub mod Parameters
 pub mod StoreCommands
 pub mod StoreAnswers
 pub mod Store

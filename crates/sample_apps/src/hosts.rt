@@ -1,6 +1,6 @@
 //! The hosts that carry the sample applications.
 
-ghost use Rattle.std.specs.Prelude.{◌≡◌, IfOk};
+ghost use Rattle.std.specs.Prelude.{◌≡◌, ◌++◌, ◌∷◌, [], IfOk, OnOk};
 ghost use Rattle.app_api.specs.Hosts.{HostsFit};
 ghost use Rattle.sample_apps.specs.Samples as samples;
 
@@ -39,23 +39,28 @@ const MANY_INSTANCES: Properties = Properties {
     keep: false,
 };
 
-/// A host whose identifier has this last digit.
-fn host(
+/// Adds a host whose identifier has this last digit. Nothing is said of the hosts where there is no memory for it.
+fn add(
+    hosts: &mut Vec<Host<Sample>>,
     alloc: Global,
     name: &[u8],
     last: u8,
     properties: Properties,
     template: Sample,
-) -> Result<Host<Sample>, NoMemory>
-    ensures { IfOk result (λ host. host ≡ samples.host_of name.now last properties template) }
+) -> Result<(), NoMemory>
+    ensures { OnOk result (hosts.new.items
+        ≡ hosts.old.items ++ samples.host_of name.now last properties template ∷ []) }
 {
     match Bytes::from_slice(alloc, name) {
-        Ok(name) => Ok(Host {
-            name,
-            id: Uuid::from_u128(0x0000_0000_0000_4000_8000_0000_0000_0000 + last as u128),
-            properties,
-            template,
-        }),
+        Ok(name) => {
+            hosts.push(Host {
+                name,
+                id: Uuid::from_u128(0x0000_0000_0000_4000_8000_0000_0000_0000 + last as u128),
+                properties,
+                template,
+            })?;
+            Ok(())
+        }
         Err(answer) => {
             drop(template);
             Err(answer)
@@ -63,16 +68,24 @@ fn host(
     }
 }
 
-fn vault(alloc: Global) -> Result<Host<Sample>, NoMemory>
-    ensures { IfOk result (λ host. host ≡ samples.vault) }
+fn add_vault(hosts: &mut Vec<Host<Sample>>, alloc: Global) -> Result<(), NoMemory>
+    ensures { OnOk result (hosts.new.items ≡ hosts.old.items ++ samples.vault ∷ []) }
 {
-    host(alloc, b"vault", 1, ONE_SESSION, Sample::Store(Store::Idle))
+    add(
+        hosts,
+        alloc,
+        b"vault",
+        1,
+        ONE_SESSION,
+        Sample::Store(Store::Idle),
+    )
 }
 
-fn twin(alloc: Global) -> Result<Host<Sample>, NoMemory>
-    ensures { IfOk result (λ host. host ≡ samples.twin) }
+fn add_twin(hosts: &mut Vec<Host<Sample>>, alloc: Global) -> Result<(), NoMemory>
+    ensures { OnOk result (hosts.new.items ≡ hosts.old.items ++ samples.twin ∷ []) }
 {
-    host(
+    add(
+        hosts,
         alloc,
         b"twin",
         2,
@@ -81,16 +94,24 @@ fn twin(alloc: Global) -> Result<Host<Sample>, NoMemory>
     )
 }
 
-fn keep(alloc: Global) -> Result<Host<Sample>, NoMemory>
-    ensures { IfOk result (λ host. host ≡ samples.keep) }
+fn add_keep(hosts: &mut Vec<Host<Sample>>, alloc: Global) -> Result<(), NoMemory>
+    ensures { OnOk result (hosts.new.items ≡ hosts.old.items ++ samples.keep ∷ []) }
 {
-    host(alloc, b"keep", 3, ALL_SET, Sample::Count(Count::new()))
+    add(
+        hosts,
+        alloc,
+        b"keep",
+        3,
+        ALL_SET,
+        Sample::Count(Count::new()),
+    )
 }
 
-fn tally(alloc: Global) -> Result<Host<Sample>, NoMemory>
-    ensures { IfOk result (λ host. host ≡ samples.tally) }
+fn add_tally(hosts: &mut Vec<Host<Sample>>, alloc: Global) -> Result<(), NoMemory>
+    ensures { OnOk result (hosts.new.items ≡ hosts.old.items ++ samples.tally ∷ []) }
 {
-    host(
+    add(
+        hosts,
         alloc,
         b"tally",
         4,
@@ -99,10 +120,11 @@ fn tally(alloc: Global) -> Result<Host<Sample>, NoMemory>
     )
 }
 
-fn cipher(alloc: Global) -> Result<Host<Sample>, NoMemory>
-    ensures { IfOk result (λ host. host ≡ samples.cipher) }
+fn add_cipher(hosts: &mut Vec<Host<Sample>>, alloc: Global) -> Result<(), NoMemory>
+    ensures { OnOk result (hosts.new.items ≡ hosts.old.items ++ samples.cipher ∷ []) }
 {
-    host(
+    add(
+        hosts,
         alloc,
         b"cipher",
         5,
@@ -111,22 +133,29 @@ fn cipher(alloc: Global) -> Result<Host<Sample>, NoMemory>
     )
 }
 
-fn rogue(alloc: Global) -> Result<Host<Sample>, NoMemory>
-    ensures { IfOk result (λ host. host ≡ samples.rogue) }
+fn add_rogue(hosts: &mut Vec<Host<Sample>>, alloc: Global) -> Result<(), NoMemory>
+    ensures { OnOk result (hosts.new.items ≡ hosts.old.items ++ samples.rogue ∷ []) }
 {
-    host(alloc, b"rogue", 6, ONE_INSTANCE, Sample::Rogue(Rogue::Idle))
+    add(
+        hosts,
+        alloc,
+        b"rogue",
+        6,
+        ONE_INSTANCE,
+        Sample::Rogue(Rogue::Idle),
+    )
 }
 
 fn six(alloc: Global) -> Result<Vec<Host<Sample>>, NoMemory>
     ensures { IfOk result (λ hosts. hosts.items ≡ samples.hosts) }
 {
     let mut hosts = Vec::new(alloc);
-    hosts.push(vault(alloc)?)?;
-    hosts.push(twin(alloc)?)?;
-    hosts.push(keep(alloc)?)?;
-    hosts.push(tally(alloc)?)?;
-    hosts.push(cipher(alloc)?)?;
-    hosts.push(rogue(alloc)?)?;
+    add_vault(&mut hosts, alloc)?;
+    add_twin(&mut hosts, alloc)?;
+    add_keep(&mut hosts, alloc)?;
+    add_tally(&mut hosts, alloc)?;
+    add_cipher(&mut hosts, alloc)?;
+    add_rogue(&mut hosts, alloc)?;
     Ok(hosts)
 }
 

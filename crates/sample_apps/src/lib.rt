@@ -4,6 +4,7 @@
 mod count;
 mod crypt;
 mod hosts;
+mod parameters;
 mod reaction;
 mod rogue;
 mod sample;

@@ -3,6 +3,7 @@
 ghost use Rattle.std.specs.Prelude.{◌≡◌};
 ghost use Rattle.sample_apps.specs.CryptCommands as rows;
 
+use crate::parameters::take_bytes;
 use app_api::{Param, Params};
 use tee_base::Bytes;
 
@@ -29,18 +30,18 @@ pub enum Command {
 }
 
 #[tactic(auto, unfolding(crate::specs::CryptCommands::set_up_of))]
-fn set_up_of(params: Params) -> Option<Command>
-    ensures { result ≡ rows.set_up_of params.p0 params.p1 params.p2 params.p3 }
+fn set_up_of(params: &mut Params) -> Option<Command>
+    ensures { result ≡ rows.set_up_of params.old.p0 params.old.p1 params.old.p2 params.old.p3 }
 {
-    let Params { p0, p1, p2, p3 } = params;
-    let Param::MemIn(key) = p0 else {
-        return None;
-    };
-    let Param::MemIn(iv) = p2 else {
-        return None;
-    };
-    match (p1, p3) {
-        (Param::ValueIn(alg, mode), Param::Nothing) => {
+    match *params {
+        Params {
+            p0: Param::MemIn(_),
+            p1: Param::ValueIn(alg, mode),
+            p2: Param::MemIn(_),
+            p3: Param::Nothing,
+        } => {
+            let key = take_bytes(&mut params.p0)?;
+            let iv = take_bytes(&mut params.p2)?;
             Some(Command::SetUp(Plan { alg, mode, key, iv }))
         }
         _ => None,
@@ -48,15 +49,17 @@ fn set_up_of(params: Params) -> Option<Command>
 }
 
 #[tactic(auto, unfolding(crate::specs::CryptCommands::update_of))]
-fn update_of(params: Params) -> Option<Command>
-    ensures { result ≡ rows.update_of params.p0 params.p1 params.p2 params.p3 }
+fn update_of(params: &mut Params) -> Option<Command>
+    ensures { result ≡ rows.update_of params.old.p0 params.old.p1 params.old.p2 params.old.p3 }
 {
-    let Params { p0, p1, p2, p3 } = params;
-    let Param::MemIn(bytes) = p0 else {
-        return None;
-    };
-    match (p1, p2, p3) {
-        (Param::MemOut(room), Param::Nothing, Param::Nothing) => {
+    match *params {
+        Params {
+            p0: Param::MemIn(_),
+            p1: Param::MemOut(room),
+            p2: Param::Nothing,
+            p3: Param::Nothing,
+        } => {
+            let bytes = take_bytes(&mut params.p0)?;
             Some(Command::Update { bytes, room })
         }
         _ => None,
@@ -64,15 +67,17 @@ fn update_of(params: Params) -> Option<Command>
 }
 
 #[tactic(auto, unfolding(crate::specs::CryptCommands::finish_of))]
-fn finish_of(params: Params) -> Option<Command>
-    ensures { result ≡ rows.finish_of params.p0 params.p1 params.p2 params.p3 }
+fn finish_of(params: &mut Params) -> Option<Command>
+    ensures { result ≡ rows.finish_of params.old.p0 params.old.p1 params.old.p2 params.old.p3 }
 {
-    let Params { p0, p1, p2, p3 } = params;
-    let Param::MemIn(bytes) = p0 else {
-        return None;
-    };
-    match (p1, p2, p3) {
-        (Param::MemOut(room), Param::Nothing, Param::Nothing) => {
+    match *params {
+        Params {
+            p0: Param::MemIn(_),
+            p1: Param::MemOut(room),
+            p2: Param::Nothing,
+            p3: Param::Nothing,
+        } => {
+            let bytes = take_bytes(&mut params.p0)?;
             Some(Command::Finish { bytes, room })
         }
         _ => None,
@@ -80,18 +85,20 @@ fn finish_of(params: Params) -> Option<Command>
 }
 
 #[tactic(auto, unfolding(crate::specs::CryptCommands::compare_of))]
-fn compare_of(params: Params) -> Option<Command>
-    ensures { result ≡ rows.compare_of params.p0 params.p1 params.p2 params.p3 }
+fn compare_of(params: &mut Params) -> Option<Command>
+    ensures { result ≡ rows.compare_of params.old.p0 params.old.p1 params.old.p2 params.old.p3 }
 {
-    let Params { p0, p1, p2, p3 } = params;
-    let Param::MemIn(bytes) = p0 else {
-        return None;
-    };
-    let Param::MemIn(mac) = p1 else {
-        return None;
-    };
-    match (p2, p3) {
-        (Param::Nothing, Param::Nothing) => Some(Command::Compare { bytes, mac }),
+    match *params {
+        Params {
+            p0: Param::MemIn(_),
+            p1: Param::MemIn(_),
+            p2: Param::Nothing,
+            p3: Param::Nothing,
+        } => {
+            let bytes = take_bytes(&mut params.p0)?;
+            let mac = take_bytes(&mut params.p1)?;
+            Some(Command::Compare { bytes, mac })
+        }
         _ => None,
     }
 }
@@ -101,11 +108,14 @@ fn compare_of(params: Params) -> Option<Command>
 pub fn command_of(number: u32, params: Params) -> Option<Command>
     ensures { result ≡ rows.command_of number params }
 {
-    match number {
-        1 => set_up_of(params),
-        2 => update_of(params),
-        3 => finish_of(params),
-        4 => compare_of(params),
+    let mut params = params;
+    let command = match number {
+        1 => set_up_of(&mut params),
+        2 => update_of(&mut params),
+        3 => finish_of(&mut params),
+        4 => compare_of(&mut params),
         _ => None,
-    }
+    };
+    drop(params);
+    command
 }

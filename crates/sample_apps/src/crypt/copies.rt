@@ -38,40 +38,40 @@ impl Waiting {
     pub fn copy(&self, alloc: Global) -> Result<Waiting, NoMemory>
         ensures { IfOk result (λ waiting. waiting ≡ self.now) }
     {
-        Ok(match self {
-            Waiting::Nothing => Waiting::Nothing,
-            Waiting::Freeing { plan } => Waiting::Freeing {
+        match self {
+            Waiting::Nothing => Ok(Waiting::Nothing),
+            Waiting::Freeing { plan } => Ok(Waiting::Freeing {
                 plan: plan.copy(alloc)?,
-            },
-            Waiting::Allocating { plan } => Waiting::Allocating {
+            }),
+            Waiting::Allocating { plan } => Ok(Waiting::Allocating {
                 plan: plan.copy(alloc)?,
-            },
-            Waiting::MakingKey { key, class } => Waiting::MakingKey {
+            }),
+            Waiting::MakingKey { key, class } => Ok(Waiting::MakingKey {
                 key: key.copy(alloc)?,
                 class: class.copy(alloc)?,
-            },
-            Waiting::FillingKey { object, class } => Waiting::FillingKey {
+            }),
+            Waiting::FillingKey { object, class } => Ok(Waiting::FillingKey {
                 object: *object,
                 class: class.copy(alloc)?,
-            },
-            Waiting::SettingKey { object, class } => Waiting::SettingKey {
+            }),
+            Waiting::SettingKey { object, class } => Ok(Waiting::SettingKey {
                 object: *object,
                 class: class.copy(alloc)?,
-            },
-            Waiting::ClosingKey { class } => Waiting::ClosingKey {
+            }),
+            Waiting::ClosingKey { class } => Ok(Waiting::ClosingKey {
                 class: class.copy(alloc)?,
-            },
-            Waiting::Beginning { class } => Waiting::Beginning {
+            }),
+            Waiting::Beginning { class } => Ok(Waiting::Beginning {
                 class: class.copy(alloc)?,
-            },
-            Waiting::Enciphering => Waiting::Enciphering,
-            Waiting::Absorbing => Waiting::Absorbing,
-            Waiting::Finishing => Waiting::Finishing,
-            Waiting::Renewing { content } => Waiting::Renewing {
+            }),
+            Waiting::Enciphering => Ok(Waiting::Enciphering),
+            Waiting::Absorbing => Ok(Waiting::Absorbing),
+            Waiting::Finishing => Ok(Waiting::Finishing),
+            Waiting::Renewing { content } => Ok(Waiting::Renewing {
                 content: content.copy(alloc)?,
-            },
-            Waiting::Comparing => Waiting::Comparing,
-            Waiting::Judging { code } => Waiting::Judging { code: *code },
-        })
+            }),
+            Waiting::Comparing => Ok(Waiting::Comparing),
+            Waiting::Judging { code } => Ok(Waiting::Judging { code: *code }),
+        }
     }
 }

@@ -3,6 +3,7 @@
 ghost use Rattle.std.specs.Prelude.{◌≡◌};
 ghost use Rattle.sample_apps.specs.StoreCommands as rows;
 
+use crate::parameters::take_bytes;
 use crate::reaction::Reaction;
 use crate::store::Store;
 use app_api::{Ask, Outs, Param, Params};
@@ -48,45 +49,55 @@ pub fn watch(polls: u32) -> Reaction<Store>
 
 /// The object of an identifier, from a storage.
 #[tactic(auto, unfolding(crate::specs::StoreCommands::open_object))]
-fn open_object(params: Params) -> Reaction<Store>
-    ensures { result ≡ rows.open_object params.p0 params.p1 params.p2 params.p3 }
+fn open_object(params: &mut Params) -> Reaction<Store>
+    ensures { result ≡ rows.open_object params.old.p0 params.old.p1 params.old.p2 params.old.p3 }
 {
-    let Params { p0, p1, p2, p3 } = params;
-    let Param::MemIn(id) = p0 else {
-        return misfit();
-    };
-    match (p1, p2, p3) {
-        (Param::ValueIn(flags, storage), Param::ValueOut, Param::Nothing) => Reaction::ask_for(
-            Store::Opening,
-            Ask::ObjOpen { storage, id, flags },
-        ),
+    match *params {
+        Params {
+            p0: Param::MemIn(_),
+            p1: Param::ValueIn(flags, storage),
+            p2: Param::ValueOut,
+            p3: Param::Nothing,
+        } => {
+            let Some(id) = take_bytes(&mut params.p0) else {
+                return misfit();
+            };
+            Reaction::ask_for(Store::Opening, Ask::ObjOpen { storage, id, flags })
+        }
         _ => misfit(),
     }
 }
 
 /// An object of an identifier, with a content and the attributes of another.
 #[tactic(auto, unfolding(crate::specs::StoreCommands::create_object))]
-fn create_object(params: Params) -> Reaction<Store>
-    ensures { result ≡ rows.create_object params.p0 params.p1 params.p2 params.p3 }
+fn create_object(params: &mut Params) -> Reaction<Store>
+    ensures { result
+        ≡ rows.create_object params.old.p0 params.old.p1 params.old.p2 params.old.p3 }
 {
-    let Params { p0, p1, p2, p3 } = params;
-    let Param::MemIn(id) = p0 else {
-        return misfit();
-    };
-    let Param::MemIn(content) = p2 else {
-        return misfit();
-    };
-    match (p1, p3) {
-        (Param::ValueIn(flags, attr), Param::ValueOut) => Reaction::ask_for(
-            Store::Creating,
-            Ask::ObjCreate {
-                storage: PRIVATE_STORAGE,
-                id,
-                flags,
-                attr,
-                content,
-            },
-        ),
+    match *params {
+        Params {
+            p0: Param::MemIn(_),
+            p1: Param::ValueIn(flags, attr),
+            p2: Param::MemIn(_),
+            p3: Param::ValueOut,
+        } => {
+            let Some(id) = take_bytes(&mut params.p0) else {
+                return misfit();
+            };
+            let Some(content) = take_bytes(&mut params.p2) else {
+                return misfit();
+            };
+            Reaction::ask_for(
+                Store::Creating,
+                Ask::ObjCreate {
+                    storage: PRIVATE_STORAGE,
+                    id,
+                    flags,
+                    attr,
+                    content,
+                },
+            )
+        }
         _ => misfit(),
     }
 }
@@ -125,18 +136,22 @@ fn delete_object(params: &Params) -> Reaction<Store>
 
 /// Gives an object another identifier.
 #[tactic(auto, unfolding(crate::specs::StoreCommands::rename_object))]
-fn rename_object(params: Params) -> Reaction<Store>
-    ensures { result ≡ rows.rename_object params.p0 params.p1 params.p2 params.p3 }
+fn rename_object(params: &mut Params) -> Reaction<Store>
+    ensures { result
+        ≡ rows.rename_object params.old.p0 params.old.p1 params.old.p2 params.old.p3 }
 {
-    let Params { p0, p1, p2, p3 } = params;
-    let Param::MemIn(id) = p1 else {
-        return misfit();
-    };
-    match (p0, p2, p3) {
-        (Param::ValueIn(object, _), Param::Nothing, Param::Nothing) => Reaction::ask_for(
-            Store::Acting,
-            Ask::ObjRename { object, id },
-        ),
+    match *params {
+        Params {
+            p0: Param::ValueIn(object, _),
+            p1: Param::MemIn(_),
+            p2: Param::Nothing,
+            p3: Param::Nothing,
+        } => {
+            let Some(id) = take_bytes(&mut params.p1) else {
+                return misfit();
+            };
+            Reaction::ask_for(Store::Acting, Ask::ObjRename { object, id })
+        }
         _ => misfit(),
     }
 }
@@ -176,18 +191,22 @@ fn read_object(params: &Params) -> Reaction<Store>
 
 /// Writes bytes at an object's position.
 #[tactic(auto, unfolding(crate::specs::StoreCommands::write_object))]
-fn write_object(params: Params) -> Reaction<Store>
-    ensures { result ≡ rows.write_object params.p0 params.p1 params.p2 params.p3 }
+fn write_object(params: &mut Params) -> Reaction<Store>
+    ensures { result
+        ≡ rows.write_object params.old.p0 params.old.p1 params.old.p2 params.old.p3 }
 {
-    let Params { p0, p1, p2, p3 } = params;
-    let Param::MemIn(bytes) = p1 else {
-        return misfit();
-    };
-    match (p0, p2, p3) {
-        (Param::ValueIn(object, _), Param::Nothing, Param::Nothing) => Reaction::ask_for(
-            Store::Acting,
-            Ask::ObjWrite { object, bytes },
-        ),
+    match *params {
+        Params {
+            p0: Param::ValueIn(object, _),
+            p1: Param::MemIn(_),
+            p2: Param::Nothing,
+            p3: Param::Nothing,
+        } => {
+            let Some(bytes) = take_bytes(&mut params.p1) else {
+                return misfit();
+            };
+            Reaction::ask_for(Store::Acting, Ask::ObjWrite { object, bytes })
+        }
         _ => misfit(),
     }
 }
@@ -323,15 +342,16 @@ fn draw_random(params: &Params) -> Reaction<Store>
 pub fn command(number: u32, params: Params) -> Reaction<Store>
     ensures { result ≡ rows.command number params }
 {
+    let mut params = params;
     let reaction = match number {
-        1 => return open_object(params),
-        2 => return create_object(params),
+        1 => open_object(&mut params),
+        2 => create_object(&mut params),
         3 => close_object(&params),
         4 => delete_object(&params),
-        5 => return rename_object(params),
+        5 => rename_object(&mut params),
         6 => describe_object(&params),
         7 => read_object(&params),
-        8 => return write_object(params),
+        8 => write_object(&mut params),
         9 => truncate_object(&params),
         10 => seek_object(&params),
         11 => list_objects(&params),
