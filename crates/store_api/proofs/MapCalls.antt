@@ -206,9 +206,12 @@ module _ (c : Change) (old new : MapState) (limits : IsWithinLimits old.store) w
   -- one that is refused
   pub change_refused : (e : StoreAnswer) → Changes {A = Unit {0}} (Err e) (change old.store c) old.store new.store → new.past ≡ old.past → old.lost ≡ false → new.lost ≡ false →
       old.plan.faults ≤ new.plan.faults → new.plan.faults ≡ old.plan.faults → new.change_attempts ≡ old.change_attempts + 1 → Applies map_keeper {A = Unit {0}} c (Err e) old new
-  change_refused NotFound made past works still later same attempts = refused_by NotFound made.1 past made.0 (unchanged_call (Err NotFound) 1 old new limits made.1 past tt (works, still) later same attempts)
-  change_refused Exists made past works still later same attempts = refused_by Exists made.1 past made.0 (unchanged_call (Err Exists) 1 old new limits made.1 past tt (works, still) later same attempts)
-  change_refused NoSpace made past works still later same attempts = refused_by NoSpace made.1 past made.0 (unchanged_call (Err NoSpace) 1 old new limits made.1 past tt (works, still) later same attempts)
+  change_refused NotFound made past works still later same attempts =
+      refused_by NotFound made.1 past made.0 (unchanged_call (Err NotFound) 1 old new limits made.1 past tt (works, still) later same attempts)
+  change_refused Exists made past works still later same attempts =
+      refused_by Exists made.1 past made.0 (unchanged_call (Err Exists) 1 old new limits made.1 past tt (works, still) later same attempts)
+  change_refused NoSpace made past works still later same attempts =
+      refused_by NoSpace made.1 past made.0 (unchanged_call (Err NoSpace) 1 old new limits made.1 past tt (works, still) later same attempts)
   change_refused NoMemory made past works still later same attempts = refused_by NoMemory made past tt (unchanged_call (Err NoMemory) 1 old new limits made past tt (works, still) later same attempts)
   change_refused Lost made past works still later same attempts = absurd made
   change_refused Failed made past works still later same attempts = absurd made
