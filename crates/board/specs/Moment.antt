@@ -1,5 +1,5 @@
 -- The disk model: what a board reads as at a moment, and what a crash at that moment may leave.
-use Rattle.std.specs.Prelude.{◌≡◌, ◌≤◌, ◌<◌, ◌⊎◌, ◌+◌, ◌^◌, ℕ, Bool, true, false, List, [], ◌∷◌, length}
+use Rattle.std.specs.Prelude.{◌≡◌, ◌≤◌, ◌<◌, ◌⊎◌, ◌+◌, ◌^◌, ℕ, Bool, true, false, List, [], ◌∷◌, ◌++◌, length}
 use Rattle.tee_base.specs.declared.limits.TheConstants.{BLOCK_BYTES}
 use Rattle.board.specs.declared.fuse.Fuse.{Fuse}
 
@@ -61,6 +61,12 @@ moment v = length v.past
 -- what a crash at some moment from t on, or now, may have left
 abbrev pub left_since : View → ℕ → Outcome → Type 0
 left_since v t c = IsLeft v.state c ⊎ WasLeft v.past t c
+
+-- the one view is the other, or was before it: its state is then among the moments before the other
+abbrev pub IsBehind : View → View → Type 0
+IsBehind old new =
+    ((new.state ≡ old.state) × (new.past ≡ old.past))
+    ⊎ ((more : List Moment) × (new.past ≡ more ++ old.state ∷ old.past))
 
 -- an honest board as it reads is one of its images, and what is pending is within its size
 pub record IsConsistent (v : View) : Type 0 where

@@ -2,6 +2,7 @@
 use Rattle.std.specs.Prelude.{◌≡◌, ◌≢◌, ◌≤◌, ◌<◌, ◌+◌, ◌-◌, ◌%◌, ◌^◌, min, ℕ, Bool, true, false, List, ◌∷◌, Result, Ok, Err}
 use Rattle.tee_base.specs.Faults.{Rose}
 use Rattle.board.specs.declared.BoardFailed.{BoardFailed}
+use Rattle.board.specs.declared.fuse.Fuse.TheVariants.{Unset}
 use Rattle.board.specs.Fuse.{fate_by, burnt, passes, is_refused}
 use Rattle.board.specs.Moment.{Outcome, Moment, View, IsCounter, IsLeft}
 
@@ -9,7 +10,8 @@ use Rattle.board.specs.Moment.{Outcome, Moment, View, IsCounter, IsLeft}
 abbrev pub capped : ℕ → ℕ
 capped n = min n (2 ^ 64 - 1)
 
--- a call of the device: it fails only where the count of faults rose, or where the fuse stops it
+-- a call of the device: it fails where the count of faults rises, which stays where the call is Ok; and it fails where the fuse
+-- stops it
 pub record Called (ok : Bool) (old new : View) : Type 0 where
   pub size : new.size ≡ old.size
   pub key : new.key ≡ old.key
@@ -17,10 +19,12 @@ pub record Called (ok : Bool) (old new : View) : Type 0 where
   pub ordered : new.ordered ≡ old.ordered
   pub faults : old.state.faults ≤ new.state.faults
   pub cause : ok ≡ false → Rose old.state.faults new.state.faults
+  pub steady : ok ≡ true → new.state.faults ≡ old.state.faults
   pub fuse : new.fuse ≡ burnt old.fuse
   pub stopped : passes (fate_by old.fuse) ≡ false → ok ≡ false
 
--- a run of calls, one after another: it fails only where the count of faults rose
+-- a run of calls, one after another: it fails where the count of faults rose, and is Ok where none of them failed; no call of it
+-- sets the fuse
 pub record CallRun (ok : Bool) (old new : View) : Type 0 where
   pub size : new.size ≡ old.size
   pub key : new.key ≡ old.key
@@ -28,14 +32,16 @@ pub record CallRun (ok : Bool) (old new : View) : Type 0 where
   pub ordered : new.ordered ≡ old.ordered
   pub faults : old.state.faults ≤ new.state.faults
   pub cause : ok ≡ false → Rose old.state.faults new.state.faults
+  pub steady : ok ≡ true → new.state.faults ≡ old.state.faults
+  pub unset : old.fuse ≡ Unset → new.fuse ≡ Unset
 
--- an order with this number: both counts of orders wrap
+-- an order with this number: both counts of orders wrap, and it is no call that could fail
 pub record Ordered (number : ℕ) (old new : View) : Type 0 where
   pub size : new.size ≡ old.size
   pub key : new.key ≡ old.key
   pub orders : new.state.orders ≡ (old.state.orders + 1) % 2 ^ 64
   pub ordered : new.ordered ≡ (old.ordered + number) % 2 ^ 64
-  pub faults : old.state.faults ≤ new.state.faults
+  pub faults : new.state.faults ≡ old.state.faults
   pub writes : new.writes ≡ old.writes
 
 -- the clock goes on by one moment

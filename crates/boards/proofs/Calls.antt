@@ -52,6 +52,7 @@ called ok named fate old new decided stops small size key orders ordered faults 
   ordered = ordered;
   faults = later ok old.state.faults new.state.faults small faults;
   cause = λ failed. rose old.state.faults new.state.faults (faults ∙ ap (λ b. cond b old.state.faults (capped (old.state.faults + 1))) failed);
+  steady = λ made. faults ∙ ap (λ b. cond b old.state.faults (capped (old.state.faults + 1))) made;
   fuse = fuse;
   stopped = λ blown. stops (ap passes decided ∙ stays_stopped named (fate_by old.fuse) blown);
 }

@@ -39,6 +39,7 @@ module _ (size : ℕ) (key : List ℕ) (writes : ℕ) (old mid : Counts) where
     ordered = ap (λ (x : Counts). x.ordered) is;
     faults = later;
     cause = λ failed. rose;
+    steady = λ made. absurd (false≢true made);
     fuse = ap (λ (x : Counts). x.fuse) is;
     stopped = λ blown. refl;
   }
@@ -56,6 +57,7 @@ module _ (size : ℕ) (key : List ℕ) (writes : ℕ) (old mid : Counts) where
         ordered = ap (λ (x : Counts). x.ordered) is ∙ ap (λ (x : Counts). x.ordered) begun;
         faults = omega (arith, same, later);
         cause = λ failed. subst (λ n. Rose n new.faults) same (rose failed);
+        steady = λ made. ap (λ (x : Counts). x.faults) is ∙ ap (λ b. cond b mid.faults (capped (mid.faults + 1))) made ∙ same;
         fuse = ap (λ (x : Counts). x.fuse) is ∙ ap (λ (x : Counts). x.fuse) begun;
         stopped = λ blown. absurd (let e : true ≡ false = passed ∙ blown in cc);
       }

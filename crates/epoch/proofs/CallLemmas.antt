@@ -1,10 +1,17 @@
 -- Calls of a board, one after another, as a run.
-use Rattle.std.proofs.Common.{◌≡◌, ◌≤◌, ◌<◌, ◌-◌, ◌^◌, ◌∙◌, ℕ, Bool, true, false, Result, Ok, Err, is_ok, refl, inl, inr, ⊎_elim, arith}
+use Rattle.std.proofs.Common.{◌≡◌, ◌≤◌, ◌<◌, ◌-◌, ◌^◌, ◌∙◌, ℕ, Bool, true, false, Result, Ok, Err, is_ok, refl, sym, ap, subst, inl, inr, ⊎_elim, arith}
 use Rattle.std.specs.Prelude.{IsErr}
 use Rattle.std.proofs.lemmas.Bool.{false≢true}
 use Rattle.tee_base.specs.Faults.{Rose}
+use Rattle.board.specs.Fuse.{burnt}
 use Rattle.board.specs.Moment.{View}
 use Rattle.board.specs.Steps.{Called, CallRun}
+use Rattle.store_api.specs.declared.leaves.LeafAnswer.{LeafAnswer}
+use Rattle.store_api.specs.declared.leaves.LeafAnswer.TheVariants as answers
+use Rattle.epoch.specs.Opening.{no_failure}
+use Rattle.epoch.specs.Reading.{no_fault}
+use Rattle.epoch.specs.declared.answer.OpenAnswer.{OpenAnswer}
+use Rattle.epoch.specs.declared.answer.OpenAnswer.TheVariants.{Failed}
 
 -- a fault that rose later rose
 pub rose_later : (a b c : ℕ) → a ≤ b → Rose b c → Rose a c
@@ -19,6 +26,8 @@ run_none v = record {
   ordered = refl;
   faults = omega arith;
   cause = λ e. absurd (let f : true ≡ false = e in cc);
+  steady = λ made. refl;
+  unset = λ none. none;
 }
 
 -- a call alone
@@ -30,6 +39,8 @@ run_once ok old new called = record {
   ordered = called.ordered;
   faults = called.faults;
   cause = called.cause;
+  steady = called.steady;
+  unset = λ none. called.fuse ∙ ap burnt none;
 }
 
 -- a run behind another
@@ -41,24 +52,27 @@ run_more ok first old new run more = record {
   ordered = more.ordered ∙ run.ordered;
   faults = omega (arith, more.faults, run.faults);
   cause = λ e. rose_later first.state.faults old.state.faults new.state.faults run.faults (more.cause e);
+  steady = λ made. more.steady made ∙ run.steady refl;
+  unset = λ none. more.unset (run.unset none);
 }
 
 -- a call behind a run
 pub call_more : (ok : Bool) (first old new : View) → CallRun true first old → Called ok old new → CallRun ok first new
 call_more ok first old new run called = run_more ok first old new run (run_once ok old new called)
 
--- a run that failed is a run
-pub run_so_far : (ok : Bool) (old new : View) → CallRun ok old new → CallRun true old new
-run_so_far ok old new run = record {
-  size = run.size;
-  key = run.key;
-  orders = run.orders;
-  ordered = run.ordered;
-  faults = run.faults;
-  cause = λ e. absurd (let f : true ≡ false = e in cc);
-}
-
 -- a run that ends in an error
 pub run_stops : {A E : Type 0} (r : Result A E) (old new : View) → IsErr r → CallRun false old new → CallRun (is_ok r) old new
 run_stops (Ok x) old new fails run = absurd (false≢true fails)
 run_stops (Err e) old new fails run = run
+
+-- a run that is told otherwise
+pub run_as : (made told : Bool) (old new : View) → told ≡ made → CallRun made old new → CallRun told old new
+run_as made told old new same run = subst (λ (ok : Bool). CallRun ok old new) (sym same) run
+
+-- a run of which a call failed, as an opening tells it
+pub run_failed : {A : Type 0} (r : Result A OpenAnswer) (old new : View) → r ≡ Err Failed → CallRun false old new → CallRun (no_failure r) old new
+run_failed r old new is run = run_as false (no_failure r) old new (ap no_failure is) run
+
+-- the same of leaves
+pub run_lost : {A : Type 0} (r : Result A LeafAnswer) (old new : View) → r ≡ Err answers.Failed → CallRun false old new → CallRun (no_fault r) old new
+run_lost r old new is run = run_as false (no_fault r) old new (ap no_fault is) run

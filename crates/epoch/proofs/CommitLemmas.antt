@@ -67,8 +67,9 @@ pub leaf_below : (r l : ℕ) → is_leaf r l ≡ true → l < LEAVES
 leaf_below r l e = let t : nat_lt l LEAVES ≡ true = second_true (nat_lt r MAX_HOSTS) (nat_lt l LEAVES) e in grind (arith, nat_tests)
 
 -- leaves with a sequence, part by part
-some_held : (leaves : ℕ → ℕ → List ℕ) (n : ℕ) (h : Held) → leaves ≡ h.leaves → n ≡ h.sequence → Some (record { leaves = leaves; sequence = n }) ≡ Some h
-some_held leaves n h same number = λ i. Some (record { leaves = same i; sequence = number i })
+some_held : (leaves : ℕ → ℕ → List ℕ) (n version : ℕ) (h : Held) → leaves ≡ h.leaves → n ≡ h.sequence → version ≡ h.version
+    → Some (record { leaves = leaves; sequence = n; version = version }) ≡ Some h
+some_held leaves n version h same number kind = λ i. Some (record { leaves = same i; sequence = number i; version = kind i })
 
 -- the first four blocks are all that an opening looks at
 pub opening_low : (version : ℕ) (key : List ℕ) (base image : ℕ → List ℕ) (n : ℕ) → ((k : ℕ) → k < 4 → image k ≡ base k) → opening_of version key image n ≡ opening_of version key base n
@@ -146,30 +147,31 @@ module _ (f : Form) (framed : IsFramed f) (key : List ℕ) where
 
   -- an image that opens so, and has the blocks of the root, holds this
   pub holds_by : (o : Result (Option Found) OpenAnswer) (root : TreeEntry) (h : Held) (base image : ℕ → List ℕ) → OpensTo h.sequence root o
-      → is_sealed f key base root ≡ true → h.leaves ≡ leaves_of f key base root → SameUsed f key root base image → held_by f key image o ≡ Some h
-  holds_by (Ok None) root h base image opens sealed leaves same =
-      some_held blank_leaves 0 h (sym (leaves ∙ zero_leaves root base opens.1)) (sym opens.0)
-  holds_by (Ok (Some found)) root h base image opens sealed leaves same =
+      → is_sealed f key base root ≡ true → h.leaves ≡ leaves_of f key base root → h.version ≡ f.version → SameUsed f key root base image
+      → held_by f key image o ≡ Some h
+  holds_by (Ok None) root h base image opens sealed leaves version same =
+      some_held blank_leaves 0 f.version h (sym (leaves ∙ zero_leaves root base opens.1)) (sym opens.0) (sym version)
+  holds_by (Ok (Some found)) root h base image opens sealed leaves version same =
       let place : found.slot ≡ found.header.sequence % 2 = opens.1 ∙ ap (λ (s : ℕ). s % 2) (sym opens.0) in
       let one : (found.slot == found.header.sequence % 2) ≡ true = rw place (is_itself (found.header.sequence % 2)) in
       let two : is_sealed f key image found.header.root ≡ true = ap (is_sealed f key image) opens.2 ∙ sealed_same root base image same ∙ sealed in
-      rw (one, two) (some_held (leaves_of f key image found.header.root) found.header.sequence h
-      (ap (leaves_of f key image) opens.2 ∙ leaves_same root base image same ∙ sym leaves) opens.0)
-  holds_by (Err answer) root h base image opens sealed leaves same = absurd opens
+      rw (one, two) (some_held (leaves_of f key image found.header.root) found.header.sequence f.version h
+      (ap (leaves_of f key image) opens.2 ∙ leaves_same root base image same ∙ sym leaves) opens.0 (sym version))
+  holds_by (Err answer) root h base image opens sealed leaves version same = absurd opens
 
   pub held_before : (root : TreeEntry) (h : Held) (m : Moment) (image : ℕ → List ℕ) (counter : ℕ) → IsMounted f key root h m
       → opening_of f.version key image counter ≡ opening_of f.version key m.reads h.sequence → SameUsed f key root m.reads image
       → held f key image counter ≡ Some h
   unfolding held
   held_before root h m image counter mounted e same =
-      ap (held_by f key image) e ∙ holds_by (opening_of f.version key m.reads h.sequence) root h m.reads image mounted.opens mounted.sealed mounted.leaves same
+      ap (held_by f key image) e ∙ holds_by (opening_of f.version key m.reads h.sequence) root h m.reads image mounted.opens mounted.sealed mounted.leaves mounted.version same
 
   pub held_after : (root : TreeEntry) (leaves : ℕ → ℕ → List ℕ) (n : ℕ) (base image : ℕ → List ℕ) (counter : ℕ) (found : Found) → opening_of f.version key image counter ≡ Ok (Some found)
       → OpensTo (n + 1) root (Ok (Some found)) → IsWritten f key root leaves base → SameUsed f key root base image
-      → held f key image counter ≡ Some (next_held leaves n)
+      → held f key image counter ≡ Some (next_held f leaves n)
   unfolding held
   held_after root leaves n base image counter found e opens written same =
-      ap (held_by f key image) e ∙ holds_by (Ok (Some found)) root (next_held leaves n) base image opens written.sealed (sym written.leaves_are) same
+      ap (held_by f key image) e ∙ holds_by (Ok (Some found)) root (next_held f leaves n) base image opens written.sealed (sym written.leaves_are) refl same
 
   -- a board that opens as before and has the blocks in use is mounted as before
   pub mounted_same : (root : TreeEntry) (h : Held) (old new : Moment) → IsMounted f key root h old → Rests h.sequence new
@@ -180,6 +182,7 @@ module _ (f : Form) (framed : IsFramed f) (key : List ℕ) where
     opens = subst (OpensTo h.sequence root) (sym e) mounted.opens;
     sealed = sealed_same root old.reads new.reads same ∙ mounted.sealed;
     leaves = mounted.leaves ∙ sym (leaves_same root old.reads new.reads same);
+    version = mounted.version;
   }
 
   -- what is held by a board that is mounted
@@ -301,7 +304,7 @@ module _ (f : Form) (framed : IsFramed f) (key : List ℕ) where
     -- within the opening of the gate
     pub flip_holds : (m : Moment) (c : Outcome) (header : Header) (leaves : ℕ → ℕ → List ℕ) → IsMounted f key root h m
         → IsLaid f.version key slot h.sequence header m → IsWritten f key header.root leaves m.reads → LeavesFlip slot m.reads h.sequence c
-        → BeforeOrAfter f key h (next_held leaves h.sequence) c
+        → BeforeOrAfter f key h (next_held f leaves h.sequence) c
     flip_holds m c header leaves mounted laid written left =
         let low : gate_at slot < 4 = (let b : slot < 2 = below_two in omega arith) in
         ⊎_elim
@@ -324,7 +327,7 @@ module _ (f : Form) (framed : IsFramed f) (key : List ℕ) where
     pub mounted_flipped : (m : ℕ) (old new : Moment) (header : Header) (leaves : ℕ → ℕ → List ℕ) → IsLaid f.version key slot h.sequence header old
         → IsWritten f key header.root leaves old.reads → IsFlipped slot m old new
         → opening_of f.version key new.reads m ≡ Ok (Some (record { header = header; slot = slot }))
-        → IsMounted f key header.root (next_held leaves h.sequence) new
+        → IsMounted f key header.root (next_held f leaves h.sequence) new
     mounted_flipped m old new header leaves laid written flipped e =
         let next : m ≡ h.sequence + 1 = omega (arith, flipped.positive, flipped.among.least, flipped.among.greatest, laid.rests.counter, laid.rests.slack) in
         let low : gate_at slot < 4 = (let b : slot < 2 = below_two in omega arith) in
@@ -337,6 +340,7 @@ module _ (f : Form) (framed : IsFramed f) (key : List ℕ) where
           opens = subst (OpensTo (h.sequence + 1) header.root) (sym at) (laid.next, is_slot, refl);
           sealed = now.sealed;
           leaves = sym now.leaves_are;
+          version = refl;
         }
 
     module _ (after : Held) where
@@ -355,13 +359,13 @@ module _ (f : Form) (framed : IsFramed f) (key : List ℕ) where
           (weaker moment left_since mid new (LeavesBase (spare f key mid.state.reads root slot) mid.state.reads h.sequence h.sequence) (BeforeOrAfter f key h after)
           (λ c left. inl (spare_holds mid.state c mounted shut left)) run.leaves)
 
-    pub crash_flip : (leaves : ℕ → ℕ → List ℕ) (old laid new : View) (header : Header) → LeavesOnly moment left_since old laid (BeforeOrAfter f key h (next_held leaves h.sequence))
+    pub crash_flip : (leaves : ℕ → ℕ → List ℕ) (old laid new : View) (header : Header) → LeavesOnly moment left_since old laid (BeforeOrAfter f key h (next_held f leaves h.sequence))
         → IsMounted f key root h laid.state → IsLaid f.version key slot h.sequence header laid.state → IsWritten f key header.root leaves laid.state.reads
         → LeavesOnly moment left_since laid new (LeavesFlip slot laid.state.reads h.sequence)
-        → LeavesOnly moment left_since old new (BeforeOrAfter f key h (next_held leaves h.sequence))
+        → LeavesOnly moment left_since old new (BeforeOrAfter f key h (next_held f leaves h.sequence))
     crash_flip leaves old laid new header first mounted is written run =
-        joined moment left_since old laid new (BeforeOrAfter f key h (next_held leaves h.sequence)) first
-        (weaker moment left_since laid new (LeavesFlip slot laid.state.reads h.sequence) (BeforeOrAfter f key h (next_held leaves h.sequence))
+        joined moment left_since old laid new (BeforeOrAfter f key h (next_held f leaves h.sequence)) first
+        (weaker moment left_since laid new (LeavesFlip slot laid.state.reads h.sequence) (BeforeOrAfter f key h (next_held f leaves h.sequence))
         (λ c left. flip_holds laid.state c header leaves mounted is written left) run)
 
     -- the run of the writing, where the board's key is spelled otherwise

@@ -68,7 +68,7 @@ pub record IsShut (f : Form) (Fits : List ℕ → (ℕ → List ℕ) → Type 0)
 pub record HasLaid (f : Form) (v : View) (root : TreeEntry) (before : Held) (slot : ℕ) (leaves : ℕ → ℕ → List ℕ) (wrote laid : View) (header : Header) : Type 0 where
   pub framed : IsFramed f
   pub slot_is : slot ≡ (before.sequence + 1) % 2
-  pub crash : LeavesOnly moment left_since v laid (BeforeOrAfter f v.key before (next_held leaves before.sequence))
+  pub crash : LeavesOnly moment left_since v laid (BeforeOrAfter f v.key before (next_held f leaves before.sequence))
   pub synced : SyncedBut (header_at slot) wrote.state laid.state
   pub mounted : IsMounted f v.key root before laid.state
   pub is : IsLaid f.version v.key slot before.sequence header laid.state
@@ -150,7 +150,7 @@ module _ {f : Form} {Fits : List ℕ → (ℕ → List ℕ) → Type 0} {v : Vie
       record {
         framed = framed;
         slot_is = slot_is;
-        crash = crash_spare (next_held (After before.leaves) before.sequence) laid run';
+        crash = crash_spare (next_held f (After before.leaves) before.sequence) laid run';
         synced = here;
         mounted = mounted;
         is = stage.is_laid f framed v.key root before slot slot_is mid laid header mounted shut.gate run' good_here known next;
@@ -162,7 +162,7 @@ module _ {f : Form} {v : View} {root : TreeEntry} {before : Held} {slot : ℕ} {
     (has : HasLaid f v root before slot leaves wrote laid header) where
   -- what a flip leaves, whether it fails or not
   pub crash_flip : (new : View) → ((n : ℕ) → Rests n laid.state → LeavesOnly moment left_since laid new (LeavesFlip slot laid.state.reads n))
-      → LeavesOnly moment left_since v new (BeforeOrAfter f v.key before (next_held leaves before.sequence))
+      → LeavesOnly moment left_since v new (BeforeOrAfter f v.key before (next_held f leaves before.sequence))
   crash_flip new run =
       stage.crash_flip f has.framed v.key root before slot has.slot_is leaves v laid new header has.crash has.mounted has.is has.written (run before.sequence has.mounted.rests)
 
@@ -177,7 +177,7 @@ module _ {f : Form} {v : View} {root : TreeEntry} {before : Held} {slot : ℕ} {
   pub mounted_flipped : (m : ℕ) (new : View) → laid.key ≡ v.key → IsFlipped slot m laid.state new.state
       → ((version n : ℕ) (laid_header : Header) → IsLaid version laid.key slot n laid_header laid.state
       → opening_of version laid.key new.state.reads m ≡ Ok (Some (record { header = laid_header; slot = slot })))
-      → IsMounted f v.key header.root (next_held leaves before.sequence) new.state
+      → IsMounted f v.key header.root (next_held f leaves before.sequence) new.state
   mounted_flipped m new key flipped opens =
       stage.mounted_flipped f has.framed v.key root before slot has.slot_is m laid.state new.state header leaves has.is has.written flipped
       (stage.opened_under f has.framed v.key root before slot has.slot_is laid.key m laid.state new.state header key has.is opens)

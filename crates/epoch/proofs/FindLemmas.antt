@@ -1,5 +1,5 @@
 -- The advance that ends a search for the header that counts, and what a crash within the search leaves.
-use Rattle.std.proofs.Common.{◌≡◌, ◌≢◌, ◌≤◌, ◌+◌, ◌∙◌, ◌==◌, if◌then◌else◌, ℕ, Bool, true, false, subst, List, Option, Some, None, Result, Ok, Err, IfOk, nat_lt, refl, sym, ap, arith}
+use Rattle.std.proofs.Common.{◌≡◌, ◌≢◌, ◌≤◌, ◌+◌, ◌∙◌, ◌==◌, not, if◌then◌else◌, ℕ, Bool, true, false, subst, List, Option, Some, None, Result, Ok, Err, IfErr, IfOk, nat_lt, refl, sym, ap, arith}
 use Rattle.std.proofs.lemmas.Bool.Decides.{nat_tests}
 use Rattle.tee_base.specs.Crash.{LeavesOnly}
 use Rattle.tee_base.proofs.Crash.{weaker}
@@ -9,15 +9,15 @@ use Rattle.board.specs.Steps.{Answered, Advanced, Settles}
 use Rattle.board.specs.Runs.{IsBase, LeavesBase, RunsOver, Rests}
 use Rattle.board.proofs.Runs.{base-wider, rests_base, run_starts, run_goes_on}
 use Rattle.epoch.specs.Finding.{Finds, IsSettledAt, OpensBelow, RefusesOlder, sequence_of}
-use Rattle.epoch.specs.Opening.{IsRuled, header_answer, opening_by, opening_of, opens_as}
+use Rattle.epoch.specs.Opening.{IsRuled, answer_at, header_answer, is_no_failure, opening_by, opening_of, opens_as}
 use Rattle.epoch.specs.Slots.{slot_of}
 use Rattle.epoch.specs.Steps.{outcome_opening}
 use Rattle.epoch.specs.declared.answer.OpenAnswer.{OpenAnswer}
-use Rattle.epoch.specs.declared.answer.OpenAnswer.TheVariants.{NoVolume, TooSmall, Rollback, Failed}
+use Rattle.epoch.specs.declared.answer.OpenAnswer.TheVariants.{Ahead, NoVolume, TooSmall, Rollback, UnknownVersion, Failed}
 use Rattle.epoch.specs.declared.header.Header.{Header}
 use Rattle.epoch.specs.declared.rule.Found.{Found}
 use Rattle.epoch.specs.declared.slots.Slot.{Slot}
-use Rattle.epoch.specs.declared.slots.Slot.TheVariants.{Shut}
+use Rattle.epoch.specs.declared.slots.Slot.TheVariants.{Bad, Good, Shut}
 use Rattle.epoch.proofs.StageLemmas.{blank_first}
 use Rattle.epoch.proofs.RuleLemmas.{if_other, opens_at_two, refuses_rollback}
 
@@ -104,6 +104,44 @@ pub judged_opening : (version : ℕ) (key : List ℕ) (image : ℕ → List ℕ)
     → first ≡ slot_of key image 0 → second ≡ slot_of key image 1 → r ≡ opening_by version first second n → r ≡ opening_of version key image n
 unfolding opening_of
 judged_opening version key image first second n r one two is = is ∙ rw (one, two) refl
+
+-- the rule never answers that a call failed
+abbrev IsAnswered : Result (Option Found) OpenAnswer → Type 0
+IsAnswered r = IfErr r (λ why. is_no_failure why ≡ true)
+
+-- so a header is judged, by the three tests
+tests_answered : (old low high : Bool) (version slot : ℕ) (header : Header) (n : ℕ)
+    → IsAnswered (if old then Err (UnknownVersion version) else if low then Err (Rollback header.sequence n) else if high then Err (Ahead header.sequence n) else
+    Ok (Some (record { header = header; slot = slot })))
+tests_answered true low high version slot header n = refl
+tests_answered false true high version slot header n = refl
+tests_answered false false true version slot header n = refl
+tests_answered false false false version slot header n = tt
+
+at_answered : (version slot : ℕ) (header : Header) (n : ℕ) → IsAnswered (answer_at version slot header n)
+at_answered version slot header n =
+    tests_answered (not (header.version == version)) (nat_lt header.sequence n) (nat_lt (n + 1) header.sequence) header.version slot header n
+
+shut_answered : (b : Bool) (n : ℕ) → IsAnswered (if b then Ok None else Err (NoVolume n))
+shut_answered true n = tt
+shut_answered false n = refl
+
+newer_answered : (b : Bool) (one two : Result (Option Found) OpenAnswer) → IsAnswered one → IsAnswered two → IsAnswered (if b then one else two)
+newer_answered true one two is also = is
+newer_answered false one two is also = also
+
+by_answered : (version : ℕ) (first second : Slot) (n : ℕ) → IsAnswered (opening_by version first second n)
+by_answered version (Bad tags) second n = refl
+by_answered version Shut (Bad tags) n = refl
+by_answered version Shut Shut n = shut_answered (n == 0) n
+by_answered version Shut (Good header) n = at_answered version 1 header n
+by_answered version (Good header) (Bad tags) n = refl
+by_answered version (Good header) Shut n = at_answered version 0 header n
+by_answered version (Good header) (Good other) n =
+    newer_answered (nat_lt header.sequence other.sequence) (answer_at version 1 other n) (answer_at version 0 header n) (at_answered version 1 other n) (at_answered version 0 header n)
+
+pub judged_so : (version : ℕ) (first second : Slot) (n : ℕ) (answer : OpenAnswer) → opening_by version first second n ≡ Err answer → is_no_failure answer ≡ true
+judged_so version first second n answer e = subst IsAnswered e (by_answered version first second n)
 
 -- an answer that is what was judged, on a board that is large enough
 pub ruled_answer : (version blocks size : ℕ) (key : List ℕ) (image : ℕ → List ℕ) (n : ℕ) (r : Result (Option Found) OpenAnswer) (result : Result (Option Header) OpenAnswer)

@@ -15,8 +15,8 @@ use Rattle.epoch.specs.Commits.{IsMounted, OpensTo}
 use Rattle.epoch.specs.Finding.{Finds, IsSettledAt, OpensBelow, sequence_of}
 use Rattle.epoch.specs.Forms.{Form, IsFramed, blank_leaves, held, held_by, held_of, is_sealed, leaves_of}
 use Rattle.epoch.specs.Mounting.{AreSound, IsHolding, MightBe, Mounts, MountsAfterPower, MountsAgain, MountsTo, after_found}
-use Rattle.epoch.specs.Mounts.{IsAdmitted, IsKeptFromOpening, IsLeftSound, IsRefusal, IsRefusedNow, IsRuledBy, after_opening, opened_by}
-use Rattle.epoch.specs.Opening.{IsRuled, answer_at, header_answer, opening_by, opening_of, opens_as}
+use Rattle.epoch.specs.Mounts.{IsAdmitted, IsKeptFromOpening, IsLeftSound, IsRefusal, IsRefusedNow, IsRuledBy, TakesUp, after_opening, opened_by}
+use Rattle.epoch.specs.Opening.{IsRuled, answer_at, found_header, header_answer, opening_by, opening_of, opens_as}
 use Rattle.epoch.specs.Past.{KeepsPast}
 use Rattle.epoch.specs.Slots.{slot_of}
 use Rattle.epoch.specs.declared.answer.OpenAnswer.{OpenAnswer}
@@ -28,7 +28,7 @@ use Rattle.epoch.specs.declared.rule.Found.{Found}
 use Rattle.epoch.specs.declared.slots.Slot.TheVariants.{Shut}
 use Rattle.epoch.proofs.CommitLemmas.{first_true, held_before, second_true, zero_leaves, zero_sealed}
 use Rattle.epoch.proofs.FindLemmas.{blank_counter}
-use Rattle.epoch.proofs.RuleLemmas.{asked, counts, opens_at_two}
+use Rattle.epoch.proofs.RuleLemmas.{asked, counts, opens_at_two, refuses_rollback}
 use Rattle.epoch.proofs.StageLemmas.{blank_first}
 
 -- of one image, two headers that count at two counters are one
@@ -67,16 +67,17 @@ if_some false x h e = absurd (cc)
 
 -- what is held, by how the image opens
 abbrev pub HeldAs : Form → List ℕ → (ℕ → List ℕ) → Held → Result (Option Found) OpenAnswer → Type 0
-HeldAs f key image h (Ok None) = (h.leaves ≡ blank_leaves) × (h.sequence ≡ 0)
+HeldAs f key image h (Ok None) = (h.leaves ≡ blank_leaves) × (h.sequence ≡ 0) × (h.version ≡ f.version)
 HeldAs f key image h (Ok (Some found)) =
     (found.slot ≡ found.header.sequence % 2) × (is_sealed f key image found.header.root ≡ true)
     × (h.leaves ≡ leaves_of f key image found.header.root) × (h.sequence ≡ found.header.sequence)
+    × (h.version ≡ f.version)
 HeldAs f key image h (Err answer) = ⊥
 
 held_as : (f : Form) (key : List ℕ) (image : ℕ → List ℕ) (h : Held) (o : Result (Option Found) OpenAnswer) → held_by f key image o ≡ Some h → HeldAs f key image h o
 held_as f key image h (Ok None) e =
-    let same : record { leaves = blank_leaves; sequence = 0 } ≡ h = cc in
-    (ap (λ (x : Held). x.leaves) (sym same), ap (λ (x : Held). x.sequence) (sym same))
+    let same : record { leaves = blank_leaves; sequence = 0; version = f.version } ≡ h = cc in
+    (ap (λ (x : Held). x.leaves) (sym same), ap (λ (x : Held). x.sequence) (sym same), ap (λ (x : Held). x.version) (sym same))
 held_as f key image h (Ok (Some found)) e =
     let two = if_some ((found.slot == found.header.sequence % 2) && is_sealed f key image found.header.root) _ h e in
     let slot : (found.slot == found.header.sequence % 2) ≡ true = first_true (found.slot == found.header.sequence % 2) (is_sealed f key image found.header.root) two.0 in (
@@ -84,6 +85,7 @@ held_as f key image h (Ok (Some found)) e =
       second_true (found.slot == found.header.sequence % 2) (is_sealed f key image found.header.root) two.0,
       ap (λ (x : Held). x.leaves) (sym two.1),
       ap (λ (x : Held). x.sequence) (sym two.1),
+      ap (λ (x : Held). x.version) (sym two.1),
     )
 held_as f key image h (Err answer) e = absurd (cc)
 
@@ -239,6 +241,7 @@ module _ (f : Form) (framed : IsFramed f) (key : List ℕ) (h : Held) (old new :
           opens = subst (OpensTo h.sequence root) (sym (at ∙ e)) (is.1, zeros);
           sealed = zero_sealed f framed key root new.reads zeros;
           leaves = is.0 ∙ sym (zero_leaves f framed key root new.reads zeros);
+          version = is.2;
         },
       )
   mounts_by n (Ok (Some w)) e is found answers settled =
@@ -255,6 +258,7 @@ module _ (f : Form) (framed : IsFramed f) (key : List ℕ) (h : Held) (old new :
           opens = subst (OpensTo h.sequence w.header.root) (sym at) (sym same, is.0 ∙ ap (λ (q : ℕ). q % 2) (sym same), refl);
           sealed = ap (λ (image : ℕ → List ℕ). is_sealed f key image w.header.root) blocks.reads ∙ is.1;
           leaves = is.2 ∙ ap (λ (image : ℕ → List ℕ). leaves_of f key image w.header.root) (sym blocks.reads);
+          version = is.4;
         },
       )
   mounts_by n (Err answer) e is found answers settled = absurd is
@@ -568,20 +572,31 @@ kept_refused f view (Err why) kept = ⊎_elim
     (λ (e : why ≡ NoMemory). subst (IsRefusedNow f view) (sym e) tt)
     kept
 
--- where the rule opens with this header, or with none, a volume of its sequence is admitted
-admitted_as : (rule : Result (Option Found) OpenAnswer) (sequence : ℕ) (found : Option Header) → header_answer rule ≡ Ok found → IfSome found (λ header. header.sequence ≡ sequence)
-    → (one : Option Found) × (rule ≡ Ok one) × IfSome one (λ w. w.header.sequence ≡ sequence)
-admitted_as (Ok None) sequence found answers is = (None, refl, tt)
-admitted_as (Ok (Some w)) sequence found answers is =
-    let some : found ≡ Some w.header = cc in
-    let same : IfSome (Some w.header) (λ header. header.sequence ≡ sequence) = subst (λ (o : Option Header). IfSome o (λ header. header.sequence ≡ sequence)) some is in
-    (Some w, refl, same)
-admitted_as (Err answer) sequence found answers is = absurd (cc)
+-- where the rule opens with this header, or with none, what takes it up is admitted
+admitted_as : (rule : Result (Option Found) OpenAnswer) (blank sequence : ℕ) (root : TreeEntry) (found : Option Header) → header_answer rule ≡ Ok found → TakesUp found blank sequence root
+    → (one : Option Found) × (rule ≡ Ok one) × TakesUp (found_header one) blank sequence root
+admitted_as (Ok one) blank sequence root found answers is =
+    let same : found ≡ found_header one = cc in
+    (one, refl, subst (λ (h : Option Header). TakesUp h blank sequence root) same is)
+admitted_as (Err answer) blank sequence root found answers is = absurd (cc)
 
-pub admitted_by : (f : Form) (view : View) (image : ℕ → List ℕ) (counter sequence : ℕ) (found : Option Header)
-    → header_answer (opens_as f.version BOARD_BLOCKS view.size view.key image counter) ≡ Ok found → IfSome found (λ header. header.sequence ≡ sequence)
-    → IsAdmitted f view image counter sequence
-admitted_by f view image counter sequence found answers is = admitted_as (opens_as f.version BOARD_BLOCKS view.size view.key image counter) sequence found answers is
+pub admitted_by : (f : Form) (view : View) (image : ℕ → List ℕ) (counter blank sequence : ℕ) (root : TreeEntry) (found : Option Header)
+    → header_answer (opens_as f.version BOARD_BLOCKS view.size view.key image counter) ≡ Ok found → TakesUp found blank sequence root
+    → IsAdmitted f view image counter blank sequence root
+admitted_by f view image counter blank sequence root found answers is =
+    admitted_as (opens_as f.version BOARD_BLOCKS view.size view.key image counter) blank sequence root found answers is
+
+-- a board that is mounted at a sequence is refused at every greater counter
+pub mounted_refuses : (f : Form) (key : List ℕ) (root : TreeEntry) (h : Held) (m : Moment) → IsMounted f key root h m → 0 < h.sequence → (c : ℕ) → h.sequence < c
+    → opening_of f.version key m.reads c ≡ Err (Rollback h.sequence c)
+mounted_refuses f key root h m mounted some c above = refused_by (opening_of f.version key m.reads h.sequence) refl mounted.opens where
+  refused_by : (o : Result (Option Found) OpenAnswer) → opening_of f.version key m.reads h.sequence ≡ o → OpensTo h.sequence root o
+      → opening_of f.version key m.reads c ≡ Err (Rollback h.sequence c)
+  refused_by (Ok None) e opens = absurd (omega (arith, some, opens.0))
+  refused_by (Ok (Some found)) e opens =
+      refuses_rollback f.version key m.reads h.sequence c found e (omega (arith, above, opens.0))
+      ∙ ap (λ (n : ℕ). let r : Result (Option Found) OpenAnswer = Err (Rollback n c) in r) opens.0
+  refused_by (Err answer) e opens = absurd opens
 
 -- a reopening that ends before its sync is done
 pub stopped : {f : Form} {result failed : Result (Option Header) OpenAnswer} {old new : View} → result ≡ failed → MountsAgain f failed old new → MountsAgain f result old new

@@ -24,6 +24,7 @@ pub record IsMounted (f : Form) (key : List ℕ) (root : TreeEntry) (held : Held
   pub opens : OpensTo held.sequence root (opening_of f.version key m.reads held.sequence)
   pub sealed : is_sealed f key m.reads root ≡ true
   pub leaves : held.leaves ≡ leaves_of f key m.reads root
+  pub version : held.version ≡ f.version
 
 -- the blocks that a commit to this slot may write: the slot's header, and behind the slots those that the root in use
 -- doesn't
@@ -37,8 +38,8 @@ pub record IsWritten (f : Form) (key : List ℕ) (root : TreeEntry) (leaves : �
   pub leaves_are : leaves_of f key reads root ≡ leaves
 
 -- these leaves with the next sequence
-abbrev pub next_held : (ℕ → ℕ → List ℕ) → ℕ → Held
-next_held leaves sequence = record { leaves = leaves; sequence = sequence + 1 }
+abbrev pub next_held : Form → (ℕ → ℕ → List ℕ) → ℕ → Held
+next_held f leaves sequence = record { leaves = leaves; sequence = sequence + 1; version = f.version }
 
 -- a crash left what was held before, or after
 abbrev pub BeforeOrAfter : Form → List ℕ → Held → Held → Outcome → Type 0

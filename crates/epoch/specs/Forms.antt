@@ -48,12 +48,13 @@ blank_leaves region leaf = if is_leaf region leaf then replicate BLOCK_BYTES 0 e
 -- what an image holds that opens so; nothing where it isn't sound: a header stands in the slot of its sequence, and its
 -- root seals the leaves
 abbrev pub held_by : Form → List ℕ → (ℕ → List ℕ) → Result (Option Found) OpenAnswer → Option Held
-held_by f key image (Ok None) = Some (record { leaves = blank_leaves; sequence = 0 })
+held_by f key image (Ok None) = Some (record { leaves = blank_leaves; sequence = 0; version = f.version })
 held_by f key image (Ok (Some found)) =
     if (found.slot == found.header.sequence % 2) && is_sealed f key image found.header.root
     then Some (record {
       leaves = leaves_of f key image found.header.root;
       sequence = found.header.sequence;
+      version = f.version;
     })
     else None
 held_by f key image (Err answer) = None

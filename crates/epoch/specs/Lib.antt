@@ -9,5 +9,6 @@ pub mod Mounts
 pub mod Opening
 pub mod Parts
 pub mod Past
+pub mod Reading
 pub mod Slots
 pub mod Steps

@@ -20,7 +20,7 @@ pub record IsHolding (f : Form) (key : List ℕ) (h : Held) (m : Moment) : Type 
 
 -- what is held once a header was found, or where none was, the board was formatted
 abbrev pub after_found : Option Header → Held → Held
-after_found None h = record { leaves = h.leaves; sequence = 1 }
+after_found None h = record h { sequence = 1 }
 after_found (Some header) h = h
 
 -- the board is mounted with this under the root of the header, and where there is none, under each root of sequence 0

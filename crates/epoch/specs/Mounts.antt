@@ -1,20 +1,22 @@
 -- What the opening of a volume on a board promises, and its reopening, a loss of power and a fuse, over the form of the
 -- leaves.
-use Rattle.std.specs.Prelude.{◌≡◌, ◌≤◌, ◌⊎◌, ◌+◌, ◌%◌, ◌^◌, ℕ, List, ◌∷◌, false, true, Option, Some, None, Result, Ok, Err, IfErr, IfOk, IfSome, OnErr}
+use Rattle.std.specs.Prelude.{◌≡◌, ◌≤◌, ◌⊎◌, ◌+◌, ◌%◌, ◌^◌, ℕ, List, ◌∷◌, false, true, Option, Some, None, Result, Ok, Err, IfErr, IfOk, OnErr}
 use Rattle.tee_base.specs.Crash.{LeavesOnly, read_as}
 use Rattle.tee_base.specs.declared.limits.TheConstants.{BOARD_BLOCKS}
 use Rattle.store_api.specs.Volumes.{Held, RestsAt, VolumeKeeper}
-use Rattle.board.specs.Moment.{IsCounter, Outcome, View, left_since, moment}
+use Rattle.board.specs.Moment.{IsBehind, IsCounter, Outcome, View, left_since, moment}
+use Rattle.board.specs.Steps.{Passes, Powered}
 use Rattle.epoch.specs.Forms.{Form, held_of}
-use Rattle.epoch.specs.Opening.{header_answer, opening_of, opens_as}
+use Rattle.epoch.specs.Opening.{found_header, header_answer, opening_of, opens_as}
 use Rattle.epoch.specs.declared.answer.OpenAnswer.{OpenAnswer}
 use Rattle.epoch.specs.declared.answer.OpenAnswer.TheVariants as answers
 use Rattle.epoch.specs.declared.header.Header.{Header}
+use Rattle.epoch.specs.declared.header.TreeEntry.{TreeEntry}
 use Rattle.epoch.specs.declared.rule.Found.{Found}
 
 -- what is held once a board that opens so was opened: one that was blank was formatted, to the sequence 1
 abbrev pub opened_by : Result (Option Found) OpenAnswer → Held → Held
-opened_by (Ok None) held = record { leaves = held.leaves; sequence = 1 }
+opened_by (Ok None) held = record held { sequence = 1 }
 opened_by (Ok (Some found)) held = held
 opened_by (Err answer) held = held
 
@@ -43,11 +45,17 @@ IsRefusedNow f view answers.NoMemory = Unit {0}
 IsRefusedNow f view why = (counter : ℕ) × IsCounter view.state counter
     × (opens_as f.version BOARD_BLOCKS view.size view.key view.state.reads counter ≡ Err why)
 
--- the opening rule opens a board over this image and this counter, and where a header counts, it has this sequence
-abbrev pub IsAdmitted : Form → View → (ℕ → List ℕ) → ℕ → ℕ → Type 0
-IsAdmitted f view image counter sequence = (found : Option Found)
+-- what is taken up is the header that counts, with its sequence and its root; where none does, the board has this sequence, and a
+-- root of the same
+abbrev pub TakesUp : Option Header → ℕ → ℕ → TreeEntry → Type 0
+TakesUp None blank sequence root = (sequence ≡ blank) × (root.sequence ≡ blank)
+TakesUp (Some header) blank sequence root = (header.sequence ≡ sequence) × (header.root ≡ root)
+
+-- the opening rule opens a board over this image and this counter, and what counts there is taken up
+abbrev pub IsAdmitted : Form → View → (ℕ → List ℕ) → ℕ → ℕ → ℕ → TreeEntry → Type 0
+IsAdmitted f view image counter blank sequence root = (found : Option Found)
     × (opens_as f.version BOARD_BLOCKS view.size view.key image counter ≡ Ok found)
-    × IfSome found (λ one. one.header.sequence ≡ sequence)
+    × TakesUp (found_header found) blank sequence root
 
 -- what a search for the header answers is the rule's, over this image and this counter
 abbrev pub IsRuledBy : Form → View → (ℕ → List ℕ) → ℕ → Result (Option Header) OpenAnswer
@@ -67,6 +75,14 @@ pub record OrderRun (number : ℕ) (old new : View) : Type 0 where
   pub orders : new.state.orders ≡ (old.state.orders + 1) % 2 ^ 64
   pub ordered : new.ordered ≡ (old.ordered + number) % 2 ^ 64
   pub faults : old.state.faults ≤ new.state.faults
+
+-- a loss of power of an honest board before any other call; what the calls behind it leave reads as it left it
+pub record PowerFirst (old new : View) : Type 0 where
+  pub between : View
+  pub time : Passes old between
+  pub powered : Powered old.state between.state
+  pub reads : new.state.reads ≡ between.state.reads
+  pub behind : IsBehind between new
 
 -- within an opening a crash leaves what the board held, or that once it is formatted
 abbrev pub LeavesOpening : Form → Held → View → View → Type 0

@@ -1,6 +1,6 @@
 -- The rule by which a board is opened, over an image and a counter. The version and the number of
 -- blocks that a volume has are parameters.
-use Rattle.std.specs.Prelude.{◌≡◌, ◌≢◌, ℕ, ◌+◌, ◌==◌, not, nat_lt, if◌then◌else◌, List, Option, Some, None, Result, Ok, Err}
+use Rattle.std.specs.Prelude.{◌≡◌, ◌≢◌, ℕ, ◌+◌, ◌==◌, not, nat_lt, if◌then◌else◌, Bool, true, false, List, Option, Some, None, Result, Ok, Err}
 use Rattle.store_api.specs.declared.answer.Mismatch.{Mismatch}
 use Rattle.epoch.specs.Slots.{slot_of}
 use Rattle.epoch.specs.declared.answer.OpenAnswer.{OpenAnswer}
@@ -65,3 +65,13 @@ header_answer (Err answer) = Err answer
 abbrev pub IsRuled : Result (Option Header) OpenAnswer → Result (Option Found) OpenAnswer
     → Type 0
 IsRuled result rule = result ≢ Err Failed → result ≡ header_answer rule
+
+-- the answer isn't that a call of the board failed
+abbrev pub is_no_failure : OpenAnswer → Bool
+is_no_failure Failed = false
+is_no_failure _ = true
+
+-- the same of what a call answers
+abbrev pub no_failure : {A : Type 0} → Result A OpenAnswer → Bool
+no_failure (Ok done) = true
+no_failure (Err why) = is_no_failure why

@@ -31,6 +31,9 @@ pub trait Change {
     /// Whatever the board holds: under this key what it keeps of the blocks in use has no damage.
     ghost checks: { Self → List ℕ → Type 0 };
 
+    /// How many blocks it writes at most.
+    ghost cost: { Self → ℕ };
+
     /// How many blocks a volume of the form has.
     ghost blocks: { ℕ };
 
@@ -48,7 +51,9 @@ pub trait Change {
         requires size { blocks ≤ (B.view board.old).size }
         requires sequence { 0 < sequence }
         ensures calls { CallRun (is_ok result) (B.view board.old) (B.view board.new) }
+        ensures writes { (B.view board.new).writes ≤ (B.view board.old).writes + cost self.old }
         ensures root { IfOk result (λ new_root. root self.new ≡ new_root) }
+        ensures sealed_for { IfOk result (λ new_root. new_root.sequence ≡ sequence) }
         ensures checked { (key : List ℕ) → checks self.old key → OnOk result (checks self.new key) }
         ensures honest { B.honest board.old → B.honest board.new }
         ensures past { B.honest board.old → KeepsPast (B.view board.old) (B.view board.new) }
@@ -96,7 +101,11 @@ pub fn commit<B: Board, C: Change>(
     requires size { C.blocks ≤ (B.view board.old).size }
     requires sequence { sequence + 1 < 2 ^ 64 }
     ensures calls { CallRun (is_ok result) (B.view board.old) (B.view board.new) }
+    // beside what the change writes a gate is shut, the header laid, and a gate opened
+    ensures writes { (B.view board.new).writes
+        ≤ (B.view board.old).writes + C.cost change.old + 3 }
     ensures root { IfOk result (λ root. C.root change.new ≡ root) }
+    ensures sealed_for { IfOk result (λ root. root.sequence ≡ sequence + 1) }
     ensures checked { (key : List ℕ) → C.checks change.old key
         → OnOk result (C.checks change.new key) }
     ensures honest { B.honest board.old → B.honest board.new }
@@ -108,14 +117,14 @@ pub fn commit<B: Board, C: Change>(
         → C.fits change.old (B.view board.old).key (B.view board.old).state.reads
         → LeavesOnly moment left_since (B.view board.old) (B.view board.new)
         (BeforeOrAfter C.form (B.view board.old).key before
-        (next_held (C.after change.old before.leaves) before.sequence)) }
+        (next_held C.form (C.after change.old before.leaves) before.sequence)) }
     // at Ok it is what is held after, and the counter is its sequence
     ensures done { B.honest board.old → (before : Held) → before.sequence ≡ sequence
         → IsMounted C.form (B.view board.old).key (C.root change.old) before
         (B.view board.old).state
         → C.fits change.old (B.view board.old).key (B.view board.old).state.reads
         → IfOk result (λ root. IsMounted C.form (B.view board.old).key root
-        (next_held (C.after change.old before.leaves) before.sequence) (B.view board.new).state
+        (next_held C.form (C.after change.old before.leaves) before.sequence) (B.view board.new).state
         × C.fits change.new (B.view board.old).key (B.view board.new).state.reads) }
     ensures kept { B.honest board.old → (before : Held) → before.sequence ≡ sequence
         → IsMounted C.form (B.view board.old).key (C.root change.old) before

@@ -6,7 +6,7 @@ ghost use Rattle.board.specs.Moment.{View, IsCounter, moment, left_since};
 ghost use Rattle.board.specs.Runs.{Rests, RunsOver};
 ghost use Rattle.board.specs.Steps.{CallRun, SameBlocks};
 ghost use Rattle.epoch.specs.Finding.{Finds, OpensBelow, IsSettledAt, RefusesOlder, sequence_of};
-ghost use Rattle.epoch.specs.Opening.{IsRuled, opening_of, opens_as};
+ghost use Rattle.epoch.specs.Opening.{IsRuled, no_failure, opening_of, opens_as};
 ghost use Rattle.epoch.specs.Past.{KeepsPast};
 ghost use Rattle.epoch.specs.Steps.{outcome_opening};
 ghost use Rattle.epoch.specs.declared.answer.OpenAnswer.TheVariants as answers;
@@ -34,7 +34,7 @@ pub const FLAT_VERSION: u32 = 0;
 ///
 /// As the opening rule refuses, and `Failed` where a call of the board failed. No block is written.
 pub fn find_header<B: Board>(board: &mut B) -> Result<Option<Header>, OpenAnswer>
-    ensures calls { CallRun true (B.view board.old) (B.view board.new) }
+    ensures calls { CallRun (no_failure result) (B.view board.old) (B.view board.new) }
     ensures cause { result ≡ Err answers.Failed
         → Rose (B.view board.old).state.faults (B.view board.new).state.faults }
     ensures memory { result ≢ Err answers.NoMemory }
@@ -72,7 +72,7 @@ pub fn find_header<B: Board>(board: &mut B) -> Result<Option<Header>, OpenAnswer
 
 /// The header that counts, of a volume of this version, as `find_header` has it for the flat volume.
 pub fn find_version<B: Board>(board: &mut B, version: u32) -> Result<Option<Header>, OpenAnswer>
-    ensures calls { CallRun true (B.view board.old) (B.view board.new) }
+    ensures calls { CallRun (no_failure result) (B.view board.old) (B.view board.new) }
     ensures cause { result ≡ Err answers.Failed
         → Rose (B.view board.old).state.faults (B.view board.new).state.faults }
     ensures memory { result ≢ Err answers.NoMemory }
@@ -122,7 +122,7 @@ fn raise<B: Board>(
     header: Header,
     counter: u64,
 ) -> Result<Option<Header>, OpenAnswer>
-    ensures calls { CallRun true (B.view board.old) (B.view board.new) }
+    ensures calls { CallRun (no_failure result) (B.view board.old) (B.view board.new) }
     ensures cause { result ≡ Err answers.Failed
         → Rose (B.view board.old).state.faults (B.view board.new).state.faults }
     ensures answer { result ≢ Err answers.Failed → result ≡ Ok (Some header) }

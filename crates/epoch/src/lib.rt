@@ -24,5 +24,5 @@ pub use header::{Header, TreeEntry, entry_at, entry_bytes};
 pub use laws::opening_laws;
 pub use laying::lay;
 pub use mounting::{mount, mount_after_power, mount_again};
-pub use mounts::BoardVolume;
+pub use mounts::{BLANK, BoardVolume, FORMATTED};
 pub use steps::{flip, shut};

@@ -3,11 +3,13 @@ ghost use Rattle.std.specs.Prelude.{◌≡◌, ◌≢◌, ◌≤◌, ℕ, true, 
 ghost use Rattle.tee_base.specs.Faults.{Rose};
 ghost use Rattle.store_api.specs.Volumes.{Held};
 ghost use Rattle.board.specs.Moment.{IsCounter, IsLeft, Outcome};
-ghost use Rattle.board.specs.Steps.{CallRun};
+ghost use Rattle.board.specs.Steps.{CallRun, SameBlocks};
+ghost use Rattle.board.specs.declared.fuse.Fuse.TheVariants.{Unset};
 ghost use Rattle.epoch.specs.Commits.{StaysSettled};
 ghost use Rattle.epoch.specs.Forms.{Form, IsFramed};
 ghost use Rattle.epoch.specs.Mounting.{AreSound, IsHolding, Mounts, MountsAfterPower, MountsAgain};
-ghost use Rattle.epoch.specs.Mounts.{IsRefusedNow, IsRuledBy, OrderRun};
+ghost use Rattle.epoch.specs.Mounts.{IsRefusedNow, IsRuledBy, OrderRun, PowerFirst};
+ghost use Rattle.epoch.specs.Opening.{no_failure};
 ghost use Rattle.epoch.specs.Past.{KeepsPast};
 ghost use Rattle.epoch.specs.declared.answer.OpenAnswer.TheVariants as answers;
 
@@ -22,11 +24,14 @@ use board::Board;
 ///
 /// As `find_version`.
 pub fn mount<B: Board>(board: &mut B, version: u32) -> Result<Option<Header>, OpenAnswer>
-    ensures calls { CallRun true (B.view board.old) (B.view board.new) }
+    ensures calls { CallRun (no_failure result) (B.view board.old) (B.view board.new) }
     ensures cause { result ≡ Err answers.Failed
         → Rose (B.view board.old).state.faults (B.view board.new).state.faults }
     ensures memory { result ≢ Err answers.NoMemory }
     ensures size { OnOk result (VOLUME_BLOCKS ≤ (B.view board.old).size) }
+    ensures writes { (B.view board.new).writes ≡ (B.view board.old).writes }
+    ensures blocks { B.honest board.old
+        → SameBlocks (B.view board.old).state (B.view board.new).state }
     ensures honest { B.honest board.old → B.honest board.new }
     ensures past { B.honest board.old → KeepsPast (B.view board.old) (B.view board.new) }
     ensures settled { B.honest board.old
@@ -54,10 +59,13 @@ pub fn mount<B: Board>(board: &mut B, version: u32) -> Result<Option<Header>, Op
 ///
 /// As `find_version`, and `Failed` where the sync failed.
 pub fn mount_again<B: Board>(board: &mut B, version: u32) -> Result<Option<Header>, OpenAnswer>
-    ensures calls { CallRun true (B.view board.old) (B.view board.new) }
+    ensures calls { CallRun (no_failure result) (B.view board.old) (B.view board.new) }
     ensures cause { result ≡ Err answers.Failed
         → Rose (B.view board.old).state.faults (B.view board.new).state.faults }
     ensures memory { result ≢ Err answers.NoMemory }
+    ensures writes { (B.view board.new).writes ≡ (B.view board.old).writes }
+    ensures reads { B.honest board.old
+        → (B.view board.new).state.reads ≡ (B.view board.old).state.reads }
     ensures honest { B.honest board.old → B.honest board.new }
     ensures past { B.honest board.old → KeepsPast (B.view board.old) (B.view board.new) }
     ensures settled { B.honest board.old
@@ -91,6 +99,12 @@ pub fn mount_after_power<B: Board>(
     ensures cause { result ≡ Err answers.Failed
         → Rose (B.view board.old).state.faults (B.view board.new).state.faults }
     ensures memory { result ≢ Err answers.NoMemory }
+    ensures begins { B.honest board.old
+        → PowerFirst (B.view board.old) (B.view board.new) }
+    ensures writes { (B.view board.new).writes ≡ (B.view board.old).writes }
+    ensures fuse { (B.view board.new).fuse ≡ Unset }
+    ensures steady { IsTrue (no_failure result)
+        → (B.view board.new).state.faults ≡ (B.view board.old).state.faults }
     ensures honest { B.honest board.old → B.honest board.new }
     ensures past { B.honest board.old → KeepsPast (B.view board.old) (B.view board.new) }
     ensures settled { B.honest board.old

@@ -1,27 +1,41 @@
 //! A volume on a board: how it is opened, and what happens to its board beside the leaves.
-ghost use Rattle.std.specs.Prelude.{◌≡◌, ◌≤◌, ◌↔◌, ℕ, true, false, Some, Err, IsTrue, IfOk, IfErr};
+ghost use Rattle.std.specs.Prelude.{◌≡◌, ◌≢◌, ◌≤◌, ◌↔◌, ℕ, true, false, Some, Err, IsTrue, IfOk, IfErr, OnErr};
 ghost use Rattle.tee_base.specs.Faults.{Rose};
 ghost use Rattle.tee_base.specs.declared.limits.TheConstants.{BOARD_BLOCKS};
 ghost use Rattle.store_api.specs.Volumes.{Held};
 ghost use Rattle.board.specs.Moment.{IsCounter, IsLeft, Outcome};
 ghost use Rattle.board.specs.Runs.{Rests};
-ghost use Rattle.board.specs.Steps.{CallRun};
+ghost use Rattle.board.specs.Fuse.{refitted};
+ghost use Rattle.board.specs.Steps.{CallRun, Passes, SameBlocks, Unchanged};
+ghost use Rattle.board.specs.declared.fuse.Fuse.TheVariants.{Unset};
+ghost use Rattle.epoch.specs.Finding.{IsSettledAt};
 ghost use Rattle.epoch.specs.Forms.{Form, held};
-ghost use Rattle.epoch.specs.Mounts.{IsAdmitted, IsAlwaysSound, IsBack, IsKeptFromOpening, IsOrdered, IsRefusal, IsRefusedNow, IsSeenOn, LeavesOpening, OpensAfterPower, OpensAgain, OrderRun, after_opening};
+ghost use Rattle.epoch.specs.Mounts.{IsAdmitted, IsAlwaysSound, IsBack, IsKeptFromOpening, IsOrdered, IsRefusal, IsRefusedNow, IsSeenOn, LeavesOpening, OpensAfterPower, OpensAgain, OrderRun, PowerFirst, after_opening};
+ghost use Rattle.epoch.specs.Opening.{is_no_failure, no_failure};
+ghost use Rattle.epoch.specs.Past.{KeepsPast};
 ghost use Rattle.epoch.specs.declared.answer.OpenAnswer.TheVariants as answers;
+ghost use Rattle.epoch.specs.declared.header.TreeEntry.{TreeEntry as Entry};
 
 use crate::answer::{OpenAnswer, Unopened};
 use board::Board;
 use std::alloc::Global;
 use store_api::Volume;
 
-/// A volume that stands on a board.
+/// The sequence of a board on which no header counts, and that once it is formatted.
+pub const BLANK: u64 = 0;
+pub const FORMATTED: u64 = 1;
+
+/// A volume that stands on a board. Opened, it keeps the root of the header that counts by the opening rule, whatever the
+/// image.
 pub trait BoardVolume<B: Board>: Volume + Sized {
     /// How its leaves lie on the board.
     ghost form: { Form };
 
     /// The board that it stands on.
     ghost board_of: { Self → B };
+
+    /// The entry of the root that it keeps.
+    ghost root: { Self → Entry };
 
     /// Opens a board; one that is blank is formatted.
     ///
@@ -31,20 +45,30 @@ pub trait BoardVolume<B: Board>: Volume + Sized {
     fn open(alloc: Global, board: B) -> Result<Self, Unopened<B>>
         ensures fresh { IfOk result (λ v. (Self.keeper.condition v).lost ≡ false) }
         ensures calls { IfOk result (λ v. CallRun true (B.view board) (B.view (board_of v))) }
-        ensures back { IfErr result (λ u. CallRun true (B.view board) (B.view u.board)) }
+        ensures back { IfErr result (λ u.
+            CallRun (is_no_failure u.why) (B.view board) (B.view u.board)) }
         ensures cause { IfErr result (λ u. u.why ≡ answers.Failed
             → Rose (B.view board).state.faults (B.view u.board).state.faults) }
+        ensures past { B.honest board
+            → IfOk result (λ v. KeepsPast (B.view board) (B.view (board_of v))) }
+        ensures past_back { B.honest board
+            → IfErr result (λ u. KeepsPast (B.view board) (B.view u.board)) }
+        // a board that is refused, or for which there was no memory, is as it was
+        ensures unwritten { IfErr result (λ u. u.why ≢ answers.Failed
+            → (B.view u.board).writes ≡ (B.view board).writes) }
+        ensures unchanged { B.honest board → IfErr result (λ u. u.why ≢ answers.Failed
+            → SameBlocks (B.view board).state (B.view u.board).state) }
         // whatever the board: by the rule over what it tells, at some counter
         ensures rule { IsTrue B.tells_reads → (counter : ℕ)
             × IfErr result (λ u. IsRefusal form (B.view board)
             (B.view board).state.reads counter u.why)
             × IfOk result (λ v. IsAdmitted form (B.view board) (B.view board).state.reads counter
-            (Self.keeper.held v).sequence) }
+            FORMATTED (Self.keeper.held v).sequence (root v)) }
         ensures exact { B.honest board → (counter : ℕ) × IsCounter (B.view board).state counter
             × IfErr result (λ u. IsRefusal form (B.view board)
             (B.view board).state.reads counter u.why)
             × IfOk result (λ v. IsAdmitted form (B.view board) (B.view board).state.reads counter
-            (Self.keeper.held v).sequence) }
+            FORMATTED (Self.keeper.held v).sequence (root v)) }
         ensures honest { B.honest board → IfOk result (λ v. B.honest (board_of v)) }
         ensures honest_back { B.honest board → IfErr result (λ u. B.honest u.board) }
         // a refusal is of the board that is handed back
@@ -70,7 +94,8 @@ pub trait BoardVolume<B: Board>: Volume + Sized {
     ///
     /// As `open`. The volume is lost then.
     fn reopen(&mut self) -> Result<u64, OpenAnswer>
-        ensures calls { CallRun true (B.view (board_of self.old)) (B.view (board_of self.new)) }
+        ensures calls { CallRun (no_failure result) (B.view (board_of self.old))
+            (B.view (board_of self.new)) }
         ensures cause { result ≡ Err answers.Failed
             → Rose (B.view (board_of self.old)).state.faults
             (B.view (board_of self.new)).state.faults }
@@ -81,10 +106,19 @@ pub trait BoardVolume<B: Board>: Volume + Sized {
             × IfErr result (λ why. IsRefusal form (B.view (board_of self.old))
             (B.view (board_of self.old)).state.reads counter why)
             × IfOk result (λ sequence. IsAdmitted form (B.view (board_of self.old))
-            (B.view (board_of self.old)).state.reads counter sequence) }
+            (B.view (board_of self.old)).state.reads counter BLANK sequence (root self.new)) }
+        ensures root { OnErr result (root self.new ≡ root self.old) }
         // a refusal is of the board as it is then
         ensures refusal { B.honest (board_of self.old)
             → IfErr result (λ why. IsRefusedNow form (B.view (board_of self.new)) why) }
+        // no block is written, and each reads as before
+        ensures writes { (B.view (board_of self.new)).writes
+            ≡ (B.view (board_of self.old)).writes }
+        ensures reads { B.honest (board_of self.old)
+            → (B.view (board_of self.new)).state.reads
+            ≡ (B.view (board_of self.old)).state.reads }
+        ensures past { B.honest (board_of self.old)
+            → KeepsPast (B.view (board_of self.old)) (B.view (board_of self.new)) }
         ensures opened { B.honest (board_of self.old) → IsAlwaysSound Self.keeper self.old
             → OpensAgain Self.keeper result self.old self.new };
 
@@ -106,15 +140,34 @@ pub trait BoardVolume<B: Board>: Volume + Sized {
             × IfErr result (λ why. IsRefusal form (B.view (board_of self.old)) c.image c.counter
             why)
             × IfOk result (λ sequence. IsAdmitted form (B.view (board_of self.old)) c.image
-            c.counter sequence) }
+            c.counter BLANK sequence (root self.new)) }
+        ensures root { OnErr result (root self.new ≡ root self.old) }
         // a refusal is of the board as it is then
         ensures refusal { B.honest (board_of self.old)
             → IfErr result (λ why. IsRefusedNow form (B.view (board_of self.new)) why) }
+        // the power goes before any other call, no block is written, and each reads as the power left it
+        ensures begins { B.honest (board_of self.old)
+            → PowerFirst (B.view (board_of self.old)) (B.view (board_of self.new)) }
+        ensures writes { (B.view (board_of self.new)).writes
+            ≡ (B.view (board_of self.old)).writes }
+        ensures fuse { (B.view (board_of self.new)).fuse ≡ Unset }
+        ensures steady { IsTrue (no_failure result)
+            → (B.view (board_of self.new)).state.faults
+            ≡ (B.view (board_of self.old)).state.faults }
+        ensures past { B.honest (board_of self.old)
+            → KeepsPast (B.view (board_of self.old)) (B.view (board_of self.new)) }
         ensures opened { B.honest (board_of self.old) → IsAlwaysSound Self.keeper self.old
             → OpensAfterPower Self.keeper result self.old self.new };
 
-    /// Lets so many calls of the board pass, as the board's `fuse` does.
+    /// Lets so many calls of the board pass, as the board's `fuse` does. It makes no other call.
     fn fuse(&mut self, calls: u32)
+        ensures root { root self.new ≡ root self.old }
+        ensures fuse { (B.view (board_of self.new)).fuse
+            ≡ refitted (B.view (board_of self.old)).fuse calls }
+        ensures alone { B.honest (board_of self.old)
+            → Passes (B.view (board_of self.old)) (B.view (board_of self.new))
+            × Unchanged (B.view (board_of self.old)).state
+            (B.view (board_of self.new)).state }
         ensures ordered { OrderRun calls (B.view (board_of self.old))
             (B.view (board_of self.new)) }
         ensures lost { (Self.keeper.condition self.new).lost
@@ -133,6 +186,10 @@ pub trait BoardVolume<B: Board>: Volume + Sized {
 
     /// An honest volume stands on an honest board.
     ghost honest_board: { (v : Self) → Self.keeper.honest v → B.honest (board_of v) };
+
+    /// The counter of the board of an honest volume that isn't lost is its sequence, and no crash may leave another.
+    ghost settled: { (v : Self) → Self.keeper.honest v → (Self.keeper.condition v).lost ≡ false
+        → IsSettledAt (Self.keeper.held v).sequence (B.view (board_of v)).state };
 
     /// What it stands on is its board.
     ghost below: { (v : Self) → Self.keeper.honest_below v ↔ B.honest (board_of v) };

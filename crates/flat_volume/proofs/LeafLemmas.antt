@@ -7,7 +7,7 @@ use Rattle.std.proofs.lemmas.List.{drop_all}
 use Rattle.std.proofs.lemmas.Bool.Decides.{nat_tests}
 use Rattle.tee_base.specs.declared.limits.TheConstants.{MAX_HOSTS, LEAVES}
 use Rattle.store_api.specs.declared.leaves.Leaf.{Leaf}
-use Rattle.store_api.specs.Ascending.{is_ascending}
+use Rattle.store_api.specs.Ascending.{is_above_all, is_ascending}
 use Rattle.store_api.specs.Volumes.{leaf_after, replaced}
 use Rattle.epoch.specs.Forms.{is_leaf}
 use Rattle.epoch.specs.declared.header.TreeEntry.{TreeEntry}
@@ -177,3 +177,12 @@ module _ (told tnew : List ℕ) (region : ℕ) (leaf : Leaf) (rest : List Leaf) 
     leaves_more text =
         sym (leaves_step key told tnew old new region leaf rest region_in leaf_in elsewhere_of others_of
         (ap (λ (n : ℕ). leaf_text key new (FIRST_LEAF + n) (entry_of tnew n)) (sym is_number) ∙ text) (above_rest leaf rest ascending))
+
+-- the first of leaves that are all of a region, and the others
+pub within_here : (leaf : Leaf) (rest : List Leaf) → is_above_all (leaf ∷ rest) LEAVES ≡ true → leaf.number < LEAVES
+within_here leaf rest within =
+    let one : nat_lt leaf.number LEAVES ≡ true = first_true (nat_lt leaf.number LEAVES) (is_above_all rest LEAVES) within in
+    grind (arith, nat_tests, one)
+
+pub within_rest : (leaf : Leaf) (rest : List Leaf) → is_above_all (leaf ∷ rest) LEAVES ≡ true → is_above_all rest LEAVES ≡ true
+within_rest leaf rest within = second_true (nat_lt leaf.number LEAVES) (is_above_all rest LEAVES) within

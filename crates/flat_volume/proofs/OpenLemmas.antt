@@ -7,14 +7,15 @@ use Rattle.std.proofs.lemmas.Bool.Decides.{nat_tests}
 use Rattle.tee_base.specs.Crash.{LeavesOnly}
 use Rattle.tee_base.proofs.Crash.{joined, weaker}
 use Rattle.store_api.specs.Volumes.{Held, leaf_after, replaced}
-use Rattle.board.specs.Moment.{View, left_since, moment}
+use Rattle.board.specs.Moment.{Moment, View, left_since, moment}
+use Rattle.board.specs.Steps.{SameBlocks}
 use Rattle.board.proofs.Runs.{starts}
 use Rattle.seal.specs.declared.keys.Keys.{Keys}
 use Rattle.epoch.specs.Commits.{BeforeOrAfter, IsMounted, next_held}
 use Rattle.epoch.specs.Finding.{sequence_of}
 use Rattle.epoch.specs.Forms.{held_of}
 use Rattle.epoch.specs.Mounting.{MountsTo, after_found}
-use Rattle.epoch.specs.Mounts.{IsAdmitted, IsKeptFromOpening, IsRefusal, IsRuledBy, after_opening}
+use Rattle.epoch.specs.Mounts.{IsAdmitted, IsKeptFromOpening, IsRefusal, IsRuledBy, TakesUp, after_opening}
 use Rattle.epoch.specs.declared.answer.OpenAnswer.{OpenAnswer}
 use Rattle.epoch.specs.declared.answer.OpenAnswer.TheVariants.{Failed, NoMemory}
 use Rattle.epoch.specs.declared.header.Header.{Header}
@@ -31,7 +32,7 @@ use Rattle.flat_volume.specs.declared.write.TheConstants.{NO_ROOT}
 
 -- what is held under a root that a board is mounted with
 pub held_is : (view : View) (root : TreeEntry) (sequence : ℕ) (h : Held) → IsMounted flat view.key root h view.state → sequence ≡ h.sequence → held_now view root sequence ≡ h
-held_is view root sequence h mounted e = λ i. record { leaves = (sym mounted.leaves) i; sequence = e i }
+held_is view root sequence h mounted e = λ i. record { leaves = (sym mounted.leaves) i; sequence = e i; version = (sym mounted.version) i }
 
 -- such a board is open
 pub open_with : (view : View) (root : TreeEntry) (sequence : ℕ) (table : Option Table) (h : Held) → IsMounted flat view.key root h view.state → sequence ≡ h.sequence
@@ -95,35 +96,35 @@ same_leaf false l bytes = refl
 same_leaves : (leaves : ℕ → ℕ → List ℕ) → replaced 0 [] leaves ≡ leaves
 same_leaves leaves = λ i r l. same_leaf (r == 0) l (leaves r l) i
 
-formatted : (h : Held) → h.sequence ≡ 0 → next_held (replaced 0 [] h.leaves) h.sequence ≡ after_found None h
-formatted h zero =
+formatted : (h : Held) → h.sequence ≡ 0 → h.version ≡ flat.version → next_held flat (replaced 0 [] h.leaves) h.sequence ≡ after_found None h
+formatted h zero version =
     let next : h.sequence + 1 ≡ 1 = omega (arith, zero) in
-    λ i. record { leaves = same_leaves h.leaves i; sequence = next i }
+    λ i. record { leaves = same_leaves h.leaves i; sequence = next i; version = (sym version) i }
 
 -- what a crash leaves within the formatting
-pub leaves_format : (old new : View) (h : Held) → h.sequence ≡ 0
-    → LeavesOnly moment left_since old new (BeforeOrAfter flat old.key h (next_held (replaced 0 [] h.leaves) h.sequence))
+pub leaves_format : (old new : View) (h : Held) → h.sequence ≡ 0 → h.version ≡ flat.version
+    → LeavesOnly moment left_since old new (BeforeOrAfter flat old.key h (next_held flat (replaced 0 [] h.leaves) h.sequence))
     → LeavesOnly moment left_since old new (λ c. (held_of flat old.key c ≡ Some h) ⊎ (held_of flat old.key c ≡ Some (after_found None h)))
-leaves_format old new h zero run =
-    subst (λ (after : Held). LeavesOnly moment left_since old new (λ c. (held_of flat old.key c ≡ Some h) ⊎ (held_of flat old.key c ≡ Some after))) (formatted h zero) run
+leaves_format old new h zero version run =
+    subst (λ (after : Held). LeavesOnly moment left_since old new (λ c. (held_of flat old.key c ≡ Some h) ⊎ (held_of flat old.key c ≡ Some after))) (formatted h zero version) run
 
-pub format_failed : (old new : View) (result : Result Opened OpenAnswer) (h : Held) → h.sequence ≡ 0 → IsErr result → IfErr result (λ why. IsKeptFromOpening why)
-    → LeavesOnly moment left_since old new (BeforeOrAfter flat old.key h (next_held (replaced 0 [] h.leaves) h.sequence)) → Opens h (after_found None h) result old new
-format_failed old new (Ok o) h zero fails kept run = absurd (false≢true fails)
-format_failed old new (Err why) h zero fails kept run = record { opened = tt; failed = kept; leaves = leaves_format old new h zero run }
+pub format_failed : (old new : View) (result : Result Opened OpenAnswer) (h : Held) → h.sequence ≡ 0 → h.version ≡ flat.version → IsErr result → IfErr result (λ why. IsKeptFromOpening why)
+    → LeavesOnly moment left_since old new (BeforeOrAfter flat old.key h (next_held flat (replaced 0 [] h.leaves) h.sequence)) → Opens h (after_found None h) result old new
+format_failed old new (Ok o) h zero version fails kept run = absurd (false≢true fails)
+format_failed old new (Err why) h zero version fails kept run = record { opened = tt; failed = kept; leaves = leaves_format old new h zero version run }
 
-pub format_done : (old new : View) (root root' : TreeEntry) (keys : Keys) (table : Table) (h : Held) → h.sequence ≡ 0 → new.key ≡ old.key → root' ≡ root
-    → LeavesOnly moment left_since old new (BeforeOrAfter flat old.key h (next_held (replaced 0 [] h.leaves) h.sequence))
-    → IsMounted flat old.key root (next_held (replaced 0 [] h.leaves) h.sequence) new.state → FitsFlat keys table root' old.key new.state.reads
+pub format_done : (old new : View) (root root' : TreeEntry) (keys : Keys) (table : Table) (h : Held) → h.sequence ≡ 0 → h.version ≡ flat.version → new.key ≡ old.key → root' ≡ root
+    → LeavesOnly moment left_since old new (BeforeOrAfter flat old.key h (next_held flat (replaced 0 [] h.leaves) h.sequence))
+    → IsMounted flat old.key root (next_held flat (replaced 0 [] h.leaves) h.sequence) new.state → FitsFlat keys table root' old.key new.state.reads
     → Opens h (after_found None h) (Ok (record { root = root; sequence = 1; table = Some table })) old new
-format_done old new root root' keys table h zero key same run mounted fits =
+format_done old new root root' keys table h zero version key same run mounted fits =
     let mounted' : IsMounted flat new.key root (after_found None h) new.state
-    = subst (λ (k : List ℕ). IsMounted flat k root (after_found None h) new.state) (sym key) (subst (λ (x : Held). IsMounted flat old.key root x new.state) (formatted h zero) mounted) in
+    = subst (λ (k : List ℕ). IsMounted flat k root (after_found None h) new.state) (sym key) (subst (λ (x : Held). IsMounted flat old.key root x new.state) (formatted h zero version) mounted) in
     let kept : table.bytes.items ≡ table_in new.state.reads root = fits.stands ∙ ap (table_in new.state.reads) same in
     record {
       opened = open_with new root 1 (Some table) (after_found None h) mounted' refl kept;
       failed = tt;
-      leaves = leaves_format old new h zero run;
+      leaves = leaves_format old new h zero version run;
     }
 
 -- the table that stands under a root of sequence 0
@@ -188,14 +189,44 @@ kept_refusal view image n why kept =
     (λ (e : why ≡ NoMemory). subst (IsRefusal flat view image n) (sym e) tt)
     kept
 
--- what was found has this sequence, if it is a header
-pub if_found : (found : Option Header) (sequence : ℕ) → sequence ≡ sequence_of found → IfSome found (λ header. header.sequence ≡ sequence)
-if_found None sequence is = tt
-if_found (Some header) sequence is = sym is
+-- what an opening takes up of what was found: its sequence and its root
+pub taken_up : (found : Option Header) (o : Opened) → o.root ≡ root_of found → o.sequence ≡ sequence_of found → TakesUp found 0 o.sequence o.root
+taken_up None o root sequence = (sequence, ap (λ (e : TreeEntry). e.sequence) root)
+taken_up (Some header) o root sequence = (sym sequence, sym root)
+
+-- the same of a header, whatever a blank board is taken up with
+pub takes_header : (found : Option Header) (header : Header) (o : Opened) (blank : ℕ) → found ≡ Some header → o.root ≡ root_of found → o.sequence ≡ sequence_of found
+    → TakesUp found blank o.sequence o.root
+takes_header None header o blank is root sequence = absurd (cc)
+takes_header (Some other) header o blank is root sequence = (sym sequence, sym root)
+
+-- and of a blank board
+pub takes_none : (found : Option Header) (result : Result Opened OpenAnswer) (blank : ℕ) → found ≡ None → IfOk result (λ o. (o.sequence ≡ blank) × (o.root.sequence ≡ blank))
+    → IfOk result (λ o. TakesUp found blank o.sequence o.root)
+takes_none None (Ok o) blank is both = both
+takes_none (Some header) (Ok o) blank is both = absurd (cc)
+takes_none found (Err why) blank is both = tt
 
 -- what was found by the rule, and then taken up or not, is so by the rule
-pub ruled_opening : (view : View) (image : ℕ → List ℕ) (n : ℕ) (found : Option Header) (result : Result Opened OpenAnswer) → IsRuledBy flat view image n (Ok found)
-    → IfErr result (λ why. IsKeptFromOpening why) → IfOk result (λ o. IfSome found (λ header. header.sequence ≡ o.sequence))
-    → IfErr result (λ why. IsRefusal flat view image n why) × IfOk result (λ o. IsAdmitted flat view image n o.sequence)
-ruled_opening view image n found (Ok o) ruled kept at = (tt, admitted_by flat view image n o.sequence found ruled.1 at)
-ruled_opening view image n found (Err why) ruled kept at = (kept_refusal view image n why kept, tt)
+pub ruled_opening : (view : View) (image : ℕ → List ℕ) (n blank : ℕ) (found : Option Header) (result : Result Opened OpenAnswer) → IsRuledBy flat view image n (Ok found)
+    → IfErr result (λ why. IsKeptFromOpening why) → IfOk result (λ o. TakesUp found blank o.sequence o.root)
+    → IfErr result (λ why. IsRefusal flat view image n why) × IfOk result (λ o. IsAdmitted flat view image n blank o.sequence o.root)
+ruled_opening view image n blank found (Ok o) ruled kept at = (tt, admitted_by flat view image n blank o.sequence o.root found ruled.1 at)
+ruled_opening view image n blank found (Err why) ruled kept at = (kept_refusal view image n why kept, tt)
+
+-- what is told of a refusal goes on to what follows from it
+pub err_so : {A : Type 0} (result : Result A OpenAnswer) (P Q : OpenAnswer → Type 0) → ((why : OpenAnswer) → P why → Q why) → IfErr result P → IfErr result Q
+err_so (Ok x) P Q goes is = tt
+err_so (Err why) P Q goes is = goes why is
+
+-- one call that leaves the blocks behind another
+pub blocks_more : (first mid last : Moment) → SameBlocks first mid → SameBlocks mid last → SameBlocks first last
+blocks_more first mid last one two = record {
+  reads = two.reads ∙ one.reads;
+  durable = two.durable ∙ one.durable;
+  pending = two.pending ∙ one.pending;
+}
+
+-- before the first of them
+pub blocks_none : (m : Moment) → SameBlocks m m
+blocks_none m = record { reads = refl; durable = refl; pending = refl }

@@ -18,7 +18,7 @@ use Rattle.epoch.specs.declared.header.TreeEntry.{TreeEntry}
 use Rattle.flat_volume.specs.declared.places.TheConstants.{FIRST_TABLE, TABLE_BLOCKS}
 use Rattle.flat_volume.specs.declared.table.Table.{Table}
 use Rattle.flat_volume.specs.Flat.{block_at, copy_of, differing, entry_of, first_damage, joined_below, leaf_damage, leaf_text, table_damage, table_in, table_tag}
-use Rattle.flat_volume.specs.Reading.{OnlyReads}
+use Rattle.epoch.specs.Reading.{OnlyReads}
 use Rattle.flat_volume.specs.Writing.{spare_block}
 use Rattle.flat_volume.proofs.FlatLemmas.{no_difference, tagged}
 use Rattle.flat_volume.proofs.LeafLemmas.{other_block}

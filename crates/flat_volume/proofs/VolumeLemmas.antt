@@ -1,5 +1,5 @@
 -- What a volume that is open keeps while its board is read, and what its calls answer.
-use Rattle.std.proofs.Common.{◌≡◌, ◌≢◌, ◌≤◌, ◌<◌, ◌+◌, ◌-◌, ◌^◌, ◌∙◌, if◌then◌else◌, ℕ, true, false, List, ◌∷◌, Option, Some, None, Result, Ok, Err, nat_lt, refl, sym, ap, subst, inl, arith}
+use Rattle.std.proofs.Common.{◌≡◌, ◌≢◌, ◌≤◌, ◌<◌, ◌+◌, ◌-◌, ◌^◌, ◌∙◌, not, if◌then◌else◌, ℕ, Bool, true, false, List, [], ◌∷◌, Option, Some, None, Result, Ok, Err, nat_lt, refl, sym, ap, subst, inl, arith}
 use Rattle.std.proofs.lemmas.Bool.Decides.{nat_tests}
 use Rattle.tee_base.specs.Crash.{LeavesOnly, read_as}
 use Rattle.tee_base.specs.Faults.{Rose}
@@ -10,7 +10,7 @@ use Rattle.store_api.specs.declared.leaves.Leaf.{Leaf}
 use Rattle.store_api.specs.declared.leaves.LeafAnswer.{LeafAnswer}
 use Rattle.store_api.specs.declared.leaves.LeafAnswer.TheVariants as answers
 use Rattle.store_api.specs.Foundations.{Foundation}
-use Rattle.store_api.specs.Volumes.{Condition, Held, IfMismatch, IsUndamaged, IsVolumeCall, LeafCause, LeftByCommit, ShowsLeaf, VolumeKeeper, after_commit}
+use Rattle.store_api.specs.Volumes.{Condition, Held, IfMismatch, IfUnwritten, IsUndamaged, IsVolumeCall, LeafCause, LeftByCommit, ShowsLeaf, UnlessFailed, VolumeKeeper, after_commit}
 use Rattle.board.specs.Moment.{Outcome, Moment, View, IsLeft, moment, left_since}
 use Rattle.board.specs.declared.BoardFailed.{BoardFailed}
 use Rattle.board.specs.Runs.{LeavesBase, Rests}
@@ -26,9 +26,9 @@ use Rattle.epoch.proofs.RunLemmas.{rest_starts}
 use Rattle.epoch.proofs.SettledLemmas.{settled_blocks, settled_unchanged, steady_leaves, steady_rests, steady_stays}
 use Rattle.flat_volume.specs.Flat.{entry_of, first_damage, flat, leaf_damage, leaf_text, number_of, path_damage, table_damage, table_in}
 use Rattle.flat_volume.specs.Frame.{flat_framed}
-use Rattle.flat_volume.specs.Keeping.{Exhausts, IsKept, IsOpen, IsVerified, Replaces, StaysOpen, damage_now, held_now, is_failure, table_now}
+use Rattle.flat_volume.specs.Keeping.{Exhausts, IsKept, IsOpen, IsVerified, Replaces, StaysOpen, damage_now, held_now, table_now, text_now}
 use Rattle.flat_volume.specs.Laws.{kept_table}
-use Rattle.flat_volume.specs.Reading.{OnlyReads}
+use Rattle.epoch.specs.Reading.{OnlyReads, is_failure}
 use Rattle.flat_volume.specs.declared.places.TheConstants.{FIRST_LEAF}
 use Rattle.flat_volume.specs.declared.table.Table.{Table}
 use Rattle.flat_volume.specs.declared.volume.Opened.{Opened}
@@ -46,7 +46,7 @@ pub held_same : (old new : View) (root : TreeEntry) (sequence : ℕ) → new.key
     → held_now new root sequence ≡ held_now old root sequence
 held_same old new root sequence key reads =
     let leaves : leaves_of flat new.key new.state.reads root ≡ leaves_of flat old.key old.state.reads root = rw (key, reads) refl in
-    λ i. record { leaves = leaves i; sequence = sequence }
+    λ i. record { leaves = leaves i; sequence = sequence; version = flat.version }
 
 -- and show the same damage
 pub damage_same : (old new : View) (table table' : Option Table) (root : TreeEntry) → new.key ≡ old.key → new.state.reads ≡ old.state.reads
@@ -72,6 +72,7 @@ open_same old new root sequence table table' key same tables is =
         opens = rw (key, reads) is.mounted.opens;
         sealed = rw (key, reads) is.mounted.sealed;
         leaves = refl;
+        version = refl;
       };
       kept = kept_by table' new.state.reads root
           (tables ∙ kept_table table old.state.reads root is.kept ∙ ap (λ (f : ℕ → List ℕ). table_in f root) (sym reads));
@@ -89,7 +90,7 @@ pub held_steady : (old new : View) (root : TreeEntry) (sequence : ℕ) → new.k
 held_steady old new root sequence key stays is =
     let leaves : leaves_of flat new.key new.state.reads root ≡ leaves_of flat old.key old.state.reads root
     = ap (λ (k : List ℕ). leaves_of flat k new.state.reads root) key ∙ steady_leaves flat old.key root flat_framed old.state new.state stays is in
-    λ i. record { leaves = leaves i; sequence = sequence }
+    λ i. record { leaves = leaves i; sequence = sequence; version = flat.version }
 
 -- the root of a volume that is open is steady
 pub steady_open : (view : View) (root : TreeEntry) (sequence : ℕ) (table : Option Table) → IsOpen view root sequence table → IsSteady flat view.key root view.state
@@ -129,17 +130,19 @@ mounted_open view key root h table same mounted stands = record {
     opens = rw same mounted.opens;
     sealed = rw same mounted.sealed;
     leaves = refl;
+    version = refl;
   };
   kept = stands;
 }
 
-pub leaves_held : (view : View) (key : List ℕ) (root : TreeEntry) (h : Held) → view.key ≡ key → leaves_of flat key view.state.reads root ≡ h.leaves → held_now view root h.sequence ≡ h
-leaves_held view key root h same leaves =
+pub leaves_held : (view : View) (key : List ℕ) (root : TreeEntry) (h : Held) → view.key ≡ key → leaves_of flat key view.state.reads root ≡ h.leaves → h.version ≡ flat.version
+    → held_now view root h.sequence ≡ h
+leaves_held view key root h same leaves version =
     let now : leaves_of flat view.key view.state.reads root ≡ h.leaves = rw same leaves in
-    λ i. record { leaves = now i; sequence = h.sequence }
+    λ i. record { leaves = now i; sequence = h.sequence; version = (sym version) i }
 
 pub mounted_held : (view : View) (key : List ℕ) (root : TreeEntry) (h : Held) → view.key ≡ key → IsMounted flat key root h view.state → held_now view root h.sequence ≡ h
-mounted_held view key root h same mounted = leaves_held view key root h same (sym mounted.leaves)
+mounted_held view key root h same mounted = leaves_held view key root h same (sym mounted.leaves) mounted.version
 
 -- what a crash leaves whose blocks are those of an open volume, and whose counter is its sequence
 left_holds : (view : View) (m : Moment) (root : TreeEntry) (sequence : ℕ) (table : Option Table) (c : Outcome) → IsOpen view root sequence table → SameBlocks view.state m
@@ -237,21 +240,28 @@ leaf_is region leaf r l =
     let two : nat_lt leaf LEAVES ≡ true = grind (arith, nat_tests) in
     rw (one, two) refl
 
--- the bytes of a leaf, and its damage, by its number among all
-pub text_of : (view : View) (root : TreeEntry) (region leaf number : ℕ) → region < MAX_HOSTS → leaf < LEAVES → number ≡ number_of region leaf
-    → leaf_text view.key view.state.reads (FIRST_LEAF + number) (entry_of (table_in view.state.reads root) number)
-    ≡ leaves_of flat view.key view.state.reads root region leaf
-unfolding leaves_of
-text_of view root region leaf number r l is =
-    let there : is_leaf region leaf ≡ true = leaf_is region leaf r l in
-    rw (there, is) refl
-
+-- the damage of a leaf, by its number among all
 pub damage_of : (table : Option Table) (view : View) (root : TreeEntry) (region leaf number : ℕ) → region < MAX_HOSTS → leaf < LEAVES → number ≡ number_of region leaf
     → path_damage view.key (table_now table view.state.reads root) view.state.reads root number ≡ damage_now table view root region leaf
 unfolding damage_now
 damage_of table view root region leaf number r l is =
     let there : is_leaf region leaf ≡ true = leaf_is region leaf r l in
     rw (there, is) refl
+
+-- the same of what is found
+pub text_found : (table : Option Table) (view : View) (root : TreeEntry) (region leaf number : ℕ) → region < MAX_HOSTS → leaf < LEAVES → number ≡ number_of region leaf
+    → leaf_text view.key view.state.reads (FIRST_LEAF + number) (entry_of (table_now table view.state.reads root) number) ≡ text_now table view root region leaf
+unfolding text_now
+text_found table view root region leaf number r l is =
+    let there : is_leaf region leaf ≡ true = leaf_is region leaf r l in
+    rw (there, is) refl
+
+-- the same key, the same reads and the same table find the same
+pub text_same : (old new : View) (table table' : Option Table) (root : TreeEntry) → new.key ≡ old.key → new.state.reads ≡ old.state.reads
+    → table_now table' new.state.reads root ≡ table_now table old.state.reads root → text_now table' new root ≡ text_now table old root
+unfolding text_now
+text_same old new table table' root key reads same = λ i region leaf.
+    if is_leaf region leaf then leaf_text (key i) (reads i) (FIRST_LEAF + number_of region leaf) (entry_of (same i) (number_of region leaf)) else []
 
 -- a damage of the table is one of each leaf
 pub table_shows : (table : Option Table) (view : View) (root : TreeEntry) (region : ℕ) (tags : Mismatch) → region < MAX_HOSTS
@@ -280,7 +290,7 @@ err_cause A answers.NoMemory old new live lost rose other tags = (live, lost)
 -- a call of a lost volume, which does nothing
 pub lost_call : (V A : Type 0) (K : VolumeKeeper V) (v : V) → (K.condition v).lost ≡ true → IsVolumeCall K {A = A} (Err answers.Lost) v v
 lost_call V A K v lost = record {
-  cause = record { cause = (lost, lost); later = omega arith; foundation = refl };
+  cause = record { cause = (lost, lost); later = omega arith; unfailed = refl; foundation = refl };
   below = λ b. b;
   honest = λ h. (h, tt);
   quiet = λ told. record { same = refl; none = λ t o left. left };
@@ -307,10 +317,10 @@ read_replaces region named e before old new is key only shows =
     }
 
 -- a run of calls keeps what the volume stands on: a board of this size and key, and its orders
-pub foundation_same : (old new : View) → CallRun true old new
+pub foundation_same : {ok : Bool} (old new : View) → CallRun ok old new
     → ◌≡◌ {A = Foundation} (record { place = new.size ∷ new.key; orders = new.state.orders; ordered = new.ordered })
     (record { place = old.size ∷ old.key; orders = old.state.orders; ordered = old.ordered })
-foundation_same old new run = λ i. record { place = run.size i ∷ run.key i; orders = run.orders i; ordered = run.ordered i }
+foundation_same {ok} old new run = λ i. record { place = run.size i ∷ run.key i; orders = run.orders i; ordered = run.ordered i }
 
 -- what counts of a table after a read
 pub tables_same : (table table' : Option Table) (old new : View) (root : TreeEntry) → new.state.reads ≡ old.state.reads
@@ -323,14 +333,6 @@ pub crash_read : (old new : View) (root : TreeEntry) (sequence : ℕ) (table : O
 crash_read old new root sequence table is key only =
     subst (λ (k : List ℕ). LeavesOnly moment left_since old new (λ c. held_of flat k c ≡ Some (held_now old root sequence))) (sym key)
     (reads_crash old new root sequence table is only)
-
--- the bytes that were read are those that are held
-pub text_read : (view : View) (root : TreeEntry) (sequence : ℕ) (table : Option Table) (region leaf number : ℕ) (bytes : List ℕ) → IsOpen view root sequence table → region < MAX_HOSTS → leaf < LEAVES
-    → number ≡ number_of region leaf → bytes ≡ leaf_text view.key view.state.reads (FIRST_LEAF + number) (entry_of (table_now table view.state.reads root) number)
-    → bytes ≡ leaves_of flat view.key view.state.reads root region leaf
-text_read view root sequence table region leaf number bytes is r l at read =
-    read ∙ ap (λ (t : List ℕ). leaf_text view.key view.state.reads (FIRST_LEAF + number) (entry_of t number)) (kept_table table view.state.reads root is.kept)
-    ∙ text_of view root region leaf number r l at
 
 -- damage that a commit answers is one of a leaf at its return
 pub err_shows : (A B : Type 0) (e : LeafAnswer) (view : View) (key : List ℕ) (root : TreeEntry) (region : ℕ) (table : Option Table) → view.key ≡ key → table ≡ None → region < MAX_HOSTS
@@ -360,3 +362,17 @@ still_open answers.Lost before view table none live stays = subst (IsOpen view b
 still_open answers.Failed before view table none live stays = absurd (let f : true ≡ false = live in cc)
 still_open (answers.Mismatch tags) before view table none live stays = subst (IsOpen view before.root before.sequence) (sym none) stays
 still_open answers.NoMemory before view table none live stays = subst (IsOpen view before.root before.sequence) (sym none) stays
+
+-- what holds unless the call failed, of a call that didn't
+pub unless_failed : (A : Type 0) (e : LeafAnswer) (P : Type 0) → (not (is_failure e) ≡ true → P) → UnlessFailed {A = A} (Err e) P
+unless_failed A answers.Lost P is = is refl
+unless_failed A answers.Failed P is = tt
+unless_failed A (answers.Mismatch tags) P is = is refl
+unless_failed A answers.NoMemory P is = is refl
+
+-- a commit that is refused before anything is written
+pub if_unwritten : (e : LeafAnswer) (P : Type 0) → (not (is_failure e) ≡ true → P) → IfUnwritten (Err e) P
+if_unwritten answers.Lost P is = is refl
+if_unwritten answers.Failed P is = tt
+if_unwritten (answers.Mismatch tags) P is = is refl
+if_unwritten answers.NoMemory P is = is refl

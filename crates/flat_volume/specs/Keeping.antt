@@ -1,5 +1,5 @@
 -- What contracts see of a flat volume: what it holds, its damage, and when it is open on a sound board.
-use Rattle.std.specs.Prelude.{◌≡◌, ℕ, ◌-◌, ◌^◌, Bool, true, false, List, Option, Some, None, Result, Ok, Err, IfSome, if◌then◌else◌}
+use Rattle.std.specs.Prelude.{◌≡◌, ℕ, ◌+◌, ◌-◌, ◌^◌, List, [], Option, Some, None, Result, Ok, Err, IfSome, if◌then◌else◌}
 use Rattle.tee_base.specs.Crash.{LeavesOnly}
 use Rattle.store_api.specs.declared.answer.Mismatch.{Mismatch}
 use Rattle.store_api.specs.declared.leaves.Leaf.{Leaf}
@@ -10,7 +10,8 @@ use Rattle.board.specs.Moment.{View, moment, left_since}
 use Rattle.epoch.specs.Commits.{IsMounted, IsSteady}
 use Rattle.epoch.specs.Forms.{held_of, is_leaf, leaves_of}
 use Rattle.epoch.specs.declared.header.TreeEntry.{TreeEntry}
-use Rattle.flat_volume.specs.Flat.{flat, number_of, path_damage, table_damage, table_in}
+use Rattle.flat_volume.specs.declared.places.TheConstants.{FIRST_LEAF}
+use Rattle.flat_volume.specs.Flat.{entry_of, flat, leaf_text, number_of, path_damage, table_damage, table_in}
 use Rattle.flat_volume.specs.declared.table.Table.{Table}
 use Rattle.flat_volume.specs.declared.volume.Opened.{Opened}
 
@@ -35,11 +36,20 @@ damage_now table view root region leaf =
     (number_of region leaf)
     else None
 
+-- a leaf as the table that counts and the block of its entry give it, by region and leaf number
+unfoldable pub text_now : Option Table → View → TreeEntry → ℕ → ℕ → List ℕ
+text_now table view root region leaf =
+    if is_leaf region leaf
+    then leaf_text view.key view.state.reads (FIRST_LEAF + number_of region leaf)
+    (entry_of (table_now table view.state.reads root) (number_of region leaf))
+    else []
+
 -- what is held under a root, with the sequence
 abbrev pub held_now : View → TreeEntry → ℕ → Held
 held_now view root sequence = record {
   leaves = leaves_of flat view.key view.state.reads root;
   sequence = sequence;
+  version = flat.version;
 }
 
 -- the board is at rest with a sound image that holds this under the root, and a table that is kept is its table
@@ -47,11 +57,6 @@ pub record IsOpen (view : View) (root : TreeEntry) (sequence : ℕ) (table : Opt
     : Type 0 where
   pub mounted : IsMounted flat view.key root (held_now view root sequence) view.state
   pub kept : IsKept table view.state.reads root
-
--- the answer of a call that failed
-abbrev pub is_failure : LeafAnswer → Bool
-is_failure answers.Failed = true
-is_failure _ = false
 
 -- what a commit answers of what it leaves: the sequence
 abbrev pub numbered : Result Opened LeafAnswer → Result ℕ LeafAnswer

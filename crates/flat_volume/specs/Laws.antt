@@ -1,15 +1,16 @@
 -- The laws of a flat volume: what a crash leaves of one that is open, that no leaf of it is damaged, and its clock.
-use Rattle.std.proofs.Common.{◌≡◌, ◌≤◌, ◌∙◌, if◌then◌else◌, ℕ, true, false, List, [], ◌∷◌, Option, Some, None, length, refl, sym, ap, inl, inr, ⊎_elim, arith}
+use Rattle.std.proofs.Common.{◌≡◌, ◌≤◌, ◌+◌, ◌∙◌, if◌then◌else◌, ℕ, true, false, List, [], ◌∷◌, Option, Some, None, length, refl, sym, ap, inl, inr, ⊎_elim, arith}
 use Rattle.tee_base.specs.Crash.{read_as}
 use Rattle.store_api.specs.Volumes.{Held}
-use Rattle.board.specs.Moment.{Outcome, Moment, View, IsLeft, WasLeft, moment, left_since}
-use Rattle.epoch.specs.Forms.{held_of, is_leaf}
+use Rattle.board.specs.Moment.{IsConsistent, IsCounter, Outcome, Moment, View, IsLeft, WasLeft, moment, left_since}
+use Rattle.epoch.specs.Forms.{held_of, is_leaf, leaves_of}
 use Rattle.epoch.specs.Opening.{opening_of}
 use Rattle.epoch.specs.declared.header.TreeEntry.{TreeEntry}
-use Rattle.epoch.proofs.CommitLemmas.{held_before, leaf_below, region_below, sealed_each}
-use Rattle.flat_volume.specs.Flat.{flat, number_of, path_damage, table_in}
+use Rattle.epoch.proofs.CommitLemmas.{held_before, leaf_below, mounted_holds, region_below, sealed_each}
+use Rattle.flat_volume.specs.declared.places.TheConstants.{FIRST_LEAF}
+use Rattle.flat_volume.specs.Flat.{entry_of, flat, leaf_text, number_of, path_damage, table_in}
 use Rattle.flat_volume.specs.Frame.{flat_framed}
-use Rattle.flat_volume.specs.Keeping.{IsKept, IsOpen, damage_now, held_now, table_now}
+use Rattle.flat_volume.specs.Keeping.{IsKept, IsOpen, damage_now, held_now, table_now, text_now}
 use Rattle.flat_volume.specs.declared.table.Table.{Table}
 
 was_earlier : (past : List Moment) (t u : ℕ) (c : Outcome) → t ≤ u → WasLeft past u c → WasLeft past t c
@@ -59,3 +60,32 @@ sound_open view root sequence table is region leaf =
           ∙ sealed_each flat view.key root view.state.reads is.mounted.sealed region leaf (region_below region leaf e) (leaf_below region leaf e)
       | false ↦ λ e. refl
     ] refl
+
+-- what is found of each leaf is what is held
+pub found_open : (view : View) (root : TreeEntry) (sequence : ℕ) (table : Option Table) → IsOpen view root sequence table
+    → (region leaf : ℕ) → text_now table view root region leaf ≡ (held_now view root sequence).leaves region leaf
+unfolding text_now leaves_of
+found_open view root sequence table is region leaf =
+    ap (λ (t : List ℕ). if is_leaf region leaf then leaf_text view.key view.state.reads (FIRST_LEAF + number_of region leaf) (entry_of t (number_of region leaf)) else [])
+    (kept_table table view.state.reads root is.kept)
+
+-- what is held is among what a crash now may leave
+pub left_open : (view : View) (root : TreeEntry) (sequence : ℕ) (table : Option Table) → IsConsistent view → IsOpen view root sequence table
+    → read_as (held_of flat view.key) (left_since view) (moment view) (Some (held_now view root sequence))
+left_open view root sequence table whole is =
+    let rests = is.mounted.rests in
+    let among : IsCounter view.state sequence = record {
+      least = omega (arith, rests.counter);
+      greatest = omega (arith, rests.counter, rests.slack);
+      fits = (let c = whole.counter in omega (arith, rests.counter, c));
+    } in (
+      record { image = view.state.reads; counter = sequence; faults = view.state.faults; orders = view.state.orders },
+      inl (record {
+        kept = λ k shut. whole.as_read k shut;
+        any = λ k pending. whole.whole k (whole.within k pending);
+        counter = among;
+        faults = refl;
+        orders = refl;
+      }),
+      sym (mounted_holds flat flat_framed view.key root (held_now view root sequence) view.state is.mounted),
+    )

@@ -7,7 +7,7 @@ ghost use Rattle.board.specs.Steps.{CallRun};
 ghost use Rattle.seal.specs.Keys.{AreKeysOf};
 ghost use Rattle.flat_volume.specs.Flat.{joined_below, block_at as block_of_copy, entry_of, leaf_damage, leaf_text, path_damage, table_damage, table_in};
 ghost use Rattle.flat_volume.specs.Keeping.{IsVerified, table_now};
-ghost use Rattle.flat_volume.specs.Reading.{OnlyReads};
+ghost use Rattle.epoch.specs.Reading.{OnlyReads, no_fault};
 
 use crate::places::{ALL_LEAVES, FIRST_LEAF, FIRST_TABLE, PLACES, TABLE_BLOCKS, block_at};
 use crate::table::Table;
@@ -50,7 +50,7 @@ pub fn load_table<B: Board>(
     root: &TreeEntry,
 ) -> Result<Table, LeafAnswer>
     requires { VOLUME_BLOCKS ≤ (B.view board.old).size }
-    ensures calls { CallRun true (B.view board.old) (B.view board.new) }
+    ensures calls { CallRun (no_fault result) (B.view board.old) (B.view board.new) }
     ensures writes { (B.view board.new).writes ≡ (B.view board.old).writes }
     ensures cause { result ≡ Err answers.Failed
         → Rose (B.view board.old).state.faults (B.view board.new).state.faults }
@@ -83,6 +83,7 @@ fn verified(table: Table, keys: &Keys, root: &TreeEntry) -> Result<Table, LeafAn
     requires { root.now.sequence ≢ 0 }
     ensures same { IfOk result (λ t. t.bytes.items ≡ table.bytes.items) }
     ensures failed { result ≢ Err answers.Failed }
+    ensures made { no_fault result ≡ true }
     ensures answer { result ≢ Err answers.Lost }
     ensures tags { IfMismatch result (λ tags. tags.found ≢ tags.kept) }
     ensures damage { (key : List ℕ) → AreKeysOf keys.now key
@@ -110,7 +111,7 @@ pub fn load_leaf<B: Board>(
 ) -> Result<(), LeafAnswer>
     requires size { VOLUME_BLOCKS ≤ (B.view board.old).size }
     requires place { place < PLACES }
-    ensures calls { CallRun true (B.view board.old) (B.view board.new) }
+    ensures calls { CallRun (no_fault result) (B.view board.old) (B.view board.new) }
     ensures writes { (B.view board.new).writes ≡ (B.view board.old).writes }
     ensures cause { result ≡ Err answers.Failed
         → Rose (B.view board.old).state.faults (B.view board.new).state.faults }
@@ -147,6 +148,7 @@ fn opened(
 ) -> Result<(), LeafAnswer>
     requires { entry.now.sequence ≢ 0 }
     ensures failed { result ≢ Err answers.Failed }
+    ensures made { no_fault result ≡ true }
     ensures answer { result ≢ Err answers.Lost }
     ensures tags { (key : List ℕ) → AreKeysOf keys.now key
         → IfMismatch result (λ tags. tags.found ≢ tags.kept) }
@@ -176,7 +178,7 @@ pub fn known_table<B: Board>(
     kept: Option<Table>,
 ) -> Result<Table, LeafAnswer>
     requires { VOLUME_BLOCKS ≤ (B.view board.old).size }
-    ensures calls { CallRun true (B.view board.old) (B.view board.new) }
+    ensures calls { CallRun (no_fault result) (B.view board.old) (B.view board.new) }
     ensures writes { (B.view board.new).writes ≡ (B.view board.old).writes }
     ensures cause { result ≡ Err answers.Failed
         → Rose (B.view board.old).state.faults (B.view board.new).state.faults }
@@ -218,7 +220,7 @@ pub fn find_leaf<B: Board>(
 ) -> Result<(), LeafAnswer>
     requires size { VOLUME_BLOCKS ≤ (B.view board.old).size }
     requires number { number < ALL_LEAVES }
-    ensures calls { CallRun true (B.view board.old) (B.view board.new) }
+    ensures calls { CallRun (no_fault result) (B.view board.old) (B.view board.new) }
     ensures writes { (B.view board.new).writes ≡ (B.view board.old).writes }
     ensures cause { result ≡ Err answers.Failed
         → Rose (B.view board.old).state.faults (B.view board.new).state.faults }

@@ -1,15 +1,16 @@
 //! How a flat volume is opened and formatted, and opened again.
-ghost use Rattle.std.specs.Prelude.{◌≡◌, ◌≤◌, ◌<◌, ℕ, true, false, None, Some, Err, IsTrue, IfOk, IfErr, IfSome, OnOk, OnErr, refl};
+ghost use Rattle.std.specs.Prelude.{◌≡◌, ◌≢◌, ◌≤◌, ◌<◌, ℕ, true, false, None, Some, Err, IsTrue, IfOk, IfErr, OnOk, OnErr, refl};
 ghost use Rattle.tee_base.specs.Faults.{Rose};
 ghost use Rattle.tee_base.specs.declared.limits.TheConstants.{BOARD_BLOCKS};
 ghost use Rattle.store_api.specs.Volumes.{Held};
 ghost use Rattle.board.specs.Moment.{IsCounter};
 ghost use Rattle.board.specs.Runs.{Rests};
-ghost use Rattle.board.specs.Steps.{CallRun};
+ghost use Rattle.board.specs.Steps.{CallRun, SameBlocks};
 ghost use Rattle.epoch.specs.Finding.{sequence_of};
 ghost use Rattle.epoch.specs.Forms.{held};
 ghost use Rattle.epoch.specs.Mounting.{MountsTo, after_found};
-ghost use Rattle.epoch.specs.Mounts.{IsAdmitted, IsKeptFromOpening, IsRefusal, IsRefusedNow, after_opening};
+ghost use Rattle.epoch.specs.Mounts.{IsAdmitted, IsKeptFromOpening, IsRefusal, IsRefusedNow, TakesUp, after_opening};
+ghost use Rattle.epoch.specs.Opening.{no_failure};
 ghost use Rattle.epoch.specs.Past.{KeepsPast};
 ghost use Rattle.epoch.specs.declared.answer.OpenAnswer.TheVariants as refusals;
 ghost use Rattle.epoch.specs.declared.header.Header.{Header as Kept};
@@ -22,7 +23,7 @@ use crate::volume::{FlatVolume, Opened};
 use crate::write::{FlatChange, NO_ROOT};
 use board::Board;
 use epoch::{
-    BoardVolume, FLAT_VERSION, Header, OpenAnswer, Unopened, VOLUME_BLOCKS, commit, mount,
+    BLANK, BoardVolume, FLAT_VERSION, FORMATTED, Header, OpenAnswer, Unopened, VOLUME_BLOCKS, commit, mount,
     mount_after_power, mount_again,
 };
 use seal::Keys;
@@ -30,22 +31,28 @@ use std::alloc::Global;
 
 /// Opens a board; one that is blank is formatted.
 fn open_board<B: Board>(alloc: Global, board: &mut B) -> Result<Opened, OpenAnswer>
-    ensures calls { CallRun true (B.view board.old) (B.view board.new) }
+    ensures calls { CallRun (no_failure result) (B.view board.old) (B.view board.new) }
     ensures cause { result ≡ Err refusals.Failed
         → Rose (B.view board.old).state.faults (B.view board.new).state.faults }
     ensures size { OnOk result (BOARD_BLOCKS ≤ (B.view board.old).size) }
     ensures verified { IfOk result (λ o. IsVerified (B.view board.old).key o.table o.root) }
+    // what isn't opened for another cause than a failed call is as it was
+    ensures unwritten { IfErr result (λ why. why ≢ refusals.Failed
+        → (B.view board.new).writes ≡ (B.view board.old).writes) }
+    ensures unchanged { B.honest board.old → IfErr result (λ why. why ≢ refusals.Failed
+        → SameBlocks (B.view board.old).state (B.view board.new).state) }
     ensures honest { B.honest board.old → B.honest board.new }
+    ensures past { B.honest board.old → KeepsPast (B.view board.old) (B.view board.new) }
     ensures rule { IsTrue B.tells_reads → (counter : ℕ)
         × IfErr result (λ why. IsRefusal flat (B.view board.old)
         (B.view board.old).state.reads counter why)
         × IfOk result (λ o. IsAdmitted flat (B.view board.old)
-        (B.view board.old).state.reads counter o.sequence) }
+        (B.view board.old).state.reads counter FORMATTED o.sequence o.root) }
     ensures exact { B.honest board.old → (counter : ℕ) × IsCounter (B.view board.old).state counter
         × IfErr result (λ why. IsRefusal flat (B.view board.old)
         (B.view board.old).state.reads counter why)
         × IfOk result (λ o. IsAdmitted flat (B.view board.old)
-        (B.view board.old).state.reads counter o.sequence) }
+        (B.view board.old).state.reads counter FORMATTED o.sequence o.root) }
     ensures refusal { B.honest board.old
         → IfErr result (λ why. IsRefusedNow flat (B.view board.new) why) }
     ensures opens { B.honest board.old → (n : ℕ) (h : Held) → Rests n (B.view board.old).state
@@ -65,16 +72,21 @@ fn take_up<B: Board>(
     found: Option<Header>,
 ) -> Result<Opened, OpenAnswer>
     requires { VOLUME_BLOCKS ≤ (B.view board.old).size }
-    ensures calls { CallRun true (B.view board.old) (B.view board.new) }
+    ensures calls { CallRun (no_failure result) (B.view board.old) (B.view board.new) }
     ensures cause { result ≡ Err refusals.Failed
         → Rose (B.view board.old).state.faults (B.view board.new).state.faults }
     ensures kept { IfErr result (λ why. IsKeptFromOpening why) }
     ensures verified { IfOk result (λ o. IsVerified (B.view board.old).key o.table o.root) }
+    // what isn't opened for another cause than a failed call is as it was
+    ensures unwritten { IfErr result (λ why. why ≢ refusals.Failed
+        → (B.view board.new).writes ≡ (B.view board.old).writes) }
+    ensures unchanged { B.honest board.old → IfErr result (λ why. why ≢ refusals.Failed
+        → SameBlocks (B.view board.old).state (B.view board.new).state) }
     ensures honest { B.honest board.old → B.honest board.new }
     ensures past { B.honest board.old → KeepsPast (B.view board.old) (B.view board.new) }
     ensures same { (header : Kept) → found ≡ Some header
         → (B.view board.new ≡ B.view board.old) × OnErr result ⊥ }
-    ensures sequence { IfOk result (λ o. IfSome found (λ header. header.sequence ≡ o.sequence)) }
+    ensures taken { IfOk result (λ o. TakesUp found FORMATTED o.sequence o.root) }
     ensures opens { B.honest board.old → (h : Held)
         → MountsTo flat (B.view board.old).key h (B.view board.old).state found
         → Opens h (after_found found h) result (B.view board.old) (B.view board.new) }
@@ -106,11 +118,17 @@ fn opened_at(found: Option<Header>) -> Opened
 /// Formats a blank board: a commit of no leaf to the sequence 1.
 fn format_board<B: Board>(alloc: Global, board: &mut B) -> Result<Opened, OpenAnswer>
     requires { VOLUME_BLOCKS ≤ (B.view board.old).size }
-    ensures calls { CallRun true (B.view board.old) (B.view board.new) }
+    ensures calls { CallRun (no_failure result) (B.view board.old) (B.view board.new) }
     ensures cause { result ≡ Err refusals.Failed
         → Rose (B.view board.old).state.faults (B.view board.new).state.faults }
     ensures kept { IfErr result (λ why. IsKeptFromOpening why) }
+    ensures formatted { IfOk result (λ o. (o.sequence ≡ FORMATTED) × (o.root.sequence ≡ FORMATTED)) }
     ensures verified { IfOk result (λ o. IsVerified (B.view board.old).key o.table o.root) }
+    // what isn't opened for another cause than a failed call is as it was
+    ensures unwritten { IfErr result (λ why. why ≢ refusals.Failed
+        → (B.view board.new).writes ≡ (B.view board.old).writes) }
+    ensures unchanged { B.honest board.old → IfErr result (λ why. why ≢ refusals.Failed
+        → SameBlocks (B.view board.old).state (B.view board.new).state) }
     ensures honest { B.honest board.old → B.honest board.new }
     ensures past { B.honest board.old → KeepsPast (B.view board.old) (B.view board.new) }
     ensures opens { B.honest board.old → (h : Held)
@@ -151,7 +169,7 @@ impl<B: Board + Drop> FlatVolume<B> {
         ensures board { self.new.board ≡ self.old.board }
         ensures works { self.new.lost ≡ false }
         ensures sequence { self.new.sequence ≡ result }
-        ensures found { result ≡ sequence_of found }
+        ensures found { TakesUp found BLANK result self.new.root }
         ensures opened { (h : Held)
             → MountsTo flat (B.view self.old.board).key h (B.view self.old.board).state found
             → IsOpen (B.view self.new.board) self.new.root self.new.sequence self.new.table
@@ -175,6 +193,8 @@ impl<B: Board + Drop> BoardVolume<B> for FlatVolume<B> {
 
     ghost board_of = { λ v. v.board };
 
+    ghost root = { λ v. v.root };
+
     ghost seen = { λ v. record {
       faults = refl;
       foundation = refl;
@@ -184,6 +204,8 @@ impl<B: Board + Drop> BoardVolume<B> for FlatVolume<B> {
     } };
 
     ghost honest_board = { λ v h. h.0 };
+
+    ghost settled = { λ v h live. record { counter = (h.1 live).mounted.rests.counter; slack = (h.1 live).mounted.rests.slack } };
 
     ghost below = { λ v. (λ h. h, λ h. h) };
 

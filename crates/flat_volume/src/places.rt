@@ -1,6 +1,6 @@
 //! Where the table and the leaves stand.
 ghost use Rattle.std.specs.Prelude.{◌≡◌, ◌<◌, ◌+◌, ◌*◌, ◌-◌};
-ghost use Rattle.tee_base.specs.declared.limits.TheConstants.{BOARD_BLOCKS, MAX_HOSTS};
+ghost use Rattle.tee_base.specs.declared.limits.TheConstants.{BOARD_BLOCKS, LEAVES, MAX_HOSTS};
 ghost use Rattle.flat_volume.specs.Flat.{block_at as block_of_copy, copy_of, number_of};
 
 use tee_base::limits;
@@ -54,8 +54,9 @@ pub fn block_at(place: u64, copy: u64) -> u64
 }
 
 /// The number of a leaf among those of all regions.
-pub fn number_in_all(region: u8, leaf: u8) -> usize
-    requires { region < MAX_HOSTS }
+pub fn number_in_all(region: u8, leaf: u16) -> usize
+    requires region { region < MAX_HOSTS }
+    requires leaf { leaf < LEAVES }
     ensures number { result ≡ number_of region leaf }
     ensures below { result < ALL_LEAVES }
 {

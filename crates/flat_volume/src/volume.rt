@@ -1,28 +1,31 @@
 //! A flat volume on a board.
-ghost use Rattle.std.specs.Prelude.{◌≡◌, ◌≢◌, ◌≤◌, ◌<◌, ◌+◌, ◌-◌, ◌^◌, ◌⊎◌, true, false, ◌∷◌, Option, Some, Err, IsTrue, IfOk};
+ghost use Rattle.std.specs.Prelude.{◌≡◌, ◌≢◌, ◌≤◌, ◌<◌, ◌+◌, ◌-◌, ◌^◌, ◌⊎◌, not, true, false, ◌∷◌, ℕ, Option, Some, Err, IsTrue, IfOk, OnErr, length, refl};
 ghost use Rattle.std.proofs.Props.{props};
-ghost use Rattle.tee_base.specs.Crash.{read_as};
 ghost use Rattle.tee_base.specs.Faults.{Rose};
-ghost use Rattle.tee_base.specs.declared.limits.TheConstants.{BOARD_BLOCKS, MAX_HOSTS};
-ghost use Rattle.store_api.specs.Volumes.{IfMismatch};
+ghost use Rattle.tee_base.specs.declared.limits.TheConstants.{BOARD_BLOCKS, LEAVES, MAX_HOSTS};
+ghost use Rattle.store_api.specs.Volumes.{CommitsLeaves, IfMismatch, ReadsLeaf};
+ghost use Rattle.store_api.specs.Ascending.{is_above_all};
 ghost use Rattle.store_api.specs.declared.leaves.LeafAnswer.TheVariants as answers;
+ghost use Rattle.board.specs.Fuse.{burnt};
 ghost use Rattle.board.specs.Moment.{moment, left_since};
 ghost use Rattle.board.specs.Steps.{CallRun};
-ghost use Rattle.epoch.specs.Commits.{IsSteady};
 ghost use Rattle.epoch.specs.Forms.{held_of};
+ghost use Rattle.epoch.specs.Opening.{opening_of};
+ghost use Rattle.epoch.specs.declared.answer.OpenAnswer.TheVariants.{Rollback};
 ghost use Rattle.epoch.specs.Past.{KeepsPast};
+ghost use Rattle.epoch.specs.Reading.{is_failure, no_fault};
 ghost use Rattle.epoch.specs.declared.header.TreeEntry.{TreeEntry as Entry};
 ghost use Rattle.flat_volume.specs.Flat.{flat, table_damage, table_in};
-ghost use Rattle.flat_volume.specs.Keeping.{Exhausts, IsOpen, IsVerified, Replaces, damage_now, held_now, is_failure};
+ghost use Rattle.flat_volume.specs.Keeping.{Exhausts, IsOpen, IsVerified, Replaces, damage_now, held_now, text_now};
 ghost use Rattle.flat_volume.specs.declared.table.Table.{Table as Known};
-ghost use Rattle.flat_volume.specs.Laws.{rests_open, since_earlier, sound_open};
+ghost use Rattle.flat_volume.specs.Laws.{found_open, left_open, rests_open, since_earlier, sound_open};
 
 use crate::load::{find_leaf, known_table};
-use crate::places::number_in_all;
+use crate::places::{TABLE_BLOCKS, number_in_all};
 use crate::table::Table;
 use crate::write::FlatChange;
 use board::Board;
-use epoch::{TreeEntry, VOLUME_BLOCKS, commit};
+use epoch::{FLAT_VERSION, TreeEntry, VOLUME_BLOCKS, commit};
 use seal::Keys;
 use std::alloc::Global;
 use store_api::{LeafAnswer, Leaves, Volume};
@@ -65,15 +68,19 @@ fn replace<B: Board>(
 ) -> Result<Opened, LeafAnswer>
     requires size { VOLUME_BLOCKS ≤ (B.view board.old).size }
     requires region { region < MAX_HOSTS }
+    requires inside { is_above_all leaves.now LEAVES ≡ true }
     requires sequence { opened.sequence + 1 < 2 ^ 64 }
-    ensures calls { CallRun true (B.view board.old) (B.view board.new) }
+    ensures calls { CallRun (no_fault result) (B.view board.old) (B.view board.new) }
     ensures cause { result ≡ Err answers.Failed
         → Rose (B.view board.old).state.faults (B.view board.new).state.faults }
     ensures answer { result ≢ Err answers.Lost }
     ensures tags { IfMismatch result (λ tags. tags.found ≢ tags.kept) }
     ensures sequence { IfOk result (λ after. after.sequence ≡ opened.sequence + 1) }
-    ensures memory { result ≡ Err answers.NoMemory
-        → (B.view board.new).writes ≡ (B.view board.old).writes }
+    ensures writes { (B.view board.new).writes
+        ≤ (B.view board.old).writes + length leaves.now + TABLE_BLOCKS + 3 }
+    ensures unwritten { OnErr result (no_fault result ≡ true
+        → (B.view board.new).writes ≡ (B.view board.old).writes) }
+    ensures sealed_for { IfOk result (λ after. after.root.sequence ≡ opened.sequence + 1) }
     ensures verified { IsVerified (B.view board.old).key opened.table opened.root
         → IfOk result (λ after. IsVerified (B.view board.old).key after.table after.root) }
     ensures damage { IsTrue B.tells_reads
@@ -111,11 +118,12 @@ fn replace<B: Board>(
 
 /// No sequence is left: the counter is advanced before anything is written, which fails where the board is honest.
 fn exhaust<B: Board>(board: &mut B) -> LeafAnswer
-    ensures calls { CallRun true (B.view board.old) (B.view board.new) }
+    ensures calls { CallRun (not (is_failure result)) (B.view board.old) (B.view board.new) }
     ensures cause { result ≡ answers.Failed
         → Rose (B.view board.old).state.faults (B.view board.new).state.faults }
     ensures answer { (result ≡ answers.Failed) ⊎ (result ≡ answers.NoMemory) }
     ensures writes { (B.view board.new).writes ≡ (B.view board.old).writes }
+    ensures called { (B.view board.new).fuse ≡ burnt (B.view board.old).fuse }
     ensures honest { B.honest board.old → B.honest board.new }
     ensures past { B.honest board.old → KeepsPast (B.view board.old) (B.view board.new) }
     ensures failed { B.honest board.old → (root : Entry) (table : Option Known)
@@ -139,28 +147,17 @@ fn is_failed(answer: LeafAnswer) -> bool
 }
 
 impl<B: Board + Drop> Volume for FlatVolume<B> {
-    ghost keeper = { record {
-      tells_reads = B.tells_reads;
-      held = λ v. held_now (B.view v.board) v.root v.sequence;
-      condition = λ v. record {
-        lost = v.lost;
-        faults = (B.view v.board).state.faults;
-        foundation = record {
-          place = (B.view v.board).size ∷ (B.view v.board).key;
-          orders = (B.view v.board).state.orders;
-          ordered = (B.view v.board).ordered;
-        };
-      };
-      honest_below = λ v. B.honest v.board;
-      honest = λ v. B.honest v.board
-          × (v.lost ≡ false → IsOpen (B.view v.board) v.root v.sequence v.table)
-          × IsSteady flat (B.view v.board).key v.root (B.view v.board).state;
-      damage = λ v. damage_now v.table (B.view v.board) v.root;
-      moment = λ v. moment (B.view v.board);
-      left_since = λ v. read_as (held_of flat (B.view v.board).key) (left_since (B.view v.board));
-    } };
+    ghost use Rattle.flat_volume.specs.Keepers.{flat_keeper};
+
+    ghost keeper = { flat_keeper };
 
     ghost rests = { λ v h live. record { only = rests_open (B.view v.board) v.root v.sequence v.table (h.1 live) } };
+
+    ghost whole = { refl };
+
+    ghost left_now = { λ v h live. left_open (B.view v.board) v.root v.sequence v.table (B.consistent v.board h.0) (h.1 live) };
+
+    ghost found = { λ v h live region leaf r l. found_open (B.view v.board) v.root v.sequence v.table (h.1 live) region leaf };
 
     ghost sound = { λ v h live region leaf r l. sound_open (B.view v.board) v.root v.sequence v.table (h.1 live) region leaf };
 
@@ -171,9 +168,14 @@ impl<B: Board + Drop> Volume for FlatVolume<B> {
     fn read_leaf(
         &mut self,
         region: u8,
-        leaf: u8,
+        leaf: u16,
         into: &mut [u8; BLOCK_BYTES],
-    ) -> Result<(), LeafAnswer> {
+    ) -> Result<(), LeafAnswer>
+        requires region { region < MAX_HOSTS }
+        requires leaf { leaf < LEAVES }
+        ensures reads { ReadsLeaf flat_keeper region leaf into.new result self.old self.new }
+        ensures root { self.new.root ≡ self.old.root }
+    {
         if self.lost {
             return Err(LeafAnswer::Lost);
         }
@@ -194,7 +196,24 @@ impl<B: Board + Drop> Volume for FlatVolume<B> {
         }
     }
 
-    fn commit(&mut self, region: u8, leaves: &Leaves) -> Result<u64, LeafAnswer> {
+    fn commit(&mut self, region: u8, leaves: &Leaves) -> Result<u64, LeafAnswer>
+        requires region { region < MAX_HOSTS }
+        requires leaves { IsTrue (is_above_all leaves.now LEAVES) }
+        ensures commits { CommitsLeaves flat_keeper region leaves.now result self.old self.new }
+        // the leaves, the table, the header, and two gates
+        ensures writes { (B.view self.new.board).writes
+            ≤ (B.view self.old.board).writes + length leaves.now + TABLE_BLOCKS + 3 }
+        ensures root { OnErr result (self.new.root ≡ self.old.root) }
+        ensures sealed_for { IfOk result (λ sequence. self.new.root.sequence ≡ sequence) }
+        // from then on the board is refused at every greater counter
+        ensures rollback { flat_keeper.honest self.old → IfOk result (λ sequence.
+            (counter : ℕ) → sequence < counter
+            → opening_of FLAT_VERSION (B.view self.new.board).key
+            (B.view self.new.board).state.reads counter ≡ Err (Rollback sequence counter)) }
+        // at the last sequence the counter is advanced in vain, and nothing else is called
+        ensures exhausted { self.old.lost ≡ false → self.old.sequence ≡ 2 ^ 64 - 1
+            → (B.view self.new.board).fuse ≡ burnt (B.view self.old.board).fuse }
+    {
         if self.lost {
             return Err(LeafAnswer::Lost);
         }

@@ -1,7 +1,7 @@
 //! What a commit of a flat volume writes: the copies of its leaves, and the whole table.
-ghost use Rattle.std.specs.Prelude.{◌≡◌, ◌≢◌, ◌≤◌, ◌<◌, ◌+◌, ◌-◌, ◌*◌, ◌^◌, ℕ, Bool, true, List, None, IfOk, OnOk, is_ok};
-ghost use Rattle.tee_base.specs.declared.limits.TheConstants.{BOARD_BLOCKS, MAX_HOSTS};
-ghost use Rattle.store_api.specs.Ascending.{is_ascending};
+ghost use Rattle.std.specs.Prelude.{◌≡◌, ◌≢◌, ◌≤◌, ◌<◌, ◌+◌, ◌-◌, ◌*◌, ◌^◌, ℕ, Bool, true, List, None, IfOk, OnOk, is_ok, length};
+ghost use Rattle.tee_base.specs.declared.limits.TheConstants.{BOARD_BLOCKS, LEAVES, MAX_HOSTS};
+ghost use Rattle.store_api.specs.Ascending.{is_above_all, is_ascending};
 ghost use Rattle.store_api.specs.Volumes.{replaced};
 ghost use Rattle.board.specs.Moment.{View};
 ghost use Rattle.board.specs.Runs.{RunsOver};
@@ -11,6 +11,7 @@ ghost use Rattle.epoch.specs.Parts.{part};
 ghost use Rattle.epoch.specs.Past.{KeepsPast};
 ghost use Rattle.flat_volume.specs.Flat.{block_at as block_of_copy, copy_of, entry_of, flat, leaf_damage, leaf_text, number_of, table_in};
 ghost use Rattle.flat_volume.specs.Frame.{flat_framed};
+ghost use Rattle.flat_volume.specs.declared.places.TheConstants.{TABLE_BLOCKS};
 ghost use Rattle.flat_volume.specs.Writing.{AreSealed, AreSpare, leaves_by, spare_block};
 ghost use Rattle.flat_volume.specs.Change.{ChecksFlat, FitsFlat, four_blocks, table_still_fits};
 
@@ -33,6 +34,7 @@ pub struct FlatChange<'a> {
     pub leaves: &'a [Leaf],
     ghost within: { region < 16 },
     ghost ascending: { is_ascending leaves.now ≡ true },
+    ghost inside: { is_above_all leaves.now LEAVES ≡ true },
 }
 
 /// What a blank board has in place of a root: the table that formatting writes goes into copy 0.
@@ -53,6 +55,8 @@ impl Change for FlatChange<'_> {
     ghost fits = { λ c key reads. FitsFlat c.keys.now c.table c.root key reads };
 
     ghost checks = { λ c key. ChecksFlat c.keys.now c.table c.root key };
+
+    ghost cost = { λ c. length c.leaves.now + TABLE_BLOCKS };
 
     ghost blocks = { BOARD_BLOCKS };
 
@@ -99,8 +103,10 @@ fn write_leaves<B: Board>(
     requires size { VOLUME_BLOCKS ≤ (B.view board.old).size }
     requires region { region < MAX_HOSTS }
     requires ascending { is_ascending leaves.now ≡ true }
+    requires inside { is_above_all leaves.now LEAVES ≡ true }
     requires sequence { 0 < sequence }
     ensures calls { CallRun (is_ok result) (B.view board.old) (B.view board.new) }
+    ensures writes { (B.view board.new).writes ≤ (B.view board.old).writes + length leaves.now }
     ensures honest { B.honest board.old → B.honest board.new }
     ensures past { B.honest board.old → KeepsPast (B.view board.old) (B.view board.new) }
     ensures run { B.honest board.old
@@ -136,6 +142,7 @@ fn write_leaf<B: Board>(
     requires number { number < ALL_LEAVES }
     requires sequence { 0 < sequence }
     ensures calls { CallRun (is_ok result) (B.view board.old) (B.view board.new) }
+    ensures writes { (B.view board.new).writes ≤ (B.view board.old).writes + 1 }
     ensures honest { B.honest board.old → B.honest board.new }
     ensures past { B.honest board.old → KeepsPast (B.view board.old) (B.view board.new) }
     ensures run { B.honest board.old
@@ -178,6 +185,7 @@ fn write_leaf<B: Board>(
 fn write_table<B: Board>(board: &mut B, table: &Table, copy: u64) -> Result<(), BoardFailed>
     requires { VOLUME_BLOCKS ≤ (B.view board.old).size }
     ensures calls { CallRun (is_ok result) (B.view board.old) (B.view board.new) }
+    ensures writes { (B.view board.new).writes ≤ (B.view board.old).writes + TABLE_BLOCKS }
     ensures honest { B.honest board.old → B.honest board.new }
     ensures past { B.honest board.old → KeepsPast (B.view board.old) (B.view board.new) }
     ensures run { B.honest board.old

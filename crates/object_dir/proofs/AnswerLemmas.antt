@@ -1,5 +1,5 @@
 -- What is told of an answer, by cases on it.
-use Rattle.std.proofs.Common.{◌≡◌, ◌≤◌, ◌<◌, ◌+◌, ℕ, true, false, Bool, Option, None, Some, Result, Ok, Err, refl, sym, ◌∙◌, inl, inr, ⊎_elim, arith}
+use Rattle.std.proofs.Common.{◌≡◌, ◌≤◌, ◌<◌, ◌+◌, ℕ, List, true, false, Bool, Option, None, Some, Result, Ok, Err, refl, sym, ◌∙◌, inl, inr, ⊎_elim, arith}
 use Rattle.std.specs.Prelude.{IsTrue}
 use Rattle.tee_base.specs.Faults.{Rose}
 use Rattle.store_api.specs.declared.answer.Mismatch.{Mismatch}
@@ -7,11 +7,13 @@ use Rattle.store_api.specs.declared.answer.StoreAnswer.{StoreAnswer}
 use Rattle.store_api.specs.declared.answer.StoreAnswer.TheVariants.{NotFound, Exists, NoSpace, Lost, Failed, Corrupt, Garbled, NoMemory}
 use Rattle.store_api.specs.declared.leaves.LeafAnswer.{LeafAnswer}
 use Rattle.store_api.specs.declared.leaves.LeafAnswer.TheVariants as leaf_answers
-use Rattle.store_api.specs.Keeping.{Cause, Contents, IsIntact, LeftByChange, Remains, TellsDamage, damage_in}
+use Rattle.store_api.specs.Keeping.{Cause, Contents, IsIntact, LeftByChange, Remains, TellsDamage, UnlessFailed, damage_in}
 use Rattle.store_api.specs.Stores.{Store}
-use Rattle.store_api.specs.Volumes.{Condition, IfMismatch, IsNumbered, LeafCause}
-use Rattle.region_plan.specs.Reading.{IfCorrupt, IfGarbled, ReadCause, refusal_of}
-use Rattle.object_dir.specs.Changing.{done_of}
+use Rattle.store_api.specs.declared.leaves.Leaf.{Leaf}
+use Rattle.store_api.specs.Volumes.{Condition, Held, IfMismatch, IfUnwritten, IsNumbered, LeafCause, LeftByCommit, after_commit}
+use Rattle.store_api.specs.Volumes.{UnlessFailed as NoLeafFailed}
+use Rattle.region_plan.specs.Reading.{IfCorrupt, IfGarbled, ReadCause, UnlessFailed as NoneFailed, refusal_of}
+use Rattle.object_dir.specs.Changing.{AddsOne, Decides, IfKept, LeftOfRegion, done_of}
 use Rattle.object_dir.specs.Directories.{damage_reports, status_with}
 
 -- damage is told of by the same refusals
@@ -36,6 +38,18 @@ cause_of (Err Failed) old new p q x y cause = cause
 cause_of (Err (Corrupt tags)) old new p q x y cause = cause
 cause_of (Err (Garbled leaf)) old new p q x y cause = cause
 cause_of (Err NoMemory) old new p q x y cause = cause
+
+-- nothing failed in a call with another answer
+pub unfailed_of : {A : Type 0} (result : Result A StoreAnswer) (fact : Type 0) → NoneFailed (refusal_of result) fact → UnlessFailed result fact
+unfailed_of (Ok a) fact is = is
+unfailed_of (Err NotFound) fact is = is
+unfailed_of (Err Exists) fact is = is
+unfailed_of (Err NoSpace) fact is = is
+unfailed_of (Err Lost) fact is = is
+unfailed_of (Err Failed) fact is = tt
+unfailed_of (Err (Corrupt tags)) fact is = is
+unfailed_of (Err (Garbled leaf)) fact is = is
+unfailed_of (Err NoMemory) fact is = is
 
 pub intact_of : {A : Type 0} (result : Result A StoreAnswer) → IfCorrupt (refusal_of result) (λ tags. ⊥) → IfGarbled (refusal_of result) (λ leaf. ⊥) → IsIntact result
 intact_of (Ok a) corrupt garbled = tt
@@ -72,17 +86,29 @@ corrupt_under (Some (Corrupt tags)) told P is = is
 corrupt_under (Some (Garbled leaf)) told P is = tt
 corrupt_under (Some NoMemory) told P is = tt
 
--- a leaf of a region that is told and breaks no rule: that never is
-pub garbled_never : (why : Option StoreAnswer) (P Q : ℕ → Type 0) → ((leaf : ℕ) → P leaf → Q leaf → ⊥) → IfGarbled why P → IfGarbled why Q → IfGarbled why (λ leaf. ⊥)
-garbled_never None P Q never one two = tt
-garbled_never (Some NotFound) P Q never one two = tt
-garbled_never (Some Exists) P Q never one two = tt
-garbled_never (Some NoSpace) P Q never one two = tt
-garbled_never (Some Lost) P Q never one two = tt
-garbled_never (Some Failed) P Q never one two = tt
-garbled_never (Some (Corrupt tags)) P Q never one two = tt
-garbled_never (Some (Garbled leaf)) P Q never one two = never leaf one two
-garbled_never (Some NoMemory) P Q never one two = tt
+-- a leaf that is told of a volume that isn't lost, where that can't be
+pub garbled_never : (why : Option StoreAnswer) (old new : Condition) (P : ℕ → Type 0) → ReadCause why old new → ((leaf : ℕ) → old.lost ≡ false → P leaf → ⊥) → IfGarbled why P → IfGarbled why (λ leaf. ⊥)
+garbled_never None old new P cause never is = tt
+garbled_never (Some NotFound) old new P cause never is = tt
+garbled_never (Some Exists) old new P cause never is = tt
+garbled_never (Some NoSpace) old new P cause never is = tt
+garbled_never (Some Lost) old new P cause never is = tt
+garbled_never (Some Failed) old new P cause never is = tt
+garbled_never (Some (Corrupt tags)) old new P cause never is = tt
+garbled_never (Some (Garbled leaf)) old new P cause never is = never leaf cause.0 is
+garbled_never (Some NoMemory) old new P cause never is = tt
+
+-- what is known of a leaf that is told
+pub garbled_also : (why : Option StoreAnswer) (P Q : ℕ → Type 0) → ((leaf : ℕ) → P leaf → Q leaf) → IfGarbled why P → IfGarbled why Q
+garbled_also None P Q implies is = tt
+garbled_also (Some NotFound) P Q implies is = tt
+garbled_also (Some Exists) P Q implies is = tt
+garbled_also (Some NoSpace) P Q implies is = tt
+garbled_also (Some Lost) P Q implies is = tt
+garbled_also (Some Failed) P Q implies is = tt
+garbled_also (Some (Corrupt tags)) P Q implies is = tt
+garbled_also (Some (Garbled leaf)) P Q implies is = implies leaf is
+garbled_also (Some NoMemory) P Q implies is = tt
 
 -- a crash that leaves what was there leaves what a change may leave
 pub left_before : {A : Type 0} (result : Result A StoreAnswer) (old : Contents) (stated : Result Store StoreAnswer) (o : Remains) → o ≡ Some old → LeftByChange result old stated o
@@ -127,7 +153,69 @@ commit_garbled (Err leaf_answers.Failed) P = tt
 commit_garbled (Err (leaf_answers.Mismatch tags)) P = tt
 commit_garbled (Err leaf_answers.NoMemory) P = tt
 
--- the sequence rises by one at most
-pub commit_one : (answer : Result ℕ LeafAnswer) (old new : ℕ) → IsNumbered answer old new → new ≤ old + 1
-commit_one (Ok sequence) old new numbered = let e : new ≡ old + 1 = numbered.1 in omega arith
-commit_one (Err answer) old new numbered = let e : new ≡ old = numbered in omega arith
+-- the sequence rises by one at most, and where nothing was committed not at all
+pub commit_one : (answer : Result ℕ LeafAnswer) (old mid new : ℕ) → mid ≡ old → IsNumbered answer mid new → AddsOne (done_of answer) old new
+commit_one (Ok sequence) old mid new same numbered = let e : new ≡ mid + 1 = numbered.1 in omega arith
+commit_one (Err answer) old mid new same numbered = numbered ∙ same
+
+pub adds_none : (result : Result (Unit {0}) StoreAnswer) (old new : ℕ) → new ≡ old → AddsOne result old new
+adds_none (Ok done) old new same = omega arith
+adds_none (Err refusal) old new same = same
+
+-- nothing failed in a commit behind reads in which nothing did
+pub commit_unfailed : (answer : Result ℕ LeafAnswer) (a b c : ℕ) → b ≡ a → NoLeafFailed answer (c ≡ b) → NoneFailed (refusal_of (done_of answer)) (c ≡ a)
+commit_unfailed (Ok sequence) a b c one two = two ∙ one
+commit_unfailed (Err leaf_answers.Lost) a b c one two = two ∙ one
+commit_unfailed (Err leaf_answers.Failed) a b c one two = tt
+commit_unfailed (Err (leaf_answers.Mismatch tags)) a b c one two = two ∙ one
+commit_unfailed (Err leaf_answers.NoMemory) a b c one two = two ∙ one
+
+-- nor was anything written where it was refused
+pub commit_unwritten : (answer : Result ℕ LeafAnswer) (old mid new : Condition) → ReadCause None old mid → mid.writes ≡ old.writes → LeafCause answer mid new → IfUnwritten answer (new.writes ≡ mid.writes)
+    → IfKept (done_of answer) (new.writes ≡ old.writes)
+commit_unwritten (Ok sequence) old mid new reads one cause two = tt
+commit_unwritten (Err leaf_answers.Lost) old mid new reads one cause two = two ∙ one
+commit_unwritten (Err leaf_answers.Failed) old mid new reads one cause two = tt
+commit_unwritten (Err (leaf_answers.Mismatch tags)) old mid new reads one cause two = two ∙ one
+commit_unwritten (Err leaf_answers.NoMemory) old mid new reads one cause two = two ∙ one
+
+-- a plan that was committed, or wasn't
+pub commit_decides : (answer : Result ℕ LeafAnswer) (after : Store) (stated : Result Store StoreAnswer) → stated ≡ Ok after → Decides (done_of answer) stated
+commit_decides (Ok sequence) after stated is = (after, is)
+commit_decides (Err leaf_answers.Lost) after stated is = tt
+commit_decides (Err leaf_answers.Failed) after stated is = tt
+commit_decides (Err (leaf_answers.Mismatch tags)) after stated is = tt
+commit_decides (Err leaf_answers.NoMemory) after stated is = tt
+
+-- what holds anyway
+pub if_kept : (result : Result (Unit {0}) StoreAnswer) (fact : Type 0) → fact → IfKept result fact
+if_kept (Ok done) fact is = tt
+if_kept (Err NotFound) fact is = is
+if_kept (Err Exists) fact is = is
+if_kept (Err NoSpace) fact is = is
+if_kept (Err Lost) fact is = is
+if_kept (Err Failed) fact is = tt
+if_kept (Err (Corrupt tags)) fact is = is
+if_kept (Err (Garbled leaf)) fact is = is
+if_kept (Err NoMemory) fact is = is
+
+-- a crash that leaves what was held leaves what a change of a region may leave
+pub left_held : (result : Result (Unit {0}) StoreAnswer) (region : ℕ) (held : Held) (o : Option Held) → o ≡ Some held → LeftOfRegion result region held o
+left_held (Ok done) region held o is = inl is
+left_held (Err NotFound) region held o is = is
+left_held (Err Exists) region held o is = is
+left_held (Err NoSpace) region held o is = is
+left_held (Err Lost) region held o is = is
+left_held (Err Failed) region held o is = inl is
+left_held (Err (Corrupt tags)) region held o is = is
+left_held (Err (Garbled leaf)) region held o is = is
+left_held (Err NoMemory) region held o is = is
+
+-- so does one within a commit
+pub commit_held : (answer : Result ℕ LeafAnswer) (region : ℕ) (named : List Leaf) (held : Held) (o : Option Held) → LeftByCommit answer held (after_commit region named held) o
+    → LeftOfRegion (done_of answer) region held o
+commit_held (Ok sequence) region named held o left = ⊎_elim (λ (e : o ≡ Some held). inl e) (λ (e : o ≡ Some (after_commit region named held)). inr (named, e)) left
+commit_held (Err leaf_answers.Lost) region named held o left = left
+commit_held (Err leaf_answers.Failed) region named held o left = ⊎_elim (λ (e : o ≡ Some held). inl e) (λ (e : o ≡ Some (after_commit region named held)). inr (named, e)) left
+commit_held (Err (leaf_answers.Mismatch tags)) region named held o left = left
+commit_held (Err leaf_answers.NoMemory) region named held o left = left

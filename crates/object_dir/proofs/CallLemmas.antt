@@ -1,22 +1,22 @@
 -- What a call on a region promises as a call of a store.
-use Rattle.std.proofs.Common.{◌≡◌, ◌≤◌, ◌<◌, ◌+◌, ℕ, true, false, Option, Some, Result, refl, sym, ap, ◌∙◌, subst, inl, arith}
+use Rattle.std.proofs.Common.{◌≡◌, ◌≤◌, ◌<◌, ◌+◌, ℕ, List, true, false, Option, Some, Result, refl, sym, ap, ◌∙◌, subst, inl, arith}
 use Rattle.std.specs.Prelude.{IsTrue}
 use Rattle.tee_base.specs.Crash.{LeavesOnly}
-use Rattle.tee_base.specs.declared.limits.TheConstants.{LEAVES}
 use Rattle.tee_base.proofs.Crash.{mapped}
 use Rattle.store_api.specs.declared.answer.StoreAnswer.{StoreAnswer}
 use Rattle.store_api.specs.Keeping.{Contents, IsCall, LeavesJust, Remains}
 use Rattle.store_api.specs.Volumes.{Held, VolumeKeeper}
 use Rattle.region_plan.specs.Layout.{version_one}
-use Rattle.region_plan.specs.Reading.{IfGarbled, ReadsOnly, refusal_of}
+use Rattle.region_plan.specs.Reading.{IfGarbled, IsBroken, ReadsOnly, leaves_of, refusal_of}
 use Rattle.region_plan.specs.Regions.{breaks}
 use Rattle.object_dir.specs.Changing.{IsRegionCall}
 use Rattle.object_dir.specs.Directories.{damage_of, damage_reports, dir_keeper}
 use Rattle.object_dir.specs.Regions.{HasStore, kept_in, number_of, region_keeper, remains_in, store_in}
 use Rattle.object_dir.specs.declared.directory.ObjectDir.{ObjectDir}
 use Rattle.object_dir.specs.declared.region.Region.{Region}
-use Rattle.object_dir.proofs.AnswerLemmas.{cause_of, corrupt_under, garbled_never, intact_of, reports_of, tells_of}
-use Rattle.object_dir.proofs.HeldLemmas.{kept_limits, never_breaks, still_stands}
+use Rattle.object_dir.proofs.AnswerLemmas.{cause_of, corrupt_under, garbled_also, garbled_never, intact_of, reports_of, tells_of, unfailed_of}
+use Rattle.object_dir.proofs.FoundLemmas.{IsLawful, broken_never}
+use Rattle.object_dir.proofs.HeldLemmas.{kept_limits, still_stands}
 use Rattle.object_dir.proofs.PlaceLemmas.{same_number}
 
 module _ {V : Type 0} (K : VolumeKeeper V) where
@@ -28,16 +28,25 @@ module _ {V : Type 0} (K : VolumeKeeper V) where
           | false ↦ λ e. (run.crash h e).later
         ] refl
 
+    found_still : IsTrue K.tells_reads → leaves_of (region_keeper K) number_of new ≡ leaves_of (region_keeper K) number_of old
+    found_still t = ap (λ (text : ℕ → ℕ → List ℕ). text new.number) (run.text t) ∙ ap (λ (r : ℕ). K.text old.volume.now r) run.same_region
+
     -- reads are a call on a region
-    pub from_reads : (K.honest old.volume.now → IfGarbled why (λ leaf. IsTrue (breaks version_one ((K.held old.volume.now).leaves old.number) leaf))) → IsRegionCall K why old new
+    pub from_reads : IfGarbled why (λ leaf. IsBroken (region_keeper K) number_of version_one old leaf) → IsRegionCall K why old new
     from_reads garbled = record {
       cause = run.cause;
       later = run.later;
+      unfailed = run.unfailed;
       foundation = run.foundation;
       below = run.below;
       honest = run.honest;
       shows = run.shows;
       garbled = garbled;
+      broken = garbled_also why (λ leaf. IsBroken (region_keeper K) number_of version_one old leaf) (λ leaf. IsBroken (region_keeper K) number_of version_one new leaf)
+          (λ leaf broken. record {
+            below = broken.below;
+            breaks = λ t. subst (λ (leaves : ℕ → List ℕ). IsTrue (breaks version_one leaves leaf)) (sym (found_still t)) (broken.breaks t);
+          }) garbled;
       quiet = run.quiet;
       past = run.past;
       goes_on = reads_go_on;
@@ -56,10 +65,10 @@ module _ {V : Type 0} (K : VolumeKeeper V) where
     same_outcome o = ap (λ (k : ℕ). remains_in k o) (same_number K old.region new.region call.foundation)
 
     -- a call on a region is a call of its store
-    pub store_call : (HasStore K old.region → HasStore K new.region) → (HasStore K old.region → IsTrue (K.condition new.region.volume.now).lost →
-        kept_in K new.region ≡ kept_in K old.region) → IfGarbled (refusal_of result) (λ leaf. leaf < LEAVES)
+    pub store_call : IsLawful K → (HasStore K old.region → HasStore K new.region) → (HasStore K old.region → IsTrue (K.condition new.region.volume.now).lost →
+        kept_in K new.region ≡ kept_in K old.region)
         → new.damage_reports ≡ old.damage_reports + damage_reports (refusal_of result) → new.change_attempts ≡ old.change_attempts + tried → IsCall (dir_keeper K) tried result old new
-    store_call stands still few reports attempts = record {
+    store_call laws stands still reports attempts = record {
       model = stands;
       still = still;
       limits = λ has. (kept_limits K old.region has, kept_limits K new.region (stands has));
@@ -67,19 +76,21 @@ module _ {V : Type 0} (K : VolumeKeeper V) where
         cause = cause_of result ((region_keeper K).condition old.region) ((region_keeper K).condition new.region) old.damage_reports old.change_attempts new.damage_reports
             new.change_attempts call.cause;
         later = call.later;
+        unfailed = unfailed_of result _ call.unfailed;
         foundation = call.foundation;
         reports = reports ∙ ap (λ (k : ℕ). old.damage_reports + k) (reports_of result);
       };
       attempts = attempts;
       damage = tells_of result (damage_of K new.region)
-          (corrupt_under (refusal_of result) K.tells_reads (λ tags. (leaf : ℕ) × (leaf < LEAVES) × (K.damage new.region.volume.now new.region.number leaf ≡ Some tags)) call.shows) few;
+          (corrupt_under (refusal_of result) K.tells_reads (λ tags. (leaf : ℕ) × (leaf < K.leaves) × (K.damage new.region.volume.now new.region.number leaf ≡ Some tags)) call.shows) call.broken;
       below = call.below;
       honest = λ has. (
         stands has,
         intact_of result (call.honest has.honest).1
-            (garbled_never (refusal_of result) (λ leaf. leaf < LEAVES) (λ leaf. IsTrue (breaks version_one ((K.held old.region.volume.now).leaves old.region.number) leaf))
-            (λ leaf below broken. never_breaks ((K.held old.region.volume.now).leaves old.region.number) (store_in old.region.number (K.held old.region.volume.now)) has.stands leaf below broken)
-            few (call.garbled has.honest)),
+            (garbled_never (refusal_of result) ((region_keeper K).condition old.region) ((region_keeper K).condition new.region)
+            (λ leaf. IsBroken (region_keeper K) number_of version_one old.region leaf) call.cause
+            (λ leaf works broken. broken_never K laws old.region has.honest works (store_in old.region.number (K.held old.region.volume.now)) has.stands leaf broken)
+            call.garbled),
       );
       quiet = λ lost. record { same = (call.quiet lost).same; none = λ t o left. (left.0, (call.quiet lost).none t left.0 left.1, left.2 ∙ same_outcome left.0) };
       past = λ has. record { later = call.goes_on has.honest; past = λ t o le left. (left.0, call.past has.honest t left.0 le left.1, left.2 ∙ sym (same_outcome left.0)) };

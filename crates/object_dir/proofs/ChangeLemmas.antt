@@ -1,8 +1,7 @@
 -- How a change of the objects of a region ends: refused, without a leaf that changes, or with one commit.
 use Rattle.std.proofs.Common.{◌≡◌, ◌≤◌, ◌<◌, ℕ, false, List, [], Option, None, Some, Result, Ok, Err, refl, sym, ap, ◌∙◌, subst, arith}
-use Rattle.std.specs.Prelude.{IfSome}
+use Rattle.std.specs.Prelude.{IfSome, IsTrue}
 use Rattle.tee_base.specs.Crash.{LeavesOnly}
-use Rattle.tee_base.specs.declared.limits.TheConstants.{LEAVES}
 use Rattle.tee_base.proofs.Crash.{joined, weaker}
 use Rattle.store_api.specs.declared.answer.StoreAnswer.{StoreAnswer}
 use Rattle.store_api.specs.declared.change.Change.{Change}
@@ -13,17 +12,22 @@ use Rattle.store_api.specs.Stores.{Store, change}
 use Rattle.store_api.specs.Volumes.{Commits, CommitsLeaves, Held, LeftByCommit, VolumeKeeper, after_commit}
 use Rattle.region_plan.specs.Layout.{version_one}
 use Rattle.region_plan.specs.Planning.{IsPlanOf, PlansChange}
-use Rattle.region_plan.specs.Reading.{refusal_of}
-use Rattle.object_dir.specs.Changing.{ChangesLeaves, ChangesRegion, CommitsRegion, IsRegionCall, done_of, planned_leaves}
+use Rattle.region_plan.specs.Reading.{IfAnswered, IsSound, leaves_of, refusal_of}
+use Rattle.region_plan.specs.Regions.{region_of}
+use Rattle.region_plan.proofs.RegionLemmas.{if_answered}
+use Rattle.object_dir.specs.Changing.{ChangesLeaves, ChangesRegion, CommitsRegion, Decides, IsRegionCall, LeftOfRegion, done_of, planned_leaves}
 use Rattle.object_dir.specs.Regions.{HasStore, contents_in, kept_in, number_of, region_in, region_keeper, remains_in, store_in, store_or_empty}
 use Rattle.object_dir.specs.declared.region.Region.{Region}
-use Rattle.object_dir.proofs.AnswerLemmas.{commit_cause, commit_corrupt, commit_garbled, commit_one, left_before, not_both}
+use Rattle.object_dir.proofs.AnswerLemmas.{commit_cause, commit_corrupt, commit_decides, commit_garbled, commit_held, commit_one, commit_unfailed, commit_unwritten}
+use Rattle.object_dir.proofs.AnswerLemmas.{adds_none, if_kept, left_before, left_held, not_both}
+use Rattle.object_dir.proofs.FoundLemmas.{IsLawful, answers_working, plan_held, stands_found}
 use Rattle.object_dir.proofs.CallLemmas.{from_reads, reads_go_on, reads_stand}
-use Rattle.object_dir.proofs.CommitLemmas.{commit_applied, commit_idle, commit_left, commit_stands}
-use Rattle.object_dir.proofs.HeldLemmas.{reads_back, same_contents}
+use Rattle.object_dir.proofs.CommitLemmas.{commit_applied, commit_idle, commit_kept, commit_left, commit_others, commit_stands}
+use Rattle.object_dir.specs.Laws.{reads_back}
+use Rattle.object_dir.proofs.HeldLemmas.{same_contents}
 use Rattle.object_dir.proofs.PlaceLemmas.{same_number}
 
-module _ {V : Type 0} (K : VolumeKeeper V) (c : Change) where
+module _ {V : Type 0} (K : VolumeKeeper V) (laws : IsLawful K) (c : Change) where
   -- a change that a plan refuses, or that has no leaf to change
   module _ (planned : Result (List Leaf) StoreAnswer) (result : Result (Unit {0}) StoreAnswer) (old new : Region V) (why : refusal_of result ≡ refusal_of planned)
       (plan : PlansChange (region_keeper K) number_of version_one c planned old new) where
@@ -42,20 +46,42 @@ module _ {V : Type 0} (K : VolumeKeeper V) (c : Change) where
         (ap (λ (k : ℕ). remains_in k o) plan.reads.same_region ∙ (ap (λ (x : Option Held). remains_in old.number x) is ∙ reads_back old.number (K.held old.volume.now) has.stands)))
         (plan.reads.crash has.honest works)
 
-    pub ends_with_plan : (HasStore K old → Applied result (change (kept_in K old).store c) (kept_in K old) (kept_in K new)) → ChangesRegion K c result old new
-    ends_with_plan applied = record {
+    pub ends_with_plan : (IsTrue K.tells_reads → (store : Store) → region_of version_one (leaves_of (region_keeper K) number_of old) ≡ Ok store → Decides result (change store c))
+        → (HasStore K old → Applied result (change (kept_in K old).store c) (kept_in K old) (kept_in K new)) → ChangesRegion K c result old new
+    ends_with_plan decided applied = record {
       call = plan_call;
+      sound = λ t. subst (λ (r : Option StoreAnswer). IfAnswered r (IsSound (region_keeper K) number_of version_one old)) (sym why) (plan.sound t);
+      decided = decided;
+      kept = λ h. if_kept result _ (plan.reads.same h);
+      unwritten = if_kept result _ plan.reads.writes;
+      others = λ h region other. ap (λ (x : Held). x.leaves region) (plan.reads.same h);
+      leaves = λ h works.
+          weaker (region_keeper K).moment (region_keeper K).left_since old new (λ o. o ≡ Some (K.held old.volume.now)) (LeftOfRegion result old.number (K.held old.volume.now))
+          (λ o is. left_held result old.number (K.held old.volume.now) o is) (plan.reads.crash h works);
       stands = reads_stand K (refusal_of planned) old new plan.reads;
       applied = applied;
-      one = let same : (K.held new.volume.now).sequence ≡ (K.held old.volume.now).sequence = plan.reads.sequence in omega arith;
+      one = adds_none result (K.held old.volume.now).sequence (K.held new.volume.now).sequence plan.reads.sequence;
       idle = λ h same. plan.reads.sequence;
       crash = plan_leaves;
     }
 
+  -- a plan for what is held
+  plan_for : (named : List Leaf) (old mid : Region V) → PlansChange (region_keeper K) number_of version_one c (Ok named) old mid → (has : HasStore K old)
+      → IsPlanOf version_one ((K.held old.volume.now).leaves old.number) (store_in old.number (K.held old.volume.now)) c named
+  plan_for named old mid plan has =
+      let store = store_in old.number (K.held old.volume.now) in
+      plan_held K laws old has.honest plan.reads.cause.0 c store named
+      (plan.plans (laws.tells old.volume.now has.honest) store (stands_found K laws old has.honest plan.reads.cause.0 store has.stands))
+
   pub change_refused : (why : StoreAnswer) (old new : Region V) → PlansChange (region_keeper K) number_of version_one c (Err why) old new → ChangesRegion K c (Err why) old new
   change_refused why old new plan =
-      ends_with_plan (Err why) (Err why) old new refl plan
-      (λ has. (plan.plans has.honest (store_in old.number (K.held old.volume.now)) has.stands, plan_same (Err why) (Err why) old new refl plan has))
+      ends_with_plan (Err why) (Err why) old new refl plan plan.plans
+      (λ has. (
+        answers_working {A = Store} (Err why) (change (kept_in K old).store c) ((region_keeper K).condition old) ((region_keeper K).condition new) plan.reads.cause
+            (λ works. plan.plans (laws.tells old.volume.now has.honest) (store_in old.number (K.held old.volume.now))
+            (stands_found K laws old has.honest works (store_in old.number (K.held old.volume.now)) has.stands)),
+        plan_same (Err why) (Err why) old new refl plan has,
+      ))
 
   pub change_refused_as : (why : StoreAnswer) (result : Result (Unit {0}) StoreAnswer) (old new : Region V) → result ≡ Err why → PlansChange (region_keeper K) number_of version_one c (Err why)
       old new → ChangesRegion K c result old new
@@ -69,10 +95,10 @@ module _ {V : Type 0} (K : VolumeKeeper V) (c : Change) where
 
   nothing_changes : (old new : Region V) → PlansChange (region_keeper K) number_of version_one c (Ok []) old new → ChangesRegion K c (Ok tt) old new
   nothing_changes old new plan =
-      ends_with_plan (Ok []) (Ok tt) old new refl plan
+      ends_with_plan (Ok []) (Ok tt) old new refl plan (λ t store stands. (let made = plan.plans t store stands in (made.after, made.changes)))
       (λ has.
       let same : kept_in K new ≡ kept_in K old = plan_same (Ok []) (Ok tt) old new refl plan has in
-      let changes = same_store old.number (K.held old.volume.now) has.stands (plan.plans has.honest (store_in old.number (K.held old.volume.now)) has.stands) in (
+      let changes = same_store old.number (K.held old.volume.now) has.stands (plan_for [] old new plan has) in (
         changes ∙ ap (λ (x : Contents). Ok x.store) (sym same),
         ap (λ (x : Contents). x.rest) same,
         let e : (kept_in K new).number ≡ (kept_in K old).number = ap (λ (x : Contents). x.number) same
@@ -93,13 +119,15 @@ module _ {V : Type 0} (K : VolumeKeeper V) (c : Change) where
       cause = commit_cause answer ((region_keeper K).condition old) ((region_keeper K).condition mid) ((region_keeper K).condition new) plan.reads.cause plan.reads.later commit.call.cause.cause;
       later = let one : (K.condition old.volume.now).faults ≤ (K.condition mid.volume.now).faults = plan.reads.later in let two : (K.condition mid.volume.now).faults ≤
           (K.condition new.volume.now).faults = commit.call.cause.later in omega arith;
+      unfailed = commit_unfailed answer (K.condition old.volume.now).faults (K.condition mid.volume.now).faults (K.condition new.volume.now).faults plan.reads.unfailed commit.call.cause.unfailed;
       foundation = commit.call.cause.foundation ∙ plan.reads.foundation;
       below = λ b. commit.call.below (plan.reads.below b);
       honest = λ h. ((commit.call.honest (plan.reads.honest h).0).0, commit_corrupt answer (λ tags. ⊥) (λ tags. ⊥) (λ tags never. never) (commit.call.honest (plan.reads.honest h).0).1);
-      shows = λ t. commit_corrupt answer (λ tags. (leaf : ℕ) × (leaf < LEAVES) × (K.damage new.volume.now mid.number leaf ≡ Some tags))
-          (λ tags. (leaf : ℕ) × (leaf < LEAVES) × (K.damage new.volume.now new.number leaf ≡ Some tags))
+      shows = λ t. commit_corrupt answer (λ tags. (leaf : ℕ) × (leaf < K.leaves) × (K.damage new.volume.now mid.number leaf ≡ Some tags))
+          (λ tags. (leaf : ℕ) × (leaf < K.leaves) × (K.damage new.volume.now new.number leaf ≡ Some tags))
           (λ tags met. (met.0, met.1, ap (λ (k : ℕ). K.damage new.volume.now k met.0) (same_number K mid new commit.call.cause.foundation) ∙ met.2)) (commit.shows t);
-      garbled = λ h. commit_garbled answer _;
+      garbled = commit_garbled answer _;
+      broken = commit_garbled answer _;
       quiet = λ lost. not_both (K.condition old.volume.now).lost lost plan.reads.cause.0;
       past = λ h t o le left.
           let first : K.moment old.volume.now ≤ K.moment mid.volume.now = reads_go_on K None old mid plan.reads h in
@@ -118,7 +146,7 @@ module _ {V : Type 0} (K : VolumeKeeper V) (c : Change) where
 
     module _ (has : HasStore K old) where
       plan_of : IsPlanOf version_one ((K.held old.volume.now).leaves old.number) (store_in old.number (K.held old.volume.now)) c named
-      plan_of = plan.plans has.honest (store_in old.number (K.held old.volume.now)) has.stands
+      plan_of = plan_for named old mid plan has
 
       commit_has : HasStore K new
       commit_has = record {
@@ -155,14 +183,32 @@ module _ {V : Type 0} (K : VolumeKeeper V) (c : Change) where
           (λ o. LeftByChange (done_of answer) (kept_in K old) (change (kept_in K old).store c) (remains_in new.number o))
           commit_remains (commit.crash (plan.reads.honest has.honest).0 works_then))
 
+    commit_region : K.honest old.volume.now → (K.condition old.volume.now).lost ≡ false
+        → LeavesOnly (region_keeper K).moment (region_keeper K).left_since old new (LeftOfRegion (done_of answer) old.number (K.held old.volume.now))
+    commit_region h works =
+        joined (region_keeper K).moment (region_keeper K).left_since old mid new (LeftOfRegion (done_of answer) old.number (K.held old.volume.now))
+        (weaker (region_keeper K).moment (region_keeper K).left_since old mid (λ o. o ≡ Some (K.held old.volume.now)) (LeftOfRegion (done_of answer) old.number (K.held old.volume.now))
+        (λ o is. left_held (done_of answer) old.number (K.held old.volume.now) o is) (plan.reads.crash h works))
+        (weaker (region_keeper K).moment (region_keeper K).left_since mid new (LeftByCommit answer (K.held mid.volume.now) (after_commit mid.number named (K.held mid.volume.now)))
+        (LeftOfRegion (done_of answer) old.number (K.held old.volume.now))
+        (λ o left. subst (λ (k : ℕ). LeftOfRegion (done_of answer) k (K.held old.volume.now) o) plan.reads.same_region
+        (subst (λ (x : Held). LeftOfRegion (done_of answer) mid.number x o) (plan.reads.same h) (commit_held answer mid.number named (K.held mid.volume.now) o left)))
+        (commit.crash (plan.reads.honest h).0 works_then))
+
     by_answer : ChangesLeaves K old named → ChangesRegion K c (done_of answer) old new
     by_answer changes = record {
       call = commit_call;
+      sound = λ t. if_answered (refusal_of (done_of answer)) (IsSound (region_keeper K) number_of version_one old) (plan.sound t);
+      decided = λ t store stands. (let found = plan.plans t store stands in commit_decides answer found.after (change store c) found.changes);
+      kept = λ h. commit_kept named old.number (K.held old.volume.now) answer (K.held new.volume.now) (made h);
+      unwritten = commit_unwritten answer ((region_keeper K).condition old) ((region_keeper K).condition mid) ((region_keeper K).condition new) plan.reads.cause plan.reads.writes
+          commit.call.cause.cause commit.unwritten;
+      others = λ h. commit_others named old.number (K.held old.volume.now) answer (K.held new.volume.now) (made h);
+      leaves = commit_region;
       stands = commit_has;
       applied = commit_applies;
-      one = let same : (K.held mid.volume.now).sequence ≡ (K.held old.volume.now).sequence = plan.reads.sequence in let rises = commit_one answer (K.held mid.volume.now).sequence
-          (K.held new.volume.now).sequence commit.sequence in omega arith;
-      idle = λ h same. commit_idle named old.number (K.held old.volume.now) answer (K.held new.volume.now) (made h) (changes h) same;
+      one = commit_one answer (K.held old.volume.now).sequence (K.held mid.volume.now).sequence (K.held new.volume.now).sequence plan.reads.sequence commit.sequence;
+      idle = λ h same. commit_idle named old.number (K.held old.volume.now) answer (K.held new.volume.now) (made h) (changes h plan.reads.cause.0) same;
       crash = commit_leaves;
     }
 

@@ -1,24 +1,41 @@
 -- What a commit of planned leaves makes of a region, by what the volume answers.
-use Rattle.std.proofs.Common.{◌≡◌, ◌+◌, ◌⊎◌, ℕ, List, Option, Some, Result, Ok, Err, sym, ap, ◌∙◌, subst, inl, ⊎_elim, arith}
+use Rattle.std.proofs.Common.{◌≡◌, ◌≢◌, Bool, ◌+◌, ◌⊎◌, ℕ, List, Option, Some, Result, Ok, Err, sym, ap, ◌∙◌, subst, inl, ⊎_elim, arith}
 use Rattle.store_api.specs.declared.change.Change.{Change}
 use Rattle.store_api.specs.declared.leaves.Leaf.{Leaf}
 use Rattle.store_api.specs.declared.leaves.LeafAnswer.{LeafAnswer}
 use Rattle.store_api.specs.declared.leaves.LeafAnswer.TheVariants as leaf_answers
 use Rattle.store_api.specs.Keeping.{Applied, IsBeforeOrAfter, LeftByChange}
 use Rattle.store_api.specs.Stores.{change}
-use Rattle.store_api.specs.Volumes.{Commits, Held, LeftByCommit, after_commit}
+use Rattle.std.specs.Prelude.{if◌then◌else◌}
+use Rattle.std.proofs.lemmas.Bool.{ne_eqb}
+use Rattle.store_api.specs.Volumes.{Commits, Held, LeftByCommit, after_commit, leaf_after}
 use Rattle.region_plan.specs.Layout.{version_one}
 use Rattle.region_plan.specs.Planning.{IsPlanOf}
 use Rattle.region_plan.specs.Plans.{with_leaves}
-use Rattle.object_dir.specs.Changing.{done_of}
+use Rattle.object_dir.specs.Changing.{IfKept, done_of}
 use Rattle.object_dir.specs.Regions.{contents_in, region_in, remains_in, rest_of, store_in}
-use Rattle.object_dir.proofs.HeldLemmas.{after_changes, after_remains, after_rest, after_stands, own_leaves, reads_back}
+use Rattle.object_dir.specs.Laws.{reads_back}
+use Rattle.object_dir.proofs.HeldLemmas.{after_changes, after_remains, after_rest, after_stands, own_leaves}
 
 -- an acknowledged commit of leaves that change a region changes it
 pub commit_idle : (named : List Leaf) (n : ℕ) (h : Held) (answer : Result ℕ LeafAnswer) (g : Held) → Commits answer n named h g → (with_leaves named (h.leaves n) ≡ h.leaves n → ⊥)
     → g.leaves n ≡ h.leaves n → g.sequence ≡ h.sequence
 commit_idle named n h (Ok sequence) g made changes same = absurd (changes (sym (own_leaves n named h.leaves) ∙ (sym (ap (λ (x : Held). x.leaves n) made.0) ∙ same)))
 commit_idle named n h (Err answer) g made changes same = ap (λ (x : Held). x.sequence) made
+
+-- a commit that isn't acknowledged leaves what was held
+pub commit_kept : (named : List Leaf) (n : ℕ) (h : Held) (answer : Result ℕ LeafAnswer) (g : Held) → Commits answer n named h g → IfKept (done_of answer) (g ≡ h)
+commit_kept named n h (Ok sequence) g made = tt
+commit_kept named n h (Err leaf_answers.Lost) g made = made
+commit_kept named n h (Err leaf_answers.Failed) g made = tt
+commit_kept named n h (Err (leaf_answers.Mismatch tags)) g made = made
+commit_kept named n h (Err leaf_answers.NoMemory) g made = made
+
+-- and any commit leaves other regions
+pub commit_others : (named : List Leaf) (n : ℕ) (h : Held) (answer : Result ℕ LeafAnswer) (g : Held) → Commits answer n named h g → (r : ℕ) → r ≢ n → g.leaves r ≡ h.leaves r
+commit_others named n h (Ok sequence) g made r other =
+    ap (λ (x : Held). x.leaves r) made.0 ∙ ap (λ (b : Bool). (λ (l : ℕ). if b then leaf_after named l (h.leaves r l) else h.leaves r l)) (ne_eqb r n other)
+commit_others named n h (Err answer) g made r other = ap (λ (x : Held). x.leaves r) made
 
 module _ (c : Change) (named : List Leaf) (n : ℕ) (h : Held) (is : region_in n h ≡ Ok (store_in n h)) (plan : IsPlanOf version_one (h.leaves n) (store_in n h) c named) where
   pub commit_stands : (answer : Result ℕ LeafAnswer) (g : Held) → Commits answer n named h g → region_in n g ≡ Ok (store_in n g)

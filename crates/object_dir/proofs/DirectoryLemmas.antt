@@ -1,23 +1,24 @@
 -- What the calls of the objects of a region promise as a store.
 use Rattle.std.proofs.Common.{◌≡◌, ◌≤◌, ◌<◌, ◌+◌, ℕ, true, false, Option, Some, Result, Ok, Err, refl, sym, ap, ◌∙◌, subst, arith}
 use Rattle.tee_base.specs.Crash.{LeavesOnly}
-use Rattle.tee_base.specs.declared.limits.TheConstants.{LEAVES}
 use Rattle.tee_base.proofs.Crash.{weaker}
 use Rattle.store_api.specs.declared.answer.StoreAnswer.{StoreAnswer}
 use Rattle.store_api.specs.declared.answer.StoreAnswer.TheVariants.{NotFound, Exists, NoSpace, Lost, Failed, Corrupt, Garbled, NoMemory}
 use Rattle.store_api.specs.declared.change.Change.{Change}
-use Rattle.store_api.specs.Keeping.{Applied, Applies, Contents, CrashChanges, CrashLeaves, LeavesJust, LeftByChange, Reads, UnlessFailed}
+use Rattle.store_api.specs.Keeping.{Answers, Applied, Applies, Contents, CrashChanges, CrashLeaves, LeavesJust, LeftByChange, Reads, UnlessFailed}
 use Rattle.store_api.specs.Stores.{Store, change}
 use Rattle.store_api.specs.Volumes.{Condition, Held, RestsAt, VolumeKeeper}
 use Rattle.region_plan.specs.Layout.{version_one}
-use Rattle.region_plan.specs.Reading.{IfGarbled, ReadCause, ReadsRegion, refusal_of}
+use Rattle.region_plan.specs.Reading.{ReadCause, ReadsRegion, refusal_of}
 use Rattle.object_dir.specs.Changing.{ChangesRegion, IsRegionCall}
 use Rattle.object_dir.specs.Directories.{damage_reports, dir_keeper}
 use Rattle.object_dir.specs.Regions.{HasStore, kept_in, number_of, region_keeper, remains_in, store_in}
 use Rattle.object_dir.specs.declared.directory.ObjectDir.{ObjectDir}
 use Rattle.object_dir.proofs.AnswerLemmas.{left_before, not_both}
+use Rattle.object_dir.proofs.FoundLemmas.{IsLawful, answers_working, store_found}
 use Rattle.object_dir.proofs.CallLemmas.{from_reads, lost_just, lost_leaves, of_store, reads_stand, store_call}
-use Rattle.object_dir.proofs.HeldLemmas.{reads_back, same_contents}
+use Rattle.object_dir.specs.Laws.{reads_back}
+use Rattle.object_dir.proofs.HeldLemmas.{same_contents}
 
 -- a change over a volume that is lost: nothing is changed
 same_when_lost : {A : Type 0} (result : Result A StoreAnswer) (cold cnew : Condition) (stated : Result Store StoreAnswer) (old new : Contents) → cold.lost ≡ true
@@ -55,10 +56,10 @@ always_unless (Err (Corrupt tags)) fact is = is
 always_unless (Err (Garbled leaf)) fact is = is
 always_unless (Err NoMemory) fact is = is
 
-module _ {V : Type 0} (K : VolumeKeeper V) where
+module _ {V : Type 0} (K : VolumeKeeper V) (laws : IsLawful K) where
   -- a call that reads the objects of a region
   module _ (earlier : (v : V) (t u : ℕ) (o : Option Held) → t ≤ u → K.left_since v u o → K.left_since v t o) {A : Type 0} (stated : Store → Result A StoreAnswer) (Bounds : A → Type 0)
-      (result : Result A StoreAnswer) (old new : ObjectDir V) (few : IfGarbled (refusal_of result) (λ leaf. leaf < LEAVES))
+      (result : Result A StoreAnswer) (old new : ObjectDir V)
       (reports : new.damage_reports ≡ old.damage_reports + damage_reports (refusal_of result)) (attempts : new.change_attempts ≡ old.change_attempts)
       (read : ReadsRegion (region_keeper K) number_of version_one stated Bounds result old.region new.region) where
     read_call : IsRegionCall K (refusal_of result) old.region new.region
@@ -92,18 +93,22 @@ module _ {V : Type 0} (K : VolumeKeeper V) where
 
     pub store_reads : Reads (dir_keeper K) stated Bounds result old new
     store_reads = record {
-      answer = λ has. read.answer has.honest (store_in old.region.number (K.held old.region.volume.now)) has.stands;
+      answer = λ has.
+          let store = store_in old.region.number (K.held old.region.volume.now) in
+          answers_working result (stated store) ((region_keeper K).condition old.region) ((region_keeper K).condition new.region) read.reads.cause
+          (λ works. subst (λ (s : Store). Answers result (stated s)) (store_found K laws old.region has.honest works store has.stands)
+          (read.answer (laws.tells old.region.volume.now has.honest)));
       same = λ has. same_contents new.region.number old.region.number (K.held new.region.volume.now) (K.held old.region.volume.now) read.reads.same_region (read.reads.same has.honest);
       bounds = read.bounds;
-      call = store_call K result 0 old new read_call (reads_stand K (refusal_of result) old.region new.region read.reads)
+      call = store_call K result 0 old new read_call laws (reads_stand K (refusal_of result) old.region new.region read.reads)
           (λ has lost. same_contents new.region.number old.region.number (K.held new.region.volume.now) (K.held old.region.volume.now) read.reads.same_region
-          (read.reads.same has.honest)) few reports (let e = attempts in omega arith);
+          (read.reads.same has.honest)) reports (let e = attempts in omega arith);
       crash = read_crash;
     }
 
   -- a call that changes the objects of a region
   module _ (rests : (v : V) → K.honest v → (K.condition v).lost ≡ false → RestsAt K v (K.held v)) (c : Change) (result : Result (Unit {0}) StoreAnswer) (old new : ObjectDir V)
-      (few : IfGarbled (refusal_of result) (λ leaf. leaf < LEAVES)) (reports : new.damage_reports ≡ old.damage_reports + damage_reports (refusal_of result))
+      (reports : new.damage_reports ≡ old.damage_reports + damage_reports (refusal_of result))
       (attempts : new.change_attempts ≡ old.change_attempts + 1) (made : ChangesRegion K c result old.region new.region) where
     -- afterwards a crash leaves what is kept
     made_just : HasStore K new.region → (K.condition new.region.volume.now).lost ≡ false → LeavesJust (dir_keeper K) new (kept_in K new.region)
@@ -137,25 +142,25 @@ module _ {V : Type 0} (K : VolumeKeeper V) where
     pub store_applies : Applies (dir_keeper K) c result old new
     store_applies = record {
       applied = made.applied;
-      call = store_call K result 1 old new made.call made.stands
+      call = store_call K result 1 old new made.call laws made.stands
           (λ has lost. still_when_lost result ((region_keeper K).condition old.region) ((region_keeper K).condition new.region) (change (kept_in K old.region).store c)
-          (kept_in K old.region) (kept_in K new.region) lost made.call.cause (made.applied has)) few reports attempts;
+          (kept_in K old.region) (kept_in K new.region) lost made.call.cause (made.applied has)) reports attempts;
       crash = made_crash;
     }
 
   -- the same where a refusal was noted
   pub reads_noted : (earlier : (v : V) (t u : ℕ) (o : Option Held) → t ≤ u → K.left_since v u o → K.left_since v t o) {A : Type 0} (stated : Store → Result A StoreAnswer) (Bounds : A → Type 0)
       (result : Result A StoreAnswer) (old new : ObjectDir V) (why : Option StoreAnswer)
-      → why ≡ refusal_of result → IfGarbled why (λ leaf. leaf < LEAVES) → new.damage_reports ≡ old.damage_reports + damage_reports why → new.change_attempts ≡ old.change_attempts
+      → why ≡ refusal_of result → new.damage_reports ≡ old.damage_reports + damage_reports why → new.change_attempts ≡ old.change_attempts
       → ReadsRegion (region_keeper K) number_of version_one stated Bounds result old.region new.region → Reads (dir_keeper K) stated Bounds result old new
-  reads_noted earlier stated Bounds result old new why is few reports attempts read =
-      store_reads earlier stated Bounds result old new (subst (λ (w : Option StoreAnswer). IfGarbled w (λ leaf. leaf < LEAVES)) is few)
+  reads_noted earlier stated Bounds result old new why is reports attempts read =
+      store_reads earlier stated Bounds result old new
       (reports ∙ ap (λ (w : Option StoreAnswer). old.damage_reports + damage_reports w) is) attempts read
 
   pub applies_noted : (rests : (v : V) → K.honest v → (K.condition v).lost ≡ false → RestsAt K v (K.held v)) (c : Change) (result : Result (Unit {0}) StoreAnswer) (old new : ObjectDir V)
       (why : Option StoreAnswer)
-      → why ≡ refusal_of result → IfGarbled why (λ leaf. leaf < LEAVES) → new.damage_reports ≡ old.damage_reports + damage_reports why → new.change_attempts ≡ old.change_attempts + 1
+      → why ≡ refusal_of result → new.damage_reports ≡ old.damage_reports + damage_reports why → new.change_attempts ≡ old.change_attempts + 1
       → ChangesRegion K c result old.region new.region → Applies (dir_keeper K) c result old new
-  applies_noted rests c result old new why is few reports attempts made =
-      store_applies rests c result old new (subst (λ (w : Option StoreAnswer). IfGarbled w (λ leaf. leaf < LEAVES)) is few)
+  applies_noted rests c result old new why is reports attempts made =
+      store_applies rests c result old new
       (reports ∙ ap (λ (w : Option StoreAnswer). old.damage_reports + damage_reports w) is) attempts made

@@ -14,7 +14,8 @@ use Rattle.region_plan.specs.Plans.{with_leaves}
 use Rattle.region_plan.specs.Regions.{breaks, region_of}
 use Rattle.region_plan.proofs.LimitLemmas.{within_limits}
 use Rattle.region_plan.proofs.SoundLemmas.{region_sound, unbroken_of}
-use Rattle.object_dir.specs.Regions.{HasStore, contents_in, kept_in, opened, others, region_in, remains_in, rest_of, store_in, store_or_empty}
+use Rattle.object_dir.specs.Regions.{HasStore, contents_in, kept_in, others, region_in, remains_in, rest_of, store_in, store_or_empty}
+use Rattle.object_dir.specs.Laws.{reads_back}
 use Rattle.object_dir.specs.declared.region.Region.{Region}
 
 -- equal numbers and equal contents of the volume
@@ -31,10 +32,6 @@ own_store n h store is = ap (λ (r : Result Store ℕ). store_or_empty r) is
 
 pub stands_by : (n : ℕ) (h : Held) (store : Store) → region_in n h ≡ Ok store → region_in n h ≡ Ok (store_in n h)
 stands_by n h store is = is ∙ ap (λ (s : Store). Ok s) (sym (own_store n h store is))
-
--- what a crash leaves of it
-pub reads_back : (n : ℕ) (h : Held) → region_in n h ≡ Ok (store_in n h) → remains_in n (Some h) ≡ Some (contents_in n h)
-reads_back n h is = ap (λ (r : Result Store ℕ). opened n h r) is
 
 -- no leaf of it breaks a rule
 pub never_breaks : (leaves : ℕ → List ℕ) (store : Store) → region_of version_one leaves ≡ Ok store → (leaf : ℕ) → leaf < 256 → IsTrue (breaks version_one leaves leaf) → ⊥

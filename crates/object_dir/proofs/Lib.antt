@@ -3,6 +3,7 @@ pub mod CallLemmas
 pub mod ChangeLemmas
 pub mod CommitLemmas
 pub mod DirectoryLemmas
+pub mod FoundLemmas
 pub mod HeldLemmas
 pub mod IdleLemmas
 pub mod PlaceLemmas

@@ -1,15 +1,13 @@
 -- The objects of a region as a store.
-use Rattle.std.specs.Prelude.{ℕ, ◌≡◌, ◌+◌, ◌<◌, ◌≤◌, Option, Some, IsTrue}
+use Rattle.std.specs.Prelude.{ℕ, ◌≡◌, ◌<◌, Option, Some, IsTrue}
 use Rattle.tee_base.specs.Crash.{read_as}
-use Rattle.tee_base.specs.declared.limits.TheConstants.{LEAVES}
 use Rattle.store_api.specs.declared.answer.StoreAnswer.{StoreAnswer}
 use Rattle.store_api.specs.declared.answer.StoreAnswer.TheVariants.{Corrupt, Garbled}
 use Rattle.store_api.specs.Keeping.{Keeper, Status}
 use Rattle.store_api.specs.Volumes.{Condition, VolumeKeeper}
 use Rattle.region_plan.specs.Layout.{version_one}
-use Rattle.region_plan.specs.Reading.{IfGarbled}
-use Rattle.region_plan.specs.Regions.{breaks}
-use Rattle.object_dir.specs.Regions.{HasStore, kept_in, region_keeper, remains_in}
+use Rattle.region_plan.specs.Reading.{IsBroken}
+use Rattle.object_dir.specs.Regions.{HasStore, kept_in, number_of, region_keeper, remains_in}
 use Rattle.object_dir.specs.declared.region.Region.{Region}
 use Rattle.object_dir.specs.declared.directory.ObjectDir.{ObjectDir}
 
@@ -25,10 +23,10 @@ status_with c reports attempts =
     record { lost = c.lost; faults = c.faults; foundation = c.foundation; damage_reports = reports; change_attempts = attempts }
 
 module _ {V : Type 0} (K : VolumeKeeper V) where
-  -- what there is for an answer of damage to tell: two tags that differ on the way to a leaf of the region
+  -- what there is for an answer of damage to tell: two tags that differ on the way to a leaf of the region, or a leaf that breaks a rule
   abbrev pub damage_of : Region V → StoreAnswer → Type 0
-  damage_of r (Corrupt tags) = IsTrue K.tells_reads → (leaf : ℕ) × (leaf < LEAVES) × (K.damage r.volume.now r.number leaf ≡ Some tags)
-  damage_of r (Garbled leaf) = leaf < LEAVES
+  damage_of r (Corrupt tags) = IsTrue K.tells_reads → (leaf : ℕ) × (leaf < K.leaves) × (K.damage r.volume.now r.number leaf ≡ Some tags)
+  damage_of r (Garbled leaf) = IsBroken (region_keeper K) number_of version_one r leaf
   damage_of r _ = Unit {0}
 
   -- the objects of a region as a store: there is one where the volume is honest and the region stands for one, its rest is all other
@@ -44,21 +42,6 @@ module _ {V : Type 0} (K : VolumeKeeper V) where
     moment = λ d. K.moment d.region.volume.now;
     left_since = λ d. read_as (remains_in d.region.number) (K.left_since d.region.volume.now);
   }
-
-  -- a leaf that is told, of an honest volume, breaks a rule
-  abbrev pub BreaksRule : Option StoreAnswer → ObjectDir V → Type 0
-  BreaksRule why old = K.honest old.region.volume.now
-      → IfGarbled why (λ leaf. IsTrue (breaks version_one ((K.held old.region.volume.now).leaves old.region.number) leaf))
-
-  -- the volume made one commit at most
-  abbrev pub IsOneCommit : ObjectDir V → ObjectDir V → Type 0
-  IsOneCommit old new = (K.held new.region.volume.now).sequence ≤ (K.held old.region.volume.now).sequence + 1
-
-  -- an honest volume made no commit where each leaf of the region is as it was
-  abbrev pub IsIdle : ObjectDir V → ObjectDir V → Type 0
-  IsIdle old new = K.honest old.region.volume.now
-      → (K.held new.region.volume.now).leaves old.region.number ≡ (K.held old.region.volume.now).leaves old.region.number
-      → (K.held new.region.volume.now).sequence ≡ (K.held old.region.volume.now).sequence
 
 -- the store of a region of a volume that is this
 pub record IsOver {V : Type 0} (region : ℕ) (volume : V) (dir : ObjectDir V) : Type 0 where

@@ -1,3 +1,4 @@
 pub mod Changing
 pub mod Directories
+pub mod Laws
 pub mod Regions

@@ -4,7 +4,7 @@ use Rattle.store_api.specs.Keeping.{Contents, Remains, Rest}
 use Rattle.store_api.specs.Stores.{Store, empty_store}
 use Rattle.store_api.specs.Foundations.{Foundation}
 use Rattle.store_api.specs.Volumes.{Condition, Held, VolumeKeeper}
-use Rattle.region_plan.specs.Layout.{version_one}
+use Rattle.region_plan.specs.Layout.{Layout, version_one}
 use Rattle.region_plan.specs.Regions.{region_of}
 use Rattle.object_dir.specs.declared.region.Region.{Region}
 
@@ -14,16 +14,18 @@ region_foundation name number f = record { place = name ∷ number ∷ f.place; 
 
 -- what is known of a region over a volume of this condition
 abbrev pub region_condition : ℕ → ℕ → Condition → Condition
-region_condition name number c = record { lost = c.lost; faults = c.faults; foundation = region_foundation name number c.foundation }
+region_condition name number c = record { lost = c.lost; faults = c.faults; writes = c.writes; foundation = region_foundation name number c.foundation }
 
 -- the volume of a region, as contracts see it
 abbrev pub region_keeper : {V : Type 0} → VolumeKeeper V → VolumeKeeper (Region V)
 region_keeper K = record {
   tells_reads = K.tells_reads;
+  leaves = K.leaves;
   held = λ r. K.held r.volume.now;
   condition = λ r. region_condition r.volume.ghost_name r.number (K.condition r.volume.now);
   honest_below = λ r. K.honest_below r.volume.now;
   honest = λ r. K.honest r.volume.now;
+  text = λ r. K.text r.volume.now;
   damage = λ r. K.damage r.volume.now;
   moment = λ r. K.moment r.volume.now;
   left_since = λ r. K.left_since r.volume.now;
@@ -41,9 +43,13 @@ others region leaves r l = if r == region then [] else leaves r l
 abbrev pub rest_of : ℕ → Held → Rest
 rest_of region held = record { leaves = others region held.leaves }
 
--- what the leaves of a region stand for
+-- how the regions of a version of the format are laid out: one layout so far
+abbrev pub layout_of : ℕ → Layout
+layout_of version = version_one
+
+-- what the leaves of a region stand for, by the version that is held
 abbrev pub region_in : ℕ → Held → Result Store ℕ
-region_in region held = region_of version_one (held.leaves region)
+region_in region held = region_of (layout_of held.version) (held.leaves region)
 
 -- a store, and an empty one where there is none
 abbrev pub store_or_empty : Result Store ℕ → Store

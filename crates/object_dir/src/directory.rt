@@ -1,12 +1,17 @@
 //! The objects of one region of a volume, as a store.
 
-ghost use Rattle.std.specs.Prelude.{◌≡◌, ◌≤◌, ◌<◌, ◌+◌, option_copied};
+ghost use Rattle.std.specs.Prelude.{◌≡◌, ◌≤◌, ◌<◌, ◌+◌, Some, IfOk, IsTrue, option_copied};
+ghost use Rattle.std.proofs.Common.{sym};
 ghost use Rattle.store_api.specs.Keeping.{Reads, Applies, damage_in};
 ghost use Rattle.store_api.specs.Limits.{IsIdentifier, IsChange, AreFacts, IsSecret, IsPart, IsListed};
 ghost use Rattle.store_api.specs.Stores.{found, secret_at, read_at, next_after as next_of};
-ghost use Rattle.tee_base.specs.declared.limits.TheConstants.{MAX_ASK_BYTES, MAX_HOSTS, LEAVES};
-ghost use Rattle.region_plan.specs.Reading.{refusal_of, IfGarbled};
-ghost use Rattle.object_dir.specs.Directories.{dir_keeper, damage_reports, BreaksRule, IsIdle, IsOneCommit};
+ghost use Rattle.tee_base.specs.declared.limits.TheConstants.{MAX_ASK_BYTES, MAX_HOSTS};
+ghost use Rattle.region_plan.specs.Layout.{version_one};
+ghost use Rattle.region_plan.specs.Reading.{IsReadPart, ReadsRegion, refusal_of};
+ghost use Rattle.object_dir.specs.Changing.{ChangesRegion};
+ghost use Rattle.object_dir.specs.Directories.{dir_keeper, damage_reports};
+ghost use Rattle.object_dir.specs.Laws.{reads_back};
+ghost use Rattle.object_dir.specs.Regions.{number_of, region_keeper};
 
 use crate::changing::change_region;
 use crate::region::Region;
@@ -27,8 +32,7 @@ fn refusal<A>(answer: &Result<A, StoreAnswer>) -> Option<StoreAnswer>
 
 /// Counts a refusal that tells of damage.
 fn note(reports: &mut Tally, why: Option<StoreAnswer>)
-    ensures count { reports.new ≡ reports.old + damage_reports why }
-    ensures leaf { IfGarbled why (λ leaf. leaf < LEAVES) }
+    ensures { reports.new ≡ reports.old + damage_reports why }
 {
     match why {
         Some(StoreAnswer::Corrupt(_tags)) => *reports = reports.one_more(),
@@ -86,12 +90,18 @@ impl<V: Volume> AppStore for ObjectDir<'_, V> {
     ghost since_earlier = { λ d t u o le left.
         (left.0, V.since_earlier d.region.volume.now t u left.0 le left.1, left.2) };
 
-    /// Besides, over an honest volume `Garbled` tells of a leaf that breaks a rule. So it is with the others.
+    ghost left_now = { λ d has works. (Some (V.keeper.held d.region.volume.now),
+        V.left_now d.region.volume.now has.honest works,
+        sym (reads_back d.region.number (V.keeper.held d.region.volume.now) has.stands)) };
+
+    /// Besides, it reads leaves of the region alone: whatever they stand for, it leaves what an honest volume holds, and an
+    /// answer of the store is that of leaves without damage. So it is with the others.
     fn find(&mut self, id: &[u8]) -> Result<Facts, StoreAnswer>
         requires { IsIdentifier id.now }
         ensures reads { Reads (dir_keeper V.keeper) (λ store. found store id.now) AreFacts result
             self.old self.new }
-        ensures garbled { BreaksRule V.keeper (refusal_of result) self.old }
+        ensures region { ReadsRegion (region_keeper V.keeper) number_of version_one
+            (λ store. found store id.now) AreFacts result self.old.region self.new.region }
     {
         let answer = facts(self.alloc, &mut self.region, id);
         note(&mut self.damage_reports, refusal(&answer));
@@ -102,7 +112,8 @@ impl<V: Volume> AppStore for ObjectDir<'_, V> {
         requires { IsIdentifier id.now }
         ensures reads { Reads (dir_keeper V.keeper) (λ store. secret_at store id.now) IsSecret
             result self.old self.new }
-        ensures garbled { BreaksRule V.keeper (refusal_of result) self.old }
+        ensures region { ReadsRegion (region_keeper V.keeper) number_of version_one
+            (λ store. secret_at store id.now) IsSecret result self.old.region self.new.region }
     {
         let answer = secret(self.alloc, &mut self.region, id);
         note(&mut self.damage_reports, refusal(&answer));
@@ -114,7 +125,10 @@ impl<V: Volume> AppStore for ObjectDir<'_, V> {
         requires count { count ≤ MAX_ASK_BYTES }
         ensures reads { Reads (dir_keeper V.keeper) (λ store. read_at store id.now from count)
             (IsPart count) result self.old self.new }
-        ensures garbled { BreaksRule V.keeper (refusal_of result) self.old }
+        ensures region { ReadsRegion (region_keeper V.keeper) number_of version_one
+            (λ store. read_at store id.now from count) (IsPart count) result self.old.region self.new.region }
+        ensures part { IsTrue V.keeper.tells_reads → IfOk result (λ bytes. IsReadPart
+            (region_keeper V.keeper) number_of version_one id.now from count self.old.region) }
     {
         let answer = content(self.alloc, &mut self.region, id, from, count);
         note(&mut self.damage_reports, refusal(&answer));
@@ -124,20 +138,21 @@ impl<V: Volume> AppStore for ObjectDir<'_, V> {
     fn next_after(&mut self, last: Option<&[u8]>) -> Result<Listed, StoreAnswer>
         ensures reads { Reads (dir_keeper V.keeper)
             (λ store. next_of store (option_copied last.entry)) IsListed result self.old self.new }
-        ensures garbled { BreaksRule V.keeper (refusal_of result) self.old }
+        ensures region { ReadsRegion (region_keeper V.keeper) number_of version_one
+            (λ store. next_of store (option_copied last.entry)) IsListed result self.old.region self.new.region }
     {
         let answer = next_after(self.alloc, &mut self.region, last);
         note(&mut self.damage_reports, refusal(&answer));
         answer
     }
 
-    /// Besides, it makes one commit at most, and none where each leaf of the region stays as it was.
+    /// Besides, whatever the leaves of the region stand for: it makes one commit at most, and none where each leaf of the
+    /// region stays as it was. The leaves of other regions stay, and all that is held unless it answers Ok or `Failed`.
     fn apply(&mut self, change: &Change) -> Result<(), StoreAnswer>
         requires { IsChange change.now }
         ensures applies { Applies (dir_keeper V.keeper) change.now result self.old self.new }
-        ensures garbled { BreaksRule V.keeper (refusal_of result) self.old }
-        ensures one { IsOneCommit V.keeper self.old self.new }
-        ensures idle { IsIdle V.keeper self.old self.new }
+        ensures region { ChangesRegion V.keeper change.now result self.old.region
+            self.new.region }
     {
         self.change_attempts = self.change_attempts.one_more();
         let answer = change_region(self.alloc, &mut self.region, change);

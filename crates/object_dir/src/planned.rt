@@ -1,6 +1,8 @@
 //! The plan of a change, without leaves that it would leave as they are.
 
-ghost use Rattle.std.specs.Prelude.{◌≡◌, false, IfOk, IfSome, bytes_eq};
+ghost use Rattle.std.specs.Prelude.{◌≡◌, ◌<◌, false, IfOk, IfSome, IsTrue, bytes_eq};
+ghost use Rattle.tee_base.specs.declared.limits.TheConstants.{LEAVES};
+ghost use Rattle.store_api.specs.Ascending.{is_above_all};
 ghost use Rattle.store_api.specs.Limits.{IsChange};
 ghost use Rattle.region_plan.specs.Layout.{version_one};
 ghost use Rattle.region_plan.specs.Planning.{PlansChange};
@@ -16,7 +18,8 @@ use tee_base::limits::BLOCK_BYTES;
 
 /// Whether a leaf of a region has these bytes.
 fn is_there<V: Volume>(region: &mut Region<'_, V>, leaf: &Leaf) -> Result<bool, StoreAnswer>
-    ensures told { V.keeper.honest region.old.volume.now → IfOk result
+    requires { leaf.now.number < LEAVES }
+    ensures told { IsTrue V.keeper.tells_reads → IfOk result
         (λ there. there ≡ bytes_eq (leaves_of (region_keeper V.keeper) number_of region.old
         leaf.now.number) leaf.now.bytes) }
     ensures unread { IsUnread (refusal_of result) }
@@ -34,8 +37,9 @@ fn are_all_there<V: Volume>(
     region: &mut Region<'_, V>,
     leaves: &[Leaf],
 ) -> Result<bool, StoreAnswer>
-    requires { (V.keeper.condition region.old.volume.now).lost ≡ false }
-    ensures told { V.keeper.honest region.old.volume.now → IfOk result
+    requires works { (V.keeper.condition region.old.volume.now).lost ≡ false }
+    requires leaves { IsTrue (is_above_all leaves.now LEAVES) }
+    ensures told { IsTrue V.keeper.tells_reads → IfOk result
         (λ there. there ≡ are_there (leaves_of (region_keeper V.keeper) number_of region.old)
         leaves.now) }
     ensures unread { IsUnread (refusal_of result) }

@@ -1,6 +1,7 @@
 //! One region of a volume.
 
 ghost use Rattle.std.specs.Prelude.{◌<◌};
+ghost use Rattle.std.proofs.Common.{arith};
 ghost use Rattle.tee_base.specs.declared.limits.TheConstants.{MAX_HOSTS};
 
 use region_plan::LeafSource;
@@ -22,9 +23,17 @@ impl<V: Volume> LeafSource for Region<'_, V> {
 
     ghost region = { λ r. r.number };
 
+    ghost whole = { Prim.omega (arith, V.whole) };
+
     ghost rests = { λ r honest works. record { only = (V.rests r.volume.now honest works).only } };
 
-    fn leaf(&mut self, number: u8, into: &mut [u8; BLOCK_BYTES]) -> Result<(), LeafAnswer> {
+    ghost sound = { λ r honest works leaf below. V.sound r.volume.now honest works r.number leaf r.fits below };
+
+    ghost found = { λ r honest works leaf below. V.found r.volume.now honest works r.number leaf r.fits below };
+
+    ghost honest_tells = { λ r honest. V.honest_tells r.volume.now honest };
+
+    fn leaf(&mut self, number: u16, into: &mut [u8; BLOCK_BYTES]) -> Result<(), LeafAnswer> {
         self.volume.read_leaf(self.number, number, into)
     }
 
@@ -38,10 +47,14 @@ impl<V: Volume> LeafSource for Region<'_, V> {
 }
 
 impl<V: Volume> Region<'_, V> {
+    ghost use Rattle.std.specs.Prelude.{IsTrue};
+    ghost use Rattle.store_api.specs.Ascending.{is_above_all};
+    ghost use Rattle.tee_base.specs.declared.limits.TheConstants.{LEAVES};
     ghost use Rattle.object_dir.specs.Changing.{CommitsRegion};
 
     /// Replaces these leaves, all or none, and answers as a store does.
     pub fn commit(&mut self, leaves: &Leaves) -> Result<(), StoreAnswer>
+        requires { IsTrue (is_above_all leaves.now LEAVES) }
         ensures { CommitsRegion V.keeper leaves.now result self.old self.new }
     {
         match self.volume.commit(self.number, leaves) {

@@ -3,7 +3,7 @@ use Rattle.std.proofs.Common.{◌≡◌, ◌≢◌, ℕ, zero, suc, ◌+◌, ◌
 use Rattle.std.specs.Prelude.{is_some, ◌&&◌, ◌||◌, ◌==◌, nat_le}
 use Rattle.std.specs.List.{range_with_len, filter, list_any, count_by}
 use Rattle.std.specs.Str.{bytes_eq}
-use Rattle.std.proofs.lemmas.Bool.{eqb-true, eq-eqb, le-leb, leb-true, leb-false, and_left, and_right, and_from, not-false}
+use Rattle.std.proofs.lemmas.Bool.{eqb-true, eq-eqb, le-leb, leb-true, leb-false, and_left, and_right, and_from, not-false, not-true}
 use Rattle.std.proofs.lemmas.List.Sums.{sum_by-cons}
 use Rattle.std.proofs.lemmas.List.Folds.{list_any_at, list_all_at}
 use Rattle.std.proofs.lemmas.List.FromFn.{get_or-range_with_len, length-range_with_len}
@@ -132,13 +132,22 @@ elsewhere_entry leaves inode i blocks e r below is kind owner long before found 
     (subst (λ (x : Entry). x.index < data_leaves (length_in (leaves inode))) is (subst (λ (n : ℕ). e.index < n) long before))
     (λ same. other (found ∙ ap (λ (x : Entry). leaf_of version_one leaves inode x.index) is ∙ same))
 
--- an inode that was read has the identifier of one before it
+-- whether an inode that was read has the identifier of none before it
+pub new_is : (leaves : ℕ → List ℕ) (n : ℕ) (block : List ℕ) (inode : Inode) (id : List ℕ) (before : List Inode) (r : Bool) → block ≡ leaves n → inode ≡ inode_of n block →
+    id ≡ inode.id → before ≡ inodes_below version_one leaves n → r ≡ not (list_any (λ x. bytes_eq x.id id) before) → r ≡ not (is_doubled version_one leaves n)
+new_is leaves n block inode id before r read is named earlier told =
+    let id_is : id ≡ identifier_in (leaves n) = named ∙ ap (λ (x : Inode). x.id) is ∙ ap (λ (b : List ℕ). (inode_of n b).id) read ∙ told_id version_one leaves n in
+    told ∙ ap not (ap (λ (l : List Inode). list_any (λ x. bytes_eq x.id id) l) earlier ∙ doubled_is version_one leaves n id id_is)
+
 pub doubled_from : (leaves : ℕ → List ℕ) (n : ℕ) (block : List ℕ) (inode : Inode) (id : List ℕ) (before : List Inode) (r : Bool) → block ≡ leaves n → inode ≡ inode_of n block →
     id ≡ inode.id → before ≡ inodes_below version_one leaves n
     → r ≡ not (list_any (λ x. bytes_eq x.id id) before) → r ≡ false → is_doubled version_one leaves n ≡ true
-doubled_from leaves n block inode id before r read is named earlier told isnt =
-    let id_is : id ≡ identifier_in (leaves n) = named ∙ ap (λ (x : Inode). x.id) is ∙ ap (λ (b : List ℕ). (inode_of n b).id) read ∙ told_id version_one leaves n in
-    sym (doubled_is version_one leaves n id id_is) ∙ ap (λ (l : List Inode). list_any (λ x. bytes_eq x.id id) l) (sym earlier) ∙ not-false _ (sym told ∙ isnt)
+doubled_from leaves n block inode id before r read is named earlier told isnt = not-false _ (sym (new_is leaves n block inode id before r read is named earlier told) ∙ isnt)
+
+pub single_from : (leaves : ℕ → List ℕ) (n : ℕ) (block : List ℕ) (inode : Inode) (id : List ℕ) (before : List Inode) (r : Bool) → block ≡ leaves n → inode ≡ inode_of n block →
+    id ≡ inode.id → before ≡ inodes_below version_one leaves n
+    → r ≡ not (list_any (λ x. bytes_eq x.id id) before) → r ≡ true → is_doubled version_one leaves n ≡ false
+single_from leaves n block inode id before r read is named earlier told yes' = not-true _ (sym (new_is leaves n block inode id before r read is named earlier told) ∙ yes')
 
 told_number : (leaves : ℕ → List ℕ) (n : ℕ) → (inode_of n (leaves n)).number ≡ n
 unfolding inode_of

@@ -164,6 +164,21 @@ module _ (L : Layout) (leaves : ℕ → List ℕ) where
       both_false true = refl
       both_false false = refl
 
+  -- and data that is keeps the rule
+  pub padded_from : (inode index k : ℕ) → leaf_of L leaves inode index ≡ Some k
+      → are_zero (drop (length_in (leaves inode) - 1024 * index) (take 1024 (leaves k))) ≡ true → is_padded L leaves k ≡ true
+  unfolding is_padded
+  padded_from inode index k is zeros =
+      let data_is = leaf_is inode index k is in
+      let of_inode = first_of _ _ data_is in
+      let owner : (entry_at L leaves k).inode ≡ inode = same_number _ _ (second_of _ _ of_inode) in
+      let place : (entry_at L leaves k).index ≡ index = same_number _ _ (second_of _ _ data_is) in
+      rw (owner, place, zeros) (or_true _)
+    where
+      or_true : (a : Bool) → (a || true) ≡ true
+      or_true true = refl
+      or_true false = refl
+
   -- the bytes of a leaf are bytes of the content
   pub leaf_bytes : (inode at end k : ℕ) (block : List ℕ) → leaf_of L leaves inode (at / 1024) ≡ Some k → block ≡ leaves k → length block ≡ 1024 → at < end → end ≤ 1024 * (at / 1024) + 1024
       → take ((end - 1024 * (at / 1024)) - (at - 1024 * (at / 1024))) (drop (at - 1024 * (at / 1024)) block) ≡ map (λ n. byte_at L leaves inode n) (range_with_len at (end - at))
@@ -211,6 +226,11 @@ content_answer leaves mid number start count long s k a same is_long is_s is_k i
     ∙ ap (λ (x : ℕ). map (λ m. byte_at version_one leaves number m) (range_with_len s x)) many
     ∙ ap (λ (l : ℕ → List ℕ). map (λ m. byte_at version_one l number m) (range_with_len s ((s + k) - s))) (sym same)
     ∙ sym is
+
+-- a place of the part of a content is among those that are read
+pub part_inside : (start count long long' s k place : ℕ) → s ≡ min start long → k ≡ min count (long - s) → long ≡ long' → start ≤ place → place < min (start + count) long'
+    → (s ≤ place) × (place < s + k)
+part_inside start count long long' s k place is_s is_k is low high = (omega (arith, is_s, is_k, is, low, high), omega (arith, is_s, is_k, is, low, high))
 
 -- what holds of an answer, and what follows of it
 pub if_ok : {A : Type 0} (r : Result A StoreAnswer) (P Q : A → Type 0) → ((a : A) → P a → Q a) → IfOk r (λ a. P a) → IfOk r (λ a. Q a)

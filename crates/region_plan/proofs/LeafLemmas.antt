@@ -1,7 +1,8 @@
 -- The bytes of a leaf, as the code takes them.
-use Rattle.std.proofs.Common.{◌≡◌, ℕ, zero, suc, ◌+◌, ◌-◌, ◌<◌, ◌≤◌, Bool, true, false, List, [], ◌∷◌, length, get_or, take, drop, length-drop, refl, sym, ◌∙◌, ap, subst, arith, nat_le}
+use Rattle.std.proofs.Common.{◌≡◌, ℕ, zero, suc, ◌+◌, ◌-◌, ◌*◌, ◌<◌, ◌≤◌, min, Bool, true, false, List, [], ◌∷◌, length, get_or, take, drop, length-drop, refl, sym, ◌∙◌, ap, subst, arith, nat_le}
 use Rattle.std.specs.Prelude.{◌&&◌}
-use Rattle.std.proofs.lemmas.Bool.{le-leb, lt-leb, and_left, and_right}
+use Rattle.std.proofs.lemmas.List.{drop_all}
+use Rattle.std.proofs.lemmas.Bool.{leb-false, leb-true, le-leb, lt-leb, and_left, and_right}
 use Rattle.region_plan.specs.Parts.{part, are_zero}
 use Rattle.region_plan.specs.Inodes.{is_inode_leaf}
 
@@ -15,11 +16,24 @@ take_all (suc n) (x ∷ xs) le = ap (λ (l : List ℕ). x ∷ l) (take_all n xs 
 pub rest_is : (used : ℕ) (bytes : List ℕ) → length bytes ≡ 1024 → take (1024 - used) (drop used bytes) ≡ drop used bytes
 rest_is used bytes long = take_all (1024 - used) (drop used bytes) (omega (arith, length-drop used bytes, long))
 
-pub unpadded_from : (block leaf : List ℕ) (used : ℕ) (r : Bool) → block ≡ leaf → length block ≡ 1024 → r ≡ are_zero (take (1024 - used) (drop used block)) → r ≡ false →
-    are_zero (drop used (take 1024 leaf)) ≡ false
-unpadded_from block leaf used r same long told isnt =
-    ap (λ (x : List ℕ). are_zero (drop used (take 1024 x))) (sym same) ∙ ap (λ (x : List ℕ). are_zero (drop used x)) (take_all 1024 block (omega (arith, long)))
-    ∙ ap are_zero (sym (rest_is used block long)) ∙ sym told ∙ isnt
+-- zeros behind so many bytes, as the code tests them
+pub zero_behind : (block : List ℕ) (used from : ℕ) (r : Bool) → length block ≡ 1024 → from ≡ min used 1024 → r ≡ are_zero (take (1024 - from) (drop from block))
+    → r ≡ are_zero (drop used (take 1024 block))
+zero_behind block used from r long is told =
+    told ∙ ap are_zero (rest_is from block long ∙ same) ∙ ap (λ (x : List ℕ). are_zero (drop used x)) (sym (take_all 1024 block (omega (arith, long))))
+  where
+    same : drop from block ≡ drop used block
+    same = elim (nat_le used 1024) as (λ b. nat_le used 1024 ≡ b → drop from block ≡ drop used block) [
+      | true ↦ λ e. (let le = leb-true used 1024 e in ap (λ (n : ℕ). drop n block) (let k : from ≡ used = omega (arith, is, le) in k))
+      | false ↦ λ e. (let more = leb-false used 1024 e in
+          drop_all from block (omega (arith, is, more, long)) ∙ sym (drop_all used block (omega (arith, more, long))))
+    ] refl
+
+-- what the code finds of the leaf of a content, of the leaf itself
+pub zeros_of : (long index long' : ℕ) (block leaf : List ℕ) (r b : Bool) → long ≡ long' → block ≡ leaf → r ≡ are_zero (drop (long - 1024 * index) (take 1024 block)) → r ≡ b
+    → are_zero (drop (long' - 1024 * index) (take 1024 leaf)) ≡ b
+zeros_of long index long' block leaf r b is same told yes' =
+    ap (λ (n : ℕ). are_zero (drop (n - 1024 * index) (take 1024 leaf))) (sym is) ∙ ap (λ (x : List ℕ). are_zero (drop (long - 1024 * index) (take 1024 x))) (sym same) ∙ sym told ∙ yes'
 
 -- lengths past their limits
 pub long_identifier : (bytes : List ℕ) (id : ℕ) → id ≡ get_or bytes 12 0 → 64 < id → false ≡ is_inode_leaf bytes

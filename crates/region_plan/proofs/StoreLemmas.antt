@@ -1,5 +1,5 @@
 -- What the inodes of a region tell of its store.
-use Rattle.std.proofs.Common.{◌≡◌, ℕ, Bool, true, false, cond, not, List, [], ◌∷◌, length, map, take, drop, Option, None, Some}
+use Rattle.std.proofs.Common.{◌≡◌, ◌<◌, ℕ, Bool, true, false, cond, not, List, [], ◌∷◌, length, map, take, drop, Option, None, Some}
 use Rattle.std.proofs.Common.{find, option_map, option_copied, Bor, Result, Ok, Err, refl, sym, ◌∙◌, ap, subst}
 use Rattle.std.specs.Prelude.{◌&&◌, if◌then◌else◌}
 use Rattle.std.specs.List.{All}
@@ -169,15 +169,16 @@ module _ (L : Layout) (leaves : ℕ → List ℕ) where
   length_told q inode is = ap (λ (x : Inode). x.length) (found_is_told q inode is) ∙ length_same inode.number
 
   -- an inode leaf that was found
-  pub located : (q : List ℕ) (inode : Inode) (store : Store) → store ≡ store_of L leaves → inode_with q (inodes_of L leaves) ≡ Some inode → Locates L leaves store q (Ok inode.number)
-  located q inode store is_store is = (
+  pub located : (q : List ℕ) (inode : Inode) → inode.number < L.leaves → inode_with q (inodes_of L leaves) ≡ Some inode → Locates L leaves (store_of L leaves) q (Ok inode.number)
+  located q inode below is = (
+    below,
     found_is_inode q inode is,
     sym (told_id inode.number) ∙ sym (ap (λ (x : Inode). x.id) (found_is_told q inode is)) ∙ found_id q inode is,
-    ap (λ s. object_at s q) is_store ∙ object_is q ∙ ap (option_map (λ (x : Inode). object_of L leaves x.number)) is,
+    object_is q ∙ ap (option_map (λ (x : Inode). object_of L leaves x.number)) is,
   )
 
-  pub located_none : (q : List ℕ) (store : Store) → store ≡ store_of L leaves → inode_with q (inodes_of L leaves) ≡ None → object_at store q ≡ None
-  located_none q store is_store is = ap (λ s. object_at s q) is_store ∙ object_is q ∙ ap (option_map (λ (x : Inode). object_of L leaves x.number)) is
+  pub located_none : (q : List ℕ) → inode_with q (inodes_of L leaves) ≡ None → object_at (store_of L leaves) q ≡ None
+  located_none q is = object_is q ∙ ap (option_map (λ (x : Inode). object_of L leaves x.number)) is
 
   -- the least of the identifiers greater than the last one, among inodes and in the store
   pub no_entries : finite.entries (finite.empty {X = Object} {R = by_bytes}) ≡ []

@@ -1,18 +1,19 @@
 -- A change of the objects as a change of leaves.
-use Rattle.std.specs.Prelude.{ℕ, ◌≡◌, ◌+◌, ◌-◌, ◌/◌, ◌≤◌, ◌==◌, min, List, Option, None, Some, Result, Ok, Err, IsTrue, if◌then◌else◌, length}
+use Rattle.std.specs.Prelude.{ℕ, ◌≡◌, ◌+◌, ◌-◌, ◌/◌, ◌≤◌, ◌==◌, min, List, Option, None, Some, Result, Ok, Err, IfOk, IsTrue, if◌then◌else◌, length}
 use Rattle.tee_base.specs.declared.limits.TheConstants.{BLOCK_BYTES}
 use Rattle.store_api.specs.declared.answer.StoreAnswer.{StoreAnswer}
 use Rattle.store_api.specs.declared.change.Change.{Change}
 use Rattle.store_api.specs.declared.change.Change.TheVariants.{Put, Delete, Rename, Write, Truncate}
 use Rattle.store_api.specs.declared.leaves.Leaf.{Leaf}
 use Rattle.store_api.specs.declared.object.Object.{Object}
+use Rattle.store_api.specs.Ascending.{is_above_all}
 use Rattle.store_api.specs.Keeping.{Answers}
 use Rattle.store_api.specs.Stores.{Store, object_at, change}
 use Rattle.store_api.specs.Volumes.{VolumeKeeper}
 use Rattle.region_plan.specs.Layout.{Layout}
 use Rattle.region_plan.specs.Plans.{with_leaves}
-use Rattle.region_plan.specs.Reading.{ReadsOnly, IfGarbled, refusal_of, leaves_of}
-use Rattle.region_plan.specs.Regions.{breaks, data_leaves, region_of}
+use Rattle.region_plan.specs.Reading.{ReadsOnly, IfAnswered, IfGarbled, IsBroken, IsSound, refusal_of, leaves_of}
+use Rattle.region_plan.specs.Regions.{data_leaves, region_of}
 
 -- how long a content is, if there is one
 abbrev pub content_length : Option Object → ℕ
@@ -46,7 +47,11 @@ Plans L leaves store c (Err refusal) = Answers {A = Store} (Err refusal) (change
 module _ {S : Type 0} (K : VolumeKeeper S) (region : S → ℕ) (L : Layout) where
   -- a call that plans a change, and changes nothing itself
   pub record PlansChange (c : Change) (result : Result (List Leaf) StoreAnswer) (old new : S) : Type 0 where
-    pub plans : K.honest old → (store : Store) → region_of L (leaves_of K region old) ≡ Ok store → Plans L (leaves_of K region old) store c result
+    -- an answer comes only of a map and inodes without damage that keep the rules, and is that of the leaves as they are found
+    pub sound : IsTrue K.tells_reads → IfAnswered (refusal_of result) (IsSound K region L old)
+    pub plans : IsTrue K.tells_reads → (store : Store) → region_of L (leaves_of K region old) ≡ Ok store → Plans L (leaves_of K region old) store c result
+    -- it names leaves of the region
+    pub named : IfOk result (λ named. IsTrue (is_above_all named L.leaves))
     -- a leaf that is told breaks a rule
-    pub garbled : K.honest old → IfGarbled (refusal_of result) (λ leaf. IsTrue (breaks L (leaves_of K region old) leaf))
+    pub garbled : IfGarbled (refusal_of result) (λ leaf. IsBroken K region L old leaf)
     pub reads : ReadsOnly K region (refusal_of result) old new

@@ -1,9 +1,10 @@
 -- Look-ups among the inodes of a region.
-use Rattle.std.specs.Prelude.{ℕ, ◌≡◌, Bool, true, not, ◌&&◌, List, [], ◌∷◌, map, length, Option, None, Some, if◌then◌else◌}
+use Rattle.std.specs.Prelude.{ℕ, ◌≡◌, ◌<◌, Bool, true, not, ◌&&◌, List, [], ◌∷◌, map, length, Option, None, Some, if◌then◌else◌}
 use Rattle.std.specs.List.{find, filter, range_with_len}
 use Rattle.std.specs.Ordering.{nat_cmp, is_lt}
 use Rattle.std.specs.Cmp.Lexicographic.{slice_cmp}
 use Rattle.std.specs.Str.{bytes_eq}
+use Rattle.tee_base.specs.declared.limits.TheConstants.{LEAVES}
 use Rattle.store_api.specs.Limits.{IsIdentifier, IsSecret}
 use Rattle.store_api.specs.Stores.{is_after}
 use Rattle.store_api.specs.declared.object.Facts.{Facts}
@@ -12,9 +13,9 @@ use Rattle.region_plan.specs.Entries.{is_inode}
 use Rattle.region_plan.specs.Inodes.{length_in, inode_of}
 use Rattle.region_plan.specs.declared.inode.Inode.{Inode}
 
--- the identifier and the secret of an inode are within their limits
+-- the identifier, the secret and the leaf of an inode are within their limits
 abbrev pub IsWithin : Inode → Type 0
-IsWithin inode = IsIdentifier inode.id × IsSecret inode.secret
+IsWithin inode = IsIdentifier inode.id × IsSecret inode.secret × (inode.number < LEAVES)
 
 -- the first inode of an identifier
 abbrev pub inode_with : List ℕ → List Inode → Option Inode

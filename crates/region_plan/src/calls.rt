@@ -33,7 +33,7 @@ fn facts_of(inode: &Inode) -> Facts
 }
 
 /// The inode leaf of the object of an identifier. `NotFound` exactly where there is no such object.
-pub fn locate<L: LeafSource>(alloc: Global, from: &mut L, id: &[u8]) -> Result<u8, StoreAnswer>
+pub fn locate<L: LeafSource>(alloc: Global, from: &mut L, id: &[u8]) -> Result<u16, StoreAnswer>
     requires { IsIdentifier id.now }
     ensures { LocatesInode L.keeper L.region version_one id.now result from.old from.new }
 {

@@ -15,7 +15,7 @@ use crate::inode::Inode;
 use tee_base::limits::{BLOCK_BYTES, LEAVES};
 
 /// Whether a leaf, if it is data of an inode, is the first at its index, before the end of the content.
-fn is_in_place(map: &[u8; BLOCK_BYTES], inode: u8, blocks: u32, leaf: usize) -> bool
+fn is_in_place(map: &[u8; BLOCK_BYTES], inode: u16, blocks: u32, leaf: usize) -> bool
     requires { leaf < 256 }
     ensures wrong { (leaves : ℕ → List ℕ) → leaves 0 ≡ map.now
         → blocks ≡ data_leaves (length_in (leaves inode))
@@ -37,7 +37,7 @@ fn is_in_place(map: &[u8; BLOCK_BYTES], inode: u8, blocks: u32, leaf: usize) -> 
 }
 
 /// Whether the data of an inode has no index twice, and none past the end.
-fn is_in_order(map: &[u8; BLOCK_BYTES], inode: u8, blocks: u32) -> bool
+fn is_in_order(map: &[u8; BLOCK_BYTES], inode: u16, blocks: u32) -> bool
     ensures wrong { (leaves : ℕ → List ℕ) → leaves 0 ≡ map.now
         → blocks ≡ data_leaves (length_in (leaves inode))
         → result ≡ false → holds_data version_one leaves inode ≡ false }
@@ -53,7 +53,7 @@ fn is_in_order(map: &[u8; BLOCK_BYTES], inode: u8, blocks: u32) -> bool
 }
 
 /// Whether the data of an inode lacks no index. As many indexes as a region has leaves, and one more, can't all be there.
-fn is_complete(map: &[u8; BLOCK_BYTES], inode: u8, blocks: u32) -> bool
+fn is_complete(map: &[u8; BLOCK_BYTES], inode: u16, blocks: u32) -> bool
     ensures wrong { (leaves : ℕ → List ℕ) → leaves 0 ≡ map.now
         → blocks ≡ data_leaves (length_in (leaves inode))
         → result ≡ false → holds_data version_one leaves inode ≡ false }

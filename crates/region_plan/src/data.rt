@@ -1,14 +1,15 @@
 //! The content of an object.
 
-ghost use Rattle.std.specs.Prelude.{◌≡◌, ◌≤◌, ◌<◌, ◌+◌, ◌-◌, ◌*◌, ◌/◌, ◌==◌, ◌&&◌, ◌++◌, ℕ, List, map as map_of, IfOk, OnOk, IsTrue, false, length as length_of, vec_len};
+ghost use Rattle.std.specs.Prelude.{◌≡◌, ◌≤◌, ◌<◌, ◌+◌, ◌-◌, ◌*◌, ◌/◌, ◌==◌, ◌&&◌, ◌++◌, ℕ, List, map as map_of, IfOk, IfSome, OnOk, IsTrue, false, length as length_of, vec_len, drop, take};
 ghost use Rattle.std.specs.List.{range_with_len};
 ghost use Rattle.store_api.specs.Limits.{IsIdentifier, IsPart};
 ghost use Rattle.store_api.specs.Stores.{read_at};
-ghost use Rattle.tee_base.specs.declared.limits.TheConstants.{MAX_ASK_BYTES};
+ghost use Rattle.tee_base.specs.declared.limits.TheConstants.{BLOCK_BYTES, MAX_ASK_BYTES, LEAVES};
 ghost use Rattle.region_plan.specs.Layout.{version_one};
 ghost use Rattle.region_plan.specs.Entries.{is_inode};
 ghost use Rattle.region_plan.specs.Inodes.{length_in};
-ghost use Rattle.region_plan.specs.Reading.{IfGarbled, IsUnread, ReadsOnly, ReadsRegion, leaves_of, refusal_of};
+ghost use Rattle.region_plan.specs.Parts.{are_zero};
+ghost use Rattle.region_plan.specs.Reading.{IfGarbled, IsReadData, IsReadPart, IsUnread, ReadsOnly, ReadsRegion, leaves_of, refusal_of};
 ghost use Rattle.region_plan.specs.Regions.{breaks, byte_at, leaf_of};
 ghost use Rattle.region_plan.specs.Tables.{IsInode};
 
@@ -22,46 +23,60 @@ use tee_base::Bytes;
 use tee_base::limits::{BLOCK_BYTES, LEAVES};
 
 /// Whether a leaf is the data of an inode at an index.
-fn is_data_at(entry: Entry, inode: u8, index: u32) -> bool
+fn is_data_at(entry: Entry, inode: u16, index: u32) -> bool
     ensures { result ≡ ((entry.kind == DATA) && (entry.inode == inode) && (entry.index == index)) }
 {
     entry.kind == DATA && entry.inode == u32::from(inode) && entry.index == index
 }
 
 /// The leaf that holds the data of an inode at an index.
-pub(crate) fn data_leaf(map: &[u8; BLOCK_BYTES], inode: u8, index: u32) -> Option<u8>
-    ensures { (leaves : ℕ → List ℕ) → leaves 0 ≡ map.now
+pub(crate) fn data_leaf(map: &[u8; BLOCK_BYTES], inode: u16, index: u32) -> Option<u16>
+    ensures leaf { (leaves : ℕ → List ℕ) → leaves 0 ≡ map.now
         → result ≡ leaf_of version_one leaves inode index }
+    ensures below { IfSome result (λ leaf. leaf < LEAVES) }
 {
     for leaf in 0..LEAVES {
         if is_data_at(entry_in(map, leaf), inode, index) {
-            return Some(leaf as u8);
+            return Some(leaf as u16);
         }
     }
     None
+}
+
+/// Whether a leaf has zeros behind so many bytes.
+fn is_zero_behind(block: &[u8; BLOCK_BYTES], used: usize) -> bool
+    ensures { result ≡ are_zero (drop used (take BLOCK_BYTES block.now)) }
+{
+    let from = used.min(BLOCK_BYTES);
+    all_zero(&block[from..])
 }
 
 /// Adds the bytes of a data leaf, from a place of the content up to an end within the leaf.
 fn read_part<L: LeafSource>(
     from: &mut L,
     map: &[u8; BLOCK_BYTES],
-    inode: u8,
+    inode: u16,
     length: u32,
     at: u32,
     end: u32,
     bytes: &mut Vec<u8>,
 ) -> Result<(), StoreAnswer>
     requires works { (L.keeper.condition from.old).lost ≡ false }
+    requires inode { inode < LEAVES }
     requires some { at < end }
     requires inside { end ≤ length }
     requires leaf { end ≤ 1024 * (at / 1024) + 1024 }
-    ensures bytes { L.keeper.honest from.old
+    ensures bytes { IsTrue L.keeper.tells_reads
         → IsInode version_one (leaves_of L.keeper L.region from.old) map.now inode length
         → OnOk result (bytes.new.items ≡ bytes.old.items
         ++ map_of (λ n. byte_at version_one (leaves_of L.keeper L.region from.old) inode n)
         (range_with_len at (end - at))) }
     ensures count { OnOk result (vec_len bytes.new ≡ vec_len bytes.old + (end - at)) }
-    ensures garbled { L.keeper.honest from.old
+    ensures found { IsTrue L.keeper.tells_reads
+        → IsInode version_one (leaves_of L.keeper L.region from.old) map.now inode length
+        → OnOk result (IsReadData L.keeper L.region version_one inode at end from.old) }
+    ensures few { IfGarbled (refusal_of result) (λ n. n < LEAVES) }
+    ensures garbled { IsTrue L.keeper.tells_reads
         → IsInode version_one (leaves_of L.keeper L.region from.old) map.now inode length
         → IfGarbled (refusal_of result)
         (λ n. IsTrue (breaks version_one (leaves_of L.keeper L.region from.old) n)) }
@@ -74,8 +89,7 @@ fn read_part<L: LeafSource>(
     };
     let mut block = [0; BLOCK_BYTES];
     read(from, leaf, &mut block)?;
-    let used = (length - 1024 * index) as usize;
-    if used < BLOCK_BYTES && !all_zero(&block[used..]) {
+    if !is_zero_behind(&block, (length - 1024 * index) as usize) {
         return Err(StoreAnswer::Garbled(leaf));
     }
     bytes.extend_from_slice(&block[(at - 1024 * index) as usize..(end - 1024 * index) as usize])?;
@@ -87,21 +101,26 @@ fn read_between<L: LeafSource>(
     alloc: Global,
     from: &mut L,
     map: &[u8; BLOCK_BYTES],
-    inode: u8,
+    inode: u16,
     length: u32,
     start: u32,
     end: u32,
 ) -> Result<Bytes, StoreAnswer>
     requires works { (L.keeper.condition from.old).lost ≡ false }
+    requires inode { inode < LEAVES }
     requires order { start ≤ end }
     requires inside { end ≤ length }
-    ensures bytes { L.keeper.honest from.old
+    ensures bytes { IsTrue L.keeper.tells_reads
         → IsInode version_one (leaves_of L.keeper L.region from.old) map.now inode length
         → IfOk result (λ bytes. bytes
         ≡ map_of (λ n. byte_at version_one (leaves_of L.keeper L.region from.old) inode n)
         (range_with_len start (end - start))) }
     ensures count { IfOk result (λ bytes. length_of bytes ≡ end - start) }
-    ensures garbled { L.keeper.honest from.old
+    ensures found { IsTrue L.keeper.tells_reads
+        → IsInode version_one (leaves_of L.keeper L.region from.old) map.now inode length
+        → IfOk result (λ bytes. IsReadData L.keeper L.region version_one inode start end from.old) }
+    ensures few { IfGarbled (refusal_of result) (λ n. n < LEAVES) }
+    ensures garbled { IsTrue L.keeper.tells_reads
         → IsInode version_one (leaves_of L.keeper L.region from.old) map.now inode length
         → IfGarbled (refusal_of result)
         (λ n. IsTrue (breaks version_one (leaves_of L.keeper L.region from.old) n)) }
@@ -129,8 +148,10 @@ pub fn content<L: LeafSource>(
 ) -> Result<Bytes, StoreAnswer>
     requires id { IsIdentifier id.now }
     requires count { count ≤ MAX_ASK_BYTES }
-    ensures { ReadsRegion L.keeper L.region version_one (λ store. read_at store id.now start count)
-        (IsPart count) result from.old from.new }
+    ensures reads { ReadsRegion L.keeper L.region version_one
+        (λ store. read_at store id.now start count) (IsPart count) result from.old from.new }
+    ensures found { IsTrue L.keeper.tells_reads → IfOk result
+        (λ bytes. IsReadPart L.keeper L.region version_one id.now start count from.old) }
 {
     let mut map = [0; BLOCK_BYTES];
     let inodes = load(alloc, from, &mut map)?;

@@ -1,7 +1,8 @@
 //! How the content of an object becomes another one, leaf by leaf.
 
-ghost use Rattle.std.specs.Prelude.{◌≡◌, ◌≤◌, ◌<◌, ◌+◌, ◌*◌, ℕ, false, not, is_some, IfOk};
+ghost use Rattle.std.specs.Prelude.{◌≡◌, ◌≤◌, ◌<◌, ◌+◌, ◌*◌, ℕ, false, not, is_some, IfOk, IsTrue};
 ghost use Rattle.std.specs.List.{slice_index};
+ghost use Rattle.tee_base.specs.declared.limits.TheConstants.{LEAVES};
 ghost use Rattle.region_plan.specs.Edits.{IsEditedLeaf, byte_after as byte_of, is_left, is_touched as touches};
 ghost use Rattle.region_plan.specs.Plans.{bytes_or};
 ghost use Rattle.region_plan.specs.Reading.{IfGarbled, IsUnread, ReadsOnly, leaves_of, refusal_of};
@@ -70,11 +71,12 @@ fn write_leaf(edit: Edit<'_>, index: u32, block: &mut [u8; BLOCK_BYTES])
 pub(crate) fn edited_leaf<L: LeafSource>(
     from: &mut L,
     edit: Edit<'_>,
-    leaf: u8,
+    leaf: u16,
     index: u32,
 ) -> Result<Option<[u8; BLOCK_BYTES]>, StoreAnswer>
-    requires { (L.keeper.condition from.old).lost ≡ false }
-    ensures edited { L.keeper.honest from.old → IfOk result (λ new. IsEditedLeaf edit.entry index
+    requires works { (L.keeper.condition from.old).lost ≡ false }
+    requires leaf { leaf < LEAVES }
+    ensures edited { IsTrue L.keeper.tells_reads → IfOk result (λ new. IsEditedLeaf edit.entry index
         (leaves_of L.keeper L.region from.old leaf)
         (bytes_or new (leaves_of L.keeper L.region from.old leaf))) }
     ensures told { IfOk result (λ new. is_some new ≡ not (is_left edit.entry index)) }

@@ -28,7 +28,7 @@ pub(crate) const REST_AT: usize = 208;
 #[derive(Debug, Drop)]
 pub(crate) struct Inode {
     /// The number of the leaf.
-    pub number: u8,
+    pub number: u16,
     pub kind: u32,
     pub usage: u32,
     /// Bytes of the content.
@@ -115,11 +115,12 @@ fn all_true(first: bool, second: bool, third: bool, fourth: bool) -> bool
 #[tactic(auto, unfolding(crate::specs::Inodes::is_inode_leaf, crate::specs::Inodes::inode_of, crate::specs::Inodes::length_in, crate::specs::Inodes::identifier_in, crate::specs::Inodes::secret_in))]
 pub(crate) fn inode_in(
     alloc: Global,
-    number: u8,
+    number: u16,
     leaf: &[u8; BLOCK_BYTES],
 ) -> Result<Inode, NoMemory>
     requires { IsTrue (follows_rules leaf.now) }
     ensures inode { IfOk result (λ inode. inode ≡ inode_of number leaf.now) }
+    ensures number { IfOk result (λ inode. inode.number ≡ number) }
     ensures id { IfOk result (λ inode. IsIdentifier inode.id) }
     ensures secret { IfOk result (λ inode. IsSecret inode.secret) }
 {

@@ -1,6 +1,7 @@
 //! Where the data of an object is placed: which leaves it gives up, and which free ones it takes.
 
 ghost use Rattle.std.specs.Prelude.{◌≡◌, ◌≤◌, ◌<◌, ◌+◌, ◌==◌, ◌&&◌, ℕ, true, false, not, min, None, IfSome};
+ghost use Rattle.tee_base.specs.declared.limits.TheConstants.{LEAVES};
 ghost use Rattle.region_plan.specs.Places.{entries_in, free_before, is_free as may_be_taken, is_of, placed as placed_at, placed_entry as placed_by};
 
 use crate::entry::{DATA, Entry, FREE, entry_in, set_entry};
@@ -21,14 +22,14 @@ fn is_free(entry: Entry, leaf: usize) -> bool
 }
 
 /// Whether an entry is of an inode's data.
-pub(crate) fn is_data_of(entry: Entry, inode: u8) -> bool
+pub(crate) fn is_data_of(entry: Entry, inode: u16) -> bool
     ensures { result ≡ is_of inode entry }
 {
     entry.kind == DATA && entry.inode == u32::from(inode)
 }
 
 /// An entry after an inode's data got so many leaves, where a free leaf is to have this index.
-fn placed_entry(free: bool, entry: Entry, inode: u8, index: u32, blocks: u32) -> Entry
+fn placed_entry(free: bool, entry: Entry, inode: u16, index: u32, blocks: u32) -> Entry
     ensures { result ≡ placed_by free entry inode index blocks }
 {
     if free && index < blocks {
@@ -47,10 +48,11 @@ fn placed_entry(free: bool, entry: Entry, inode: u8, index: u32, blocks: u32) ->
 /// The map after an inode's data got so many leaves, of which it has the first ones. None where there are too few free leaves.
 pub(crate) fn with_data(
     map: &[u8; BLOCK_BYTES],
-    inode: u8,
+    inode: u16,
     kept: u32,
     blocks: u32,
 ) -> Option<[u8; BLOCK_BYTES]>
+    requires inode { inode < LEAVES }
     requires kept { kept ≤ blocks }
     requires blocks { blocks < 256 }
     ensures map { IfSome result (λ after. (i : ℕ) → i < 256
@@ -76,14 +78,14 @@ pub(crate) fn with_data(
 }
 
 /// The first leaf that may be taken.
-pub(crate) fn first_free(map: &[u8; BLOCK_BYTES]) -> Option<u8>
+pub(crate) fn first_free(map: &[u8; BLOCK_BYTES]) -> Option<u16>
     ensures free { IfSome result (λ leaf.
-        (leaf < 256) × (may_be_taken (entries_in map.now) leaf ≡ true)) }
+        (leaf < LEAVES) × (may_be_taken (entries_in map.now) leaf ≡ true)) }
     ensures none { result ≡ None → free_before (entries_in map.now) 256 ≡ 0 }
 {
     for leaf in 0..LEAVES {
         if is_free(entry_in(map, leaf), leaf) {
-            return Some(leaf as u8);
+            return Some(leaf as u16);
         }
     }
     None

@@ -1,8 +1,9 @@
 //! A change of the objects as a change of leaves.
 
-ghost use Rattle.std.specs.Prelude.{◌≡◌, ◌≤◌, ◌<◌, ◌+◌, ℕ, List, true, false, is_some, IfOk, Ok, Err, length as length_of};
+ghost use Rattle.std.specs.Prelude.{◌≡◌, ◌≤◌, ◌<◌, ◌+◌, ℕ, List, true, false, is_some, IfOk, IsTrue, Ok, Err, length as length_of};
 ghost use Rattle.std.specs.List.{All};
-ghost use Rattle.tee_base.specs.declared.limits.TheConstants.{MAX_ASK_BYTES, MAX_POSITION};
+ghost use Rattle.tee_base.specs.declared.limits.TheConstants.{MAX_ASK_BYTES, MAX_POSITION, LEAVES};
+ghost use Rattle.store_api.specs.Ascending.{is_above_all};
 ghost use Rattle.store_api.specs.declared.answer.StoreAnswer.TheVariants.{NoSpace};
 ghost use Rattle.store_api.specs.declared.change.Change.TheVariants as changes;
 ghost use Rattle.store_api.specs.Limits.{IsChange, IsIdentifier, IsSecret};
@@ -37,13 +38,14 @@ fn changed_leaf<L: LeafSource>(
     from: &mut L,
     old: &[u8; BLOCK_BYTES],
     map: &[u8; BLOCK_BYTES],
-    inode: u8,
+    inode: u16,
     head: &Option<[u8; BLOCK_BYTES]>,
     edit: Edit<'_>,
-    leaf: u8,
+    leaf: u16,
 ) -> Result<Option<[u8; BLOCK_BYTES]>, StoreAnswer>
-    requires { (L.keeper.condition from.old).lost ≡ false }
-    ensures changed { L.keeper.honest from.old
+    requires works { (L.keeper.condition from.old).lost ≡ false }
+    requires leaf { leaf < LEAVES }
+    ensures changed { IsTrue L.keeper.tells_reads
         → leaves_of L.keeper L.region from.old 0 ≡ old.now → IfOk result
         (λ new. IsChangedLeaf (leaves_of L.keeper L.region from.old) map.now inode head.now
         edit.entry leaf (bytes_or new (leaves_of L.keeper L.region from.old leaf))) }
@@ -75,25 +77,26 @@ fn changed_leaves<L: LeafSource>(
     from: &mut L,
     old: &[u8; BLOCK_BYTES],
     map: &[u8; BLOCK_BYTES],
-    inode: u8,
+    inode: u16,
     head: &Option<[u8; BLOCK_BYTES]>,
     edit: Edit<'_>,
 ) -> Result<Leaves, StoreAnswer>
     requires { (L.keeper.condition from.old).lost ≡ false }
-    ensures each { L.keeper.honest from.old
+    ensures each { IsTrue L.keeper.tells_reads
         → leaves_of L.keeper L.region from.old 0 ≡ old.now → IfOk result
         (λ named. (i : ℕ) → i < 256 → IsChangedLeaf (leaves_of L.keeper L.region from.old)
         map.now inode head.now edit.entry i
         (with_leaves named (leaves_of L.keeper L.region from.old) i)) }
     ensures few { IfOk result
         (λ named. length_of named ≤ changing map.now inode edit.entry 256) }
+    ensures named { IfOk result (λ named. IsTrue (is_above_all named LEAVES)) }
     ensures garbled { IfGarbled (refusal_of result) (λ n. ⊥) }
     ensures unread { IsUnread (refusal_of result) }
     ensures reads { ReadsOnly L.keeper L.region (refusal_of result) from.old from.new }
 {
     let mut leaves = Leaves::none(alloc);
     for leaf in 0..LEAVES {
-        let number = leaf as u8;
+        let number = leaf as u16;
         if let Some(bytes) = changed_leaf(from, old, map, inode, head, edit, number)? {
             leaves.push(Leaf { number, bytes })?;
         }
@@ -107,17 +110,19 @@ fn plan_edit<L: LeafSource>(
     from: &mut L,
     map: &[u8; BLOCK_BYTES],
     base: &[u8; BLOCK_BYTES],
-    inode: u8,
+    inode: u16,
     head: &Option<[u8; BLOCK_BYTES]>,
     edit: Edit<'_>,
 ) -> Result<Leaves, StoreAnswer>
-    requires { (L.keeper.condition from.old).lost ≡ false }
-    ensures planned { L.keeper.honest from.old
+    requires works { (L.keeper.condition from.old).lost ≡ false }
+    requires inode { inode < LEAVES }
+    ensures planned { IsTrue L.keeper.tells_reads
         → leaves_of L.keeper L.region from.old 0 ≡ map.now → IfOk result
         (λ named. IsPlanned (leaves_of L.keeper L.region from.old) base.now inode head.now
         edit.entry named) }
     ensures space { result ≡ Err NoSpace → LacksSpace base.now edit.entry }
     ensures refused { IsUnreadOrFull (refusal_of result) }
+    ensures named { IfOk result (λ named. IsTrue (is_above_all named LEAVES)) }
     ensures garbled { IfGarbled (refusal_of result) (λ n. ⊥) }
     ensures reads { ReadsOnly L.keeper L.region (refusal_of result) from.old from.new }
 {
@@ -142,12 +147,13 @@ fn plan_content<L: LeafSource>(
 ) -> Result<Leaves, StoreAnswer>
     requires works { (L.keeper.condition from.old).lost ≡ false }
     requires within { IsWithin inode.now }
-    ensures planned { L.keeper.honest from.old
+    ensures planned { IsTrue L.keeper.tells_reads
         → leaves_of L.keeper L.region from.old 0 ≡ map.now → IfOk result
         (λ named. IsContentPlan (leaves_of L.keeper L.region from.old) map.now inode.now edit.entry
         named) }
     ensures space { result ≡ Err NoSpace → LacksSpace map.now edit.entry }
     ensures refused { IsUnreadOrFull (refusal_of result) }
+    ensures named { IfOk result (λ named. IsTrue (is_above_all named LEAVES)) }
     ensures garbled { IfGarbled (refusal_of result) (λ n. ⊥) }
     ensures reads { ReadsOnly L.keeper L.region (refusal_of result) from.old from.new }
 {
@@ -170,12 +176,13 @@ fn plan_new<L: LeafSource>(
     requires works { (L.keeper.condition from.old).lost ≡ false }
     requires id { IsIdentifier head.id.now }
     requires secret { IsSecret head.secret.now }
-    ensures planned { L.keeper.honest from.old
+    ensures planned { IsTrue L.keeper.tells_reads
         → leaves_of L.keeper L.region from.old 0 ≡ map.now → IfOk result
         (λ named. IsNewPlan (leaves_of L.keeper L.region from.old) map.now head.entry edit.entry
         named) }
     ensures space { result ≡ Err NoSpace → LacksNew map.now edit.entry }
     ensures refused { IsUnreadOrFull (refusal_of result) }
+    ensures named { IfOk result (λ named. IsTrue (is_above_all named LEAVES)) }
     ensures garbled { IfGarbled (refusal_of result) (λ n. ⊥) }
     ensures reads { ReadsOnly L.keeper L.region (refusal_of result) from.old from.new }
 {
@@ -208,12 +215,13 @@ fn plan_put<L: LeafSource>(
     requires id { IsIdentifier head.id.now }
     requires secret { IsSecret head.secret.now }
     requires content { length_of content.now ≤ MAX_ASK_BYTES }
-    ensures plans { L.keeper.honest from.old → leaves_of L.keeper L.region from.old 0 ≡ map.now
+    ensures plans { IsTrue L.keeper.tells_reads → leaves_of L.keeper L.region from.old 0 ≡ map.now
         → inodes.now ≡ inodes_of version_one (leaves_of L.keeper L.region from.old)
         → (store : Store) → region_of version_one (leaves_of L.keeper L.region from.old) ≡ Ok store
         → Plans version_one (leaves_of L.keeper L.region from.old) store
         (changes.Put head.entry.id.now head.entry.kind head.entry.usage head.entry.secret.now
         content.now overwrite) result }
+    ensures named { IfOk result (λ named. IsTrue (is_above_all named LEAVES)) }
     ensures garbled { IfGarbled (refusal_of result) (λ n. ⊥) }
     ensures reads { ReadsOnly L.keeper L.region (refusal_of result) from.old from.new }
 {
@@ -252,6 +260,7 @@ fn plan_delete(
         → inodes.now ≡ inodes_of version_one leaves → (store : Store)
         → region_of version_one leaves ≡ Ok store
         → Plans version_one leaves store (changes.Delete id.now) result }
+    ensures named { IfOk result (λ named. IsTrue (is_above_all named LEAVES)) }
     ensures decided { IsDecided (refusal_of result) }
 {
     let Some(inode) = find(inodes, id) else {
@@ -273,6 +282,7 @@ fn plan_rename(alloc: Global, inodes: &[Inode], id: &[u8], to: &[u8]) -> Result<
     ensures plans { (leaves : ℕ → List ℕ) → inodes.now ≡ inodes_of version_one leaves
         → (store : Store) → region_of version_one leaves ≡ Ok store
         → Plans version_one leaves store (changes.Rename id.now to.now) result }
+    ensures named { IfOk result (λ named. IsTrue (is_above_all named LEAVES)) }
     ensures decided { IsDecided (refusal_of result) }
 {
     let Some(inode) = find(inodes, id) else {
@@ -306,11 +316,12 @@ fn plan_write<L: LeafSource>(
     requires works { (L.keeper.condition from.old).lost ≡ false }
     requires within { All IsWithin inodes.now }
     requires bytes { at + length_of bytes.now ≤ MAX_POSITION }
-    ensures plans { L.keeper.honest from.old → leaves_of L.keeper L.region from.old 0 ≡ map.now
+    ensures plans { IsTrue L.keeper.tells_reads → leaves_of L.keeper L.region from.old 0 ≡ map.now
         → inodes.now ≡ inodes_of version_one (leaves_of L.keeper L.region from.old)
         → (store : Store) → region_of version_one (leaves_of L.keeper L.region from.old) ≡ Ok store
         → Plans version_one (leaves_of L.keeper L.region from.old) store
         (changes.Write id.now at bytes.now) result }
+    ensures named { IfOk result (λ named. IsTrue (is_above_all named LEAVES)) }
     ensures garbled { IfGarbled (refusal_of result) (λ n. ⊥) }
     ensures reads { ReadsOnly L.keeper L.region (refusal_of result) from.old from.new }
 {
@@ -341,11 +352,12 @@ fn plan_truncate<L: LeafSource>(
 ) -> Result<Leaves, StoreAnswer>
     requires works { (L.keeper.condition from.old).lost ≡ false }
     requires within { All IsWithin inodes.now }
-    ensures plans { L.keeper.honest from.old → leaves_of L.keeper L.region from.old 0 ≡ map.now
+    ensures plans { IsTrue L.keeper.tells_reads → leaves_of L.keeper L.region from.old 0 ≡ map.now
         → inodes.now ≡ inodes_of version_one (leaves_of L.keeper L.region from.old)
         → (store : Store) → region_of version_one (leaves_of L.keeper L.region from.old) ≡ Ok store
         → Plans version_one (leaves_of L.keeper L.region from.old) store
         (changes.Truncate id.now length) result }
+    ensures named { IfOk result (λ named. IsTrue (is_above_all named LEAVES)) }
     ensures garbled { IfGarbled (refusal_of result) (λ n. ⊥) }
     ensures reads { ReadsOnly L.keeper L.region (refusal_of result) from.old from.new }
 {

@@ -12,18 +12,21 @@ pub struct Counted<L> {
 }
 
 /// Counts a read of a leaf.
-fn count(reads: &mut [u8; LEAVES], number: u8) {
-    let before = reads[number as usize];
-    reads[number as usize] = before.saturating_add(1);
+fn count(reads: &mut [u8; LEAVES], number: usize) {
+    if number < LEAVES {
+        reads[number] = reads[number].saturating_add(1);
+    }
 }
 
 impl<L: LeafSource> LeafSource for Counted<L> {
     ghost keeper = { record {
       tells_reads = L.keeper.tells_reads;
+      leaves = L.keeper.leaves;
       held = λ c. L.keeper.held c.source;
       condition = λ c. L.keeper.condition c.source;
       honest_below = λ c. L.keeper.honest_below c.source;
       honest = λ c. L.keeper.honest c.source;
+      text = λ c. L.keeper.text c.source;
       damage = λ c. L.keeper.damage c.source;
       moment = λ c. L.keeper.moment c.source;
       left_since = λ c. L.keeper.left_since c.source;
@@ -31,10 +34,18 @@ impl<L: LeafSource> LeafSource for Counted<L> {
 
     ghost region = { λ c. L.region c.source };
 
+    ghost whole = { L.whole };
+
     ghost rests = { λ c honest works. record { only = (L.rests c.source honest works).only } };
 
-    fn leaf(&mut self, number: u8, into: &mut [u8; BLOCK_BYTES]) -> Result<(), LeafAnswer> {
-        count(&mut self.reads, number);
+    ghost sound = { λ c honest works leaf below. L.sound c.source honest works leaf below };
+
+    ghost found = { λ c honest works leaf below. L.found c.source honest works leaf below };
+
+    ghost honest_tells = { λ c honest. L.honest_tells c.source honest };
+
+    fn leaf(&mut self, number: u16, into: &mut [u8; BLOCK_BYTES]) -> Result<(), LeafAnswer> {
+        count(&mut self.reads, number as usize);
         self.source.leaf(number, into)
     }
 

@@ -1,5 +1,7 @@
 //! The leaves of a region in memory.
-ghost use Rattle.std.specs.Prelude.{◌≡◌, [], None, Some, true, slice_index_or, vec_len};
+ghost use Rattle.std.specs.Prelude.{◌≡◌, [], None, Some, true, refl, slice_index_or, vec_len};
+ghost use Rattle.std.proofs.Common.{arith};
+ghost use Rattle.tee_base.specs.declared.limits.TheConstants.{LEAVES};
 ghost use Rattle.store_api.specs.Foundations.{no_foundation};
 
 use region_plan::LeafSource;
@@ -18,20 +20,30 @@ pub struct Memory {
 impl LeafSource for Memory {
     ghost keeper = { record {
       tells_reads = true;
-      held = λ m. record { leaves = λ r l. slice_index_or m.leaves.items l []; sequence = 0 };
-      condition = λ m. record { lost = m.lost; faults = 0; foundation = no_foundation };
+      leaves = LEAVES;
+      held = λ m. record { leaves = λ r l. slice_index_or m.leaves.items l []; sequence = 0; version = 0 };
+      condition = λ m. record { lost = m.lost; faults = 0; writes = 0; foundation = no_foundation };
       honest_below = λ m. Unit {0};
       honest = λ m. Unit {0};
+      text = λ m r l. slice_index_or m.leaves.items l [];
       damage = λ m r l. None;
       moment = λ m. 0;
-      left_since = λ m t o. o ≡ Some (record { leaves = λ r l. slice_index_or m.leaves.items l []; sequence = 0 });
+      left_since = λ m t o. o ≡ Some (record { leaves = λ r l. slice_index_or m.leaves.items l []; sequence = 0; version = 0 });
     } };
 
     ghost region = { λ m. 0 };
 
+    ghost whole = { Prim.omega arith };
+
     ghost rests = { λ m h works. record { only = λ o left. left } };
 
-    fn leaf(&mut self, number: u8, into: &mut [u8; BLOCK_BYTES]) -> Result<(), LeafAnswer> {
+    ghost sound = { λ m h works leaf below. refl };
+
+    ghost found = { λ m h works leaf below. refl };
+
+    ghost honest_tells = { λ m h. refl };
+
+    fn leaf(&mut self, number: u16, into: &mut [u8; BLOCK_BYTES]) -> Result<(), LeafAnswer> {
         if self.lost {
             return Err(LeafAnswer::Lost);
         }
@@ -75,7 +87,9 @@ pub fn set(memory: &mut Memory, bytes: &[Byte]) {
 /// Writes leaves, as a commit does.
 pub fn commit(memory: &mut Memory, leaves: &Leaves) {
     for leaf in leaves.as_slice() {
-        memory.leaves[leaf.number as usize] = leaf.bytes;
+        if usize::from(leaf.number) < LEAVES {
+            memory.leaves[leaf.number as usize] = leaf.bytes;
+        }
     }
 }
 

@@ -13,7 +13,7 @@ use tee_base::limits::LEAVES;
 #[derive(Clone, Copy)]
 enum Row {
     /// The object `a` has its inode in this leaf, or isn't found so.
-    Leaf(Result<u8, StoreAnswer>),
+    Leaf(Result<u16, StoreAnswer>),
     /// The object `a` has these facts.
     Facts(Facts),
     /// The object `a` has this secret.

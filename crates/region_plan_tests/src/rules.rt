@@ -8,7 +8,7 @@ use store_api::StoreAnswer;
 use tee_base::NoMemory;
 
 /// Bytes that break a rule, and the leaf that breaks it.
-type Row = (&'static [Byte], u8);
+type Row = (&'static [Byte], u16);
 
 // Entry 0 is zero. A kind is below 3. A free entry has zeros behind it. An inode names itself, and has index 0; data that names it
 // isn't told. Data names an inode.

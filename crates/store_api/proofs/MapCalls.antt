@@ -47,6 +47,18 @@ own_cause (Err (Corrupt tags)) old new h e f = absurd h
 own_cause (Err (Garbled leaf)) old new h e f = absurd h
 own_cause (Err NoMemory) old new h e f = (e, f)
 
+-- what holds anyway holds unless the call failed
+pub unless_failed : {A : Type 0} (result : Result A StoreAnswer) (fact : Type 0) → fact → UnlessFailed result fact
+unless_failed (Ok a) fact holds = holds
+unless_failed (Err NotFound) fact holds = holds
+unless_failed (Err Exists) fact holds = holds
+unless_failed (Err NoSpace) fact holds = holds
+unless_failed (Err Lost) fact holds = holds
+unless_failed (Err Failed) fact holds = tt
+unless_failed (Err (Corrupt tags)) fact holds = holds
+unless_failed (Err (Garbled leaf)) fact holds = holds
+unless_failed (Err NoMemory) fact holds = holds
+
 -- a call after which the store and its past are as before
 module _ (old new : MapState) (store : new.store ≡ old.store) (past : new.past ≡ old.past) where
   same_contents : contents_of new ≡ contents_of old
@@ -83,12 +95,13 @@ module _ (old new : MapState) (store : new.store ≡ old.store) (past : new.past
 module _ {A : Type 0} (result : Result A StoreAnswer) (tried : ℕ) (old new : MapState) (limits : IsWithinLimits old.store) (store : new.store ≡ old.store)
     (past : new.past ≡ old.past) (intact : IsIntact result) where
   -- what every call promises
-  unchanged_call : Cause result (status_of old) (status_of new) → old.plan.faults ≤ new.plan.faults → new.change_attempts ≡ old.change_attempts + tried → IsCall map_keeper tried result old new
-  unchanged_call cause later attempts = record {
+  unchanged_call : Cause result (status_of old) (status_of new) → old.plan.faults ≤ new.plan.faults → UnlessFailed result (new.plan.faults ≡ old.plan.faults)
+      → new.change_attempts ≡ old.change_attempts + tried → IsCall map_keeper tried result old new
+  unchanged_call cause later unfailed attempts = record {
     model = λ _. tt;
     still = λ _ _. same_contents old new store past;
     limits = λ _. (limits, subst IsWithinLimits (sym store) limits);
-    cause = record { cause = cause; later = later; foundation = refl; reports = omega (arith, intact_reports result intact) };
+    cause = record { cause = cause; later = later; unfailed = unfailed; foundation = refl; reports = omega (arith, intact_reports result intact) };
     attempts = attempts;
     damage = intact;
     below = λ _. tt;
@@ -116,12 +129,12 @@ module _ {A : Type 0} (stated : Store → Result A StoreAnswer) (Bounds : A → 
       let is = begun.2 in
       reads_by (Err Failed) (ap (λ (s : MapState). s.store) is) (ap (λ (s : MapState). s.past) is) tt tt
       (unchanged_call (Err Failed) 0 old new limits (ap (λ (s : MapState). s.store) is) (ap (λ (s : MapState). s.past) is) tt
-      (begun.0, ap (λ (s : MapState). s.lost) is, rose refl) later (omega (arith, ap (λ (s : MapState). s.change_attempts) is)))
+      (begun.0, ap (λ (s : MapState). s.lost) is, rose refl) later tt (omega (arith, ap (λ (s : MapState). s.change_attempts) is)))
   kept_back Lost begun later rose =
       let is = begun.1 in
       reads_by (Err Lost) (ap (λ (s : MapState). s.store) is) (ap (λ (s : MapState). s.past) is) tt tt
       (unchanged_call (Err Lost) 0 old new limits (ap (λ (s : MapState). s.store) is) (ap (λ (s : MapState). s.past) is) tt
-      (begun.0, ap (λ (s : MapState). s.lost) is ∙ begun.0) later (omega (arith, ap (λ (s : MapState). s.change_attempts) is)))
+      (begun.0, ap (λ (s : MapState). s.lost) is ∙ begun.0) later (ap (λ (s : MapState). s.plan.faults) is) (omega (arith, ap (λ (s : MapState). s.change_attempts) is)))
   kept_back NotFound begun later rose = absurd begun
   kept_back Exists begun later rose = absurd begun
   kept_back NoSpace begun later rose = absurd begun
@@ -138,7 +151,8 @@ module _ {A : Type 0} (stated : Store → Result A StoreAnswer) (Bounds : A → 
       let past : new.past ≡ old.past = ap (λ (s : MapState). s.past) is in
       reads_by result store past (subst (λ m. Answers result (stated m)) store answer) bounds
       (unchanged_call result 0 old new limits store past (own_intact result own)
-      (own_cause result old new own begun.0 (ap (λ (s : MapState). s.lost) is ∙ begun.0)) later (omega (arith, ap (λ (s : MapState). s.change_attempts) is)))
+      (own_cause result old new own begun.0 (ap (λ (s : MapState). s.lost) is ∙ begun.0)) later
+      (unless_failed result (new.plan.faults ≡ old.plan.faults) (ap (λ (s : MapState). s.plan.faults) is)) (omega (arith, ap (λ (s : MapState). s.change_attempts) is)))
 
 -- a change that was not made leaves the same as was kept before
 left_refused : (e : StoreAnswer) (old : Contents) (stated : Result Store StoreAnswer) (o : Remains) → o ≡ Some old → LeftByChange {A = Unit {0}} (Err e) old stated o
@@ -150,16 +164,6 @@ left_refused Failed old stated o is = inl is
 left_refused (Corrupt tags) old stated o is = is
 left_refused (Garbled leaf) old stated o is = is
 left_refused NoMemory old stated o is = is
-
-unless_failed : (e : StoreAnswer) (fact : Type 0) → fact → UnlessFailed {A = Unit {0}} (Err e) fact
-unless_failed NotFound fact holds = holds
-unless_failed Exists fact holds = holds
-unless_failed NoSpace fact holds = holds
-unless_failed Lost fact holds = holds
-unless_failed Failed fact holds = tt
-unless_failed (Corrupt tags) fact holds = holds
-unless_failed (Garbled leaf) fact holds = holds
-unless_failed NoMemory fact holds = holds
 
 module _ (c : Change) (old new : MapState) (limits : IsWithinLimits old.store) where
   -- a change that was not made
@@ -173,7 +177,7 @@ module _ (c : Change) (old new : MapState) (limits : IsWithinLimits old.store) w
         crash = λ _ just. let left = crash_leaves old new store past just in record {
           any_moment = weaker moment_of left_of old new (λ o. o ≡ Some (contents_of old)) (LeftByChange {A = Unit {0}} (Err e) (contents_of old) (change old.store c))
               (λ o is. left_refused e (contents_of old) (change old.store c) o is) left.any_moment;
-          afterwards = unless_failed e _ (subst (λ k. LeavesJust map_keeper new k) (sym same) left.afterwards);
+          afterwards = unless_failed {A = Unit {0}} (Err e) _ (subst (λ k. LeavesJust map_keeper new k) (sym same) left.afterwards);
         };
       }
 
@@ -184,13 +188,14 @@ module _ (c : Change) (old new : MapState) (limits : IsWithinLimits old.store) w
       let is = begun.2 in
       let store : new.store ≡ old.store = ap (λ (s : MapState). s.store) is in
       let past : new.past ≡ old.past = ap (λ (s : MapState). s.past) is in
-      refused_by Failed store past tt (unchanged_call (Err Failed) 1 old new limits store past tt (begun.0, ap (λ (s : MapState). s.lost) is, rose refl) later
+      refused_by Failed store past tt (unchanged_call (Err Failed) 1 old new limits store past tt (begun.0, ap (λ (s : MapState). s.lost) is, rose refl) later tt
       (ap (λ (s : MapState). s.change_attempts) is))
   change_kept_back Lost begun later rose =
       let is = begun.1 in
       let store : new.store ≡ old.store = ap (λ (s : MapState). s.store) is in
       let past : new.past ≡ old.past = ap (λ (s : MapState). s.past) is in
-      refused_by Lost store past tt (unchanged_call (Err Lost) 1 old new limits store past tt (begun.0, ap (λ (s : MapState). s.lost) is ∙ begun.0) later (ap (λ (s : MapState). s.change_attempts) is))
+      refused_by Lost store past tt (unchanged_call (Err Lost) 1 old new limits store past tt (begun.0, ap (λ (s : MapState). s.lost) is ∙ begun.0) later
+      (ap (λ (s : MapState). s.plan.faults) is) (ap (λ (s : MapState). s.change_attempts) is))
   change_kept_back NotFound begun later rose = absurd begun
   change_kept_back Exists begun later rose = absurd begun
   change_kept_back NoSpace begun later rose = absurd begun
@@ -200,20 +205,23 @@ module _ (c : Change) (old new : MapState) (limits : IsWithinLimits old.store) w
 
   -- one that is refused
   pub change_refused : (e : StoreAnswer) → Changes {A = Unit {0}} (Err e) (change old.store c) old.store new.store → new.past ≡ old.past → old.lost ≡ false → new.lost ≡ false →
-      old.plan.faults ≤ new.plan.faults → new.change_attempts ≡ old.change_attempts + 1 → Applies map_keeper {A = Unit {0}} c (Err e) old new
-  change_refused NotFound made past works still later attempts = refused_by NotFound made.1 past made.0 (unchanged_call (Err NotFound) 1 old new limits made.1 past tt (works, still) later attempts)
-  change_refused Exists made past works still later attempts = refused_by Exists made.1 past made.0 (unchanged_call (Err Exists) 1 old new limits made.1 past tt (works, still) later attempts)
-  change_refused NoSpace made past works still later attempts = refused_by NoSpace made.1 past made.0 (unchanged_call (Err NoSpace) 1 old new limits made.1 past tt (works, still) later attempts)
-  change_refused NoMemory made past works still later attempts = refused_by NoMemory made past tt (unchanged_call (Err NoMemory) 1 old new limits made past tt (works, still) later attempts)
-  change_refused Lost made past works still later attempts = absurd made
-  change_refused Failed made past works still later attempts = absurd made
-  change_refused (Corrupt tags) made past works still later attempts = absurd made
-  change_refused (Garbled leaf) made past works still later attempts = absurd made
+      old.plan.faults ≤ new.plan.faults → new.plan.faults ≡ old.plan.faults → new.change_attempts ≡ old.change_attempts + 1 → Applies map_keeper {A = Unit {0}} c (Err e) old new
+  change_refused NotFound made past works still later same attempts =
+      refused_by NotFound made.1 past made.0 (unchanged_call (Err NotFound) 1 old new limits made.1 past tt (works, still) later same attempts)
+  change_refused Exists made past works still later same attempts =
+      refused_by Exists made.1 past made.0 (unchanged_call (Err Exists) 1 old new limits made.1 past tt (works, still) later same attempts)
+  change_refused NoSpace made past works still later same attempts =
+      refused_by NoSpace made.1 past made.0 (unchanged_call (Err NoSpace) 1 old new limits made.1 past tt (works, still) later same attempts)
+  change_refused NoMemory made past works still later same attempts = refused_by NoMemory made past tt (unchanged_call (Err NoMemory) 1 old new limits made past tt (works, still) later same attempts)
+  change_refused Lost made past works still later same attempts = absurd made
+  change_refused Failed made past works still later same attempts = absurd made
+  change_refused (Corrupt tags) made past works still later same attempts = absurd made
+  change_refused (Garbled leaf) made past works still later same attempts = absurd made
 
   -- one that is made
   pub change_made : IsChange c → change old.store c ≡ Ok new.store → new.past ≡ old.store ∷ old.past → old.lost ≡ false → new.lost ≡ false → old.plan.faults ≤ new.plan.faults →
-      new.change_attempts ≡ old.change_attempts + 1 → Applies map_keeper {A = Unit {0}} c (Ok tt) old new
-  change_made is made past works still later attempts =
+      new.plan.faults ≡ old.plan.faults → new.change_attempts ≡ old.change_attempts + 1 → Applies map_keeper {A = Unit {0}} c (Ok tt) old new
+  change_made is made past works still later same attempts =
       let longer = ap length past in
       record {
         applied = λ _. (made, refl, omega (arith, longer));
@@ -221,7 +229,7 @@ module _ (c : Change) (old new : MapState) (limits : IsWithinLimits old.store) w
           model = λ _. tt;
           still = λ _ lost. absurd (let yes_lost : true ≡ false = sym lost ∙ still in cc);
           limits = λ _. (limits, subst (λ (r : Result Store StoreAnswer). IfOk r (λ after. IsWithinLimits after)) made (keeps_limits old.store c limits is));
-          cause = record { cause = (works, still); later = later; foundation = refl; reports = omega arith };
+          cause = record { cause = (works, still); later = later; unfailed = same; foundation = refl; reports = omega arith };
           attempts = attempts;
           damage = tt;
           below = λ _. tt;
@@ -245,6 +253,6 @@ module _ (c : Change) (old new : MapState) (limits : IsWithinLimits old.store) w
   change_kept_back_as result e is begun later rose = rw is (change_kept_back c old new limits e begun later rose)
 
   pub change_refused_as : (result : Result (Unit {0}) StoreAnswer) (e : StoreAnswer) → result ≡ Err e → Changes {A = Unit {0}} (Err e) (change old.store c) old.store new.store →
-      new.past ≡ old.past → old.lost ≡ false → new.lost ≡ false → old.plan.faults ≤ new.plan.faults → new.change_attempts ≡ old.change_attempts + 1 →
-      Applies map_keeper c result old new
-  change_refused_as result e is made past works still later attempts = rw is (change_refused c old new limits e made past works still later attempts)
+      new.past ≡ old.past → old.lost ≡ false → new.lost ≡ false → old.plan.faults ≤ new.plan.faults → new.plan.faults ≡ old.plan.faults
+      → new.change_attempts ≡ old.change_attempts + 1 → Applies map_keeper c result old new
+  change_refused_as result e is made past works still later same attempts = rw is (change_refused c old new limits e made past works still later same attempts)

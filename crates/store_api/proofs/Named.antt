@@ -13,6 +13,7 @@ use Rattle.std.specs.Ordering.{match_ordering}
 use Rattle.std.specs.Map.{lookup, remove_entry}
 use Rattle.std.specs.FinMap as finite
 use Rattle.std.specs.FinMap.Entries as at_keys
+use Rattle.tee_base.specs.declared.limits.TheConstants.{MAX_CONTENT_BYTES}
 use Rattle.store_api.specs.declared.object.Object.{Object}
 use Rattle.store_api.specs.Stores.{Store, object_at, cost, quota, blocks_for}
 use Rattle.store_api.specs.Objects.{named, store_of, AreKept}
@@ -90,7 +91,7 @@ pub secret_short : (m : Store) (id : List ℕ) (r : Option (Bor Object)) → IsW
 secret_short m id None limits is = tt
 secret_short m id (Some o) limits is = limits.secrets id o.now (sym is)
 
-pub content_short : (m : Store) (id : List ℕ) (r : Option (Bor Object)) → IsWithinLimits m → option_copied r ≡ object_at m id → IfSome r (λ o. length o.now.content ≤ 260096)
+pub content_short : (m : Store) (id : List ℕ) (r : Option (Bor Object)) → IsWithinLimits m → option_copied r ≡ object_at m id → IfSome r (λ o. length o.now.content ≤ MAX_CONTENT_BYTES)
 content_short m id None limits is = tt
 content_short m id (Some o) limits is = let most : blocks o.now ≤ cost m = blocks_at_most m id o.now (sym is) in omega (arith, most, limits.paid)
 
@@ -221,7 +222,7 @@ met_secret m p (Some entry) limits is =
     limits.secrets e.0 e.1 (finite.get-entries m e.0 ∙ found_there p (finite.entries m) e (finite.entries_sorted m) (sym is))
 
 pub met_content : (m : Store) (p : List ℕ → Bool) (r : Option (Bor (Vec ℕ) × Bor Object)) → IsWithinLimits m →
-    option_map {U = List ℕ × Object} (λ entry. (entry.0.now.items, entry.1.now)) r ≡ find (λ e. p e.0) (finite.entries m) → IfSome r (λ entry. length entry.1.now.content ≤ 260096)
+    option_map {U = List ℕ × Object} (λ entry. (entry.0.now.items, entry.1.now)) r ≡ find (λ e. p e.0) (finite.entries m) → IfSome r (λ entry. length entry.1.now.content ≤ MAX_CONTENT_BYTES)
 met_content m p None limits is = tt
 met_content m p (Some entry) limits is =
     let e : List ℕ × Object = (entry.0.now.items, entry.1.now) in

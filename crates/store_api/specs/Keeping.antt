@@ -39,10 +39,17 @@ Cause (Err Failed) old new = (old.lost ≡ false) × (new.lost ≡ true) × Rose
 Cause (Err (Corrupt tags)) old new = (old.lost ≡ false) × (new.lost ≡ false) × (tags.found ≢ tags.kept)
 Cause _ old new = (old.lost ≡ false) × (new.lost ≡ false)
 
+-- a fact that holds unless the call failed
+abbrev pub UnlessFailed : {A : Type 0} → Result A StoreAnswer → Type 0 → Type 0
+UnlessFailed (Err Failed) fact = Unit {0}
+UnlessFailed _ fact = fact
+
 -- the counts of faults and of damage go with the answer, and the keeper stands where it stood, with no order made
 pub record HasCause {A : Type 0} (result : Result A StoreAnswer) (old new : Status) : Type 0 where
   pub cause : Cause result old new
   pub later : old.faults ≤ new.faults
+  -- nothing fails in a call that has another answer
+  pub unfailed : UnlessFailed result (new.faults ≡ old.faults)
   pub foundation : new.foundation ≡ old.foundation
   pub reports : new.damage_reports ≡ old.damage_reports + damage_in result
 
@@ -90,11 +97,6 @@ abbrev pub LeftByChange : {A : Type 0} → Result A StoreAnswer → Contents →
 LeftByChange (Ok done) old stated o = IsBeforeOrAfter old stated o
 LeftByChange (Err Failed) old stated o = IsBeforeOrAfter old stated o
 LeftByChange _ old stated o = o ≡ Some old
-
--- a fact that holds unless the call failed
-abbrev pub UnlessFailed : {A : Type 0} → Result A StoreAnswer → Type 0 → Type 0
-UnlessFailed (Err Failed) fact = Unit {0}
-UnlessFailed _ fact = fact
 
 -- what contracts see of a keeper
 pub record Keeper (D : Type 0) : Type 1 where

@@ -7,29 +7,36 @@ use Rattle.store_api.specs.declared.leaves.Leaf.{Leaf}
 use Rattle.store_api.specs.declared.leaves.LeafAnswer.{LeafAnswer}
 use Rattle.store_api.specs.declared.leaves.LeafAnswer.TheVariants as answers
 use Rattle.store_api.specs.Foundations.{Foundation}
-use Rattle.tee_base.specs.declared.limits.TheConstants.{LEAVES}
 
--- what a volume holds: the bytes of each leaf by region and leaf number, and the sequence of the last acknowledged commit
+-- what a volume holds: the bytes of each leaf by region and leaf number, the sequence of the last acknowledged commit, and the version
+-- of the format, which says what the leaves of a region stand for
 pub record Held : Type 0 where
   pub leaves : ℕ → ℕ → List ℕ
   pub sequence : ℕ
+  pub version : ℕ
 
--- what is known of a volume whatever it stands on: whether it is lost, how often what it stands on failed, and that thing
+-- what is known of a volume whatever it stands on: whether it is lost, how often what it stands on failed, how many writes were made to
+-- that, both as far as their type goes, and that thing
 pub record Condition : Type 0 where
   pub lost : Bool
   pub faults : ℕ
+  pub writes : ℕ
   pub foundation : Foundation
 
 -- what contracts see of a volume
 pub record VolumeKeeper (V : Type 0) : Type 1 where
   -- what reads of it give is known
   pub tells_reads : Bool
+  -- how many leaves a region has
+  pub leaves : ℕ
   pub held : V → Held
   pub condition : V → Condition
   -- what it stands on keeps to its rules
   pub honest_below : V → Type 0
   -- so it does, and what is kept there is well formed
   pub honest : V → Type 0
+  -- a leaf as what is found on the way to it decrypts it, by region and leaf number
+  pub text : V → ℕ → ℕ → List ℕ
   -- the first two tags that differ on the way to a leaf, by region and leaf number
   pub damage : V → ℕ → ℕ → Option Mismatch
   -- a clock that never falls
@@ -44,10 +51,17 @@ LeafCause (Err answers.Failed) old new = (old.lost ≡ false) × (new.lost ≡ t
 LeafCause (Err (answers.Mismatch tags)) old new = (old.lost ≡ false) × (new.lost ≡ false) × (tags.found ≢ tags.kept)
 LeafCause _ old new = (old.lost ≡ false) × (new.lost ≡ false)
 
+-- a fact that holds unless the call failed
+abbrev pub UnlessFailed : {A : Type 0} → Result A LeafAnswer → Type 0 → Type 0
+UnlessFailed (Err answers.Failed) fact = Unit {0}
+UnlessFailed _ fact = fact
+
 -- the count of faults doesn't fall, and the volume stands where it stood, with no order made
 pub record HasLeafCause {A : Type 0} (result : Result A LeafAnswer) (old new : Condition) : Type 0 where
   pub cause : LeafCause result old new
   pub later : old.faults ≤ new.faults
+  -- nothing fails in a call that has another answer
+  pub unfailed : UnlessFailed result (new.faults ≡ old.faults)
   pub foundation : new.foundation ≡ old.foundation
 
 -- an answer of damage, if it is one, is of tags that meet this
@@ -74,9 +88,9 @@ leaf_after (leaf ∷ leaves) number old = if leaf.number == number then leaf.byt
 abbrev pub replaced : ℕ → List Leaf → (ℕ → ℕ → List ℕ) → ℕ → ℕ → List ℕ
 replaced region named leaves r l = if r == region then leaf_after named l (leaves r l) else leaves r l
 
--- what a volume holds after a commit
+-- what a volume holds after a commit: the version stays
 abbrev pub after_commit : ℕ → List Leaf → Held → Held
-after_commit region named held = record { leaves = replaced region named held.leaves; sequence = held.sequence + 1 }
+after_commit region named held = record { leaves = replaced region named held.leaves; sequence = held.sequence + 1; version = held.version }
 
 -- what a commit answers and leaves
 abbrev pub Commits : Result ℕ LeafAnswer → ℕ → List Leaf → Held → Held → Type 0
@@ -87,6 +101,12 @@ Commits (Err answer) region named old new = new ≡ old
 abbrev pub IsNumbered : Result ℕ LeafAnswer → ℕ → ℕ → Type 0
 IsNumbered (Ok sequence) old new = (sequence ≡ old + 1) × (new ≡ old + 1)
 IsNumbered (Err answer) old new = new ≡ old
+
+-- a fact that holds where a commit is refused before it writes anything
+abbrev pub IfUnwritten : Result ℕ LeafAnswer → Type 0 → Type 0
+IfUnwritten (Ok sequence) fact = Unit {0}
+IfUnwritten (Err answers.Failed) fact = Unit {0}
+IfUnwritten (Err _) fact = fact
 
 -- what a crash within a commit may leave, or after it failed
 abbrev pub LeftByCommit : Result ℕ LeafAnswer → Held → Held → Option Held → Type 0
@@ -115,10 +135,13 @@ module _ {V : Type 0} (K : VolumeKeeper V) where
 
   -- a leaf is read into these bytes
   pub record ReadsLeaf {A : Type 0} (region number : ℕ) (bytes : List ℕ) (result : Result A LeafAnswer) (old new : V) : Type 0 where
-    pub leaf : K.honest old → OnOk result (bytes ≡ (K.held old).leaves region number)
+    -- the leaf is what is found, and what is found stays
+    pub leaf : IsTrue K.tells_reads → OnOk result (bytes ≡ K.text old region number)
+    pub text : IsTrue K.tells_reads → K.text new ≡ K.text old
     pub same : K.honest old → K.held new ≡ K.held old
     pub sequence : (K.held new).sequence ≡ (K.held old).sequence
-    -- Mismatch comes exactly where tags on the way to the leaf differ, with the first two
+    pub writes : (K.condition new).writes ≡ (K.condition old).writes
+    -- Mismatch comes exactly where tags on the way to the leaf differ, with the first two, which differ afterwards too
     pub shows : IsTrue K.tells_reads → ShowsLeaf result (K.damage old region number)
     pub damage : IsTrue K.tells_reads → K.damage new ≡ K.damage old
     pub call : IsVolumeCall result old new
@@ -129,8 +152,10 @@ module _ {V : Type 0} (K : VolumeKeeper V) where
   pub record CommitsLeaves (region : ℕ) (named : List Leaf) (result : Result ℕ LeafAnswer) (old new : V) : Type 0 where
     pub committed : K.honest old → Commits result region named (K.held old) (K.held new)
     pub sequence : IsNumbered result (K.held old).sequence (K.held new).sequence
+    -- Mismatch and want of memory come before anything is written
+    pub unwritten : IfUnwritten result ((K.condition new).writes ≡ (K.condition old).writes)
     -- Mismatch tells of the damage of some leaf of the region
-    pub shows : IsTrue K.tells_reads → IfMismatch result (λ tags. (number : ℕ) × (number < LEAVES) × (K.damage new region number ≡ Some tags))
+    pub shows : IsTrue K.tells_reads → IfMismatch result (λ tags. (number : ℕ) × (number < K.leaves) × (K.damage new region number ≡ Some tags))
     pub call : IsVolumeCall result old new
     -- a crash leaves what was held before, or that with the leaves replaced
     pub crash : K.honest old → (K.condition old).lost ≡ false → LeavesOnly K.moment K.left_since old new (LeftByCommit result (K.held old) (after_commit region named (K.held old)))

@@ -34,7 +34,7 @@ pub enum StoreAnswer {
     Corrupt(Mismatch),
     /// This leaf breaks a rule of the format.
     #[error("leaf {0} of the store is not well formed")]
-    Garbled(u8),
+    Garbled(u16),
     /// There was no memory.
     #[error("out of memory")]
     NoMemory,

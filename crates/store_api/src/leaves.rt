@@ -54,7 +54,7 @@ impl From<LeafAnswer> for StoreAnswer {
 /// A leaf of a region: its number, and its bytes.
 #[derive(Clone, Copy, Debug)]
 pub struct Leaf {
-    pub number: u8,
+    pub number: u16,
     pub bytes: [u8; BLOCK_BYTES],
 }
 

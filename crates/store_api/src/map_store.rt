@@ -5,7 +5,7 @@ ghost use Rattle.store_api.specs.Keeping.{Answers, Reads, Applies, IsIntact};
 ghost use Rattle.store_api.specs.Limits.{IsIdentifier, IsChange, AreFacts, IsSecret, IsPart, IsListed};
 ghost use Rattle.store_api.specs.Stores.{found, secret_at, read_at, next_after};
 ghost use Rattle.store_api.specs.MapStores.{map_keeper, plan_after, FailsAsPlanned, IsOwn};
-ghost use Rattle.store_api.specs.Moments.{since_earlier};
+ghost use Rattle.store_api.specs.Moments.{left_now, since_earlier};
 ghost use Rattle.store_api.specs.declared.answer.StoreAnswer.TheVariants.{Failed};
 ghost use Rattle.tee_base.specs.Faults.{Rose};
 ghost use Rattle.tee_base.specs.declared.limits.TheConstants.{MAX_ASK_BYTES};
@@ -211,6 +211,8 @@ impl AppStore for MapStore {
     ghost honest_model = { λ _ _. tt };
 
     ghost since_earlier = { λ s t u o le left. since_earlier s t u o le left };
+
+    ghost left_now = { λ s h works. left_now s };
 
     /// Besides, no answer tells of damage, it fails exactly at the calls that it was told, and each call counts once. So do
     /// the others.

@@ -1,7 +1,9 @@
 //! Persistent objects, and what is told of one (TEE Internal Core API 1.3, chapter 5).
 
 ghost use Rattle.std.specs.Prelude.{◌≡◌, ◌≤◌, IfOk, length};
+ghost use Rattle.store_api.specs.Limits.{IsSecret};
 ghost use Rattle.store_api.specs.Stores.{facts_of};
+ghost use Rattle.tee_base.specs.declared.limits.TheConstants.{MAX_CONTENT_BYTES};
 
 use std::alloc::Global;
 use tee_base::{Bytes, NoMemory};
@@ -22,8 +24,8 @@ pub struct Object {
 impl Object {
     /// What is told of it.
     pub fn facts(&self) -> Facts
-        requires secret { length self.now.secret ≤ 128 }
-        requires content { length self.now.content ≤ 260096 }
+        requires secret { IsSecret self.now.secret }
+        requires content { length self.now.content ≤ MAX_CONTENT_BYTES }
         ensures { result ≡ facts_of self.now }
     {
         Facts {

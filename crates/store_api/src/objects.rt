@@ -7,6 +7,7 @@ ghost use Rattle.store_api.specs.declared.change.Change.TheVariants.{Put, Delete
 ghost use Rattle.store_api.specs.Limits.{IsIdentifier, IsChange, IsSecret, IsWithinLimits};
 ghost use Rattle.store_api.specs.Objects.{Changes, blocks_at};
 ghost use Rattle.store_api.specs.Stores.{empty_store, object_at, blocks_for, cost, quota, resized, written as written_of, is_after as is_after_of, change as change_of};
+ghost use Rattle.tee_base.specs.declared.limits.TheConstants.{MAX_CONTENT_BYTES};
 
 use crate::answer::StoreAnswer;
 use crate::change::Change;
@@ -129,7 +130,7 @@ impl Objects {
     pub fn find(&self, id: &[u8]) -> Option<&Object>
         ensures object { option_copied result ≡ object_at self.now id.now }
         ensures secret { IfSome result (λ o. IsSecret o.now.secret) }
-        ensures content { IfSome result (λ o. length o.now.content ≤ 260096) }
+        ensures content { IfSome result (λ o. length o.now.content ≤ MAX_CONTENT_BYTES) }
     {
         self.map.get(id)
     }
@@ -184,7 +185,8 @@ impl Objects {
             (finite.entries self.now) }
         ensures identifier { IfSome result (λ entry. IsIdentifier entry.0.now.items) }
         ensures secret { IfSome result (λ entry. IsSecret entry.1.now.secret) }
-        ensures content { IfSome result (λ entry. length entry.1.now.content ≤ 260096) }
+        ensures content { IfSome result
+            (λ entry. length entry.1.now.content ≤ MAX_CONTENT_BYTES) }
     {
         first_after(&self.map, last)
     }

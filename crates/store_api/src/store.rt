@@ -1,6 +1,6 @@
 //! What keeps the objects of one application.
 
-ghost use Rattle.std.specs.Prelude.{◌≡◌, ◌≤◌, ℕ, length, option_copied};
+ghost use Rattle.std.specs.Prelude.{◌≡◌, ◌≤◌, ℕ, Some, false, length, option_copied};
 ghost use Rattle.store_api.specs.Keeping.{Keeper, Remains, Reads, Applies};
 ghost use Rattle.store_api.specs.Limits.{IsIdentifier, IsChange, AreFacts, IsSecret, IsPart, IsListed};
 ghost use Rattle.store_api.specs.Stores.{found, secret_at, read_at, next_after};
@@ -55,4 +55,8 @@ pub trait AppStore {
 
     /// What a crash since a later moment may have left, it may have left since an earlier one.
     ghost since_earlier: { (s : Self) (t u : ℕ) (o : Remains) → t ≤ u → keeper.left_since s u o → keeper.left_since s t o };
+
+    /// What an honest store that isn't lost keeps is among what a crash now may leave.
+    ghost left_now: { (s : Self) → keeper.honest s → (keeper.status s).lost ≡ false
+        → keeper.left_since s (keeper.moment s) (Some (keeper.contents s)) };
 }

@@ -10,7 +10,7 @@ pub returns-in_err-shut-clause-crash : goal.returns-in_err-shut-clause-crash
 returns-in_err-shut-clause-crash g c h before e mounted fits =
     let begun = stages.begins g.C.Change.form (g.C.Change.fits c.args.change.now) (g.B.Board.view c.args.board.now) (g.C.Change.root c.args.change.now) before c.other_slot-slot.result c.args.sequence
     g.met.C.Change.framed (g.met.C.Change.still_fits c.args.change.now) c.other_slot-slot.ensures.slot c.requires.sequence e mounted fits in
-    stages.crash_shut begun (next_held (g.C.Change.after c.args.change.now before.leaves) before.sequence) (g.B.Board.view c.shut.new.board) (c.in_err-shut.ensures.run h)
+    stages.crash_shut begun (next_held g.C.Change.form (g.C.Change.after c.args.change.now before.leaves) before.sequence) (g.B.Board.view c.shut.new.board) (c.in_err-shut.ensures.run h)
 
 pub returns-in_err-shut-clause-kept : goal.returns-in_err-shut-clause-kept
 returns-in_err-shut-clause-kept g c h before e mounted fits =
@@ -31,7 +31,7 @@ returns-in_err-root-clause-crash g c h before e mounted fits =
     let hon1 = c.in_ok-shut.ensures.honest h in
     let shut = stages.is_shut begun (g.B.Board.view c.shut.new.board) c.in_ok-shut.ensures.calls.key (c.in_ok-shut.ensures.run h) (c.in_ok-shut.ensures.shut h) in
     let wrote = stages.write_run shut (g.B.Board.view c.write.new.board) (c.in_err-root.ensures.run hon1) in
-    stages.crash_spare shut (next_held (g.C.Change.after c.args.change.now before.leaves) before.sequence) (g.B.Board.view c.write.new.board) wrote
+    stages.crash_spare shut (next_held g.C.Change.form (g.C.Change.after c.args.change.now before.leaves) before.sequence) (g.B.Board.view c.write.new.board) wrote
 
 pub returns-in_err-root-clause-kept : goal.returns-in_err-root-clause-kept
 returns-in_err-root-clause-kept g c h before e mounted fits =
@@ -60,7 +60,7 @@ returns-in_err-lay-clause-crash g c h before e mounted fits =
     let shut = stages.is_shut begun (g.B.Board.view c.shut.new.board) c.in_ok-shut.ensures.calls.key (c.in_ok-shut.ensures.run h) (c.in_ok-shut.ensures.shut h) in
     let wrote = stages.write_run shut (g.B.Board.view c.write.new.board) (c.in_ok-root.ensures.run hon1) in
     let laid = stages.lay_run shut (g.B.Board.view c.write.new.board) (g.B.Board.view c.lay.new.board) _ (sym c.other_slot-slot.ensures.slot) wrote (c.in_err-lay.ensures.run hon2) in
-    stages.crash_spare shut (next_held (g.C.Change.after c.args.change.now before.leaves) before.sequence) (g.B.Board.view c.lay.new.board) laid
+    stages.crash_spare shut (next_held g.C.Change.form (g.C.Change.after c.args.change.now before.leaves) before.sequence) (g.B.Board.view c.lay.new.board) laid
 
 pub returns-in_err-lay-clause-kept : goal.returns-in_err-lay-clause-kept
 returns-in_err-lay-clause-kept g c h before e mounted fits =

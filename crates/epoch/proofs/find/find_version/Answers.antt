@@ -1,13 +1,13 @@
-use Rattle.epoch.proofs.CallLemmas.{run_more, run_none, run_so_far}
+use Rattle.epoch.proofs.CallLemmas.{run_as, run_failed, run_more, run_none}
 use Rattle.epoch.proofs.PastLemmas.{itself, followed}
-use Rattle.std.proofs.Common.{◌≡◌, ◌≢◌, ◌≤◌, ◌∙◌, ℕ, List, false, Some, None, Ok, Err, refl, sym, subst, arith, true}
+use Rattle.std.proofs.Common.{◌≡◌, ◌≢◌, ◌≤◌, ◌∙◌, ℕ, List, false, Some, None, Ok, Err, refl, sym, subst, arith, rules, true}
 use Rattle.std.proofs.lemmas.Bool.{ltb-false}
 use Rattle.seal.specs.Keys.{AreKeysOf}
 use Rattle.epoch.specs.Opening.{header_answer}
 use Rattle.epoch.specs.declared.answer.OpenAnswer.TheVariants.{Failed}
 use Rattle.epoch.specs.declared.find.TheConstants.{VOLUME_BLOCKS}
 use Rattle.epoch.proofs.RuleLemmas.{asked}
-use Rattle.epoch.proofs.FindLemmas.{blank_counter, settled_answer, told_counter, find_starts, find_crash, opens_below, judged_opening, ruled_answer, between}
+use Rattle.epoch.proofs.FindLemmas.{blank_counter, settled_answer, told_counter, find_starts, find_crash, opens_below, judged_opening, judged_so, ruled_answer, between}
 use Rattle.epoch.proofs.find.find_version.Goals as goal
 use Rattle.epoch.proofs.find.find_version.Goals.{in-Err, in-Ok-None, in-Ok-Some}
 
@@ -118,13 +118,14 @@ pub returns-then-blocks-lt-VOLUME_BLOCKS-clause-calls : goal.returns-then-blocks
 returns-then-blocks-lt-VOLUME_BLOCKS-clause-calls g c = run_none _
 
 pub returns-in_err-seen-clause-calls : goal.returns-in_err-seen-clause-calls
-returns-in_err-seen-clause-calls g c = run_so_far _ _ _ c.in_err-seen.ensures.calls
+returns-in_err-seen-clause-calls g c = run_failed c.from_residual.result _ _ (search rules) c.in_err-seen.ensures.calls
 
 pub returns-clause-calls : goal.returns-clause-calls
 returns-clause-calls g c =
     let one = c.in_ok-seen.ensures.calls in
     elim c.match-judge.branch [
-      | in-Err w ↦ rw w.board-is one
-      | in-Ok-None w ↦ rw w.board-is one
-      | in-Ok-Some w ↦ rw w.board-is (run_more true _ _ _ one w.raise.ensures.calls)
+      | in-Err w ↦
+          rw (w.result-is, w.board-is) (run_as _ _ _ _ (judged_so c.args.version c.in_ok-seen.seen.first c.in_ok-seen.seen.second c.in_ok-seen.seen.counter w.in-Err.answer (sym c.judge.ensures ∙ w.in-Err.is)) one)
+      | in-Ok-None w ↦ rw (w.result-is, w.board-is) one
+      | in-Ok-Some w ↦ rw (w.result-is, w.board-is) (run_more _ _ _ _ one w.raise.ensures.calls)
     ]

@@ -1,5 +1,5 @@
 use Rattle.std.proofs.Common.{refl, rules, true, false}
-use Rattle.epoch.proofs.CallLemmas.{run_none, run_once, run_so_far}
+use Rattle.epoch.proofs.CallLemmas.{run_failed, run_none, run_once}
 use Rattle.epoch.proofs.PastLemmas.{itself, once}
 use Rattle.epoch.proofs.find.raise.Goals as goal
 
@@ -16,7 +16,7 @@ pub returns-then-counter-header-clause-counter : goal.returns-then-counter-heade
 returns-then-counter-header-clause-counter g c = search rules
 
 pub returns-in_err-_raised-clause-calls : goal.returns-in_err-_raised-clause-calls
-returns-in_err-_raised-clause-calls g c = run_so_far _ _ _ (run_once false _ _ c.in_err-_raised.ensures.call)
+returns-in_err-_raised-clause-calls g c = run_failed c.from_residual.result _ _ (search rules) (run_once false _ _ c.in_err-_raised.ensures.call)
 
 pub returns-in_err-_raised-clause-cause : goal.returns-in_err-_raised-clause-cause
 returns-in_err-_raised-clause-cause g c failed = c.in_err-_raised.ensures.call.cause refl

@@ -1,6 +1,7 @@
-use Rattle.std.proofs.Common.{◌≡◌, arith}
+use Rattle.std.proofs.Common.{◌≡◌, ◌∙◌, arith}
 use Rattle.epoch.proofs.MountLemmas.{after_power, power_sound, ruled_so}
 use Rattle.epoch.proofs.SettledLemmas.{settled_on, settled_power}
+use Rattle.epoch.proofs.PastLemmas.{followed, passed}
 use Rattle.epoch.proofs.mounting.mount_after_power.Goals as goal
 
 pub returns-clause-exact : goal.returns-clause-exact
@@ -31,3 +32,28 @@ returns-clause-settled g c h =
     let v = g.B.Board.view c.args.board.now in
     let mid = (g.B.Board.view c.power.new.self).state in
     settled_on v.state mid (g.B.Board.view c.mount_again.new.board).state (settled_power v mid (g.met.B.Board.consistent c.args.board.now h) step.2) (c.mount_again.ensures.settled step.0)
+
+pub returns-clause-begins : goal.returns-clause-begins
+returns-clause-begins g c h =
+    let step = c.power.ensures.honest h in
+    record {
+      between = g.B.Board.view c.power.new.self;
+      time = step.1;
+      powered = step.2;
+      reads = c.mount_again.ensures.reads step.0;
+      behind = (c.mount_again.ensures.past step.0).behind;
+    }
+
+pub returns-clause-writes : goal.returns-clause-writes
+returns-clause-writes g c = c.mount_again.ensures.writes ∙ c.power.ensures.ordered.writes
+
+pub returns-clause-fuse : goal.returns-clause-fuse
+returns-clause-fuse g c = c.mount_again.ensures.calls.unset c.power.ensures.fuse
+
+pub returns-clause-steady : goal.returns-clause-steady
+returns-clause-steady g c made = c.mount_again.ensures.calls.steady made ∙ c.power.ensures.ordered.faults
+
+pub returns-clause-past : goal.returns-clause-past
+returns-clause-past g c h =
+    let step = c.power.ensures.honest h in
+    followed _ _ _ (passed _ _ step.1) (c.mount_again.ensures.past step.0)

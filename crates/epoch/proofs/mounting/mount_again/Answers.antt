@@ -1,7 +1,8 @@
 use Rattle.std.proofs.Common.{refl, arith, rules, true, false}
-use Rattle.epoch.proofs.CallLemmas.{run_more, run_once, run_so_far}
+use Rattle.epoch.proofs.CallLemmas.{run_failed, run_more, run_once}
 use Rattle.epoch.proofs.MountLemmas.{again_failed, again_found, ruled_so, stopped}
 use Rattle.epoch.proofs.SettledLemmas.{settled_on, settled_sync}
+use Rattle.epoch.proofs.PastLemmas.{followed, once}
 use Rattle.epoch.proofs.mounting.mount_again.Goals as goal
 
 pub returns-in_err-sync-clause-again : goal.returns-in_err-sync-clause-again
@@ -44,7 +45,15 @@ returns-clause-settled g c h =
     settled_on v mid (g.B.Board.view c.mount.new.board).state (settled_sync _ v mid step.2) (c.mount.ensures.settled step.0)
 
 pub returns-in_err-sync-clause-calls : goal.returns-in_err-sync-clause-calls
-returns-in_err-sync-clause-calls g c = run_so_far _ _ _ (run_once false _ _ c.in_err-sync.ensures.call)
+returns-in_err-sync-clause-calls g c = run_failed c.from_residual.result _ _ (search rules) (run_once false _ _ c.in_err-sync.ensures.call)
 
 pub returns-clause-calls : goal.returns-clause-calls
-returns-clause-calls g c = run_more true _ _ _ (run_once true _ _ c.in_ok-sync.ensures.call) c.mount.ensures.calls
+returns-clause-calls g c = run_more _ _ _ _ (run_once true _ _ c.in_ok-sync.ensures.call) c.mount.ensures.calls
+
+pub returns-in_err-sync-clause-past : goal.returns-in_err-sync-clause-past
+returns-in_err-sync-clause-past g c h = once _ _ (c.in_err-sync.ensures.honest h).1
+
+pub returns-clause-past : goal.returns-clause-past
+returns-clause-past g c h =
+    let step = c.in_ok-sync.ensures.honest h in
+    followed _ _ _ (once _ _ step.1) (c.mount.ensures.past step.0)

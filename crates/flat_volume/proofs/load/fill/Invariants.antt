@@ -2,7 +2,7 @@ use Rattle.std.proofs.Common.{◌≡◌, ◌<◌, ◌+◌, ◌*◌, ℕ, true, I
 use Rattle.board.specs.Steps.{CallRun}
 use Rattle.epoch.specs.Parts.{part}
 use Rattle.flat_volume.specs.Flat.{block_at}
-use Rattle.flat_volume.specs.Reading.{OnlyReads}
+use Rattle.epoch.specs.Reading.{OnlyReads}
 use Rattle.flat_volume.proofs.load.fill.Given as goal
 
 -- the blocks so far are those that reads give

@@ -1,6 +1,6 @@
-use Rattle.std.proofs.Common.{◌≡◌, ◌∙◌, ℕ, List, IfOk, sym, subst, refl}
+use Rattle.std.proofs.Common.{◌≡◌, ◌∙◌, ℕ, List, IfOk, sym, subst, refl, rules, true}
 use Rattle.store_api.specs.Volumes.{ShowsLeaf}
-use Rattle.epoch.proofs.CallLemmas.{run_none, run_so_far}
+use Rattle.epoch.proofs.CallLemmas.{run_as, run_none}
 use Rattle.flat_volume.specs.Flat.{table_damage}
 use Rattle.flat_volume.specs.Frame.{zero_in, zero_root}
 use Rattle.flat_volume.proofs.ReadLemmas.{table_read}
@@ -26,7 +26,7 @@ returns-in-Ok-clause-damage g c tells key keyed =
     subst (λ (bytes : List ℕ). ShowsLeaf c.verified.result (table_damage key bytes c.args.root.now)) read (c.verified.ensures.damage key keyed)
 
 pub returns-in_err-table-clause-calls : goal.returns-in_err-table-clause-calls
-returns-in_err-table-clause-calls g c = run_none _
+returns-in_err-table-clause-calls g c = run_as true _ _ _ (search rules) (run_none _)
 
 pub returns-then-root-eq0-clause-calls : goal.returns-then-root-eq0-clause-calls
 returns-then-root-eq0-clause-calls g c = run_none _
@@ -35,7 +35,10 @@ pub returns-in-Ok-clause-cause : goal.returns-in-Ok-clause-cause
 returns-in-Ok-clause-cause g c failed = absurd (c.verified.ensures.failed failed)
 
 pub returns-in-Err-clause-calls : goal.returns-in-Err-clause-calls
-returns-in-Err-clause-calls g c = run_so_far _ _ _ c.in-Err.ensures.calls
+returns-in-Err-clause-calls g c = c.in-Err.ensures.calls
 
 pub returns-in-Err-clause-cause : goal.returns-in-Err-clause-cause
 returns-in-Err-clause-cause g c failed = c.in-Err.ensures.calls.cause refl
+
+pub returns-in-Ok-clause-calls : goal.returns-in-Ok-clause-calls
+returns-in-Ok-clause-calls g c = run_as _ _ _ _ c.verified.ensures.made c.in-Ok.ensures.calls

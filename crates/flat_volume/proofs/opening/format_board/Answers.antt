@@ -1,6 +1,6 @@
-use Rattle.std.proofs.Common.{◌∙◌, ℕ, List, IfErr, refl, sym, subst, rules}
+use Rattle.std.proofs.Common.{◌∙◌, ℕ, List, IfErr, refl, sym, subst, rules, true}
 use Rattle.seal.specs.Keys.{AreKeysOf}
-use Rattle.epoch.proofs.CallLemmas.{run_none, run_so_far}
+use Rattle.epoch.proofs.CallLemmas.{run_as, run_failed, run_none}
 use Rattle.epoch.specs.Mounts.{IsKeptFromOpening}
 use Rattle.flat_volume.specs.declared.write.TheConstants.{NO_ROOT}
 use Rattle.flat_volume.proofs.OpenLemmas.{blank_stands, blank_undamaged, checked_under, format_done, format_failed, opens_without}
@@ -15,7 +15,7 @@ pub returns-in_err-root-clause-opens : goal.returns-in_err-root-clause-opens
 returns-in_err-root-clause-opens g c honest h mounts =
     let keys : AreKeysOf c.of-keys.result (g.B.Board.view c.args.board.now).key = subst (λ (k : List ℕ). AreKeysOf c.of-keys.result k) c.key.ensures c.of-keys.ensures in
     let kept : IfErr c.from_residual-in_err-root.result (λ why. IsKeptFromOpening why) = search rules in
-    format_failed (g.B.Board.view c.args.board.now) (g.B.Board.view c.commit.new.board) c.from_residual-in_err-root.result h mounts.0 c.from_residual-in_err-root.ensures.0 kept
+    format_failed (g.B.Board.view c.args.board.now) (g.B.Board.view c.commit.new.board) c.from_residual-in_err-root.result h mounts.0 (mounts.1 NO_ROOT refl).version c.from_residual-in_err-root.ensures.0 kept
     (c.in_err-root.ensures.crash honest h mounts.0 (mounts.1 NO_ROOT refl) (record { keyed = keys; stands = c.in_ok-blank_table.ensures.table ∙ sym (blank_stands _ NO_ROOT refl) }))
 
 pub returns-clause-verified : goal.returns-clause-verified
@@ -31,14 +31,14 @@ returns-clause-opens g c honest h mounts =
     let mounted = mounts.1 NO_ROOT refl in
     let stands = c.in_ok-blank_table.ensures.table ∙ sym (blank_stands v.state.reads NO_ROOT refl) in
     let done = c.in_ok-root.ensures.done honest h mounts.0 mounted (record { keyed = keys; stands = stands }) in
-    format_done v (g.B.Board.view c.commit.new.board) c.in_ok-root.root c.commit.new.change.root _ c.commit.new.change.table h mounts.0 c.in_ok-root.ensures.calls.key c.in_ok-root.ensures.root
+    format_done v (g.B.Board.view c.commit.new.board) c.in_ok-root.root c.commit.new.change.root _ c.commit.new.change.table h mounts.0 mounted.version c.in_ok-root.ensures.calls.key c.in_ok-root.ensures.root
     (c.in_ok-root.ensures.crash honest h mounts.0 mounted (record { keyed = keys; stands = stands })) done.0 done.1
 
 pub returns-in_err-blank_table-clause-calls : goal.returns-in_err-blank_table-clause-calls
-returns-in_err-blank_table-clause-calls g c = run_none _
+returns-in_err-blank_table-clause-calls g c = run_as true _ _ _ (search rules) (run_none _)
 
 pub returns-in_err-root-clause-calls : goal.returns-in_err-root-clause-calls
-returns-in_err-root-clause-calls g c = run_so_far _ _ _ c.in_err-root.ensures.calls
+returns-in_err-root-clause-calls g c = run_failed c.from_residual-in_err-root.result _ _ (search rules) c.in_err-root.ensures.calls
 
 pub returns-in_err-root-clause-cause : goal.returns-in_err-root-clause-cause
 returns-in_err-root-clause-cause g c failed = c.in_err-root.ensures.calls.cause refl

@@ -1,9 +1,17 @@
 use Rattle.epoch.proofs.CallLemmas.{run_none}
-use Rattle.flat_volume.proofs.OpenLemmas.{if_found, opens_found, opens_none}
+use Rattle.flat_volume.proofs.OpenLemmas.{opens_found, opens_none, takes_header, takes_none}
+use Rattle.epoch.proofs.PastLemmas.{itself}
 use Rattle.flat_volume.proofs.opening.take_up.Goals as goal
 
-pub returns-in-Some-clause-sequence : goal.returns-in-Some-clause-sequence
-returns-in-Some-clause-sequence g c = if_found c.args.found c.opened_at.result.sequence c.opened_at.ensures.sequence
+pub returns-in-Some-clause-taken : goal.returns-in-Some-clause-taken
+returns-in-Some-clause-taken g c =
+    takes_header c.args.found c.in-Some.field-0 c.opened_at.result 1 c.in-Some.is c.opened_at.ensures.root c.opened_at.ensures.sequence
+
+pub returns-in-None-clause-taken : goal.returns-in-None-clause-taken
+returns-in-None-clause-taken g c = takes_none c.args.found c.format_board.result 1 c.in-None.is c.format_board.ensures.formatted
+
+pub returns-in-Some-clause-past : goal.returns-in-Some-clause-past
+returns-in-Some-clause-past g c h = itself _
 
 pub returns-in-Some-clause-opens : goal.returns-in-Some-clause-opens
 returns-in-Some-clause-opens g c honest h mounts =

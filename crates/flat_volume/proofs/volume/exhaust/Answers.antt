@@ -1,5 +1,5 @@
 use Rattle.std.proofs.Common.{refl, true, false}
-use Rattle.epoch.proofs.CallLemmas.{run_once, run_so_far}
+use Rattle.epoch.proofs.CallLemmas.{run_once}
 use Rattle.flat_volume.proofs.VolumeLemmas.{exhausted}
 use Rattle.flat_volume.proofs.volume.exhaust.Goals as goal
 
@@ -12,7 +12,13 @@ pub returns-in-Ok-clause-calls : goal.returns-in-Ok-clause-calls
 returns-in-Ok-clause-calls g c = run_once true _ _ c.in-Ok.ensures.call
 
 pub returns-in-Err-clause-calls : goal.returns-in-Err-clause-calls
-returns-in-Err-clause-calls g c = run_so_far _ _ _ (run_once false _ _ c.in-Err.ensures.call)
+returns-in-Err-clause-calls g c = run_once false _ _ c.in-Err.ensures.call
 
 pub returns-in-Err-clause-cause : goal.returns-in-Err-clause-cause
 returns-in-Err-clause-cause g c failed = c.in-Err.ensures.call.cause refl
+
+pub returns-in-Ok-clause-called : goal.returns-in-Ok-clause-called
+returns-in-Ok-clause-called g c = c.in-Ok.ensures.call.fuse
+
+pub returns-in-Err-clause-called : goal.returns-in-Err-clause-called
+returns-in-Err-clause-called g c = c.in-Err.ensures.call.fuse

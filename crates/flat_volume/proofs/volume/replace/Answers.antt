@@ -1,9 +1,13 @@
-use Rattle.std.proofs.Common.{◌∙◌, ℕ, List, Some, refl, sym, ap, subst, true}
+use Rattle.std.proofs.Common.{◌≡◌, ◌+◌, ◌∙◌, ℕ, List, Some, length, refl, sym, ap, subst, true, false, arith, rules, Err}
+use Rattle.std.proofs.lemmas.Bool.{false≢true}
+use Rattle.epoch.proofs.CommitLemmas.{on_err}
+use Rattle.epoch.proofs.PastLemmas.{followed}
 use Rattle.std.proofs.lemmas.Result.{err_from_is_err_and}
 use Rattle.store_api.specs.declared.leaves.Leaf.{Leaf}
 use Rattle.store_api.specs.Volumes.{Held, after_commit}
 use Rattle.seal.specs.Keys.{AreKeysOf}
-use Rattle.epoch.proofs.CallLemmas.{run_more, run_so_far}
+use Rattle.epoch.proofs.CallLemmas.{run_as, run_more}
+use Rattle.epoch.specs.Reading.{no_fault}
 use Rattle.epoch.specs.Commits.{IsSteady}
 use Rattle.epoch.proofs.SettledLemmas.{steady_rests}
 use Rattle.flat_volume.specs.Change.{FitsFlat}
@@ -62,18 +66,57 @@ returns-clause-replaced g c h is =
         undamaged = tt;
         stays = tt;
         steady = subst (λ (k : List ℕ). IsSteady flat k root new.state) (sym w.in-Err.ensures.calls.key) (w.in-Err.ensures.steady read.0 before refl is'.mounted fits);
-        commits = leaves_held new mid.key root before w.in-Err.ensures.calls.key (w.in-Err.ensures.kept read.0 before refl is'.mounted fits) ∙ held;
+        commits = leaves_held new mid.key root before w.in-Err.ensures.calls.key (w.in-Err.ensures.kept read.0 before refl is'.mounted fits) refl ∙ held;
         crash = commit_crash v mid new root sequence table c.args.region named is told.calls.key read.1 (w.in-Err.ensures.crash read.0 before refl is'.mounted fits);
       })
     ])
 
 pub returns-in_err-known_table-clause-calls : goal.returns-in_err-known_table-clause-calls
-returns-in_err-known_table-clause-calls g c = c.in_err-known_table.ensures.calls
+returns-in_err-known_table-clause-calls g c =
+    let is : c.from_residual.result ≡ Err c.in_err-known_table.field-0.0 = search rules in
+    run_as _ _ _ _ (ap no_fault is) c.in_err-known_table.ensures.calls
 
 pub returns-clause-calls : goal.returns-clause-calls
 returns-clause-calls g c =
     let one = c.in_ok-known_table.ensures.calls in
     elim c.match-commit.branch [
-      | in-Ok w ↦ run_more true _ _ _ one w.in-Ok.ensures.calls
-      | in-Err w ↦ run_more true _ _ _ one (run_so_far _ _ _ w.in-Err.ensures.calls)
+      | in-Ok w ↦ rw w.result-is (run_more true _ _ _ one w.in-Ok.ensures.calls)
+      | in-Err w ↦ rw w.result-is (run_more false _ _ _ one w.in-Err.ensures.calls)
+    ]
+
+pub returns-in_err-known_table-clause-writes : goal.returns-in_err-known_table-clause-writes
+returns-in_err-known_table-clause-writes g c = omega (arith, c.in_err-known_table.ensures.writes)
+
+pub returns-in_err-known_table-clause-unwritten : goal.returns-in_err-known_table-clause-unwritten
+returns-in_err-known_table-clause-unwritten g c = on_err c.from_residual.result _ (λ made. c.in_err-known_table.ensures.writes)
+
+pub returns-clause-writes : goal.returns-clause-writes
+returns-clause-writes g c =
+    let named : length c.as_slice.result.now ≡ length c.args.leaves.now = ap length c.as_slice.ensures.leaves in
+    let one = c.in_ok-known_table.ensures.writes in
+    elim c.match-commit.branch [
+      | in-Ok w ↦ omega (arith, one, named, w.in-Ok.ensures.writes)
+      | in-Err w ↦ omega (arith, one, named, w.in-Err.ensures.writes)
+    ]
+
+pub returns-clause-unwritten : goal.returns-clause-unwritten
+returns-clause-unwritten g c =
+    elim c.match-commit.branch [
+      | in-Ok w ↦ rw w.result-is tt
+      | in-Err w ↦ rw w.result-is (λ made. absurd (false≢true made))
+    ]
+
+pub returns-clause-sealed_for : goal.returns-clause-sealed_for
+returns-clause-sealed_for g c =
+    elim c.match-commit.branch [
+      | in-Ok w ↦ rw w.result-is w.in-Ok.ensures.sealed_for
+      | in-Err w ↦ rw w.result-is tt
+    ]
+
+pub returns-clause-past : goal.returns-clause-past
+returns-clause-past g c h =
+    let read = c.in_ok-known_table.ensures.honest h in
+    elim c.match-commit.branch [
+      | in-Ok w ↦ followed _ _ _ read.1.past (w.in-Ok.ensures.past read.0)
+      | in-Err w ↦ followed _ _ _ read.1.past (w.in-Err.ensures.past read.0)
     ]

@@ -1,12 +1,12 @@
-use Rattle.std.proofs.Common.{◌≡◌, ◌<◌, ◌+◌, ◌∷◌, ◌∙◌, ℕ, true, List, [], drop, get_or, refl, sym, ap, subst, rules, false}
+use Rattle.std.proofs.Common.{◌≡◌, ◌<◌, ◌+◌, ◌∷◌, ◌∙◌, ℕ, true, List, [], drop, get_or, length, refl, sym, ap, subst, arith, false}
 use Rattle.std.proofs.lemmas.List.{drop_more}
-use Rattle.store_api.specs.Ascending.{is_ascending}
+use Rattle.store_api.specs.Ascending.{is_above_all, is_ascending}
 use Rattle.store_api.specs.declared.leaves.Leaf.{Leaf}
 use Rattle.store_api.specs.Volumes.{replaced}
 use Rattle.epoch.proofs.CallLemmas.{run_more, run_none, run_stops}
 use Rattle.epoch.proofs.PastLemmas.{followed, itself}
 use Rattle.flat_volume.specs.Writing.{AreSpare, leaves_by}
-use Rattle.flat_volume.proofs.LeafLemmas.{leaves_more, none_left, rest_ascends, sealed_more, spare_here, spare_more}
+use Rattle.flat_volume.proofs.LeafLemmas.{leaves_more, none_left, rest_ascends, sealed_more, spare_here, spare_more, within_here, within_rest}
 use Rattle.flat_volume.proofs.write.write_leaves.Goals as goal
 
 abbrev leaf_at : List Leaf → ℕ → Leaf
@@ -16,6 +16,8 @@ pub loop-leaf-init : goal.loop-leaf-init
 loop-leaf-init g c = record {
   calls = run_none _;
   ascending = c.requires.ascending;
+  inside = c.requires.inside;
+  writes = omega arith;
   honest = λ h. h;
   past = λ h. itself _;
   spare = λ open_at spare. spare;
@@ -33,12 +35,15 @@ loop-leaf-preserved g c =
     let rest = drop (i + 1) xs in
     let e : drop i xs ≡ leaf ∷ rest = drop_more xs i (record { number = 0; bytes = [] }) c.loop-leaf-test.true in
     let asc : is_ascending (leaf ∷ rest) ≡ true = subst (λ (l : List Leaf). is_ascending l ≡ true) e inv.ascending in
-    let small : leaf.number < 256 = search rules in
+    let within : is_above_all (leaf ∷ rest) 256 ≡ true = subst (λ (l : List Leaf). is_above_all l 256 ≡ true) e inv.inside in
+    let small : leaf.number < 256 = within_here leaf rest within in
     let w = c.in_ok-write_leaf.ensures in
     let number = c.number_in_all-number in
     record {
       calls = run_more true _ _ _ inv.calls w.calls;
       ascending = rest_ascends leaf rest asc;
+      inside = within_rest leaf rest within;
+      writes = (let longer : length (drop i xs) ≡ length rest + 1 = ap length e ∙ omega arith in omega (arith, w.writes, inv.writes, longer));
       honest = λ h. w.honest (inv.honest h);
       past = λ h. followed _ _ _ (inv.past h) (w.past (inv.honest h));
       spare = λ open_at s. spare_more _ _ c.args.region leaf rest number.result c.requires.region small number.ensures.number w.others asc open_at
@@ -71,7 +76,8 @@ returns-in_err-write_leaf-clause-run g c h open_at base low high first s run =
     let rest = drop (i + 1) xs in
     let e : drop i xs ≡ leaf ∷ rest = drop_more xs i (record { number = 0; bytes = [] }) c.loop-leaf-test.true in
     let asc : is_ascending (leaf ∷ rest) ≡ true = subst (λ (l : List Leaf). is_ascending l ≡ true) e inv.ascending in
-    let small : leaf.number < 256 = search rules in
+    let within : is_above_all (leaf ∷ rest) 256 ≡ true = subst (λ (l : List Leaf). is_above_all l 256 ≡ true) e inv.inside in
+    let small : leaf.number < 256 = within_here leaf rest within in
     let w = c.in_err-write_leaf.ensures in
     let number = c.number_in_all-number in
     w.run (inv.honest h) open_at base low high first
@@ -86,3 +92,14 @@ returns-clause-leaves g c h key are =
 pub returns-in_err-write_leaf-clause-calls : goal.returns-in_err-write_leaf-clause-calls
 returns-in_err-write_leaf-clause-calls g c =
     run_stops c.from_residual.result _ _ c.from_residual.ensures.0 (run_more false _ _ _ c.loop-leaf.invariant.calls c.in_err-write_leaf.ensures.calls)
+
+pub returns-in_err-write_leaf-clause-writes : goal.returns-in_err-write_leaf-clause-writes
+returns-in_err-write_leaf-clause-writes g c =
+    let xs = c.args.leaves.now in
+    let i = c.loop-leaf.leaf-index in
+    let e : drop i xs ≡ leaf_at xs i ∷ drop (i + 1) xs = drop_more xs i (record { number = 0; bytes = [] }) c.loop-leaf-test.true in
+    let longer : length (drop i xs) ≡ length (drop (i + 1) xs) + 1 = ap length e ∙ omega arith in
+    omega (arith, c.in_err-write_leaf.ensures.writes, c.loop-leaf.invariant.writes, longer)
+
+pub returns-clause-writes : goal.returns-clause-writes
+returns-clause-writes g c = omega (arith, c.loop-leaf.invariant.writes)

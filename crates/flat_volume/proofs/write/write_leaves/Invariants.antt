@@ -1,10 +1,10 @@
-use Rattle.std.proofs.Common.{◌≡◌, ℕ, Bool, true, List, drop}
+use Rattle.std.proofs.Common.{◌≡◌, ◌≤◌, ◌+◌, ℕ, Bool, true, List, drop, length}
 use Rattle.board.specs.Moment.{View}
 use Rattle.board.specs.Runs.{RunsOver}
 use Rattle.board.specs.Steps.{CallRun}
 use Rattle.epoch.specs.Past.{KeepsPast}
 use Rattle.seal.specs.Keys.{AreKeysOf}
-use Rattle.store_api.specs.Ascending.{is_ascending}
+use Rattle.store_api.specs.Ascending.{is_above_all, is_ascending}
 use Rattle.store_api.specs.Volumes.{replaced}
 use Rattle.flat_volume.specs.Writing.{AreSealed, AreSpare, leaves_by}
 use Rattle.flat_volume.proofs.write.write_leaves.Given as goal
@@ -14,6 +14,8 @@ abbrev pub invariant-loop-leaf : goal.invariant-loop-leaf
 invariant-loop-leaf g l = record {
   calls : CallRun true (g.B.Board.view l.fn.board) (g.B.Board.view l.board);
   ascending : is_ascending (drop l.leaf-index l.leaves) ≡ true;
+  inside : is_above_all (drop l.leaf-index l.leaves) 256 ≡ true;
+  writes : (g.B.Board.view l.board).writes + length (drop l.leaf-index l.leaves) ≤ (g.B.Board.view l.fn.board).writes + length l.leaves;
   honest : g.B.Board.honest l.fn.board → g.B.Board.honest l.board;
   past : g.B.Board.honest l.fn.board → KeepsPast (g.B.Board.view l.fn.board) (g.B.Board.view l.board);
   spare : (open_at : ℕ → Bool) → AreSpare open_at l.fn.table.bytes.items l.region l.leaves

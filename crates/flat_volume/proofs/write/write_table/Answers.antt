@@ -8,6 +8,8 @@ use Rattle.flat_volume.proofs.write.write_table.Goals as goal
 pub loop-i-init : goal.loop-i-init
 loop-i-init g c = record {
   calls = run_none _;
+  bound = omega arith;
+  writes = omega arith;
   honest = λ h. h;
   past = λ h. itself _;
   run = λ h open_at base low high first opens run. run;
@@ -18,6 +20,8 @@ loop-i-init g c = record {
 pub loop-i-preserved : goal.loop-i-preserved
 loop-i-preserved g c = record {
   calls = call_more true _ _ _ c.loop-i.invariant.calls c.in_ok-write.ensures.call;
+  bound = omega arith;
+  writes = omega (arith, c.in_ok-write.ensures.writes, c.loop-i.invariant.writes);
   honest = λ h. (c.in_ok-write.ensures.honest (c.loop-i.invariant.honest h)).0;
   past = λ h. followed _ _ _ (c.loop-i.invariant.past h) (once _ _ (c.in_ok-write.ensures.honest (c.loop-i.invariant.honest h)).1);
   run = λ h open_at base low high first opens run.
@@ -50,3 +54,13 @@ returns-clause-placed g c = search rules
 
 pub returns-in_err-write-clause-calls : goal.returns-in_err-write-clause-calls
 returns-in_err-write-clause-calls g c = run_stops c.from_residual.result _ _ c.from_residual.ensures.0 (call_more false _ _ _ c.loop-i.invariant.calls c.in_err-write.ensures.call)
+
+pub returns-in_err-write-clause-writes : goal.returns-in_err-write-clause-writes
+returns-in_err-write-clause-writes g c = omega (arith, c.in_err-write.ensures.writes, c.loop-i.invariant.writes)
+
+pub returns-clause-writes : goal.returns-clause-writes
+returns-clause-writes g c = omega (arith, c.loop-i.invariant.writes, c.loop-i.invariant.bound)
+
+pub returns-in_err-write-clause-past : goal.returns-in_err-write-clause-past
+returns-in_err-write-clause-past g c h =
+    followed _ _ _ (c.loop-i.invariant.past h) (once _ _ (c.in_err-write.ensures.honest (c.loop-i.invariant.honest h)).1)

@@ -1,4 +1,4 @@
-use Rattle.std.proofs.Common.{◌≡◌, ◌≢◌, ◌<◌, ◌+◌, ◌*◌, ℕ, Bool, true, List}
+use Rattle.std.proofs.Common.{◌≡◌, ◌≢◌, ◌≤◌, ◌<◌, ◌+◌, ◌*◌, ℕ, Bool, true, List}
 use Rattle.board.specs.Moment.{View}
 use Rattle.board.specs.Runs.{RunsOver}
 use Rattle.board.specs.Steps.{CallRun}
@@ -11,6 +11,8 @@ use Rattle.flat_volume.proofs.write.write_table.Given as goal
 abbrev pub invariant-loop-i : goal.invariant-loop-i
 invariant-loop-i g l = record {
   calls : CallRun true (g.B.Board.view l.fn.board) (g.B.Board.view l.board);
+  bound : l.i ≤ 256;
+  writes : (g.B.Board.view l.board).writes ≤ (g.B.Board.view l.fn.board).writes + l.i;
   honest : g.B.Board.honest l.fn.board → g.B.Board.honest l.board;
   past : g.B.Board.honest l.fn.board → KeepsPast (g.B.Board.view l.fn.board) (g.B.Board.view l.board);
   run : g.B.Board.honest l.fn.board → (open_at : ℕ → Bool) (base : ℕ → List ℕ) (low high : ℕ) (first : View)

@@ -12,7 +12,7 @@ returns-in_default g c =
     region_not_found g.L.LeafSource.keeper g.L.LeafSource.region version_one (λ store. found store c.args.id.now) AreFacts c.args.from.now _
     (λ h. absent_is version_one (leaves_of g.L.LeafSource.keeper g.L.LeafSource.region c.args.from.now) _ c.args.id.now
     (looked_none version_one (leaves_of g.L.LeafSource.keeper g.L.LeafSource.region c.args.from.now) c.args.id.now c.find.result c.as_slice.result.now
-    c.in_ok-inodes.inodes.items c.find.ensures.inode c.as_slice.ensures.value (c.in_ok-inodes.ensures.inodes h) c.in_default.is)) c.in_ok-inodes.ensures.reads
+    c.in_ok-inodes.inodes.items c.find.ensures.inode c.as_slice.ensures.value (c.in_ok-inodes.ensures.inodes h) c.in_default.is)) c.in_ok-inodes.ensures.sound c.in_ok-inodes.ensures.reads
 
 pub returns : goal.returns
 returns g c =
@@ -20,4 +20,4 @@ returns g c =
     (λ h. facts_told version_one (leaves_of g.L.LeafSource.keeper g.L.LeafSource.region c.args.from.now) c.args.id.now c.in-Some.inode.now
     (looked_up version_one (leaves_of g.L.LeafSource.keeper g.L.LeafSource.region c.args.from.now) c.args.id.now c.find.result c.as_slice.result.now c.in_ok-inodes.inodes.items
     c.in-Some.inode c.find.ensures.inode c.as_slice.ensures.value (c.in_ok-inodes.ensures.inodes h) c.in-Some.is) ∙ ap (λ f. Ok f) (sym c.facts_of.ensures))
-    (subst AreFacts (sym c.facts_of.ensures) c.in-Some.ensures.within.1) c.in_ok-inodes.ensures.reads
+    (subst AreFacts (sym c.facts_of.ensures) c.in-Some.ensures.within.1) c.in_ok-inodes.ensures.sound c.in_ok-inodes.ensures.reads

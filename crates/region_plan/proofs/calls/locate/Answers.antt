@@ -7,13 +7,13 @@ use Rattle.region_plan.proofs.calls.locate.Goals as goal
 pub returns-in_default : goal.returns-in_default
 returns-in_default g c =
     located_nowhere g.L.LeafSource.keeper g.L.LeafSource.region version_one c.args.id.now c.args.from.now _
-    (λ h store is. located_none version_one (leaves_of g.L.LeafSource.keeper g.L.LeafSource.region c.args.from.now) c.args.id.now store is
+    (λ h. located_none version_one (leaves_of g.L.LeafSource.keeper g.L.LeafSource.region c.args.from.now) c.args.id.now
     (looked_none version_one (leaves_of g.L.LeafSource.keeper g.L.LeafSource.region c.args.from.now) c.args.id.now c.find.result c.as_slice.result.now
-    c.in_ok-inodes.inodes.items c.find.ensures.inode c.as_slice.ensures.value (c.in_ok-inodes.ensures.inodes h) c.in_default.is)) c.in_ok-inodes.ensures.reads
+    c.in_ok-inodes.inodes.items c.find.ensures.inode c.as_slice.ensures.value (c.in_ok-inodes.ensures.inodes h) c.in_default.is)) c.in_ok-inodes.ensures.sound c.in_ok-inodes.ensures.reads
 
 pub returns : goal.returns
 returns g c =
     located_at g.L.LeafSource.keeper g.L.LeafSource.region version_one c.args.id.now c.in-Some.inode.now.number c.args.from.now _
-    (λ h store is. located version_one (leaves_of g.L.LeafSource.keeper g.L.LeafSource.region c.args.from.now) c.args.id.now c.in-Some.inode.now store is
+    (λ h. located version_one (leaves_of g.L.LeafSource.keeper g.L.LeafSource.region c.args.from.now) c.args.id.now c.in-Some.inode.now c.in-Some.ensures.within.2
     (looked_up version_one (leaves_of g.L.LeafSource.keeper g.L.LeafSource.region c.args.from.now) c.args.id.now c.find.result c.as_slice.result.now c.in_ok-inodes.inodes.items
-    c.in-Some.inode c.find.ensures.inode c.as_slice.ensures.value (c.in_ok-inodes.ensures.inodes h) c.in-Some.is)) c.in_ok-inodes.ensures.reads
+    c.in-Some.inode c.find.ensures.inode c.as_slice.ensures.value (c.in_ok-inodes.ensures.inodes h) c.in-Some.is)) c.in_ok-inodes.ensures.sound c.in_ok-inodes.ensures.reads

@@ -14,7 +14,7 @@ returns-in_default g c =
     region_not_found g.L.LeafSource.keeper g.L.LeafSource.region version_one (λ store. next_after store (option_copied c.args.last)) IsListed c.args.from.now _
     (λ h. next_none version_one (leaves_of g.L.LeafSource.keeper g.L.LeafSource.region c.args.from.now) (option_copied c.args.last)
     (listed_none version_one (leaves_of g.L.LeafSource.keeper g.L.LeafSource.region c.args.from.now) (option_copied c.args.last) c.least_after.result c.as_slice.result.now
-    c.in_ok-inodes.inodes.items c.least_after.ensures.inode c.as_slice.ensures.value (c.in_ok-inodes.ensures.inodes h) c.in_default.is)) c.in_ok-inodes.ensures.reads
+    c.in_ok-inodes.inodes.items c.least_after.ensures.inode c.as_slice.ensures.value (c.in_ok-inodes.ensures.inodes h) c.in_default.is)) c.in_ok-inodes.ensures.sound c.in_ok-inodes.ensures.reads
 
 pub returns : goal.returns
 returns g c =
@@ -25,4 +25,5 @@ returns g c =
     (listed_up version_one (leaves_of g.L.LeafSource.keeper g.L.LeafSource.region c.args.from.now) (option_copied c.args.last) c.least_after.result c.as_slice.result.now
     c.in_ok-inodes.inodes.items c.in-Some.inode c.least_after.ensures.inode c.as_slice.ensures.value (c.in_ok-inodes.ensures.inodes h) c.in-Some.is)
     ∙ ap (λ (i : List ℕ). listed_as i (inode_facts c.in-Some.inode.now)) (sym c.in_ok-copy.ensures) ∙ ap (λ (f : Facts). listed_as c.in_ok-copy.field-0 f) (sym c.facts_of.ensures))
-    (subst IsIdentifier (sym c.in_ok-copy.ensures) c.in-Some.ensures.within.0, subst AreFacts (sym c.facts_of.ensures) c.in-Some.ensures.within.1) c.in_ok-inodes.ensures.reads
+    (subst IsIdentifier (sym c.in_ok-copy.ensures) c.in-Some.ensures.within.0, subst AreFacts (sym c.facts_of.ensures) c.in-Some.ensures.within.1)
+    c.in_ok-inodes.ensures.sound c.in_ok-inodes.ensures.reads

@@ -11,10 +11,10 @@ pub returns-in-Some-clause-wrong : goal.returns-in-Some-clause-wrong
 returns-in-Some-clause-wrong c = λ leaves is long found.
     elsewhere_entry leaves c.args.inode c.args.leaf c.args.blocks c.entry_in-entry.result c.data_leaf.result c.requires (c.entry_in-entry.ensures.entry leaves is)
     c.if-entry-ne-DATA.false (c.if-entry-from.false ∙ c.from.ensures) long c.if-entry-blocks.false
-    (c.data_leaf.ensures leaves is) (λ same. other_leaf c.in-Some.first c.args.leaf found (sym c.in-Some.is ∙ same))
+    (c.data_leaf.ensures.leaf leaves is) (λ same. other_leaf c.in-Some.first c.args.leaf found (sym c.in-Some.is ∙ same))
 
 pub returns-in-None-clause-wrong : goal.returns-in-None-clause-wrong
 returns-in-None-clause-wrong c = λ leaves is long found.
     elsewhere_entry leaves c.args.inode c.args.leaf c.args.blocks c.entry_in-entry.result c.data_leaf.result c.requires (c.entry_in-entry.ensures.entry leaves is)
     c.if-entry-ne-DATA.false (c.if-entry-from.false ∙ c.from.ensures) long c.if-entry-blocks.false
-    (c.data_leaf.ensures leaves is) (λ same. (let none : None ≡ Some c.args.leaf = sym c.in-None.is ∙ same in cc))
+    (c.data_leaf.ensures.leaf leaves is) (λ same. (let none : None ≡ Some c.args.leaf = sym c.in-None.is ∙ same in cc))

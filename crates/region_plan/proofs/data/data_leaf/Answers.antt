@@ -6,8 +6,8 @@ use Rattle.region_plan.proofs.data.data_leaf.Goals as goal
 pub loop-leaf-init : goal.loop-leaf-init
 loop-leaf-init c = λ leaves is. leaf_none version_one leaves c.args.inode c.args.index
 
-pub returns-then-is_data_at : goal.returns-then-is_data_at
-returns-then-is_data_at c = λ leaves is.
+pub returns-then-is_data_at-clause-leaf : goal.returns-then-is_data_at-clause-leaf
+returns-then-is_data_at-clause-leaf c = λ leaves is.
     sym (leaf_found version_one leaves c.args.inode c.args.index c.loop-leaf.leaf c.loop-leaf-test.true (c.loop-leaf.invariant leaves is)
     (data_is leaves c.args.inode c.args.index c.loop-leaf.leaf c.entry_in.result c.is_data_at.result _ (c.entry_in.ensures.entry leaves is) c.is_data_at.ensures c.if-is_data_at.true))
 
@@ -16,7 +16,7 @@ loop-leaf-preserved c = λ leaves is.
     leaf_stays version_one leaves c.args.inode c.args.index c.loop-leaf.leaf _ refl (c.loop-leaf.invariant leaves is)
     (data_is leaves c.args.inode c.args.index c.loop-leaf.leaf c.entry_in.result c.is_data_at.result _ (c.entry_in.ensures.entry leaves is) c.is_data_at.ensures c.if-is_data_at.false)
 
-pub returns : goal.returns
-returns c = λ leaves is.
+pub returns-clause-leaf : goal.returns-clause-leaf
+returns-clause-leaf c = λ leaves is.
     let all : c.loop-leaf.leaf ≡ 256 = omega (arith, c.loop-leaf-test.false, c.loop-leaf.auto.leaf-end) in
     sym (c.loop-leaf.invariant leaves is) ∙ leaf_all version_one leaves c.args.inode c.args.index c.loop-leaf.leaf all

@@ -1,3 +1,4 @@
+use Rattle.std.specs.Prelude.{IsTrue}
 use Rattle.std.proofs.Common.{◌≡◌, ◌≤◌, ◌<◌, ◌+◌, ◌++◌, ◌∙◌, ℕ, true, [], ◌∷◌, None, Option, List, length, is_some, refl, sym, ap, subst}
 use Rattle.store_api.specs.Ascending.{is_above_all}
 use Rattle.store_api.specs.declared.leaves.Leaf.{Leaf}
@@ -14,10 +15,10 @@ loop-leaf-preserved g c =
     let R = g.L.LeafSource.region in
     let kept = c.loop-leaf.invariant in
     let reads : ReadsOnly K R None c.args.from.now c.changed_leaf.new.from = reads_joined K R None c.args.from.now c.loop-leaf.from c.changed_leaf.new.from kept.reads c.in_ok-bytes.ensures.reads in
-    let changed = λ (h : K.honest c.args.from.now) (first : leaves_of K R c.args.from.now 0 ≡ c.args.old.now).
+    let changed = λ (h : IsTrue K.tells_reads) (first : leaves_of K R c.args.from.now 0 ≡ c.args.old.now).
     subst (λ (l : ℕ → List ℕ). IsChangedLeaf l c.args.map.now c.args.inode c.args.head.now c.args.edit c.loop-leaf.leaf (bytes_or c.in_ok-bytes.field-0 (l c.loop-leaf.leaf)))
     (leaves_stay K R c.args.from.now c.loop-leaf.from kept.reads h)
-    (c.in_ok-bytes.ensures.changed (kept.reads.honest h).0 (ap (λ (l : ℕ → List ℕ). l 0) (leaves_stay K R c.args.from.now c.loop-leaf.from kept.reads h) ∙ first)) in
+    (c.in_ok-bytes.ensures.changed h (ap (λ (l : ℕ → List ℕ). l 0) (leaves_stay K R c.args.from.now c.loop-leaf.from kept.reads h) ∙ first)) in
     elim c.match-branch-2.branch [
       | in-Some+in_ok-push w ↦
           let last : Leaf = record { number = c.loop-leaf.leaf; bytes = w.in-Some.bytes } in

@@ -18,7 +18,7 @@ returns-in-Put g c =
     (read_plan K R (Put c.as_slice.result.now c.in-Put.kind c.in-Put.usage c.as_slice-in-Put.result.now c.as_slice-in-Put-2.result.now c.in-Put.overwrite) c.plan_put.result
     c.args.from.now c.load.new.from c.plan_put.new.from c.load.new.map c.as_slice-inodes.result.now c.in_ok-inodes.ensures.reads
     c.in_ok-inodes.ensures.map (λ h. c.as_slice-inodes.ensures.value ∙ c.in_ok-inodes.ensures.inodes h)
-    c.plan_put.ensures.plans c.plan_put.ensures.garbled c.plan_put.ensures.reads)
+    c.plan_put.ensures.plans c.plan_put.ensures.named c.plan_put.ensures.garbled c.plan_put.ensures.reads c.in_ok-inodes.ensures.sound)
 
 pub returns-in-Delete : goal.returns-in-Delete
 returns-in-Delete g c =
@@ -28,7 +28,7 @@ returns-in-Delete g c =
     (ap (λ (id : List ℕ). Delete id) c.as_slice-in-Delete.ensures ∙ sym c.in-Delete.is)
     (decided_plan K R (Delete c.as_slice-in-Delete.result.now) c.plan_delete.result c.args.from.now c.load.new.from c.in_ok-inodes.ensures.reads
     (λ h store stands. c.plan_delete.ensures.plans (leaves_of K R c.args.from.now) (sym (c.in_ok-inodes.ensures.map h))
-    (c.as_slice-inodes.ensures.value ∙ c.in_ok-inodes.ensures.inodes h) store stands) c.plan_delete.ensures.decided)
+    (c.as_slice-inodes.ensures.value ∙ c.in_ok-inodes.ensures.inodes h) store stands) c.plan_delete.ensures.named c.plan_delete.ensures.decided c.in_ok-inodes.ensures.sound)
 
 pub returns-in-Rename : goal.returns-in-Rename
 returns-in-Rename g c =
@@ -39,7 +39,7 @@ returns-in-Rename g c =
     subst (λ (change : Change). PlansChange K R version_one change c.plan_rename.result c.args.from.now c.load.new.from) same
     (decided_plan K R (Rename c.as_slice-in-Rename.result.now c.as_slice-in-Rename-2.result.now) c.plan_rename.result c.args.from.now c.load.new.from c.in_ok-inodes.ensures.reads
     (λ h store stands. c.plan_rename.ensures.plans (leaves_of K R c.args.from.now) (c.as_slice-inodes.ensures.value ∙ c.in_ok-inodes.ensures.inodes h) store stands)
-    c.plan_rename.ensures.decided)
+    c.plan_rename.ensures.named c.plan_rename.ensures.decided c.in_ok-inodes.ensures.sound)
 
 pub returns-in-Write : goal.returns-in-Write
 returns-in-Write g c =
@@ -51,7 +51,7 @@ returns-in-Write g c =
     (read_plan K R (Write c.as_slice-in-Write.result.now c.in-Write.at c.as_slice-in-Write-2.result.now) c.plan_write.result c.args.from.now c.load.new.from c.plan_write.new.from
     c.load.new.map c.as_slice-inodes.result.now c.in_ok-inodes.ensures.reads
     c.in_ok-inodes.ensures.map (λ h. c.as_slice-inodes.ensures.value ∙ c.in_ok-inodes.ensures.inodes h)
-    c.plan_write.ensures.plans c.plan_write.ensures.garbled c.plan_write.ensures.reads)
+    c.plan_write.ensures.plans c.plan_write.ensures.named c.plan_write.ensures.garbled c.plan_write.ensures.reads c.in_ok-inodes.ensures.sound)
 
 pub returns : goal.returns
 returns g c =
@@ -62,4 +62,4 @@ returns g c =
     subst (λ (change : Change). PlansChange K R version_one change c.plan_truncate.result c.args.from.now c.plan_truncate.new.from) same
     (read_plan K R (Truncate c.as_slice-in-Truncate.result.now c.in-Truncate.length) c.plan_truncate.result c.args.from.now c.load.new.from c.plan_truncate.new.from c.load.new.map
     c.as_slice-inodes.result.now c.in_ok-inodes.ensures.reads c.in_ok-inodes.ensures.map (λ h. c.as_slice-inodes.ensures.value ∙ c.in_ok-inodes.ensures.inodes h)
-    c.plan_truncate.ensures.plans c.plan_truncate.ensures.garbled c.plan_truncate.ensures.reads)
+    c.plan_truncate.ensures.plans c.plan_truncate.ensures.named c.plan_truncate.ensures.garbled c.plan_truncate.ensures.reads c.in_ok-inodes.ensures.sound)

@@ -1,9 +1,10 @@
-use Rattle.std.proofs.Common.{◌≡◌, ◌∙◌, ℕ, false, sym, ap, subst}
+use Rattle.std.proofs.Common.{◌≡◌, ◌∙◌, ℕ, true, false, sym, ap, subst}
 use Rattle.region_plan.specs.Layout.{version_one}
 use Rattle.region_plan.specs.Inodes.{is_inode_leaf}
 use Rattle.region_plan.specs.Reading.{leaves_of}
 use Rattle.region_plan.specs.Regions.{has_data}
-use Rattle.region_plan.proofs.CheckLemmas.{doubled_from, number_is, length_is}
+use Rattle.region_plan.specs.Reading.{IsWhole}
+use Rattle.region_plan.proofs.CheckLemmas.{doubled_from, single_from, number_is, length_is}
 use Rattle.region_plan.proofs.RuleLemmas.{inode_breaks, doubled_breaks, index_breaks}
 use Rattle.region_plan.proofs.table.read_inode.Goals as goal
 
@@ -25,3 +26,15 @@ returns-then-not-has_data-clause-garbled g c h first inode before =
     let long = length_is leaves c.args.leaf c.read.new.into c.in_ok-inode.inode (c.in_ok-read.ensures.leaf h) c.in_ok-inode.ensures.inode in
     index_breaks version_one leaves c.args.leaf inode
     (subst (λ (n : ℕ). has_data version_one leaves n ≡ false) number (sym (c.has_data.ensures leaves first long) ∙ c.if-not-has_data.true))
+
+pub returns-clause-whole : goal.returns-clause-whole
+returns-clause-whole g c h first before =
+    let leaves = leaves_of g.L.LeafSource.keeper g.L.LeafSource.region c.args.from.now in
+    let number = number_is leaves c.args.leaf c.read.new.into c.in_ok-inode.inode (c.in_ok-read.ensures.leaf h) c.in_ok-inode.ensures.inode in
+    let long = length_is leaves c.args.leaf c.read.new.into c.in_ok-inode.inode (c.in_ok-read.ensures.leaf h) c.in_ok-inode.ensures.inode in
+    record {
+      bytes = ap is_inode_leaf (sym (c.in_ok-read.ensures.leaf h)) ∙ sym c.is_inode_leaf.ensures ∙ c.if-not-is_inode_leaf.false;
+      new = single_from leaves c.args.leaf c.read.new.into c.in_ok-inode.inode c.as_slice.result.now c.args.before.now c.is_new.result
+          (c.in_ok-read.ensures.leaf h) c.in_ok-inode.ensures.inode c.as_slice.ensures before c.is_new.ensures c.if-not-is_new.false;
+      placed = subst (λ (n : ℕ). has_data version_one leaves n ≡ true) number (sym (c.has_data.ensures leaves first long) ∙ c.if-not-has_data.false);
+    }

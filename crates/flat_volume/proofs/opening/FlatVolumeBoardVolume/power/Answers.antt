@@ -5,7 +5,8 @@ use Rattle.store_api.specs.Volumes.{Held}
 use Rattle.board.specs.Moment.{IsLeft, Outcome, View, left_since, moment}
 use Rattle.epoch.specs.Forms.{held_of}
 use Rattle.epoch.specs.Mounting.{MightBe, MountsTo}
-use Rattle.epoch.specs.Mounts.{IsRefusal, IsRefusedNow}
+use Rattle.epoch.specs.Mounts.{IsRefusal, IsRefusedNow, PowerFirst}
+use Rattle.epoch.specs.Opening.{no_failure}
 use Rattle.epoch.specs.Past.{KeepsPast}
 use Rattle.epoch.specs.declared.answer.OpenAnswer.TheVariants.{Failed}
 use Rattle.epoch.proofs.CommitLemmas.{on_err}
@@ -13,7 +14,7 @@ use Rattle.epoch.proofs.MountLemmas.{admitted_by, before_above, board_sound, pas
 use Rattle.flat_volume.specs.Flat.{flat}
 use Rattle.flat_volume.specs.Frame.{flat_framed}
 use Rattle.flat_volume.specs.Keeping.{held_now}
-use Rattle.flat_volume.proofs.OpenLemmas.{if_found, not_ok, told_so}
+use Rattle.flat_volume.proofs.OpenLemmas.{not_ok, told_so}
 use Rattle.flat_volume.proofs.VolumeLemmas.{held_steady, steady_open, steady_same}
 use Rattle.flat_volume.proofs.opening.FlatVolumeBoardVolume.power.Goals as goal
 
@@ -32,8 +33,7 @@ pub returns-clause-exact : goal.returns-clause-exact
 returns-clause-exact g c honest =
     let v = g.B.Board.view c.args.self.now.board in
     let told = c.in_ok-found.ensures.exact honest in
-    let at = if_found c.in_ok-found.found c.resume.result c.resume.ensures.found in
-    (told.0, told.1, tt, admitted_by flat v told.0.image told.0.counter c.resume.result c.in_ok-found.found (told.2 flat refl).1 at)
+    (told.0, told.1, tt, admitted_by flat v told.0.image told.0.counter 0 c.resume.result c.resume.new.self.root c.in_ok-found.found (told.2 flat refl).1 c.resume.ensures.found)
 
 pub returns-in_err-found-clause-refusal : goal.returns-in_err-found-clause-refusal
 returns-in_err-found-clause-refusal g c honest =
@@ -105,3 +105,28 @@ returns-clause-opened g c honest sound =
       among = (again.among.0, inl again.among.1, sym again.among.2);
       rests = record { only = rests_above flat v.key n again.chosen key' rests };
     }
+
+pub returns-in_err-found-clause-root : goal.returns-in_err-found-clause-root
+returns-in_err-found-clause-root g c = on_err c.from_residual.result _ refl
+
+pub returns-clause-writes : goal.returns-clause-writes
+returns-clause-writes g c = ap (λ (x : View). x.writes) (ap g.B.Board.view c.resume.ensures.board) ∙ c.in_ok-found.ensures.writes
+
+pub returns-clause-past : goal.returns-clause-past
+returns-clause-past g c honest =
+    subst (KeepsPast (g.B.Board.view c.args.self.now.board)) (sym (ap g.B.Board.view c.resume.ensures.board)) (c.in_ok-found.ensures.past honest)
+
+pub returns-clause-begins : goal.returns-clause-begins
+returns-clause-begins g c honest =
+    subst (PowerFirst (g.B.Board.view c.args.self.now.board)) (sym (ap g.B.Board.view c.resume.ensures.board)) (c.in_ok-found.ensures.begins honest)
+
+pub returns-clause-fuse : goal.returns-clause-fuse
+returns-clause-fuse g c = ap (λ (x : View). x.fuse) (ap g.B.Board.view c.resume.ensures.board) ∙ c.in_ok-found.ensures.fuse
+
+pub returns-in_err-found-clause-steady : goal.returns-in_err-found-clause-steady
+returns-in_err-found-clause-steady g c made =
+    let is : c.from_residual.result ≡ Err c.in_err-found.field-0.0 = search rules in
+    c.in_err-found.ensures.steady (ap no_failure (sym is) ∙ made)
+
+pub returns-clause-steady : goal.returns-clause-steady
+returns-clause-steady g c made = ap (λ (x : View). x.state.faults) (ap g.B.Board.view c.resume.ensures.board) ∙ c.in_ok-found.ensures.steady refl

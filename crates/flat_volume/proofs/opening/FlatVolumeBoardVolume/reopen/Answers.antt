@@ -1,8 +1,11 @@
-use Rattle.std.proofs.Common.{◌≡◌, ◌∙◌, ℕ, List, Err, Option, Some, refl, sym, ap, subst, inl, rules}
+use Rattle.std.proofs.Common.{◌≡◌, ◌∙◌, ℕ, List, Err, Option, Some, refl, sym, ap, subst, inl, rules, true}
 use Rattle.std.proofs.lemmas.Bool.{false≢true}
 use Rattle.tee_base.specs.Crash.{LeavesOnly}
 use Rattle.store_api.specs.Volumes.{Held}
 use Rattle.board.specs.Moment.{View, left_since, moment}
+use Rattle.board.specs.Steps.{CallRun}
+use Rattle.epoch.proofs.CallLemmas.{run_as}
+use Rattle.epoch.specs.Opening.{no_failure}
 use Rattle.epoch.specs.Mounting.{MightBe, MountsTo}
 use Rattle.epoch.specs.Mounts.{IsRefusal, IsRefusedNow}
 use Rattle.epoch.specs.Past.{KeepsPast}
@@ -12,7 +15,7 @@ use Rattle.epoch.proofs.MountLemmas.{admitted_by, before_above, board_sound, pas
 use Rattle.flat_volume.specs.Flat.{flat}
 use Rattle.flat_volume.specs.Frame.{flat_framed}
 use Rattle.flat_volume.specs.Keeping.{held_now}
-use Rattle.flat_volume.proofs.OpenLemmas.{if_found, not_ok, told_so}
+use Rattle.flat_volume.proofs.OpenLemmas.{not_ok, told_so}
 use Rattle.flat_volume.proofs.VolumeLemmas.{held_steady, steady_open, steady_same}
 use Rattle.flat_volume.proofs.opening.FlatVolumeBoardVolume.reopen.Goals as goal
 
@@ -31,8 +34,7 @@ pub returns-clause-exact : goal.returns-clause-exact
 returns-clause-exact g c honest =
     let v = g.B.Board.view c.args.self.now.board in
     let told = c.in_ok-found.ensures.exact honest in
-    let at = if_found c.in_ok-found.found c.resume.result c.resume.ensures.found in
-    (told.0, told.1, tt, admitted_by flat v v.state.reads told.0 c.resume.result c.in_ok-found.found (told.2 flat refl).1 at)
+    (told.0, told.1, tt, admitted_by flat v v.state.reads told.0 0 c.resume.result c.resume.new.self.root c.in_ok-found.found (told.2 flat refl).1 c.resume.ensures.found)
 
 pub returns-in_err-found-clause-refusal : goal.returns-in_err-found-clause-refusal
 returns-in_err-found-clause-refusal g c honest =
@@ -90,3 +92,24 @@ returns-clause-opened g c honest sound =
         past = past_above flat v n key' past;
       };
     }
+
+pub returns-in_err-found-clause-root : goal.returns-in_err-found-clause-root
+returns-in_err-found-clause-root g c = on_err c.from_residual.result _ refl
+
+pub returns-clause-writes : goal.returns-clause-writes
+returns-clause-writes g c = ap (λ (x : View). x.writes) (ap g.B.Board.view c.resume.ensures.board) ∙ c.in_ok-found.ensures.writes
+
+pub returns-clause-past : goal.returns-clause-past
+returns-clause-past g c honest =
+    subst (KeepsPast (g.B.Board.view c.args.self.now.board)) (sym (ap g.B.Board.view c.resume.ensures.board)) (c.in_ok-found.ensures.past honest)
+
+pub returns-clause-reads : goal.returns-clause-reads
+returns-clause-reads g c honest = ap (λ (x : View). x.state.reads) (ap g.B.Board.view c.resume.ensures.board) ∙ c.in_ok-found.ensures.reads honest
+
+pub returns-in_err-found-clause-calls : goal.returns-in_err-found-clause-calls
+returns-in_err-found-clause-calls g c =
+    let is : c.from_residual.result ≡ Err c.in_err-found.field-0.0 = search rules in
+    run_as _ _ _ _ (ap no_failure is) c.in_err-found.ensures.calls
+
+pub returns-clause-calls : goal.returns-clause-calls
+returns-clause-calls g c = subst (CallRun true (g.B.Board.view c.args.self.now.board)) (sym (ap g.B.Board.view c.resume.ensures.board)) c.in_ok-found.ensures.calls

@@ -1,4 +1,5 @@
-use Rattle.std.proofs.Common.{◌≡◌, ◌≢◌, ◌∙◌, ℕ, true, false, List, Option, Err, refl, sym, ap, subst}
+use Rattle.std.proofs.Common.{◌≡◌, ◌≢◌, ◌∙◌, ℕ, true, false, List, Option, Err, refl, sym, ap, subst, arith}
+use Rattle.epoch.proofs.MountLemmas.{mounted_refuses}
 use Rattle.tee_base.specs.Crash.{LeavesOnly}
 use Rattle.tee_base.proofs.Crash.{mapped}
 use Rattle.store_api.specs.Volumes.{Held, LeftByCommit, after_commit}
@@ -8,11 +9,11 @@ use Rattle.flat_volume.specs.Flat.{flat}
 use Rattle.flat_volume.specs.Keeping.{IsOpen, IsVerified, held_now}
 use Rattle.flat_volume.specs.declared.table.Table.{Table}
 use Rattle.flat_volume.specs.declared.volume.Opened.{Opened}
-use Rattle.flat_volume.proofs.VolumeLemmas.{err_cause, err_shows, foundation_same, past_read, still_open, still_tags}
+use Rattle.flat_volume.proofs.VolumeLemmas.{err_cause, err_shows, foundation_same, if_unwritten, past_read, still_open, still_tags, unless_failed}
 use Rattle.flat_volume.proofs.volume.FlatVolumeVolume.commit.Goals as goal
 
-pub returns-in-Err : goal.returns-in-Err
-returns-in-Err g c =
+pub returns-in-Err-clause-commits : goal.returns-in-Err-clause-commits
+returns-in-Err-clause-commits g c =
     let old = c.args.self.now in
     let v = g.B.Board.view old.board in
     let w = g.B.Board.view c.replace.new.board in
@@ -26,12 +27,14 @@ returns-in-Err g c =
     record {
       committed = λ h. (told.replaced h.0 (is_open (h.1 c.if-self.false))).commits;
       sequence = refl;
-      shows = λ tells. err_shows Opened ℕ e w v.key old.root c.args.region c.take.new.self told.calls.key c.take.ensures.after c.requires (told.damage tells verified);
+      unwritten = if_unwritten e _ (λ made. told.unwritten made);
+      shows = λ tells. err_shows Opened ℕ e w v.key old.root c.args.region c.take.new.self told.calls.key c.take.ensures.after c.requires.region (told.damage tells verified);
       call = record {
         cause = record {
           cause = err_cause ℕ e _ _ c.if-self.false c.is_failed-self-in-Err.ensures (λ f. told.cause (ap Err f)) (λ f. told.answer (ap Err f))
               (still_tags Opened ℕ (λ tags. tags.found ≢ tags.kept) e told.tags);
           later = told.calls.faults;
+          unfailed = unless_failed ℕ e _ (λ made. told.calls.steady made);
           foundation = foundation_same v w told.calls;
         };
         below = told.honest;
@@ -48,3 +51,16 @@ returns-in-Err g c =
           (subst (λ (k : List ℕ). LeavesOnly moment left_since v w (λ o. LeftByCommit (Err e) before after (held_of flat k o))) (sym told.calls.key)
           (told.replaced h.0 (is_open (h.1 live))).crash);
     }
+
+pub returns-in-Err-clause-writes : goal.returns-in-Err-clause-writes
+returns-in-Err-clause-writes g c = c.in-Err.ensures.writes
+
+pub returns-in-Ok-clause-rollback : goal.returns-in-Ok-clause-rollback
+returns-in-Ok-clause-rollback g c h counter above =
+    let old = c.args.self.now in
+    let w = g.B.Board.view c.replace.new.board in
+    let o = c.in-Ok.field-0 in
+    let is : IsOpen (g.B.Board.view old.board) old.root old.sequence c.take.result
+    = subst (IsOpen (g.B.Board.view old.board) old.root old.sequence) (sym c.take.ensures.value) (h.1 c.if-self.false) in
+    let stays = (c.in-Ok.ensures.replaced h.0 is).stays in
+    mounted_refuses flat w.key o.root (held_now w o.root o.sequence) w.state stays.mounted (omega (arith, c.in-Ok.ensures.sequence)) counter above

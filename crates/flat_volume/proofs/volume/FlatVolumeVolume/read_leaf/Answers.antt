@@ -1,4 +1,4 @@
-use Rattle.std.proofs.Common.{◌≡◌, ◌<◌, ◌∙◌, ℕ, true, false, List, Some, Err, refl, sym, ap, subst, arith}
+use Rattle.std.proofs.Common.{◌≡◌, ◌∙◌, ℕ, true, false, List, Some, Err, refl, sym, ap, subst}
 use Rattle.tee_base.proofs.Crash.{mapped}
 use Rattle.store_api.specs.Volumes.{ShowsLeaf}
 use Rattle.board.specs.Moment.{moment, left_since}
@@ -6,26 +6,27 @@ use Rattle.epoch.specs.Forms.{held_of}
 use Rattle.flat_volume.specs.Flat.{flat}
 use Rattle.flat_volume.specs.Keeping.{held_now}
 use Rattle.flat_volume.specs.Laws.{sound_open}
-use Rattle.flat_volume.proofs.VolumeLemmas.{crash_read, damage_of, damage_same, err_cause, err_undamaged, foundation_same, held_same, open_same, past_read, steady_read, tables_same, text_read}
+use Rattle.flat_volume.proofs.VolumeLemmas.{crash_read, damage_of, damage_same, err_cause, err_undamaged, foundation_same, held_same, open_same, past_read, steady_read, tables_same, text_found, text_same, unless_failed}
 use Rattle.flat_volume.proofs.volume.FlatVolumeVolume.read_leaf.Goals as goal
 
-pub returns-in-Ok : goal.returns-in-Ok
-returns-in-Ok g c =
+pub returns-in-Ok-clause-reads : goal.returns-in-Ok-clause-reads
+returns-in-Ok-clause-reads g c =
     let old = c.args.self.now in
     let v = g.B.Board.view old.board in
     let w = g.B.Board.view c.find_leaf.new.board in
     let table = c.find_leaf.new.table in
     let told = c.in-Ok.ensures in
-    let leaf : c.args.leaf < 256 = omega arith in
     record {
-      leaf = λ h. text_read v old.root old.sequence old.table c.args.region c.args.leaf _ _ (h.1 c.if-self.false) c.requires leaf c.number_in_all-number.ensures.number
-          (told.leaf (g.met.B.Board.honest_reads old.board h.0));
+      leaf = λ tells.
+          told.leaf tells ∙ text_found old.table v old.root c.args.region c.args.leaf _ c.requires.region c.requires.leaf c.number_in_all-number.ensures.number;
+      text = λ tells. text_same v w old.table table old.root told.calls.key (told.same tells) (tables_same old.table table v w old.root (told.same tells) (told.kept tells));
       same = λ h. held_same v w old.root old.sequence told.calls.key (told.honest h.0).1.state.reads;
       sequence = refl;
-      shows = λ tells. sym (damage_of old.table v old.root c.args.region c.args.leaf _ c.requires leaf c.number_in_all-number.ensures.number) ∙ told.damage tells old.verified;
+      writes = told.writes;
+      shows = λ tells. sym (damage_of old.table v old.root c.args.region c.args.leaf _ c.requires.region c.requires.leaf c.number_in_all-number.ensures.number) ∙ told.damage tells old.verified;
       damage = λ tells. damage_same v w old.table table old.root told.calls.key (told.same tells) (tables_same old.table table v w old.root (told.same tells) (told.kept tells));
       call = record {
-        cause = record { cause = (c.if-self.false, c.if-self.false); later = told.calls.faults; foundation = foundation_same v w told.calls };
+        cause = record { cause = (c.if-self.false, c.if-self.false); later = told.calls.faults; unfailed = told.calls.steady refl; foundation = foundation_same v w told.calls };
         below = λ b. (told.honest b).0;
         honest = λ h. (
           (
@@ -45,25 +46,27 @@ returns-in-Ok g c =
           (crash_read v w old.root old.sequence old.table (h.1 live) told.calls.key (told.honest h.0).1);
     }
 
-pub returns-in-Err : goal.returns-in-Err
-returns-in-Err g c =
+pub returns-in-Err-clause-reads : goal.returns-in-Err-clause-reads
+returns-in-Err-clause-reads g c =
     let old = c.args.self.now in
     let v = g.B.Board.view old.board in
     let w = g.B.Board.view c.find_leaf.new.board in
     let table = c.find_leaf.new.table in
     let told = c.in-Err.ensures in
-    let leaf : c.args.leaf < 256 = omega arith in
-    let damage = damage_of old.table v old.root c.args.region c.args.leaf _ c.requires leaf c.number_in_all-number.ensures.number in
+    let damage = damage_of old.table v old.root c.args.region c.args.leaf _ c.requires.region c.requires.leaf c.number_in_all-number.ensures.number in
     record {
-      leaf = λ h. tt;
+      leaf = λ tells. tt;
+      text = λ tells. text_same v w old.table table old.root told.calls.key (told.same tells) (tables_same old.table table v w old.root (told.same tells) (told.kept tells));
       same = λ h. held_same v w old.root old.sequence told.calls.key (told.honest h.0).1.state.reads;
       sequence = refl;
+      writes = told.writes;
       shows = λ tells. subst (ShowsLeaf {A = Unit {0}} (Err c.in-Err.answer)) damage (told.damage tells old.verified);
       damage = λ tells. damage_same v w old.table table old.root told.calls.key (told.same tells) (tables_same old.table table v w old.root (told.same tells) (told.kept tells));
       call = record {
         cause = record {
           cause = err_cause (Unit {0}) c.in-Err.answer _ _ c.if-self.false c.is_failed-self.ensures (λ e. told.cause (ap Err e)) (λ e. told.answer (ap Err e)) told.tags;
           later = told.calls.faults;
+          unfailed = unless_failed (Unit {0}) c.in-Err.answer _ (λ made. told.calls.steady made);
           foundation = foundation_same v w told.calls;
         };
         below = λ b. (told.honest b).0;

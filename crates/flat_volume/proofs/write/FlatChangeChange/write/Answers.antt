@@ -1,4 +1,4 @@
-use Rattle.std.proofs.Common.{◌+◌, ◌*◌, ◌∙◌, ℕ, List, sym, ap, subst, rules}
+use Rattle.std.proofs.Common.{◌+◌, ◌*◌, ◌∙◌, ℕ, List, sym, ap, subst, rules, arith}
 use Rattle.store_api.specs.Volumes.{replaced}
 use Rattle.epoch.specs.Commits.{spare}
 use Rattle.epoch.proofs.PastLemmas.{followed}
@@ -65,3 +65,12 @@ returns-clause-checked g c key checks = record {
   keyed = checks.keyed;
   undamaged = tagged key _ _ (c.tag.ensures key checks.keyed);
 }
+
+pub returns-in_err-write_leaves-clause-writes : goal.returns-in_err-write_leaves-clause-writes
+returns-in_err-write_leaves-clause-writes g c = omega (arith, c.in_err-write_leaves.ensures.writes)
+
+pub returns-in_err-write_table-clause-writes : goal.returns-in_err-write_table-clause-writes
+returns-in_err-write_table-clause-writes g c = omega (arith, c.in_ok-write_leaves.ensures.writes, c.in_err-write_table.ensures.writes)
+
+pub returns-clause-writes : goal.returns-clause-writes
+returns-clause-writes g c = omega (arith, c.in_ok-write_leaves.ensures.writes, c.in_ok-write_table.ensures.writes)

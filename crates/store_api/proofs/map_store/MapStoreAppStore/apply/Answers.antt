@@ -12,8 +12,9 @@ returns-in_err-begin_change-clause-applies c =
 pub returns-in_err-apply-clause-applies : goal.returns-in_err-apply-clause-applies
 returns-in_err-apply-clause-applies c =
     change_refused_as c.args.change.now c.args.self.now _ c.in_ok-begin_change.ensures.limits _ c.in_err-apply.field-0.0 (search rules) (search rules) (search rules) (search rules)
-    (search rules) (search rules) (search rules)
+    (search rules) (search rules) (search rules) (search rules)
 
 pub returns-clause-applies : goal.returns-clause-applies
 returns-clause-applies c =
-    change_made c.args.change.now c.args.self.now _ c.in_ok-begin_change.ensures.limits c.requires (search rules) (search rules) (search rules) (search rules) (search rules) (search rules)
+    change_made c.args.change.now c.args.self.now _ c.in_ok-begin_change.ensures.limits c.requires (search rules) (search rules) (search rules) (search rules) (search rules)
+    (search rules) (search rules)

@@ -1,0 +1,89 @@
+-- The leaves of an honest volume as they are found, and the store that they stand for.
+use Rattle.std.proofs.Common.{◌≡◌, ◌<◌, ℕ, Bool, true, false, nat_lt, List, [], ◌∷◌, Result, Ok, Err, refl, sym, ap, ◌∙◌, subst, arith}
+use Rattle.std.specs.Prelude.{◌&&◌, bytes_eq, IsTrue}
+use Rattle.std.proofs.lemmas.Bool.{ltb-true}
+use Rattle.tee_base.specs.declared.limits.TheConstants.{LEAVES, MAX_HOSTS}
+use Rattle.store_api.specs.Ascending.{is_above_all}
+use Rattle.store_api.specs.declared.answer.StoreAnswer.{StoreAnswer}
+use Rattle.store_api.specs.declared.answer.StoreAnswer.TheVariants.{NotFound, Exists, NoSpace, Lost, Failed, Corrupt, Garbled, NoMemory}
+use Rattle.store_api.specs.declared.change.Change.{Change}
+use Rattle.store_api.specs.declared.leaves.Leaf.{Leaf}
+use Rattle.store_api.specs.Keeping.{Answers}
+use Rattle.store_api.specs.Stores.{Store}
+use Rattle.store_api.specs.Volumes.{Condition, VolumeKeeper, leaf_after}
+use Rattle.region_plan.specs.Layout.{version_one}
+use Rattle.region_plan.specs.Planning.{IsPlanOf}
+use Rattle.region_plan.specs.Plans.{with_leaves}
+use Rattle.region_plan.specs.Reading.{IsBroken, ReadCause, refusal_of}
+use Rattle.region_plan.specs.Regions.{region_of, store_of}
+use Rattle.region_plan.proofs.AgreeLemmas.{region_same}
+use Rattle.region_plan.proofs.RuleLemmas.{region_store}
+use Rattle.region_plan.proofs.SoundLemmas.{and_both}
+use Rattle.object_dir.specs.Changing.{are_there}
+use Rattle.object_dir.specs.Regions.{number_of, region_in, region_keeper}
+use Rattle.object_dir.specs.declared.region.Region.{Region}
+use Rattle.object_dir.proofs.HeldLemmas.{never_breaks}
+
+-- what is known of each volume of a kind
+pub record IsLawful {V : Type 0} (K : VolumeKeeper V) : Type 0 where
+  pub whole : K.leaves ≡ LEAVES
+  pub tells : (v : V) → K.honest v → IsTrue K.tells_reads
+  pub found : (v : V) → K.honest v → (K.condition v).lost ≡ false → (region leaf : ℕ) → region < MAX_HOSTS → leaf < K.leaves → K.text v region leaf ≡ (K.held v).leaves region leaf
+
+-- leaves that agree stand for the same
+alike : (one two : ℕ → List ℕ) → ((i : ℕ) → i < 256 → one i ≡ two i) → region_of version_one one ≡ region_of version_one two
+alike one two same = region_same version_one two one (record { map = λ i below. same i (omega (arith, below)); used = λ i below is. same i below }) (λ i below. omega (arith, below)) (omega arith)
+
+-- an answer of a volume that isn't lost
+pub answers_working : {A : Type 0} (result stated : Result A StoreAnswer) (old new : Condition) → ReadCause (refusal_of result) old new → (old.lost ≡ false → Answers result stated) → Answers result stated
+answers_working (Ok a) stated old new cause told = told cause.0
+answers_working (Err NotFound) stated old new cause told = told cause.0
+answers_working (Err Exists) stated old new cause told = told cause.0
+answers_working (Err NoSpace) stated old new cause told = told cause.0
+answers_working (Err Lost) stated old new cause told = tt
+answers_working (Err Failed) stated old new cause told = tt
+answers_working (Err (Corrupt tags)) stated old new cause told = tt
+answers_working (Err (Garbled leaf)) stated old new cause told = tt
+answers_working (Err NoMemory) stated old new cause told = tt
+
+-- leaves that are there, where others agree with them
+pub there_alike : (named : List Leaf) (one two : ℕ → List ℕ) → is_above_all named LEAVES ≡ true → ((i : ℕ) → i < 256 → one i ≡ two i) → are_there one named ≡ are_there two named
+there_alike [] one two below same = refl
+there_alike (leaf ∷ named) one two below same =
+    let parts = and_both (nat_lt leaf.number LEAVES) (is_above_all named LEAVES) below in
+    ap (λ (x : List ℕ). bytes_eq x leaf.bytes && are_there one named) (same leaf.number (ltb-true leaf.number LEAVES parts.0))
+    ∙ ap (λ b. bytes_eq (two leaf.number) leaf.bytes && b) (there_alike named one two parts.1 same)
+
+module _ {V : Type 0} (K : VolumeKeeper V) (laws : IsLawful K) (r : Region V) (h : K.honest r.volume.now) (works : (K.condition r.volume.now).lost ≡ false) where
+  abbrev text : ℕ → List ℕ
+  text = K.text r.volume.now r.number
+
+  abbrev held : ℕ → List ℕ
+  held = (K.held r.volume.now).leaves r.number
+
+  -- each leaf is found as it is held
+  pub agrees : (i : ℕ) → i < 256 → text i ≡ held i
+  agrees i below = laws.found r.volume.now h works r.number i r.fits (subst (λ (n : ℕ). i < n) (sym laws.whole) below)
+
+  -- so what is found stands for what is held
+  pub stands_found : (store : Store) → region_in r.number (K.held r.volume.now) ≡ Ok store → region_of version_one text ≡ Ok store
+  stands_found store is = alike text held agrees ∙ is
+
+  after_alike : (named : List Leaf) → region_of version_one (with_leaves named held) ≡ region_of version_one (with_leaves named text)
+  after_alike named = alike (with_leaves named held) (with_leaves named text) (λ i below. ap (λ (old : List ℕ). leaf_after named i old) (sym (agrees i below)))
+
+  -- a plan for the leaves that are found is one for those that are held
+  pub plan_held : (c : Change) (store : Store) (named : List Leaf) → IsPlanOf version_one text store c named → IsPlanOf version_one held store c named
+  plan_held c store named plan = record {
+    after = plan.after;
+    changes = plan.changes;
+    stands = after_alike named ∙ plan.stands;
+    few = plan.few;
+  }
+
+  pub store_found : (store : Store) → region_in r.number (K.held r.volume.now) ≡ Ok store → store_of version_one text ≡ store
+  store_found store is = sym (region_store version_one text store (stands_found store is))
+
+  -- no leaf of a region that stands for a store breaks a rule
+  pub broken_never : (store : Store) → region_in r.number (K.held r.volume.now) ≡ Ok store → (leaf : ℕ) → IsBroken (region_keeper K) number_of version_one r leaf → ⊥
+  broken_never store is leaf broken = never_breaks text store (stands_found store is) leaf broken.below (broken.breaks (laws.tells r.volume.now h))
