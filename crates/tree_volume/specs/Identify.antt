@@ -5,7 +5,7 @@ use Rattle.mac_digest.specs.declared.digests.Hash.TheVariants.{Sha256}
 use Rattle.seal.specs.Sealing.{le64, tag_key}
 use Rattle.epoch.specs.declared.header.TreeEntry.{TreeEntry}
 use Rattle.tree_volume.specs.Shape.{Shape}
-use Rattle.tree_volume.specs.Tree.{Look, block_at, entry_below}
+use Rattle.tree_volume.specs.Tree.{Look, block_at, entry_below, on_image}
 
 -- the message of a tag, by place and entry
 abbrev pub Messages : Type 0
@@ -30,3 +30,9 @@ module _ (s : Shape) (key : List ℕ) (found kept : Look) (found_message kept_me
       TagsIdentify level (s.parent place)
       × CodeIdentifies key (found_message place (entry_below s found root (suc level) place))
       (kept_message place (entry_below s kept root (suc level) place))
+
+-- so it is on the ways to a place on two images
+abbrev pub ImagesIdentify : Shape → List ℕ → (ℕ → List ℕ) → (ℕ → List ℕ) → TreeEntry → ℕ → Type 0
+ImagesIdentify s key found kept root place =
+    TagsIdentify s key (on_image s key found) (on_image s key kept) (message_on s found)
+    (message_on s kept) root (s.level place) place

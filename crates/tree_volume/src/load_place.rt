@@ -1,11 +1,12 @@
 //! How what an entry names is read, and verified, and how a leaf is found from the root down.
-ghost use Rattle.std.specs.Prelude.{◌≡◌, ◌≢◌, ◌≤◌, ◌<◌, ℕ, true, List, Ok, Err, IsTrue, IfOk, OnOk};
+ghost use Rattle.std.specs.Prelude.{◌≡◌, ◌≢◌, ◌≤◌, ◌<◌, ℕ, true, List, None, Ok, Err, IsTrue, IfOk, OnOk};
 ghost use Rattle.tee_base.specs.Faults.{Rose};
 ghost use Rattle.tee_base.specs.declared.limits.TheConstants.{MAX_HOSTS};
 ghost use Rattle.store_api.specs.Volumes.{IfMismatch, ShowsLeaf};
 ghost use Rattle.store_api.specs.declared.leaves.LeafAnswer.TheVariants as answers;
 ghost use Rattle.board.specs.Steps.{CallRun};
 ghost use Rattle.seal.specs.Keys.{AreKeysOf};
+ghost use Rattle.tree_volume.specs.Identify.{ImagesIdentify};
 ghost use Rattle.tree_volume.specs.Reading.{OnlyReads};
 ghost use Rattle.tree_volume.specs.Shape.{shape};
 ghost use Rattle.tree_volume.specs.Tree.{block_at as block_of_copy, damage_above, damage_at, damage_of, entry_below, on_image, text_of};
@@ -167,6 +168,12 @@ pub fn find_leaf<B: Board>(
     ensures damage { IsTrue B.tells_reads → (key : List ℕ) → AreKeysOf keys.now key
         → ShowsLeaf result (damage_of shape (on_image shape key (B.view board.old).state.reads)
         root.now (shape.leaf_place region leaf)) }
+    // equal tags from equal messages: it is the leaf of each image without damage on the way
+    ensures kept { IsTrue B.tells_reads → (key : List ℕ) → AreKeysOf keys.now key
+        → (image : ℕ → List ℕ) → let place = shape.leaf_place region leaf in
+        damage_of shape (on_image shape key image) root.now place ≡ None
+        → ImagesIdentify shape key (B.view board.old).state.reads image root.now place
+        → OnOk result (into.new ≡ text_of shape (on_image shape key image) root.now place) }
     ensures honest { B.honest board.old
         → B.honest board.new × OnlyReads (B.view board.old) (B.view board.new) }
 {

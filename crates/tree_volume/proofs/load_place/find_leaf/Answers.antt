@@ -1,10 +1,11 @@
-use Rattle.std.proofs.Common.{◌≡◌, ℕ, List, Result, Err, refl, sym, subst, rules}
+use Rattle.std.proofs.Common.{◌≡◌, ℕ, List, Result, Err, OnOk, refl, sym, subst, rules}
 use Rattle.store_api.specs.declared.leaves.LeafAnswer.{LeafAnswer}
 use Rattle.store_api.specs.Volumes.{ShowsLeaf}
 use Rattle.epoch.specs.declared.header.TreeEntry.{TreeEntry}
 use Rattle.tree_volume.specs.Shape.{shape}
-use Rattle.tree_volume.specs.Tree.{Look, damage_above, damage_at, damage_of, entry_below, on_image}
-use Rattle.tree_volume.proofs.ReadLemmas.{only_more, shows_end, shows_way, way_to}
+use Rattle.tree_volume.specs.Tree.{Look, damage_above, damage_at, damage_of, entry_below, on_image, text_of}
+use Rattle.tree_volume.proofs.IdentifyLemmas.{agrees}
+use Rattle.tree_volume.proofs.ReadLemmas.{kept_end, only_more, shows_end, shows_way, text_to, way_to}
 use Rattle.tree_volume.proofs.load_place.find_leaf.Goals as goal
 
 pub returns-in_err-entry-clause-damage : goal.returns-in_err-entry-clause-damage
@@ -28,6 +29,23 @@ returns-clause-damage g c tells key keyed =
     (c.in_ok-entry.ensures.damage tells key keyed)
     (subst (λ (reads : ℕ → List ℕ). ShowsLeaf c.load.result (damage_at (on_image shape key reads) place c.in_ok-entry.entry)) (c.in_ok-entry.ensures.same tells)
     (c.load.ensures.damage tells key keyed))
+
+pub returns-clause-text : goal.returns-clause-text
+returns-clause-text g c tells key keyed =
+    let look : Look = on_image shape key (g.B.Board.view c.args.board.now).state.reads in
+    subst (λ (text : List ℕ). OnOk c.load.result (c.load.new.into ≡ text))
+    (text_to shape look c.args.root.now 4 c.leaf_place-place.result (shape.leaf_place c.args.region c.args.leaf) c.leaf_place-place.ensures.place c.leaf_place-place.ensures.level
+    c.in_ok-entry.entry (c.in_ok-entry.ensures.entry tells key keyed))
+    (subst (λ (reads : ℕ → List ℕ). OnOk c.load.result (c.load.new.into ≡ (on_image shape key reads c.leaf_place-place.result c.in_ok-entry.entry).text)) (c.in_ok-entry.ensures.same tells)
+    (c.load.ensures.text tells key keyed))
+
+pub returns-clause-kept : goal.returns-clause-kept
+returns-clause-kept g c tells key keyed image none identified =
+    let reads = (g.B.Board.view c.args.board.now).state.reads in
+    let leaf : ℕ = shape.leaf_place c.args.region c.args.leaf in
+    kept_end (Unit {0}) c.load.result c.load.new.into (text_of shape (on_image shape key reads) c.args.root.now leaf) (text_of shape (on_image shape key image) c.args.root.now leaf)
+    (damage_of shape (on_image shape key reads) c.args.root.now leaf) (returns-clause-text g c tells key keyed) (returns-clause-damage g c tells key keyed)
+    (λ damage. (agrees shape key reads image c.args.root.now (shape.level leaf) leaf damage none identified).1)
 
 pub returns-clause-honest : goal.returns-clause-honest
 returns-clause-honest g c h =
