@@ -1,0 +1,11 @@
+pub mod EntryLemmas
+pub mod FrameLemmas
+pub mod IdentifyLemmas
+pub mod ReadLemmas
+pub mod ShapeLemmas
+pub mod StartLemmas
+pub mod StepLemmas
+pub mod TouchedLemmas
+pub mod TreeLemmas
+pub mod WalkLemmas
+pub mod WriteLemmas

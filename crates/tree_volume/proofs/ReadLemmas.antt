@@ -1,0 +1,157 @@
+-- What is found at a place on an image, and calls that only read.
+use Rattle.std.proofs.Common.{◌≡◌, ◌≢◌, ◌<◌, ◌==◌, ◌*◌, ◌∙◌, ℕ, zero, suc, true, false, List, Option, None, Some, Result, Ok, Err, OnOk, replicate, refl, sym, ap, subst, arith}
+use Rattle.store_api.specs.declared.answer.Mismatch.{Mismatch}
+use Rattle.store_api.specs.declared.leaves.LeafAnswer.{LeafAnswer}
+use Rattle.store_api.specs.declared.leaves.LeafAnswer.TheVariants as answers
+use Rattle.store_api.specs.Volumes.{ShowsLeaf}
+use Rattle.board.specs.Moment.{View}
+use Rattle.board.specs.Steps.{Answered, Unchanged}
+use Rattle.seal.specs.Sealing.{ciphertext, plaintext, seal_tag}
+use Rattle.seal.proofs.SealLemmas.{reopened}
+use Rattle.epoch.proofs.PastLemmas.{followed, itself, once}
+use Rattle.epoch.proofs.RunLemmas.{over_read}
+use Rattle.epoch.specs.Header.{entry_at}
+use Rattle.epoch.specs.declared.header.TreeEntry.{TreeEntry}
+use Rattle.tree_volume.specs.Reading.{OnlyReads}
+use Rattle.tree_volume.specs.Shape.{Shape}
+use Rattle.tree_volume.specs.Tree.{Found, Look, block_at, damage_above, damage_at, damage_below, damage_of, differing, entry_below, first_damage, known, on_image, text_of, unless_zero}
+use Rattle.tree_volume.proofs.TreeLemmas.{differs, no_difference}
+
+-- calls that only read
+pub only_itself : (v : View) → OnlyReads v v
+only_itself v = record {
+  state = record { reads = refl; durable = refl; pending = refl; counter = refl; slack = refl };
+  past = itself v;
+  run = λ open_at base low high first run. run;
+}
+
+pub only_once : (old new : View) → Answered old new → Unchanged old.state new.state → OnlyReads old new
+only_once old new answered same = record {
+  state = same;
+  past = once old new answered;
+  run = λ open_at base low high first run. over_read open_at base low high first old new run answered same;
+}
+
+pub only_more : (first old new : View) → OnlyReads first old → OnlyReads old new → OnlyReads first new
+only_more first old new one two = record {
+  state = record {
+    reads = two.state.reads ∙ one.state.reads;
+    durable = two.state.durable ∙ one.state.durable;
+    pending = two.state.pending ∙ one.state.pending;
+    counter = two.state.counter ∙ one.state.counter;
+    slack = two.state.slack ∙ one.state.slack;
+  };
+  past = followed first old new one.past two.past;
+  run = λ open_at base low high start run. two.run open_at base low high start (one.run open_at base low high start run);
+}
+
+module _ (s : Shape) (key : List ℕ) (image : ℕ → List ℕ) (place : ℕ) (e : TreeEntry) where
+  -- an entry of sequence 0 names zeros
+  pub found_zero : e.sequence ≡ 0 → on_image s key image place e ≡ known (replicate 1024 0) e
+  unfolding unless_zero
+  found_zero none = let t : (e.sequence == 0) ≡ true = grind arith in rw t refl
+
+  -- and each other its block
+  pub found_block : e.sequence ≢ 0
+      → on_image s key image place e ≡ record { tag = seal_tag key place e.sequence e.iv (image (block_at s place e.copy)); text = plaintext key e.iv (image (block_at s place e.copy)) }
+  unfolding unless_zero
+  found_block some = let t : (e.sequence == 0) ≡ false = grind arith in rw t refl
+
+  pub zero_damage : e.sequence ≡ 0 → damage_at (on_image s key image) place e ≡ None
+  zero_damage none = ap (λ (f : Found). differing f.tag e.tag) (found_zero none) ∙ no_difference e.tag
+
+  -- the block of an entry as it was read
+  module _ (cipher : List ℕ) (some : e.sequence ≢ 0) (here : cipher ≡ image (block_at s place e.copy)) where
+    block_tag : (on_image s key image place e).tag ≡ seal_tag key place e.sequence e.iv cipher
+    block_tag = ap (λ (f : Found). f.tag) (found_block some) ∙ ap (seal_tag key place e.sequence e.iv) (sym here)
+
+    pub block_differs : (found : List ℕ) → found ≡ seal_tag key place e.sequence e.iv cipher → found ≢ e.tag
+        → damage_at (on_image s key image) place e ≡ Some (record { found = found; kept = e.tag })
+    block_differs found is ne = ap (λ (t : List ℕ). differing t e.tag) (block_tag ∙ sym is) ∙ differs found e.tag ne
+
+    pub block_agrees : seal_tag key place e.sequence e.iv cipher ≡ e.tag → damage_at (on_image s key image) place e ≡ None
+    block_agrees is = ap (λ (t : List ℕ). differing t e.tag) (block_tag ∙ is) ∙ no_difference e.tag
+
+    pub block_text : (into : List ℕ) → into ≡ plaintext key e.iv cipher → into ≡ (on_image s key image place e).text
+    block_text into is = is ∙ ap (plaintext key e.iv) here ∙ sym (ap (λ (f : Found). f.text) (found_block some))
+
+  -- a block that was sealed, and stands where the entry says
+  pub found_sealed : (plain cipher : List ℕ) → 0 < e.sequence → image (block_at s place e.copy) ≡ cipher → e.tag ≡ seal_tag key place e.sequence e.iv cipher
+      → cipher ≡ ciphertext key e.iv plain → on_image s key image place e ≡ known plain e
+  unfolding plaintext
+  found_sealed plain cipher positive here tag text =
+      found_block (λ none. absurd (omega arith)) ∙ rw (here, tag, reopened key e.iv plain cipher text) refl
+
+-- the damage on a way is that above the place, and then the place's own
+pub damage_split : (s : Shape) (look : Look) (root : TreeEntry) (level place : ℕ)
+    → damage_below s look root level place ≡ first_damage (damage_above s look root level place) (damage_at look place (entry_below s look root level place))
+unfolding damage_below entry_below
+damage_split s look root zero place = refl
+damage_split s look root (suc level) place = refl
+
+-- what is found first is found on the way
+pub shows_first : (A B : Type 0) (e : LeafAnswer) (first rest : Option Mismatch) → ShowsLeaf {A = A} (Err e) first → ShowsLeaf {A = B} (Err e) (first_damage first rest)
+shows_first A B (answers.Mismatch tags) first rest shows = ap (λ (d : Option Mismatch). first_damage d rest) shows
+shows_first A B answers.Lost first rest shows = tt
+shows_first A B answers.Failed first rest shows = tt
+shows_first A B answers.NoMemory first rest shows = tt
+
+module _ (s : Shape) (look : Look) (root : TreeEntry) where
+  -- the entry at the top is the root
+  pub entry_top : (level place : ℕ) → level ≡ 0 → root ≡ entry_below s look root level place
+  unfolding entry_below
+  entry_top level place top = subst (λ (l : ℕ). root ≡ entry_below s look root l place) (sym top) refl
+
+  module _ (level k place above : ℕ) (one : suc k ≡ level) (up : above ≡ s.parent place) where
+    -- the entry of a place stands in the node above
+    pub entry_found : (e result : TreeEntry) (node : List ℕ) (slot : ℕ) → e ≡ entry_below s look root k above → node ≡ (look above e).text → slot ≡ s.slot place
+        → result ≡ entry_at (64 * slot) node → result ≡ entry_below s look root level place
+    unfolding entry_below
+    entry_found e result node slot is text at from =
+        from ∙ ap (λ (i : ℕ). entry_at (64 * i) node) at ∙ ap (entry_at (64 * s.slot place)) (text ∙ ap (λ (x : TreeEntry). (look above x).text) is)
+        ∙ ap (λ (q : ℕ). entry_at (64 * s.slot place) (look q (entry_below s look root k q)).text) up
+        ∙ ap (λ (l : ℕ). entry_below s look root l place) one
+
+    -- the damage above a place is that above the node, and then the node's own
+    pub way_above : (e : TreeEntry) → e ≡ entry_below s look root k above
+        → damage_above s look root level place ≡ first_damage (damage_above s look root k above) (damage_at look above e)
+    way_above e is =
+        sym (ap (λ (l : ℕ). damage_above s look root l place) one) ∙ ap (damage_below s look root k) (sym up) ∙ damage_split s look root k above
+        ∙ ap (λ (x : TreeEntry). first_damage (damage_above s look root k above) (damage_at look above x)) (sym is)
+
+  -- the damage on the way to a leaf
+  pub way_to : (level place leaf : ℕ) → place ≡ leaf → s.level place ≡ level → (e : TreeEntry) → e ≡ entry_below s look root level place
+      → damage_of s look root leaf ≡ first_damage (damage_above s look root level place) (damage_at look place e)
+  way_to level place leaf same at e is =
+      ap (damage_of s look root) (sym same) ∙ ap (λ (l : ℕ). damage_below s look root l place) at ∙ damage_split s look root level place
+      ∙ ap (λ (x : TreeEntry). first_damage (damage_above s look root level place) (damage_at look place x)) (sym is)
+
+  -- and the bytes of it
+  pub text_to : (level place leaf : ℕ) → place ≡ leaf → s.level place ≡ level → (e : TreeEntry) → e ≡ entry_below s look root level place
+      → (look place e).text ≡ text_of s look root leaf
+  text_to level place leaf same at e is =
+      ap (λ (x : TreeEntry). (look place x).text) is ∙ ap (λ (l : ℕ). (look place (entry_below s look root l place)).text) (sym at) ∙ ap (text_of s look root) same
+
+-- what was found is what was kept, where nothing is damaged
+pub kept_end : (A : Type 0) (r : Result A LeafAnswer) (into found kept : List ℕ) (damage : Option Mismatch) → OnOk r (into ≡ found) → ShowsLeaf r damage → (damage ≡ None → found ≡ kept)
+    → OnOk r (into ≡ kept)
+kept_end A (Ok x) into found kept damage text shows same = text ∙ same shows
+kept_end A (Err e) into found kept damage text shows same = tt
+
+-- what is shown of the first of two damages, or of the second where there is no first
+pub shows_way : (A B : Type 0) (e : LeafAnswer) (whole first rest : Option Mismatch) → whole ≡ first_damage first rest → ShowsLeaf {A = A} (Err e) first → ShowsLeaf {A = B} (Err e) whole
+shows_way A B e whole first rest is shows = subst (λ (d : Option Mismatch). ShowsLeaf {A = B} (Err e) d) (sym is) (shows_first A B e first rest shows)
+
+pub shows_rest : (A B : Type 0) (e : LeafAnswer) (whole first rest : Option Mismatch) → whole ≡ first_damage first rest → first ≡ None → ShowsLeaf {A = A} (Err e) rest
+    → ShowsLeaf {A = B} (Err e) whole
+shows_rest A B (answers.Mismatch tags) whole first rest is none shows = is ∙ ap (λ (d : Option Mismatch). first_damage d rest) none ∙ shows
+shows_rest A B answers.Lost whole first rest is none shows = tt
+shows_rest A B answers.Failed whole first rest is none shows = tt
+shows_rest A B answers.NoMemory whole first rest is none shows = tt
+
+pub shows_end : (A : Type 0) (r : Result A LeafAnswer) (whole first rest : Option Mismatch) → whole ≡ first_damage first rest → first ≡ None → ShowsLeaf r rest → ShowsLeaf r whole
+shows_end A (Ok x) whole first rest is none shows = is ∙ ap (λ (d : Option Mismatch). first_damage d rest) none ∙ shows
+shows_end A (Err e) whole first rest is none shows = shows_rest A A e whole first rest is none shows
+
+pub none_way : (whole first rest : Option Mismatch) → whole ≡ first_damage first rest → first ≡ None → rest ≡ None → whole ≡ None
+none_way whole first rest is one two = is ∙ ap (λ (d : Option Mismatch). first_damage d rest) one ∙ two

@@ -1,0 +1,68 @@
+-- The place above a place, and damages.
+use Rattle.std.proofs.Common.{◌≡◌, ◌≢◌, ◌<◌, ℕ, suc, true, false, List, Option, None, Some, if◌then◌else◌, bytes_eq, refl, sym, subst, ⊎_elim, arith}
+use Rattle.std.proofs.lemmas.Bool.{cases_eq}
+use Rattle.std.proofs.lemmas.Slice.Eq.{bytes_eq-Decides}
+use Rattle.store_api.specs.declared.answer.Mismatch.{Mismatch}
+use Rattle.tree_volume.specs.Shape.{IsShape, Shape}
+use Rattle.tree_volume.specs.Tree.{differing, first_damage}
+
+module _ (s : Shape) (is : IsShape s) where
+  -- a place below the root isn't the root
+  pub not_root : (level p : ℕ) → s.level p ≡ suc level → 0 < p
+  not_root level p at =
+      ⊎_elim
+      (λ (e : p ≡ 0). absurd (let z : s.level p ≡ 0 = subst (λ (q : ℕ). s.level q ≡ 0) (sym e) is.top in omega arith))
+      (λ (ne : p ≢ 0). omega arith)
+      (cases_eq p 0)
+
+  -- the place above it
+  pub above : (level p : ℕ) → p < s.places → s.level p ≡ suc level → (s.level (s.parent p) ≡ level) × (s.parent p < s.places) × (0 < p)
+  above level p inside at =
+      let positive : 0 < p = not_root level p at in
+      let up : s.level p ≡ suc (s.level (s.parent p)) = is.below p positive inside in
+      let before : s.parent p < p = is.before p positive in
+      (omega arith, omega arith, positive)
+
+  -- at the top there is the root alone
+  pub is_root : (p : ℕ) → p < s.places → s.level p ≡ 0 → p ≡ 0
+  is_root p inside at =
+      ⊎_elim (λ (e : p ≡ 0). e)
+      (λ (ne : p ≢ 0). absurd (let up : s.level p ≡ suc (s.level (s.parent p)) = is.below p (omega arith) inside in omega arith))
+      (cases_eq p 0)
+
+-- equal tags don't differ
+pub no_difference : (tag : List ℕ) → differing tag tag ≡ None
+unfolding differing
+no_difference tag = let e : bytes_eq tag tag ≡ true = (bytes_eq-Decides tag tag).1 refl in rw e refl
+
+-- tags that aren't equal differ
+pub differs : (found kept : List ℕ) → found ≢ kept → differing found kept ≡ Some (record { found = found; kept = kept })
+unfolding differing
+differs found kept ne =
+    elim (bytes_eq found kept) as (λ b. bytes_eq found kept ≡ b →
+    (let none : Option Mismatch = None in if b then none else Some (record { found = found; kept = kept })) ≡ Some (record { found = found; kept = kept })) [
+      | true ↦ λ e. absurd (ne ((bytes_eq-Decides found kept).0 e))
+      | false ↦ λ e. refl
+    ] refl
+
+-- tags that don't differ are equal
+pub agree : (found kept : List ℕ) → differing found kept ≡ None → found ≡ kept
+unfolding differing
+agree found kept =
+    elim (bytes_eq found kept) as (λ b. bytes_eq found kept ≡ b →
+    (let none : Option Mismatch = None in if b then none else Some (record { found = found; kept = kept })) ≡ None → found ≡ kept) [
+      | true ↦ λ e is. (bytes_eq-Decides found kept).0 e
+      | false ↦ λ e is. absurd (cc)
+    ] refl
+
+-- where the first of two damages is none, there is neither
+pub first_none : (a b : Option Mismatch) → first_damage a b ≡ None → a ≡ None
+first_none None b e = refl
+first_none (Some tags) b e = absurd (cc)
+
+pub second_none : (a b : Option Mismatch) → first_damage a b ≡ None → b ≡ None
+second_none None b e = e
+second_none (Some tags) b e = absurd (cc)
+
+pub both_none : (a b : Option Mismatch) → a ≡ None → b ≡ None → first_damage a b ≡ None
+both_none a b one two = rw (one, two) refl

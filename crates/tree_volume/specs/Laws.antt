@@ -1,0 +1,26 @@
+-- Laws of the ways from a root down.
+use Rattle.std.specs.Prelude.{◌≡◌, ◌≤◌, ◌<◌, ℕ, List, None}
+use Rattle.epoch.specs.declared.header.TreeEntry.{TreeEntry}
+use Rattle.tree_volume.specs.Identify.{TagsIdentify, message_on}
+use Rattle.tree_volume.specs.Shape.{IsShape, Shape}
+use Rattle.tree_volume.specs.Tree.{Look, damage_below, damage_of, entry_below, on_image}
+use Rattle.tree_volume.specs.Walk.{AreChildren, Children, walk}
+
+-- where a walk from the root down finds nothing wrong, no place that it comes to has a damage on its way
+abbrev pub WalkFindsAll : Type 0
+WalkFindsAll =
+    (s : Shape) → IsShape s → (c : Children) → AreChildren s c → (look : Look) (root : TreeEntry) (depth : ℕ)
+    → walk c look depth 0 root ≡ None
+    → (place : ℕ) → place < s.places → s.level place ≤ depth → damage_of s look root place ≡ None
+
+-- two images without a damage on the way from one root to a place, and equal tags there from equal messages: the same entry
+-- names the same bytes
+abbrev pub AgreesWhereIdentified : Type 0
+AgreesWhereIdentified =
+    (s : Shape) (key : List ℕ) (found kept : ℕ → List ℕ) (root : TreeEntry) (level place : ℕ)
+    → damage_below s (on_image s key found) root level place ≡ None
+    → damage_below s (on_image s key kept) root level place ≡ None
+    → TagsIdentify s key (on_image s key found) (on_image s key kept) (message_on s found) (message_on s kept) root level place
+    → (entry_below s (on_image s key found) root level place ≡ entry_below s (on_image s key kept) root level place)
+    × ((on_image s key found place (entry_below s (on_image s key found) root level place)).text
+    ≡ (on_image s key kept place (entry_below s (on_image s key kept) root level place)).text)

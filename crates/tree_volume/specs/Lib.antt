@@ -1,0 +1,7 @@
+pub mod Identify
+pub mod Laws
+pub mod Reading
+pub mod Shape
+pub mod Touched
+pub mod Tree
+pub mod Walk

@@ -1,0 +1,19 @@
+//! Laws of the places and of the ways to them, proved on functions that do nothing.
+ghost use Rattle.tree_volume.specs.Laws.{AgreesWhereIdentified, WalkFindsAll};
+ghost use Rattle.tree_volume.specs.Shape.{IsShape, first_shape, shape};
+ghost use Rattle.tree_volume.specs.Walk.{AreChildren, children, first_children};
+
+/// The places of each version are those of a tree, and a walk from the root down comes to all of them.
+pub fn shape_laws()
+    ensures shape { IsShape shape }
+    ensures children { AreChildren shape children }
+    ensures first_shape { IsShape first_shape }
+    ensures first_children { AreChildren first_shape first_children }
+{}
+
+/// A walk that finds nothing wrong shows that no place has a damage on its way. Two images that have no damage on the way
+/// from one root to a place have the same bytes there, where equal tags come from equal messages.
+pub fn tree_laws()
+    ensures walked { WalkFindsAll }
+    ensures identified { AgreesWhereIdentified }
+{}

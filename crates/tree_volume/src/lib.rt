@@ -1,0 +1,14 @@
+//! A volume whose entries stand in a tree of nodes, on any board.
+#![tactic(auto)]
+
+mod first_version;
+mod laws;
+mod load_place;
+mod places;
+mod touched;
+mod write;
+
+pub use load_place::{find_entry, find_leaf, load};
+pub use places::TREE_BLOCKS;
+pub use touched::{Node, Touched};
+pub use write::{write_all, write_node};

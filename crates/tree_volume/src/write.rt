@@ -1,0 +1,107 @@
+//! How a commit writes the places that it touches.
+ghost use Rattle.std.specs.Prelude.{◌≡◌, ◌≢◌, ◌≤◌, ◌<◌, ◌+◌, ◌^◌, ℕ, Bool, true, List, IfOk, length, is_ok};
+ghost use Rattle.board.specs.Moment.{View};
+ghost use Rattle.board.specs.Runs.{RunsOver};
+ghost use Rattle.board.specs.Steps.{CallRun, capped};
+ghost use Rattle.seal.specs.Keys.{AreKeysOf};
+ghost use Rattle.epoch.specs.Past.{KeepsPast};
+ghost use Rattle.epoch.specs.declared.header.TreeEntry.{TreeEntry as Entry};
+ghost use Rattle.tree_volume.specs.Shape.{shape};
+ghost use Rattle.tree_volume.specs.Touched.{AreOrdered, AreSpare, fresh_of, spare_block};
+ghost use Rattle.tree_volume.specs.Tree.{damage_of, known, on_image, text_of, with_new};
+
+use crate::places::{DEPTH, ENTRY_BYTES, PLACES, TREE_BLOCKS, block_at, other_copy, parent, slot};
+use crate::touched::{Node, Touched};
+use board::{Board, BoardFailed};
+use epoch::{TreeEntry, entry_bytes};
+use seal::{Keys, Tags, seal_leaf};
+
+/// What an empty list of nodes has in place of a root.
+const NO_ENTRY: TreeEntry = TreeEntry {
+    copy: 0,
+    sequence: 0,
+    iv: [0; 16],
+    tag: [0; 32],
+};
+
+/// Seals a node into the copy of its place that isn't in use, and gives its new entry.
+pub fn write_node<B: Board>(
+    board: &mut B,
+    keys: &Keys,
+    node: &Node,
+    sequence: u64,
+) -> Result<TreeEntry, BoardFailed>
+    requires size { TREE_BLOCKS ≤ (B.view board.old).size }
+    requires place { node.now.place < PLACES }
+    requires sequence { 0 < sequence }
+    ensures calls { CallRun (is_ok result) (B.view board.old) (B.view board.new) }
+    ensures writes { (B.view board.new).writes ≡ capped ((B.view board.old).writes + 1) }
+    ensures honest { B.honest board.old → B.honest board.new }
+    ensures past { B.honest board.old → KeepsPast (B.view board.old) (B.view board.new) }
+    ensures run { B.honest board.old
+        → (open_at : ℕ → Bool) (base : ℕ → List ℕ) (low high : ℕ) (first : View)
+        → open_at (spare_block shape node.now) ≡ true
+        → RunsOver open_at base low high first (B.view board.old)
+        → RunsOver open_at base low high first (B.view board.new) }
+    ensures elsewhere { B.honest board.old → (k : ℕ) → k ≢ spare_block shape node.now
+        → (B.view board.new).state.reads k ≡ (B.view board.old).state.reads k }
+    ensures found { B.honest board.old → (key : List ℕ) → AreKeysOf keys.now key
+        → IfOk result (λ entry.
+        on_image shape key (B.view board.new).state.reads node.now.place entry
+        ≡ known node.now.bytes entry) }
+{
+    let copy = other_copy(node.copy);
+    let mut cipher = [0; 1024];
+    let Tags { iv, tag } = seal_leaf(keys, node.place, sequence, &node.bytes, &mut cipher);
+    board.write(block_at(node.place, copy), &cipher)?;
+    Ok(TreeEntry {
+        copy,
+        sequence,
+        iv,
+        tag,
+    })
+}
+
+/// Seals all nodes, each before the one that it is an entry of, and gives the entry of the root. What stood under a root
+/// with the bytes of these nodes in place of its own stands under the new one.
+pub fn write_all<B: Board>(
+    board: &mut B,
+    keys: &Keys,
+    touched: &mut Touched,
+    sequence: u64,
+) -> Result<TreeEntry, BoardFailed>
+    requires size { TREE_BLOCKS ≤ (B.view board.old).size }
+    requires ordered { AreOrdered shape touched.old }
+    requires sequence { 0 < sequence }
+    ensures calls { CallRun (is_ok result) (B.view board.old) (B.view board.new) }
+    ensures writes { (B.view board.new).writes
+        ≤ (B.view board.old).writes + length touched.old }
+    ensures honest { B.honest board.old → B.honest board.new }
+    ensures past { B.honest board.old → KeepsPast (B.view board.old) (B.view board.new) }
+    ensures run { B.honest board.old
+        → (open_at : ℕ → Bool) (base : ℕ → List ℕ) (low high : ℕ) (first : View)
+        → AreSpare shape open_at touched.old
+        → RunsOver open_at base low high first (B.view board.old)
+        → RunsOver open_at base low high first (B.view board.new) }
+    ensures damage { B.honest board.old → (key : List ℕ) → AreKeysOf keys.now key
+        → IfOk result (λ entry. (root : Entry) (place : ℕ) → place < PLACES
+        → damage_of shape (on_image shape key (B.view board.new).state.reads) entry place
+        ≡ damage_of shape (with_new (fresh_of touched.old)
+        (on_image shape key (B.view board.old).state.reads)) root place) }
+    ensures text { B.honest board.old → (key : List ℕ) → AreKeysOf keys.now key
+        → IfOk result (λ entry. (root : Entry) (place : ℕ) → place < PLACES
+        → shape.level place ≡ DEPTH
+        → text_of shape (on_image shape key (B.view board.new).state.reads) entry place
+        ≡ text_of shape (with_new (fresh_of touched.old)
+        (on_image shape key (B.view board.old).state.reads)) root place) }
+{
+    while let Some(node) = touched.pop() {
+        let entry = write_node(board, keys, &node, sequence)?;
+        if node.place == 0 {
+            return Ok(entry);
+        }
+        let above = parent(node.place);
+        touched.put(above, ENTRY_BYTES * slot(node.place), &entry_bytes(&entry));
+    }
+    Ok(NO_ENTRY)
+}
