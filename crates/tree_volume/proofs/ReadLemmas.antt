@@ -12,7 +12,7 @@ use Rattle.epoch.proofs.PastLemmas.{followed, itself, once}
 use Rattle.epoch.proofs.RunLemmas.{over_read}
 use Rattle.epoch.specs.Header.{entry_at}
 use Rattle.epoch.specs.declared.header.TreeEntry.{TreeEntry}
-use Rattle.tree_volume.specs.Reading.{OnlyReads}
+use Rattle.epoch.specs.Reading.{OnlyReads}
 use Rattle.tree_volume.specs.Shape.{Shape}
 use Rattle.tree_volume.specs.Tree.{Found, Look, block_at, damage_above, damage_at, damage_below, damage_of, differing, entry_below, first_damage, known, on_image, text_of, unless_zero}
 use Rattle.tree_volume.proofs.TreeLemmas.{differs, no_difference}

@@ -1,6 +1,5 @@
 pub mod Identify
 pub mod Laws
-pub mod Reading
 pub mod Shape
 pub mod Touched
 pub mod Tree

@@ -6,8 +6,8 @@ ghost use Rattle.store_api.specs.Volumes.{IfMismatch, ShowsLeaf};
 ghost use Rattle.store_api.specs.declared.leaves.LeafAnswer.TheVariants as answers;
 ghost use Rattle.board.specs.Steps.{CallRun};
 ghost use Rattle.seal.specs.Keys.{AreKeysOf};
+ghost use Rattle.epoch.specs.Reading.{OnlyReads, no_fault};
 ghost use Rattle.tree_volume.specs.Identify.{ImagesIdentify};
-ghost use Rattle.tree_volume.specs.Reading.{OnlyReads};
 ghost use Rattle.tree_volume.specs.Shape.{shape};
 ghost use Rattle.tree_volume.specs.Tree.{block_at as block_of_copy, damage_above, damage_at, damage_of, entry_below, on_image, text_of};
 
@@ -33,7 +33,7 @@ pub fn load<B: Board>(
 ) -> Result<(), LeafAnswer>
     requires size { TREE_BLOCKS ≤ (B.view board.old).size }
     requires place { place < PLACES }
-    ensures calls { CallRun true (B.view board.old) (B.view board.new) }
+    ensures calls { CallRun (no_fault result) (B.view board.old) (B.view board.new) }
     ensures writes { (B.view board.new).writes ≡ (B.view board.old).writes }
     ensures cause { result ≡ Err answers.Failed
         → Rose (B.view board.old).state.faults (B.view board.new).state.faults }
@@ -73,6 +73,7 @@ fn opened(
     requires { entry.now.sequence ≢ 0 }
     ensures answer { (result ≢ Err answers.Lost) × (result ≢ Err answers.NoMemory) }
     ensures failed { result ≢ Err answers.Failed }
+    ensures made { no_fault result ≡ true }
     ensures tags { (key : List ℕ) → AreKeysOf keys.now key
         → IfMismatch result (λ tags. tags.found ≢ tags.kept) }
     ensures text { (key : List ℕ) (image : ℕ → List ℕ) → AreKeysOf keys.now key
@@ -108,7 +109,7 @@ pub fn find_entry<B: Board>(
     requires size { TREE_BLOCKS ≤ (B.view board.old).size }
     requires place { place < PLACES }
     requires level { shape.level place ≡ level }
-    ensures calls { CallRun true (B.view board.old) (B.view board.new) }
+    ensures calls { CallRun (no_fault result) (B.view board.old) (B.view board.new) }
     ensures writes { (B.view board.new).writes ≡ (B.view board.old).writes }
     ensures cause { result ≡ Err answers.Failed
         → Rose (B.view board.old).state.faults (B.view board.new).state.faults }
@@ -153,7 +154,7 @@ pub fn find_leaf<B: Board>(
     requires size { TREE_BLOCKS ≤ (B.view board.old).size }
     requires region { region < MAX_HOSTS }
     requires leaf { leaf < REGION_LEAVES }
-    ensures calls { CallRun true (B.view board.old) (B.view board.new) }
+    ensures calls { CallRun (no_fault result) (B.view board.old) (B.view board.new) }
     ensures writes { (B.view board.new).writes ≡ (B.view board.old).writes }
     ensures cause { result ≡ Err answers.Failed
         → Rose (B.view board.old).state.faults (B.view board.new).state.faults }

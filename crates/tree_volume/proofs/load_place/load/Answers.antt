@@ -1,5 +1,5 @@
 use Rattle.std.proofs.Common.{sym, ap, refl, true, false}
-use Rattle.epoch.proofs.CallLemmas.{run_none, run_once, run_so_far}
+use Rattle.epoch.proofs.CallLemmas.{run_as, run_none, run_once}
 use Rattle.tree_volume.specs.Shape.{shape}
 use Rattle.tree_volume.specs.Tree.{Found}
 use Rattle.tree_volume.proofs.ReadLemmas.{found_zero, only_itself, only_once, zero_damage}
@@ -18,7 +18,7 @@ pub returns-then-entry-eq0-clause-honest : goal.returns-then-entry-eq0-clause-ho
 returns-then-entry-eq0-clause-honest g c h = (h, only_itself _)
 
 pub returns-in-Ok-clause-calls : goal.returns-in-Ok-clause-calls
-returns-in-Ok-clause-calls g c = run_once true _ _ c.in-Ok.ensures.call
+returns-in-Ok-clause-calls g c = run_as _ _ _ _ c.opened.ensures.made (run_once true _ _ c.in-Ok.ensures.call)
 
 pub returns-in-Ok-clause-cause : goal.returns-in-Ok-clause-cause
 returns-in-Ok-clause-cause g c failed = absurd (c.opened.ensures.failed failed)
@@ -27,7 +27,7 @@ pub returns-in-Ok-clause-honest : goal.returns-in-Ok-clause-honest
 returns-in-Ok-clause-honest g c h = (let r = c.in-Ok.ensures.honest h in (r.0, only_once _ _ r.1 r.2))
 
 pub returns-in-Err-clause-calls : goal.returns-in-Err-clause-calls
-returns-in-Err-clause-calls g c = run_so_far _ _ _ (run_once false _ _ c.in-Err.ensures.call)
+returns-in-Err-clause-calls g c = run_once false _ _ c.in-Err.ensures.call
 
 pub returns-in-Err-clause-cause : goal.returns-in-Err-clause-cause
 returns-in-Err-clause-cause g c failed = c.in-Err.ensures.call.cause refl

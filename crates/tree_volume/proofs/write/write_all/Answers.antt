@@ -11,6 +11,16 @@ use Rattle.tree_volume.proofs.TouchedLemmas.{length_kept, spare_kept}
 use Rattle.tree_volume.proofs.WriteLemmas.{last_damage, last_is, last_text, more_damage, more_text, rest_ordered}
 use Rattle.tree_volume.proofs.write.write_all.Goals as goal
 
+pub returns-in_err-entry-clause-past : goal.returns-in_err-entry-clause-past
+returns-in_err-entry-clause-past g c h =
+    let inv = c.loop-node.invariant in
+    followed _ _ _ (inv.past h) (c.in_err-entry.ensures.past (inv.honest h))
+
+pub returns-then-node-eq0-clause-past : goal.returns-then-node-eq0-clause-past
+returns-then-node-eq0-clause-past g c h =
+    let inv = c.loop-node.invariant in
+    followed _ _ _ (inv.past h) (c.in_ok-entry.ensures.past (inv.honest h))
+
 pub returns-in_err-entry-clause-run : goal.returns-in_err-entry-clause-run
 returns-in_err-entry-clause-run g c h open_at base low high first spare run =
     let inv = c.loop-node.invariant in
