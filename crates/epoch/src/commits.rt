@@ -32,6 +32,10 @@ pub trait Change {
     /// Whatever the board holds: under this key what it keeps of the blocks in use has no damage.
     ghost checks: { Self → List ℕ → Type 0 };
 
+    /// After a write of this sequence under this key, beside what it was before: the entries of what it replaces are sealed
+    /// for the sequence, with the stated vectors.
+    ghost seals: { Self → Self → List ℕ → ℕ → Type 0 };
+
     /// How many blocks it writes at most.
     ghost cost: { Self → ℕ };
 
@@ -55,6 +59,8 @@ pub trait Change {
         ensures writes { (B.view board.new).writes ≤ (B.view board.old).writes + cost self.old }
         ensures root { IfOk result (λ new_root. root self.new ≡ new_root) }
         ensures sealed_for { IfOk result (λ new_root. new_root.sequence ≡ sequence) }
+        ensures entries { (key : List ℕ) → checks self.old key
+            → OnOk result (seals self.old self.new key sequence) }
         ensures checked { (key : List ℕ) → checks self.old key → OnOk result (checks self.new key) }
         ensures honest { B.honest board.old → B.honest board.new }
         ensures past { B.honest board.old → KeepsPast (B.view board.old) (B.view board.new) }
@@ -107,6 +113,8 @@ pub fn commit<B: Board, C: Change>(
         ≤ (B.view board.old).writes + C.cost change.old + 3 }
     ensures root { IfOk result (λ root. C.root change.new ≡ root) }
     ensures sealed_for { IfOk result (λ root. root.sequence ≡ sequence + 1) }
+    ensures entries { (key : List ℕ) → C.checks change.old key
+        → OnOk result (C.seals change.old change.new key (sequence + 1)) }
     ensures checked { (key : List ℕ) → C.checks change.old key
         → OnOk result (C.checks change.new key) }
     ensures honest { B.honest board.old → B.honest board.new }

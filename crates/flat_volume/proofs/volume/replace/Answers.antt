@@ -13,6 +13,7 @@ use Rattle.epoch.proofs.SettledLemmas.{steady_rests}
 use Rattle.flat_volume.specs.Change.{FitsFlat}
 use Rattle.flat_volume.specs.Flat.{flat, table_in}
 use Rattle.flat_volume.specs.Keeping.{IsOpen, Replaces, held_now}
+use Rattle.flat_volume.specs.Writing.{AreSealedFor}
 use Rattle.flat_volume.proofs.VolumeLemmas.{commit_crash, held_same, leaves_held, mounted_held, mounted_open, open_same, read_replaces, verified_open}
 use Rattle.flat_volume.proofs.volume.replace.Goals as goal
 use Rattle.flat_volume.proofs.volume.replace.Goals.{in-Ok, in-Err}
@@ -120,4 +121,15 @@ returns-clause-past g c h =
     elim c.match-commit.branch [
       | in-Ok w ↦ followed _ _ _ read.1.past (w.in-Ok.ensures.past read.0)
       | in-Err w ↦ followed _ _ _ read.1.past (w.in-Err.ensures.past read.0)
+    ]
+
+pub returns-clause-entries : goal.returns-clause-entries
+returns-clause-entries g c verified =
+    let v = g.B.Board.view c.args.board.now in
+    let keyed : AreKeysOf c.of-keys.result v.key = subst (λ (k : List ℕ). AreKeysOf c.of-keys.result k) c.key.ensures c.of-keys.ensures in
+    let none = c.in_ok-known_table.ensures.verified v.key keyed verified in
+    elim c.match-commit.branch [
+      | in-Ok w ↦ rw w.result-is (subst (AreSealedFor v.key (c.args.opened.sequence + 1) c.commit.new.change.table.bytes.items c.args.region) c.as_slice.ensures.leaves
+          (w.in-Ok.ensures.entries v.key (record { keyed = keyed; undamaged = none })))
+      | in-Err w ↦ rw w.result-is tt
     ]
