@@ -45,7 +45,7 @@ refused_call {X} true r n old new lost is same = rw (is, same) (record {
   model = λ h. h;
   still = λ _ _. refl;
   limits = λ _. (empty_within, empty_within);
-  cause = record { cause = (lost, lost); later = omega arith; foundation = refl; reports = omega arith };
+  cause = record { cause = (lost, lost); later = omega arith; unfailed = refl; foundation = refl; reports = omega arith };
   attempts = refl;
   damage = tt;
   below = λ b. b;
@@ -57,7 +57,7 @@ refused_call {X} false r n old new lost is same = rw (is, same) (record {
   model = λ h. h;
   still = λ _ _. refl;
   limits = λ _. (empty_within, empty_within);
-  cause = record { cause = (lost, lost); later = omega arith; foundation = refl; reports = omega arith };
+  cause = record { cause = (lost, lost); later = omega arith; unfailed = refl; foundation = refl; reports = omega arith };
   attempts = refl;
   damage = tt;
   below = λ b. b;

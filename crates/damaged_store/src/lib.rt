@@ -114,6 +114,8 @@ impl AppStore for Damaged {
 
     ghost since_earlier = { λ _ _ _ _ _ left. left };
 
+    ghost left_now = { λ _ h _. absurd h };
+
     fn find(&mut self, _id: &[u8]) -> Result<Facts, StoreAnswer> {
         self.answer()
     }

@@ -598,6 +598,15 @@ mounted_refuses f key root h m mounted some c above = refused_by (opening_of f.v
       ∙ ap (λ (n : ℕ). let r : Result (Option Found) OpenAnswer = Err (Rollback n c) in r) opens.0
   refused_by (Err answer) e opens = absurd opens
 
+-- what fails is no Ok
+pub failed_ok : {A : Type 0} (r : Result A OpenAnswer) (P : A → Type 0) → r ≡ Err Failed → IfOk r P
+failed_ok r P is = subst (λ (x : Result _ OpenAnswer). IfOk x P) (sym is) tt
+
+-- a counter that is settled at what was found is settled at what is taken up
+pub taken_counter : (found : Option Header) (sequence : ℕ) (root : TreeEntry) (m : Moment) → TakesUp found 0 sequence root → IsSettledAt (sequence_of found) m → IsSettledAt sequence m
+taken_counter None sequence root m takes settled = subst (λ (n : ℕ). IsSettledAt n m) (sym takes.0) settled
+taken_counter (Some header) sequence root m takes settled = subst (λ (n : ℕ). IsSettledAt n m) takes.0 settled
+
 -- a reopening that ends before its sync is done
 pub stopped : {f : Form} {result failed : Result (Option Header) OpenAnswer} {old new : View} → result ≡ failed → MountsAgain f failed old new → MountsAgain f result old new
 stopped {f} {result} {failed} {old} {new} same again = subst (λ (r : Result (Option Header) OpenAnswer). MountsAgain f r old new) (sym same) again

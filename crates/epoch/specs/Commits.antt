@@ -1,7 +1,7 @@
 -- What a commit finds and leaves, over the form of the leaves.
 use Rattle.std.specs.Prelude.{◌≡◌, ◌⊎◌, ℕ, ◌+◌, ◌%◌, ◌==◌, ◌&&◌, ◌||◌, not, nat_lt, Bool, true, false, List, Option, Some, None, Result, Ok, Err}
 use Rattle.store_api.specs.Volumes.{Held}
-use Rattle.board.specs.Moment.{Outcome, Moment}
+use Rattle.board.specs.Moment.{Outcome, Moment, View}
 use Rattle.board.specs.Runs.{Rests}
 use Rattle.epoch.specs.Forms.{Form, SameUsed, held_of, is_sealed, leaves_of}
 use Rattle.epoch.specs.Gates.{header_at}
@@ -25,6 +25,13 @@ pub record IsMounted (f : Form) (key : List ℕ) (root : TreeEntry) (held : Held
   pub sealed : is_sealed f key m.reads root ≡ true
   pub leaves : held.leaves ≡ leaves_of f key m.reads root
   pub version : held.version ≡ f.version
+
+-- a commit to the sequence after this one begins over a board that is mounted with this under a root, with a change that fits it
+pub record IsBegun (f : Form) (Fits : List ℕ → (ℕ → List ℕ) → Type 0) (view : View) (root : TreeEntry)
+    (sequence : ℕ) (before : Held) : Type 0 where
+  pub last : before.sequence ≡ sequence
+  pub mounted : IsMounted f view.key root before view.state
+  pub fits : Fits view.key view.state.reads
 
 -- the blocks that a commit to this slot may write: the slot's header, and behind the slots those that the root in use
 -- doesn't

@@ -1,15 +1,16 @@
 //! The commit that every volume makes: its copies and a header in the spare slot, and then the gate and the counter.
-ghost use Rattle.std.specs.Prelude.{◌≡◌, ◌≤◌, ◌<◌, ◌+◌, ◌%◌, ◌^◌, ℕ, true, List, IfOk, OnOk, OnErr, is_ok};
+ghost use Rattle.std.specs.Prelude.{◌≡◌, ◌≤◌, ◌<◌, ◌+◌, ◌^◌, ℕ, true, List, IfOk, OnOk, OnErr, is_ok};
 ghost use Rattle.tee_base.specs.Crash.{LeavesOnly};
 ghost use Rattle.store_api.specs.Volumes.{Held};
 ghost use Rattle.board.specs.Moment.{View, moment, left_since};
 ghost use Rattle.board.specs.Runs.{RunsOver};
 ghost use Rattle.board.specs.Steps.{CallRun};
-ghost use Rattle.epoch.specs.Commits.{BeforeOrAfter, IsMounted, IsSteady, IsWritten, next_held, spare};
+ghost use Rattle.epoch.specs.Commits.{BeforeOrAfter, IsBegun, IsMounted, IsSteady, IsWritten, next_held, spare};
 ghost use Rattle.epoch.specs.Forms.{Form, IsFramed, SameUsed, is_sealed, leaves_of};
 ghost use Rattle.epoch.specs.Past.{KeepsPast};
 ghost use Rattle.epoch.specs.declared.header.TreeEntry.{TreeEntry as Entry};
 
+use crate::gates::slot_for;
 use crate::header::{Header, TreeEntry};
 use crate::laying::lay;
 use crate::steps::{flip, shut};
@@ -30,6 +31,10 @@ pub trait Change {
 
     /// Whatever the board holds: under this key what it keeps of the blocks in use has no damage.
     ghost checks: { Self → List ℕ → Type 0 };
+
+    /// After a write of this sequence under this key, beside what it was before: the entries of what it replaces are sealed
+    /// for the sequence, with the stated vectors.
+    ghost seals: { Self → Self → List ℕ → ℕ → Type 0 };
 
     /// How many blocks it writes at most.
     ghost cost: { Self → ℕ };
@@ -54,6 +59,8 @@ pub trait Change {
         ensures writes { (B.view board.new).writes ≤ (B.view board.old).writes + cost self.old }
         ensures root { IfOk result (λ new_root. root self.new ≡ new_root) }
         ensures sealed_for { IfOk result (λ new_root. new_root.sequence ≡ sequence) }
+        ensures entries { (key : List ℕ) → checks self.old key
+            → OnOk result (seals self.old self.new key sequence) }
         ensures checked { (key : List ℕ) → checks self.old key → OnOk result (checks self.new key) }
         ensures honest { B.honest board.old → B.honest board.new }
         ensures past { B.honest board.old → KeepsPast (B.view board.old) (B.view board.new) }
@@ -106,40 +113,34 @@ pub fn commit<B: Board, C: Change>(
         ≤ (B.view board.old).writes + C.cost change.old + 3 }
     ensures root { IfOk result (λ root. C.root change.new ≡ root) }
     ensures sealed_for { IfOk result (λ root. root.sequence ≡ sequence + 1) }
+    ensures entries { (key : List ℕ) → C.checks change.old key
+        → OnOk result (C.seals change.old change.new key (sequence + 1)) }
     ensures checked { (key : List ℕ) → C.checks change.old key
         → OnOk result (C.checks change.new key) }
     ensures honest { B.honest board.old → B.honest board.new }
     ensures past { B.honest board.old → KeepsPast (B.view board.old) (B.view board.new) }
     // at every moment since the start all that a crash leaves holds what was held before, or after
-    ensures crash { B.honest board.old → (before : Held) → before.sequence ≡ sequence
-        → IsMounted C.form (B.view board.old).key (C.root change.old) before
-        (B.view board.old).state
-        → C.fits change.old (B.view board.old).key (B.view board.old).state.reads
+    ensures crash { B.honest board.old → (before : Held)
+        → IsBegun C.form (C.fits change.old) (B.view board.old) (C.root change.old) sequence before
         → LeavesOnly moment left_since (B.view board.old) (B.view board.new)
         (BeforeOrAfter C.form (B.view board.old).key before
         (next_held C.form (C.after change.old before.leaves) before.sequence)) }
     // at Ok it is what is held after, and the counter is its sequence
-    ensures done { B.honest board.old → (before : Held) → before.sequence ≡ sequence
-        → IsMounted C.form (B.view board.old).key (C.root change.old) before
-        (B.view board.old).state
-        → C.fits change.old (B.view board.old).key (B.view board.old).state.reads
+    ensures done { B.honest board.old → (before : Held)
+        → IsBegun C.form (C.fits change.old) (B.view board.old) (C.root change.old) sequence before
         → IfOk result (λ root. IsMounted C.form (B.view board.old).key root
         (next_held C.form (C.after change.old before.leaves) before.sequence) (B.view board.new).state
         × C.fits change.new (B.view board.old).key (B.view board.new).state.reads) }
-    ensures kept { B.honest board.old → (before : Held) → before.sequence ≡ sequence
-        → IsMounted C.form (B.view board.old).key (C.root change.old) before
-        (B.view board.old).state
-        → C.fits change.old (B.view board.old).key (B.view board.old).state.reads
+    ensures kept { B.honest board.old → (before : Held)
+        → IsBegun C.form (C.fits change.old) (B.view board.old) (C.root change.old) sequence before
         → OnErr result (leaves_of C.form (B.view board.old).key (B.view board.new).state.reads
         (C.root change.old) ≡ before.leaves) }
-    ensures steady { B.honest board.old → (before : Held) → before.sequence ≡ sequence
-        → IsMounted C.form (B.view board.old).key (C.root change.old) before
-        (B.view board.old).state
-        → C.fits change.old (B.view board.old).key (B.view board.old).state.reads
+    ensures steady { B.honest board.old → (before : Held)
+        → IsBegun C.form (C.fits change.old) (B.view board.old) (C.root change.old) sequence before
         → OnErr result (IsSteady C.form (B.view board.old).key (C.root change.old)
         (B.view board.new).state) }
 {
-    let slot = other_slot(sequence);
+    let slot = slot_for(sequence + 1);
     let version = change.version();
     shut(board, slot)?;
     let root = change.write(board, sequence + 1)?;
@@ -151,13 +152,4 @@ pub fn commit<B: Board, C: Change>(
     lay(board, &header)?;
     let _counter = flip(board, slot)?;
     Ok(root)
-}
-
-/// The slot of the sequence after this one.
-fn other_slot(sequence: u64) -> u8
-    requires { sequence + 1 < 2 ^ 64 }
-    ensures slot { result ≡ (sequence + 1) % 2 }
-    ensures below { result < 2 }
-{
-    ((sequence + 1) % 2) as u8
 }

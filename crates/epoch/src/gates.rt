@@ -1,5 +1,5 @@
 //! The blocks of the two slots, and their gates.
-ghost use Rattle.std.specs.Prelude.{◌≡◌, ◌<◌, ◌==◌};
+ghost use Rattle.std.specs.Prelude.{◌≡◌, ◌<◌, ◌%◌, ◌==◌};
 ghost use Rattle.std.specs.List.{list_all};
 ghost use Rattle.epoch.specs.Gates.{gate_at, header_at, gate_open};
 
@@ -13,6 +13,14 @@ pub const OPEN_GATE: [u8; BLOCK] = [OPEN; BLOCK];
 
 /// The block of a gate that was shut.
 pub const SHUT_GATE: [u8; BLOCK] = [0; BLOCK];
+
+/// The slot of a sequence.
+pub fn slot_for(sequence: u64) -> u8
+    ensures slot { result ≡ sequence % 2 }
+    ensures below { result < 2 }
+{
+    (sequence % 2) as u8
+}
 
 /// The block of a slot's gate.
 pub fn gate_block(slot: u8) -> u64

@@ -12,7 +12,7 @@ ghost use Rattle.epoch.specs.Slots.{header_slot};
 ghost use Rattle.epoch.specs.Steps.{SyncedBut, outcome_opening};
 ghost use Rattle.epoch.specs.declared.slots.Slot.TheVariants as slot_holds;
 
-use crate::gates::header_block;
+use crate::gates::{header_block, slot_for};
 use crate::header::{Header, block_of_header};
 use board::{Board, BoardFailed};
 use seal::Keys;
@@ -54,12 +54,4 @@ pub fn lay<B: Board>(board: &mut B, header: &Header) -> Result<(), BoardFailed>
     let slot = slot_for(header.sequence);
     board.write(header_block(slot), &block_of_header(&keys, slot, *header))?;
     board.sync()
-}
-
-/// The slot of a sequence.
-fn slot_for(sequence: u64) -> u8
-    ensures slot { result ≡ sequence % 2 }
-    ensures below { result < 2 }
-{
-    (sequence % 2) as u8
 }

@@ -1,11 +1,12 @@
 //! What a board holds that is opened, over the form of the leaves: found at first, after a sync, after a loss of power.
-ghost use Rattle.std.specs.Prelude.{◌≡◌, ◌≢◌, ◌≤◌, ℕ, true, Err, IfErr, IsTrue, OnOk};
+ghost use Rattle.std.specs.Prelude.{◌≡◌, ◌≢◌, ◌≤◌, ℕ, true, Err, IfErr, IfOk, IsTrue, OnOk};
 ghost use Rattle.tee_base.specs.Faults.{Rose};
 ghost use Rattle.store_api.specs.Volumes.{Held};
 ghost use Rattle.board.specs.Moment.{IsCounter, IsLeft, Outcome};
 ghost use Rattle.board.specs.Steps.{CallRun, SameBlocks};
 ghost use Rattle.board.specs.declared.fuse.Fuse.TheVariants.{Unset};
 ghost use Rattle.epoch.specs.Commits.{StaysSettled};
+ghost use Rattle.epoch.specs.Finding.{IsSettledAt, sequence_of};
 ghost use Rattle.epoch.specs.Forms.{Form, IsFramed};
 ghost use Rattle.epoch.specs.Mounting.{AreSound, IsHolding, Mounts, MountsAfterPower, MountsAgain};
 ghost use Rattle.epoch.specs.Mounts.{IsRefusedNow, IsRuledBy, OrderRun, PowerFirst};
@@ -32,6 +33,9 @@ pub fn mount<B: Board>(board: &mut B, version: u32) -> Result<Option<Header>, Op
     ensures writes { (B.view board.new).writes ≡ (B.view board.old).writes }
     ensures blocks { B.honest board.old
         → SameBlocks (B.view board.old).state (B.view board.new).state }
+    // at Ok the counter is the sequence, and no other is left open
+    ensures counter { B.honest board.old
+        → IfOk result (λ header. IsSettledAt (sequence_of header) (B.view board.new).state) }
     ensures honest { B.honest board.old → B.honest board.new }
     ensures past { B.honest board.old → KeepsPast (B.view board.old) (B.view board.new) }
     ensures settled { B.honest board.old
@@ -66,6 +70,9 @@ pub fn mount_again<B: Board>(board: &mut B, version: u32) -> Result<Option<Heade
     ensures writes { (B.view board.new).writes ≡ (B.view board.old).writes }
     ensures reads { B.honest board.old
         → (B.view board.new).state.reads ≡ (B.view board.old).state.reads }
+    // at Ok the counter is the sequence, and no other is left open
+    ensures counter { B.honest board.old
+        → IfOk result (λ header. IsSettledAt (sequence_of header) (B.view board.new).state) }
     ensures honest { B.honest board.old → B.honest board.new }
     ensures past { B.honest board.old → KeepsPast (B.view board.old) (B.view board.new) }
     ensures settled { B.honest board.old
@@ -105,6 +112,9 @@ pub fn mount_after_power<B: Board>(
     ensures fuse { (B.view board.new).fuse ≡ Unset }
     ensures steady { IsTrue (no_failure result)
         → (B.view board.new).state.faults ≡ (B.view board.old).state.faults }
+    // at Ok the counter is the sequence, and no other is left open
+    ensures counter { B.honest board.old
+        → IfOk result (λ header. IsSettledAt (sequence_of header) (B.view board.new).state) }
     ensures honest { B.honest board.old → B.honest board.new }
     ensures past { B.honest board.old → KeepsPast (B.view board.old) (B.view board.new) }
     ensures settled { B.honest board.old

@@ -119,6 +119,9 @@ pub trait BoardVolume<B: Board>: Volume + Sized {
             ≡ (B.view (board_of self.old)).state.reads }
         ensures past { B.honest (board_of self.old)
             → KeepsPast (B.view (board_of self.old)) (B.view (board_of self.new)) }
+        // at Ok the counter is the sequence, whatever the image, and no other is left open
+        ensures counter { B.honest (board_of self.old) → IfOk result (λ sequence.
+            IsSettledAt sequence (B.view (board_of self.new)).state) }
         ensures opened { B.honest (board_of self.old) → IsAlwaysSound Self.keeper self.old
             → OpensAgain Self.keeper result self.old self.new };
 
@@ -156,6 +159,9 @@ pub trait BoardVolume<B: Board>: Volume + Sized {
             ≡ (B.view (board_of self.old)).state.faults }
         ensures past { B.honest (board_of self.old)
             → KeepsPast (B.view (board_of self.old)) (B.view (board_of self.new)) }
+        // at Ok the counter is the sequence, whatever the image, and no other is left open
+        ensures counter { B.honest (board_of self.old) → IfOk result (λ sequence.
+            IsSettledAt sequence (B.view (board_of self.new)).state) }
         ensures opened { B.honest (board_of self.old) → IsAlwaysSound Self.keeper self.old
             → OpensAfterPower Self.keeper result self.old self.new };
 

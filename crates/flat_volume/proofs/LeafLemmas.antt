@@ -1,6 +1,6 @@
 -- How the leaves change when one of them is written into its spare copy.
 use Rattle.std.proofs.Common.{◌≡◌, ◌≢◌, ◌≤◌, ◌<◌, ◌+◌, ◌-◌, ◌*◌, ◌⊎◌, ◌==◌, ◌∙◌, if◌then◌else◌, ℕ, Bool, true, false, List, []}
-use Rattle.std.proofs.Common.{◌∷◌, None, nat_lt, length, drop, refl, sym, ap, subst, ⊎_elim, inl, inr, arith}
+use Rattle.std.proofs.Common.{◌∷◌, None, nat_lt, length, drop, get_or, zero, suc, refl, sym, ap, subst, ⊎_elim, inl, inr, arith}
 use Rattle.std.specs.List.{list_all}
 use Rattle.std.proofs.lemmas.Bool.{cases_eq}
 use Rattle.std.proofs.lemmas.List.{drop_all}
@@ -15,7 +15,7 @@ use Rattle.epoch.proofs.CommitLemmas.{first_true, second_true, leaf_below}
 use Rattle.flat_volume.specs.declared.places.TheConstants.{FIRST_LEAF}
 use Rattle.flat_volume.specs.Flat.{block_at, copy_of, entry_of, leaf_damage, leaf_text, number_of}
 use Rattle.flat_volume.specs.Frame.{copy_below, leaf_damage_same, leaf_text_same}
-use Rattle.flat_volume.specs.Writing.{AreSealed, AreSpare, leaves_by, spare_block}
+use Rattle.flat_volume.specs.Writing.{AreSealed, AreSealedFor, AreSpare, IsSealedFor, leaves_by, spare_block}
 
 -- a block of another place is another block
 pub other_block : (p q a b : ℕ) → p ≢ q → block_at p a ≢ block_at q b
@@ -186,3 +186,51 @@ within_here leaf rest within =
 
 pub within_rest : (leaf : Leaf) (rest : List Leaf) → is_above_all (leaf ∷ rest) LEAVES ≡ true → is_above_all rest LEAVES ≡ true
 within_rest leaf rest within = second_true (nat_lt leaf.number LEAVES) (is_above_all rest LEAVES) within
+
+-- a leaf by its place among others
+abbrev pub leaf_at : List Leaf → ℕ → Leaf
+leaf_at xs i = get_or xs i (record { number = 0; bytes = [] })
+
+-- its entry in a table is sealed for this sequence
+abbrev pub IsEntryOf : List ℕ → ℕ → List ℕ → ℕ → Leaf → Type 0
+IsEntryOf key sequence table region leaf =
+    IsSealedFor key (FIRST_LEAF + number_of region leaf.number) sequence leaf.bytes (entry_of table (number_of region leaf.number))
+
+all_at : (xs : List Leaf) (n i : ℕ) → list_all (λ later. nat_lt n later.number) xs ≡ true → i < length xs → n < (leaf_at xs i).number
+all_at [] n i all below = absurd (omega arith)
+all_at (x ∷ xs) n zero all below =
+    let one : nat_lt n x.number ≡ true = first_true (nat_lt n x.number) (list_all (λ (later : Leaf). nat_lt n later.number) xs) all in
+    grind (arith, nat_tests, one)
+all_at (x ∷ xs) n (suc i) all below = all_at xs n i (second_true (nat_lt n x.number) (list_all (λ (later : Leaf). nat_lt n later.number) xs) all) (omega (arith, below))
+
+-- of leaves that ascend an earlier one has another number
+earlier : (xs : List Leaf) → is_ascending xs ≡ true → (j i : ℕ) → j < i → i < length xs → (leaf_at xs j).number < (leaf_at xs i).number
+earlier [] asc j i less below = absurd (omega arith)
+earlier (x ∷ xs) asc j zero less below = absurd (omega arith)
+earlier (x ∷ xs) asc zero (suc i) less below =
+    all_at xs x.number i (first_true (list_all (λ (later : Leaf). nat_lt x.number later.number) xs) (is_ascending xs) asc) (omega (arith, below))
+earlier (x ∷ xs) asc (suc j) (suc i) less below =
+    earlier xs (second_true (list_all (λ (later : Leaf). nat_lt x.number later.number) xs) (is_ascending xs) asc) j i (omega (arith, less)) (omega (arith, below))
+
+-- one leaf more is sealed, and those before it stay so
+pub entries_more : (key : List ℕ) (sequence : ℕ) (told tnew : List ℕ) (region number : ℕ) (xs : List Leaf) → is_ascending xs ≡ true → (i : ℕ) → i < length xs
+    → number ≡ number_of region (leaf_at xs i).number → ((n : ℕ) → n ≢ number → entry_of tnew n ≡ entry_of told n)
+    → IsSealedFor key (FIRST_LEAF + number) sequence (leaf_at xs i).bytes (entry_of tnew number)
+    → ((j : ℕ) → j < i → IsEntryOf key sequence told region (leaf_at xs j)) → (j : ℕ) → j < i + 1 → IsEntryOf key sequence tnew region (leaf_at xs j)
+entries_more key sequence told tnew region number xs asc i inside at others here before j below =
+    ⊎_elim
+    (λ (e : j ≡ i). subst (λ (k : ℕ). IsEntryOf key sequence tnew region (leaf_at xs k)) (sym e)
+    (subst (λ (n : ℕ). IsSealedFor key (FIRST_LEAF + n) sequence (leaf_at xs i).bytes (entry_of tnew n)) at here))
+    (λ (ne : j ≢ i).
+    let less : j < i = omega (arith, below, ne) in
+    let apart : (leaf_at xs j).number < (leaf_at xs i).number = earlier xs asc j i less inside in
+    let other : number_of region (leaf_at xs j).number ≢ number = λ e. (let same : number_of region (leaf_at xs j).number ≡ number_of region (leaf_at xs i).number = e ∙ at in absurd (omega (arith, same, apart))) in
+    subst (IsSealedFor key (FIRST_LEAF + number_of region (leaf_at xs j).number) sequence (leaf_at xs j).bytes) (sym (others (number_of region (leaf_at xs j).number) other)) (before j less))
+    (cases_eq j i)
+
+-- all of them
+pub all_entries : (key : List ℕ) (sequence : ℕ) (table : List ℕ) (region : ℕ) (xs : List Leaf) → ((j : ℕ) → j < length xs → IsEntryOf key sequence table region (leaf_at xs j))
+    → AreSealedFor key sequence table region xs
+all_entries key sequence table region [] each = tt
+all_entries key sequence table region (x ∷ xs) each =
+    (each 0 (omega arith), all_entries key sequence table region xs (λ j below. each (suc j) (omega (arith, below))))

@@ -1,7 +1,10 @@
 -- What the writing of leaves and of the table does to a board.
-use Rattle.std.specs.Prelude.{◌≡◌, ◌<◌, ℕ, ◌+◌, ◌-◌, Bool, true, List, [], ◌∷◌, None, if◌then◌else◌}
+use Rattle.std.specs.Prelude.{◌≡◌, ◌<◌, ℕ, ◌+◌, ◌-◌, Bool, true, List, [], ◌∷◌, Option, None, Some, if◌then◌else◌}
 use Rattle.store_api.specs.declared.leaves.Leaf.{Leaf}
+use Rattle.seal.specs.Sealing.{seal_vector}
 use Rattle.epoch.specs.Forms.{is_leaf}
+use Rattle.epoch.specs.declared.header.TreeEntry.{TreeEntry}
+use Rattle.flat_volume.specs.declared.table.Table.{Table}
 use Rattle.flat_volume.specs.declared.places.TheConstants.{ALL_LEAVES, FIRST_LEAF}
 use Rattle.flat_volume.specs.Flat.{block_at, copy_of, entry_of, leaf_damage, leaf_text, number_of}
 
@@ -29,3 +32,22 @@ leaves_by key table reads region leaf =
     then leaf_text key reads (FIRST_LEAF + number_of region leaf)
     (entry_of table (number_of region leaf))
     else []
+
+-- the entry of a place is sealed for this sequence, with the stated vector of these bytes
+pub record IsSealedFor (key : List ℕ) (place number : ℕ) (plain : List ℕ) (entry : TreeEntry) : Type 0 where
+  pub sequence : entry.sequence ≡ number
+  pub vector : entry.iv ≡ seal_vector key place number plain
+
+-- so are the entries of these leaves of a region in a table
+abbrev pub AreSealedFor : List ℕ → ℕ → List ℕ → ℕ → List Leaf → Type 0
+AreSealedFor key sequence table region [] = Unit {0}
+AreSealedFor key sequence table region (leaf ∷ leaves) =
+    IsSealedFor key (FIRST_LEAF + number_of region leaf.number) sequence leaf.bytes
+    (entry_of table (number_of region leaf.number))
+    × AreSealedFor key sequence table region leaves
+
+-- and in a table that is kept
+abbrev pub KeepsSealed : List ℕ → ℕ → Option Table → ℕ → List Leaf → Type 0
+KeepsSealed key sequence None region leaves = ⊥
+KeepsSealed key sequence (Some table) region leaves =
+    AreSealedFor key sequence table.bytes.items region leaves

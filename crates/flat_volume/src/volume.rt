@@ -18,6 +18,7 @@ ghost use Rattle.epoch.specs.declared.header.TreeEntry.{TreeEntry as Entry};
 ghost use Rattle.flat_volume.specs.Flat.{flat, table_damage, table_in};
 ghost use Rattle.flat_volume.specs.Keeping.{Exhausts, IsOpen, IsVerified, Replaces, damage_now, held_now, text_now};
 ghost use Rattle.flat_volume.specs.declared.table.Table.{Table as Known};
+ghost use Rattle.flat_volume.specs.Writing.{KeepsSealed};
 ghost use Rattle.flat_volume.specs.Laws.{found_open, left_open, rests_open, since_earlier, sound_open};
 
 use crate::load::{find_leaf, known_table};
@@ -81,6 +82,9 @@ fn replace<B: Board>(
     ensures unwritten { OnErr result (no_fault result ≡ true
         → (B.view board.new).writes ≡ (B.view board.old).writes) }
     ensures sealed_for { IfOk result (λ after. after.root.sequence ≡ opened.sequence + 1) }
+    ensures entries { IsVerified (B.view board.old).key opened.table opened.root
+        → IfOk result (λ after. KeepsSealed (B.view board.old).key (opened.sequence + 1)
+        after.table region leaves.now) }
     ensures verified { IsVerified (B.view board.old).key opened.table opened.root
         → IfOk result (λ after. IsVerified (B.view board.old).key after.table after.root) }
     ensures damage { IsTrue B.tells_reads
@@ -205,6 +209,8 @@ impl<B: Board + Drop> Volume for FlatVolume<B> {
             ≤ (B.view self.old.board).writes + length leaves.now + TABLE_BLOCKS + 3 }
         ensures root { OnErr result (self.new.root ≡ self.old.root) }
         ensures sealed_for { IfOk result (λ sequence. self.new.root.sequence ≡ sequence) }
+        ensures entries { IfOk result (λ sequence. KeepsSealed (B.view self.old.board).key sequence
+            self.new.table region leaves.now) }
         // from then on the board is refused at every greater counter
         ensures rollback { flat_keeper.honest self.old → IfOk result (λ sequence.
             (counter : ℕ) → sequence < counter

@@ -12,7 +12,7 @@ ghost use Rattle.epoch.specs.Past.{KeepsPast};
 ghost use Rattle.flat_volume.specs.Flat.{block_at as block_of_copy, copy_of, entry_of, flat, leaf_damage, leaf_text, number_of, table_in};
 ghost use Rattle.flat_volume.specs.Frame.{flat_framed};
 ghost use Rattle.flat_volume.specs.declared.places.TheConstants.{TABLE_BLOCKS};
-ghost use Rattle.flat_volume.specs.Writing.{AreSealed, AreSpare, leaves_by, spare_block};
+ghost use Rattle.flat_volume.specs.Writing.{AreSealed, AreSealedFor, AreSpare, IsSealedFor, leaves_by, spare_block};
 ghost use Rattle.flat_volume.specs.Change.{ChecksFlat, FitsFlat, four_blocks, table_still_fits};
 
 use crate::places::{
@@ -55,6 +55,8 @@ impl Change for FlatChange<'_> {
     ghost fits = { λ c key reads. FitsFlat c.keys.now c.table c.root key reads };
 
     ghost checks = { λ c key. ChecksFlat c.keys.now c.table c.root key };
+
+    ghost seals = { λ old new key sequence. AreSealedFor key sequence new.table.bytes.items old.region old.leaves.now };
 
     ghost cost = { λ c. length c.leaves.now + TABLE_BLOCKS };
 
@@ -114,6 +116,8 @@ fn write_leaves<B: Board>(
         → AreSpare open_at table.old.bytes.items region leaves.now
         → RunsOver open_at base low high first (B.view board.old)
         → RunsOver open_at base low high first (B.view board.new) }
+    ensures entries { (key : List ℕ) → AreKeysOf keys.now key
+        → OnOk result (AreSealedFor key sequence table.new.bytes.items region leaves.now) }
     ensures sealed { B.honest board.old → (key : List ℕ) → AreKeysOf keys.now key
         → AreSealed key table.old.bytes.items (B.view board.old).state.reads
         → OnOk result (AreSealed key table.new.bytes.items (B.view board.new).state.reads) }
@@ -157,6 +161,9 @@ fn write_leaf<B: Board>(
         → entry_of table.new.bytes.items n ≡ entry_of table.old.bytes.items n }
     ensures copy { OnOk result ((entry_of table.new.bytes.items number).copy
         ≡ 1 - copy_of (entry_of table.old.bytes.items number).copy) }
+    ensures entry { (key : List ℕ) → AreKeysOf keys.now key
+        → OnOk result (IsSealedFor key (FIRST_LEAF + number) sequence bytes.now
+        (entry_of table.new.bytes.items number)) }
     ensures sealed { B.honest board.old → (key : List ℕ) → AreKeysOf keys.now key
         → OnOk result (leaf_damage key (B.view board.new).state.reads (FIRST_LEAF + number)
         (entry_of table.new.bytes.items number) ≡ None) }

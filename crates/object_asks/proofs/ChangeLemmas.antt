@@ -14,7 +14,7 @@ use Rattle.object_asks.specs.Resolutions.{Objects, Outcome, Answered, code_of, r
 use Rattle.object_asks.specs.Held.{Held}
 use Rattle.object_asks.specs.Serving.{EndsUnchanged, IsGiven, IsKept, IsOldOr, LeftByTurn, StaysBeside, UnlessInDoubt, kind_of, left_by, objects_in}
 use Rattle.object_asks.proofs.GivenLemmas.{only_want, refusal_given}
-use Rattle.object_asks.proofs.ReadingLemmas.{cause_of, damage_of, ok_err, reports_of}
+use Rattle.object_asks.proofs.ReadingLemmas.{cause_of, damage_of, ok_err, reports_of, unfailed_of}
 
 -- a crash leaves the change, with a greater number
 abbrev Later : Contents → Result Store StoreAnswer → Remains → Type 0
@@ -80,7 +80,13 @@ module _ {D : Type 0} (K : Keeper D) (honest_model : (d : D) → K.honest d → 
       → IsGiven K (Ok (outcomes.Answered answer)) (by stated) true held kept left old new
   given_done a by answer held kept left done made = record {
     gives = λ t. ap by (made.applied t).0 ∙ done;
-    cause = λ no_want. record { cause = made.call.cause.cause; later = made.call.cause.later; foundation = made.call.cause.foundation; reports = made.call.cause.reports };
+    cause = λ no_want. record {
+      cause = made.call.cause.cause;
+      later = made.call.cause.later;
+      unfailed = made.call.cause.unfailed;
+      foundation = made.call.cause.foundation;
+      reports = made.call.cause.reports;
+    };
     tried = (omega (arith, made.call.attempts), omega (arith, made.call.attempts));
     stays = λ e. absurd (ok_err _ _ e);
     want = λ e. absurd (ok_err _ _ e);
@@ -140,6 +146,7 @@ module _ {D : Type 0} (K : Keeper D) (honest_model : (d : D) → K.honest d → 
     cause = λ no_want. record {
       cause = cause_of A Result_of e (K.status old) (K.status new) made.call.cause.cause;
       later = made.call.cause.later;
+      unfailed = unfailed_of A Result_of e _ made.call.cause.unfailed;
       foundation = made.call.cause.foundation;
       reports = made.call.cause.reports ∙ ap (λ n. (K.status old).damage_reports + n) (reports_of A Result_of e);
     };

@@ -12,7 +12,7 @@ use Rattle.object_asks.specs.Resolutions.{Objects, Outcome, code_of, refused}
 use Rattle.object_asks.specs.Held.{Held}
 use Rattle.object_asks.specs.Serving.{CrashTurns, EndsUnchanged, Gives, IsGiven, IsKept, IsOutcome, LeftByTurn, StaysBeside, TriesOnce, kind_of, left_by, objects_in}
 use Rattle.object_asks.proofs.Crashes.{only_old, whatever}
-use Rattle.object_asks.proofs.ReadingLemmas.{cause_of, damage_of, ok_err, reports_of}
+use Rattle.object_asks.proofs.ReadingLemmas.{cause_of, damage_of, ok_err, reports_of, unfailed_of}
 use Rattle.object_asks.proofs.ServingLemmas.{ends_with}
 
 -- a refusal is the stated one, and leaves this
@@ -78,11 +78,11 @@ module _ {D A : Type 0} (K : Keeper D) (honest_model : (d : D) → K.honest d �
   -- this outcome comes behind a read that wasn't kept from its answer
   pub given_plainly : (result : Result A StoreAnswer) (outcome : Result_of) (if_served : Outcome Objects) (changes : Bool) (held left : Held)
       → (K.status old).lost ≡ false → (K.status new).lost ≡ false → (K.status new).damage_reports ≡ (K.status old).damage_reports + 0
-      → (K.has_model old → IsOutcome outcome if_served (objects_in held (K.contents old)) (objects_in left (K.contents old))) → reads result
+      → (K.status new).faults ≡ (K.status old).faults → (K.has_model old → IsOutcome outcome if_served (objects_in held (K.contents old)) (objects_in left (K.contents old))) → reads result
       → IsGiven K (Ok outcome) if_served changes held held left old new
-  given_plainly result outcome if_served changes held left works worked reports gives read = record {
+  given_plainly result outcome if_served changes held left works worked reports unfailed gives read = record {
     gives = λ t. subst (λ c. IsOutcome outcome if_served (objects_in held (K.contents old)) (objects_in left c)) (sym (read.same t)) (gives t);
-    cause = λ no_want. record { cause = (works, worked); later = read.call.cause.later; foundation = read.call.cause.foundation; reports = reports };
+    cause = λ no_want. record { cause = (works, worked); later = read.call.cause.later; unfailed = unfailed; foundation = read.call.cause.foundation; reports = reports };
     tried = no_change changes (K.status old) (K.status new) read.call.attempts;
     stays = λ e. absurd (ok_err _ _ e);
     want = λ e. absurd (ok_err _ _ e);
@@ -99,7 +99,7 @@ module _ {D A : Type 0} (K : Keeper D) (honest_model : (d : D) → K.honest d �
       → IsGiven K (Ok outcome) (by (stated (K.contents old).store)) changes held held left old new
   given_found a by changes outcome held left gives read =
       given_plainly (Ok a) outcome (by (stated (K.contents old).store)) changes held left read.call.cause.cause.0 read.call.cause.cause.1 read.call.cause.reports
-      (λ t. subst (λ r. IsOutcome outcome (by r) (objects_in held (K.contents old)) (objects_in left (K.contents old))) (sym (read.answer t)) gives) read
+      read.call.cause.unfailed (λ t. subst (λ r. IsOutcome outcome (by r) (objects_in held (K.contents old)) (objects_in left (K.contents old))) (sym (read.answer t)) gives) read
 
   -- the read was refused, or was kept from its answer
   pub given_refusal : (e : StoreAnswer) (by : Result A StoreAnswer → Outcome Objects) (changes : Bool) (held : Held)
@@ -110,6 +110,7 @@ module _ {D A : Type 0} (K : Keeper D) (honest_model : (d : D) → K.honest d �
     cause = λ no_want. record {
       cause = cause_of A Result_of e (K.status old) (K.status new) read.call.cause.cause;
       later = read.call.cause.later;
+      unfailed = unfailed_of A Result_of e _ read.call.cause.unfailed;
       foundation = read.call.cause.foundation;
       reports = read.call.cause.reports ∙ ap (λ n. (K.status old).damage_reports + n) (reports_of A Result_of e);
     };

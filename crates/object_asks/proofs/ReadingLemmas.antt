@@ -7,7 +7,7 @@ use Rattle.tee_base.proofs.Crash.{joined, weaker}
 use Rattle.store_api.specs.declared.answer.StoreAnswer.{StoreAnswer}
 use Rattle.store_api.specs.declared.answer.StoreAnswer.TheVariants as stores
 use Rattle.store_api.specs.declared.object.Object.{Object}
-use Rattle.store_api.specs.Keeping.{Answers, Cause, Contents, CrashLeaves, HasCause, IsCall, KeepsPast, Keeper, LeavesJust, Reads, Remains, Status, TellsDamage, damage_in}
+use Rattle.store_api.specs.Keeping.{Answers, Cause, Contents, CrashLeaves, HasCause, IsCall, KeepsPast, Keeper, LeavesJust, Reads, Remains, Status, TellsDamage, damage_in, UnlessFailed}
 use Rattle.store_api.specs.declared.object.Facts.{Facts}
 use Rattle.store_api.specs.Limits.{AreFacts, IsSecret, IsWithinLimits}
 use Rattle.store_api.specs.Stores.{Store, facts_of, found, object_at, secret_at, with_object}
@@ -32,6 +32,16 @@ cause_of A B stores.Failed s t met = met
 cause_of A B (stores.Corrupt tags) s t met = met
 cause_of A B (stores.Garbled leaf) s t met = met
 cause_of A B stores.NoMemory s t met = met
+
+pub unfailed_of : (A B : Type 0) (e : StoreAnswer) (fact : Type 0) → UnlessFailed {A = A} (Err e) fact → UnlessFailed {A = B} (Err e) fact
+unfailed_of A B stores.NotFound fact met = met
+unfailed_of A B stores.Exists fact met = met
+unfailed_of A B stores.NoSpace fact met = met
+unfailed_of A B stores.Lost fact met = met
+unfailed_of A B stores.Failed fact met = tt
+unfailed_of A B (stores.Corrupt tags) fact met = met
+unfailed_of A B (stores.Garbled leaf) fact met = met
+unfailed_of A B stores.NoMemory fact met = met
 
 pub damage_of : (A B : Type 0) (e : StoreAnswer) (P : StoreAnswer → Type 0) → TellsDamage {A = A} (Err e) P → TellsDamage {A = B} (Err e) P
 damage_of A B stores.NotFound P told = tt
@@ -91,6 +101,17 @@ later_cause (Err (stores.Corrupt tags)) s m t works worked le met = (works, met.
 later_cause (Err (stores.Garbled leaf)) s m t works worked le met = (works, met.1)
 later_cause (Err stores.NoMemory) s m t works worked le met = (works, met.1)
 
+later_unfailed : {A : Type 0} (result : Result A StoreAnswer) (s m t : ℕ) → m ≡ s → UnlessFailed result (t ≡ m) → UnlessFailed result (t ≡ s)
+later_unfailed (Ok a) s m t one two = two ∙ one
+later_unfailed (Err stores.NotFound) s m t one two = two ∙ one
+later_unfailed (Err stores.Exists) s m t one two = two ∙ one
+later_unfailed (Err stores.NoSpace) s m t one two = two ∙ one
+later_unfailed (Err stores.Lost) s m t one two = two ∙ one
+later_unfailed (Err stores.Failed) s m t one two = tt
+later_unfailed (Err (stores.Corrupt tags)) s m t one two = two ∙ one
+later_unfailed (Err (stores.Garbled leaf)) s m t one two = two ∙ one
+later_unfailed (Err stores.NoMemory) s m t one two = two ∙ one
+
 tries_after : (changes : Bool) (s m t : Status) → m.change_attempts ≡ s.change_attempts → TriesOnce changes m t → TriesOnce changes s t
 tries_after true s m t same tried = (omega (arith, same, tried.0), omega (arith, same, tried.1))
 tries_after false s m t same tried = tried ∙ same
@@ -101,6 +122,7 @@ module _ {D : Type 0} (K : Keeper D) where
     pub works : (K.status old).lost ≡ false
     pub worked : (K.status mid).lost ≡ false
     pub later : (K.status old).faults ≤ (K.status mid).faults
+    pub unfailed : (K.status mid).faults ≡ (K.status old).faults
     pub foundation : (K.status mid).foundation ≡ (K.status old).foundation
     pub reports : (K.status mid).damage_reports ≡ (K.status old).damage_reports
     pub attempts : (K.status mid).change_attempts ≡ (K.status old).change_attempts
@@ -116,6 +138,7 @@ module _ {D : Type 0} (K : Keeper D) where
     works = read.call.cause.cause.0;
     worked = read.call.cause.cause.1;
     later = read.call.cause.later;
+    unfailed = read.call.cause.unfailed;
     foundation = read.call.cause.foundation;
     reports = omega (arith, read.call.cause.reports);
     attempts = omega (arith, read.call.attempts);
@@ -131,6 +154,7 @@ module _ {D : Type 0} (K : Keeper D) where
   has_cause_after result old mid new one two = record {
     cause = later_cause result (K.status old) (K.status mid) (K.status new) one.works one.worked one.later two.cause;
     later = omega (arith, one.later, two.later);
+    unfailed = later_unfailed result (K.status old).faults (K.status mid).faults (K.status new).faults one.unfailed two.unfailed;
     foundation = two.foundation ∙ one.foundation;
     reports = omega (arith, two.reports, one.reports);
   }
@@ -256,7 +280,7 @@ module _ {D : Type 0} (K : Keeper D) where
     model = call.model;
     still = call.still;
     limits = call.limits;
-    cause = record { cause = call.cause.cause; later = call.cause.later; foundation = call.cause.foundation; reports = call.cause.reports };
+    cause = record { cause = call.cause.cause; later = call.cause.later; unfailed = call.cause.unfailed; foundation = call.cause.foundation; reports = call.cause.reports };
     attempts = call.attempts;
     damage = tt;
     below = call.below;
@@ -279,6 +303,7 @@ module _ {D : Type 0} (K : Keeper D) where
       cause = record {
         cause = cause_of A B e (K.status old) (K.status new) read.call.cause.cause;
         later = read.call.cause.later;
+        unfailed = unfailed_of A B e _ read.call.cause.unfailed;
         foundation = read.call.cause.foundation;
         reports =
             read.call.cause.reports ∙ ap (λ n. (K.status old).damage_reports + n) (reports_of A B e);

@@ -87,7 +87,8 @@ corrupt_under (Some (Garbled leaf)) told P is = tt
 corrupt_under (Some NoMemory) told P is = tt
 
 -- a leaf that is told of a volume that isn't lost, where that can't be
-pub garbled_never : (why : Option StoreAnswer) (old new : Condition) (P : ℕ → Type 0) → ReadCause why old new → ((leaf : ℕ) → old.lost ≡ false → P leaf → ⊥) → IfGarbled why P → IfGarbled why (λ leaf. ⊥)
+pub garbled_never : (why : Option StoreAnswer) (old new : Condition) (P : ℕ → Type 0) → ReadCause why old new → ((leaf : ℕ) → old.lost ≡ false → P leaf → ⊥)
+    → IfGarbled why P → IfGarbled why (λ leaf. ⊥)
 garbled_never None old new P cause never is = tt
 garbled_never (Some NotFound) old new P cause never is = tt
 garbled_never (Some Exists) old new P cause never is = tt
@@ -171,7 +172,8 @@ commit_unfailed (Err (leaf_answers.Mismatch tags)) a b c one two = two ∙ one
 commit_unfailed (Err leaf_answers.NoMemory) a b c one two = two ∙ one
 
 -- nor was anything written where it was refused
-pub commit_unwritten : (answer : Result ℕ LeafAnswer) (old mid new : Condition) → ReadCause None old mid → mid.writes ≡ old.writes → LeafCause answer mid new → IfUnwritten answer (new.writes ≡ mid.writes)
+pub commit_unwritten : (answer : Result ℕ LeafAnswer) (old mid new : Condition) → ReadCause None old mid → mid.writes ≡ old.writes → LeafCause answer mid new
+    → IfUnwritten answer (new.writes ≡ mid.writes)
     → IfKept (done_of answer) (new.writes ≡ old.writes)
 commit_unwritten (Ok sequence) old mid new reads one cause two = tt
 commit_unwritten (Err leaf_answers.Lost) old mid new reads one cause two = two ∙ one

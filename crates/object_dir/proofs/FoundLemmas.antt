@@ -35,7 +35,8 @@ alike : (one two : ℕ → List ℕ) → ((i : ℕ) → i < 256 → one i ≡ tw
 alike one two same = region_same version_one two one (record { map = λ i below. same i (omega (arith, below)); used = λ i below is. same i below }) (λ i below. omega (arith, below)) (omega arith)
 
 -- an answer of a volume that isn't lost
-pub answers_working : {A : Type 0} (result stated : Result A StoreAnswer) (old new : Condition) → ReadCause (refusal_of result) old new → (old.lost ≡ false → Answers result stated) → Answers result stated
+pub answers_working : {A : Type 0} (result stated : Result A StoreAnswer) (old new : Condition) → ReadCause (refusal_of result) old new
+    → (old.lost ≡ false → Answers result stated) → Answers result stated
 answers_working (Ok a) stated old new cause told = told cause.0
 answers_working (Err NotFound) stated old new cause told = told cause.0
 answers_working (Err Exists) stated old new cause told = told cause.0

@@ -126,7 +126,8 @@ impl<V: Volume> AppStore for ObjectDir<'_, V> {
         ensures reads { Reads (dir_keeper V.keeper) (λ store. read_at store id.now from count)
             (IsPart count) result self.old self.new }
         ensures region { ReadsRegion (region_keeper V.keeper) number_of version_one
-            (λ store. read_at store id.now from count) (IsPart count) result self.old.region self.new.region }
+            (λ store. read_at store id.now from count) (IsPart count) result self.old.region
+            self.new.region }
         ensures part { IsTrue V.keeper.tells_reads → IfOk result (λ bytes. IsReadPart
             (region_keeper V.keeper) number_of version_one id.now from count self.old.region) }
     {
@@ -139,7 +140,8 @@ impl<V: Volume> AppStore for ObjectDir<'_, V> {
         ensures reads { Reads (dir_keeper V.keeper)
             (λ store. next_of store (option_copied last.entry)) IsListed result self.old self.new }
         ensures region { ReadsRegion (region_keeper V.keeper) number_of version_one
-            (λ store. next_of store (option_copied last.entry)) IsListed result self.old.region self.new.region }
+            (λ store. next_of store (option_copied last.entry)) IsListed result self.old.region
+            self.new.region }
     {
         let answer = next_after(self.alloc, &mut self.region, last);
         note(&mut self.damage_reports, refusal(&answer));

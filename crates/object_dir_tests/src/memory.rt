@@ -1,8 +1,8 @@
 //! A volume in memory.
 
-ghost use Rattle.std.specs.Prelude.{◌≡◌, ◌<◌, [], None, false, vec_len};
+ghost use Rattle.std.specs.Prelude.{◌≡◌, ◌<◌, [], None, false, refl, vec_len};
 ghost use Rattle.store_api.specs.Foundations.{no_foundation};
-ghost use Rattle.tee_base.specs.declared.limits.TheConstants.{MAX_HOSTS};
+ghost use Rattle.tee_base.specs.declared.limits.TheConstants.{LEAVES, MAX_HOSTS};
 
 use std::alloc::Global;
 use std::test::Fail;
@@ -29,8 +29,9 @@ struct Regions {
 impl Regions {
     ghost use Rattle.std.specs.Prelude.{◌<◌};
 
-    fn leaf(&self, region: u8, leaf: u8) -> [u8; BLOCK_BYTES]
-        requires { region < MAX_HOSTS }
+    fn leaf(&self, region: u8, leaf: u16) -> [u8; BLOCK_BYTES]
+        requires region { region < MAX_HOSTS }
+        requires leaf { leaf < LEAVES }
     {
         self.leaves[LEAVES * region as usize + leaf as usize]
     }
@@ -40,7 +41,9 @@ impl Regions {
         requires { region < MAX_HOSTS }
     {
         for leaf in named {
-            self.leaves[LEAVES * region as usize + leaf.number as usize] = leaf.bytes;
+            if usize::from(leaf.number) < LEAVES {
+                self.leaves[LEAVES * region as usize + leaf.number as usize] = leaf.bytes;
+            }
         }
     }
 }
@@ -89,18 +92,26 @@ impl Memory {
 impl Volume for Memory {
     ghost keeper = { record {
       tells_reads = false;
-      held = λ m. record { leaves = λ r l. []; sequence = m.sequence };
-      condition = λ m. record { lost = m.lost; faults = m.faults; foundation = no_foundation };
+      leaves = LEAVES;
+      held = λ m. record { leaves = λ r l. []; sequence = m.sequence; version = 0 };
+      condition = λ m. record { lost = m.lost; faults = m.faults; writes = 0; foundation = no_foundation };
       honest_below = λ m. ⊥;
       honest = λ m. ⊥;
+      text = λ m r l. [];
       damage = λ m r l. None;
       moment = λ m. 0;
       left_since = λ m t o. ⊥;
     } };
 
+    ghost whole = { refl };
+
     ghost rests = { λ v h works. absurd h };
 
+    ghost left_now = { λ v h works. absurd h };
+
     ghost sound = { λ v h works r l few below. absurd h };
+
+    ghost found = { λ v h works r l few below. absurd h };
 
     ghost honest_tells = { λ v h. absurd h };
 
@@ -109,7 +120,7 @@ impl Volume for Memory {
     fn read_leaf(
         &mut self,
         region: u8,
-        leaf: u8,
+        leaf: u16,
         into: &mut [u8; BLOCK_BYTES],
     ) -> Result<(), LeafAnswer> {
         if self.lost {

@@ -33,3 +33,4 @@ pub mod StepLemmas
 pub mod StoreLemmas
 pub mod TableLemmas
 pub mod Totals
+pub mod WholeLemmas

@@ -88,7 +88,8 @@ data_of true false false p e is = absurd (let g : false ≡ true = is in cc)
 data_of true false true false e is = absurd (let g : true ≡ false = e in cc)
 data_of true false true true e is = refl
 
-unbroken_from : (f i l d h k p : Bool) → f ≡ true → (i ≡ true → (l ≡ true) × (d ≡ false) × (h ≡ true)) → (k ≡ true → p ≡ true) → (not f || ((i && not (l && (not d && h))) || (k && not p))) ≡ false
+-- no rule is broken where each part of them is kept
+pub unbroken_from : (f i l d h k p : Bool) → f ≡ true → (i ≡ true → (l ≡ true) × (d ≡ false) × (h ≡ true)) → (k ≡ true → p ≡ true) → (not f || ((i && not (l && (not d && h))) || (k && not p))) ≡ false
 unbroken_from f true l d h true p formed inode data' = rw (formed, (inode refl).0, (inode refl).1, (inode refl).2, data' refl) refl
 unbroken_from f true l d h false p formed inode data' = rw (formed, (inode refl).0, (inode refl).1, (inode refl).2) refl
 unbroken_from f false l d h true p formed inode data' = rw (formed, data' refl) refl
@@ -230,6 +231,15 @@ module _ (L : Layout) (leaves : ℕ → List ℕ) where
     pub sound_of : Sound
     sound_of = record { formed = formed_is; inode = inode_sound; apart = apart_is }
 
+  first_none : ((i : ℕ) → i < L.leaves → breaks L leaves i ≡ false) → first_broken L leaves ≡ None
+  unfolding first_broken numbers
+  first_none unbroken = none_found (λ i. breaks L leaves i) L.leaves 0 (λ i low high. unbroken i (omega arith))
+
+  -- a region without a broken rule stands for its store
+  pub unbroken_region : ((i : ℕ) → i < L.leaves → breaks L leaves i ≡ false) → region_of L leaves ≡ Ok (store_of L leaves)
+  unfolding region_of
+  unbroken_region unbroken = ap (λ r. unless_broken L leaves r) (first_none unbroken)
+
   -- and back
   module _ (filled : 0 < L.leaves) (sound : Sound) where
     doubled_not : (n : ℕ) → n < L.leaves → is_inode L leaves n ≡ true → is_doubled L leaves n ≡ false
@@ -284,14 +294,8 @@ module _ (L : Layout) (leaves : ℕ → List ℕ) where
         (sound.formed i below)
         (λ inode. ((sound.inode i below inode).bytes, doubled_not i below inode, data_has i below inode)) (λ is. padded_has i below is)
 
-    first_none : first_broken L leaves ≡ None
-    unfolding first_broken numbers
-    first_none = none_found (λ i. breaks L leaves i) L.leaves 0 (λ i low high. unbroken_of i (omega arith))
-
-    -- a region without a broken rule stands for its store
     pub sound_region : region_of L leaves ≡ Ok (store_of L leaves)
-    unfolding region_of
-    sound_region = ap (λ r. unless_broken L leaves r) first_none
+    sound_region = unbroken_region unbroken_of
 
   none_first : (r : Option ℕ) (store : Store) → unless_broken L leaves r ≡ Ok store → r ≡ None
   none_first None store is = refl

@@ -7,147 +7,147 @@ use Rattle.epoch.proofs.CommitStages as stages
 use Rattle.epoch.proofs.commits.commit.Goals as goal
 
 pub returns-in_err-shut-clause-crash : goal.returns-in_err-shut-clause-crash
-returns-in_err-shut-clause-crash g c h before e mounted fits =
-    let begun = stages.begins g.C.Change.form (g.C.Change.fits c.args.change.now) (g.B.Board.view c.args.board.now) (g.C.Change.root c.args.change.now) before c.other_slot-slot.result c.args.sequence
-    g.met.C.Change.framed (g.met.C.Change.still_fits c.args.change.now) c.other_slot-slot.ensures.slot c.requires.sequence e mounted fits in
+returns-in_err-shut-clause-crash g c h before begins =
+    let begun = stages.begins g.C.Change.form (g.C.Change.fits c.args.change.now) (g.B.Board.view c.args.board.now) (g.C.Change.root c.args.change.now) before c.slot_for-slot.result c.args.sequence
+    g.met.C.Change.framed (g.met.C.Change.still_fits c.args.change.now) c.slot_for-slot.ensures.slot c.requires.sequence begins.last begins.mounted begins.fits in
     stages.crash_shut begun (next_held g.C.Change.form (g.C.Change.after c.args.change.now before.leaves) before.sequence) (g.B.Board.view c.shut.new.board) (c.in_err-shut.ensures.run h)
 
 pub returns-in_err-shut-clause-kept : goal.returns-in_err-shut-clause-kept
-returns-in_err-shut-clause-kept g c h before e mounted fits =
-    let begun = stages.begins g.C.Change.form (g.C.Change.fits c.args.change.now) (g.B.Board.view c.args.board.now) (g.C.Change.root c.args.change.now) before c.other_slot-slot.result c.args.sequence
-    g.met.C.Change.framed (g.met.C.Change.still_fits c.args.change.now) c.other_slot-slot.ensures.slot c.requires.sequence e mounted fits in
+returns-in_err-shut-clause-kept g c h before begins =
+    let begun = stages.begins g.C.Change.form (g.C.Change.fits c.args.change.now) (g.B.Board.view c.args.board.now) (g.C.Change.root c.args.change.now) before c.slot_for-slot.result c.args.sequence
+    g.met.C.Change.framed (g.met.C.Change.still_fits c.args.change.now) c.slot_for-slot.ensures.slot c.requires.sequence begins.last begins.mounted begins.fits in
     on_err _ _ (stages.kept_shut begun (g.B.Board.view c.shut.new.board) (c.in_err-shut.ensures.elsewhere h))
 
 pub returns-in_err-shut-clause-steady : goal.returns-in_err-shut-clause-steady
-returns-in_err-shut-clause-steady g c h before e mounted fits =
-    let begun = stages.begins g.C.Change.form (g.C.Change.fits c.args.change.now) (g.B.Board.view c.args.board.now) (g.C.Change.root c.args.change.now) before c.other_slot-slot.result c.args.sequence
-    g.met.C.Change.framed (g.met.C.Change.still_fits c.args.change.now) c.other_slot-slot.ensures.slot c.requires.sequence e mounted fits in
+returns-in_err-shut-clause-steady g c h before begins =
+    let begun = stages.begins g.C.Change.form (g.C.Change.fits c.args.change.now) (g.B.Board.view c.args.board.now) (g.C.Change.root c.args.change.now) before c.slot_for-slot.result c.args.sequence
+    g.met.C.Change.framed (g.met.C.Change.still_fits c.args.change.now) c.slot_for-slot.ensures.slot c.requires.sequence begins.last begins.mounted begins.fits in
     on_err _ _ (stages.steady_shut begun (g.B.Board.view c.shut.new.board) (c.in_err-shut.ensures.run h))
 
 pub returns-in_err-root-clause-crash : goal.returns-in_err-root-clause-crash
-returns-in_err-root-clause-crash g c h before e mounted fits =
-    let begun = stages.begins g.C.Change.form (g.C.Change.fits c.args.change.now) (g.B.Board.view c.args.board.now) (g.C.Change.root c.args.change.now) before c.other_slot-slot.result c.args.sequence
-    g.met.C.Change.framed (g.met.C.Change.still_fits c.args.change.now) c.other_slot-slot.ensures.slot c.requires.sequence e mounted fits in
+returns-in_err-root-clause-crash g c h before begins =
+    let begun = stages.begins g.C.Change.form (g.C.Change.fits c.args.change.now) (g.B.Board.view c.args.board.now) (g.C.Change.root c.args.change.now) before c.slot_for-slot.result c.args.sequence
+    g.met.C.Change.framed (g.met.C.Change.still_fits c.args.change.now) c.slot_for-slot.ensures.slot c.requires.sequence begins.last begins.mounted begins.fits in
     let hon1 = c.in_ok-shut.ensures.honest h in
     let shut = stages.is_shut begun (g.B.Board.view c.shut.new.board) c.in_ok-shut.ensures.calls.key (c.in_ok-shut.ensures.run h) (c.in_ok-shut.ensures.shut h) in
     let wrote = stages.write_run shut (g.B.Board.view c.write.new.board) (c.in_err-root.ensures.run hon1) in
     stages.crash_spare shut (next_held g.C.Change.form (g.C.Change.after c.args.change.now before.leaves) before.sequence) (g.B.Board.view c.write.new.board) wrote
 
 pub returns-in_err-root-clause-kept : goal.returns-in_err-root-clause-kept
-returns-in_err-root-clause-kept g c h before e mounted fits =
-    let begun = stages.begins g.C.Change.form (g.C.Change.fits c.args.change.now) (g.B.Board.view c.args.board.now) (g.C.Change.root c.args.change.now) before c.other_slot-slot.result c.args.sequence
-    g.met.C.Change.framed (g.met.C.Change.still_fits c.args.change.now) c.other_slot-slot.ensures.slot c.requires.sequence e mounted fits in
+returns-in_err-root-clause-kept g c h before begins =
+    let begun = stages.begins g.C.Change.form (g.C.Change.fits c.args.change.now) (g.B.Board.view c.args.board.now) (g.C.Change.root c.args.change.now) before c.slot_for-slot.result c.args.sequence
+    g.met.C.Change.framed (g.met.C.Change.still_fits c.args.change.now) c.slot_for-slot.ensures.slot c.requires.sequence begins.last begins.mounted begins.fits in
     let hon1 = c.in_ok-shut.ensures.honest h in
     let shut = stages.is_shut begun (g.B.Board.view c.shut.new.board) c.in_ok-shut.ensures.calls.key (c.in_ok-shut.ensures.run h) (c.in_ok-shut.ensures.shut h) in
     let wrote = stages.write_run shut (g.B.Board.view c.write.new.board) (c.in_err-root.ensures.run hon1) in
     on_err _ _ (stages.kept_spare shut (g.B.Board.view c.write.new.board) wrote)
 
 pub returns-in_err-root-clause-steady : goal.returns-in_err-root-clause-steady
-returns-in_err-root-clause-steady g c h before e mounted fits =
-    let begun = stages.begins g.C.Change.form (g.C.Change.fits c.args.change.now) (g.B.Board.view c.args.board.now) (g.C.Change.root c.args.change.now) before c.other_slot-slot.result c.args.sequence
-    g.met.C.Change.framed (g.met.C.Change.still_fits c.args.change.now) c.other_slot-slot.ensures.slot c.requires.sequence e mounted fits in
+returns-in_err-root-clause-steady g c h before begins =
+    let begun = stages.begins g.C.Change.form (g.C.Change.fits c.args.change.now) (g.B.Board.view c.args.board.now) (g.C.Change.root c.args.change.now) before c.slot_for-slot.result c.args.sequence
+    g.met.C.Change.framed (g.met.C.Change.still_fits c.args.change.now) c.slot_for-slot.ensures.slot c.requires.sequence begins.last begins.mounted begins.fits in
     let hon1 = c.in_ok-shut.ensures.honest h in
     let shut = stages.is_shut begun (g.B.Board.view c.shut.new.board) c.in_ok-shut.ensures.calls.key (c.in_ok-shut.ensures.run h) (c.in_ok-shut.ensures.shut h) in
     let wrote = stages.write_run shut (g.B.Board.view c.write.new.board) (c.in_err-root.ensures.run hon1) in
     on_err _ _ (stages.steady_spare shut (g.B.Board.view c.write.new.board) wrote)
 
 pub returns-in_err-lay-clause-crash : goal.returns-in_err-lay-clause-crash
-returns-in_err-lay-clause-crash g c h before e mounted fits =
-    let begun = stages.begins g.C.Change.form (g.C.Change.fits c.args.change.now) (g.B.Board.view c.args.board.now) (g.C.Change.root c.args.change.now) before c.other_slot-slot.result c.args.sequence
-    g.met.C.Change.framed (g.met.C.Change.still_fits c.args.change.now) c.other_slot-slot.ensures.slot c.requires.sequence e mounted fits in
+returns-in_err-lay-clause-crash g c h before begins =
+    let begun = stages.begins g.C.Change.form (g.C.Change.fits c.args.change.now) (g.B.Board.view c.args.board.now) (g.C.Change.root c.args.change.now) before c.slot_for-slot.result c.args.sequence
+    g.met.C.Change.framed (g.met.C.Change.still_fits c.args.change.now) c.slot_for-slot.ensures.slot c.requires.sequence begins.last begins.mounted begins.fits in
     let hon1 = c.in_ok-shut.ensures.honest h in
     let hon2 = c.in_ok-root.ensures.honest hon1 in
     let shut = stages.is_shut begun (g.B.Board.view c.shut.new.board) c.in_ok-shut.ensures.calls.key (c.in_ok-shut.ensures.run h) (c.in_ok-shut.ensures.shut h) in
     let wrote = stages.write_run shut (g.B.Board.view c.write.new.board) (c.in_ok-root.ensures.run hon1) in
-    let laid = stages.lay_run shut (g.B.Board.view c.write.new.board) (g.B.Board.view c.lay.new.board) _ (sym c.other_slot-slot.ensures.slot) wrote (c.in_err-lay.ensures.run hon2) in
+    let laid = stages.lay_run shut (g.B.Board.view c.write.new.board) (g.B.Board.view c.lay.new.board) _ (sym c.slot_for-slot.ensures.slot) wrote (c.in_err-lay.ensures.run hon2) in
     stages.crash_spare shut (next_held g.C.Change.form (g.C.Change.after c.args.change.now before.leaves) before.sequence) (g.B.Board.view c.lay.new.board) laid
 
 pub returns-in_err-lay-clause-kept : goal.returns-in_err-lay-clause-kept
-returns-in_err-lay-clause-kept g c h before e mounted fits =
-    let begun = stages.begins g.C.Change.form (g.C.Change.fits c.args.change.now) (g.B.Board.view c.args.board.now) (g.C.Change.root c.args.change.now) before c.other_slot-slot.result c.args.sequence
-    g.met.C.Change.framed (g.met.C.Change.still_fits c.args.change.now) c.other_slot-slot.ensures.slot c.requires.sequence e mounted fits in
+returns-in_err-lay-clause-kept g c h before begins =
+    let begun = stages.begins g.C.Change.form (g.C.Change.fits c.args.change.now) (g.B.Board.view c.args.board.now) (g.C.Change.root c.args.change.now) before c.slot_for-slot.result c.args.sequence
+    g.met.C.Change.framed (g.met.C.Change.still_fits c.args.change.now) c.slot_for-slot.ensures.slot c.requires.sequence begins.last begins.mounted begins.fits in
     let hon1 = c.in_ok-shut.ensures.honest h in
     let hon2 = c.in_ok-root.ensures.honest hon1 in
     let shut = stages.is_shut begun (g.B.Board.view c.shut.new.board) c.in_ok-shut.ensures.calls.key (c.in_ok-shut.ensures.run h) (c.in_ok-shut.ensures.shut h) in
     let wrote = stages.write_run shut (g.B.Board.view c.write.new.board) (c.in_ok-root.ensures.run hon1) in
-    let laid = stages.lay_run shut (g.B.Board.view c.write.new.board) (g.B.Board.view c.lay.new.board) _ (sym c.other_slot-slot.ensures.slot) wrote (c.in_err-lay.ensures.run hon2) in
+    let laid = stages.lay_run shut (g.B.Board.view c.write.new.board) (g.B.Board.view c.lay.new.board) _ (sym c.slot_for-slot.ensures.slot) wrote (c.in_err-lay.ensures.run hon2) in
     on_err _ _ (stages.kept_spare shut (g.B.Board.view c.lay.new.board) laid)
 
 pub returns-in_err-lay-clause-steady : goal.returns-in_err-lay-clause-steady
-returns-in_err-lay-clause-steady g c h before e mounted fits =
-    let begun = stages.begins g.C.Change.form (g.C.Change.fits c.args.change.now) (g.B.Board.view c.args.board.now) (g.C.Change.root c.args.change.now) before c.other_slot-slot.result c.args.sequence
-    g.met.C.Change.framed (g.met.C.Change.still_fits c.args.change.now) c.other_slot-slot.ensures.slot c.requires.sequence e mounted fits in
+returns-in_err-lay-clause-steady g c h before begins =
+    let begun = stages.begins g.C.Change.form (g.C.Change.fits c.args.change.now) (g.B.Board.view c.args.board.now) (g.C.Change.root c.args.change.now) before c.slot_for-slot.result c.args.sequence
+    g.met.C.Change.framed (g.met.C.Change.still_fits c.args.change.now) c.slot_for-slot.ensures.slot c.requires.sequence begins.last begins.mounted begins.fits in
     let hon1 = c.in_ok-shut.ensures.honest h in
     let hon2 = c.in_ok-root.ensures.honest hon1 in
     let shut = stages.is_shut begun (g.B.Board.view c.shut.new.board) c.in_ok-shut.ensures.calls.key (c.in_ok-shut.ensures.run h) (c.in_ok-shut.ensures.shut h) in
     let wrote = stages.write_run shut (g.B.Board.view c.write.new.board) (c.in_ok-root.ensures.run hon1) in
-    let laid = stages.lay_run shut (g.B.Board.view c.write.new.board) (g.B.Board.view c.lay.new.board) _ (sym c.other_slot-slot.ensures.slot) wrote (c.in_err-lay.ensures.run hon2) in
+    let laid = stages.lay_run shut (g.B.Board.view c.write.new.board) (g.B.Board.view c.lay.new.board) _ (sym c.slot_for-slot.ensures.slot) wrote (c.in_err-lay.ensures.run hon2) in
     on_err _ _ (stages.steady_spare shut (g.B.Board.view c.lay.new.board) laid)
 
 pub returns-in_err-_counter-clause-crash : goal.returns-in_err-_counter-clause-crash
-returns-in_err-_counter-clause-crash g c h before e mounted fits =
-    let begun = stages.begins g.C.Change.form (g.C.Change.fits c.args.change.now) (g.B.Board.view c.args.board.now) (g.C.Change.root c.args.change.now) before c.other_slot-slot.result c.args.sequence
-    g.met.C.Change.framed (g.met.C.Change.still_fits c.args.change.now) c.other_slot-slot.ensures.slot c.requires.sequence e mounted fits in
+returns-in_err-_counter-clause-crash g c h before begins =
+    let begun = stages.begins g.C.Change.form (g.C.Change.fits c.args.change.now) (g.B.Board.view c.args.board.now) (g.C.Change.root c.args.change.now) before c.slot_for-slot.result c.args.sequence
+    g.met.C.Change.framed (g.met.C.Change.still_fits c.args.change.now) c.slot_for-slot.ensures.slot c.requires.sequence begins.last begins.mounted begins.fits in
     let hon1 = c.in_ok-shut.ensures.honest h in
     let hon2 = c.in_ok-root.ensures.honest hon1 in
     let shut = stages.is_shut begun (g.B.Board.view c.shut.new.board) c.in_ok-shut.ensures.calls.key (c.in_ok-shut.ensures.run h) (c.in_ok-shut.ensures.shut h) in
     let wrote = stages.write_run shut (g.B.Board.view c.write.new.board) (c.in_ok-root.ensures.run hon1) in
-    let has = stages.has_laid shut (g.C.Change.after c.args.change.now) (g.B.Board.view c.write.new.board) (g.B.Board.view c.lay.new.board) _ _ (sym c.other_slot-slot.ensures.slot)
+    let has = stages.has_laid shut (g.C.Change.after c.args.change.now) (g.B.Board.view c.write.new.board) (g.B.Board.view c.lay.new.board) _ _ (sym c.slot_for-slot.ensures.slot)
     c.in_ok-root.ensures.calls.key wrote (c.in_ok-lay.ensures.run hon2) (c.in_ok-lay.ensures.laid hon2).0 (c.in_ok-lay.ensures.good hon2)
-    c.version-version.ensures (ap (λ (s : ℕ). s + 1) (sym e)) (c.in_ok-root.ensures.written hon1) in
+    c.version-version.ensures (ap (λ (s : ℕ). s + 1) (sym begins.last)) (c.in_ok-root.ensures.written hon1) in
     stages.crash_flip has (g.B.Board.view c.flip.new.board) (c.in_err-_counter.ensures.run (c.in_ok-lay.ensures.honest hon2))
 
 pub returns-in_err-_counter-clause-kept : goal.returns-in_err-_counter-clause-kept
-returns-in_err-_counter-clause-kept g c h before e mounted fits =
-    let begun = stages.begins g.C.Change.form (g.C.Change.fits c.args.change.now) (g.B.Board.view c.args.board.now) (g.C.Change.root c.args.change.now) before c.other_slot-slot.result c.args.sequence
-    g.met.C.Change.framed (g.met.C.Change.still_fits c.args.change.now) c.other_slot-slot.ensures.slot c.requires.sequence e mounted fits in
+returns-in_err-_counter-clause-kept g c h before begins =
+    let begun = stages.begins g.C.Change.form (g.C.Change.fits c.args.change.now) (g.B.Board.view c.args.board.now) (g.C.Change.root c.args.change.now) before c.slot_for-slot.result c.args.sequence
+    g.met.C.Change.framed (g.met.C.Change.still_fits c.args.change.now) c.slot_for-slot.ensures.slot c.requires.sequence begins.last begins.mounted begins.fits in
     let hon1 = c.in_ok-shut.ensures.honest h in
     let hon2 = c.in_ok-root.ensures.honest hon1 in
     let shut = stages.is_shut begun (g.B.Board.view c.shut.new.board) c.in_ok-shut.ensures.calls.key (c.in_ok-shut.ensures.run h) (c.in_ok-shut.ensures.shut h) in
     let wrote = stages.write_run shut (g.B.Board.view c.write.new.board) (c.in_ok-root.ensures.run hon1) in
-    let has = stages.has_laid shut (g.C.Change.after c.args.change.now) (g.B.Board.view c.write.new.board) (g.B.Board.view c.lay.new.board) _ _ (sym c.other_slot-slot.ensures.slot)
+    let has = stages.has_laid shut (g.C.Change.after c.args.change.now) (g.B.Board.view c.write.new.board) (g.B.Board.view c.lay.new.board) _ _ (sym c.slot_for-slot.ensures.slot)
     c.in_ok-root.ensures.calls.key wrote (c.in_ok-lay.ensures.run hon2) (c.in_ok-lay.ensures.laid hon2).0 (c.in_ok-lay.ensures.good hon2)
-    c.version-version.ensures (ap (λ (s : ℕ). s + 1) (sym e)) (c.in_ok-root.ensures.written hon1) in
+    c.version-version.ensures (ap (λ (s : ℕ). s + 1) (sym begins.last)) (c.in_ok-root.ensures.written hon1) in
     on_err _ _ (stages.kept_flip has (g.B.Board.view c.flip.new.board) (c.in_err-_counter.ensures.elsewhere (c.in_ok-lay.ensures.honest hon2)))
 
 pub returns-in_err-_counter-clause-steady : goal.returns-in_err-_counter-clause-steady
-returns-in_err-_counter-clause-steady g c h before e mounted fits =
-    let begun = stages.begins g.C.Change.form (g.C.Change.fits c.args.change.now) (g.B.Board.view c.args.board.now) (g.C.Change.root c.args.change.now) before c.other_slot-slot.result c.args.sequence
-    g.met.C.Change.framed (g.met.C.Change.still_fits c.args.change.now) c.other_slot-slot.ensures.slot c.requires.sequence e mounted fits in
+returns-in_err-_counter-clause-steady g c h before begins =
+    let begun = stages.begins g.C.Change.form (g.C.Change.fits c.args.change.now) (g.B.Board.view c.args.board.now) (g.C.Change.root c.args.change.now) before c.slot_for-slot.result c.args.sequence
+    g.met.C.Change.framed (g.met.C.Change.still_fits c.args.change.now) c.slot_for-slot.ensures.slot c.requires.sequence begins.last begins.mounted begins.fits in
     let hon1 = c.in_ok-shut.ensures.honest h in
     let hon2 = c.in_ok-root.ensures.honest hon1 in
     let shut = stages.is_shut begun (g.B.Board.view c.shut.new.board) c.in_ok-shut.ensures.calls.key (c.in_ok-shut.ensures.run h) (c.in_ok-shut.ensures.shut h) in
     let wrote = stages.write_run shut (g.B.Board.view c.write.new.board) (c.in_ok-root.ensures.run hon1) in
-    let has = stages.has_laid shut (g.C.Change.after c.args.change.now) (g.B.Board.view c.write.new.board) (g.B.Board.view c.lay.new.board) _ _ (sym c.other_slot-slot.ensures.slot)
+    let has = stages.has_laid shut (g.C.Change.after c.args.change.now) (g.B.Board.view c.write.new.board) (g.B.Board.view c.lay.new.board) _ _ (sym c.slot_for-slot.ensures.slot)
     c.in_ok-root.ensures.calls.key wrote (c.in_ok-lay.ensures.run hon2) (c.in_ok-lay.ensures.laid hon2).0 (c.in_ok-lay.ensures.good hon2)
-    c.version-version.ensures (ap (λ (s : ℕ). s + 1) (sym e)) (c.in_ok-root.ensures.written hon1) in
+    c.version-version.ensures (ap (λ (s : ℕ). s + 1) (sym begins.last)) (c.in_ok-root.ensures.written hon1) in
     let hon3 = c.in_ok-lay.ensures.honest hon2 in
     on_err _ _ (stages.steady_flip has (g.B.Board.view c.flip.new.board) (c.in_err-_counter.ensures.elsewhere hon3) (c.in_err-_counter.ensures.pending hon3))
 
 pub returns-clause-crash : goal.returns-clause-crash
-returns-clause-crash g c h before e mounted fits =
-    let begun = stages.begins g.C.Change.form (g.C.Change.fits c.args.change.now) (g.B.Board.view c.args.board.now) (g.C.Change.root c.args.change.now) before c.other_slot-slot.result c.args.sequence
-    g.met.C.Change.framed (g.met.C.Change.still_fits c.args.change.now) c.other_slot-slot.ensures.slot c.requires.sequence e mounted fits in
+returns-clause-crash g c h before begins =
+    let begun = stages.begins g.C.Change.form (g.C.Change.fits c.args.change.now) (g.B.Board.view c.args.board.now) (g.C.Change.root c.args.change.now) before c.slot_for-slot.result c.args.sequence
+    g.met.C.Change.framed (g.met.C.Change.still_fits c.args.change.now) c.slot_for-slot.ensures.slot c.requires.sequence begins.last begins.mounted begins.fits in
     let hon1 = c.in_ok-shut.ensures.honest h in
     let hon2 = c.in_ok-root.ensures.honest hon1 in
     let shut = stages.is_shut begun (g.B.Board.view c.shut.new.board) c.in_ok-shut.ensures.calls.key (c.in_ok-shut.ensures.run h) (c.in_ok-shut.ensures.shut h) in
     let wrote = stages.write_run shut (g.B.Board.view c.write.new.board) (c.in_ok-root.ensures.run hon1) in
-    let has = stages.has_laid shut (g.C.Change.after c.args.change.now) (g.B.Board.view c.write.new.board) (g.B.Board.view c.lay.new.board) _ _ (sym c.other_slot-slot.ensures.slot)
+    let has = stages.has_laid shut (g.C.Change.after c.args.change.now) (g.B.Board.view c.write.new.board) (g.B.Board.view c.lay.new.board) _ _ (sym c.slot_for-slot.ensures.slot)
     c.in_ok-root.ensures.calls.key wrote (c.in_ok-lay.ensures.run hon2) (c.in_ok-lay.ensures.laid hon2).0 (c.in_ok-lay.ensures.good hon2)
-    c.version-version.ensures (ap (λ (s : ℕ). s + 1) (sym e)) (c.in_ok-root.ensures.written hon1) in
+    c.version-version.ensures (ap (λ (s : ℕ). s + 1) (sym begins.last)) (c.in_ok-root.ensures.written hon1) in
     stages.crash_flip has (g.B.Board.view c.flip.new.board) (c.in_ok-_counter.ensures.run (c.in_ok-lay.ensures.honest hon2))
 
 pub returns-clause-done : goal.returns-clause-done
-returns-clause-done g c h before e mounted fits =
-    let begun = stages.begins g.C.Change.form (g.C.Change.fits c.args.change.now) (g.B.Board.view c.args.board.now) (g.C.Change.root c.args.change.now) before c.other_slot-slot.result c.args.sequence
-    g.met.C.Change.framed (g.met.C.Change.still_fits c.args.change.now) c.other_slot-slot.ensures.slot c.requires.sequence e mounted fits in
+returns-clause-done g c h before begins =
+    let begun = stages.begins g.C.Change.form (g.C.Change.fits c.args.change.now) (g.B.Board.view c.args.board.now) (g.C.Change.root c.args.change.now) before c.slot_for-slot.result c.args.sequence
+    g.met.C.Change.framed (g.met.C.Change.still_fits c.args.change.now) c.slot_for-slot.ensures.slot c.requires.sequence begins.last begins.mounted begins.fits in
     let hon1 = c.in_ok-shut.ensures.honest h in
     let hon2 = c.in_ok-root.ensures.honest hon1 in
     let shut = stages.is_shut begun (g.B.Board.view c.shut.new.board) c.in_ok-shut.ensures.calls.key (c.in_ok-shut.ensures.run h) (c.in_ok-shut.ensures.shut h) in
     let wrote = stages.write_run shut (g.B.Board.view c.write.new.board) (c.in_ok-root.ensures.run hon1) in
-    let has = stages.has_laid shut (g.C.Change.after c.args.change.now) (g.B.Board.view c.write.new.board) (g.B.Board.view c.lay.new.board) _ _ (sym c.other_slot-slot.ensures.slot)
+    let has = stages.has_laid shut (g.C.Change.after c.args.change.now) (g.B.Board.view c.write.new.board) (g.B.Board.view c.lay.new.board) _ _ (sym c.slot_for-slot.ensures.slot)
     c.in_ok-root.ensures.calls.key wrote (c.in_ok-lay.ensures.run hon2) (c.in_ok-lay.ensures.laid hon2).0 (c.in_ok-lay.ensures.good hon2)
-    c.version-version.ensures (ap (λ (s : ℕ). s + 1) (sym e)) (c.in_ok-root.ensures.written hon1) in
+    c.version-version.ensures (ap (λ (s : ℕ). s + 1) (sym begins.last)) (c.in_ok-root.ensures.written hon1) in
     let hon3 = c.in_ok-lay.ensures.honest hon2 in
     let flipped = c.in_ok-_counter.ensures.flipped hon3 in
     let key3 = c.in_ok-lay.ensures.calls.key ∙ c.in_ok-root.ensures.calls.key ∙ c.in_ok-shut.ensures.calls.key in (
@@ -216,7 +216,7 @@ pub returns-clause-honest : goal.returns-clause-honest
 returns-clause-honest g c h = c.in_ok-_counter.ensures.honest (c.in_ok-lay.ensures.honest (c.in_ok-root.ensures.honest (c.in_ok-shut.ensures.honest h)))
 
 pub returns-clause-kept : goal.returns-clause-kept
-returns-clause-kept g c h before e mounted fits = tt
+returns-clause-kept g c h before begins = tt
 
 pub returns-clause-steady : goal.returns-clause-steady
-returns-clause-steady g c h before e mounted fits = tt
+returns-clause-steady g c h before begins = tt

@@ -57,3 +57,6 @@ pub returns-clause-past : goal.returns-clause-past
 returns-clause-past g c h =
     let step = c.power.ensures.honest h in
     followed _ _ _ (passed _ _ step.1) (c.mount_again.ensures.past step.0)
+
+pub returns-clause-counter : goal.returns-clause-counter
+returns-clause-counter g c h = c.mount_again.ensures.counter (c.power.ensures.honest h).0

@@ -1,6 +1,6 @@
 use Rattle.std.proofs.Common.{refl, arith, rules, true, false}
 use Rattle.epoch.proofs.CallLemmas.{run_failed, run_more, run_once}
-use Rattle.epoch.proofs.MountLemmas.{again_failed, again_found, ruled_so, stopped}
+use Rattle.epoch.proofs.MountLemmas.{again_failed, again_found, failed_ok, ruled_so, stopped}
 use Rattle.epoch.proofs.SettledLemmas.{settled_on, settled_sync}
 use Rattle.epoch.proofs.PastLemmas.{followed, once}
 use Rattle.epoch.proofs.mounting.mount_again.Goals as goal
@@ -57,3 +57,9 @@ pub returns-clause-past : goal.returns-clause-past
 returns-clause-past g c h =
     let step = c.in_ok-sync.ensures.honest h in
     followed _ _ _ (once _ _ step.1) (c.mount.ensures.past step.0)
+
+pub returns-in_err-sync-clause-counter : goal.returns-in_err-sync-clause-counter
+returns-in_err-sync-clause-counter g c h = failed_ok c.from_residual.result _ (search rules)
+
+pub returns-clause-counter : goal.returns-clause-counter
+returns-clause-counter g c h = c.mount.ensures.counter (c.in_ok-sync.ensures.honest h).0

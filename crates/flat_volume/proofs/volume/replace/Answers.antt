@@ -8,11 +8,12 @@ use Rattle.store_api.specs.Volumes.{Held, after_commit}
 use Rattle.seal.specs.Keys.{AreKeysOf}
 use Rattle.epoch.proofs.CallLemmas.{run_as, run_more}
 use Rattle.epoch.specs.Reading.{no_fault}
-use Rattle.epoch.specs.Commits.{IsSteady}
+use Rattle.epoch.specs.Commits.{IsBegun, IsSteady}
 use Rattle.epoch.proofs.SettledLemmas.{steady_rests}
 use Rattle.flat_volume.specs.Change.{FitsFlat}
 use Rattle.flat_volume.specs.Flat.{flat, table_in}
 use Rattle.flat_volume.specs.Keeping.{IsOpen, Replaces, held_now}
+use Rattle.flat_volume.specs.Writing.{AreSealedFor}
 use Rattle.flat_volume.proofs.VolumeLemmas.{commit_crash, held_same, leaves_held, mounted_held, mounted_open, open_same, read_replaces, verified_open}
 use Rattle.flat_volume.proofs.volume.replace.Goals as goal
 use Rattle.flat_volume.proofs.volume.replace.Goals.{in-Ok, in-Err}
@@ -46,13 +47,14 @@ returns-clause-replaced g c h is =
     let is' : IsOpen mid root sequence (Some known) = open_same v mid root sequence table (Some known) told.calls.key read.1.state (told.table tells) is in
     let before : Held = held_now mid root sequence in
     let fits : FitsFlat c.of-keys.result known root mid.key mid.state.reads = record { keyed = keys; stands = is'.kept } in
+    let begins : IsBegun flat (λ key reads. FitsFlat c.of-keys.result known root key reads) mid root sequence before = record { last = refl; mounted = is'.mounted; fits = fits } in
     let named = c.as_slice.result.now in
     let after : Held = after_commit c.args.region named before in
     let held = held_same v mid root sequence told.calls.key read.1.state.reads in
     subst (λ (l : List Leaf). Replaces c.args.region l c.match-commit.result c.args.opened v new) c.as_slice.ensures.leaves
     (elim c.match-commit.branch [
       | in-Ok w ↦
-          let done = w.in-Ok.ensures.done read.0 before refl is'.mounted fits in
+          let done = w.in-Ok.ensures.done read.0 before begins in
           let change = c.commit.new.change in
           rw w.result-is (record {
             undamaged = tt;
@@ -60,14 +62,14 @@ returns-clause-replaced g c h is =
                 (done.1.stands ∙ ap (table_in new.state.reads) w.in-Ok.ensures.root);
             steady = steady_rests flat new.key w.in-Ok.root new.state done.0.rests.pending;
             commits = (mounted_held new mid.key w.in-Ok.root after w.in-Ok.ensures.calls.key done.0 ∙ ap (after_commit c.args.region named) held, refl);
-            crash = commit_crash v mid new root sequence table c.args.region named is told.calls.key read.1 (w.in-Ok.ensures.crash read.0 before refl is'.mounted fits);
+            crash = commit_crash v mid new root sequence table c.args.region named is told.calls.key read.1 (w.in-Ok.ensures.crash read.0 before begins);
           })
       | in-Err w ↦ rw w.result-is (record {
         undamaged = tt;
         stays = tt;
-        steady = subst (λ (k : List ℕ). IsSteady flat k root new.state) (sym w.in-Err.ensures.calls.key) (w.in-Err.ensures.steady read.0 before refl is'.mounted fits);
-        commits = leaves_held new mid.key root before w.in-Err.ensures.calls.key (w.in-Err.ensures.kept read.0 before refl is'.mounted fits) refl ∙ held;
-        crash = commit_crash v mid new root sequence table c.args.region named is told.calls.key read.1 (w.in-Err.ensures.crash read.0 before refl is'.mounted fits);
+        steady = subst (λ (k : List ℕ). IsSteady flat k root new.state) (sym w.in-Err.ensures.calls.key) (w.in-Err.ensures.steady read.0 before begins);
+        commits = leaves_held new mid.key root before w.in-Err.ensures.calls.key (w.in-Err.ensures.kept read.0 before begins) refl ∙ held;
+        crash = commit_crash v mid new root sequence table c.args.region named is told.calls.key read.1 (w.in-Err.ensures.crash read.0 before begins);
       })
     ])
 
@@ -119,4 +121,15 @@ returns-clause-past g c h =
     elim c.match-commit.branch [
       | in-Ok w ↦ followed _ _ _ read.1.past (w.in-Ok.ensures.past read.0)
       | in-Err w ↦ followed _ _ _ read.1.past (w.in-Err.ensures.past read.0)
+    ]
+
+pub returns-clause-entries : goal.returns-clause-entries
+returns-clause-entries g c verified =
+    let v = g.B.Board.view c.args.board.now in
+    let keyed : AreKeysOf c.of-keys.result v.key = subst (λ (k : List ℕ). AreKeysOf c.of-keys.result k) c.key.ensures c.of-keys.ensures in
+    let none = c.in_ok-known_table.ensures.verified v.key keyed verified in
+    elim c.match-commit.branch [
+      | in-Ok w ↦ rw w.result-is (subst (AreSealedFor v.key (c.args.opened.sequence + 1) c.commit.new.change.table.bytes.items c.args.region) c.as_slice.ensures.leaves
+          (w.in-Ok.ensures.entries v.key (record { keyed = keyed; undamaged = none })))
+      | in-Err w ↦ rw w.result-is tt
     ]

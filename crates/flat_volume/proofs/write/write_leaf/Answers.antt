@@ -62,3 +62,8 @@ returns-in_err-write-clause-calls g c = run_stops c.from_residual.result _ _ c.f
 
 pub returns-clause-calls : goal.returns-clause-calls
 returns-clause-calls g c = run_once true _ _ c.in_ok-write.ensures.call
+
+pub returns-clause-entry : goal.returns-clause-entry
+returns-clause-entry g c key are =
+    let seals = c.seal_leaf.ensures key are in
+    record { sequence = ap (λ (e : TreeEntry). e.sequence) c.set.ensures.here; vector = ap (λ (e : TreeEntry). e.iv) c.set.ensures.here ∙ seals.iv }

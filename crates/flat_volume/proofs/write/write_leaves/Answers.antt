@@ -1,4 +1,4 @@
-use Rattle.std.proofs.Common.{◌≡◌, ◌<◌, ◌+◌, ◌∷◌, ◌∙◌, ℕ, true, List, [], drop, get_or, length, refl, sym, ap, subst, arith, false}
+use Rattle.std.proofs.Common.{◌≡◌, ◌<◌, ◌+◌, ◌∷◌, ◌∙◌, ℕ, true, List, [], drop, length, refl, sym, ap, subst, arith, false}
 use Rattle.std.proofs.lemmas.List.{drop_more}
 use Rattle.store_api.specs.Ascending.{is_above_all, is_ascending}
 use Rattle.store_api.specs.declared.leaves.Leaf.{Leaf}
@@ -6,11 +6,8 @@ use Rattle.store_api.specs.Volumes.{replaced}
 use Rattle.epoch.proofs.CallLemmas.{run_more, run_none, run_stops}
 use Rattle.epoch.proofs.PastLemmas.{followed, itself}
 use Rattle.flat_volume.specs.Writing.{AreSpare, leaves_by}
-use Rattle.flat_volume.proofs.LeafLemmas.{leaves_more, none_left, rest_ascends, sealed_more, spare_here, spare_more, within_here, within_rest}
+use Rattle.flat_volume.proofs.LeafLemmas.{all_entries, entries_more, leaf_at, leaves_more, none_left, rest_ascends, sealed_more, spare_here, spare_more, within_here, within_rest}
 use Rattle.flat_volume.proofs.write.write_leaves.Goals as goal
-
-abbrev leaf_at : List Leaf → ℕ → Leaf
-leaf_at xs i = get_or xs i (record { number = 0; bytes = [] })
 
 pub loop-leaf-init : goal.loop-leaf-init
 loop-leaf-init g c = record {
@@ -24,6 +21,7 @@ loop-leaf-init g c = record {
   run = λ h open_at base low high first spare run. run;
   sealed = λ h key are sealed. sealed;
   leaves = λ h key are. refl;
+  entries = λ key are j below. absurd (omega arith);
 }
 
 pub loop-leaf-preserved : goal.loop-leaf-preserved
@@ -56,6 +54,8 @@ loop-leaf-preserved g c =
       sealed = λ h key are start.
           sealed_more _ _ c.args.region leaf rest number.result c.requires.region small number.ensures.number w.others asc key _ _ (w.elsewhere (inv.honest h))
           (inv.sealed h key are start) (w.sealed (inv.honest h) key are);
+      entries = λ key are j below. entries_more key c.args.sequence _ _ c.args.region number.result xs c.requires.ascending i c.loop-leaf-test.true number.ensures.number w.others (w.entry key are)
+          (inv.entries key are) j below;
       leaves = λ h key are.
           leaves_more _ _ c.args.region leaf rest number.result c.requires.region small number.ensures.number w.others asc key _ _ (w.elsewhere (inv.honest h))
           (w.text (inv.honest h) key are)
@@ -103,3 +103,7 @@ returns-in_err-write_leaf-clause-writes g c =
 
 pub returns-clause-writes : goal.returns-clause-writes
 returns-clause-writes g c = omega (arith, c.loop-leaf.invariant.writes)
+
+pub returns-clause-entries : goal.returns-clause-entries
+returns-clause-entries g c key are =
+    all_entries key c.args.sequence _ c.args.region c.args.leaves.now (λ j below. c.loop-leaf.invariant.entries key are j (omega (arith, below, c.loop-leaf-test.false)))

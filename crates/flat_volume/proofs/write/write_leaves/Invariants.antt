@@ -1,4 +1,4 @@
-use Rattle.std.proofs.Common.{◌≡◌, ◌≤◌, ◌+◌, ℕ, Bool, true, List, drop, length}
+use Rattle.std.proofs.Common.{◌≡◌, ◌≤◌, ◌<◌, ◌+◌, ℕ, Bool, true, List, drop, length}
 use Rattle.board.specs.Moment.{View}
 use Rattle.board.specs.Runs.{RunsOver}
 use Rattle.board.specs.Steps.{CallRun}
@@ -7,6 +7,7 @@ use Rattle.seal.specs.Keys.{AreKeysOf}
 use Rattle.store_api.specs.Ascending.{is_above_all, is_ascending}
 use Rattle.store_api.specs.Volumes.{replaced}
 use Rattle.flat_volume.specs.Writing.{AreSealed, AreSpare, leaves_by}
+use Rattle.flat_volume.proofs.LeafLemmas.{IsEntryOf, leaf_at}
 use Rattle.flat_volume.proofs.write.write_leaves.Given as goal
 
 -- what the leaves that are left make of the leaves as they are now is what all make of those at first
@@ -26,6 +27,7 @@ invariant-loop-leaf g l = record {
   sealed : g.B.Board.honest l.fn.board → (key : List ℕ) → AreKeysOf l.keys key
       → AreSealed key l.fn.table.bytes.items (g.B.Board.view l.fn.board).state.reads
       → AreSealed key l.table.bytes.items (g.B.Board.view l.board).state.reads;
+  entries : (key : List ℕ) → AreKeysOf l.keys key → (j : ℕ) → j < l.leaf-index → IsEntryOf key l.sequence l.table.bytes.items l.region (leaf_at l.leaves j);
   leaves : g.B.Board.honest l.fn.board → (key : List ℕ) → AreKeysOf l.keys key
       → replaced l.region (drop l.leaf-index l.leaves) (leaves_by key l.table.bytes.items (g.B.Board.view l.board).state.reads)
       ≡ replaced l.region l.leaves (leaves_by key l.fn.table.bytes.items (g.B.Board.view l.fn.board).state.reads);

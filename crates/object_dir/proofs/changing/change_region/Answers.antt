@@ -9,15 +9,18 @@ use Rattle.object_dir.proofs.changing.change_region.Goals as goal
 
 pub returns-in_err-leaves : goal.returns-in_err-leaves
 returns-in_err-leaves g c = change_refused_as g.V.Volume.keeper
-    (record { whole = g.met.V.Volume.whole; tells = g.met.V.Volume.honest_tells; found = g.met.V.Volume.found }) c.args.change.now _ _ c.args.region.now _ (search rules) c.in_err-leaves.ensures.plans
+    (record { whole = g.met.V.Volume.whole; tells = g.met.V.Volume.honest_tells; found = g.met.V.Volume.found })
+    c.args.change.now _ _ c.args.region.now _ (search rules) c.in_err-leaves.ensures.plans
 
 pub returns-in-Some : goal.returns-in-Some
 returns-in-Some g c = committed_as g.V.Volume.keeper
-    (record { whole = g.met.V.Volume.whole; tells = g.met.V.Volume.honest_tells; found = g.met.V.Volume.found }) c.args.change.now _ _ _ c.args.region.now _ _ c.in-Some.is c.in_ok-leaves.ensures.plans c.in_ok-leaves.ensures.writes c.commit.ensures
+    (record { whole = g.met.V.Volume.whole; tells = g.met.V.Volume.honest_tells; found = g.met.V.Volume.found })
+    c.args.change.now _ _ _ c.args.region.now _ _ c.in-Some.is c.in_ok-leaves.ensures.plans c.in_ok-leaves.ensures.writes c.commit.ensures
 
 pub returns-in-None : goal.returns-in-None
 returns-in-None g c = nothing_as g.V.Volume.keeper
-    (record { whole = g.met.V.Volume.whole; tells = g.met.V.Volume.honest_tells; found = g.met.V.Volume.found }) c.args.change.now _ c.args.region.now _ c.in-None.is c.in_ok-leaves.ensures.plans
+    (record { whole = g.met.V.Volume.whole; tells = g.met.V.Volume.honest_tells; found = g.met.V.Volume.found })
+    c.args.change.now _ c.args.region.now _ c.in-None.is c.in_ok-leaves.ensures.plans
 
 pub commit-requires : goal.commit-requires
 commit-requires g c = subst (λ (o : Option (List Leaf)). IfSome o (λ named. IsTrue (is_above_all named LEAVES))) c.in-Some.is (named_some c.in_ok-leaves.field-0 c.in_ok-leaves.ensures.plans.named)

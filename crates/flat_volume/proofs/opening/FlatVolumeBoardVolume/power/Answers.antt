@@ -10,7 +10,8 @@ use Rattle.epoch.specs.Opening.{no_failure}
 use Rattle.epoch.specs.Past.{KeepsPast}
 use Rattle.epoch.specs.declared.answer.OpenAnswer.TheVariants.{Failed}
 use Rattle.epoch.proofs.CommitLemmas.{on_err}
-use Rattle.epoch.proofs.MountLemmas.{admitted_by, before_above, board_sound, past_above, rests_above}
+use Rattle.epoch.proofs.MountLemmas.{admitted_by, before_above, board_sound, past_above, rests_above, taken_counter}
+use Rattle.epoch.specs.Finding.{IsSettledAt, sequence_of}
 use Rattle.flat_volume.specs.Flat.{flat}
 use Rattle.flat_volume.specs.Frame.{flat_framed}
 use Rattle.flat_volume.specs.Keeping.{held_now}
@@ -130,3 +131,11 @@ returns-in_err-found-clause-steady g c made =
 
 pub returns-clause-steady : goal.returns-clause-steady
 returns-clause-steady g c made = ap (λ (x : View). x.state.faults) (ap g.B.Board.view c.resume.ensures.board) ∙ c.in_ok-found.ensures.steady refl
+
+pub returns-in_err-found-clause-counter : goal.returns-in_err-found-clause-counter
+returns-in_err-found-clause-counter g c honest = not_ok c.from_residual.result _ c.from_residual.ensures.0
+
+pub returns-clause-counter : goal.returns-clause-counter
+returns-clause-counter g c honest =
+    taken_counter c.in_ok-found.found c.resume.result c.resume.new.self.root _ c.resume.ensures.found
+    (subst (λ (x : View). IsSettledAt (sequence_of c.in_ok-found.found) x.state) (sym (ap g.B.Board.view c.resume.ensures.board)) (c.in_ok-found.ensures.counter honest))

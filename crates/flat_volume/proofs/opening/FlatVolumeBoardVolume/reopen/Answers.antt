@@ -11,7 +11,8 @@ use Rattle.epoch.specs.Mounts.{IsRefusal, IsRefusedNow}
 use Rattle.epoch.specs.Past.{KeepsPast}
 use Rattle.epoch.specs.declared.answer.OpenAnswer.TheVariants.{Failed}
 use Rattle.epoch.proofs.CommitLemmas.{on_err}
-use Rattle.epoch.proofs.MountLemmas.{admitted_by, before_above, board_sound, past_above}
+use Rattle.epoch.proofs.MountLemmas.{admitted_by, before_above, board_sound, past_above, taken_counter}
+use Rattle.epoch.specs.Finding.{IsSettledAt, sequence_of}
 use Rattle.flat_volume.specs.Flat.{flat}
 use Rattle.flat_volume.specs.Frame.{flat_framed}
 use Rattle.flat_volume.specs.Keeping.{held_now}
@@ -113,3 +114,11 @@ returns-in_err-found-clause-calls g c =
 
 pub returns-clause-calls : goal.returns-clause-calls
 returns-clause-calls g c = subst (CallRun true (g.B.Board.view c.args.self.now.board)) (sym (ap g.B.Board.view c.resume.ensures.board)) c.in_ok-found.ensures.calls
+
+pub returns-in_err-found-clause-counter : goal.returns-in_err-found-clause-counter
+returns-in_err-found-clause-counter g c honest = not_ok c.from_residual.result _ c.from_residual.ensures.0
+
+pub returns-clause-counter : goal.returns-clause-counter
+returns-clause-counter g c honest =
+    taken_counter c.in_ok-found.found c.resume.result c.resume.new.self.root _ c.resume.ensures.found
+    (subst (λ (x : View). IsSettledAt (sequence_of c.in_ok-found.found) x.state) (sym (ap g.B.Board.view c.resume.ensures.board)) (c.in_ok-found.ensures.counter honest))

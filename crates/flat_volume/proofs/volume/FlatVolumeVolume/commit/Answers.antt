@@ -9,6 +9,7 @@ use Rattle.flat_volume.specs.Flat.{flat}
 use Rattle.flat_volume.specs.Keeping.{IsOpen, IsVerified, held_now}
 use Rattle.flat_volume.specs.declared.table.Table.{Table}
 use Rattle.flat_volume.specs.declared.volume.Opened.{Opened}
+use Rattle.flat_volume.specs.Writing.{KeepsSealed}
 use Rattle.flat_volume.proofs.VolumeLemmas.{err_cause, err_shows, foundation_same, if_unwritten, past_read, still_open, still_tags, unless_failed}
 use Rattle.flat_volume.proofs.volume.FlatVolumeVolume.commit.Goals as goal
 
@@ -64,3 +65,11 @@ returns-in-Ok-clause-rollback g c h counter above =
     = subst (IsOpen (g.B.Board.view old.board) old.root old.sequence) (sym c.take.ensures.value) (h.1 c.if-self.false) in
     let stays = (c.in-Ok.ensures.replaced h.0 is).stays in
     mounted_refuses flat w.key o.root (held_now w o.root o.sequence) w.state stays.mounted (omega (arith, c.in-Ok.ensures.sequence)) counter above
+
+pub returns-in-Ok-clause-entries : goal.returns-in-Ok-clause-entries
+returns-in-Ok-clause-entries g c =
+    let old = c.args.self.now in
+    let v = g.B.Board.view old.board in
+    let o = c.in-Ok.field-0 in
+    let verified : IsVerified v.key c.take.result old.root = subst (λ (t : Option Table). IsVerified v.key t old.root) (sym c.take.ensures.value) old.verified in
+    subst (λ (n : ℕ). KeepsSealed v.key n o.table c.args.region c.args.leaves.now) (sym c.in-Ok.ensures.sequence) (c.in-Ok.ensures.entries verified)

@@ -74,3 +74,6 @@ returns-in_err-write_table-clause-writes g c = omega (arith, c.in_ok-write_leave
 
 pub returns-clause-writes : goal.returns-clause-writes
 returns-clause-writes g c = omega (arith, c.in_ok-write_leaves.ensures.writes, c.in_ok-write_table.ensures.writes)
+
+pub returns-clause-entries : goal.returns-clause-entries
+returns-clause-entries g c key checks = c.in_ok-write_leaves.ensures.entries key checks.keyed

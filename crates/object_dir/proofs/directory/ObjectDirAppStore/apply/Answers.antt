@@ -3,7 +3,8 @@ use Rattle.object_dir.proofs.directory.ObjectDirAppStore.apply.Goals as goal
 
 pub returns-clause-applies : goal.returns-clause-applies
 returns-clause-applies g c = applies_noted g.V.Volume.keeper
-    (record { whole = g.met.V.Volume.whole; tells = g.met.V.Volume.honest_tells; found = g.met.V.Volume.found }) g.met.V.Volume.rests c.args.change.now c.change_region-answer.result c.args.self.now _ c.refusal.result c.refusal.ensures
+    (record { whole = g.met.V.Volume.whole; tells = g.met.V.Volume.honest_tells; found = g.met.V.Volume.found })
+    g.met.V.Volume.rests c.args.change.now c.change_region-answer.result c.args.self.now _ c.refusal.result c.refusal.ensures
     c.note.ensures c.one_more.ensures c.change_region-answer.ensures
 
 pub returns-clause-region : goal.returns-clause-region

@@ -6,7 +6,8 @@ use Rattle.object_dir.proofs.directory.ObjectDirAppStore.read.Goals as goal
 
 pub returns-clause-reads : goal.returns-clause-reads
 returns-clause-reads g c = reads_noted g.V.Volume.keeper
-    (record { whole = g.met.V.Volume.whole; tells = g.met.V.Volume.honest_tells; found = g.met.V.Volume.found }) g.met.V.Volume.since_earlier (λ store. read_at store c.args.id.now c.args.from c.args.count) (IsPart c.args.count) c.content-answer.result
+    (record { whole = g.met.V.Volume.whole; tells = g.met.V.Volume.honest_tells; found = g.met.V.Volume.found })
+    g.met.V.Volume.since_earlier (λ store. read_at store c.args.id.now c.args.from c.args.count) (IsPart c.args.count) c.content-answer.result
     c.args.self.now _ c.refusal.result c.refusal.ensures c.note.ensures refl c.content-answer.ensures.reads
 
 pub returns-clause-region : goal.returns-clause-region
