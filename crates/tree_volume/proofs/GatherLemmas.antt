@@ -1,23 +1,30 @@
 -- One node more among those that are gathered.
-use Rattle.std.proofs.Common.{◌≡◌, ◌≢◌, ◌≤◌, ◌<◌, ◌+◌, ◌*◌, ◌==◌, ◌∙◌, if◌then◌else◌, ℕ, suc, Bool, true, false, List, [], ◌∷◌}
+use Rattle.std.proofs.Common.{nat_lt, drop, ◌≡◌, ◌≢◌, ◌≤◌, ◌<◌, ◌+◌, ◌*◌, ◌==◌, ◌∙◌, if◌then◌else◌, ℕ, zero, suc, Bool, true, false, List, [], ◌∷◌}
 use Rattle.std.proofs.Common.{◌++◌, Option, None, Some, Result, Ok, Err, OnOk, IsSome, length, take, get_or, refl, sym, ap, subst}
 use Rattle.std.proofs.Common.{⊎_elim, arith}
+use Rattle.std.specs.List.{list_all}
+use Rattle.std.proofs.lemmas.Bool.Decides.{nat_tests}
+use Rattle.epoch.proofs.CommitLemmas.{first_true, second_true}
+use Rattle.store_api.specs.Ascending.{is_ascending}
+use Rattle.store_api.specs.declared.leaves.Leaf.{Leaf}
+use Rattle.tree_volume.proofs.ShapeLemmas.{level_four}
 use Rattle.std.specs.Prelude.{is_some, option_map, reverse}
 use Rattle.std.proofs.lemmas.Bool.{cases_eq, false≢true}
-use Rattle.std.proofs.lemmas.List.{reverse-append, take_more}
+use Rattle.std.proofs.lemmas.List.{drop_all, reverse-append, take_more}
 use Rattle.store_api.specs.declared.answer.Mismatch.{Mismatch}
 use Rattle.store_api.specs.declared.leaves.LeafAnswer.{LeafAnswer}
-use Rattle.store_api.specs.Volumes.{ShowsLeaf}
+use Rattle.store_api.specs.declared.leaves.LeafAnswer.TheVariants as answers
+use Rattle.store_api.specs.Volumes.{IfMismatch, ShowsLeaf}
 use Rattle.epoch.specs.Header.{entry_at}
 use Rattle.epoch.specs.declared.header.TreeEntry.{TreeEntry}
 use Rattle.tree_volume.specs.declared.touched.Node.{Node}
-use Rattle.tree_volume.specs.Gather.{AreGathered, AreInUse, AreTrue, IsPushed}
-use Rattle.tree_volume.specs.Shape.{IsShape, Shape}
+use Rattle.tree_volume.specs.Gather.{AreGathered, AreInUse, AreTrue, IsPushed, named}
+use Rattle.tree_volume.specs.Shape.{IsShape, Shape, shape}
 use Rattle.tree_volume.specs.Touched.{AreOrdered, fresh_of}
 use Rattle.tree_volume.specs.Tree.{Look, damage_at, damage_below, damage_of, entry_below, entry_of, first_damage, text_of}
 use Rattle.tree_volume.proofs.ReadLemmas.{damage_split}
 use Rattle.tree_volume.proofs.TouchedLemmas.{fresh_head, fresh_tail}
-use Rattle.tree_volume.proofs.TreeLemmas.{above}
+use Rattle.tree_volume.proofs.TreeLemmas.{above, is_root}
 
 -- one test before or behind the look at an entry
 either_way : (at : ℕ) (b : Bool) (bytes : List ℕ) (o : Option (List ℕ)) → (if b then Some (entry_at at bytes) else option_map (entry_at at) o) ≡ option_map (entry_at at) (if b then Some bytes else o)
@@ -156,3 +163,125 @@ on_ok (Err e) P Q f is = tt
 pub taken : {A : Type 0} (r : Result A LeafAnswer) (P T Q : Type 0) (d : Option Mismatch) → OnOk r P → OnOk r T → ShowsLeaf r d → (P → T → d ≡ None → Q) → OnOk r Q
 taken (Ok x) P T Q d pushed text shows f = f pushed text shows
 taken (Err e) P T Q d pushed text shows f = tt
+
+-- a mismatch on the way to a place is that of the way to each place under it
+pub mismatch_way : (A B : Type 0) (e : LeafAnswer) (whole first rest : Option Mismatch) → whole ≡ first_damage first rest → ShowsLeaf {A = A} (Err e) first
+    → IfMismatch {A = B} (Err e) (λ tags. whole ≡ Some tags)
+mismatch_way A B (answers.Mismatch tags) whole first rest is shows = is ∙ ap (λ (d : Option Mismatch). first_damage d rest) shows
+mismatch_way A B answers.Lost whole first rest is shows = tt
+mismatch_way A B answers.Failed whole first rest is shows = tt
+mismatch_way A B answers.NoMemory whole first rest is shows = tt
+
+-- a damage of the root is that of every way
+pub root_damages : (s : Shape) (is : IsShape s) (look : Look) (root : TreeEntry) (tags : Mismatch) → damage_of s look root 0 ≡ Some tags → (level p : ℕ) → s.level p ≡ level → p < s.places
+    → damage_below s look root level p ≡ Some tags
+unfolding damage_below
+root_damages s is look root tags top zero p at inside =
+    ap (λ (q : ℕ). damage_at look q root) (is_root s is p inside at) ∙ sym (top_damage s look root 0 is.top) ∙ top
+root_damages s is look root tags top (suc level) p at inside =
+    let up = above s is level p inside at in
+    ap (λ (d : Option Mismatch). first_damage d (damage_at look p (entry_below s look root (suc level) p))) (root_damages s is look root tags top level (s.parent p) up.0 up.1)
+
+-- a leaf goes before the nodes above it
+pub leaf_pushed : (s : Shape) (look : Look) (root : TreeEntry) (depth place copy : ℕ) (old new : List Node) (bytes : List ℕ) (e : TreeEntry) → AreTrue s look root depth old
+    → new ≡ record { place = place; copy = copy; bytes = bytes } ∷ old → s.level place ≡ depth → copy ≡ e.copy → e ≡ entry_of s look root place → AreTrue s look root depth new
+leaf_pushed s look root depth place copy old new bytes e are is at copies same = record {
+  text = λ p t inside low has. are.text p t inside low (sym (other p low) ∙ has);
+  sound = λ p t inside low has. are.sound p t inside low (sym (other p low) ∙ has);
+  copies = subst (AreInUse s look root) (sym is) (copies ∙ ap (λ (x : TreeEntry). x.copy) same, are.copies);
+} where
+  other : (p : ℕ) → s.level p < depth → fresh_of new p ≡ fresh_of old p
+  other p low =
+      ap (λ (l : List Node). fresh_of l p) is
+      ∙ fresh_tail (record { place = place; copy = copy; bytes = bytes }) old p (λ (here : place ≡ p). absurd (let l : s.level place ≡ s.level p = ap s.level here in omega arith))
+
+-- nodes that are in their order are gathered
+pub gathered : (s : Shape) (nodes : List Node) → AreOrdered s nodes → AreGathered s nodes
+gathered s [] are = absurd are
+gathered s (node ∷ nodes) are = are
+
+pub ordered : (s : Shape) (p : ℕ) (nodes : List Node) → AreGathered s nodes → IsSome (fresh_of nodes p) → AreOrdered s nodes
+ordered s p [] are has = absurd (false≢true has)
+ordered s p (node ∷ nodes) are has = are
+
+-- the first bytes, where there are any
+abbrev pub first_bytes : Option (List ℕ) → Option (List ℕ) → Option (List ℕ)
+first_bytes (Some bytes) rest = Some bytes
+first_bytes None rest = rest
+
+pub named_here : (leaf : Leaf) (rest : List Leaf) (n : ℕ) → n ≡ leaf.number → named (leaf ∷ rest) n ≡ Some leaf.bytes
+named_here leaf rest n same = let t : (leaf.number == n) ≡ true = grind arith in rw t refl
+
+pub named_other : (leaf : Leaf) (rest : List Leaf) (n : ℕ) → n ≢ leaf.number → named (leaf ∷ rest) n ≡ named rest n
+named_other leaf rest n ne = let t : (leaf.number == n) ≡ false = grind arith in rw t refl
+
+-- one leaf more: what is gathered, and what is left to gather
+pub named_step : (leaf : Leaf) (rest : List Leaf) (n : ℕ) (old new whole : Option (List ℕ)) → (n ≡ leaf.number → (old ≡ None) × (new ≡ Some leaf.bytes)) → (n ≢ leaf.number → new ≡ old)
+    → first_bytes old (named (leaf ∷ rest) n) ≡ whole → first_bytes new (named rest n) ≡ whole
+named_step leaf rest n old new whole here other is =
+    ⊎_elim
+    (λ (same : n ≡ leaf.number).
+    let both = here same in
+    ap (λ (o : Option (List ℕ)). first_bytes o (named rest n)) both.1 ∙ sym (named_here leaf rest n same)
+    ∙ sym (ap (λ (o : Option (List ℕ)). first_bytes o (named (leaf ∷ rest) n)) both.0) ∙ is)
+    (λ (ne : n ≢ leaf.number).
+    ap (λ (o : Option (List ℕ)). first_bytes o (named rest n)) (other ne) ∙ ap (first_bytes old) (sym (named_other leaf rest n ne)) ∙ is)
+    (cases_eq n leaf.number)
+
+-- the numbers that are gathered are below those that are left
+pub below_step : (leaf : Leaf) (rest : List Leaf) (n : ℕ) (old new : Option (List ℕ)) → is_ascending (leaf ∷ rest) ≡ true → (n ≢ leaf.number → new ≡ old)
+    → (IsSome old → list_all (λ later. nat_lt n later.number) (leaf ∷ rest) ≡ true) → IsSome new → list_all (λ later. nat_lt n later.number) rest ≡ true
+below_step leaf rest n old new ascending other was has =
+    ⊎_elim
+    (λ (same : n ≡ leaf.number).
+    subst (λ (k : ℕ). list_all (λ (later : Leaf). nat_lt k later.number) rest ≡ true) (sym same)
+    (first_true (list_all (λ (later : Leaf). nat_lt leaf.number later.number) rest) (is_ascending rest) ascending))
+    (λ (ne : n ≢ leaf.number).
+    second_true (nat_lt n leaf.number) (list_all (λ (later : Leaf). nat_lt n later.number) rest) (was (subst (λ (o : Option (List ℕ)). IsSome o) (other ne) has)))
+    (cases_eq n leaf.number)
+
+pub new_number : (leaf : Leaf) (rest : List Leaf) (old : Option (List ℕ)) → (IsSome old → list_all (λ later. nat_lt leaf.number later.number) (leaf ∷ rest) ≡ true) → old ≡ None
+new_number leaf rest None was = refl
+new_number leaf rest (Some t) was =
+    absurd (false≢true (sym itself ∙ first_true (nat_lt leaf.number leaf.number) (list_all (λ (later : Leaf). nat_lt leaf.number later.number) rest) (was refl)))
+  where
+    itself : nat_lt leaf.number leaf.number ≡ false
+    itself = grind (arith, nat_tests)
+
+pub rest_ascends : (leaf : Leaf) (rest : List Leaf) → is_ascending (leaf ∷ rest) ≡ true → is_ascending rest ≡ true
+rest_ascends leaf rest ascending = second_true (list_all (λ (later : Leaf). nat_lt leaf.number later.number) rest) (is_ascending rest) ascending
+
+-- where nothing is left
+pub none_left : (leaves : List Leaf) (i n : ℕ) (old whole : Option (List ℕ)) → length leaves ≤ i → first_bytes old (named (drop i leaves) n) ≡ whole → old ≡ whole
+none_left leaves i n old whole all is =
+    sym (ap (λ (l : List Leaf). first_bytes old (named l n)) (drop_all i leaves all) ∙ alone old) ∙ is
+  where
+    alone : (o : Option (List ℕ)) → first_bytes o None ≡ o
+    alone None = refl
+    alone (Some t) = refl
+
+-- what is told of a mismatch
+pub mismatch_told : (A B : Type 0) (e : LeafAnswer) (P Q : Mismatch → Type 0) → ((tags : Mismatch) → P tags → Q tags) → IfMismatch {A = A} (Err e) P → IfMismatch {A = B} (Err e) Q
+mismatch_told A B (answers.Mismatch tags) P Q f is = f tags is
+mismatch_told A B answers.Lost P Q f is = tt
+mismatch_told A B answers.Failed P Q f is = tt
+mismatch_told A B answers.NoMemory P Q f is = tt
+
+pub mismatch_shown : (A B : Type 0) (e : LeafAnswer) (d : Option Mismatch) (Q : Mismatch → Type 0) → ((tags : Mismatch) → d ≡ Some tags → Q tags) → ShowsLeaf {A = A} (Err e) d
+    → IfMismatch {A = B} (Err e) Q
+mismatch_shown A B (answers.Mismatch tags) d Q f is = f tags is
+mismatch_shown A B answers.Lost d Q f is = tt
+mismatch_shown A B answers.Failed d Q f is = tt
+mismatch_shown A B answers.NoMemory d Q f is = tt
+
+-- a leaf is a place at the depth of leaves
+pub leaf_level : (r n : ℕ) → shape.level (shape.leaf_place r n) ≡ 4
+leaf_level r n = level_four (1105 + 1024 * r + n) (omega arith)
+
+-- of no node all is true
+pub nothing_true : (s : Shape) (look : Look) (root : TreeEntry) (depth : ℕ) (nodes : List Node) → nodes ≡ [] → AreTrue s look root depth nodes
+nothing_true s look root depth nodes none = subst (AreTrue s look root depth) (sym none) (record {
+  text = λ p t inside low has. absurd (cc);
+  sound = λ p t inside low has. absurd (cc);
+  copies = tt;
+})

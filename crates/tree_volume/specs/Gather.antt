@@ -1,11 +1,17 @@
 -- What is gathered before a commit writes: the nodes that it touches, as they stand under a root.
-use Rattle.std.specs.Prelude.{◌≡◌, ◌<◌, ℕ, List, [], ◌∷◌, length, Some, None}
+use Rattle.std.specs.Prelude.{◌≡◌, ◌<◌, ◌==◌, if◌then◌else◌, ℕ, List, [], ◌∷◌, length, Option, Some, None}
 use Rattle.tee_base.specs.declared.limits.TheConstants.{BLOCK_BYTES}
+use Rattle.store_api.specs.declared.leaves.Leaf.{Leaf}
 use Rattle.epoch.specs.declared.header.TreeEntry.{TreeEntry}
 use Rattle.tree_volume.specs.declared.touched.Node.{Node}
 use Rattle.tree_volume.specs.Shape.{Shape}
 use Rattle.tree_volume.specs.Touched.{AreOrdered, fresh_of}
 use Rattle.tree_volume.specs.Tree.{Look, damage_of, entry_of, text_of}
+
+-- the bytes that these leaves give a number, where one of them has it
+abbrev pub named : List Leaf → ℕ → Option (List ℕ)
+named [] number = None
+named (leaf ∷ leaves) number = if leaf.number == number then Some leaf.bytes else named leaves number
 
 -- nodes in their order, or none yet
 abbrev pub AreGathered : Shape → List Node → Type 0

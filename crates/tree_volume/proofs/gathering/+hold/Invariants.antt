@@ -1,4 +1,4 @@
-use Rattle.tree_volume.proofs.gather.+hold.Given as goal
+use Rattle.tree_volume.proofs.gathering.+hold.Given as goal
 
 abbrev pub decreases-hold : goal.decreases-hold
 decreases-hold g l = l.level

@@ -11,7 +11,7 @@ use Rattle.tree_volume.proofs.GatherLemmas.{absent, entry_under, on_ok, order_pu
 use Rattle.tree_volume.proofs.ReadLemmas.{none_way, only_more, shows_end, shows_way}
 use Rattle.tree_volume.proofs.ShapeLemmas.{is_shape}
 use Rattle.tree_volume.proofs.TreeLemmas.{above, is_root}
-use Rattle.tree_volume.proofs.gather.+hold.Goals as goal
+use Rattle.tree_volume.proofs.gathering.+hold.Goals as goal
 
 pub returns-then-holds-clause-damage : goal.returns-then-holds-clause-damage
 returns-then-holds-clause-damage g t c tells key keyed are =
