@@ -1,5 +1,6 @@
 -- What is kept after each call.
-use Rattle.std.proofs.Common.{◌≡◌, ◌≢◌, ◌⊎◌, ◌∙◌, ℕ, zero, suc, ◌-◌, Bool, true, false, cond, List, [], ◌∷◌, Option, Some, None, Result, Ok, Err, OnOk, OnErr, nat_eq, bytes_eq, if◌then◌else◌, take, refl, sym, ap, subst, inl, inr}
+use Rattle.std.proofs.Common.{◌≡◌, ◌≢◌, ◌⊎◌, ◌∙◌, ℕ, zero, suc, ◌-◌, Bool, true, false, cond, List, [], ◌∷◌, Option}
+use Rattle.std.proofs.Common.{Some, None, Result, Ok, Err, OnOk, OnErr, nat_eq, bytes_eq, if◌then◌else◌, take, refl, sym, ap, subst, inl, inr}
 use Rattle.std.proofs.Common.{⊎_elim, arith}
 use Rattle.std.specs.Prelude.{option_and_then}
 use Rattle.std.specs.Cmp.{nat_eq_equiv}
@@ -125,7 +126,8 @@ module _ (c : LruCache ℕ Kept) (place : ℕ) (v : Kept) where
       (cases_eq p place)
 
 -- a call of `put` of the cache below, which found memory or not
-module _ {A E : Type 0} (c new : LruCache ℕ Kept) (place : ℕ) (v : Kept) (r : Result A E) (ok : OnOk r (new ≡ record { entries = put_entries nat_eq c place v; cap = c.cap })) (err : OnErr r (new ≡ c)) where
+module _ {A E : Type 0} (c new : LruCache ℕ Kept) (place : ℕ) (v : Kept) (r : Result A E)
+    (ok : OnOk r (new ≡ record { entries = put_entries nat_eq c place v; cap = c.cap })) (err : OnErr r (new ≡ c)) where
   abbrev Put : Type 0
   Put = (new.entries ≡ c.entries) ⊎ (new.entries ≡ put_entries nat_eq c place v)
 

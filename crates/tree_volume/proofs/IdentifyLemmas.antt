@@ -1,5 +1,5 @@
 -- Two ways from one root, without damage: where equal tags come from equal messages they have the same bytes.
-use Rattle.std.proofs.Common.{◌≡◌, ◌*◌, ◌==◌, ◌++◌, ◌∙◌, if◌then◌else◌, ℕ, zero, suc, true, false, List, [], ◌∷◌, None, replicate, refl, sym, ap, subst}
+use Rattle.std.proofs.Common.{◌≡◌, ◌*◌, ◌==◌, ◌++◌, ◌∙◌, if◌then◌else◌, ℕ, zero, suc, Bool, true, false, List, [], ◌∷◌, None, replicate, refl, sym, ap, subst}
 use Rattle.seal.specs.Sealing.{le64, plaintext, seal_tag}
 use Rattle.epoch.specs.Header.{entry_at}
 use Rattle.epoch.specs.declared.header.TreeEntry.{TreeEntry}
@@ -25,16 +25,18 @@ module _ (s : Shape) (key : List ℕ) (found kept : ℕ → List ℕ) where
       (cancelled (le64 p) (le64 x.sequence ++ x.iv ++ found (block_at s p x.copy)) (le64 x.sequence ++ x.iv ++ kept (block_at s p x.copy))
       (identifies (one ∙ sym two))))
 
+  -- what an entry names on an image, by whether its sequence is 0
+  abbrev named : (ℕ → List ℕ) → ℕ → TreeEntry → Bool → Found
+  named image p x b =
+      if b then known (replicate 1024 0) x
+      else (record { tag = seal_tag key p x.sequence x.iv (image (block_at s p x.copy)); text = plaintext key x.iv (image (block_at s p x.copy)) })
+
   -- the same entry on both images, without damage
   same_here : (p : ℕ) (x : TreeEntry) → damage_at (on_image s key found) p x ≡ None → damage_at (on_image s key kept) p x ≡ None
       → CodeIdentifies key (message_on s found p x) (message_on s kept p x) → (on_image s key found p x).text ≡ (on_image s key kept p x).text
   unfolding unless_zero
   same_here p x one two identifies =
-      elim (x.sequence == 0) as (λ b.
-      (let f : Found = if b then known (replicate 1024 0) x else (record { tag = seal_tag key p x.sequence x.iv (found (block_at s p x.copy)); text = plaintext key x.iv (found (block_at s p x.copy)) }) in f).tag ≡ x.tag
-      → (let f : Found = if b then known (replicate 1024 0) x else (record { tag = seal_tag key p x.sequence x.iv (kept (block_at s p x.copy)); text = plaintext key x.iv (kept (block_at s p x.copy)) }) in f).tag ≡ x.tag
-      → (let f : Found = if b then known (replicate 1024 0) x else (record { tag = seal_tag key p x.sequence x.iv (found (block_at s p x.copy)); text = plaintext key x.iv (found (block_at s p x.copy)) }) in f).text
-      ≡ (let f : Found = if b then known (replicate 1024 0) x else (record { tag = seal_tag key p x.sequence x.iv (kept (block_at s p x.copy)); text = plaintext key x.iv (kept (block_at s p x.copy)) }) in f).text) [
+      elim (x.sequence == 0) as (λ b. (named found p x b).tag ≡ x.tag → (named kept p x b).tag ≡ x.tag → (named found p x b).text ≡ (named kept p x b).text) [
         | true ↦ λ one two. refl
         | false ↦ λ one two. ap (plaintext key x.iv) (same_block p x one two identifies)
       ] (agree (on_image s key found p x).tag x.tag one) (agree (on_image s key kept p x).tag x.tag two)
@@ -51,7 +53,8 @@ agrees s key found kept root (suc level) p one two identifies =
     let here : damage_at (on_image s key kept) p (entry_below s (on_image s key found) root (suc level) p) ≡ None
     = ap (damage_at (on_image s key kept) p) same
     ∙ second_none (damage_below s (on_image s key kept) root level (s.parent p)) (damage_at (on_image s key kept) p (entry_below s (on_image s key kept) root (suc level) p)) two in
-    let identifies_here : CodeIdentifies key (message_on s found p (entry_below s (on_image s key found) root (suc level) p)) (message_on s kept p (entry_below s (on_image s key found) root (suc level) p))
+    let identifies_here : CodeIdentifies key (message_on s found p (entry_below s (on_image s key found) root (suc level) p))
+    (message_on s kept p (entry_below s (on_image s key found) root (suc level) p))
     = subst (λ (x : TreeEntry). CodeIdentifies key (message_on s found p (entry_below s (on_image s key found) root (suc level) p)) (message_on s kept p x)) (sym same) identifies.1 in (
       same,
       same_here s key found kept p (entry_below s (on_image s key found) root (suc level) p)

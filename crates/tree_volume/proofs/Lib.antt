@@ -1,5 +1,6 @@
 pub mod EntryLemmas
 pub mod FrameLemmas
+pub mod GatherLemmas
 pub mod IdentifyLemmas
 pub mod ReadLemmas
 pub mod ShapeLemmas

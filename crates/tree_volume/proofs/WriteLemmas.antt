@@ -159,8 +159,8 @@ place_inside s node (next ∷ nodes) some ordered = ordered.2
 -- what is left is in its order
 pub rest_ordered : (s : Shape) (at : ℕ) (bytes : List ℕ) (node : Node) (rest : List Node) → at + length bytes ≤ 1024 → AreOrdered s (node ∷ rest) → node.place ≢ 0
     → AreOrdered s (all_with_bytes (s.parent node.place) at bytes rest)
-rest_ordered s at bytes node [] fits ordered ne = absurd (ne ordered.0)
-rest_ordered s at bytes node (next ∷ nodes) fits ordered ne = order_kept (s.parent node.place) at bytes s (next ∷ nodes) fits ordered.5
+rest_ordered s at bytes node [] room ordered ne = absurd (ne ordered.0)
+rest_ordered s at bytes node (next ∷ nodes) room ordered ne = order_kept (s.parent node.place) at bytes s (next ∷ nodes) room ordered.5
 
 module _ (s : Shape) (is : IsShape s) (key : List ℕ) (old new : ℕ → List ℕ) (node : Node) (e : TreeEntry) (bytes : List ℕ)
     (elsewhere : (k : ℕ) → k ≢ spare_block s node → new k ≡ old k)

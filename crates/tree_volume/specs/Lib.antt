@@ -1,3 +1,4 @@
+pub mod Gather
 pub mod Identify
 pub mod Laws
 pub mod Shape

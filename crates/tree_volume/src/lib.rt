@@ -2,12 +2,14 @@
 #![tactic(auto)]
 
 mod first_version;
+mod gathering;
 mod laws;
 mod load_place;
 mod places;
 mod touched;
 mod write;
 
+pub use gathering::{gather, hold};
 pub use load_place::{find_entry, find_leaf, load};
 pub use places::TREE_BLOCKS;
 pub use touched::{Node, Touched};

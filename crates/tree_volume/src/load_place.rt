@@ -119,8 +119,8 @@ pub fn find_entry<B: Board>(
     ensures same { IsTrue B.tells_reads
         → (B.view board.new).state.reads ≡ (B.view board.old).state.reads }
     ensures entry { IsTrue B.tells_reads → (key : List ℕ) → AreKeysOf keys.now key
-        → IfOk result (λ entry. entry
-        ≡ entry_below shape (on_image shape key (B.view board.old).state.reads) root.now level place) }
+        → IfOk result (λ entry. entry ≡ entry_below shape
+        (on_image shape key (B.view board.old).state.reads) root.now level place) }
     ensures damage { IsTrue B.tells_reads → (key : List ℕ) → AreKeysOf keys.now key
         → ShowsLeaf result (damage_above shape (on_image shape key (B.view board.old).state.reads)
         root.now level place) }

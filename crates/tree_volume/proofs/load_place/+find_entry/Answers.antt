@@ -51,8 +51,8 @@ returns-clause-entry g t c tells key keyed =
     let text : c.load.new.into ≡ (look c.parent-above.result c.in_ok-entry.entry).text
     = subst (λ (reads : ℕ → List ℕ). c.load.new.into ≡ (on_image shape key reads c.parent-above.result c.in_ok-entry.entry).text) (c.in_ok-entry.ensures.same tells)
     (c.in_ok-load.ensures.text tells key keyed) in
-    entry_found shape look c.args.root.now c.args.level (c.args.level - 1) c.args.place c.parent-above.result one c.parent-above.ensures c.in_ok-entry.entry c.entry_at.result c.load.new.into c.slot.result
-    (c.in_ok-entry.ensures.entry tells key keyed) text c.slot.ensures.slot c.entry_at.ensures
+    entry_found shape look c.args.root.now c.args.level (c.args.level - 1) c.args.place c.parent-above.result one c.parent-above.ensures
+    c.in_ok-entry.entry c.entry_at.result c.load.new.into c.slot.result (c.in_ok-entry.ensures.entry tells key keyed) text c.slot.ensures.slot c.entry_at.ensures
 
 pub returns-clause-damage : goal.returns-clause-damage
 returns-clause-damage g t c tells key keyed =

@@ -6,7 +6,8 @@ use Rattle.tree_volume.proofs.ReadLemmas.{found_zero, only_itself, only_once, ze
 use Rattle.tree_volume.proofs.load_place.load.Goals as goal
 
 pub returns-then-entry-eq0-clause-text : goal.returns-then-entry-eq0-clause-text
-returns-then-entry-eq0-clause-text g c tells key keyed = sym (ap (λ (f : Found). f.text) (found_zero shape key (g.B.Board.view c.args.board.now).state.reads c.args.place c.args.entry.now c.if-entry-eq0.true))
+returns-then-entry-eq0-clause-text g c tells key keyed = sym (ap
+    (λ (f : Found). f.text) (found_zero shape key (g.B.Board.view c.args.board.now).state.reads c.args.place c.args.entry.now c.if-entry-eq0.true))
 
 pub returns-then-entry-eq0-clause-damage : goal.returns-then-entry-eq0-clause-damage
 returns-then-entry-eq0-clause-damage g c tells key keyed = zero_damage shape key (g.B.Board.view c.args.board.now).state.reads c.args.place c.args.entry.now c.if-entry-eq0.true

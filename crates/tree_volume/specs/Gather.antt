@@ -1,0 +1,39 @@
+-- What is gathered before a commit writes: the nodes that it touches, as they stand under a root.
+use Rattle.std.specs.Prelude.{◌≡◌, ◌<◌, ◌==◌, if◌then◌else◌, ℕ, List, [], ◌∷◌, length, Option, Some, None}
+use Rattle.tee_base.specs.declared.limits.TheConstants.{BLOCK_BYTES}
+use Rattle.store_api.specs.declared.leaves.Leaf.{Leaf}
+use Rattle.epoch.specs.declared.header.TreeEntry.{TreeEntry}
+use Rattle.tree_volume.specs.declared.touched.Node.{Node}
+use Rattle.tree_volume.specs.Shape.{Shape}
+use Rattle.tree_volume.specs.Touched.{AreOrdered, fresh_of}
+use Rattle.tree_volume.specs.Tree.{Look, damage_of, entry_of, text_of}
+
+-- the bytes that these leaves give a number, where one of them has it
+abbrev pub named : List Leaf → ℕ → Option (List ℕ)
+named [] number = None
+named (leaf ∷ leaves) number = if leaf.number == number then Some leaf.bytes else named leaves number
+
+-- nodes in their order, or none yet
+abbrev pub AreGathered : Shape → List Node → Type 0
+AreGathered s [] = Unit {0}
+AreGathered s (node ∷ nodes) = AreOrdered s (node ∷ nodes)
+
+-- one node more, of a place whose entry names this copy
+pub record IsPushed (place copy : ℕ) (old new : List Node) : Type 0 where
+  pub bytes : List ℕ
+  pub long : length bytes ≡ BLOCK_BYTES
+  pub is : new ≡ record { place = place; copy = copy; bytes = bytes } ∷ old
+
+module _ (s : Shape) (look : Look) (root : TreeEntry) where
+  -- the copy of each is the one that its entry names
+  abbrev pub AreInUse : List Node → Type 0
+  AreInUse [] = Unit {0}
+  AreInUse (node ∷ nodes) = (node.copy ≡ (entry_of s look root node.place).copy) × AreInUse nodes
+
+  -- each above the leaves has the bytes that stand there, with no damage on its way
+  pub record AreTrue (depth : ℕ) (nodes : List Node) : Type 0 where
+    pub text : (p : ℕ) (t : List ℕ) → p < s.places → s.level p < depth → fresh_of nodes p ≡ Some t
+        → t ≡ text_of s look root p
+    pub sound : (p : ℕ) (t : List ℕ) → p < s.places → s.level p < depth → fresh_of nodes p ≡ Some t
+        → damage_of s look root p ≡ None
+    pub copies : AreInUse nodes

@@ -1,0 +1,217 @@
+//! How the nodes that a commit touches are read, and verified, before anything is written.
+ghost use Rattle.std.specs.Prelude.{◌≡◌, ◌≢◌, ◌≤◌, ◌<◌, ℕ, true, List, Some, None, Err, IsTrue, IsSome, IfOk, OnOk, All};
+ghost use Rattle.tee_base.specs.Faults.{Rose};
+ghost use Rattle.tee_base.specs.declared.limits.TheConstants.{MAX_HOSTS};
+ghost use Rattle.store_api.specs.Ascending.{is_ascending};
+ghost use Rattle.store_api.specs.Volumes.{IfMismatch, ShowsLeaf};
+ghost use Rattle.store_api.specs.declared.leaves.LeafAnswer.TheVariants as answers;
+ghost use Rattle.board.specs.Steps.{CallRun};
+ghost use Rattle.seal.specs.Keys.{AreKeysOf};
+ghost use Rattle.tree_volume.specs.Gather.{AreGathered, AreTrue, IsPushed, named};
+ghost use Rattle.tree_volume.specs.Reading.{OnlyReads};
+ghost use Rattle.tree_volume.specs.Shape.{shape};
+ghost use Rattle.tree_volume.specs.Touched.{AreOrdered, fresh_of};
+ghost use Rattle.tree_volume.specs.Tree.{damage_at, damage_of, on_image};
+
+use crate::load_place::load;
+use crate::places::{DEPTH, PLACES, REGION_LEAVES, TREE_BLOCKS, leaf_place, parent, slot};
+use crate::touched::{Node, Touched};
+use board::Board;
+use epoch::TreeEntry;
+use seal::Keys;
+use std::alloc::Global;
+use store_api::{Leaf, LeafAnswer};
+
+/// Reads the node of a place, verified, and takes it in before the others.
+fn take_in<B: Board>(
+    board: &mut B,
+    keys: &Keys,
+    touched: &mut Touched,
+    place: u64,
+    entry: &TreeEntry,
+) -> Result<(), LeafAnswer>
+    requires size { TREE_BLOCKS ≤ (B.view board.old).size }
+    requires place { place < PLACES }
+    ensures calls { CallRun true (B.view board.old) (B.view board.new) }
+    ensures writes { (B.view board.new).writes ≡ (B.view board.old).writes }
+    ensures cause { result ≡ Err answers.Failed
+        → Rose (B.view board.old).state.faults (B.view board.new).state.faults }
+    ensures answer { result ≢ Err answers.Lost }
+    ensures tags { (key : List ℕ) → AreKeysOf keys.now key
+        → IfMismatch result (λ tags. tags.found ≢ tags.kept) }
+    ensures same { IsTrue B.tells_reads
+        → (B.view board.new).state.reads ≡ (B.view board.old).state.reads }
+    ensures pushed { OnOk result (IsPushed place entry.now.copy touched.old touched.new) }
+    ensures text { IsTrue B.tells_reads → (key : List ℕ) → AreKeysOf keys.now key
+        → OnOk result (fresh_of touched.new place
+        ≡ Some (on_image shape key (B.view board.old).state.reads place entry.now).text) }
+    ensures damage { IsTrue B.tells_reads → (key : List ℕ) → AreKeysOf keys.now key
+        → ShowsLeaf result
+        (damage_at (on_image shape key (B.view board.old).state.reads) place entry.now) }
+    ensures honest { B.honest board.old
+        → B.honest board.new × OnlyReads (B.view board.old) (B.view board.new) }
+{
+    let mut bytes = [0; 1024];
+    load(board, keys, place, entry, &mut bytes)?;
+    let copy = entry.copy;
+    touched.push(Node { place, copy, bytes })?;
+    Ok(())
+}
+
+/// Sees that the node of a place above the leaves is among the touched, and all nodes above it. Those that aren't are read,
+/// and verified.
+///
+/// # Errors
+///
+/// `Mismatch` with the first two tags that differ on the way from the root to the place. `Failed` where a call of the board
+/// failed. `NoMemory`.
+pub fn hold<B: Board>(
+    board: &mut B,
+    keys: &Keys,
+    root: &TreeEntry,
+    touched: &mut Touched,
+    level: usize,
+    place: u64,
+) -> Result<(), LeafAnswer>
+    requires size { TREE_BLOCKS ≤ (B.view board.old).size }
+    requires place { place < PLACES }
+    requires level { shape.level place ≡ level }
+    requires above { level < DEPTH }
+    requires gathered { AreGathered shape touched.old }
+    ensures calls { CallRun true (B.view board.old) (B.view board.new) }
+    ensures writes { (B.view board.new).writes ≡ (B.view board.old).writes }
+    ensures cause { result ≡ Err answers.Failed
+        → Rose (B.view board.old).state.faults (B.view board.new).state.faults }
+    ensures answer { result ≢ Err answers.Lost }
+    ensures tags { (key : List ℕ) → AreKeysOf keys.now key
+        → IfMismatch result (λ tags. tags.found ≢ tags.kept) }
+    ensures same { IsTrue B.tells_reads
+        → (B.view board.new).state.reads ≡ (B.view board.old).state.reads }
+    ensures gathered { OnOk result (AreGathered shape touched.new) }
+    ensures held { OnOk result (IsSome (fresh_of touched.new place)) }
+    // nothing changes among the places that lie deeper
+    ensures deeper { OnOk result ((p : ℕ) → level < shape.level p
+        → fresh_of touched.new p ≡ fresh_of touched.old p) }
+    ensures nodes { IsTrue B.tells_reads → (key : List ℕ) → AreKeysOf keys.now key
+        → let look = on_image shape key (B.view board.old).state.reads in
+        AreTrue shape look root.now DEPTH touched.old
+        → OnOk result (AreTrue shape look root.now DEPTH touched.new) }
+    ensures damage { IsTrue B.tells_reads → (key : List ℕ) → AreKeysOf keys.now key
+        → let look = on_image shape key (B.view board.old).state.reads in
+        AreTrue shape look root.now DEPTH touched.old
+        → ShowsLeaf result (damage_of shape look root.now place) }
+    ensures honest { B.honest board.old
+        → B.honest board.new × OnlyReads (B.view board.old) (B.view board.new) }
+{
+    if touched.holds(place) {
+        return Ok(());
+    }
+    if level == 0 {
+        return take_in(board, keys, touched, place, root);
+    }
+    let above = parent(place);
+    hold(board, keys, root, touched, level - 1, above)?;
+    let entry = touched.entry_under(above, slot(place));
+    take_in(board, keys, touched, place, &entry)
+}
+
+/// Takes in a leaf with its new bytes, and before it the nodes above it.
+fn add_leaf<B: Board>(
+    board: &mut B,
+    keys: &Keys,
+    root: &TreeEntry,
+    touched: &mut Touched,
+    region: u8,
+    leaf: &Leaf,
+) -> Result<(), LeafAnswer>
+    requires size { TREE_BLOCKS ≤ (B.view board.old).size }
+    requires region { region < MAX_HOSTS }
+    requires number { leaf.now.number < REGION_LEAVES }
+    requires gathered { AreGathered shape touched.old }
+    requires new { fresh_of touched.old (shape.leaf_place region leaf.now.number) ≡ None }
+    ensures calls { CallRun true (B.view board.old) (B.view board.new) }
+    ensures writes { (B.view board.new).writes ≡ (B.view board.old).writes }
+    ensures cause { result ≡ Err answers.Failed
+        → Rose (B.view board.old).state.faults (B.view board.new).state.faults }
+    ensures answer { result ≢ Err answers.Lost }
+    ensures tags { (key : List ℕ) → AreKeysOf keys.now key
+        → IfMismatch result (λ tags. tags.found ≢ tags.kept) }
+    ensures same { IsTrue B.tells_reads
+        → (B.view board.new).state.reads ≡ (B.view board.old).state.reads }
+    ensures ordered { OnOk result (AreOrdered shape touched.new) }
+    ensures here { OnOk result
+        (fresh_of touched.new (shape.leaf_place region leaf.now.number) ≡ Some leaf.now.bytes) }
+    ensures others { OnOk result ((p : ℕ) → shape.level p ≡ DEPTH
+        → p ≢ shape.leaf_place region leaf.now.number
+        → fresh_of touched.new p ≡ fresh_of touched.old p) }
+    ensures nodes { IsTrue B.tells_reads → (key : List ℕ) → AreKeysOf keys.now key
+        → let look = on_image shape key (B.view board.old).state.reads in
+        AreTrue shape look root.now DEPTH touched.old
+        → OnOk result (AreTrue shape look root.now DEPTH touched.new) }
+    ensures damage { IsTrue B.tells_reads → (key : List ℕ) → AreKeysOf keys.now key
+        → let look = on_image shape key (B.view board.old).state.reads in
+        AreTrue shape look root.now DEPTH touched.old → IfMismatch result (λ tags.
+        damage_of shape look root.now (shape.leaf_place region leaf.now.number) ≡ Some tags) }
+    ensures honest { B.honest board.old
+        → B.honest board.new × OnlyReads (B.view board.old) (B.view board.new) }
+{
+    let place = leaf_place(region, u16::from(leaf.number));
+    let above = parent(place);
+    hold(board, keys, root, touched, DEPTH - 1, above)?;
+    let entry = touched.entry_under(above, slot(place));
+    let copy = entry.copy;
+    let bytes = leaf.bytes;
+    touched.push(Node { place, copy, bytes })?;
+    Ok(())
+}
+
+/// The nodes that a commit of leaves of a region touches: these leaves with their new bytes, and the nodes above them as
+/// they stand under a root, verified.
+///
+/// # Errors
+///
+/// `Mismatch` with the first two tags that differ on the way to a leaf of the region. `Failed` where a call of the board
+/// failed. `NoMemory`.
+pub fn gather<B: Board>(
+    alloc: Global,
+    board: &mut B,
+    keys: &Keys,
+    root: &TreeEntry,
+    region: u8,
+    leaves: &[Leaf],
+) -> Result<Touched, LeafAnswer>
+    requires size { TREE_BLOCKS ≤ (B.view board.old).size }
+    requires region { region < MAX_HOSTS }
+    requires ascending { is_ascending leaves.now ≡ true }
+    requires numbers { All (λ leaf. leaf.number < REGION_LEAVES) leaves.now }
+    ensures calls { CallRun true (B.view board.old) (B.view board.new) }
+    ensures writes { (B.view board.new).writes ≡ (B.view board.old).writes }
+    ensures cause { result ≡ Err answers.Failed
+        → Rose (B.view board.old).state.faults (B.view board.new).state.faults }
+    ensures answer { result ≢ Err answers.Lost }
+    ensures tags { (key : List ℕ) → AreKeysOf keys.now key
+        → IfMismatch result (λ tags. tags.found ≢ tags.kept) }
+    ensures same { IsTrue B.tells_reads
+        → (B.view board.new).state.reads ≡ (B.view board.old).state.reads }
+    ensures ordered { IfOk result (λ t. AreOrdered shape t) }
+    ensures leaves { IfOk result (λ t. (l : ℕ) → l < REGION_LEAVES
+        → fresh_of t (shape.leaf_place region l) ≡ named leaves.now l) }
+    ensures elsewhere { IfOk result (λ t. (r l : ℕ) → r ≢ region → l < REGION_LEAVES
+        → fresh_of t (shape.leaf_place r l) ≡ None) }
+    ensures nodes { IsTrue B.tells_reads → (key : List ℕ) → AreKeysOf keys.now key
+        → IfOk result (λ t. AreTrue shape
+        (on_image shape key (B.view board.old).state.reads) root.now DEPTH t) }
+    ensures damage { IsTrue B.tells_reads → (key : List ℕ) → AreKeysOf keys.now key
+        → IfMismatch result (λ tags. (l : ℕ) × (l < REGION_LEAVES)
+        × (damage_of shape (on_image shape key (B.view board.old).state.reads) root.now
+        (shape.leaf_place region l) ≡ Some tags)) }
+    ensures honest { B.honest board.old
+        → B.honest board.new × OnlyReads (B.view board.old) (B.view board.new) }
+{
+    let mut touched = Touched::new(alloc);
+    hold(board, keys, root, &mut touched, 0, 0)?;
+    for leaf in leaves {
+        add_leaf(board, keys, root, &mut touched, region, leaf)?;
+    }
+    Ok(touched)
+}
