@@ -70,11 +70,14 @@ module _ {A : Type 0} where
   -- ---- until it is answered
 
   -- where no turns are left, an operation of the instance is answered
-  answered_at_end : (m : Machine A) (op i : ℕ) → IsSoundMachine m → op < m.queue.next → AllByRecursion (IsOf op i) m.queue.operations → measure i m.queue m.instances ≡ 0 → is_answered m op ≡ true
-  answered_at_end m op i h below owned none =
+  answered_at_end : (m : Machine A) (op i : ℕ) → IsSoundMachine m → 0 < op → op < m.queue.next → AllByRecursion (IsOf op i) m.queue.operations → measure i m.queue m.instances ≡ 0
+      → is_answered m op ≡ true
+  answered_at_end m op i h some below owned none =
       let gone : AllByRecursion (λ o. o.number ≢ op) m.queue.operations = each_both (IsOf op i) (λ o. o.instance ≢ i)
       (λ o. o.number ≢ op) m.queue.operations (λ o own elsewhere same. elsewhere (own same)) owned (measure_none m.queue m.table m.instances i h none) in
-      ap (λ (f : Option Operation). nat_lt op m.queue.next && not (is_some (option_map operation_facts f))) (none_found op m.queue.operations gone) ∙ ap (λ b. b && true) (lt-ltb op m.queue.next below)
+      ap (λ (f : Option Operation). nat_lt 0 op && nat_lt op m.queue.next && not (is_some (option_map operation_facts f))) (none_found op m.queue.operations gone)
+      ∙ ap (λ b. b && nat_lt op m.queue.next && true) (lt-ltb 0 op some)
+      ∙ ap (λ b. b && true) (lt-ltb op m.queue.next below)
 
 enough : 9830574 ≤ most_turns
 unfolding most_turns
@@ -92,10 +95,10 @@ module _ {A : Type 0} (behaviour : Behaviour A) where
       (λ _. cond_both (marks.starved turn && is_enabled m (Starved i)) _ _ P (λ _. fails (turn_counted m) i h)
       (λ _. turns behaviour Serves m i h)))
 
-  within : (marks : Marks) (k : ℕ) (m : Machine A) (op i : ℕ) → IsSoundMachine m → op < m.queue.next → AllByRecursion (IsOf op i) m.queue.operations
+  within : (marks : Marks) (k : ℕ) (m : Machine A) (op i : ℕ) → IsSoundMachine m → 0 < op → op < m.queue.next → AllByRecursion (IsOf op i) m.queue.operations
       → measure i m.queue m.instances ≤ k → is_answered (machine_after behaviour m (turns_until behaviour marks k m i op)) op ≡ true
-  within marks zero m op i h below owned le = answered_at_end m op i h below owned (omega (arith, le))
-  within marks (suc k) m op i h below owned le =
+  within marks zero m op i h positive below owned le = answered_at_end m op i h positive below owned (omega (arith, le))
+  within marks (suc k) m op i h positive below owned le =
       let event : Event = event_at marks m i in
       let z : Machine A = (step behaviour m event).machine in
       let on : List Event = event ∷ turns_until behaviour marks k z i op in
@@ -105,9 +108,9 @@ module _ {A : Type 0} (behaviour : Behaviour A) where
       let now = goes marks m i h in
       let some : 1 ≤ measure i m.queue m.instances = ⊎_elim
       (λ (lt : 0 < measure i m.queue m.instances). lt)
-      (λ (ge : measure i m.queue m.instances ≤ 0). absurd (both_ways _ more (answered_at_end m op i h below owned (omega (arith, ge)))))
+      (λ (ge : measure i m.queue m.instances ≤ 0). absurd (both_ways _ more (answered_at_end m op i h positive below owned (omega (arith, ge)))))
       (cases_lt 0 (measure i m.queue m.instances)) in
-      let rest : is_answered (machine_after behaviour z (turns_until behaviour marks k z i op)) op ≡ true = within marks k z op i now.sound
+      let rest : is_answered (machine_after behaviour z (turns_until behaviour marks k z i op)) op ≡ true = within marks k z op i now.sound positive
       (omega (arith, below, now.next)) (now.owner op i owned) (omega (arith, now.less some, le)) in
       subst (λ (es : List Event). is_answered (machine_after behaviour m es) op ≡ true) (sym (ap (λ b. cond b [] on) more)) rest)
       (cases_Bool (is_answered m op))
@@ -116,7 +119,7 @@ module _ {A : Type 0} (behaviour : Behaviour A) where
   call_is_answered marks m client call h =
       let s = called m client call in
       let now = takes m client call h in
-      within marks most_turns s.machine m.queue.next s.instance now.sound now.below now.owner (omega (arith, enough, measure_few s.machine s.instance now.sound))
+      within marks most_turns s.machine m.queue.next s.instance now.sound (omega (arith, h.queue.first)) now.below now.owner (omega (arith, enough, measure_few s.machine s.instance now.sound))
 
   -- ---- any events
 

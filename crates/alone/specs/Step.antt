@@ -373,9 +373,9 @@ turned behaviour m i = turned_as behaviour Serves m i
 abbrev pub starved : {A : Type 0} → Machine A → ℕ → Stepped A
 starved m i = torn_down (turn_counted m) i OUT_OF_MEMORY Tee
 
--- the operation was called, and is no longer unanswered
+-- the operation was called, and is no longer unanswered. Numbers begin at 1
 abbrev pub is_answered : {A : Type 0} → Machine A → ℕ → Bool
-is_answered m op = nat_lt op m.queue.next && not (is_some (option_map operation_facts (operation_of m.queue op)))
+is_answered m op = nat_lt 0 op && nat_lt op m.queue.next && not (is_some (option_map operation_facts (operation_of m.queue op)))
 
 -- ---- what waits in an instance
 

@@ -14,7 +14,7 @@ use Rattle.alone.specs.declared.turn.TurnKind.{TurnKind}
 use Rattle.alone.specs.declared.turn.TurnKind.TheVariants.{Plain, Lost, Starved, Corrupted}
 use Rattle.alone.specs.Laws.{step_with_store, with_store}
 use Rattle.alone.specs.Machine.{Machine}
-use Rattle.alone.specs.Step.{Stepped, needs_store, step}
+use Rattle.alone.specs.Step.{Stepped, is_enabled, needs_store, step}
 use Rattle.alone.proofs.WithoutStore.{turned_over}
 use Rattle.app_side.specs.declared.side.AppSide.{AppSide}
 use Rattle.app_side.specs.Represents.{Represents, event_of, is_lost}
@@ -134,6 +134,13 @@ module _ {A : Type 0} (behaviour : Behaviour A) (i : ℕ) (replies : List Reply)
       with_objects after empty_store (step behaviour m (event_of kind i)).machine
       (subst (λ (s : Stepped A). Represents after s.machine) (same kind is m (needs m stands storeless))
       (turn.step tt (with_store empty_store m) (other_objects before empty_store m stands) refl))
+
+  -- the event may stand there
+  pub stands_is : (kind : TurnKind) → Turn kind → IsStoreless kind → (m : Machine A) → Represents before m → is_enabled m (event_of kind i) ≡ true
+  stands_is Plain turn is m stands = refl
+  stands_is Starved turn is m stands = turn.stands tt (with_store empty_store m) (other_objects before empty_store m stands) refl
+  stands_is (Lost changes) turn is m stands = absurd is
+  stands_is Corrupted turn is m stands = absurd is
 
   pub told_is : (kind : TurnKind) → Turn kind → IsStoreless kind → wants_store before i ≡ false → (m : Machine A) → Represents before m → replies ≡ (step behaviour m (event_of kind i)).replies
   told_is kind turn is storeless m stands =

@@ -5,7 +5,7 @@ ghost use Rattle.store_api.specs.Stores.{Store};
 ghost use Rattle.object_asks.specs.Serving.{TriesOnce};
 ghost use Rattle.alone.specs.Laws.{live};
 ghost use Rattle.alone.specs.Machine.{Machine, start};
-ghost use Rattle.alone.specs.Step.{called, cancelled, is_answered, is_changing, step, torn_down, Cancelled, Lost, Restarted, Starved};
+ghost use Rattle.alone.specs.Step.{called, cancelled, is_answered, is_changing, is_enabled, step, torn_down, Cancelled, Lost, Restarted, Starved};
 ghost use Rattle.app_side.specs.Represents.{boot_of, event_of, has_doubt, is_lost, turns_of, Represents};
 ghost use Rattle.app_side.specs.Serving.{IsTurn};
 ghost use Rattle.app_side.specs.Storeless.{IsStoreless, wants_store};
@@ -170,6 +170,8 @@ impl<A: Application> AppSide<A> {
         requires few { turns_of self.old < 2 ^ 63 }
         requires storeless { wants_store self.old instance ≡ false }
         ensures kind { IsStoreless result.kind }
+        ensures stands { (m : Machine A) → Represents self.old m
+            → is_enabled m (event_of result.kind instance) ≡ true }
         ensures step { (m : Machine A) → Represents self.old m
             → Represents self.new (step A.behaviour m (event_of result.kind instance)).machine }
         ensures told { (m : Machine A) → Represents self.old m
@@ -252,11 +254,11 @@ impl<A: Application> AppSide<A> {
         self.boot
     }
 
-    /// Whether the operation was called and is answered.
+    /// Whether the operation was called and is answered. Numbers of operations begin at 1.
     pub fn answered(&self, op: u64) -> bool
         ensures { (m : Machine A) → Represents self.now m → result ≡ is_answered m op }
     {
-        op < self.queue.next_number() && self.queue.facts(op).is_none()
+        op > 0 && op < self.queue.next_number() && self.queue.facts(op).is_none()
     }
 
     /// Whether the storage is lost.

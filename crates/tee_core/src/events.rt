@@ -28,7 +28,7 @@ impl<B, V: Volume, A: Application> TeeOver<B, V, A> {
         self.sides[app as usize].turns()
     }
 
-    /// Whether the application's operation of this number is answered, or was never called.
+    /// Whether the application's operation of this number was called and is answered. Numbers begin at 1.
     pub fn answered(&self, app: u8, op: u64) -> bool
         requires { app < app_count self.now }
         ensures { (world : World A) (m : Machine A) → Represents self.now world

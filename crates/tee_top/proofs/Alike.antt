@@ -33,11 +33,11 @@ BootsNone (Starved i) = Unit {0}
 BootsNone (Restarted took) = ⊥
 
 -- the event of a turn, where it is so marked
-abbrev chosen : {A : Type 0} → Bool → Bool → Bool → Machine A → ℕ → Event
+abbrev pub chosen : {A : Type 0} → Bool → Bool → Bool → Machine A → ℕ → Event
 chosen lost corrupt starved m i =
     cond (lost && is_enabled m (TurnLost i)) (TurnLost i) (cond (corrupt && is_enabled m (Corrupted i)) (Corrupted i) (cond (starved && is_enabled m (Starved i)) (Starved i) (Turned i)))
 
-event_is : {A : Type 0} (marks : Marks) (m : Machine A) (i : ℕ) → event_at marks m i ≡ chosen (marks.lost (m.turns + 1)) (marks.corrupt (m.turns + 1)) (marks.starved (m.turns + 1)) m i
+pub event_is : {A : Type 0} (marks : Marks) (m : Machine A) (i : ℕ) → event_at marks m i ≡ chosen (marks.lost (m.turns + 1)) (marks.corrupt (m.turns + 1)) (marks.starved (m.turns + 1)) m i
 unfolding event_at
 event_is marks m i = refl
 

@@ -9,11 +9,11 @@ use Rattle.script.specs.declared.line.Line.{Line}
 use Rattle.script.specs.declared.line.Line.TheVariants as lines
 use Rattle.tee_core.specs.World.{World}
 use Rattle.tee_top.specs.Boards.{GoesAlong, LeavesStores}
-use Rattle.tee_top.specs.Logs.{AreKnown, Item, IsWrittenOf}
+use Rattle.tee_top.specs.Logs.{AreKnown}
 use Rattle.tee_top.specs.Parts.{AgreeWith, AreTold, HasNoDamage, IsRefusedIn, IsRunOf, Point, StopsIn, count_powers, log_of, point}
 use Rattle.tee_top.specs.Transcript.{Weather, WorldEvent, after_events, events_of, line_events, text_of}
-use Rattle.tee_top.proofs.Parts.{after_events_both, agree_behind, agree_first, board_both, count_both, known_parts, log_of_both}
-use Rattle.tee_top.proofs.Parts.{span_none, text_is_log, text_of_both, told_both, undamaged_both, written_behind}
+use Rattle.tee_top.proofs.Parts.{after_events_both, agree_behind, agree_first, board_both, count_both, cut_behind, known_parts}
+use Rattle.tee_top.proofs.Parts.{span_none, text_of_both, told_both, undamaged_both}
 
 -- the events of a run as the weather gives them, and those that remain of it in a world
 abbrev pub Events : Type 0
@@ -100,8 +100,6 @@ module _ {A : Type 0} (behaviour : Behaviour A) (form : Form) (names : List (Lis
       → StopsIn behaviour form names events (after_events behaviour w run.made) mid new → StopsIn behaviour form names all w old new
   along_stopped Stands w all rest rest_then old mid new run events splits part =
       let now : World A = after_events behaviour w run.made in
-      let first : List Item = log_of behaviour w run.made in
-      let cut = written_behind names first (log_of behaviour now part.made) part.text part.cut in
       record {
         made = run.made ++ part.made;
         known = known_parts behaviour names w run.made part.made run.known part.known;
@@ -109,8 +107,7 @@ module _ {A : Type 0} (behaviour : Behaviour A) (form : Form) (names : List (Lis
         undamaged = undamaged_both run.made part.made run.undamaged part.undamaged;
         left = subst (λ (x : World A). LeavesStores form new.view x) (sym (after_events_both behaviour w run.made part.made)) part.left;
         text = text_of behaviour names w run.made ++ part.text;
-        cut = subst (λ (log : List Item). IsWrittenOf names log (text_of behaviour names w run.made ++ part.text)) (sym (log_of_both behaviour w run.made part.made))
-            (subst (λ zs. IsWrittenOf names (first ++ log_of behaviour now part.made) (zs ++ part.text)) (sym (text_is_log behaviour names w run.made)) cut);
+        cut = cut_behind behaviour names w run.made part.made part.text part.cut;
         written = Appends-trans old.written mid.written new.written (text_of behaviour names w run.made) part.text run.written part.written;
         by_weather = λ weather agree.
             let begins = part.by_weather weather (agree_behind behaviour weather w run.made part.made agree) in
@@ -267,6 +264,7 @@ module _ {A : Type 0} (behaviour : Behaviour A) (form : Form) (names : List (Lis
     between = part.between;
     run = part.run;
     order = part.order;
+    failed = part.failed;
     written = part.written;
   }
 
@@ -282,5 +280,6 @@ module _ {A : Type 0} (behaviour : Behaviour A) (form : Form) (names : List (Lis
     between = part.between;
     run = lines_run Stands (LeavesStores form new.view) w front part.front old mid part.between run part.run;
     order = part.order;
+    failed = part.failed;
     written = part.written;
   }

@@ -326,7 +326,7 @@ module _ {A : Type 0} (behaviour : Behaviour A) where
       (script_there weather (length names) world script many) (world_at app hosts host seed stores e)
 
   -- they are that of its lines alone
-  written_alone : (hosts : List (Host A)) (seed : List ℕ) (stores : ℕ → Store) (script : List Line) (weather : Weather) (app : ℕ) (host : Host A) → HostsFit hosts → slice_get hosts app ≡ Some host
+  pub written_alone : (hosts : List (Host A)) (seed : List ℕ) (stores : ℕ → Store) (script : List Line) (weather : Weather) (app : ℕ) (host : Host A) → HostsFit hosts → slice_get hosts app ≡ Some host
       → OthersLoseNone app weather → lines_for host.name (transcript behaviour weather hosts seed stores script)
       ≡ own_text behaviour host.name (start host app seed (stores app))
       (own_events behaviour (weather.marks app) (λ power. weather.kept power app) (start host app seed (stores app)) (own_lines app script))

@@ -5,6 +5,7 @@ pub mod Apart
 pub mod Calls
 pub mod Ended
 pub mod Known
+pub mod Layers
 pub mod Leaves
 pub mod LinesFor
 pub mod Losses
@@ -18,9 +19,11 @@ pub mod Powers
 pub mod Refusals
 pub mod Served
 pub mod Single
+pub mod Texts
 pub mod Turns
 pub mod Under
 pub mod Weather
 pub mod Whole
 pub mod WholeLines
 pub mod Writing
+pub mod Zeros

@@ -13,20 +13,14 @@ use Rattle.epoch.specs.declared.rule.Found.{Found}
 use Rattle.object_dir.specs.Regions.{region_in}
 use Rattle.store_api.specs.Stores.{Store}
 use Rattle.store_api.specs.Volumes.{Held}
-use Rattle.tee_base.specs.Faults.{Rose}
 use Rattle.tee_core.specs.Represents.{HasStoresOf, HoldsStores, none_kept}
 use Rattle.tee_core.specs.World.{World, world_of}
 use Rattle.tee_core.proofs.Opens.{stores_started}
 use Rattle.tee_top.specs.Boards.{BeginsWith, HasFirstOrders, HasOrders, IsSpan, LeavesStores, orders_of}
-use Rattle.tee_top.specs.Parts.{IsRunOf, Point, point}
-use Rattle.tee_top.specs.Transcript.{Weather, WorldEvent}
+use Rattle.tee_top.specs.Parts.{IsRefusedIn, IsRunOf, Point, point}
+use Rattle.tee_top.specs.Transcript.{Weather, WorldEvent, events_of}
 use Rattle.tee_top.proofs.Parts.{span_before}
 use Rattle.script.specs.declared.line.Line.{Line}
-
--- a count that rose later rose
-pub rose_later : (a b c : ℕ) → a ≤ b → Rose b c → Rose a c
-rose_later a b c before (inl h) = inl (omega (arith, before, h))
-rose_later a b c before (inr h) = inr h
 
 -- calls of an opening have no order among them
 pub span_opened : (ok : Bool) (old new : View) → CallRun ok old new → IsSpan 0 old new
@@ -102,4 +96,18 @@ module _ {A : Type 0} (behaviour : Behaviour A) (form : Form) (names : List (Lis
     board = span_before behaviour form 0 0 world start old.view run.made new.view span run.board;
     written = run.written;
     by_weather = run.by_weather;
+  }
+
+  pub refused_behind : (script : List Line) (world : World A) (start : View) (old new : Point) → IsSpan 0 start old.view
+      → IsRefusedIn behaviour form names script world old new → IsRefusedIn behaviour form names script world (point old.powers start old.written) new
+  refused_behind script world start old new span part = record {
+    front = part.front;
+    pick = part.pick;
+    behind = part.behind;
+    split = part.split;
+    between = part.between;
+    run = run_behind (λ weather. events_of behaviour weather world part.front) world (LeavesStores form new.view) start old part.between span part.run;
+    order = part.order;
+    failed = part.failed;
+    written = part.written;
   }

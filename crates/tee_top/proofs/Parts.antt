@@ -8,6 +8,7 @@ use Rattle.alone.specs.Machine.{Machine}
 use Rattle.alone.specs.Step.{Event}
 use Rattle.board.specs.Moment.{View}
 use Rattle.epoch.specs.Forms.{Form}
+use Rattle.tee_base.specs.Faults.{Rose}
 use Rattle.script.specs.declared.line.Line.{Line}
 use Rattle.script.specs.declared.line.Line.TheVariants as lines
 use Rattle.tee_core.specs.World.{World, AppEvent, world_after, world_step}
@@ -15,7 +16,7 @@ use Rattle.tee_core.specs.Powers.{after_power}
 use Rattle.tee_top.specs.BoardLines.{IsOwnerKnown}
 use Rattle.tee_top.specs.Boards.{GoesAlong, HasFirstOrders, HasOrders, HasPower, IsSpan, RoseBy, losses_of, order_of, ordered_after, orders_after, orders_of}
 use Rattle.tee_top.specs.Logs.{AreKnown, Entry, Item, IsWrittenOf, OfApp, OfBoard, entries_in, item_text, log_text, powers_told}
-use Rattle.tee_top.specs.Parts.{AgreeWith, AreTold, HasNoDamage, count_powers, entry_of, items_of, log_of}
+use Rattle.tee_top.specs.Parts.{AgreeWith, AreTold, HasNoDamage, IsTextOfAllBut, count_powers, entry_of, items_of, log_of}
 use Rattle.tee_top.specs.Transcript.{Weather, WorldEvent, Fused, Happens, Powered, after_event, after_events, event_lines, happens, machine_lines, power_line, text_of}
 
 pub all_both : {X : Type 0} (P : X → Type 0) (xs ys : List X) → AllByRecursion P xs → AllByRecursion P ys → AllByRecursion P (xs ++ ys)
@@ -52,31 +53,6 @@ known_both names xs ys h k = record {
 
 pub log_text_both : (names : List (List ℕ)) (xs ys : List Item) → log_text names (xs ++ ys) ≡ log_text names xs ++ log_text names ys
 log_text_both names xs ys = flat_map-append (item_text names) xs ys
-
--- what is cut behind a log that was written whole
-pub written_behind : (names : List (List ℕ)) (xs ys : List Item) (text : List ℕ) → IsWrittenOf names ys text → IsWrittenOf names (xs ++ ys) (log_text names xs ++ text)
-written_behind names xs ys text h = record {
-  done = xs ++ h.done;
-  last = h.last;
-  few = h.few;
-  all = ap (λ zs. xs ++ zs) h.all ∙ sym (append_assoc xs h.done h.last);
-  cut = h.cut;
-  rest = h.rest;
-  piece = h.piece;
-  here =
-      ap (λ zs. log_text names xs ++ zs) h.here
-      ∙ sym (append_assoc (log_text names xs) (log_text names h.done) h.cut)
-      ∙ ap (λ zs. zs ++ h.cut) (sym (log_text_both names xs h.done));
-}
-
--- a log that was cut is a front of its text
-pub cut_front : (names : List (List ℕ)) (log : List Item) (text : List ℕ) → (h : IsWrittenOf names log text) → log_text names log ≡ text ++ h.rest
-cut_front names log text h =
-    ap (log_text names) h.all
-    ∙ log_text_both names h.done h.last
-    ∙ ap (λ zs. log_text names h.done ++ zs) h.piece
-    ∙ sym (append_assoc (log_text names h.done) h.cut h.rest)
-    ∙ ap (λ zs. zs ++ h.rest) (sym h.here)
 
 -- ---- events
 
@@ -171,6 +147,55 @@ module _ {A : Type 0} (behaviour : Behaviour A) where
       ∙ ap (λ zs. zs ++ log_text names (log_of behaviour then ys)) (sym (text_is_log names w xs))
       ∙ ap (λ zs. text_of behaviour names w xs ++ zs) (sym (text_is_log names then ys))
 
+  -- what is cut behind events that were written whole
+  pub cut_behind : (names : List (List ℕ)) (w : World A) (xs ys : List WorldEvent) (text : List ℕ) → IsTextOfAllBut behaviour names (after_events behaviour w xs) ys text
+      → IsTextOfAllBut behaviour names w (xs ++ ys) (text_of behaviour names w xs ++ text)
+  cut_behind names w xs ys text h =
+      let now : World A = after_events behaviour w xs in
+      record {
+        done = xs ++ h.done;
+        last = h.last;
+        few = h.few;
+        all = ap (λ zs. xs ++ zs) h.all ∙ sym (append_assoc xs h.done h.last);
+        cut = h.cut;
+        rest = h.rest;
+        piece = ap (λ (x : World A). text_of behaviour names x h.last) (after_events_both w xs h.done) ∙ h.piece;
+        here =
+            ap (λ zs. text_of behaviour names w xs ++ zs) h.here
+            ∙ sym (append_assoc (text_of behaviour names w xs) (text_of behaviour names now h.done) h.cut)
+            ∙ ap (λ zs. zs ++ h.cut) (sym (text_of_both names w xs h.done));
+      }
+
+  entry_few : (app : ℕ) (event : Event) (o : Option (Machine A)) → length (entry_of behaviour app event o ++ []) ≤ 1
+  entry_few app event None = omega arith
+  entry_few app event (Some m) = omega arith
+
+  items_few : (w : World A) (e : WorldEvent) → length (items_of behaviour w e ++ []) ≤ 1
+  items_few w (Happens e) = entry_few e.app e.event (slice_get w e.app)
+  items_few w (Fused calls) = omega arith
+  items_few w (Powered pick told) = omega arith
+
+  log_few : (w : World A) (es : List WorldEvent) → length es ≤ 1 → length (log_of behaviour w es) ≤ 1
+  log_few w [] few = omega arith
+  log_few w (e ∷ []) few = items_few w e
+  log_few w (e ∷ other ∷ es) few = absurd (omega (arith, few))
+
+  -- the log of events of which the last wasn't written to its end
+  pub cut_log : (names : List (List ℕ)) (w : World A) (made : List WorldEvent) (text : List ℕ) → IsTextOfAllBut behaviour names w made text
+      → IsWrittenOf names (log_of behaviour w made) text
+  cut_log names w made text h =
+      let now : World A = after_events behaviour w h.done in
+      record {
+        done = log_of behaviour w h.done;
+        last = log_of behaviour now h.last;
+        few = log_few now h.last h.few;
+        all = ap (log_of behaviour w) h.all ∙ log_of_both w h.done h.last;
+        cut = h.cut;
+        rest = h.rest;
+        piece = sym (text_is_log names now h.last) ∙ h.piece;
+        here = h.here ∙ ap (λ zs. zs ++ h.cut) (text_is_log names w h.done);
+      }
+
   -- weather that agrees with both parts
   pub agree_first : (weather : Weather) (w : World A) (xs ys : List WorldEvent) → AgreeWith behaviour weather w (xs ++ ys) → AgreeWith behaviour weather w xs
   agree_first weather w [] ys h = tt
@@ -187,6 +212,11 @@ module _ {A : Type 0} (behaviour : Behaviour A) where
       subst (λ (log : List Item). AreKnown names log) (sym (log_of_both w xs ys)) (known_both names (log_of behaviour w xs) (log_of behaviour (after_events behaviour w xs) ys) h k)
 
 -- ---- the board
+
+-- a count that rose since a later moment rose since an earlier one
+pub rose_later : (a b c : ℕ) → a ≤ b → Rose b c → Rose a c
+rose_later a b c before (inl h) = inl (omega (arith, before, h))
+rose_later a b c before (inr h) = inr h
 
 -- a count that rose and then rose again
 pub rose_both : (one other a b c : ℕ) → a ≤ b → b ≤ c → RoseBy one a b → RoseBy other b c → RoseBy (one + other) a c

@@ -9,6 +9,7 @@ use Rattle.std.proofs.lemmas.Bool.{cases_Bool, cond-true, ltb-false}
 use Rattle.std.proofs.lemmas.List.Quantifiers.{position-Some}
 use Rattle.std.proofs.lemmas.List.Sums.{fails_before_first}
 use Rattle.std.proofs.lemmas.Option.{get_or_from_slice_get, slice_get_within}
+use Rattle.tee_base.specs.Faults.{Rose}
 use Rattle.tee_base.specs.Transfer.{AppendsFront}
 use Rattle.alone.specs.declared.power.Power.{Power}
 use Rattle.alone.specs.declared.power.Power.TheVariants.{Clean, Kept, Absent}
@@ -27,11 +28,11 @@ use Rattle.tee_core.specs.Sides.{AreBooted, AreSides}
 use Rattle.tee_core.specs.World.{World}
 use Rattle.tee_core.proofs.SideLemmas.{get_there}
 use Rattle.tee_top.specs.BoardLines.{IsOwnerKnown}
-use Rattle.tee_top.specs.Boards.{GoesAlong, HasFirstOrders, HasOrders, LeavesStores, order_of, orders_of}
-use Rattle.tee_top.specs.Parts.{IsRefusedIn, IsRunOf, Point, StopsIn, log_of, owner_told}
+use Rattle.tee_top.specs.Boards.{FailsAtPower, GoesAlong, HasFirstOrders, HasOrders, LeavesStores, orders_of}
+use Rattle.tee_top.specs.Parts.{IsRefusedIn, IsRunOf, Point, StopsIn, owner_told}
 use Rattle.tee_top.specs.Transcript.{Fused, Powered, events_of, line_events, owner_in_doubt, power_line, powers_in, text_of}
 use Rattle.tee_top.proofs.Along.{run_none}
-use Rattle.tee_top.proofs.Parts.{orders_both, orders_of_both, span_none}
+use Rattle.tee_top.proofs.Parts.{no_orders, orders_both, orders_of_both, rose_later, span_none}
 
 -- ---- whose change is in doubt
 
@@ -112,15 +113,59 @@ order_made number old new order = record {
 }
 
 -- the orders of lines and of one more
-pub orders_more : (front : List Line) (line : Line) (a b c : View) → HasOrders (orders_of front) a b → HasOrders (order_of line) b c → HasOrders (orders_of (front ++ line ∷ [])) a c
+pub orders_more : (front : List Line) (line : Line) (a b c : View) → HasOrders (orders_of front) a b → HasOrders (orders_of (line ∷ [])) b c → HasOrders (orders_of (front ++ line ∷ [])) a c
 orders_more front line a b c h k =
-    subst (λ zs. HasOrders zs a c) (sym (orders_of_both front (line ∷ []) ∙ ap (λ zs. orders_of front ++ zs) (append-nil (order_of line))))
-    (orders_both (orders_of front) (order_of line) a b c h k)
+    subst (λ zs. HasOrders zs a c) (sym (orders_of_both front (line ∷ []))) (orders_both (orders_of front) (orders_of (line ∷ [])) a b c h k)
 
 -- the orders of the first lines are orders of the first of these and others
 pub first_orders_before : (xs ys : List Line) (a b : View) → HasFirstOrders xs a b → HasFirstOrders (xs ++ ys) a b
 first_orders_before xs ys a b h =
     (h.0, h.1 ++ orders_of ys, orders_of_both xs ys ∙ ap (λ zs. zs ++ orders_of ys) h.2 ∙ append_assoc h.0 h.1 (orders_of ys), h.3)
+
+-- ---- openings that failed
+
+-- the opening at a line of a power
+pub fails_here : (pick : ℕ) (old new : View) → OrderRun pick old new → Rose old.state.faults new.state.faults → FailsAtPower (lines.Power pick ∷ []) old new
+fails_here pick old new order failed = record {
+  front = [];
+  pick = pick;
+  rest = [];
+  split = refl;
+  between = old;
+  before = no_orders old;
+  order = order;
+  failed = failed;
+}
+
+-- behind the first lines
+pub fails_behind : (front rest : List Line) (a b c : View) → HasOrders (orders_of front) a b → FailsAtPower rest b c → FailsAtPower (front ++ rest) a c
+fails_behind front rest a b c h k = record {
+  front = front ++ k.front;
+  pick = k.pick;
+  rest = k.rest;
+  split = ap (λ zs. front ++ zs) k.split ∙ sym (append_assoc front k.front (lines.Power k.pick ∷ k.rest));
+  between = k.between;
+  before = subst (λ zs. HasOrders zs a k.between) (sym (orders_of_both front k.front)) (orders_both (orders_of front) (orders_of k.front) a b k.between h k.before);
+  order = k.order;
+  failed = k.failed;
+}
+
+-- before others
+pub fails_before : (xs ys : List Line) (a b : View) → FailsAtPower xs a b → FailsAtPower (xs ++ ys) a b
+fails_before xs ys a b h = record {
+  front = h.front;
+  pick = h.pick;
+  rest = h.rest ++ ys;
+  split = ap (λ zs. zs ++ ys) h.split ∙ append_assoc h.front (lines.Power h.pick ∷ h.rest) ys;
+  between = h.between;
+  before = h.before;
+  order = h.order;
+  failed = h.failed;
+}
+
+-- the count rose
+pub fails_rose : (script : List Line) (a b : View) → FailsAtPower script a b → Rose a.state.faults b.state.faults
+fails_rose script a b h = rose_later a.state.faults h.between.state.faults b.state.faults h.before.later h.failed
 
 -- ---- the events of orders
 
@@ -184,7 +229,7 @@ module _ {A : Type 0} (behaviour : Behaviour A) (form : Form) where
         text = written.0;
         cut = record {
           done = [];
-          last = log_of behaviour w (Powered pick told ∷ []);
+          last = Powered pick told ∷ [];
           few = omega arith;
           all = refl;
           cut = written.0;
@@ -197,9 +242,9 @@ module _ {A : Type 0} (behaviour : Behaviour A) (form : Form) where
       }
 
     -- a loss of power that was refused: nothing is written of it
-    pub power_refused : (w : World A) (pick : ℕ) (old new : Point) → OrderRun pick old.view new.view → LeavesStores form new.view w → new.written ≡ old.written
-        → IsRefusedIn behaviour form names (lines.Power pick ∷ []) w old new
-    power_refused w pick old new order left written = record {
+    pub power_refused : (w : World A) (pick : ℕ) (old new : Point) → OrderRun pick old.view new.view → Rose old.view.state.faults new.view.state.faults
+        → LeavesStores form new.view w → new.written ≡ old.written → IsRefusedIn behaviour form names (lines.Power pick ∷ []) w old new
+    power_refused w pick old new order failed left written = record {
       front = [];
       pick = pick;
       behind = [];
@@ -207,5 +252,6 @@ module _ {A : Type 0} (behaviour : Behaviour A) (form : Form) where
       between = old;
       run = run_none behaviour form names (LeavesStores form new.view) w (λ weather. events_of behaviour weather w []) old left (λ weather. refl);
       order = order;
+      failed = failed;
       written = written;
     }

@@ -1,10 +1,11 @@
 -- How a run ends, by how its lines ended and by why its board wasn't opened.
-use Rattle.std.proofs.Common.{◌≡◌, Result, Ok, Err, OnErr, OnOk, inl, inr, sym, subst, ◌∙◌, ap}
+use Rattle.std.proofs.Common.{ℕ, ◌≡◌, Result, Ok, Err, OnErr, OnOk, inl, inr, refl, sym, subst, ◌∙◌, ap}
 use Rattle.epoch.specs.declared.answer.OpenAnswer.{OpenAnswer}
 use Rattle.epoch.specs.declared.answer.OpenAnswer.TheVariants as answers
 use Rattle.board.specs.Moment.{View}
 use Rattle.epoch.specs.Forms.{Form}
-use Rattle.epoch.specs.Mounts.{IsKeptFromOpening, IsRefusedNow}
+use Rattle.epoch.specs.Mounts.{IsKeptFromOpening, IsRefusal, IsRefusedNow}
+use Rattle.tee_top.specs.Boards.{IsRefusedAt, IsRefusedByRule, IsRuleAnswer}
 use Rattle.tee_top.specs.Runs.{IsStopped, IsUnopened, ended_as, refusal_of}
 use Rattle.tee_top.specs.Stops.{IfRefused, UnlessRefused}
 use Rattle.tee_top.specs.declared.lines.Stop.{Stop}
@@ -68,16 +69,58 @@ refused_never why told (inr is) e = subst IsRefused (sym e ∙ ap refusal_of is)
 same_refusal : (why told : OpenAnswer) → StoreRefused why ≡ StoreRefused told → why ≡ told
 same_refusal why told same = cc
 
--- a run that is refused tells why its board wasn't opened
-pub refused_told : (f : Form) (view : View) (why told : OpenAnswer) → refusal_of why ≡ StoreRefused told → IsRefusedNow f view why → IsRefusedNow f view told
-refused_told f view (answers.TooSmall blocks) told same is = subst (IsRefusedNow f view) (same_refusal (answers.TooSmall blocks) told same) is
-refused_told f view (answers.NoVolume counter) told same is = subst (IsRefusedNow f view) (same_refusal (answers.NoVolume counter) told same) is
-refused_told f view (answers.BadHeader slot found kept) told same is = subst (IsRefusedNow f view) (same_refusal (answers.BadHeader slot found kept) told same) is
-refused_told f view (answers.UnknownVersion version) told same is = subst (IsRefusedNow f view) (same_refusal (answers.UnknownVersion version) told same) is
-refused_told f view (answers.Rollback sequence counter) told same is = subst (IsRefusedNow f view) (same_refusal (answers.Rollback sequence counter) told same) is
-refused_told f view (answers.Ahead sequence counter) told same is = subst (IsRefusedNow f view) (same_refusal (answers.Ahead sequence counter) told same) is
-refused_told f view answers.Failed told same is = absurd (subst IsRefused (sym same) tt)
-refused_told f view answers.NoMemory told same is = absurd (subst IsRefused (sym same) tt)
+-- a run that is refused tells an answer of the rule, the one that there was
+told_answer : (why told : OpenAnswer) → refusal_of why ≡ StoreRefused told → IsRuleAnswer why × (why ≡ told)
+told_answer (answers.TooSmall blocks) told same = (tt, same_refusal (answers.TooSmall blocks) told same)
+told_answer (answers.NoVolume counter) told same = (tt, same_refusal (answers.NoVolume counter) told same)
+told_answer (answers.BadHeader slot found kept) told same = (tt, same_refusal (answers.BadHeader slot found kept) told same)
+told_answer (answers.UnknownVersion version) told same = (tt, same_refusal (answers.UnknownVersion version) told same)
+told_answer (answers.Rollback sequence counter) told same = (tt, same_refusal (answers.Rollback sequence counter) told same)
+told_answer (answers.Ahead sequence counter) told same = (tt, same_refusal (answers.Ahead sequence counter) told same)
+told_answer answers.Failed told same = absurd (subst IsRefused (sym same) tt)
+told_answer answers.NoMemory told same = absurd (subst IsRefused (sym same) tt)
+
+pub answer_told : (why told : OpenAnswer) → refusal_of why ≡ StoreRefused told → IsRuleAnswer told
+answer_told why told same = let is = told_answer why told same in subst IsRuleAnswer is.1 is.0
+
+-- a refusal by an answer of the rule
+refused_at : (f : Form) (view : View) (counter : ℕ) (why : OpenAnswer) → IsRuleAnswer why → IsRefusal f view view.state.reads counter why → IsRefusedAt f view counter why
+refused_at f view counter (answers.TooSmall blocks) answer is = record { answer = answer; rule = is }
+refused_at f view counter (answers.NoVolume found) answer is = record { answer = answer; rule = is }
+refused_at f view counter (answers.BadHeader slot found kept) answer is = record { answer = answer; rule = is }
+refused_at f view counter (answers.UnknownVersion version) answer is = record { answer = answer; rule = is }
+refused_at f view counter (answers.Rollback sequence found) answer is = record { answer = answer; rule = is }
+refused_at f view counter (answers.Ahead sequence found) answer is = record { answer = answer; rule = is }
+refused_at f view counter answers.Failed answer is = absurd answer
+refused_at f view counter answers.NoMemory answer is = absurd answer
+
+refused_by : (f : Form) (view : View) (why : OpenAnswer) → IsRuleAnswer why → IsRefusedNow f view why → IsRefusedByRule f view why
+refused_by f view (answers.TooSmall blocks) answer is = record { counter = is.0; may_tell = is.1; refused = record { answer = answer; rule = is.2 } }
+refused_by f view (answers.NoVolume found) answer is = record { counter = is.0; may_tell = is.1; refused = record { answer = answer; rule = is.2 } }
+refused_by f view (answers.BadHeader slot found kept) answer is = record { counter = is.0; may_tell = is.1; refused = record { answer = answer; rule = is.2 } }
+refused_by f view (answers.UnknownVersion version) answer is = record { counter = is.0; may_tell = is.1; refused = record { answer = answer; rule = is.2 } }
+refused_by f view (answers.Rollback sequence found) answer is = record { counter = is.0; may_tell = is.1; refused = record { answer = answer; rule = is.2 } }
+refused_by f view (answers.Ahead sequence found) answer is = record { counter = is.0; may_tell = is.1; refused = record { answer = answer; rule = is.2 } }
+refused_by f view answers.Failed answer is = absurd answer
+refused_by f view answers.NoMemory answer is = absurd answer
+
+-- what is told is the rule's, over what was read at a counter, or over the board as it reads now
+pub rule_told : (f : Form) (view : View) (counter : ℕ) (why told : OpenAnswer) → refusal_of why ≡ StoreRefused told → IsRefusal f view view.state.reads counter why → IsRefusedAt f view counter told
+rule_told f view counter why told same is = let answer = told_answer why told same in subst (IsRefusedAt f view counter) answer.1 (refused_at f view counter why answer.0 is)
+
+pub refused_told : (f : Form) (view : View) (why told : OpenAnswer) → refusal_of why ≡ StoreRefused told → IsRefusedNow f view why → IsRefusedByRule f view told
+refused_told f view why told same is = let answer = told_answer why told same in subst (IsRefusedByRule f view) answer.1 (refused_by f view why answer.0 is)
+
+-- a run that tells of a failed board had an opening that failed
+pub failed_told : (why : OpenAnswer) → refusal_of why ≡ BoardFault → why ≡ answers.Failed
+failed_told (answers.TooSmall blocks) same = absurd (subst IsBoardFault (sym same) tt)
+failed_told (answers.NoVolume counter) same = absurd (subst IsBoardFault (sym same) tt)
+failed_told (answers.BadHeader slot found kept) same = absurd (subst IsBoardFault (sym same) tt)
+failed_told (answers.UnknownVersion version) same = absurd (subst IsBoardFault (sym same) tt)
+failed_told (answers.Rollback sequence counter) same = absurd (subst IsBoardFault (sym same) tt)
+failed_told (answers.Ahead sequence counter) same = absurd (subst IsBoardFault (sym same) tt)
+failed_told answers.Failed same = refl
+failed_told answers.NoMemory same = absurd (subst IsBoardFault (sym same) tt)
 
 -- a run whose board wasn't opened ends so
 pub never_opened : (why : OpenAnswer) → IsUnopened (refusal_of why)
@@ -113,6 +156,19 @@ module _ {X : Type 0} where
   ended_fault (Err stops.NoMemory) P e p = absurd (subst IsBoardFault (sym e) tt)
   ended_fault (Err stops.WriteFault) P e p = absurd (subst IsBoardFault (sym e) tt)
   ended_fault (Err (stops.Refused why)) P e p = (why, p)
+
+  pub ended_failed : (r : Result X Stop) (P : Type 0) → ended_as r ≡ BoardFault → IfRefused r (λ why. why ≡ answers.Failed → P) → P
+  ended_failed (Ok x) P e p = absurd (subst IsBoardFault (sym e) tt)
+  ended_failed (Err stops.NoMemory) P e p = absurd (subst IsBoardFault (sym e) tt)
+  ended_failed (Err stops.WriteFault) P e p = absurd (subst IsBoardFault (sym e) tt)
+  ended_failed (Err (stops.Refused why)) P e p = p (failed_told why e)
+
+  -- what is told of a board that wasn't opened again is an answer of the rule
+  pub ended_answer : (r : Result X Stop) (told : OpenAnswer) → ended_as r ≡ StoreRefused told → IsRuleAnswer told
+  ended_answer (Ok x) told e = absurd (subst IsRefused (sym e) tt)
+  ended_answer (Err stops.NoMemory) told e = absurd (subst IsRefused (sym e) tt)
+  ended_answer (Err stops.WriteFault) told e = absurd (subst IsRefused (sym e) tt)
+  ended_answer (Err (stops.Refused why)) told e = answer_told why told e
 
   -- the board wasn't opened again
   pub ended_refused : (r : Result X Stop) (P : OpenAnswer → Type 0) (told : OpenAnswer) → ended_as r ≡ StoreRefused told → IfRefused r P →

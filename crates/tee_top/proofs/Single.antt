@@ -203,12 +203,12 @@ module _ {A : Type 0} (behaviour : Behaviour A) where
       text = written.0;
       cut = record {
         done = [];
-        last = log_of behaviour w (Happens (event_of e h.kind) ∷ []);
-        few = subst (λ (log : List Item). length log ≤ 1) (sym one_log) (omega arith);
+        last = Happens (event_of e h.kind) ∷ [];
+        few = omega arith;
         all = refl;
         cut = written.0;
         rest = written.1;
-        piece = sym (text_is_log behaviour names w (Happens (event_of e h.kind) ∷ [])) ∙ one_text ∙ written.2;
+        piece = one_text ∙ written.2;
         here = refl;
       };
       written = written.3;

@@ -27,7 +27,7 @@ use Rattle.tee_top.proofs.Meeting.{IsThere, event_length, event_met, met_other, 
 
 -- the name of the application of this index, which can be told apart in a line from that of any other, and that no name has a line feed
 pub record IsNamed (names : List (List ℕ)) (app : ℕ) (name : List ℕ) : Type 0 where
-  here : slice_index_or names app [] ≡ name
+  pub here : slice_index_or names app [] ≡ name
   space : Lacks 32 name
   feed : Lacks 10 name
   no_board : name ≢ codes "board"

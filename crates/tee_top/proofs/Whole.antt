@@ -1,6 +1,6 @@
 -- The text of a run is the transcript in the weather that is read back from it.
 use Rattle.app_api.specs.Behaviours.{Behaviour}
-use Rattle.std.proofs.Common.{ℕ, ◌≡◌, ◌<◌, List, [], ◌++◌, Option, inl, length, refl, sym, subst, ◌∙◌, ap}
+use Rattle.std.proofs.Common.{ℕ, ◌≡◌, ◌<◌, List, [], ◌++◌, Option, inl, length, refl, sym, subst, ap, arith}
 use Rattle.std.specs.Io.KnownBytes.{Appends}
 use Rattle.std.proofs.KnownBytes.{Appends-nil}
 use Rattle.std.proofs.lemmas.List.{length-map}
@@ -22,7 +22,7 @@ use Rattle.tee_top.specs.Transcript.{Weather, WorldEvent, after_events, events_o
 use Rattle.tee_top.proofs.Agreed.{goes}
 use Rattle.tee_top.proofs.Weather.{cut_weather_read_back, weather_read_back}
 use Rattle.tee_top.proofs.Names.{hosts_can_name, not_board}
-use Rattle.tee_top.proofs.Parts.{cut_front, text_is_log}
+use Rattle.tee_top.proofs.Parts.{cut_log, text_is_log}
 
 module _ {A : Type 0} (behaviour : Behaviour A) (form : Form) (hosts : List (Host A)) (fit : HostsFit hosts) (seed : List ℕ) (stores : ℕ → Store) where
   abbrev names : List (List ℕ)
@@ -68,7 +68,7 @@ module _ {A : Type 0} (behaviour : Behaviour A) (form : Form) (hosts : List (Hos
   front_written script old new none run =
       let log : List Item = log_of behaviour begin run.made in
       let told : AreTold behaviour 0 begin run.made = subst (λ n. AreTold behaviour n begin run.made) none run.told in
-      let read = cut_weather_read_back names log run.text (hosts_can_name hosts fit) (not_board hosts fit) some_name run.known run.cut in
+      let read = cut_weather_read_back names log run.text (hosts_can_name hosts fit) (not_board hosts fit) some_name run.known (cut_log behaviour names begin run.made run.text run.cut) in
       let weather : Weather = weather_in names (whole_text run.text ++ read.0) in
       let events = run.by_weather weather (goes behaviour names weather begin run.made told run.known read.2) in
       record {
@@ -79,14 +79,13 @@ module _ {A : Type 0} (behaviour : Behaviour A) (form : Form) (hosts : List (Hos
         made = run.made;
         behind = events.0;
         first = events.1;
-        rest = run.cut.rest;
-        all = text_is_log behaviour names begin run.made ∙ cut_front names log run.text run.cut;
+        cut = run.cut;
         left = run.left;
       }
 
   -- the board wasn't opened again after a loss of power
   pub power_written : (script : List Line) (old new : Point) → old.powers ≡ 0 → IsRefusedIn behaviour form names script begin old new
-      → RunsToPower behaviour form hosts seed stores script new.view old.written new.written
+      → RunsToPower behaviour form hosts seed stores script old.view new.view old.written new.written
   power_written script old new none refused =
       let made : List WorldEvent = refused.run.made in
       let is = sym (same_events refused.front (LeavesStores form new.view) old refused.between none refused.run) in
@@ -98,6 +97,10 @@ module _ {A : Type 0} (behaviour : Behaviour A) (form : Form) (hosts : List (Hos
         text = text_of behaviour names begin made;
         appended = subst (λ after. Appends old.written after (text_of behaviour names begin made)) (sym refused.written) refused.run.written;
         all = ap (λ es. text_of behaviour names begin es) is;
+        between = refused.between.view;
+        board = subst (λ es. GoesAlong behaviour form old.view 0 begin es refused.between.view) is refused.run.board;
+        order = refused.order;
+        failed = refused.failed;
         left = subst (λ es. LeavesStores form new.view (after_events behaviour begin es)) is refused.run.stands;
       }
 
@@ -111,7 +114,6 @@ module _ {A : Type 0} (behaviour : Behaviour A) (form : Form) (hosts : List (Hos
     made = [];
     behind = events_by behaviour form hosts seed stores script (whole_text [] ++ []);
     first = refl;
-    rest = [];
-    all = refl;
+    cut = record { done = []; last = []; few = omega arith; all = refl; cut = []; rest = []; piece = refl; here = refl };
     left = left;
   }

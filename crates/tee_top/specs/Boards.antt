@@ -1,16 +1,20 @@
 -- The board along a run: its counts between two orders, and what a crash may leave of it.
 use Rattle.app_api.specs.Behaviours.{Behaviour}
-use Rattle.std.specs.Prelude.{ℕ, ◌≡◌, ◌≤◌, ◌+◌, ◌-◌, ◌%◌, ◌^◌, ◌⊎◌, List, [], ◌∷◌, ◌++◌, Option}
+use Rattle.std.specs.Prelude.{ℕ, ◌≡◌, ◌≤◌, ◌+◌, ◌-◌, ◌%◌, ◌^◌, ◌⊎◌, List, [], ◌∷◌, ◌++◌, Option, Err}
 use Rattle.std.specs.Io.KnownBytes.{Appends}
 use Rattle.alone.specs.Step.{Event, Called, Cancelled, Turned, TurnLost, Corrupted, Lost, Starved, Restarted}
 use Rattle.board.specs.Moment.{Outcome, View, IsCounter, IsLeft}
 use Rattle.board.specs.Runs.{Rests}
 use Rattle.epoch.specs.Forms.{Form, held_of}
 use Rattle.epoch.specs.Mounts.{IsAdmitted, OrderRun}
+use Rattle.epoch.specs.Opening.{opens_as}
+use Rattle.epoch.specs.declared.answer.OpenAnswer.{OpenAnswer}
+use Rattle.epoch.specs.declared.answer.OpenAnswer.TheVariants as answers
 use Rattle.script.specs.declared.line.Line.{Line}
 use Rattle.script.specs.declared.line.Line.TheVariants as lines
 use Rattle.store_api.specs.Stores.{Store}
 use Rattle.store_api.specs.Volumes.{Held}
+use Rattle.tee_base.specs.Faults.{Rose}
 use Rattle.tee_base.specs.declared.limits.TheConstants.{BOARD_BLOCKS}
 use Rattle.tee_core.specs.Opening.{IsSoundFor}
 use Rattle.tee_core.specs.Powers.{after_power}
@@ -102,6 +106,47 @@ pub record WritesLosses (before after : Option (List ℕ)) (old new : View) : Ty
   pub whole : whole_text text ≡ text
   pub later : old.state.faults ≤ new.state.faults
   pub faults : RoseBy (lost_lines text) old.state.faults new.state.faults
+
+-- the first opening failed: no order was made, and a call failed
+pub record FailsAtFirst (old new : View) : Type 0 where
+  pub orders : HasOrders [] old new
+  pub failed : Rose old.state.faults new.state.faults
+
+-- the opening at a line that loses the power failed: the orders of the lines before it were made, then its own, and behind that order
+-- a call failed
+pub record FailsAtPower (script : List Line) (old new : View) : Type 0 where
+  pub front : List Line
+  pub pick : ℕ
+  pub rest : List Line
+  pub split : script ≡ front ++ lines.Power pick ∷ rest
+  pub between : View
+  pub before : HasOrders (orders_of front) old between
+  pub order : OrderRun pick between new
+  pub failed : Rose between.state.faults new.state.faults
+
+-- ---- refusals
+
+-- the answers by which the opening rule refuses a board; a failed call and want of memory are none
+abbrev pub IsRuleAnswer : OpenAnswer → Type 0
+IsRuleAnswer (answers.TooSmall blocks) = Unit {0}
+IsRuleAnswer (answers.NoVolume counter) = Unit {0}
+IsRuleAnswer (answers.BadHeader slot found kept) = Unit {0}
+IsRuleAnswer (answers.UnknownVersion version) = Unit {0}
+IsRuleAnswer (answers.Rollback sequence counter) = Unit {0}
+IsRuleAnswer (answers.Ahead sequence counter) = Unit {0}
+IsRuleAnswer answers.Failed = ⊥
+IsRuleAnswer answers.NoMemory = ⊥
+
+-- the opening rule refuses a board over what it reads as, at this counter, and this is the rule's answer
+pub record IsRefusedAt (form : Form) (view : View) (counter : ℕ) (why : OpenAnswer) : Type 0 where
+  pub answer : IsRuleAnswer why
+  pub rule : opens_as form.version BOARD_BLOCKS view.size view.key view.state.reads counter ≡ Err why
+
+-- the same at a counter that the board may tell
+pub record IsRefusedByRule (form : Form) (view : View) (why : OpenAnswer) : Type 0 where
+  pub counter : ℕ
+  pub may_tell : IsCounter view.state counter
+  pub refused : IsRefusedAt form view counter why
 
 -- ---- images
 

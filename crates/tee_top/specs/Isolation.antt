@@ -1,18 +1,22 @@
 -- One application among others: its events, its lines of a script and its lines of the text that is written.
 use Rattle.app_api.specs.Behaviours.{Behaviour}
 use Rattle.std.specs.Prelude.{ℕ, ◌≡◌, ◌≢◌, ◌==◌, ◌&&◌, ◌||◌, Bool, true, false, List, [], ◌∷◌, ◌++◌, codes, is_some, if◌then◌else◌}
-use Rattle.std.specs.List.{filter, flat_map, slice_split}
+use Rattle.std.specs.List.{AllByRecursion, filter, flat_map, slice_split}
+use Rattle.app_api.specs.declared.host.Host.{Host}
 use Rattle.alone.specs.Machine.{Machine}
 use Rattle.alone.specs.Marks.{Marks}
 use Rattle.alone.specs.Runs.{events_of_call, machine_after, turns_of}
 use Rattle.alone.specs.Step.{Event, Called, Cancelled, Turned, TurnLost, Corrupted, Lost, Starved, Restarted}
+use Rattle.script.specs.Grammar.{names_of}
 use Rattle.script.specs.declared.line.Line.{Line}
 use Rattle.script.specs.declared.line.Line.TheVariants as lines
+use Rattle.store_api.specs.Stores.{Store}
 use Rattle.tee_core.specs.Happenings.{happenings}
 use Rattle.tee_core.specs.Powers.{kept_by}
-use Rattle.tee_core.specs.World.{AppEvent}
-use Rattle.tee_top.specs.BoardLines.{begins_with}
-use Rattle.tee_top.specs.Transcript.{Weather, WorldEvent, Fused, Happens, Powered, happened_lines}
+use Rattle.tee_core.specs.World.{AppEvent, world_of}
+use Rattle.tee_top.specs.BoardLines.{begins_with, weather_in, whole_lines}
+use Rattle.tee_top.specs.Parts.{HasNoDamage}
+use Rattle.tee_top.specs.Transcript.{Weather, WorldEvent, Fused, Happens, Powered, events_of, happened_lines, transcript}
 
 -- ---- lines of a text
 
@@ -33,6 +37,10 @@ is_under name line = begins_with (name ++ codes " ") line || is_mark_of name lin
 -- the lines of a text under a name, a line feed behind each
 abbrev pub lines_for : List ℕ → List ℕ → List ℕ
 lines_for name text = flat_map (λ line. line ++ codes "\n") (filter (is_under name) (slice_split (λ c. c == 10) text))
+
+-- no whole line of a text begins so
+abbrev pub HasNoLine : List ℕ → List ℕ → Type 0
+HasNoLine front text = AllByRecursion (λ line. begins_with front line ≡ false) (whole_lines text)
 
 -- ---- events
 
@@ -107,3 +115,13 @@ module _ {A : Type 0} (behaviour : Behaviour A) (marks : Marks) (kept : ℕ → 
   abbrev pub own_events : Machine A → List Line → List Event
   own_events m [] = []
   own_events m (line ∷ more) = let events = own_line_events m line in events ++ own_events (machine_after behaviour m events) more
+
+-- ---- texts of whole runs
+
+-- what was written of a script over these hosts and stores, in the weather that it tells itself and with no turn that met damage, as a
+-- run writes it that is Done on a sound board; no turn lost the storage, and none of the application of this name starved
+pub record IsCalmText {A : Type 0} (behaviour : Behaviour A) (hosts : List (Host A)) (seed : List ℕ) (stores : ℕ → Store) (script : List Line) (name text : List ℕ) : Type 0 where
+  pub all : text ≡ transcript behaviour (weather_in (names_of hosts) text) hosts seed stores script
+  pub undamaged : HasNoDamage (events_of behaviour (weather_in (names_of hosts) text) (world_of hosts seed stores) script)
+  pub lossless : HasNoLine (codes "board lost ") text
+  pub unstarved : HasNoLine (mark_front (codes "starve") name) text

@@ -1,6 +1,7 @@
 pub mod BoardLines
 pub mod Boards
 pub mod Isolation
+pub mod Layers
 pub mod Logs
 pub mod Parts
 pub mod Runs

@@ -1,7 +1,7 @@
 -- Parts of a run of a script: which events were made, how turns and losses of power went in them, what was written of them, and how
 -- the board went along.
 use Rattle.app_api.specs.Behaviours.{Behaviour}
-use Rattle.std.specs.Prelude.{ℕ, ◌≡◌, ◌+◌, List, [], ◌∷◌, ◌++◌, Option, None, Some, slice_get}
+use Rattle.std.specs.Prelude.{ℕ, ◌≡◌, ◌≤◌, ◌+◌, List, [], ◌∷◌, ◌++◌, Option, None, Some, length, slice_get}
 use Rattle.std.specs.Io.KnownBytes.{Appends}
 use Rattle.alone.specs.declared.power.Power.{Power}
 use Rattle.alone.specs.declared.power.Power.TheVariants.{Clean, Kept, Absent}
@@ -14,13 +14,14 @@ use Rattle.epoch.specs.Forms.{Form}
 use Rattle.epoch.specs.Mounts.{OrderRun}
 use Rattle.script.specs.declared.line.Line.{Line}
 use Rattle.script.specs.declared.line.Line.TheVariants as lines
+use Rattle.tee_base.specs.Faults.{Rose}
 use Rattle.tee_core.specs.declared.happened.Event.{Event as TeeEvent}
 use Rattle.tee_core.specs.declared.happened.Event.TheVariants as tee_events
 use Rattle.tee_core.specs.Happenings.{happening, is_corrupt_turn, is_lost_turn, is_starved_turn, kind_met}
 use Rattle.tee_core.specs.Powers.{after_power}
 use Rattle.tee_core.specs.World.{World, turn_events, world_step}
 use Rattle.tee_top.specs.Boards.{GoesAlong, LeavesStores}
-use Rattle.tee_top.specs.Logs.{AreKnown, Item, IsWrittenOf, OfApp, OfBoard}
+use Rattle.tee_top.specs.Logs.{AreKnown, Item, OfApp, OfBoard}
 use Rattle.tee_top.specs.Transcript.{Weather, WorldEvent, Fused, Happens, Powered, after_event, after_events, events_of, happens, owner_in_doubt, powers_in, text_of, told_by}
 
 -- the turn of this number is marked as one of this kind
@@ -119,6 +120,18 @@ module _ {A : Type 0} (behaviour : Behaviour A) where
   step_events weather world (tee_events.Cancel app op) = Happens (record { app = app; event = Cancelled op }) ∷ []
   step_events weather world (tee_events.Turn app instance) = happens (turn_events behaviour (weather.marks app) world app instance 1)
 
+module _ {A : Type 0} (behaviour : Behaviour A) (names : List (List ℕ)) (world : World A) (made : List WorldEvent) where
+  -- the text of events, of which the last alone may not have been written to its end
+  pub record IsTextOfAllBut (text : List ℕ) : Type 0 where
+    pub done : List WorldEvent
+    pub last : List WorldEvent
+    pub few : length last ≤ 1
+    pub all : made ≡ done ++ last
+    pub cut : List ℕ
+    pub rest : List ℕ
+    pub piece : text_of behaviour names (after_events behaviour world done) last ≡ cut ++ rest
+    pub here : text ≡ text_of behaviour names world done ++ cut
+
 -- where a run stands: how often the power was lost, the board, and what was written
 pub record Point : Type 0 where
   pub powers : ℕ
@@ -151,11 +164,11 @@ module _ {A : Type 0} (behaviour : Behaviour A) (form : Form) (names : List (Lis
     pub undamaged : HasNoDamage made
     pub left : LeavesStores form new.view (after_events behaviour world made)
     pub text : List ℕ
-    pub cut : IsWrittenOf names (log_of behaviour world made) text
+    pub cut : IsTextOfAllBut behaviour names world made text
     pub written : Appends old.written new.written text
     pub by_weather : (weather : Weather) → AgreeWith behaviour weather world made → (rest : List WorldEvent) × (events weather ≡ made ++ rest)
 
-  -- the lines before one of a power were run, and then the board lost its power and wasn't opened again
+  -- the lines before one of a power were run, and then the board lost its power, and a call of it failed before it was opened again
   pub record IsRefusedIn (script : List Line) (world : World A) (old new : Point) : Type 0 where
     pub front : List Line
     pub pick : ℕ
@@ -164,4 +177,5 @@ module _ {A : Type 0} (behaviour : Behaviour A) (form : Form) (names : List (Lis
     pub between : Point
     pub run : IsRunOf (λ weather. events_of behaviour weather world front) world (LeavesStores form new.view) old between
     pub order : OrderRun pick between.view new.view
+    pub failed : Rose between.view.state.faults new.view.state.faults
     pub written : new.written ≡ between.written

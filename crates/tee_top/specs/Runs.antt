@@ -13,13 +13,14 @@ use Rattle.script.specs.declared.dialect.Dialect.TheVariants.{Whole}
 use Rattle.script.specs.Grammar.{FirstBad, Reads, names_of}
 use Rattle.board.specs.Moment.{View}
 use Rattle.epoch.specs.Forms.{Form}
+use Rattle.epoch.specs.Mounts.{OrderRun}
 use Rattle.epoch.specs.declared.answer.OpenAnswer.{OpenAnswer}
 use Rattle.epoch.specs.declared.answer.OpenAnswer.TheVariants as answers
 use Rattle.tee_core.specs.World.{World, world_of}
 use Rattle.tee_top.specs.Boards.{GoesAlong, LeavesStores}
 use Rattle.tee_top.specs.BoardLines.{IsBoardLineOrNone, weather_in, whole_text}
-use Rattle.tee_top.specs.Parts.{HasNoDamage}
-use Rattle.tee_top.specs.Transcript.{WorldEvent, after_events, events_of, text_of, transcript}
+use Rattle.tee_top.specs.Parts.{HasNoDamage, IsTextOfAllBut}
+use Rattle.tee_top.specs.Transcript.{WorldEvent, after_events, events_of, transcript}
 use Rattle.tee_top.specs.declared.lines.Stop.{Stop}
 use Rattle.tee_top.specs.declared.lines.Stop.TheVariants as stops
 use Rattle.tee_top.specs.declared.status.Status.{Status}
@@ -172,8 +173,8 @@ module _ {A : Type 0} (behaviour : Behaviour A) (form : Form) (hosts : List (Hos
     pub left : LeavesStores form new (after_events behaviour begin (events_by text))
 
   -- the first events of the script were made, in the weather that the whole lines of the text that was appended tell, and at most one
-  -- line of the board further. The text is a front of theirs, and what a crash may leave of the board has the stores of the world
-  -- behind them
+  -- line of the board further. The text is theirs, and at most that of the last wasn't written to its end; and what a crash may leave
+  -- of the board has the stores of the world behind them
   pub record RunsFront (new : View) (before after : Option (List ℕ)) : Type 0 where
     pub text : List ℕ
     pub appended : Appends before after text
@@ -182,8 +183,7 @@ module _ {A : Type 0} (behaviour : Behaviour A) (form : Form) (hosts : List (Hos
     pub made : List WorldEvent
     pub behind : List WorldEvent
     pub first : events_by (whole_text text ++ further) ≡ made ++ behind
-    pub rest : List ℕ
-    pub all : text_of behaviour (names_of hosts) begin made ≡ text ++ rest
+    pub cut : IsTextOfAllBut behaviour (names_of hosts) begin made text
     pub left : LeavesStores form new (after_events behaviour begin made)
 
 -- this is so of the script that the source held
@@ -198,9 +198,9 @@ IsKnown count (lines.Cancel app client op) = app < count
 IsKnown count (lines.Fuse calls) = Unit {0}
 IsKnown count (lines.Power pick) = Unit {0}
 
--- the lines before one of a power were run to their end, and then the board lost its power, and a call of it failed before it was
--- opened again: a crash may leave the stores of the world behind these lines
-pub record RunsToPower {A : Type 0} (behaviour : Behaviour A) (form : Form) (hosts : List (Host A)) (seed : List ℕ) (stores : ℕ → Store) (script : List Line) (new : View)
+-- the lines before one of a power were run to their end, and the board went along with them. Then its order was made, and a call of
+-- the board failed behind it, before the board was opened again: a crash may leave the stores of the world behind these lines
+pub record RunsToPower {A : Type 0} (behaviour : Behaviour A) (form : Form) (hosts : List (Host A)) (seed : List ℕ) (stores : ℕ → Store) (script : List Line) (old new : View)
     (before after : Option (List ℕ)) : Type 0 where
   pub front : List Line
   pub pick : ℕ
@@ -209,4 +209,8 @@ pub record RunsToPower {A : Type 0} (behaviour : Behaviour A) (form : Form) (hos
   pub text : List ℕ
   pub appended : Appends before after text
   pub all : text ≡ transcript_by behaviour form hosts seed stores front text
+  pub between : View
+  pub board : GoesAlong behaviour form old 0 (world_of hosts seed stores) (events_by behaviour form hosts seed stores front text) between
+  pub order : OrderRun pick between new
+  pub failed : Rose between.state.faults new.state.faults
   pub left : LeavesStores form new (after_events behaviour (world_of hosts seed stores) (events_by behaviour form hosts seed stores front text))

@@ -8,7 +8,7 @@ ghost use Rattle.alone.specs.Machine.{start};
 ghost use Rattle.alone.specs.Marks.{SameAt};
 ghost use Rattle.script.specs.declared.line.Line.{Line};
 ghost use Rattle.tee_core.specs.World.{world_of};
-ghost use Rattle.tee_top.specs.Isolation.{OthersLoseNone, events_for, lines_for, own_events, own_lines, own_text};
+ghost use Rattle.tee_top.specs.Isolation.{IsCalmText, OthersLoseNone, events_for, lines_for, own_events, own_lines, own_text};
 ghost use Rattle.tee_top.specs.Transcript.{Weather, events_of, transcript};
 
 use app_api::Application;
@@ -17,7 +17,8 @@ use app_api::Application;
 /// another's events it meets a lost turn alone, as a loss of its own storage, and of the board a loss of power, as a restart. Where
 /// no turn of another is lost, all of it follows from its host and its index, the seed, its own store, its own lines of the script
 /// and those of losses of power, how its own turns go, and which losses of power kept its change in doubt: the other hosts, their
-/// stores, their lines and their turns change none of it. It does nothing.
+/// stores, their lines and their turns change none of it. So of two texts that runs wrote to their ends, without a turn that lost
+/// the storage and a starved turn of the application, its lines are equal where these are. It does nothing.
 pub fn applications_are_apart<A: Application>()
     ensures own_events { (hosts : List (Host A)) (seed : List ℕ) (stores : ℕ → Store)
         (script : List Line) (weather : Weather) (app : ℕ) (host : Host A)
@@ -42,4 +43,13 @@ pub fn applications_are_apart<A: Application>()
         → lines_for host.name (transcript A.behaviour weather hosts seed stores script)
         ≡ lines_for host.name
         (transcript A.behaviour weather_then others seed stores_then script_then) }
+    // the sentence of two texts
+    ensures texts { (hosts others : List (Host A)) (seed : List ℕ) (stores stores_then : ℕ → Store)
+        (script script_then : List Line) (text text_then : List ℕ) (app : ℕ) (host : Host A)
+        → HostsFit hosts → HostsFit others → slice_get hosts app ≡ Some host
+        → slice_get others app ≡ Some host → stores app ≡ stores_then app
+        → own_lines app script ≡ own_lines app script_then
+        → IsCalmText A.behaviour hosts seed stores script host.name text
+        → IsCalmText A.behaviour others seed stores_then script_then host.name text_then
+        → lines_for host.name text ≡ lines_for host.name text_then }
 {}

@@ -1,11 +1,14 @@
 //! The run of a script: from the words of a command line and the bytes of a source to the bytes of a sink.
 #![tactic(auto)]
 
+mod blank;
 mod isolation;
 mod lines;
+mod output;
 mod run;
 mod status;
 
+pub use blank::blank_boards_begin;
 pub use isolation::applications_are_apart;
 pub use run::run_tee;
 pub use status::{Status, status_line};

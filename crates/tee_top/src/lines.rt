@@ -1,36 +1,29 @@
 //! Lines, one after the other: what happens in a line is written before the next line is run, and what happens in each event of
 //! a line before the next event is made.
 
-ghost use Rattle.std.specs.Prelude.{◌≡◌, ◌≤◌, ◌<◌, ◌+◌, ◌^◌, ◌↔◌, ℕ, IfOk, IsErrOf, IsTrue, Some, [], ◌∷◌, OnErr, OnOk, length, slice_get, slice_index_or};
-ghost use Rattle.std.specs.Io.KnownBytes.{Appends};
+ghost use Rattle.std.specs.Prelude.{◌≡◌, ◌≤◌, ◌<◌, ◌+◌, ◌^◌, ◌↔◌, ℕ, IfOk, IsTrue, Some, [], ◌∷◌, length, slice_get, slice_index_or};
 ghost use Rattle.std.specs.List.{AllByRecursion};
-ghost use Rattle.tee_base.specs.Faults.{Rose};
-ghost use Rattle.tee_base.specs.Transfer.{AppendsFront};
 ghost use Rattle.alone.specs.Machine.{Machine};
 ghost use Rattle.alone.specs.Runs.{most_turns};
 ghost use Rattle.alone.specs.Step.{called};
 ghost use Rattle.app_api.specs.declared.call.Call.{Call as ClientCall};
-ghost use Rattle.epoch.specs.Mounts.{IsRefusedNow};
-ghost use Rattle.epoch.specs.declared.answer.OpenAnswer.TheVariants as answers;
-ghost use Rattle.tee_core.specs.Represents.{app_count, app_of, boots_of, turns_made, volume_of, Represents};
+ghost use Rattle.tee_core.specs.Represents.{app_count, app_of, turns_made, Represents};
 ghost use Rattle.tee_core.specs.World.{World, turn_events};
 ghost use Rattle.tee_top.specs.BoardLines.{AreFirstWords};
-ghost use Rattle.tee_top.specs.Boards.{HasFirstOrders, HasOrders, HasPower, WritesLosses, order_of, orders_of};
-ghost use Rattle.tee_top.specs.Parts.{IsRefusedIn, IsRunOf, StopsIn, point, step_events};
+ghost use Rattle.tee_top.specs.Layers.{MakesEvents, RunsLines, point_of};
+ghost use Rattle.tee_top.specs.Parts.{step_events};
 ghost use Rattle.tee_top.specs.Runs.{IsKnown};
-ghost use Rattle.tee_top.specs.Stops.{IfRefused, IsNoRefusal, UnlessRefused};
-ghost use Rattle.tee_top.specs.Transcript.{events_of, happened_lines, happens, line_events, owner_name, power_line as power_text_of, replies_text, until_events};
+ghost use Rattle.tee_top.specs.Transcript.{events_of, happens, line_events, until_events};
 
-use alone::{Power, Reply};
+use crate::output::{write_happened, write_power};
 use app_api::{Application, Call};
 use board::Board;
 use epoch::{BoardVolume, OpenAnswer};
-use report::{happened_line, power_line, reply_line};
 use script::Line;
 use std::alloc::Global;
 use std::collections::VecDeque;
-use tee_base::{Bytes, NoMemory, Sink, WriteFault, limits, write_all};
-use tee_core::{Event, Happened, TeeOver};
+use tee_base::{Bytes, NoMemory, Sink, limits};
+use tee_core::{Event, TeeOver};
 
 /// Why the lines were not all run.
 #[derive(Clone, Copy)]
@@ -63,98 +56,6 @@ fn has_room<B: Board, V: BoardVolume<B>, A: Application>(tee: &TeeOver<B, V, A>,
     tee.turns(app) < MOST_TURNS
 }
 
-/// Writes bytes.
-fn write_bytes<W: Sink>(sink: &mut W, bytes: &[u8]) -> Result<(), Stop>
-    ensures ok { OnOk result (Appends (W.written sink.old) (W.written sink.new) bytes.now) }
-    ensures err { OnErr result (AppendsFront bytes.now (W.written sink.old) (W.written sink.new)) }
-    ensures fault { IsErrOf result Stop.WriteFault
-        → Rose (W.failures sink.old) (W.failures sink.new) }
-    ensures later { W.failures sink.old ≤ W.failures sink.new }
-    ensures served { IsNoRefusal result }
-{
-    match write_all(sink, bytes) {
-        Ok(()) => Ok(()),
-        Err(WriteFault) => Err(Stop::WriteFault),
-    }
-}
-
-/// Writes the lines of these replies.
-fn write_replies<W: Sink>(
-    alloc: Global,
-    name: &[u8],
-    replies: &[Reply],
-    sink: &mut W,
-) -> Result<(), Stop>
-    ensures ok { OnOk result (Appends (W.written sink.old) (W.written sink.new)
-        (replies_text name.now replies.now)) }
-    ensures err { OnErr result (AppendsFront (replies_text name.now replies.now)
-        (W.written sink.old) (W.written sink.new)) }
-    ensures fault { IsErrOf result Stop.WriteFault
-        → Rose (W.failures sink.old) (W.failures sink.new) }
-    ensures later { W.failures sink.old ≤ W.failures sink.new }
-    ensures served { IsNoRefusal result }
-{
-    for reply in replies {
-        let line = reply_line(alloc, name, reply)?;
-        write_bytes(sink, line.as_slice())?;
-    }
-    Ok(())
-}
-
-/// Writes what happened: that the turn was lost, damaged or starved, where it was, and then the lines of the replies.
-fn write_happened<W: Sink>(
-    alloc: Global,
-    name: &[u8],
-    happened: &Happened,
-    sink: &mut W,
-) -> Result<(), Stop>
-    ensures ok { OnOk result (Appends (W.written sink.old) (W.written sink.new)
-        (happened_lines name.now happened.now)) }
-    ensures err { OnErr result (AppendsFront (happened_lines name.now happened.now)
-        (W.written sink.old) (W.written sink.new)) }
-    ensures fault { IsErrOf result Stop.WriteFault
-        → Rose (W.failures sink.old) (W.failures sink.new) }
-    ensures later { W.failures sink.old ≤ W.failures sink.new }
-    ensures served { IsNoRefusal result }
-{
-    let mark = happened_line(alloc, name, happened.kind, happened.turn)?;
-    write_bytes(sink, mark.as_slice())?;
-    write_replies(alloc, name, happened.replies.as_slice(), sink)
-}
-
-/// The name of the application whose change was in doubt; none where none was.
-fn owner_name(names: &[Bytes], told: Power) -> &[u8]
-    ensures { result.now ≡ owner_name names.now told }
-{
-    match told {
-        Power::Clean => &[],
-        Power::Kept(owner) | Power::Absent(owner) => match names.get(owner as usize) {
-            Some(name) => name.as_slice(),
-            None => &[],
-        },
-    }
-}
-
-/// Writes the line of a loss of power.
-fn write_power<W: Sink>(
-    alloc: Global,
-    names: &[Bytes],
-    told: Power,
-    sink: &mut W,
-) -> Result<(), Stop>
-    ensures ok { OnOk result (Appends (W.written sink.old) (W.written sink.new)
-        (power_text_of names.now told)) }
-    ensures err { OnErr result (AppendsFront (power_text_of names.now told)
-        (W.written sink.old) (W.written sink.new)) }
-    ensures fault { IsErrOf result Stop.WriteFault
-        → Rose (W.failures sink.old) (W.failures sink.new) }
-    ensures later { W.failures sink.old ≤ W.failures sink.new }
-    ensures served { IsNoRefusal result }
-{
-    let line = power_line(alloc, owner_name(names, told), told)?;
-    write_bytes(sink, line.as_slice())
-}
-
 /// The name of the application of this index.
 fn name_of(names: &[Bytes], app: u8) -> &[u8]
     requires { app < length names.now }
@@ -181,35 +82,15 @@ fn run_event<B: Board, V: BoardVolume<B>, A: Application, W: Sink>(
     requires words { AreFirstWords names.now }
     requires known { app < app_count tee.old }
     requires own { app_of event ≡ app }
-    ensures whole { OnOk result ((world : World A) → Represents tee.old world
-        → IsRunOf A.behaviour V.form names.now
-        (λ weather. step_events A.behaviour weather world event)
-        world (λ after. Represents tee.new after)
-        (point (boots_of tee.old) (B.view (V.board_of (volume_of tee.old))) (W.written sink.old))
-        (point (boots_of tee.new) (B.view (V.board_of (volume_of tee.new))) (W.written sink.new))) }
-    ensures stopped { OnErr result ((world : World A) → Represents tee.old world
-        → StopsIn A.behaviour V.form names.now
-        (λ weather. step_events A.behaviour weather world event)
-        world
-        (point (boots_of tee.old) (B.view (V.board_of (volume_of tee.old))) (W.written sink.old))
-        (point (boots_of tee.new) (B.view (V.board_of (volume_of tee.new))) (W.written sink.new))) }
+    ensures made { MakesEvents A.behaviour V.form names.now
+        (λ world weather. step_events A.behaviour weather world event) result
+        (point_of B.view B.honest V.board_of W.written W.failures tee.old sink.old)
+        (point_of B.view B.honest V.board_of W.written W.failures tee.new sink.new) }
     // the number of the operation that is called, and the instance for which it waits
     ensures called { IfOk result (λ made. (world : World A) (m : Machine A) (client : ℕ)
         (call : ClientCall) → Represents tee.old world → slice_get world app ≡ Some m
         → event ≡ Event.Call app client call
         → (made.0 ≡ m.queue.next) × (made.1 ≡ (called m client call).instance)) }
-    ensures orders { HasOrders [] (B.view (V.board_of (volume_of tee.old)))
-        (B.view (V.board_of (volume_of tee.new))) }
-    ensures losses { OnOk result (WritesLosses (W.written sink.old) (W.written sink.new)
-        (B.view (V.board_of (volume_of tee.old)))
-        (B.view (V.board_of (volume_of tee.new)))) }
-    ensures served { IsNoRefusal result }
-    ensures honest { B.honest (V.board_of (volume_of tee.old))
-        → B.honest (V.board_of (volume_of tee.new)) }
-    ensures apps { app_count tee.new ≡ app_count tee.old }
-    ensures fault { IsErrOf result Stop.WriteFault
-        → Rose (W.failures sink.old) (W.failures sink.new) }
-    ensures later { W.failures sink.old ≤ W.failures sink.new }
 {
     if !has_room(tee, app) {
         drop(event);
@@ -236,30 +117,11 @@ fn run_turns<B: Board, V: BoardVolume<B>, A: Application, W: Sink>(
     requires names { length names.now ≡ app_count tee.old }
     requires words { AreFirstWords names.now }
     requires known { app < app_count tee.old }
-    ensures whole { OnOk result ((world : World A) → Represents tee.old world
-        → IsRunOf A.behaviour V.form names.now
-        (λ weather. happens (turn_events A.behaviour (weather.marks app) world app instance count))
-        world (λ after. Represents tee.new after)
-        (point (boots_of tee.old) (B.view (V.board_of (volume_of tee.old))) (W.written sink.old))
-        (point (boots_of tee.new) (B.view (V.board_of (volume_of tee.new))) (W.written sink.new))) }
-    ensures stopped { OnErr result ((world : World A) → Represents tee.old world
-        → StopsIn A.behaviour V.form names.now
-        (λ weather. happens (turn_events A.behaviour (weather.marks app) world app instance count))
-        world
-        (point (boots_of tee.old) (B.view (V.board_of (volume_of tee.old))) (W.written sink.old))
-        (point (boots_of tee.new) (B.view (V.board_of (volume_of tee.new))) (W.written sink.new))) }
-    ensures orders { HasOrders [] (B.view (V.board_of (volume_of tee.old)))
-        (B.view (V.board_of (volume_of tee.new))) }
-    ensures losses { OnOk result (WritesLosses (W.written sink.old) (W.written sink.new)
-        (B.view (V.board_of (volume_of tee.old)))
-        (B.view (V.board_of (volume_of tee.new)))) }
-    ensures served { IsNoRefusal result }
-    ensures honest { B.honest (V.board_of (volume_of tee.old))
-        → B.honest (V.board_of (volume_of tee.new)) }
-    ensures apps { app_count tee.new ≡ app_count tee.old }
-    ensures fault { IsErrOf result Stop.WriteFault
-        → Rose (W.failures sink.old) (W.failures sink.new) }
-    ensures later { W.failures sink.old ≤ W.failures sink.new }
+    ensures { MakesEvents A.behaviour V.form names.now
+        (λ world weather. happens (turn_events A.behaviour (weather.marks app) world app instance
+        count)) result
+        (point_of B.view B.honest V.board_of W.written W.failures tee.old sink.old)
+        (point_of B.view B.honest V.board_of W.written W.failures tee.new sink.new) }
 {
     for _ in 0..count {
         run_event(alloc, names, tee, app, Event::Turn { app, instance }, sink)?;
@@ -280,30 +142,11 @@ fn run_until<B: Board, V: BoardVolume<B>, A: Application, W: Sink>(
     requires names { length names.now ≡ app_count tee.old }
     requires words { AreFirstWords names.now }
     requires known { app < app_count tee.old }
-    ensures whole { OnOk result ((world : World A) → Represents tee.old world
-        → IsRunOf A.behaviour V.form names.now
-        (λ weather. until_events A.behaviour (weather.marks app) world app instance op most_turns)
-        world (λ after. Represents tee.new after)
-        (point (boots_of tee.old) (B.view (V.board_of (volume_of tee.old))) (W.written sink.old))
-        (point (boots_of tee.new) (B.view (V.board_of (volume_of tee.new))) (W.written sink.new))) }
-    ensures stopped { OnErr result ((world : World A) → Represents tee.old world
-        → StopsIn A.behaviour V.form names.now
-        (λ weather. until_events A.behaviour (weather.marks app) world app instance op most_turns)
-        world
-        (point (boots_of tee.old) (B.view (V.board_of (volume_of tee.old))) (W.written sink.old))
-        (point (boots_of tee.new) (B.view (V.board_of (volume_of tee.new))) (W.written sink.new))) }
-    ensures orders { HasOrders [] (B.view (V.board_of (volume_of tee.old)))
-        (B.view (V.board_of (volume_of tee.new))) }
-    ensures losses { OnOk result (WritesLosses (W.written sink.old) (W.written sink.new)
-        (B.view (V.board_of (volume_of tee.old)))
-        (B.view (V.board_of (volume_of tee.new)))) }
-    ensures served { IsNoRefusal result }
-    ensures honest { B.honest (V.board_of (volume_of tee.old))
-        → B.honest (V.board_of (volume_of tee.new)) }
-    ensures apps { app_count tee.new ≡ app_count tee.old }
-    ensures fault { IsErrOf result Stop.WriteFault
-        → Rose (W.failures sink.old) (W.failures sink.new) }
-    ensures later { W.failures sink.old ≤ W.failures sink.new }
+    ensures { MakesEvents A.behaviour V.form names.now
+        (λ world weather. until_events A.behaviour (weather.marks app) world app instance op
+        most_turns) result
+        (point_of B.view B.honest V.board_of W.written W.failures tee.old sink.old)
+        (point_of B.view B.honest V.board_of W.written W.failures tee.new sink.new) }
 {
     for _ in 0..limits::MAX_CALL_TURNS {
         if tee.answered(app, op) {
@@ -328,30 +171,11 @@ fn run_call<B: Board, V: BoardVolume<B>, A: Application, W: Sink>(
     requires names { length names.now ≡ app_count tee.old }
     requires words { AreFirstWords names.now }
     requires known { app < app_count tee.old }
-    ensures whole { OnOk result ((world : World A) → Represents tee.old world
-        → IsRunOf A.behaviour V.form names.now
-        (λ weather. line_events A.behaviour weather world (Line.Call app client post call))
-        world (λ after. Represents tee.new after)
-        (point (boots_of tee.old) (B.view (V.board_of (volume_of tee.old))) (W.written sink.old))
-        (point (boots_of tee.new) (B.view (V.board_of (volume_of tee.new))) (W.written sink.new))) }
-    ensures stopped { OnErr result ((world : World A) → Represents tee.old world
-        → StopsIn A.behaviour V.form names.now
-        (λ weather. line_events A.behaviour weather world (Line.Call app client post call))
-        world
-        (point (boots_of tee.old) (B.view (V.board_of (volume_of tee.old))) (W.written sink.old))
-        (point (boots_of tee.new) (B.view (V.board_of (volume_of tee.new))) (W.written sink.new))) }
-    ensures orders { HasOrders [] (B.view (V.board_of (volume_of tee.old)))
-        (B.view (V.board_of (volume_of tee.new))) }
-    ensures losses { OnOk result (WritesLosses (W.written sink.old) (W.written sink.new)
-        (B.view (V.board_of (volume_of tee.old)))
-        (B.view (V.board_of (volume_of tee.new)))) }
-    ensures served { IsNoRefusal result }
-    ensures honest { B.honest (V.board_of (volume_of tee.old))
-        → B.honest (V.board_of (volume_of tee.new)) }
-    ensures apps { app_count tee.new ≡ app_count tee.old }
-    ensures fault { IsErrOf result Stop.WriteFault
-        → Rose (W.failures sink.old) (W.failures sink.new) }
-    ensures later { W.failures sink.old ≤ W.failures sink.new }
+    ensures { MakesEvents A.behaviour V.form names.now
+        (λ world weather. line_events A.behaviour weather world (Line.Call app client post call))
+        result
+        (point_of B.view B.honest V.board_of W.written W.failures tee.old sink.old)
+        (point_of B.view B.honest V.board_of W.written W.failures tee.new sink.new) }
 {
     let (op, instance) = run_event(
         alloc,
@@ -383,42 +207,10 @@ fn run_power<B: Board, V: BoardVolume<B>, A: Application, W: Sink>(
     requires names { length names.now ≡ app_count tee.old }
     requires words { AreFirstWords names.now }
     requires some { 0 < app_count tee.old }
-    ensures whole { OnOk result ((world : World A) → Represents tee.old world
-        → IsRunOf A.behaviour V.form names.now
-        (λ weather. line_events A.behaviour weather world (Line.Power pick))
-        world (λ after. Represents tee.new after)
-        (point (boots_of tee.old) (B.view (V.board_of (volume_of tee.old))) (W.written sink.old))
-        (point (boots_of tee.new) (B.view (V.board_of (volume_of tee.new))) (W.written sink.new))) }
-    ensures stopped { UnlessRefused result ((world : World A) → Represents tee.old world
-        → StopsIn A.behaviour V.form names.now
-        (λ weather. line_events A.behaviour weather world (Line.Power pick))
-        world
-        (point (boots_of tee.old) (B.view (V.board_of (volume_of tee.old))) (W.written sink.old))
-        (point (boots_of tee.new) (B.view (V.board_of (volume_of tee.new))) (W.written sink.new))) }
-    ensures refused { IfRefused result (λ why. (world : World A) → Represents tee.old world
-        → IsRefusedIn A.behaviour V.form names.now (Line.Power pick ∷ []) world
-        (point (boots_of tee.old) (B.view (V.board_of (volume_of tee.old))) (W.written sink.old))
-        (point (boots_of tee.new) (B.view (V.board_of (volume_of tee.new))) (W.written sink.new))
-        × (why ≡ answers.Failed)) }
-    ensures refusal { IfRefused result (λ why. B.honest (V.board_of (volume_of tee.old))
-        → IsRefusedNow V.form (B.view (V.board_of (volume_of tee.new))) why) }
-    ensures honest { B.honest (V.board_of (volume_of tee.old))
-        → B.honest (V.board_of (volume_of tee.new)) }
-    ensures cause { IfRefused result (λ why. why ≡ answers.Failed
-        → Rose (B.view (V.board_of (volume_of tee.old))).state.faults
-        (B.view (V.board_of (volume_of tee.new))).state.faults) }
-    ensures orders { OnOk result (HasOrders (pick ∷ []) (B.view (V.board_of (volume_of tee.old)))
-        (B.view (V.board_of (volume_of tee.new)))) }
-    ensures first_orders { OnErr result (HasFirstOrders (Line.Power pick ∷ [])
-        (B.view (V.board_of (volume_of tee.old)))
-        (B.view (V.board_of (volume_of tee.new)))) }
-    ensures losses { OnOk result (WritesLosses (W.written sink.old) (W.written sink.new)
-        (B.view (V.board_of (volume_of tee.old)))
-        (B.view (V.board_of (volume_of tee.new)))) }
-    ensures apps { app_count tee.new ≡ app_count tee.old }
-    ensures fault { IsErrOf result Stop.WriteFault
-        → Rose (W.failures sink.old) (W.failures sink.new) }
-    ensures later { W.failures sink.old ≤ W.failures sink.new }
+    ensures { RunsLines A.behaviour V.form names.now (Line.Power pick ∷ [])
+        (λ world weather. line_events A.behaviour weather world (Line.Power pick)) result
+        (point_of B.view B.honest V.board_of W.written W.failures tee.old sink.old)
+        (point_of B.view B.honest V.board_of W.written W.failures tee.new sink.new) }
 {
     if tee.boots() == u32::MAX {
         return Err(Stop::NoMemory);
@@ -441,44 +233,10 @@ fn run_line<B: Board, V: BoardVolume<B>, A: Application, W: Sink>(
     requires words { AreFirstWords names.now }
     requires some { 0 < app_count tee.old }
     requires known { IsKnown (app_count tee.old) line }
-    ensures whole { OnOk result ((world : World A) → Represents tee.old world
-        → IsRunOf A.behaviour V.form names.now
-        (λ weather. line_events A.behaviour weather world line)
-        world (λ after. Represents tee.new after)
-        (point (boots_of tee.old) (B.view (V.board_of (volume_of tee.old))) (W.written sink.old))
-        (point (boots_of tee.new) (B.view (V.board_of (volume_of tee.new))) (W.written sink.new))) }
-    ensures stopped { UnlessRefused result ((world : World A) → Represents tee.old world
-        → StopsIn A.behaviour V.form names.now
-        (λ weather. line_events A.behaviour weather world line)
-        world
-        (point (boots_of tee.old) (B.view (V.board_of (volume_of tee.old))) (W.written sink.old))
-        (point (boots_of tee.new) (B.view (V.board_of (volume_of tee.new))) (W.written sink.new))) }
-    ensures refused { IfRefused result (λ why. (world : World A) → Represents tee.old world
-        → IsRefusedIn A.behaviour V.form names.now (line ∷ []) world
-        (point (boots_of tee.old) (B.view (V.board_of (volume_of tee.old))) (W.written sink.old))
-        (point (boots_of tee.new) (B.view (V.board_of (volume_of tee.new))) (W.written sink.new))
-        × (why ≡ answers.Failed)) }
-    ensures refusal { IfRefused result (λ why. B.honest (V.board_of (volume_of tee.old))
-        → IsRefusedNow V.form (B.view (V.board_of (volume_of tee.new))) why) }
-    ensures honest { B.honest (V.board_of (volume_of tee.old))
-        → B.honest (V.board_of (volume_of tee.new)) }
-    ensures cause { IfRefused result (λ why. why ≡ answers.Failed
-        → Rose (B.view (V.board_of (volume_of tee.old))).state.faults
-        (B.view (V.board_of (volume_of tee.new))).state.faults) }
-    ensures orders { OnOk result (HasOrders (order_of line)
-        (B.view (V.board_of (volume_of tee.old)))
-        (B.view (V.board_of (volume_of tee.new)))) }
-    ensures first_orders { OnErr result (HasFirstOrders (line ∷ [])
-        (B.view (V.board_of (volume_of tee.old)))
-        (B.view (V.board_of (volume_of tee.new)))) }
-    ensures losses { OnOk result (WritesLosses (W.written sink.old) (W.written sink.new)
-        (B.view (V.board_of (volume_of tee.old)))
-        (B.view (V.board_of (volume_of tee.new)))) }
-    ensures power { IfRefused result (λ why. HasPower (line ∷ [])) }
-    ensures apps { app_count tee.new ≡ app_count tee.old }
-    ensures fault { IsErrOf result Stop.WriteFault
-        → Rose (W.failures sink.old) (W.failures sink.new) }
-    ensures later { W.failures sink.old ≤ W.failures sink.new }
+    ensures { RunsLines A.behaviour V.form names.now (line ∷ [])
+        (λ world weather. line_events A.behaviour weather world line) result
+        (point_of B.view B.honest V.board_of W.written W.failures tee.old sink.old)
+        (point_of B.view B.honest V.board_of W.written W.failures tee.new sink.new) }
 {
     match line {
         Line::Call {
@@ -517,43 +275,10 @@ pub fn run_lines<B: Board, V: BoardVolume<B>, A: Application, W: Sink>(
     requires words { AreFirstWords names.now }
     requires some { 0 < app_count tee.old }
     requires known { AllByRecursion (IsKnown (app_count tee.old)) lines.items }
-    ensures whole { OnOk result ((world : World A) → Represents tee.old world
-        → IsRunOf A.behaviour V.form names.now
-        (λ weather. events_of A.behaviour weather world lines.items)
-        world (λ after. Represents tee.new after)
-        (point (boots_of tee.old) (B.view (V.board_of (volume_of tee.old))) (W.written sink.old))
-        (point (boots_of tee.new) (B.view (V.board_of (volume_of tee.new))) (W.written sink.new))) }
-    ensures stopped { UnlessRefused result ((world : World A) → Represents tee.old world
-        → StopsIn A.behaviour V.form names.now
-        (λ weather. events_of A.behaviour weather world lines.items)
-        world
-        (point (boots_of tee.old) (B.view (V.board_of (volume_of tee.old))) (W.written sink.old))
-        (point (boots_of tee.new) (B.view (V.board_of (volume_of tee.new))) (W.written sink.new))) }
-    ensures refused { IfRefused result (λ why. (world : World A) → Represents tee.old world
-        → IsRefusedIn A.behaviour V.form names.now lines.items world
-        (point (boots_of tee.old) (B.view (V.board_of (volume_of tee.old))) (W.written sink.old))
-        (point (boots_of tee.new) (B.view (V.board_of (volume_of tee.new))) (W.written sink.new))
-        × (why ≡ answers.Failed)) }
-    ensures refusal { IfRefused result (λ why. B.honest (V.board_of (volume_of tee.old))
-        → IsRefusedNow V.form (B.view (V.board_of (volume_of tee.new))) why) }
-    ensures honest { B.honest (V.board_of (volume_of tee.old))
-        → B.honest (V.board_of (volume_of tee.new)) }
-    ensures cause { IfRefused result (λ why. why ≡ answers.Failed
-        → Rose (B.view (V.board_of (volume_of tee.old))).state.faults
-        (B.view (V.board_of (volume_of tee.new))).state.faults) }
-    ensures orders { OnOk result (HasOrders (orders_of lines.items)
-        (B.view (V.board_of (volume_of tee.old)))
-        (B.view (V.board_of (volume_of tee.new)))) }
-    ensures first_orders { OnErr result (HasFirstOrders lines.items
-        (B.view (V.board_of (volume_of tee.old)))
-        (B.view (V.board_of (volume_of tee.new)))) }
-    ensures losses { OnOk result (WritesLosses (W.written sink.old) (W.written sink.new)
-        (B.view (V.board_of (volume_of tee.old)))
-        (B.view (V.board_of (volume_of tee.new)))) }
-    ensures power { IfRefused result (λ why. HasPower lines.items) }
-    ensures fault { IsErrOf result Stop.WriteFault
-        → Rose (W.failures sink.old) (W.failures sink.new) }
-    ensures later { W.failures sink.old ≤ W.failures sink.new }
+    ensures { RunsLines A.behaviour V.form names.now lines.items
+        (λ world weather. events_of A.behaviour weather world lines.items) result
+        (point_of B.view B.honest V.board_of W.written W.failures tee.old sink.old)
+        (point_of B.view B.honest V.board_of W.written W.failures tee.new sink.new) }
 {
     let mut rest = VecDeque::from(lines);
     while let Some(line) = rest.pop_front() {

@@ -9,12 +9,10 @@ ghost use Rattle.script.specs.Grammar.{names_of};
 ghost use Rattle.tee_base.specs.Faults.{Rose};
 ghost use Rattle.tee_base.specs.Transfer.{ConsumesWithin, HasMoreThan};
 ghost use Rattle.tee_base.specs.declared.limits.TheConstants.{MAX_SCRIPT_BYTES};
-ghost use Rattle.board.specs.Moment.{IsCounter};
-ghost use Rattle.epoch.specs.Mounts.{IsRefusal, IsRefusedNow};
 ghost use Rattle.store_api.specs.Stores.{Store};
 ghost use Rattle.tee_core.specs.InUse.{form_in_use};
 ghost use Rattle.tee_core.specs.World.{world_of};
-ghost use Rattle.tee_top.specs.Boards.{BeginsWith, HasFirstOrders, HasOpened, HasOrders, HasPower, LeavesStores, WritesLosses, orders_of};
+ghost use Rattle.tee_top.specs.Boards.{BeginsWith, FailsAtFirst, FailsAtPower, HasFirstOrders, HasOpened, HasOrders, HasPower, IsRefusedAt, IsRefusedByRule, IsRuleAnswer, LeavesStores, WritesLosses, orders_of};
 ghost use Rattle.epoch.specs.declared.answer.OpenAnswer.{OpenAnswer as OpenRefusal};
 ghost use Rattle.tee_top.specs.Runs.{AreRunWords, IsKnown, IsServed, IsStopped, IsUnopened, IsUnrun, IsReadStatus, ReadsTo, IsBadAt, IsOfScript, IsReadable, IsText, IsBadText, IsTooMuch, IsWithin, ended_as, refusal_of, stopped_as, RunsFront, RunsToPower, RunsWhole};
 
@@ -143,21 +141,25 @@ fn serve<B: Board, V: BoardVolume<B>, W: Sink, A: Application>(
         → BeginsWith V.form (B.view board) (length hosts.items) stores
         → ((sink.new ≡ sink.old) × LeavesStores V.form (B.view result.1)
         (world_of hosts.items seed stores))
-        ⊎ RunsToPower A.behaviour V.form hosts.items seed stores lines.items (B.view result.1)
-        (W.written sink.old) (W.written sink.new) }
+        ⊎ RunsToPower A.behaviour V.form hosts.items seed stores lines.items
+        (B.view board) (B.view result.1) (W.written sink.old) (W.written sink.new) }
     ensures accepted { (why : OpenRefusal) → result.0 ≡ Status.StoreRefused why
         → B.honest board → (stores : ℕ → Store)
         → BeginsWith V.form (B.view board) (length hosts.items) stores → ⊥ }
     ensures refused { (why : OpenRefusal) → result.0 ≡ Status.StoreRefused why → B.honest board
-        → ((sink.new ≡ sink.old) × (counter : ℕ) × IsCounter (B.view board).state counter
-        × IsRefusal V.form (B.view board) (B.view board).state.reads counter why)
+        → ((sink.new ≡ sink.old) × IsRefusedByRule V.form (B.view board) why)
+        ⊎ HasPower lines.items }
+    ensures rule { (why : OpenRefusal) → result.0 ≡ Status.StoreRefused why → IsTrue B.tells_reads
+        → ((sink.new ≡ sink.old) × (counter : ℕ) × IsRefusedAt V.form (B.view board) counter why)
         ⊎ HasPower lines.items }
     ensures refusal { (why : OpenRefusal) → result.0 ≡ Status.StoreRefused why → B.honest board
-        → IsRefusedNow V.form (B.view result.1) why }
+        → IsRefusedByRule V.form (B.view result.1) why }
+    ensures answer { (why : OpenRefusal) → result.0 ≡ Status.StoreRefused why → IsRuleAnswer why }
     ensures opened { B.honest board → ((sink.new ≡ sink.old) × IsUnopened result.0)
         ⊎ HasOpened V.form (B.view board) }
     ensures cause { result.0 ≡ Status.BoardFault
-        → Rose (B.view board).state.faults (B.view result.1).state.faults }
+        → ((sink.new ≡ sink.old) × FailsAtFirst (B.view board) (B.view result.1))
+        ⊎ FailsAtPower lines.items (B.view board) (B.view result.1) }
     ensures orders { result.0 ≡ Status.Done
         → HasOrders (orders_of lines.items) (B.view board) (B.view result.1) }
     ensures first_orders { HasFirstOrders lines.items (B.view board) (B.view result.1) }
@@ -196,6 +198,7 @@ pub fn run_tee<S: Source, W: Sink, B: Board + Drop, A: Application>(
     seed: [u8; 32],
 ) -> (Status, B)
     requires { HostsFit hosts.items }
+    // what is written: on a sound board the text of the script, or of its first events, and on each board of lost turns
     ensures written { result.0 ≡ Status.Done → B.honest board → (stores : ℕ → Store)
         → BeginsWith form_in_use (B.view board) (length hosts.items) stores
         → IsOfScript hosts.items (S.left source.old) (λ script.
@@ -212,35 +215,42 @@ pub fn run_tee<S: Source, W: Sink, B: Board + Drop, A: Application>(
         ⊎ IsOfScript hosts.items (S.left source.old) (λ script.
         RunsFront A.behaviour form_in_use hosts.items seed stores script (B.view result.1)
         (W.written sink.old) (W.written sink.new)) }
+    ensures losses { result.0 ≡ Status.Done
+        → WritesLosses (W.written sink.old) (W.written sink.new) (B.view board) (B.view result.1) }
+    // how the board ends: which opening failed, and which refusal is the rule's, on a sound board, an honest one, one that tells its
+    // reads, and on each; and which orders were made
     ensures board_fault { result.0 ≡ Status.BoardFault → B.honest board → (stores : ℕ → Store)
         → BeginsWith form_in_use (B.view board) (length hosts.items) stores
         → ((sink.new ≡ sink.old) × LeavesStores form_in_use (B.view result.1)
         (world_of hosts.items seed stores))
         ⊎ IsOfScript hosts.items (S.left source.old) (λ script.
-        RunsToPower A.behaviour form_in_use hosts.items seed stores script (B.view result.1)
-        (W.written sink.old) (W.written sink.new)) }
-    // a refusal is the opening rule's, over the board that is handed back; on a sound image none comes
-    ensures refusal { (why : OpenRefusal) → result.0 ≡ Status.StoreRefused why → B.honest board
-        → IsRefusedNow form_in_use (B.view result.1) why }
+        RunsToPower A.behaviour form_in_use hosts.items seed stores script
+        (B.view board) (B.view result.1) (W.written sink.old) (W.written sink.new)) }
+    ensures cause { result.0 ≡ Status.BoardFault
+        → ((sink.new ≡ sink.old) × FailsAtFirst (B.view board) (B.view result.1))
+        ⊎ IsOfScript hosts.items (S.left source.old) (λ script.
+        FailsAtPower script (B.view board) (B.view result.1)) }
     ensures accepted { (why : OpenRefusal) → result.0 ≡ Status.StoreRefused why
         → B.honest board → (stores : ℕ → Store)
         → BeginsWith form_in_use (B.view board) (length hosts.items) stores → ⊥ }
-    // without a line that loses the power it is over the board that was handed in
+    ensures refusal { (why : OpenRefusal) → result.0 ≡ Status.StoreRefused why → B.honest board
+        → IsRefusedByRule form_in_use (B.view result.1) why }
     ensures refused { (why : OpenRefusal) → result.0 ≡ Status.StoreRefused why → B.honest board
-        → ((sink.new ≡ sink.old) × (counter : ℕ) × IsCounter (B.view board).state counter
-        × IsRefusal form_in_use (B.view board) (B.view board).state.reads counter why)
+        → ((sink.new ≡ sink.old) × IsRefusedByRule form_in_use (B.view board) why)
         ⊎ IsOfScript hosts.items (S.left source.old) (λ script. HasPower script) }
-    // unless nothing was written and the status is one that may come before an opening, the rule opens the image
+    ensures rule { (why : OpenRefusal) → result.0 ≡ Status.StoreRefused why → IsTrue B.tells_reads
+        → ((sink.new ≡ sink.old)
+        × (counter : ℕ) × IsRefusedAt form_in_use (B.view board) counter why)
+        ⊎ IsOfScript hosts.items (S.left source.old) (λ script. HasPower script) }
+    ensures answer { (why : OpenRefusal) → result.0 ≡ Status.StoreRefused why → IsRuleAnswer why }
     ensures opened { B.honest board → ((sink.new ≡ sink.old) × IsUnopened result.0)
         ⊎ HasOpened form_in_use (B.view board) }
-    ensures bad_words { (result.0 ≡ Status.BadWords) ↔ ¬ AreRunWords words.now }
-    ensures bad_line { (n : ℕ) → result.0 ≡ Status.BadLine n
-        → IsBadAt hosts.items (S.left source.old) n × IsAtEnd (S.left source.new) }
-    ensures each_bad_line { (text : List ℕ) (n : ℕ)
-        → IsReadable words.now (S.left source.old) text (S.failures source.old)
-        (S.failures source.new)
-        → IsBadText hosts.items text n
-        → (result.0 ≡ Status.BadLine n) ⊎ (result.0 ≡ Status.NoMemory) }
+    ensures orders { result.0 ≡ Status.Done → IsOfScript hosts.items (S.left source.old) (λ script.
+        HasOrders (orders_of script) (B.view board) (B.view result.1)) }
+    ensures first_orders { (result.1 ≡ board)
+        ⊎ IsOfScript hosts.items (S.left source.old) (λ script.
+        HasFirstOrders script (B.view board) (B.view result.1)) }
+    // when each status comes
     ensures complete { (text : List ℕ) (script : List Line) (stores : ℕ → Store)
         → IsReadable words.now (S.left source.old) text (S.failures source.old)
         (S.failures source.new)
@@ -249,6 +259,14 @@ pub fn run_tee<S: Source, W: Sink, B: Board + Drop, A: Application>(
         → ¬ Rose (B.view board).state.faults (B.view result.1).state.faults
         → IsText hosts.items text script
         → (result.0 ≡ Status.Done) ⊎ (result.0 ≡ Status.NoMemory) }
+    ensures bad_words { (result.0 ≡ Status.BadWords) ↔ ¬ AreRunWords words.now }
+    ensures bad_line { (n : ℕ) → result.0 ≡ Status.BadLine n
+        → IsBadAt hosts.items (S.left source.old) n × IsAtEnd (S.left source.new) }
+    ensures each_bad_line { (text : List ℕ) (n : ℕ)
+        → IsReadable words.now (S.left source.old) text (S.failures source.old)
+        (S.failures source.new)
+        → IsBadText hosts.items text n
+        → (result.0 ≡ Status.BadLine n) ⊎ (result.0 ≡ Status.NoMemory) }
     ensures too_long { result.0 ≡ Status.TooLong
         → HasMoreThan MAX_SCRIPT_BYTES (S.left source.old) }
     ensures each_too_long { (text : List ℕ)
@@ -259,23 +277,14 @@ pub fn run_tee<S: Source, W: Sink, B: Board + Drop, A: Application>(
         → Rose (S.failures source.old) (S.failures source.new) }
     ensures write_fault { result.0 ≡ Status.WriteFault
         → Rose (W.failures sink.old) (W.failures sink.new) }
-    // whatever the board
-    ensures cause { result.0 ≡ Status.BoardFault
-        → Rose (B.view board).state.faults (B.view result.1).state.faults }
-    ensures orders { result.0 ≡ Status.Done → IsOfScript hosts.items (S.left source.old) (λ script.
-        HasOrders (orders_of script) (B.view board) (B.view result.1)) }
-    ensures first_orders { (result.1 ≡ board)
-        ⊎ IsOfScript hosts.items (S.left source.old) (λ script.
-        HasFirstOrders script (B.view board) (B.view result.1)) }
-    ensures losses { result.0 ≡ Status.Done
-        → WritesLosses (W.written sink.old) (W.written sink.new) (B.view board) (B.view result.1) }
+    // what is read, and what is left alone
     ensures done { result.0 ≡ Status.Done → IsAtEnd (S.left source.new) }
-    ensures unwritten { IsUnrun result.0 → sink.new ≡ sink.old }
-    ensures unused { IsUnrun result.0 → result.1 ≡ board }
-    ensures unread { result.0 ≡ Status.BadWords → source.new ≡ source.old }
     ensures consumed { ConsumesWithin (MAX_SCRIPT_BYTES + 1)
         (S.left source.old) (S.left source.new) }
     ensures unfailed { result.0 ≡ Status.TooLong → S.failures source.new ≡ S.failures source.old }
+    ensures unread { result.0 ≡ Status.BadWords → source.new ≡ source.old }
+    ensures unwritten { IsUnrun result.0 → sink.new ≡ sink.old }
+    ensures unused { IsUnrun result.0 → result.1 ≡ board }
 {
     if !are_run_words(words) {
         return (Status::BadWords, board);

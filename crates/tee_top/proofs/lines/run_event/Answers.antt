@@ -1,125 +1,139 @@
-use Rattle.std.proofs.Common.{◌≡◌, ◌<◌, [], length, sym, subst, Some, arith}
+use Rattle.std.proofs.Common.{◌≡◌, ◌<◌, [], Err, length, refl, sym, subst, Some, arith}
 use Rattle.std.specs.Prelude.{slice_get}
 use Rattle.std.specs.Io.KnownBytes.{Appends}
+use Rattle.std.proofs.lemmas.Result.{err_from_is_err_and}
 use Rattle.tee_base.specs.Transfer.{AppendsFront}
 use Rattle.tee_core.specs.Represents.{app_count, app_of, turns_made, volume_of}
 use Rattle.tee_core.proofs.SideLemmas.{side_at}
-use Rattle.tee_core.proofs.Steps.{on_err_known}
 use Rattle.tee_core.proofs.TurnsMade.{sides_turns}
 use Rattle.tee_top.specs.Boards.{HasOrders}
 use Rattle.tee_top.specs.Parts.{step_events}
 use Rattle.tee_top.specs.Transcript.{happened_lines}
 use Rattle.tee_top.proofs.Along.{stops_first}
+use Rattle.tee_top.proofs.Layers.{never_faulty, never_stopped, stop_again}
 use Rattle.tee_top.proofs.Leaves.{stands_leaves}
 use Rattle.tee_top.proofs.Losses.{losses_event}
 use Rattle.tee_top.proofs.Parts.{no_orders}
 use Rattle.tee_top.proofs.Single.{call_told, event_known, event_span, one_stops, one_whole, unordered}
 use Rattle.tee_top.proofs.lines.run_event.Goals as goal
 
-pub returns-then-not-has_room-clause-stopped : goal.returns-then-not-has_room-clause-stopped
-returns-then-not-has_room-clause-stopped g c = λ w stands.
+-- ---- no turn more may be made
+
+pub returns-then-not-has_room-clause-made : goal.returns-then-not-has_room-clause-made
+returns-then-not-has_room-clause-made g c =
     let behaviour = g.A.Application.behaviour in
     let tee = c.args.tee.now in
-    stops_first behaviour g.V.BoardVolume.form c.args.names.now w (λ weather. step_events behaviour weather w c.args.event) _ _ _ _ _
-    (stands_leaves g.V.Volume.keeper g.V.BoardVolume.form tee.sides.items (volume_of tee) _ w (g.met.V.BoardVolume.seen (volume_of tee)) stands)
+    record {
+      whole = tt;
+      stopped = λ w stands.
+          stops_first behaviour g.V.BoardVolume.form c.args.names.now w (λ weather. step_events behaviour weather w c.args.event) _ _ _ _ _
+          (stands_leaves g.V.Volume.keeper g.V.BoardVolume.form tee.sides.items (volume_of tee) _ w (g.met.V.BoardVolume.seen (volume_of tee)) stands);
+      served = tt;
+      orders = no_orders _;
+      losses = tt;
+      honest = λ h. h;
+      apps = refl;
+      fault = λ is. absurd (never_faulty is);
+      later = omega arith;
+    }
 
-pub returns-then-not-has_room-clause-orders : goal.returns-then-not-has_room-clause-orders
-returns-then-not-has_room-clause-orders g c = no_orders _
+-- ---- there is no memory for the event
 
-pub returns-in_err-happened-clause-stopped : goal.returns-in_err-happened-clause-stopped
-returns-in_err-happened-clause-stopped g c =
+pub returns-in_err-happened-clause-made : goal.returns-in_err-happened-clause-made
+returns-in_err-happened-clause-made g c =
     let behaviour = g.A.Application.behaviour in
     let then = c.event.new.self in
-    on_err_known c.from_residual.result _
-    (λ w stands. stops_first behaviour g.V.BoardVolume.form c.args.names.now w (λ weather. step_events behaviour weather w c.args.event) _ _ _ _ _
-    (stands_leaves g.V.Volume.keeper g.V.BoardVolume.form then.sides.items (volume_of then) _ w (g.met.V.BoardVolume.seen (volume_of then)) (c.in_err-happened.ensures.err.2 w stands)))
+    let stop = err_from_is_err_and c.from_residual.result c.from_residual.ensures.1 in
+    rw (stop.1, stop.2) (record {
+      whole = tt;
+      stopped = λ w stands.
+          stops_first behaviour g.V.BoardVolume.form c.args.names.now w (λ weather. step_events behaviour weather w c.args.event) _ _ _ _ _
+          (stands_leaves g.V.Volume.keeper g.V.BoardVolume.form then.sides.items (volume_of then) _ w (g.met.V.BoardVolume.seen (volume_of then)) (c.in_err-happened.ensures.err.2 w stands));
+      served = tt;
+      orders =
+          subst (λ v. HasOrders [] (g.B.Board.view (g.V.BoardVolume.board_of (volume_of c.args.tee.now))) (g.B.Board.view (g.V.BoardVolume.board_of v))) (sym c.in_err-happened.ensures.err.1)
+          (no_orders _);
+      losses = tt;
+      honest = λ honest. subst (λ v. g.B.Board.honest (g.V.BoardVolume.board_of v)) (sym c.in_err-happened.ensures.err.1) honest;
+      apps = c.in_err-happened.ensures.apps;
+      fault = λ is. absurd (never_faulty is);
+      later = omega arith;
+    })
 
-pub returns-in_err-happened-clause-orders : goal.returns-in_err-happened-clause-orders
-returns-in_err-happened-clause-orders g c =
-    subst (λ v. HasOrders [] (g.B.Board.view (g.V.BoardVolume.board_of (volume_of c.args.tee.now))) (g.B.Board.view (g.V.BoardVolume.board_of v))) (sym c.in_err-happened.ensures.err.1)
-    (no_orders _)
+-- ---- it wasn't written to its end
 
-pub returns-in_err-happened-clause-honest : goal.returns-in_err-happened-clause-honest
-returns-in_err-happened-clause-honest g c = λ honest.
-    subst (λ v. g.B.Board.honest (g.V.BoardVolume.board_of v)) (sym c.in_err-happened.ensures.err.1) honest
-
-pub returns-in_err-written-clause-stopped : goal.returns-in_err-written-clause-stopped
-returns-in_err-written-clause-stopped g c =
+pub returns-in_err-written-clause-made : goal.returns-in_err-written-clause-made
+returns-in_err-written-clause-made g c =
     let behaviour = g.A.Application.behaviour in
     let names = c.args.names.now in
     let tee = c.args.tee.now in
     let then = c.event.new.self in
+    let old = volume_of tee in
+    let new = volume_of then in
     let e = c.args.event in
     let h = c.in_ok-happened.happened in
-    let known = event_known names (app_count tee) (λ i. turns_made tee i) c.name_of.result.now (app_of e) c.args.app c.requires.own c.requires.names c.requires.known
-    c.name_of.ensures (c.has_room.ensures.0 c.if-not-has_room.false) in
-    on_err_known c.from_residual-in_err-written.result _
-    (λ w stands.
-    let p = side_at tee.sides.items w (app_of e) stands.sides_are known.there in
-    one_stops behaviour g.V.BoardVolume.form names w e h p.0 p.1 (c.in_ok-happened.ensures.told w p.0 stands p.1) _ _ known.within
-    (omega (arith, known.room, sides_turns tee.sides.items w (app_of e) p.0 stands.sides_are p.1))
-    (c.in_ok-happened.ensures.stands w p.0 stands p.1) (c.in_ok-happened.ensures.sound w stands)
-    (stands_leaves g.V.Volume.keeper g.V.BoardVolume.form then.sides.items (volume_of then) _ _ (g.met.V.BoardVolume.seen (volume_of then)) (c.in_ok-happened.ensures.world w stands))
-    (subst (λ name. AppendsFront (happened_lines name h) (g.W.Sink.written c.args.sink.now) (g.W.Sink.written c.write_happened-written.new.sink)) known.named c.in_err-written.ensures.err))
-
-pub returns-in_err-written-clause-orders : goal.returns-in_err-written-clause-orders
-returns-in_err-written-clause-orders g c =
-    let old = volume_of c.args.tee.now in
-    let new = volume_of c.event.new.self in
     let counts = c.in_ok-happened.ensures.counts in
-    unordered g.V.Volume.keeper g.V.BoardVolume.form old new _ _ (g.met.V.BoardVolume.seen old) (g.met.V.BoardVolume.seen new) counts.foundation counts.faults
+    let known = event_known names (app_count tee) (λ i. turns_made tee i) c.name_of.result.now (app_of e) c.args.app c.requires.own c.requires.names c.requires.known
+    c.name_of.ensures (c.has_room.ensures.0 c.if-not-has_room.false) in
+    let stop = err_from_is_err_and c.from_residual-in_err-written.result c.from_residual-in_err-written.ensures.1 in
+    rw (stop.1, stop.2) (record {
+      whole = tt;
+      stopped = λ w stands.
+          let p = side_at tee.sides.items w (app_of e) stands.sides_are known.there in
+          one_stops behaviour g.V.BoardVolume.form names w e h p.0 p.1 (c.in_ok-happened.ensures.told w p.0 stands p.1) _ _ known.within
+          (omega (arith, known.room, sides_turns tee.sides.items w (app_of e) p.0 stands.sides_are p.1))
+          (c.in_ok-happened.ensures.stands w p.0 stands p.1) (c.in_ok-happened.ensures.sound w stands)
+          (stands_leaves g.V.Volume.keeper g.V.BoardVolume.form then.sides.items (volume_of then) _ _ (g.met.V.BoardVolume.seen (volume_of then)) (c.in_ok-happened.ensures.world w stands))
+          (subst (λ name. AppendsFront (happened_lines name h) (g.W.Sink.written c.args.sink.now) (g.W.Sink.written c.write_happened-written.new.sink)) known.named c.in_err-written.ensures.err);
+      served = c.in_err-written.ensures.served;
+      orders = unordered g.V.Volume.keeper g.V.BoardVolume.form old new _ _ (g.met.V.BoardVolume.seen old) (g.met.V.BoardVolume.seen new) counts.foundation counts.faults;
+      losses = tt;
+      honest = λ honest. (g.met.V.BoardVolume.below new).0 (c.in_ok-happened.ensures.below ((g.met.V.BoardVolume.below old).1 honest));
+      apps = c.in_ok-happened.ensures.apps;
+      fault = λ is. c.in_err-written.ensures.fault (stop_again _ _ _ _ is);
+      later = c.in_err-written.ensures.later;
+    })
 
-pub returns-in_err-written-clause-honest : goal.returns-in_err-written-clause-honest
-returns-in_err-written-clause-honest g c = λ honest.
-    let old = volume_of c.args.tee.now in
-    let new = volume_of c.event.new.self in
-    (g.met.V.BoardVolume.below new).0 (c.in_ok-happened.ensures.below ((g.met.V.BoardVolume.below old).1 honest))
+-- ---- it was made and written
 
-pub returns-clause-whole : goal.returns-clause-whole
-returns-clause-whole g c =
+pub returns-clause-made : goal.returns-clause-made
+returns-clause-made g c =
     let behaviour = g.A.Application.behaviour in
     let names = c.args.names.now in
     let tee = c.args.tee.now in
     let then = c.event.new.self in
+    let old = volume_of tee in
+    let new = volume_of then in
     let e = c.args.event in
     let h = c.in_ok-happened.happened in
+    let counts = c.in_ok-happened.ensures.counts in
+    let within : c.args.app < length names = omega (arith, c.requires.names, c.requires.known) in
     let known = event_known names (app_count tee) (λ i. turns_made tee i) c.name_of.result.now (app_of e) c.args.app c.requires.own c.requires.names c.requires.known
     c.name_of.ensures (c.has_room.ensures.0 c.if-not-has_room.false) in
-    λ w stands.
-    let p = side_at tee.sides.items w (app_of e) stands.sides_are known.there in
-    one_whole behaviour g.V.BoardVolume.form names w e h p.0 p.1 (c.in_ok-happened.ensures.told w p.0 stands p.1) _ _ _ known.within
-    (omega (arith, known.room, sides_turns tee.sides.items w (app_of e) p.0 stands.sides_are p.1))
-    (c.in_ok-happened.ensures.stands w p.0 stands p.1) (c.in_ok-happened.ensures.sound w stands) c.in_ok-happened.ensures.boots
-    (event_span g.V.Volume.keeper g.V.BoardVolume.form (volume_of tee) (volume_of then) _ _ (g.met.V.BoardVolume.seen (volume_of tee))
-    (g.met.V.BoardVolume.seen (volume_of then)) e h.kind c.in_ok-happened.ensures.counts)
-    (c.in_ok-happened.ensures.world w stands)
-    (subst (λ name. Appends (g.W.Sink.written c.args.sink.now) (g.W.Sink.written c.write_happened-written.new.sink) (happened_lines name h)) known.named c.in_ok-written.ensures.ok)
+    record {
+      whole = λ w stands.
+          let p = side_at tee.sides.items w (app_of e) stands.sides_are known.there in
+          one_whole behaviour g.V.BoardVolume.form names w e h p.0 p.1 (c.in_ok-happened.ensures.told w p.0 stands p.1) _ _ _ known.within
+          (omega (arith, known.room, sides_turns tee.sides.items w (app_of e) p.0 stands.sides_are p.1))
+          (c.in_ok-happened.ensures.stands w p.0 stands p.1) (c.in_ok-happened.ensures.sound w stands) c.in_ok-happened.ensures.boots
+          (event_span g.V.Volume.keeper g.V.BoardVolume.form (volume_of tee) (volume_of then) _ _ (g.met.V.BoardVolume.seen (volume_of tee))
+          (g.met.V.BoardVolume.seen (volume_of then)) e h.kind c.in_ok-happened.ensures.counts)
+          (c.in_ok-happened.ensures.world w stands)
+          (subst (λ name. Appends (g.W.Sink.written c.args.sink.now) (g.W.Sink.written c.write_happened-written.new.sink) (happened_lines name h)) known.named c.in_ok-written.ensures.ok);
+      stopped = tt;
+      served = tt;
+      orders = unordered g.V.Volume.keeper g.V.BoardVolume.form old new _ _ (g.met.V.BoardVolume.seen old) (g.met.V.BoardVolume.seen new) counts.foundation counts.faults;
+      losses =
+          losses_event g.V.Volume.keeper g.V.BoardVolume.form old new _ _ (g.met.V.BoardVolume.seen old) (g.met.V.BoardVolume.seen new) names c.args.app h _ _ c.requires.words within
+          c.in_ok-happened.ensures.counts
+          (subst (λ name. Appends (g.W.Sink.written c.args.sink.now) (g.W.Sink.written c.write_happened-written.new.sink) (happened_lines name h)) c.name_of.ensures c.in_ok-written.ensures.ok);
+      honest = λ honest. (g.met.V.BoardVolume.below new).0 (c.in_ok-happened.ensures.below ((g.met.V.BoardVolume.below old).1 honest));
+      apps = c.in_ok-happened.ensures.apps;
+      fault = λ is. absurd (never_stopped _ _ is);
+      later = c.in_ok-written.ensures.later;
+    }
 
 pub returns-clause-called : goal.returns-clause-called
 returns-clause-called g c = λ w m client call stands here is.
     call_told g.A.Application.behaviour c.args.event c.in_ok-happened.happened m c.args.app client call
     (c.in_ok-happened.ensures.told w m stands (subst (λ i. slice_get w i ≡ Some m) (sym c.requires.own) here)) is
-
-pub returns-clause-honest : goal.returns-clause-honest
-returns-clause-honest g c = λ honest.
-    let old = volume_of c.args.tee.now in
-    let new = volume_of c.event.new.self in
-    (g.met.V.BoardVolume.below new).0 (c.in_ok-happened.ensures.below ((g.met.V.BoardVolume.below old).1 honest))
-
-pub returns-clause-orders : goal.returns-clause-orders
-returns-clause-orders g c =
-    let old = volume_of c.args.tee.now in
-    let new = volume_of c.event.new.self in
-    let counts = c.in_ok-happened.ensures.counts in
-    unordered g.V.Volume.keeper g.V.BoardVolume.form old new _ _ (g.met.V.BoardVolume.seen old) (g.met.V.BoardVolume.seen new) counts.foundation counts.faults
-
-pub returns-clause-losses : goal.returns-clause-losses
-returns-clause-losses g c =
-    let names = c.args.names.now in
-    let old = volume_of c.args.tee.now in
-    let new = volume_of c.event.new.self in
-    let h = c.in_ok-happened.happened in
-    let within : c.args.app < length names = omega (arith, c.requires.names, c.requires.known) in
-    losses_event g.V.Volume.keeper g.V.BoardVolume.form old new _ _ (g.met.V.BoardVolume.seen old) (g.met.V.BoardVolume.seen new) names c.args.app h _ _ c.requires.words within
-    c.in_ok-happened.ensures.counts
-    (subst (λ name. Appends (g.W.Sink.written c.args.sink.now) (g.W.Sink.written c.write_happened-written.new.sink) (happened_lines name h)) c.name_of.ensures c.in_ok-written.ensures.ok)

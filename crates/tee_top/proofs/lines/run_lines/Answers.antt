@@ -1,16 +1,15 @@
-use Rattle.std.proofs.Common.{ℕ, ◌≡◌, ◌≤◌, ◌∙◌, inl, inr, suc, List, [], ◌∷◌, ◌++◌, Err, drop, length, ap, refl, subst, sym, append_assoc, append-nil, arith}
+use Rattle.std.proofs.Common.{ℕ, ◌≡◌, ◌∙◌, suc, List, [], ◌∷◌, ◌++◌, Err, drop, length, ap, refl, subst, sym, append_assoc, append-nil, arith}
 use Rattle.std.specs.List.{AllByRecursion}
 use Rattle.std.proofs.lemmas.Result.{err_from_is_err_and}
-use Rattle.tee_base.specs.Faults.{Rose}
 use Rattle.script.specs.declared.line.Line.{Line}
 use Rattle.tee_core.specs.Represents.{app_count}
-use Rattle.tee_core.proofs.Steps.{on_err_known}
 use Rattle.tee_top.specs.Runs.{IsKnown}
 use Rattle.tee_top.specs.Transcript.{after_events, events_of}
 use Rattle.tee_top.proofs.Along.{line_run, line_stops, lines_refused, lines_run, lines_stop, refused_before, run_none}
+use Rattle.tee_top.proofs.Layers.{never_stopped}
 use Rattle.tee_top.proofs.Losses.{losses_both, losses_none}
-use Rattle.tee_top.proofs.Parts.{first_orders_more, no_orders, power_first, power_more}
-use Rattle.tee_top.proofs.Powers.{first_orders_before, orders_more}
+use Rattle.tee_top.proofs.Parts.{first_orders_more, no_orders, power_first, power_more, rose_later}
+use Rattle.tee_top.proofs.Powers.{fails_before, fails_behind, first_orders_before, orders_more}
 use Rattle.tee_top.proofs.Refusals.{refused_weaker, unless_weaker}
 use Rattle.tee_top.proofs.lines.run_lines.Goals as goal
 
@@ -18,11 +17,6 @@ use Rattle.tee_top.proofs.lines.run_lines.Goals as goal
 none_left : (lines : List Line) → lines ≡ drop 1 lines → lines ≡ []
 none_left [] same = refl
 none_left (line ∷ lines) same = let longer : suc (length lines) ≡ length lines = ap (λ (xs : List Line). length xs) same in absurd (omega (arith, longer))
-
--- a count that rose since a later moment rose since an earlier one
-rose_since : (old mid new : ℕ) → old ≤ mid → Rose mid new → Rose old new
-rose_since old mid new later (inl more) = inl (omega (arith, later, more))
-rose_since old mid new later (inr most) = inr most
 
 pub loop-line-init : goal.loop-line-init
 loop-line-init g c =
@@ -65,83 +59,66 @@ run_line-requires-clause-known g c =
     subst (λ n. IsKnown n c.in-Some.line) (sym c.loop-line.invariant.apps)
     (subst (λ (lines : List Line). AllByRecursion (IsKnown (app_count c.args.tee.now)) lines) c.in-Some.ensures.items c.loop-line.invariant.known).0
 
-pub returns-in_err-run_line-clause-stopped : goal.returns-in_err-run_line-clause-stopped
-returns-in_err-run_line-clause-stopped g c =
+pub returns-in_err-run_line : goal.returns-in_err-run_line
+returns-in_err-run_line g c =
     let behaviour = g.A.Application.behaviour in
     let form = g.V.BoardVolume.form in
     let names = c.args.names.now in
-    let front = c.loop-line.invariant.front in
+    let so_far = c.loop-line.invariant in
+    let part = c.in_err-run_line.ensures in
+    let front = so_far.front in
     let line = c.in-Some.line in
     let more = c.pop_front.new.self.items in
-    let all : c.args.lines.items ≡ front ++ line ∷ more = c.loop-line.invariant.split ∙ ap (λ zs. front ++ zs) c.in-Some.ensures.items in
+    let all : c.args.lines.items ≡ front ++ line ∷ more = so_far.split ∙ ap (λ zs. front ++ zs) c.in-Some.ensures.items in
     let p = err_from_is_err_and c.from_residual.result c.from_residual.ensures.1 in
-    rw (p.1, p.2) (rw all (unless_weaker {X = Unit {0}} (Err c.in_err-run_line.field-0.0) _ _
-    (λ part w stands.
-    let run = c.loop-line.invariant.run w stands in
-    let now = after_events behaviour w run.made in
-    lines_stop behaviour form names _ w front (line ∷ more) _ _ _ run (line_stops behaviour form names now line more _ _ (part now run.stands)))
-    c.in_err-run_line.ensures.stopped))
+    rw (p.1, p.2) (rw all (record {
+      whole = tt;
+      stopped = unless_weaker {X = Unit {0}} (Err c.in_err-run_line.field-0.0) _ _
+          (λ stops w stands.
+          let run = so_far.run w stands in
+          let now = after_events behaviour w run.made in
+          lines_stop behaviour form names _ w front (line ∷ more) _ _ _ run (line_stops behaviour form names now line more _ _ (stops now run.stands)))
+          part.stopped;
+      refused = refused_weaker {X = Unit {0}} (Err c.in_err-run_line.field-0.0) _ _
+          (λ why is w stands.
+          let run = so_far.run w stands in
+          let now = after_events behaviour w run.made in
+          let refused = is now run.stands in
+          (lines_refused behaviour form names _ w front (line ∷ more) _ _ _ run (refused_before behaviour form names now (line ∷ []) more _ _ refused.0), refused.1))
+          part.refused;
+      refusal = refused_weaker {X = Unit {0}} (Err c.in_err-run_line.field-0.0) _ _ (λ why is h. is (so_far.honest h)) part.refusal;
+      cause = refused_weaker {X = Unit {0}} (Err c.in_err-run_line.field-0.0) _ _
+          (λ why is same. fails_behind front (line ∷ more) _ _ _ so_far.orders (fails_before (line ∷ []) more _ _ (is same)))
+          part.cause;
+      power = refused_weaker {X = Unit {0}} (Err c.in_err-run_line.field-0.0) _ _
+          (λ why is. power_more front (line ∷ more) (power_first (line ∷ []) more is)) part.power;
+      orders = tt;
+      first_orders = first_orders_more front (line ∷ more) _ _ _ so_far.orders (first_orders_before (line ∷ []) more _ _ part.first_orders);
+      losses = tt;
+      honest = λ h. part.honest (so_far.honest h);
+      apps = part.apps ∙ so_far.apps;
+      fault = λ is. rose_later _ _ _ so_far.later (part.fault is);
+      later = omega (arith, so_far.later, part.later);
+    }))
 
-pub returns-in_err-run_line-clause-refused : goal.returns-in_err-run_line-clause-refused
-returns-in_err-run_line-clause-refused g c =
-    let behaviour = g.A.Application.behaviour in
-    let form = g.V.BoardVolume.form in
-    let names = c.args.names.now in
-    let front = c.loop-line.invariant.front in
-    let line = c.in-Some.line in
-    let more = c.pop_front.new.self.items in
-    let all : c.args.lines.items ≡ front ++ line ∷ more = c.loop-line.invariant.split ∙ ap (λ zs. front ++ zs) c.in-Some.ensures.items in
-    let p = err_from_is_err_and c.from_residual.result c.from_residual.ensures.1 in
-    rw (p.1, p.2) (rw all (refused_weaker {X = Unit {0}} (Err c.in_err-run_line.field-0.0) _ _
-    (λ why part w stands.
-    let run = c.loop-line.invariant.run w stands in
-    let now = after_events behaviour w run.made in
-    let refused = part now run.stands in
-    (lines_refused behaviour form names _ w front (line ∷ more) _ _ _ run (refused_before behaviour form names now (line ∷ []) more _ _ refused.0), refused.1))
-    c.in_err-run_line.ensures.refused))
-
-pub returns-in_err-run_line-clause-refusal : goal.returns-in_err-run_line-clause-refusal
-returns-in_err-run_line-clause-refusal g c =
-    let p = err_from_is_err_and c.from_residual.result c.from_residual.ensures.1 in
-    rw (p.1, p.2) (refused_weaker {X = Unit {0}} (Err c.in_err-run_line.field-0.0) _ _ (λ why part h. part (c.loop-line.invariant.honest h)) c.in_err-run_line.ensures.refusal)
-
-pub returns-in_err-run_line-clause-honest : goal.returns-in_err-run_line-clause-honest
-returns-in_err-run_line-clause-honest g c = λ h. c.in_err-run_line.ensures.honest (c.loop-line.invariant.honest h)
-
-pub returns-in_err-run_line-clause-cause : goal.returns-in_err-run_line-clause-cause
-returns-in_err-run_line-clause-cause g c =
-    let p = err_from_is_err_and c.from_residual.result c.from_residual.ensures.1 in
-    rw (p.1, p.2) (refused_weaker {X = Unit {0}} (Err c.in_err-run_line.field-0.0) _ _ (λ why part is. rose_since _ _ _ c.loop-line.invariant.orders.later (part is)) c.in_err-run_line.ensures.cause)
-
-pub returns-in_err-run_line-clause-first_orders : goal.returns-in_err-run_line-clause-first_orders
-returns-in_err-run_line-clause-first_orders g c =
-    let front = c.loop-line.invariant.front in
-    let line = c.in-Some.line in
-    let more = c.pop_front.new.self.items in
-    let all : c.args.lines.items ≡ front ++ line ∷ more = c.loop-line.invariant.split ∙ ap (λ zs. front ++ zs) c.in-Some.ensures.items in
-    rw all (on_err_known c.from_residual.result _
-    (first_orders_more front (line ∷ more) _ _ _ c.loop-line.invariant.orders (first_orders_before (line ∷ []) more _ _ c.in_err-run_line.ensures.first_orders)))
-
-pub returns-clause-whole : goal.returns-clause-whole
-returns-clause-whole g c =
-    let front = c.loop-line.invariant.front in
+pub returns : goal.returns
+returns g c =
+    let so_far = c.loop-line.invariant in
+    let front = so_far.front in
     let none = none_left c.loop-line.rest.items (c.in_default.ensures.items ∙ c.in_default.ensures.rest) in
-    let all : c.args.lines.items ≡ front = c.loop-line.invariant.split ∙ ap (λ zs. front ++ zs) none ∙ append-nil front in
-    rw all c.loop-line.invariant.run
-
-pub returns-clause-orders : goal.returns-clause-orders
-returns-clause-orders g c =
-    let front = c.loop-line.invariant.front in
-    let none = none_left c.loop-line.rest.items (c.in_default.ensures.items ∙ c.in_default.ensures.rest) in
-    let all : c.args.lines.items ≡ front = c.loop-line.invariant.split ∙ ap (λ zs. front ++ zs) none ∙ append-nil front in
-    rw all c.loop-line.invariant.orders
-
-pub returns-in_err-run_line-clause-power : goal.returns-in_err-run_line-clause-power
-returns-in_err-run_line-clause-power g c =
-    let front = c.loop-line.invariant.front in
-    let line = c.in-Some.line in
-    let more = c.pop_front.new.self.items in
-    let all : c.args.lines.items ≡ front ++ line ∷ more = c.loop-line.invariant.split ∙ ap (λ zs. front ++ zs) c.in-Some.ensures.items in
-    let p = err_from_is_err_and c.from_residual.result c.from_residual.ensures.1 in
-    rw (p.1, p.2) (rw all (refused_weaker {X = Unit {0}} (Err c.in_err-run_line.field-0.0) _ _
-    (λ why part. power_more front (line ∷ more) (power_first (line ∷ []) more part)) c.in_err-run_line.ensures.power))
+    let all : c.args.lines.items ≡ front = so_far.split ∙ ap (λ zs. front ++ zs) none ∙ append-nil front in
+    rw all (record {
+      whole = so_far.run;
+      stopped = tt;
+      refused = tt;
+      refusal = tt;
+      cause = tt;
+      power = tt;
+      orders = so_far.orders;
+      first_orders = tt;
+      losses = so_far.losses;
+      honest = so_far.honest;
+      apps = so_far.apps;
+      fault = λ is. absurd (never_stopped _ _ is);
+      later = so_far.later;
+    })

@@ -4,6 +4,7 @@ use Rattle.script.specs.declared.dialect.Dialect.TheVariants.{Whole}
 use Rattle.script.proofs.Places.{not_both}
 use Rattle.tee_top.specs.Runs.{IsBadAt, IsKnown, IsReadStatus, IsServed, IsStopped, ReadsTo}
 use Rattle.tee_top.proofs.Ended.{bad_line_told, read_unopened, script_told, served_told, too_long_told, within_for}
+use Rattle.tee_top.proofs.Powers.{fails_rose}
 use Rattle.tee_top.proofs.run.run_tee.Goals as goal
 
 pub serve-requires-clause-known : goal.serve-requires-clause-known
@@ -75,7 +76,8 @@ returns-clause-board_fault g c = λ same honest stores begins.
 
 pub returns-clause-complete : goal.returns-clause-complete
 returns-clause-complete g c = λ text script stores readable written honest begins unfailed good.
-    served_told c.serve.result.0 c.serve.ensures.few (λ same. written (c.serve.ensures.fault same)) (λ same. unfailed (c.serve.ensures.cause same))
+    served_told c.serve.result.0 c.serve.ensures.few (λ same. written (c.serve.ensures.fault same))
+    (λ same. unfailed (⊎_elim (λ first. first.1.failed) (λ power. fails_rose _ _ _ power) (c.serve.ensures.cause same)))
     (λ why same. c.serve.ensures.accepted why same honest stores begins)
 
 -- a status of reading is none of these
@@ -96,6 +98,12 @@ returns-in-Err-clause-accepted g c = λ why e. absurd (subst IsReadStatus e c.in
 
 pub returns-in-Err-clause-refused : goal.returns-in-Err-clause-refused
 returns-in-Err-clause-refused g c = λ why e. absurd (subst IsReadStatus e c.in-Err.ensures.few)
+
+pub returns-in-Err-clause-rule : goal.returns-in-Err-clause-rule
+returns-in-Err-clause-rule g c = λ why e. absurd (subst IsReadStatus e c.in-Err.ensures.few)
+
+pub returns-in-Err-clause-answer : goal.returns-in-Err-clause-answer
+returns-in-Err-clause-answer g c = λ why e. absurd (subst IsReadStatus e c.in-Err.ensures.few)
 
 pub returns-in-Err-clause-write_fault : goal.returns-in-Err-clause-write_fault
 returns-in-Err-clause-write_fault g c = λ e. absurd (subst IsReadStatus e c.in-Err.ensures.few)
@@ -146,6 +154,14 @@ returns-clause-refused g c = λ why same honest.
     let reads = subst (λ hosts. ReadsTo hosts (g.S.Source.left c.args.source.now) c.in-Ok.lines.items) c.as_slice.ensures.value c.in-Ok.ensures.read in
     ⊎_elim (λ none. inl none) (λ power. inr (c.in-Ok.lines.items, reads, power)) (c.serve.ensures.refused why same honest)
 
+pub returns-clause-rule : goal.returns-clause-rule
+returns-clause-rule g c = λ why same tells.
+    let reads = subst (λ hosts. ReadsTo hosts (g.S.Source.left c.args.source.now) c.in-Ok.lines.items) c.as_slice.ensures.value c.in-Ok.ensures.read in
+    ⊎_elim (λ none. inl none) (λ power. inr (c.in-Ok.lines.items, reads, power)) (c.serve.ensures.rule why same tells)
+
+pub returns-clause-answer : goal.returns-clause-answer
+returns-clause-answer g c = c.serve.ensures.answer
+
 pub returns-clause-orders : goal.returns-clause-orders
 returns-clause-orders g c = λ same.
     let reads = subst (λ hosts. ReadsTo hosts (g.S.Source.left c.args.source.now) c.in-Ok.lines.items) c.as_slice.ensures.value c.in-Ok.ensures.read in
@@ -169,7 +185,9 @@ pub returns-clause-write_fault : goal.returns-clause-write_fault
 returns-clause-write_fault g c = c.serve.ensures.fault
 
 pub returns-clause-cause : goal.returns-clause-cause
-returns-clause-cause g c = c.serve.ensures.cause
+returns-clause-cause g c = λ same.
+    let reads = subst (λ hosts. ReadsTo hosts (g.S.Source.left c.args.source.now) c.in-Ok.lines.items) c.as_slice.ensures.value c.in-Ok.ensures.read in
+    ⊎_elim (λ first. inl first) (λ power. inr (c.in-Ok.lines.items, reads, power)) (c.serve.ensures.cause same)
 
 pub returns-clause-losses : goal.returns-clause-losses
 returns-clause-losses g c = c.serve.ensures.losses

@@ -11,10 +11,12 @@ use Rattle.tee_top.specs.Transcript.{events_of}
 use Rattle.tee_top.proofs.Leaves.{stands_leaves}
 use Rattle.tee_top.proofs.Losses.{losses_both, losses_none}
 use Rattle.tee_top.proofs.Names.{hosts_begin}
-use Rattle.tee_top.proofs.Opened.{begin_leaves, first_orders_none, opening_leaves, orders_opened, run_behind, span_opened}
+use Rattle.tee_top.proofs.Opened.{begin_leaves, first_orders_none, opening_leaves, orders_opened, refused_behind, run_behind, span_opened}
 use Rattle.tee_top.proofs.Parts.{all_orders_first, first_orders_more, orders_both}
+use Rattle.tee_top.proofs.Powers.{fails_behind}
 use Rattle.tee_top.proofs.Refusals.{refused_weaker}
-use Rattle.tee_top.proofs.Served.{ended_done, ended_either, ended_fault, ended_refused, ended_stopped, never_opened, refused_never, refused_told}
+use Rattle.tee_top.proofs.Served.{answer_told, ended_answer, ended_done, ended_either, ended_failed, ended_fault, ended_refused, ended_stopped}
+use Rattle.tee_top.proofs.Served.{failed_told, never_opened, refused_never, refused_told, rule_told}
 use Rattle.tee_top.proofs.Whole.{all_written, front_written, nothing_written, power_written}
 use Rattle.tee_top.proofs.run.serve.Goals as goal
 
@@ -51,6 +53,30 @@ returns-in-Err-clause-accepted g c = λ why same honest stores begins.
 pub returns-in-Err-clause-refusal : goal.returns-in-Err-clause-refusal
 returns-in-Err-clause-refusal g c = λ why same honest.
     refused_told g.V.BoardVolume.form (g.B.Board.view c.in-Err.field-0.board) c.in-Err.field-0.why why (sym c.refusal_status.ensures ∙ same) (c.in-Err.ensures.refusal honest)
+
+pub returns-in-Err-clause-refused : goal.returns-in-Err-clause-refused
+returns-in-Err-clause-refused g c = λ why same honest.
+    let exact = c.in-Err.ensures.exact honest in
+    inl (refl, record {
+      counter = exact.0;
+      may_tell = exact.1;
+      refused = rule_told g.V.BoardVolume.form (g.B.Board.view c.args.board) exact.0 c.in-Err.field-0.why why (sym c.refusal_status.ensures ∙ same) exact.2;
+    })
+
+pub returns-in-Err-clause-rule : goal.returns-in-Err-clause-rule
+returns-in-Err-clause-rule g c = λ why same tells.
+    let rule = c.in-Err.ensures.rule tells in
+    inl (refl, rule.0, rule_told g.V.BoardVolume.form (g.B.Board.view c.args.board) rule.0 c.in-Err.field-0.why why (sym c.refusal_status.ensures ∙ same) rule.1)
+
+pub returns-in-Err-clause-answer : goal.returns-in-Err-clause-answer
+returns-in-Err-clause-answer g c = λ why same. answer_told c.in-Err.field-0.why why (sym c.refusal_status.ensures ∙ same)
+
+pub returns-in-Err-clause-cause : goal.returns-in-Err-clause-cause
+returns-in-Err-clause-cause g c = λ fault.
+    inl (refl, record {
+      orders = orders_opened _ _ _ c.in-Err.ensures.back;
+      failed = c.in-Err.ensures.cause (failed_told c.in-Err.field-0.why (sym c.refusal_status.ensures ∙ fault));
+    })
 
 pub returns-in-Err-clause-first_orders : goal.returns-in-Err-clause-first_orders
 returns-in-Err-clause-first_orders g c = first_orders_none c.args.lines.items _ _ (orders_opened _ _ _ c.in-Err.ensures.back)
@@ -116,6 +142,7 @@ returns-clause-board_fault g c = λ fault honest stores begins.
     let world = world_of c.args.hosts.items c.args.seed stores in
     let tee = c.in-Ok-open.tee in
     let new = c.run_lines.new.tee in
+    let start = g.B.Board.view c.args.board in
     let view = g.B.Board.view (g.V.BoardVolume.board_of (volume_of tee)) in
     let left = g.B.Board.view (g.V.BoardVolume.board_of (volume_of new)) in
     let same : c.as_slice-2.result.now ≡ names_of c.args.hosts.items = c.as_slice-2.ensures.value ∙ c.in-Ok.ensures ∙ ap names_of c.as_slice.ensures.value in
@@ -124,8 +151,10 @@ returns-clause-board_fault g c = λ fault honest stores begins.
     let stands = (c.in-Ok-open.ensures.world honest begins.counter begins.held stores begins.rests begins.size begins.sound).0 in
     let refused = (ended_fault c.run_lines.result _ (sym c.run_status-status.ensures ∙ fault) c.run_lines.ensures.refused).1 world stands in
     inr (rw c.into_board.ensures
-    (power_written behaviour form c.args.hosts.items c.requires.fit c.args.seed stores c.args.lines.items before after c.in-Ok-open.ensures.boots
-    (subst (λ ns. IsRefusedIn behaviour form ns c.args.lines.items world before after) same refused.0)))
+    (power_written behaviour form c.args.hosts.items c.requires.fit c.args.seed stores c.args.lines.items (point (boots_of tee) start (g.W.Sink.written c.args.sink.now)) after
+    c.in-Ok-open.ensures.boots
+    (refused_behind behaviour form (names_of c.args.hosts.items) c.args.lines.items world start before after (span_opened _ _ _ c.in-Ok-open.ensures.opened)
+    (subst (λ ns. IsRefusedIn behaviour form ns c.args.lines.items world before after) same refused.0))))
 
 pub returns-clause-accepted : goal.returns-clause-accepted
 returns-clause-accepted g c = λ why same honest stores begins.
@@ -137,6 +166,19 @@ returns-clause-accepted g c = λ why same honest stores begins.
 pub returns-clause-refused : goal.returns-clause-refused
 returns-clause-refused g c = λ why same honest.
     inr (ended_refused c.run_lines.result _ why (sym c.run_status-status.ensures ∙ same) c.run_lines.ensures.power).1
+
+pub returns-clause-rule : goal.returns-clause-rule
+returns-clause-rule g c = λ why same tells.
+    inr (ended_refused c.run_lines.result _ why (sym c.run_status-status.ensures ∙ same) c.run_lines.ensures.power).1
+
+pub returns-clause-answer : goal.returns-clause-answer
+returns-clause-answer g c = λ why same. ended_answer c.run_lines.result why (sym c.run_status-status.ensures ∙ same)
+
+pub returns-clause-cause : goal.returns-clause-cause
+returns-clause-cause g c = λ fault.
+    inr (rw c.into_board.ensures
+    (fails_behind [] c.args.lines.items _ _ _ (orders_opened _ _ _ c.in-Ok-open.ensures.opened)
+    (ended_failed c.run_lines.result _ (sym c.run_status-status.ensures ∙ fault) c.run_lines.ensures.cause)))
 
 pub returns-clause-refusal : goal.returns-clause-refusal
 returns-clause-refusal g c = λ why same honest.

@@ -1,5 +1,5 @@
 use Rattle.app_side.specs.Storeless.{IsStoreless}
-use Rattle.app_side.proofs.Storeless.{kind_is, step_is, stays_lost, told_is}
+use Rattle.app_side.proofs.Storeless.{kind_is, stands_is, step_is, stays_lost, told_is}
 use Rattle.app_side.proofs.side.AppSide.turn_without_store.Goals as goal
 
 pub returns-clause-kind : goal.returns-clause-kind
@@ -13,6 +13,14 @@ returns-clause-step g c =
     c.turn-turned.new.store kind c.turn-turned.ensures.turn c.bounds.ensures.faults c.bounds.ensures.damage in
     step_is g.A.Application.behaviour c.args.instance c.turn-turned.result.replies c.args.self.now c.turn-turned.new.self c.new-store.result c.turn-turned.new.store kind
     c.turn-turned.ensures.turn storeless c.requires.storeless
+
+pub returns-clause-stands : goal.returns-clause-stands
+returns-clause-stands g c =
+    let kind = c.turn-turned.result.kind in
+    let storeless : IsStoreless kind = kind_is g.A.Application.behaviour c.args.instance c.turn-turned.result.replies c.args.self.now c.turn-turned.new.self c.new-store.result
+    c.turn-turned.new.store kind c.turn-turned.ensures.turn c.bounds.ensures.faults c.bounds.ensures.damage in
+    stands_is g.A.Application.behaviour c.args.instance c.turn-turned.result.replies c.args.self.now c.turn-turned.new.self c.new-store.result c.turn-turned.new.store kind
+    c.turn-turned.ensures.turn storeless
 
 pub returns-clause-told : goal.returns-clause-told
 returns-clause-told g c =

@@ -1,7 +1,7 @@
 use Rattle.std.proofs.Common.{◌≤◌}
 use Rattle.report.specs.Texts.{reply_text}
 use Rattle.tee_top.proofs.Writing.{WrittenTo}
-use Rattle.tee_top.proofs.lines.write_replies.Given as goal
+use Rattle.tee_top.proofs.output.write_replies.Given as goal
 
 -- what was written so far and the lines of the replies from here on are those of all
 abbrev pub invariant-loop-reply : goal.invariant-loop-reply

@@ -2,7 +2,7 @@ use Rattle.std.proofs.Common.{◌∙◌, arith}
 use Rattle.report.specs.Texts.{reply_text}
 use Rattle.tee_core.proofs.Steps.{on_err_known}
 use Rattle.tee_top.proofs.Writing.{pieces_further, pieces_cut}
-use Rattle.tee_top.proofs.lines.write_replies.Goals as goal
+use Rattle.tee_top.proofs.output.write_replies.Goals as goal
 
 pub returns-in_err-write_bytes-clause-err : goal.returns-in_err-write_bytes-clause-err
 returns-in_err-write_bytes-clause-err g c =

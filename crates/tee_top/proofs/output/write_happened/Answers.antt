@@ -7,7 +7,7 @@ use Rattle.report.specs.Texts.{happened_text}
 use Rattle.tee_core.proofs.Steps.{on_err_known}
 use Rattle.tee_top.specs.Transcript.{replies_text}
 use Rattle.tee_top.proofs.Writing.{front_after, front_longer, front_none}
-use Rattle.tee_top.proofs.lines.write_happened.Goals as goal
+use Rattle.tee_top.proofs.output.write_happened.Goals as goal
 
 pub returns-in_err-mark-clause-err : goal.returns-in_err-mark-clause-err
 returns-in_err-mark-clause-err g c = on_err_known c.from_residual.result _ (front_none _ _)

@@ -4,7 +4,7 @@ use Rattle.std.proofs.lemmas.Result.{on_err_weaker, on_ok_weaker}
 use Rattle.tee_base.specs.Transfer.{AppendsFront}
 use Rattle.report.specs.Texts.{power_text}
 use Rattle.tee_top.specs.Transcript.{power_line}
-use Rattle.tee_top.proofs.lines.write_power.Goals as goal
+use Rattle.tee_top.proofs.output.write_power.Goals as goal
 
 pub returns-clause-ok : goal.returns-clause-ok
 returns-clause-ok g c =

@@ -1,0 +1,5 @@
+use Rattle.tee_top.proofs.Zeros.{begins}
+use Rattle.tee_top.proofs.blank.blank_boards_begin.Goals as goal
+
+pub returns : goal.returns
+returns c = begins c.region_laws.ensures.blank
