@@ -6,9 +6,9 @@ ghost use Rattle.store_api.specs.Ascending.{is_ascending};
 ghost use Rattle.store_api.specs.Volumes.{IfMismatch, ShowsLeaf};
 ghost use Rattle.store_api.specs.declared.leaves.LeafAnswer.TheVariants as answers;
 ghost use Rattle.board.specs.Steps.{CallRun};
+ghost use Rattle.epoch.specs.Reading.{OnlyReads, no_fault};
 ghost use Rattle.seal.specs.Keys.{AreKeysOf};
 ghost use Rattle.tree_volume.specs.Gather.{AreGathered, AreTrue, IsPushed, named};
-ghost use Rattle.tree_volume.specs.Reading.{OnlyReads};
 ghost use Rattle.tree_volume.specs.Shape.{shape};
 ghost use Rattle.tree_volume.specs.Touched.{AreOrdered, fresh_of};
 ghost use Rattle.tree_volume.specs.Tree.{damage_at, damage_of, on_image};
@@ -32,7 +32,7 @@ fn take_in<B: Board>(
 ) -> Result<(), LeafAnswer>
     requires size { TREE_BLOCKS ≤ (B.view board.old).size }
     requires place { place < PLACES }
-    ensures calls { CallRun true (B.view board.old) (B.view board.new) }
+    ensures calls { CallRun (no_fault result) (B.view board.old) (B.view board.new) }
     ensures writes { (B.view board.new).writes ≡ (B.view board.old).writes }
     ensures cause { result ≡ Err answers.Failed
         → Rose (B.view board.old).state.faults (B.view board.new).state.faults }
@@ -78,7 +78,7 @@ pub fn hold<B: Board>(
     requires level { shape.level place ≡ level }
     requires above { level < DEPTH }
     requires gathered { AreGathered shape touched.old }
-    ensures calls { CallRun true (B.view board.old) (B.view board.new) }
+    ensures calls { CallRun (no_fault result) (B.view board.old) (B.view board.new) }
     ensures writes { (B.view board.new).writes ≡ (B.view board.old).writes }
     ensures cause { result ≡ Err answers.Failed
         → Rose (B.view board.old).state.faults (B.view board.new).state.faults }
@@ -129,7 +129,7 @@ fn add_leaf<B: Board>(
     requires number { leaf.now.number < REGION_LEAVES }
     requires gathered { AreGathered shape touched.old }
     requires new { fresh_of touched.old (shape.leaf_place region leaf.now.number) ≡ None }
-    ensures calls { CallRun true (B.view board.old) (B.view board.new) }
+    ensures calls { CallRun (no_fault result) (B.view board.old) (B.view board.new) }
     ensures writes { (B.view board.new).writes ≡ (B.view board.old).writes }
     ensures cause { result ≡ Err answers.Failed
         → Rose (B.view board.old).state.faults (B.view board.new).state.faults }
@@ -184,7 +184,7 @@ pub fn gather<B: Board>(
     requires region { region < MAX_HOSTS }
     requires ascending { is_ascending leaves.now ≡ true }
     requires numbers { All (λ leaf. leaf.number < REGION_LEAVES) leaves.now }
-    ensures calls { CallRun true (B.view board.old) (B.view board.new) }
+    ensures calls { CallRun (no_fault result) (B.view board.old) (B.view board.new) }
     ensures writes { (B.view board.new).writes ≡ (B.view board.old).writes }
     ensures cause { result ≡ Err answers.Failed
         → Rose (B.view board.old).state.faults (B.view board.new).state.faults }

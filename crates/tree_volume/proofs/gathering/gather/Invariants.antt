@@ -5,7 +5,7 @@ use Rattle.seal.specs.Keys.{AreKeysOf}
 use Rattle.store_api.specs.Ascending.{is_ascending}
 use Rattle.store_api.specs.declared.leaves.Leaf.{Leaf}
 use Rattle.tree_volume.specs.Gather.{AreTrue, named}
-use Rattle.tree_volume.specs.Reading.{OnlyReads}
+use Rattle.epoch.specs.Reading.{OnlyReads}
 use Rattle.tree_volume.specs.Shape.{shape}
 use Rattle.tree_volume.specs.Touched.{AreOrdered, fresh_of}
 use Rattle.tree_volume.specs.Tree.{on_image}
