@@ -1,5 +1,5 @@
 -- One call after another forgets nothing of what a crash might have left.
-use Rattle.std.proofs.Common.{◌≡◌, ◌+◌, ◌⊎◌, ◌∷◌, ◌++◌, ◌∙◌, List, [], length, refl, sym, ap, subst, inl, inr, ⊎_elim, arith, append_assoc}
+use Rattle.std.proofs.Common.{◌≡◌, ◌+◌, ◌∷◌, ◌++◌, ◌∙◌, List, [], length, refl, sym, ap, subst, inl, inr, ⊎_elim, arith, append_assoc}
 use Rattle.board.specs.Moment.{IsBehind, Moment, View, IsLeft, WasLeft, moment}
 use Rattle.board.specs.Steps.{Answered, Passes}
 use Rattle.epoch.specs.Past.{KeepsPast}

@@ -129,7 +129,8 @@ pub fn commit<B: Board, C: Change>(
     ensures done { B.honest board.old → (before : Held)
         → IsBegun C.form (C.fits change.old) (B.view board.old) (C.root change.old) sequence before
         → IfOk result (λ root. IsMounted C.form (B.view board.old).key root
-        (next_held C.form (C.after change.old before.leaves) before.sequence) (B.view board.new).state
+        (next_held C.form (C.after change.old before.leaves) before.sequence)
+        (B.view board.new).state
         × C.fits change.new (B.view board.old).key (B.view board.new).state.reads) }
     ensures kept { B.honest board.old → (before : Held)
         → IsBegun C.form (C.fits change.old) (B.view board.old) (C.root change.old) sequence before

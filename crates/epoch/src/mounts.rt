@@ -23,6 +23,7 @@ use store_api::Volume;
 
 /// The sequence of a board on which no header counts, and that once it is formatted.
 pub const BLANK: u64 = 0;
+
 pub const FORMATTED: u64 = 1;
 
 /// A volume that stands on a board. Opened, it keeps the root of the header that counts by the opening rule, whatever the

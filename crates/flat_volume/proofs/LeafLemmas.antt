@@ -224,7 +224,8 @@ entries_more key sequence told tnew region number xs asc i inside at others here
     (λ (ne : j ≢ i).
     let less : j < i = omega (arith, below, ne) in
     let apart : (leaf_at xs j).number < (leaf_at xs i).number = earlier xs asc j i less inside in
-    let other : number_of region (leaf_at xs j).number ≢ number = λ e. (let same : number_of region (leaf_at xs j).number ≡ number_of region (leaf_at xs i).number = e ∙ at in absurd (omega (arith, same, apart))) in
+    let other : number_of region (leaf_at xs j).number ≢ number
+    = λ e. (let same : number_of region (leaf_at xs j).number ≡ number_of region (leaf_at xs i).number = e ∙ at in absurd (omega (arith, same, apart))) in
     subst (IsSealedFor key (FIRST_LEAF + number_of region (leaf_at xs j).number) sequence (leaf_at xs j).bytes) (sym (others (number_of region (leaf_at xs j).number) other)) (before j less))
     (cases_eq j i)
 

@@ -1,6 +1,6 @@
 -- What the opening of a flat volume leaves, over what was found on its board.
 use Rattle.std.proofs.Common.{◌≡◌, ◌+◌, ◌⊎◌, ◌==◌, ◌∙◌, if◌then◌else◌, ℕ, Bool, true, false, List, [], Option, Some, None, Result}
-use Rattle.std.proofs.Common.{Ok, Err, IfErr, IfOk, IfSome, refl, sym, ap, subst, inl, arith, ⊎_elim}
+use Rattle.std.proofs.Common.{Ok, Err, IfErr, IfOk, refl, sym, ap, subst, inl, arith, ⊎_elim}
 use Rattle.std.specs.Result.{IsErr}
 use Rattle.std.proofs.lemmas.Bool.{false≢true}
 use Rattle.std.proofs.lemmas.Bool.Decides.{nat_tests}

@@ -23,8 +23,8 @@ use crate::volume::{FlatVolume, Opened};
 use crate::write::{FlatChange, NO_ROOT};
 use board::Board;
 use epoch::{
-    BLANK, BoardVolume, FLAT_VERSION, FORMATTED, Header, OpenAnswer, Unopened, VOLUME_BLOCKS, commit, mount,
-    mount_after_power, mount_again,
+    BLANK, BoardVolume, FLAT_VERSION, FORMATTED, Header, OpenAnswer, Unopened, VOLUME_BLOCKS,
+    commit, mount, mount_after_power, mount_again,
 };
 use seal::Keys;
 use std::alloc::Global;
@@ -122,7 +122,8 @@ fn format_board<B: Board>(alloc: Global, board: &mut B) -> Result<Opened, OpenAn
     ensures cause { result ≡ Err refusals.Failed
         → Rose (B.view board.old).state.faults (B.view board.new).state.faults }
     ensures kept { IfErr result (λ why. IsKeptFromOpening why) }
-    ensures formatted { IfOk result (λ o. (o.sequence ≡ FORMATTED) × (o.root.sequence ≡ FORMATTED)) }
+    ensures formatted { IfOk result (λ o.
+        (o.sequence ≡ FORMATTED) × (o.root.sequence ≡ FORMATTED)) }
     ensures verified { IfOk result (λ o. IsVerified (B.view board.old).key o.table o.root) }
     // what isn't opened for another cause than a failed call is as it was
     ensures unwritten { IfErr result (λ why. why ≢ refusals.Failed

@@ -90,7 +90,16 @@ none_now (m ∷ past) t c late was =
 
 -- no call of it was made
 pub run_of_none : (view : View) → CallRun true view view
-run_of_none view = record { size = refl; key = refl; orders = refl; ordered = refl; faults = omega arith; cause = λ fails. absurd (let e : true ≡ false = fails in cc) }
+run_of_none view = record {
+  size = refl;
+  key = refl;
+  orders = refl;
+  ordered = refl;
+  faults = omega arith;
+  cause = λ fails. absurd (let e : true ≡ false = fails in cc);
+  steady = λ made. refl;
+  unset = λ none. none;
+}
 
 -- a crash leaves what it holds
 pub leaves_resting : (f : Form) (view : View) (n : ℕ) (h : Held) → Rests n view.state → held f view.key view.state.reads n ≡ Some h → LeavesOpening f h view view

@@ -15,7 +15,8 @@ use Rattle.app_side.specs.declared.side.AppSide.{AppSide}
 use Rattle.object_asks.specs.declared.turn.TurnKind.{TurnKind as StoreKind}
 use Rattle.object_asks.specs.declared.turn.TurnKind.TheVariants as store_kinds
 use Rattle.object_asks.specs.Serving.{CrashTurns, IsKind, IsUndamaged, LeftByTurn, UnlessInDoubt}
-use Rattle.object_dir.proofs.HeldLemmas.{own_store as region_store, reads_back, same_contents, stands_by, still_stands}
+use Rattle.object_dir.specs.Laws.{reads_back}
+use Rattle.object_dir.proofs.HeldLemmas.{own_store as region_store, same_contents, stands_by, still_stands}
 use Rattle.object_dir.proofs.PlaceLemmas.{volume_stays}
 use Rattle.object_dir.specs.Directories.{dir_keeper}
 use Rattle.object_dir.specs.Regions.{HasStore, contents_in, opened, region_in, remains_in, rest_of, store_in}

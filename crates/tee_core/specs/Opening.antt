@@ -1,5 +1,5 @@
 -- What an opening of all applications promises.
-use Rattle.std.specs.Prelude.{ℕ, ◌≡◌, ◌<◌, true, Some, Ok}
+use Rattle.std.specs.Prelude.{ℕ, ◌≡◌, ◌<◌, Bool, Some, Ok}
 use Rattle.board.specs.Moment.{View}
 use Rattle.board.specs.Steps.{CallRun}
 use Rattle.epoch.specs.Forms.{Form, held}
@@ -13,6 +13,6 @@ pub record IsSoundFor (f : Form) (view : View) (counter : ℕ) (h : Held) (hosts
   pub opens : held f view.key view.state.reads counter ≡ Some h
   pub stand : (app : ℕ) → app < hosts → region_in app h ≡ Ok (stores app)
 
--- the board was opened by a run of its calls
-abbrev pub IsOpenedOver : View → View → Type 0
-IsOpenedOver old new = CallRun true old new
+-- the board was opened by a run of its calls, none of which failed where this is true
+abbrev pub IsOpenedOver : Bool → View → View → Type 0
+IsOpenedOver made old new = CallRun made old new

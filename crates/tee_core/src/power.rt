@@ -1,6 +1,6 @@
 //! The board beside the applications: opening, a fuse, a loss of power, and the board handed back.
 
-ghost use Rattle.std.specs.Prelude.{◌≡◌, ◌≤◌, ◌<◌, ◌+◌, ◌-◌, ◌^◌, ℕ, Err, IfErr, IfOk, IsTrue, OnErr, OnOk, Some, false, length};
+ghost use Rattle.std.specs.Prelude.{◌≡◌, ◌≢◌, ◌≤◌, ◌<◌, ◌+◌, ◌-◌, ◌^◌, ℕ, Err, IfErr, IfOk, IsTrue, OnErr, OnOk, Some, false, true, length};
 ghost use Rattle.app_api.specs.Hosts.{HostsFit};
 ghost use Rattle.tee_base.specs.Crash.{LeavesOnly};
 ghost use Rattle.tee_base.specs.Faults.{Rose};
@@ -9,8 +9,14 @@ ghost use Rattle.store_api.specs.Stores.{Store};
 ghost use Rattle.store_api.specs.Volumes.{Held};
 ghost use Rattle.board.specs.Moment.{IsCounter, IsLeft, Outcome};
 ghost use Rattle.board.specs.Runs.{Rests};
+ghost use Rattle.board.specs.Fuse.{refitted};
+ghost use Rattle.board.specs.Steps.{Passes, SameBlocks, Unchanged};
+ghost use Rattle.board.specs.declared.fuse.Fuse.TheVariants.{Unset};
 ghost use Rattle.epoch.specs.Forms.{held};
-ghost use Rattle.epoch.specs.Mounts.{IsAdmitted, IsKeptFromOpening, IsRefusal, IsRefusedNow, LeavesOpening, OrderRun, after_opening};
+ghost use Rattle.epoch.specs.Mounts.{IsAdmitted, IsKeptFromOpening, IsRefusal, IsRefusedNow, LeavesOpening, OrderRun, PowerFirst, after_opening};
+ghost use Rattle.epoch.specs.Opening.{is_no_failure, no_failure};
+ghost use Rattle.epoch.specs.Past.{KeepsPast};
+ghost use Rattle.epoch.specs.declared.mounts.TheConstants.{BLANK, FORMATTED};
 ghost use Rattle.epoch.specs.declared.answer.OpenAnswer.TheVariants as answers;
 ghost use Rattle.tee_core.specs.Moments.{IsWithin};
 ghost use Rattle.tee_core.specs.Opening.{IsOpenedOver, IsSoundFor};
@@ -99,12 +105,22 @@ impl<B: Board, V: BoardVolume<B>, A: Application> TeeOver<B, V, A> {
             → IfOk result (λ tee. Represents tee (world_of hosts.items seed stores)
             × LeavesOpening V.form h (B.view board) (B.view (V.board_of (volume_of tee)))) }
         ensures opened { IfOk result (λ tee.
-            IsOpenedOver (B.view board) (B.view (V.board_of (volume_of tee)))) }
+            IsOpenedOver true (B.view board) (B.view (V.board_of (volume_of tee)))) }
         ensures apps { IfOk result (λ tee. app_count tee ≡ length hosts.items) }
         ensures turns { IfOk result (λ tee. (app : ℕ) → turns_made tee app ≡ 0) }
         ensures boots { IfOk result (λ tee. boots_of tee ≡ 0) }
         // a refusal hands the board back, as its calls left it
-        ensures back { IfErr result (λ u. IsOpenedOver (B.view board) (B.view u.board)) }
+        ensures back { IfErr result (λ u.
+            IsOpenedOver (is_no_failure u.why) (B.view board) (B.view u.board)) }
+        // a board that is refused, or for which there was no memory, is as it was
+        ensures unwritten { IfErr result (λ u. u.why ≢ answers.Failed
+            → (B.view u.board).writes ≡ (B.view board).writes) }
+        ensures unchanged { B.honest board → IfErr result (λ u. u.why ≢ answers.Failed
+            → SameBlocks (B.view board).state (B.view u.board).state) }
+        ensures past { B.honest board
+            → IfOk result (λ tee. KeepsPast (B.view board) (B.view (V.board_of (volume_of tee)))) }
+        ensures past_back { B.honest board
+            → IfErr result (λ u. KeepsPast (B.view board) (B.view u.board)) }
         ensures refusal { B.honest board
             → IfErr result (λ u. IsRefusedNow V.form (B.view u.board) u.why) }
         ensures honest { B.honest board
@@ -117,12 +133,14 @@ impl<B: Board, V: BoardVolume<B>, A: Application> TeeOver<B, V, A> {
             × IfErr result (λ u. IsRefusal V.form (B.view board)
             (B.view board).state.reads counter u.why)
             × IfOk result (λ tee. IsAdmitted V.form (B.view board)
-            (B.view board).state.reads counter (V.keeper.held (volume_of tee)).sequence) }
+            (B.view board).state.reads counter FORMATTED (V.keeper.held (volume_of tee)).sequence
+            (V.root (volume_of tee))) }
         ensures exact { B.honest board → (counter : ℕ) × IsCounter (B.view board).state counter
             × IfErr result (λ u. IsRefusal V.form (B.view board)
             (B.view board).state.reads counter u.why)
             × IfOk result (λ tee. IsAdmitted V.form (B.view board)
-            (B.view board).state.reads counter (V.keeper.held (volume_of tee)).sequence) }
+            (B.view board).state.reads counter FORMATTED (V.keeper.held (volume_of tee)).sequence
+            (V.root (volume_of tee))) }
         ensures unopened { B.honest board → (n : ℕ) (h : Held) → Rests n (B.view board).state
             → BOARD_BLOCKS ≤ (B.view board).size
             → held V.form (B.view board).key (B.view board).state.reads n ≡ Some h
@@ -147,6 +165,13 @@ impl<B: Board, V: BoardVolume<B>, A: Application> TeeOver<B, V, A> {
 
     /// Lets so many calls of the board pass, as the board's `fuse` does.
     pub fn fuse(&mut self, calls: u32)
+        ensures fuse { (B.view (V.board_of (volume_of self.new))).fuse
+            ≡ refitted (B.view (V.board_of (volume_of self.old))).fuse calls }
+        ensures alone { B.honest (V.board_of (volume_of self.old))
+            → Passes (B.view (V.board_of (volume_of self.old)))
+            (B.view (V.board_of (volume_of self.new)))
+            × Unchanged (B.view (V.board_of (volume_of self.old))).state
+            (B.view (V.board_of (volume_of self.new))).state }
         ensures order { OrderRun calls (B.view (V.board_of (volume_of self.old)))
             (B.view (V.board_of (volume_of self.new))) }
         ensures world { (world : World A) → Represents self.old world
@@ -189,7 +214,21 @@ impl<B: Board, V: BoardVolume<B>, A: Application> TeeOver<B, V, A> {
             × IfErr result (λ why. IsRefusal V.form (B.view (V.board_of (volume_of self.old)))
             c.image c.counter why)
             × IfOk result (λ told. IsAdmitted V.form (B.view (V.board_of (volume_of self.old)))
-            c.image c.counter (V.keeper.held (volume_of self.new)).sequence) }
+            c.image c.counter BLANK (V.keeper.held (volume_of self.new)).sequence
+            (V.root (volume_of self.new))) }
+        // the power goes before any other call, no block is written, and each reads as the power left it
+        ensures begins { B.honest (V.board_of (volume_of self.old))
+            → PowerFirst (B.view (V.board_of (volume_of self.old)))
+            (B.view (V.board_of (volume_of self.new))) }
+        ensures writes { (B.view (V.board_of (volume_of self.new))).writes
+            ≡ (B.view (V.board_of (volume_of self.old))).writes }
+        ensures fuse { (B.view (V.board_of (volume_of self.new))).fuse ≡ Unset }
+        ensures steady { IsTrue (no_failure result)
+            → (B.view (V.board_of (volume_of self.new))).state.faults
+            ≡ (B.view (V.board_of (volume_of self.old))).state.faults }
+        ensures past { B.honest (V.board_of (volume_of self.old))
+            → KeepsPast (B.view (V.board_of (volume_of self.old)))
+            (B.view (V.board_of (volume_of self.new))) }
         // a refusal is of the board as it is then
         ensures refusal { B.honest (V.board_of (volume_of self.old)) → IfErr result (λ why.
             IsRefusedNow V.form (B.view (V.board_of (volume_of self.new))) why) }

@@ -10,6 +10,8 @@ use Rattle.epoch.specs.Mounts.{IsAdmitted, OrderRun}
 use Rattle.epoch.specs.Opening.{opens_as}
 use Rattle.epoch.specs.declared.answer.OpenAnswer.{OpenAnswer}
 use Rattle.epoch.specs.declared.answer.OpenAnswer.TheVariants as answers
+use Rattle.epoch.specs.declared.header.TreeEntry.{TreeEntry}
+use Rattle.epoch.specs.declared.mounts.TheConstants.{FORMATTED}
 use Rattle.script.specs.declared.line.Line.{Line}
 use Rattle.script.specs.declared.line.Line.TheVariants as lines
 use Rattle.store_api.specs.Stores.{Store}
@@ -153,7 +155,8 @@ pub record IsRefusedByRule (form : Form) (view : View) (why : OpenAnswer) : Type
 -- the opening rule opens the board's image, at a counter that it may tell
 abbrev pub HasOpened : Form → View → Type 0
 HasOpened form view = (counter : ℕ) × IsCounter view.state counter
-    × (sequence : ℕ) × IsAdmitted form view view.state.reads counter sequence
+    × (sequence : ℕ) × (root : TreeEntry)
+    × IsAdmitted form view view.state.reads counter FORMATTED sequence root
 
 -- the board rests with an image that is sound for so many hosts, whose regions stand for these stores
 pub record BeginsWith (form : Form) (view : View) (hosts : ℕ) (stores : ℕ → Store) : Type 0 where

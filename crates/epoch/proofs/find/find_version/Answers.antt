@@ -1,6 +1,6 @@
 use Rattle.epoch.proofs.CallLemmas.{run_as, run_failed, run_more, run_none}
 use Rattle.epoch.proofs.PastLemmas.{itself, followed}
-use Rattle.std.proofs.Common.{◌≡◌, ◌≢◌, ◌≤◌, ◌∙◌, ℕ, List, false, Some, None, Ok, Err, refl, sym, subst, arith, rules, true}
+use Rattle.std.proofs.Common.{◌≡◌, ◌≢◌, ◌≤◌, ◌∙◌, ℕ, List, false, Some, None, Ok, Err, refl, sym, subst, arith, rules}
 use Rattle.std.proofs.lemmas.Bool.{ltb-false}
 use Rattle.seal.specs.Keys.{AreKeysOf}
 use Rattle.epoch.specs.Opening.{header_answer}
@@ -125,7 +125,8 @@ returns-clause-calls g c =
     let one = c.in_ok-seen.ensures.calls in
     elim c.match-judge.branch [
       | in-Err w ↦
-          rw (w.result-is, w.board-is) (run_as _ _ _ _ (judged_so c.args.version c.in_ok-seen.seen.first c.in_ok-seen.seen.second c.in_ok-seen.seen.counter w.in-Err.answer (sym c.judge.ensures ∙ w.in-Err.is)) one)
+          rw (w.result-is, w.board-is) (run_as _ _ _ _ (judged_so c.args.version c.in_ok-seen.seen.first c.in_ok-seen.seen.second c.in_ok-seen.seen.counter w.in-Err.answer
+          (sym c.judge.ensures ∙ w.in-Err.is)) one)
       | in-Ok-None w ↦ rw (w.result-is, w.board-is) one
       | in-Ok-Some w ↦ rw (w.result-is, w.board-is) (run_more _ _ _ _ one w.raise.ensures.calls)
     ]

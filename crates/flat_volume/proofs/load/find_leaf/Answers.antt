@@ -1,4 +1,4 @@
-use Rattle.std.proofs.Common.{◌≡◌, Err, ap, rules, true}
+use Rattle.std.proofs.Common.{◌≡◌, Err, ap, rules}
 use Rattle.epoch.proofs.CallLemmas.{rose_later, run_as, run_more}
 use Rattle.epoch.specs.Reading.{no_fault}
 use Rattle.flat_volume.proofs.ReadLemmas.{only_more}

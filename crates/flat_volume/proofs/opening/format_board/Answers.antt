@@ -15,8 +15,10 @@ pub returns-in_err-root-clause-opens : goal.returns-in_err-root-clause-opens
 returns-in_err-root-clause-opens g c honest h mounts =
     let keys : AreKeysOf c.of-keys.result (g.B.Board.view c.args.board.now).key = subst (λ (k : List ℕ). AreKeysOf c.of-keys.result k) c.key.ensures c.of-keys.ensures in
     let kept : IfErr c.from_residual-in_err-root.result (λ why. IsKeptFromOpening why) = search rules in
-    format_failed (g.B.Board.view c.args.board.now) (g.B.Board.view c.commit.new.board) c.from_residual-in_err-root.result h mounts.0 (mounts.1 NO_ROOT refl).version c.from_residual-in_err-root.ensures.0 kept
-    (c.in_err-root.ensures.crash honest h (record { last = mounts.0; mounted = mounts.1 NO_ROOT refl; fits = record { keyed = keys; stands = c.in_ok-blank_table.ensures.table ∙ sym (blank_stands _ NO_ROOT refl) } }))
+    format_failed (g.B.Board.view c.args.board.now) (g.B.Board.view c.commit.new.board) c.from_residual-in_err-root.result h mounts.0 (mounts.1 NO_ROOT refl).version
+    c.from_residual-in_err-root.ensures.0 kept
+    (c.in_err-root.ensures.crash honest h (record { last = mounts.0; mounted = mounts.1 NO_ROOT refl; fits =
+    record { keyed = keys; stands = c.in_ok-blank_table.ensures.table ∙ sym (blank_stands _ NO_ROOT refl) } }))
 
 pub returns-clause-verified : goal.returns-clause-verified
 returns-clause-verified g c =
@@ -31,7 +33,8 @@ returns-clause-opens g c honest h mounts =
     let mounted = mounts.1 NO_ROOT refl in
     let stands = c.in_ok-blank_table.ensures.table ∙ sym (blank_stands v.state.reads NO_ROOT refl) in
     let done = c.in_ok-root.ensures.done honest h (record { last = mounts.0; mounted = mounted; fits = record { keyed = keys; stands = stands } }) in
-    format_done v (g.B.Board.view c.commit.new.board) c.in_ok-root.root c.commit.new.change.root _ c.commit.new.change.table h mounts.0 mounted.version c.in_ok-root.ensures.calls.key c.in_ok-root.ensures.root
+    format_done v (g.B.Board.view c.commit.new.board) c.in_ok-root.root c.commit.new.change.root _ c.commit.new.change.table h mounts.0 mounted.version
+    c.in_ok-root.ensures.calls.key c.in_ok-root.ensures.root
     (c.in_ok-root.ensures.crash honest h (record { last = mounts.0; mounted = mounted; fits = record { keyed = keys; stands = stands } })) done.0 done.1
 
 pub returns-in_err-blank_table-clause-calls : goal.returns-in_err-blank_table-clause-calls

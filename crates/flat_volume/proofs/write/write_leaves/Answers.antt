@@ -1,4 +1,4 @@
-use Rattle.std.proofs.Common.{◌≡◌, ◌<◌, ◌+◌, ◌∷◌, ◌∙◌, ℕ, true, List, [], drop, length, refl, sym, ap, subst, arith, false}
+use Rattle.std.proofs.Common.{◌≡◌, ◌<◌, ◌+◌, ◌∷◌, ◌∙◌, true, List, [], drop, length, refl, sym, ap, subst, arith, false}
 use Rattle.std.proofs.lemmas.List.{drop_more}
 use Rattle.store_api.specs.Ascending.{is_above_all, is_ascending}
 use Rattle.store_api.specs.declared.leaves.Leaf.{Leaf}

@@ -6,7 +6,8 @@ use Rattle.epoch.specs.Forms.{held_of}
 use Rattle.flat_volume.specs.Flat.{flat}
 use Rattle.flat_volume.specs.Keeping.{held_now}
 use Rattle.flat_volume.specs.Laws.{sound_open}
-use Rattle.flat_volume.proofs.VolumeLemmas.{crash_read, damage_of, damage_same, err_cause, err_undamaged, foundation_same, held_same, open_same, past_read, steady_read, tables_same, text_found, text_same, unless_failed}
+use Rattle.flat_volume.proofs.VolumeLemmas.{crash_read, damage_of, damage_same, err_cause, err_undamaged, foundation_same, held_same, open_same, past_read, steady_read}
+use Rattle.flat_volume.proofs.VolumeLemmas.{tables_same, text_found, text_same, unless_failed}
 use Rattle.flat_volume.proofs.volume.FlatVolumeVolume.read_leaf.Goals as goal
 
 pub returns-in-Ok-clause-reads : goal.returns-in-Ok-clause-reads

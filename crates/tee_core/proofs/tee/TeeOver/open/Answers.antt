@@ -1,5 +1,6 @@
 use Rattle.std.proofs.Common.{inr, refl, arith, rules}
 use Rattle.store_api.specs.Stores.{empty_store}
+use Rattle.epoch.proofs.PastLemmas.{itself}
 use Rattle.tee_core.proofs.Opens.{leaves_resting, run_of_none, stand_opened, turns_started}
 use Rattle.tee_core.proofs.tee.TeeOver.open.Goals as goal
 
@@ -54,3 +55,9 @@ returns-clause-rule g c = c.in_ok-volume.ensures.rule
 
 pub returns-clause-exact : goal.returns-clause-exact
 returns-clause-exact g c = c.in_ok-volume.ensures.exact
+
+pub returns-in_default-clause-past_back : goal.returns-in_default-clause-past_back
+returns-in_default-clause-past_back g c = λ honest. itself (g.B.Board.view c.args.board)
+
+pub returns-clause-past : goal.returns-clause-past
+returns-clause-past g c = c.in_ok-volume.ensures.past

@@ -60,7 +60,7 @@ pub returns-in-Ok-clause-exact : goal.returns-in-Ok-clause-exact
 returns-in-Ok-clause-exact g c = λ honest.
     let left = c.in-Ok.ensures.exact honest in
     let view = g.B.Board.view (g.V.BoardVolume.board_of c.args.self.now.volume) in
-    (left.0, left.1, tt, subst (λ n. IsAdmitted g.V.BoardVolume.form view left.0.image left.0.counter n) (sym c.in-Ok.ensures.back.sequence) left.3)
+    (left.0, left.1, tt, subst (λ n. IsAdmitted g.V.BoardVolume.form view left.0.image left.0.counter 0 n (g.V.BoardVolume.root c.power.new.self)) (sym c.in-Ok.ensures.back.sequence) left.3)
 
 pub returns-in-Ok-clause-honest : goal.returns-in-Ok-clause-honest
 returns-in-Ok-clause-honest g c = c.in-Ok.ensures.honest
@@ -130,3 +130,21 @@ returns-in-Err-clause-apps g c = mapped_length c.lose_all.new.sides.items c.args
 
 pub returns-in-Err-clause-turns : goal.returns-in-Err-clause-turns
 returns-in-Err-clause-turns g c = turns_mapped c.lose_all.new.sides.items c.args.self.now.sides.items c.lose_all.ensures.turns
+
+pub returns-in-Ok-clause-begins : goal.returns-in-Ok-clause-begins
+returns-in-Ok-clause-begins g c = c.in-Ok.ensures.begins
+
+pub returns-in-Err-clause-begins : goal.returns-in-Err-clause-begins
+returns-in-Err-clause-begins g c = c.in-Err.ensures.begins
+
+pub returns-in-Ok-clause-past : goal.returns-in-Ok-clause-past
+returns-in-Ok-clause-past g c = c.in-Ok.ensures.past
+
+pub returns-in-Err-clause-past : goal.returns-in-Err-clause-past
+returns-in-Err-clause-past g c = c.in-Err.ensures.past
+
+pub returns-in-Ok-clause-steady : goal.returns-in-Ok-clause-steady
+returns-in-Ok-clause-steady g c made = c.in-Ok.ensures.steady refl
+
+pub returns-in-Err-clause-steady : goal.returns-in-Err-clause-steady
+returns-in-Err-clause-steady g c = c.in-Err.ensures.steady
