@@ -15,7 +15,7 @@ pub const FIRST: Step = Step::New(b'a', 1500);
 pub const SECOND: Step = Step::Overwrite(b'a', 10);
 
 /// A volume with one object.
-fn with_one(alloc: Global) -> Result<Memory, Fail> {
+pub fn with_one(alloc: Global) -> Result<Memory, Fail> {
     let mut volume = blank(alloc)?;
     make(alloc, &mut volume, REGION, FIRST)?;
     Ok(volume)

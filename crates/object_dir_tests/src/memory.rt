@@ -6,7 +6,7 @@ ghost use Rattle.tee_base.specs.declared.limits.TheConstants.{LEAVES, MAX_HOSTS}
 
 use std::alloc::Global;
 use std::test::Fail;
-use store_api::{Leaf, LeafAnswer, Leaves, Volume};
+use store_api::{Leaf, LeafAnswer, Leaves, Mismatch, Volume};
 use tee_base::limits::{BLOCK_BYTES, LEAVES, MAX_HOSTS};
 
 /// How the next commit ends.
@@ -55,6 +55,8 @@ pub struct Memory {
     faults: u64,
     pub lost: bool,
     pub ending: Ending,
+    /// The leaf of each region whose tag differs, if there is one.
+    pub damaged: Option<u16>,
 }
 
 /// A volume of zeros.
@@ -67,6 +69,7 @@ pub fn blank(alloc: Global) -> Result<Memory, Fail> {
         faults: 0,
         lost: false,
         ending: Ending::Works,
+        damaged: None,
     })
 }
 
@@ -125,6 +128,12 @@ impl Volume for Memory {
     ) -> Result<(), LeafAnswer> {
         if self.lost {
             return Err(LeafAnswer::Lost);
+        }
+        if matches!(self.damaged, Some(number) if number == leaf) {
+            return Err(LeafAnswer::Mismatch(Mismatch {
+                found: [0; 32],
+                kept: [1; 32],
+            }));
         }
         *into = self.regions.leaf(region, leaf);
         Ok(())

@@ -1,4 +1,4 @@
-use Rattle.std.proofs.Common.{◌≡◌, ◌-◌, ◌*◌, ◌/◌, ◌++◌, ◌∙◌, ℕ, true, false, List, sym, ap}
+use Rattle.std.proofs.Common.{◌/◌, ◌++◌, ◌∙◌, ℕ, true, false, List, sym, ap}
 use Rattle.region_plan.specs.Layout.{version_one}
 use Rattle.region_plan.specs.Reading.{leaves_of}
 use Rattle.region_plan.specs.Inodes.{length_in}

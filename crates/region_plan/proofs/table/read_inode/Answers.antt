@@ -3,7 +3,6 @@ use Rattle.region_plan.specs.Layout.{version_one}
 use Rattle.region_plan.specs.Inodes.{is_inode_leaf}
 use Rattle.region_plan.specs.Reading.{leaves_of}
 use Rattle.region_plan.specs.Regions.{has_data}
-use Rattle.region_plan.specs.Reading.{IsWhole}
 use Rattle.region_plan.proofs.CheckLemmas.{doubled_from, single_from, number_is, length_is}
 use Rattle.region_plan.proofs.RuleLemmas.{inode_breaks, doubled_breaks, index_breaks}
 use Rattle.region_plan.proofs.table.read_inode.Goals as goal
