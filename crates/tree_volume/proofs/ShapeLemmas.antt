@@ -52,16 +52,16 @@ at_most p =
       ]
     ]
 
-parent_one : (p : ℕ) → p < 17 → shape.parent p ≡ 0
+pub parent_one : (p : ℕ) → p < 17 → shape.parent p ≡ 0
 parent_one p below = let one : nat_lt p 17 ≡ true = grind (arith, nat_tests) in rw one refl
 
-parent_two : (p : ℕ) → 17 ≤ p → p < 81 → shape.parent p ≡ 1 + (p - 17) / 4
+pub parent_two : (p : ℕ) → 17 ≤ p → p < 81 → shape.parent p ≡ 1 + (p - 17) / 4
 parent_two p from below =
     let one : nat_lt p 17 ≡ false = grind (arith, nat_tests) in
     let two : nat_lt p 81 ≡ true = grind (arith, nat_tests) in
     rw (one, two) refl
 
-parent_three : (p : ℕ) → 81 ≤ p → shape.parent p ≡ 17 + (p - 81) / 16
+pub parent_three : (p : ℕ) → 81 ≤ p → shape.parent p ≡ 17 + (p - 81) / 16
 parent_three p from =
     let one : nat_lt p 17 ≡ false = grind (arith, nat_tests) in
     let two : nat_lt p 81 ≡ false = grind (arith, nat_tests) in

@@ -1,5 +1,5 @@
 -- What is gathered before a commit writes: the nodes that it touches, as they stand under a root.
-use Rattle.std.specs.Prelude.{◌≡◌, ◌<◌, ◌==◌, if◌then◌else◌, ℕ, List, [], ◌∷◌, length, Option, Some, None}
+use Rattle.std.specs.Prelude.{◌≡◌, ◌<◌, ◌⊎◌, ◌==◌, if◌then◌else◌, ℕ, zero, suc, List, [], ◌∷◌, length, Option, Some, None}
 use Rattle.tee_base.specs.declared.limits.TheConstants.{BLOCK_BYTES}
 use Rattle.store_api.specs.declared.leaves.Leaf.{Leaf}
 use Rattle.epoch.specs.declared.header.TreeEntry.{TreeEntry}
@@ -17,6 +17,11 @@ named (leaf ∷ leaves) number = if leaf.number == number then Some leaf.bytes e
 abbrev pub AreGathered : Shape → List Node → Type 0
 AreGathered s [] = Unit {0}
 AreGathered s (node ∷ nodes) = AreOrdered s (node ∷ nodes)
+
+-- a place is on the way to one that lies so far below the root
+abbrev pub IsOnWay : Shape → ℕ → ℕ → ℕ → Type 0
+IsOnWay s zero place p = p ≡ place
+IsOnWay s (suc level) place p = (p ≡ place) ⊎ IsOnWay s level (s.parent place) p
 
 -- one node more, of a place whose entry names this copy
 pub record IsPushed (place copy : ℕ) (old new : List Node) : Type 0 where

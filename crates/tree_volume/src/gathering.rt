@@ -1,5 +1,5 @@
 //! How the nodes that a commit touches are read, and verified, before anything is written.
-ghost use Rattle.std.specs.Prelude.{◌≡◌, ◌≢◌, ◌≤◌, ◌<◌, ℕ, true, List, Some, None, Err, IsTrue, IsSome, IfOk, OnOk, All};
+ghost use Rattle.std.specs.Prelude.{◌≡◌, ◌≢◌, ◌≤◌, ◌<◌, ◌⊎◌, ◌+◌, ◌*◌, ℕ, length, true, List, Some, None, Err, IsTrue, IsSome, IfOk, OnOk, All};
 ghost use Rattle.tee_base.specs.Faults.{Rose};
 ghost use Rattle.tee_base.specs.declared.limits.TheConstants.{MAX_HOSTS};
 ghost use Rattle.store_api.specs.Ascending.{is_ascending};
@@ -8,7 +8,12 @@ ghost use Rattle.store_api.specs.declared.leaves.LeafAnswer.TheVariants as answe
 ghost use Rattle.board.specs.Steps.{CallRun};
 ghost use Rattle.epoch.specs.Reading.{OnlyReads, no_fault};
 ghost use Rattle.seal.specs.Keys.{AreKeysOf};
+<<<<<<< HEAD
 ghost use Rattle.tree_volume.specs.Gather.{AreGathered, AreTrue, IsPushed, named};
+=======
+ghost use Rattle.tree_volume.specs.Gather.{AreGathered, AreTrue, IsOnWay, IsPushed, named};
+ghost use Rattle.tree_volume.specs.Reading.{OnlyReads};
+>>>>>>> D6
 ghost use Rattle.tree_volume.specs.Shape.{shape};
 ghost use Rattle.tree_volume.specs.Touched.{AreOrdered, fresh_of};
 ghost use Rattle.tree_volume.specs.Tree.{damage_at, damage_of, on_image};
@@ -89,6 +94,8 @@ pub fn hold<B: Board>(
         → (B.view board.new).state.reads ≡ (B.view board.old).state.reads }
     ensures gathered { OnOk result (AreGathered shape touched.new) }
     ensures held { OnOk result (IsSome (fresh_of touched.new place)) }
+    ensures among { OnOk result ((p : ℕ) → IsSome (fresh_of touched.new p)
+        → IsSome (fresh_of touched.old p) ⊎ IsOnWay shape level place p) }
     // nothing changes among the places that lie deeper
     ensures deeper { OnOk result ((p : ℕ) → level < shape.level p
         → fresh_of touched.new p ≡ fresh_of touched.old p) }
@@ -139,6 +146,9 @@ fn add_leaf<B: Board>(
     ensures same { IsTrue B.tells_reads
         → (B.view board.new).state.reads ≡ (B.view board.old).state.reads }
     ensures ordered { OnOk result (AreOrdered shape touched.new) }
+    ensures among { OnOk result ((p : ℕ) → IsSome (fresh_of touched.new p)
+        → IsSome (fresh_of touched.old p)
+        ⊎ IsOnWay shape DEPTH (shape.leaf_place region leaf.now.number) p) }
     ensures here { OnOk result
         (fresh_of touched.new (shape.leaf_place region leaf.now.number) ≡ Some leaf.now.bytes) }
     ensures others { OnOk result ((p : ℕ) → shape.level p ≡ DEPTH
@@ -194,6 +204,7 @@ pub fn gather<B: Board>(
     ensures same { IsTrue B.tells_reads
         → (B.view board.new).state.reads ≡ (B.view board.old).state.reads }
     ensures ordered { IfOk result (λ t. AreOrdered shape t) }
+    ensures count { IfOk result (λ t. length t ≤ 2 * length leaves.now + 6) }
     ensures leaves { IfOk result (λ t. (l : ℕ) → l < REGION_LEAVES
         → fresh_of t (shape.leaf_place region l) ≡ named leaves.now l) }
     ensures elsewhere { IfOk result (λ t. (r l : ℕ) → r ≢ region → l < REGION_LEAVES

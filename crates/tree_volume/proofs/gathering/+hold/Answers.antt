@@ -1,13 +1,14 @@
-use Rattle.std.proofs.Common.{◌≡◌, ◌<◌, ◌-◌, ◌∙◌, ℕ, suc, List, Option, None, Some, Result, Err, IsSome, OnOk, refl, sym, subst, arith, rules}
+use Rattle.std.proofs.Common.{◌≡◌, ◌<◌, ◌-◌, ◌∙◌, ℕ, suc, List, Option, None, Some, Result, Err, IsSome, OnOk, refl, sym, ap, subst, ◌⊎◌, inl, inr, ⊎_elim, arith, rules}
 use Rattle.store_api.specs.declared.answer.Mismatch.{Mismatch}
 use Rattle.store_api.specs.declared.leaves.LeafAnswer.{LeafAnswer}
 use Rattle.store_api.specs.Volumes.{ShowsLeaf}
 use Rattle.epoch.specs.declared.header.TreeEntry.{TreeEntry}
-use Rattle.tree_volume.specs.Gather.{AreGathered, AreTrue, IsPushed}
+use Rattle.tree_volume.specs.Gather.{AreGathered, AreTrue, IsOnWay, IsPushed}
 use Rattle.tree_volume.specs.Shape.{shape}
 use Rattle.tree_volume.specs.Touched.{fresh_of}
 use Rattle.tree_volume.specs.Tree.{Look, damage_at, damage_of, entry_of, on_image}
-use Rattle.tree_volume.proofs.GatherLemmas.{absent, entry_under, on_ok, order_pushed, root_pushed, shown_true, taken, top_damage, top_entry, true_pushed, way_of}
+use Rattle.tree_volume.proofs.CountLemmas.{among_pushed, way_up}
+use Rattle.tree_volume.proofs.GatherLemmas.{absent, entry_under, on_ok, order_pushed, pushed_other, root_pushed, shown_true, taken, top_damage, top_entry, true_pushed, way_of}
 use Rattle.tree_volume.proofs.ReadLemmas.{none_way, only_more, shows_end, shows_way}
 use Rattle.tree_volume.proofs.ShapeLemmas.{is_shape}
 use Rattle.tree_volume.proofs.TreeLemmas.{above, is_root}
@@ -124,3 +125,31 @@ returns-clause-honest g t c h =
     let one = c.in_ok-hold.ensures.honest h in
     let two = c.take_in-2.ensures.honest one.0 in
     (two.0, only_more _ _ _ one.1 two.1)
+
+pub returns-clause-among : goal.returns-clause-among
+returns-clause-among g t c =
+    let place : ℕ = c.args.place in
+    let above_place : ℕ = c.parent-above.result in
+    let k : ℕ = c.args.level - 1 in
+    let one : suc k ≡ c.args.level = omega (arith, c.if-level-eq0.false) in
+    on_ok c.take_in-2.result (IsPushed place c.entry_under-entry.result.copy c.hold.new.touched c.take_in-2.new.touched)
+    ((p : ℕ) → IsSome (fresh_of c.take_in-2.new.touched p) → IsSome (fresh_of c.args.touched.now p) ⊎ IsOnWay shape c.args.level place p)
+    (λ pushed p has.
+    ⊎_elim
+    (λ (was : IsSome (fresh_of c.hold.new.touched p)).
+    ⊎_elim (λ (old : IsSome (fresh_of c.args.touched.now p)). inl old)
+    (λ (way : IsOnWay shape k above_place p). inr (way_up shape c.args.level k place above_place p one c.parent-above.ensures (inr way))) (c.in_ok-hold.ensures.among p was))
+    (λ (e : p ≡ place). inr (way_up shape c.args.level k place above_place p one c.parent-above.ensures (inl e)))
+    (among_pushed place c.entry_under-entry.result.copy c.hold.new.touched c.take_in-2.new.touched pushed p has))
+    c.take_in-2.ensures.pushed
+
+pub returns-clause-deeper : goal.returns-clause-deeper
+returns-clause-deeper g t c =
+    let place : ℕ = c.args.place in
+    on_ok c.take_in-2.result (IsPushed place c.entry_under-entry.result.copy c.hold.new.touched c.take_in-2.new.touched)
+    ((p : ℕ) → c.args.level < shape.level p → fresh_of c.take_in-2.new.touched p ≡ fresh_of c.args.touched.now p)
+    (λ pushed p deep.
+    pushed_other place c.entry_under-entry.result.copy c.hold.new.touched c.take_in-2.new.touched pushed p
+    (λ same. absurd (let l : shape.level p ≡ shape.level place = ap shape.level same in omega (arith, deep, l, c.requires.level)))
+    ∙ c.in_ok-hold.ensures.deeper p (omega (arith, deep)))
+    c.take_in-2.ensures.pushed

@@ -1,4 +1,4 @@
-use Rattle.std.proofs.Common.{◌≡◌, ◌≢◌, ◌<◌, ◌+◌, ◌∷◌, ◌∙◌, ℕ, true, nat_lt, List, [], Some, Result, Err, IsSome, drop, get_or, refl, sym, ap, subst, arith, rules}
+use Rattle.std.proofs.Common.{◌≡◌, ◌≢◌, ◌<◌, ◌+◌, ◌∷◌, ◌∙◌, ℕ, true, nat_lt, List, [], Some, Result, Err, IsSome, drop, get_or, refl, sym, ap, subst, ⊎_elim, arith, rules}
 use Rattle.std.specs.List.{list_all}
 use Rattle.std.proofs.lemmas.List.{drop_more}
 use Rattle.std.proofs.lemmas.List.Elements.{All-get_or}
@@ -9,12 +9,13 @@ use Rattle.store_api.specs.declared.leaves.LeafAnswer.{LeafAnswer}
 use Rattle.store_api.specs.Volumes.{IfMismatch}
 use Rattle.epoch.proofs.CallLemmas.{run_more}
 use Rattle.epoch.specs.declared.header.TreeEntry.{TreeEntry}
-use Rattle.tree_volume.specs.Gather.{AreTrue, named}
+use Rattle.tree_volume.specs.Gather.{AreTrue, IsOnWay, named}
 use Rattle.tree_volume.specs.Shape.{shape}
 use Rattle.tree_volume.specs.Touched.{fresh_of}
 use Rattle.tree_volume.specs.Tree.{Look, damage_of, on_image}
 use Rattle.tree_volume.specs.declared.touched.Touched.{Touched}
-use Rattle.tree_volume.proofs.GatherLemmas.{below_step, first_bytes, leaf_level, mismatch_shown, named_step, new_number, nothing_true, rest_ascends, root_damages}
+use Rattle.tree_volume.proofs.CountLemmas.{count_of, on_way}
+use Rattle.tree_volume.proofs.GatherLemmas.{below_step, first_bytes, leaf_level, mismatch_shown, named_step, new_number, none_left, nothing_true, rest_ascends, root_damages}
 use Rattle.tree_volume.proofs.ReadLemmas.{only_more}
 use Rattle.tree_volume.proofs.ShapeLemmas.{is_shape}
 use Rattle.tree_volume.proofs.gathering.gather.Goals as goal
@@ -68,7 +69,8 @@ loop-leaf-preserved g c =
           named_step leaf rest n (fresh_of c.loop-leaf.touched (shape.leaf_place c.args.region n)) (fresh_of c.add_leaf.new.touched (shape.leaf_place c.args.region n)) (named xs n)
           (λ same. (
             new_number leaf rest (fresh_of c.loop-leaf.touched (shape.leaf_place c.args.region n))
-                (subst (λ (k : ℕ). IsSome (fresh_of c.loop-leaf.touched (shape.leaf_place c.args.region n)) → list_all (λ (later : Leaf). nat_lt k later.number) (leaf ∷ rest) ≡ true) same (was n below)),
+                (subst (λ (k : ℕ). IsSome (fresh_of c.loop-leaf.touched (shape.leaf_place c.args.region n)) → list_all (λ (later : Leaf). nat_lt k later.number) (leaf ∷ rest) ≡ true) same
+                (was n below)),
             ap (λ (k : ℕ). fresh_of c.add_leaf.new.touched (shape.leaf_place c.args.region k)) same ∙ add.here,
           ))
           (other n below)
@@ -78,8 +80,20 @@ loop-leaf-preserved g c =
           (was n below) has;
       elsewhere = λ r n ne below.
           add.others (shape.leaf_place r n) (leaf_level r n) (λ same. ne (is_shape.leaf_apart r n c.args.region leaf.number below small same).0) ∙ inv.elsewhere r n ne below;
+      among = λ p has.
+          ⊎_elim (λ (was : IsSome (fresh_of c.loop-leaf.touched p)). inv.among p was)
+          (λ (way : IsOnWay shape 4 (shape.leaf_place c.args.region leaf.number) p). on_way c.args.region xs i none p c.loop-leaf-test.true c.requires.region small way)
+          (add.among p has);
       nodes = λ tells key keyed.
           subst (λ (reads : ℕ → List ℕ). AreTrue shape (on_image shape key reads) c.args.root.now 4 c.add_leaf.new.touched) (inv.same tells)
           (add.nodes tells key keyed
           (subst (λ (reads : ℕ → List ℕ). AreTrue shape (on_image shape key reads) c.args.root.now 4 c.loop-leaf.touched) (sym (inv.same tells)) (inv.nodes tells key keyed)));
     }
+
+pub returns-clause-count : goal.returns-clause-count
+returns-clause-count g c = count_of c.args.region c.args.leaves.now c.loop-leaf.touched c.loop-leaf.invariant.ordered c.loop-leaf.invariant.among
+
+pub returns-clause-leaves : goal.returns-clause-leaves
+returns-clause-leaves g c n below =
+    none_left c.args.leaves.now c.loop-leaf.leaf-index n (fresh_of c.loop-leaf.touched (shape.leaf_place c.args.region n)) (named c.args.leaves.now n) c.loop-leaf-test.false
+    (c.loop-leaf.invariant.leaves n below)

@@ -1,5 +1,6 @@
-use Rattle.std.proofs.Common.{◌≡◌, ◌≢◌, ◌<◌, ℕ, true, nat_lt, List, None, IsTrue, IsSome, drop}
+use Rattle.std.proofs.Common.{◌≡◌, ◌≢◌, ◌<◌, ℕ, true, nat_eq, nat_lt, List, None, IsTrue, IsSome, drop}
 use Rattle.std.specs.List.{list_all}
+use Rattle.std.specs.Set.{is_member}
 use Rattle.board.specs.Steps.{CallRun}
 use Rattle.seal.specs.Keys.{AreKeysOf}
 use Rattle.store_api.specs.Ascending.{is_ascending}
@@ -9,6 +10,7 @@ use Rattle.epoch.specs.Reading.{OnlyReads}
 use Rattle.tree_volume.specs.Shape.{shape}
 use Rattle.tree_volume.specs.Touched.{AreOrdered, fresh_of}
 use Rattle.tree_volume.specs.Tree.{on_image}
+use Rattle.tree_volume.proofs.CountLemmas.{touchable}
 use Rattle.tree_volume.proofs.GatherLemmas.{first_bytes}
 use Rattle.tree_volume.proofs.gathering.gather.Given as goal
 
@@ -25,6 +27,7 @@ invariant-loop-leaf g l = record {
   below : (n : ℕ) → n < 1024 → IsSome (fresh_of l.touched (shape.leaf_place l.region n))
       → list_all (λ (later : Leaf). nat_lt n later.number) (drop l.leaf-index l.leaves) ≡ true;
   elsewhere : (r n : ℕ) → r ≢ l.region → n < 1024 → fresh_of l.touched (shape.leaf_place r n) ≡ None;
+  among : (p : ℕ) → IsSome (fresh_of l.touched p) → is_member nat_eq (touchable l.region l.leaves) p ≡ true;
   nodes : IsTrue g.B.Board.tells_reads → (key : List ℕ) → AreKeysOf l.keys key
       → AreTrue shape (on_image shape key (g.B.Board.view l.fn.board).state.reads) l.root 4 l.touched;
 }
