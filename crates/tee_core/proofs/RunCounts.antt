@@ -1,16 +1,17 @@
 -- What turns behind a call leave of the counts of what a volume stands on.
 use Rattle.std.proofs.Common.{◌≡◌, ◌≤◌, ◌<◌, ◌-◌, ◌^◌, ℕ, true, false, List, [], ◌∷◌, refl, sym, subst, ◌∙◌, ap, append-nil, inl, inr, ⊎_elim, arith}
-use Rattle.std.specs.Prelude.{◌||◌, ◌++◌, nat_lt}
+use Rattle.std.specs.Prelude.{◌||◌, ◌&&◌, ◌==◌, ◌++◌, Bool, filter, nat_lt}
+use Rattle.alone.specs.Marks.{no_marks}
 use Rattle.std.proofs.Math.Bool.{or-false}
 use Rattle.std.proofs.lemmas.Bool.{cond_both, ltb-false, ltb-true}
 use Rattle.std.proofs.lemmas.List.Folds.{list_any-append}
 use Rattle.tee_base.specs.Faults.{Rose}
 use Rattle.alone.specs.declared.turn.TurnKind.{TurnKind}
 use Rattle.alone.specs.declared.turn.TurnKind.TheVariants as kinds
-use Rattle.store_api.specs.Volumes.{Condition}
+use Rattle.store_api.specs.Volumes.{Condition, VolumeKeeper}
 use Rattle.tee_core.specs.declared.happened.Happened.{Happened}
-use Rattle.tee_core.specs.Happenings.{is_lost_turn, is_told, append_if_told}
-use Rattle.tee_core.specs.Moments.{HasRun, HasRunBehind, KeepsCounts, KeepsFoundation, RoseIfLost, tells_loss}
+use Rattle.tee_core.specs.Happenings.{has_told, is_corrupt_turn, is_lost_turn, is_told, append_if_told, marks_of}
+use Rattle.tee_core.specs.Moments.{AreMarkedSoundly, HasRun, HasRunBehind, IsSound, KeepsCounts, KeepsFoundation, RoseIfLost, StaysOn, TellsNoDamage, tells_loss}
 
 -- ---- a count that rose
 
@@ -76,8 +77,52 @@ pub run_counted : (h : Happened) (before told : List Happened) (first old new : 
 run_counted h before told first old new plain alone same run some =
     subst (λ (c : Condition). Rose c.faults new.faults) same (run (ap tells_loss alone ∙ call_tells_none h plain) some)
 
-pub kept_still : (first old : Condition) → old ≡ first → KeepsFoundation first old
-kept_still first old same = subst (λ (c : Condition). KeepsFoundation first c) (sym same) (kept_begun first)
+pub stays_from : {V : Type 0} (K : VolumeKeeper V) (first old new : V) → old ≡ first → StaysOn K old new → StaysOn K first new
+stays_from K first old new same kept = subst (λ v. StaysOn K v new) same kept
 
-pub kept_from : (first old new : Condition) → old ≡ first → KeepsFoundation old new → KeepsFoundation first new
-kept_from first old new same kept = subst (λ (c : Condition). KeepsFoundation c new) same kept
+pub stays_still : {V : Type 0} (K : VolumeKeeper V) (first old : V) → old ≡ first → StaysOn K first old
+stays_still K first old same = subst (λ v. StaysOn K first v) (sym same) (record { foundation = kept_begun (K.condition first); below = λ below. below })
+
+-- ---- what is told of damage, and the marks by what is told
+
+pub sound_more : (told : List Happened) (h : Happened) → TellsNoDamage told → IsSound h.kind → TellsNoDamage (append_if_told told h)
+sound_more told h sound here =
+    all_told told (filter is_told (h ∷ [])) sound (cond_both (is_told h) (h ∷ []) [] TellsNoDamage (λ _. (here, tt)) (λ _. tt))
+  where
+    all_told : (xs ys : List Happened) → TellsNoDamage xs → TellsNoDamage ys → TellsNoDamage (xs ++ ys)
+    all_told [] ys h k = k
+    all_told (x ∷ xs) ys h k = (h.0, all_told xs ys h.1 k)
+
+-- no turn is marked
+pub none_marked : (old new : Condition) → AreMarkedSoundly no_marks old new
+none_marked old new = record { sound = λ turn. refl; rose = λ turn lost. absurd (let e : false ≡ true = lost in cc) }
+
+sound_mark : (kind : TurnKind) (b : Bool) → IsSound kind → (is_corrupt_turn kind && b) ≡ false
+sound_mark kinds.Plain b sound = refl
+sound_mark (kinds.Lost change) b sound = refl
+sound_mark kinds.Starved b sound = refl
+sound_mark kinds.Corrupted b sound = absurd sound
+
+none_corrupt : (told : List Happened) (turn : ℕ) → TellsNoDamage told → has_told is_corrupt_turn told turn ≡ false
+none_corrupt [] turn sound = refl
+none_corrupt (h ∷ told) turn sound =
+    ap (λ b. b || has_told is_corrupt_turn told turn) (sound_mark h.kind (h.turn == turn) sound.0) ∙ none_corrupt told turn sound.1
+
+lost_so : (a b c d : Bool) → ((a && b) || c) ≡ true → (c ≡ true → d ≡ true) → (a || d) ≡ true
+lost_so true b c d some later = refl
+lost_so false b c d some later = later some
+
+lost_told : (told : List Happened) (turn : ℕ) → has_told is_lost_turn told turn ≡ true → tells_loss told ≡ true
+lost_told [] turn some = some
+lost_told (h ∷ told) turn some = lost_so (is_lost_turn h.kind) (h.turn == turn) (has_told is_lost_turn told turn) (tells_loss told) some (lost_told told turn)
+
+-- the marks of what was told
+pub told_marked : (told : List Happened) (old new : Condition) → TellsNoDamage told → (tells_loss told ≡ true → Rose old.faults new.faults) → AreMarkedSoundly (marks_of told) old new
+told_marked told old new sound rose = record { sound = λ turn. none_corrupt told turn sound; rose = λ turn lost. rose (lost_told told turn lost) }
+
+-- a call alone tells of no loss and of no damage
+pub call_lossless : (h : Happened) (told : List Happened) → h.kind ≡ kinds.Plain → told ≡ h ∷ [] → tells_loss told ≡ false
+call_lossless h told plain alone = ap tells_loss alone ∙ call_tells_none h plain
+
+pub call_sound : (h : Happened) (told : List Happened) → h.kind ≡ kinds.Plain → told ≡ h ∷ [] → TellsNoDamage told
+call_sound h told plain alone = subst TellsNoDamage (sym alone) (subst IsSound (sym plain) tt, tt)

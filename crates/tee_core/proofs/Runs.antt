@@ -10,8 +10,9 @@ use Rattle.alone.specs.Step.{Event, Called, called}
 use Rattle.alone.proofs.Counted.{call_counts_none}
 use Rattle.tee_core.specs.declared.happened.Happened.{Happened}
 use Rattle.tee_core.specs.Happenings.{happening, happenings, is_told, marks_of, told_of_call}
-use Rattle.tee_core.specs.Represents.{StopsWithin}
-use Rattle.tee_core.specs.Turns.{IsTurnedUntil, StopsBefore}
+use Rattle.store_api.specs.Volumes.{Condition}
+use Rattle.tee_core.specs.Turns.{IsTurnedUntil, StopsBefore, StopsWithin}
+use Rattle.tee_core.proofs.RunCounts.{none_marked}
 use Rattle.tee_core.specs.World.{AppEvent, World, called_at, events_at, run_events, world_after, world_step}
 
 module _ {A : Type 0} (behaviour : Behaviour A) (Stands : World A → Type 0) (world : World A) (m : Machine A) (app client : ℕ) (call : Call) (here : slice_get world app ≡ Some m) where
@@ -50,11 +51,12 @@ module _ {A : Type 0} (behaviour : Behaviour A) (Stands : World A → Type 0) (w
           ∙ ap (λ (es : List Event). happening behaviour m (Called client call) ∷ filter is_told (happenings behaviour called_then es)) (sym (turns_are marks agree))
 
     -- in part
-    pub run_part : StopsBefore behaviour Stands world_then called_then app h.instance h.op → StopsWithin behaviour Stands world app client call
-    run_part stopped =
-        let s = subst (λ (x : Happened). StopsBefore behaviour Stands world_then called_then app x.instance x.op) same stopped in
+    pub run_part : (old new : Condition) → StopsBefore behaviour Stands world_then called_then app h.instance h.op old new → StopsWithin behaviour Stands world app client call old new
+    run_part old new stopped =
+        let s = subst (λ (x : Happened). StopsBefore behaviour Stands world_then called_then app x.instance x.op old new) same stopped in
         record {
           marks = s.marks;
+          marked = s.marked;
           made = record { app = app; event = Called client call } ∷ events_at behaviour app s.made;
           rest = events_at behaviour app s.rest;
           all = run_is s.marks ∙ ap (λ (es : List Event). record { app = app; event = Called client call } ∷ events_at behaviour app es) s.all
@@ -62,10 +64,17 @@ module _ {A : Type 0} (behaviour : Behaviour A) (Stands : World A → Type 0) (w
           stands = s.stands;
         }
 
+    -- the same where the call left what is counted
+    pub run_part_from : (first old new : Condition) → old ≡ first → StopsBefore behaviour Stands world_then called_then app h.instance h.op old new
+        → StopsWithin behaviour Stands world app client call first new
+    run_part_from first old new still stopped =
+        run_part first new (subst (λ (c : Condition). StopsBefore behaviour Stands world_then called_then app h.instance h.op c new) still stopped)
+
   -- the call alone
-  pub run_call : Stands world_then → StopsWithin behaviour Stands world app client call
-  run_call stands = record {
+  pub run_call : (old new : Condition) → Stands world_then → StopsWithin behaviour Stands world app client call old new
+  run_call old new stands = record {
     marks = no_marks;
+    marked = none_marked old new;
     made = record { app = app; event = Called client call } ∷ [];
     rest = events_at behaviour app (turns_of_call behaviour no_marks m client call);
     all = run_is no_marks;
@@ -73,9 +82,10 @@ module _ {A : Type 0} (behaviour : Behaviour A) (Stands : World A → Type 0) (w
   }
 
   -- nothing
-  pub run_none : Stands world → StopsWithin behaviour Stands world app client call
-  run_none stands = record {
+  pub run_none : (old new : Condition) → Stands world → StopsWithin behaviour Stands world app client call old new
+  run_none old new stands = record {
     marks = no_marks;
+    marked = none_marked old new;
     made = [];
     rest = events_at behaviour app (events_of_call behaviour no_marks m client call);
     all = run_is no_marks;

@@ -14,6 +14,8 @@ use Rattle.alone.proofs.Marked.{marked_corrupt, marked_lost, marked_plain, marke
 use Rattle.app_side.specs.Represents.{event_of}
 use Rattle.tee_core.specs.declared.happened.Happened.{Happened}
 use Rattle.tee_core.specs.Happenings.{IsPlainBehind, happening, happenings, is_corrupt_turn, is_lost_turn, is_starved_turn, is_told, marks_of, append_if_told}
+use Rattle.store_api.specs.Volumes.{Condition}
+use Rattle.tee_core.specs.Moments.{AreMarkedSoundly}
 use Rattle.tee_core.specs.Turns.{IsTurnedUntil, StopsBefore}
 use Rattle.tee_core.specs.World.{World, events_at, world_after}
 use Rattle.tee_core.proofs.Told.{behind_before, behind_here, behind_plain}
@@ -165,9 +167,11 @@ module _ {A : Type 0} (behaviour : Behaviour A) where
     turns_used m i op k turns before told run counts all = ended m i op k turns before told run counts (λ marks. turns_none marks (most_turns - k) run.now i op (omega (arith, all, most_is)))
 
     -- the turns so far are the first under the marks that tell of them
-    pub turns_stopped : (m : Machine A) (i op k : ℕ) (before told : List Happened) → (run : HasTurned Leads m i op k before told) → StopsBefore behaviour Stands world m app i op
-    turns_stopped m i op k before told run = record {
+    pub turns_stopped : (m : Machine A) (i op k : ℕ) (before told : List Happened) (old new : Condition) → (run : HasTurned Leads m i op k before told)
+        → AreMarkedSoundly (marks_of told) old new → StopsBefore behaviour Stands world m app i op old new
+    turns_stopped m i op k before told old new run marked = record {
       marks = marks_of told;
+      marked = marked;
       made = run.made;
       rest = turns_until behaviour (marks_of told) (most_turns - k) run.now i op;
       all = run.by_marks (marks_of told) (λ turn above within. record { lost = refl; corrupt = refl; starved = refl });

@@ -5,6 +5,7 @@ pub mod Opening
 pub mod Powers
 pub mod Represents
 pub mod Sides
+pub mod Stepping
 pub mod Turning
 pub mod Turns
 pub mod World

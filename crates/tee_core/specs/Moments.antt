@@ -1,7 +1,8 @@
 -- What a crash leaves within an event, and what an event leaves of the board's counts.
 use Rattle.std.specs.Prelude.{ℕ, ◌≡◌, ◌≤◌, ◌⊎◌, Bool, true, false, List, Option}
-use Rattle.std.specs.List.{list_any}
+use Rattle.std.specs.List.{AllByRecursion, list_any}
 use Rattle.tee_base.specs.Faults.{Rose}
+use Rattle.alone.specs.Marks.{Marks}
 use Rattle.alone.specs.declared.turn.TurnKind.{TurnKind}
 use Rattle.alone.specs.declared.turn.TurnKind.TheVariants as kinds
 use Rattle.store_api.specs.Volumes.{Condition, Held, VolumeKeeper}
@@ -48,7 +49,21 @@ HasRun told old new = tells_loss told ≡ true → Rose old.faults new.faults
 abbrev pub HasRunBehind : List Happened → List Happened → Condition → Condition → Type 0
 HasRunBehind before told old new = tells_loss before ≡ false → tells_loss told ≡ true → Rose old.faults new.faults
 
+-- no turn was told that met damage
+abbrev pub TellsNoDamage : List Happened → Type 0
+TellsNoDamage told = AllByRecursion (λ h. IsSound h.kind) told
+
+-- no turn is marked as one that met damage, and where one is marked as lost, the count of faults rose
+pub record AreMarkedSoundly (marks : Marks) (old new : Condition) : Type 0 where
+  pub sound : (turn : ℕ) → marks.corrupt turn ≡ false
+  pub rose : (turn : ℕ) → marks.lost turn ≡ true → Rose old.faults new.faults
+
 module _ {V : Type 0} (K : VolumeKeeper V) where
+  -- the volume stands where it stood, its count of faults didn't fall, and what it stands on stays honest
+  pub record StaysOn (old new : V) : Type 0 where
+    pub foundation : KeepsFoundation (K.condition old) (K.condition new)
+    pub below : K.honest_below old → K.honest_below new
+
   -- a crash at any moment since the old value leaves the stores of one world or of the other, each with its change in doubt or without it
   pub record IsWithin {A : Type 0} (before after : World A) (old new : V) : Type 0 where
     pub later : K.moment old ≤ K.moment new

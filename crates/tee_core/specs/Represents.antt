@@ -1,7 +1,5 @@
 -- Which machines and worlds the values stand for, over a volume.
-use Rattle.app_api.specs.Behaviours.{Behaviour}
-use Rattle.std.specs.Prelude.{ℕ, ◌≡◌, ◌<◌, ◌⊎◌, ◌+◌, ◌==◌, Bool, true, false, ◌++◌, List, [], ◌∷◌, Option, None, Some, Ok, is_some, length, slice_get}
-use Rattle.app_api.specs.declared.call.Call.{Call}
+use Rattle.std.specs.Prelude.{ℕ, ◌≡◌, ◌<◌, ◌⊎◌, ◌+◌, ◌==◌, Bool, true, false, List, [], ◌∷◌, Option, None, Some, Ok, is_some, length, slice_get}
 use Rattle.store_api.specs.Volumes.{Held, VolumeKeeper}
 use Rattle.store_api.specs.declared.volume.Volume.{Ghosts}
 use Rattle.object_dir.specs.Regions.{region_in}
@@ -9,10 +7,9 @@ use Rattle.app_side.specs.Represents.{event_of as turn_of}
 use Rattle.app_side.specs.declared.side.AppSide.{AppSide}
 use Rattle.alone.specs.declared.turn.TurnKind.{TurnKind}
 use Rattle.alone.specs.Machine.{Machine}
-use Rattle.alone.specs.Marks.{Marks}
 use Rattle.alone.specs.Step.{Event as MachineEvent, Called, Cancelled, store_found}
 use Rattle.tee_core.specs.Sides.{AreSides, turns_in}
-use Rattle.tee_core.specs.World.{World, AppEvent, run_events, world_after}
+use Rattle.tee_core.specs.World.{World, AppEvent}
 use Rattle.tee_core.specs.declared.happened.Event.{Event}
 use Rattle.tee_core.specs.declared.happened.Event.TheVariants as events
 use Rattle.tee_core.specs.declared.tee.TeeOver.{TeeOver}
@@ -113,11 +110,3 @@ abbrev pub IsCall : Event → Type 0
 IsCall (events.Call app client call) = Unit {0}
 IsCall (events.Cancel app op) = ⊥
 IsCall (events.Turn app instance) = ⊥
-
--- what a run of a call leaves for which there was no memory: the world after the first of its events, where its turns go so
-pub record StopsWithin {A : Type 0} (behaviour : Behaviour A) (Stands : World A → Type 0) (world : World A) (app client : ℕ) (call : Call) : Type 0 where
-  pub marks : Marks
-  pub made : List AppEvent
-  pub rest : List AppEvent
-  pub all : run_events behaviour marks world app client call ≡ made ++ rest
-  pub stands : Stands (world_after behaviour world made)

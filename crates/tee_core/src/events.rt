@@ -1,15 +1,15 @@
 //! Events of all applications, each of them one event of every world that the value represents.
 
-ghost use Rattle.std.specs.Prelude.{◌≡◌, ◌<◌, ◌≤◌, ◌≢◌, ◌+◌, ◌^◌, ℕ, [], IfOk, OnErr, OnOk, Some, slice_get, true};
+ghost use Rattle.std.specs.Prelude.{◌≡◌, ◌<◌, ◌≤◌, ◌+◌, ◌^◌, ℕ, [], IfOk, OnErr, Some, slice_get};
 ghost use Rattle.alone.specs.Machine.{Machine};
 ghost use Rattle.alone.specs.declared.turn.TurnKind.TheVariants.{Plain};
-ghost use Rattle.alone.specs.Step.{is_answered, is_changing, is_enabled, step, Called, Cancelled};
+ghost use Rattle.alone.specs.Step.{is_answered, is_changing, step, Called, Cancelled};
 ghost use Rattle.app_side.specs.Represents.{event_of as turn_of, store_kind};
 ghost use Rattle.object_asks.specs.Serving.{SaysChange};
 ghost use Rattle.tee_core.specs.Happenings.{happening};
-ghost use Rattle.tee_core.specs.Represents.{app_count, app_of, boots_of, event_of, machine_event, turns_made, volume_of, IsCall, Represents};
-ghost use Rattle.tee_core.specs.Moments.{IsSound, IsWithin, KeepsCounts};
-ghost use Rattle.tee_core.specs.World.{World, world_step};
+ghost use Rattle.tee_core.specs.Represents.{app_count, app_of, event_of, machine_event, turns_made, volume_of, IsCall, Represents};
+ghost use Rattle.tee_core.specs.Stepping.{KeepsOthers, MakesEvent};
+ghost use Rattle.tee_core.specs.World.{World};
 
 use crate::happened::{Event, Happened};
 use crate::sides::{lose_all, turn_over};
@@ -46,37 +46,17 @@ impl<B, V: Volume, A: Application> TeeOver<B, V, A> {
     pub fn event(&mut self, event: Event) -> Result<Happened, NoMemory>
         requires known { app_of event < app_count self.old }
         requires room { turns_made self.old (app_of event) < 2 ^ 63 }
-        ensures world { IfOk result (λ told.
-            (world : World A) → Represents self.old world
-            → Represents self.new (world_step A.behaviour world (event_of event told.kind))) }
+        ensures made { IfOk result (λ told.
+            MakesEvent A.behaviour (event_of event told.kind) told.kind self.old self.new) }
         ensures told { IfOk result (λ told.
             (world : World A) (m : Machine A) → Represents self.old world
             → slice_get world (app_of event) ≡ Some m
             → told ≡ happening A.behaviour m (machine_event event told.kind)) }
-        ensures stands { IfOk result (λ told.
-            (world : World A) (m : Machine A) → Represents self.old world
-            → slice_get world (app_of event) ≡ Some m
-            → is_enabled m (machine_event event told.kind) ≡ true) }
-        ensures sound { IfOk result (λ told. (world : World A) → Represents self.old world
-            → IsSound told.kind) }
-        // a crash within it leaves the stores of the world before it or after it
-        ensures moments { IfOk result (λ told. (world : World A) → Represents self.old world
-            → IsWithin V.keeper world (world_step A.behaviour world (event_of event told.kind))
-            (volume_of self.old) (volume_of self.new)) }
-        // whatever the board: how often it failed, and that no order is made
-        ensures counts { IfOk result (λ told. KeepsCounts told.kind
-            (V.keeper.condition (volume_of self.old)) (V.keeper.condition (volume_of self.new))) }
-        // what the volume stands on stays honest
-        ensures below { V.keeper.honest_below (volume_of self.old)
-            → V.keeper.honest_below (volume_of self.new) }
         ensures err { OnErr result (IsCall event × (volume_of self.new ≡ volume_of self.old)
             × ((world : World A) → Represents self.old world → Represents self.new world)) }
-        ensures apps { app_count self.new ≡ app_count self.old }
+        ensures kept { KeepsOthers (app_of event) self.old self.new }
         ensures turns { turns_made self.new (app_of event)
             ≤ turns_made self.old (app_of event) + 1 }
-        ensures others { (app : ℕ) → app ≢ app_of event
-            → turns_made self.new app ≡ turns_made self.old app }
-        ensures boots { boots_of self.new ≡ boots_of self.old }
     {
         match event {
             Event::Call { app, client, call } => self.call(app, client, call),
@@ -88,9 +68,8 @@ impl<B, V: Volume, A: Application> TeeOver<B, V, A> {
     /// A client's call. Want of memory changes nothing.
     pub(crate) fn call(&mut self, app: u8, client: u8, call: Call) -> Result<Happened, NoMemory>
         requires known { app < app_count self.old }
-        ensures world { OnOk result ((world : World A) → Represents self.old world
-            → Represents self.new
-            (world_step A.behaviour world (record { app = app; event = Called client call }))) }
+        ensures made { IfOk result (λ told. MakesEvent A.behaviour
+            (record { app = app; event = Called client call }) told.kind self.old self.new) }
         ensures told { IfOk result (λ told.
             (world : World A) (m : Machine A) → Represents self.old world
             → slice_get world app ≡ Some m
@@ -99,9 +78,8 @@ impl<B, V: Volume, A: Application> TeeOver<B, V, A> {
         ensures err { OnErr result ((world : World A) → Represents self.old world
             → Represents self.new world) }
         ensures volume { volume_of self.new ≡ volume_of self.old }
-        ensures apps { app_count self.new ≡ app_count self.old }
-        ensures turns { (other : ℕ) → turns_made self.new other ≡ turns_made self.old other }
-        ensures boots { boots_of self.new ≡ boots_of self.old }
+        ensures kept { KeepsOthers app self.old self.new }
+        ensures turns { turns_made self.new app ≡ turns_made self.old app }
     {
         let side = &mut self.sides[app as usize];
         let made = side.call(client, call)?;
@@ -117,16 +95,12 @@ impl<B, V: Volume, A: Application> TeeOver<B, V, A> {
     /// A client asks for the operation of this number to be cancelled. It takes no memory.
     fn cancel(&mut self, app: u8, op: u64) -> Happened
         requires known { app < app_count self.old }
-        ensures world { (world : World A) → Represents self.old world
-            → Represents self.new
-            (world_step A.behaviour world (record { app = app; event = Cancelled op })) }
+        ensures made { MakesEvent A.behaviour (record { app = app; event = Cancelled op })
+            result.kind self.old self.new }
         ensures told { (world : World A) (m : Machine A) → Represents self.old world
             → slice_get world app ≡ Some m → result ≡ happening A.behaviour m (Cancelled op) }
-        ensures kind { result.kind ≡ Plain }
-        ensures volume { volume_of self.new ≡ volume_of self.old }
-        ensures apps { app_count self.new ≡ app_count self.old }
-        ensures turns { (other : ℕ) → turns_made self.new other ≡ turns_made self.old other }
-        ensures boots { boots_of self.new ≡ boots_of self.old }
+        ensures kept { KeepsOthers app self.old self.new }
+        ensures turns { turns_made self.new app ≡ turns_made self.old app }
     {
         let side = &mut self.sides[app as usize];
         let replies = side.cancel(op);
@@ -143,28 +117,14 @@ impl<B, V: Volume, A: Application> TeeOver<B, V, A> {
     fn turn(&mut self, app: u8, instance: u8) -> Happened
         requires known { app < app_count self.old }
         requires room { turns_made self.old app < 2 ^ 63 }
-        ensures world { (world : World A) → Represents self.old world
-            → Represents self.new (world_step A.behaviour world
-            (record { app = app; event = turn_of result.kind instance })) }
-        ensures stands { (world : World A) (m : Machine A) → Represents self.old world
-            → slice_get world app ≡ Some m → is_enabled m (turn_of result.kind instance) ≡ true }
-        ensures sound { (world : World A) → Represents self.old world → IsSound result.kind }
-        ensures moments { (world : World A) → Represents self.old world
-            → IsWithin V.keeper world (world_step A.behaviour world
-            (record { app = app; event = turn_of result.kind instance }))
-            (volume_of self.old) (volume_of self.new) }
-        ensures counts { KeepsCounts result.kind (V.keeper.condition (volume_of self.old))
-            (V.keeper.condition (volume_of self.new)) }
-        ensures below { V.keeper.honest_below (volume_of self.old)
-            → V.keeper.honest_below (volume_of self.new) }
-        ensures apps { app_count self.new ≡ app_count self.old }
-        ensures turns { turns_made self.new app ≡ turns_made self.old app + 1 }
-        ensures others { (other : ℕ) → other ≢ app
-            → turns_made self.new other ≡ turns_made self.old other }
-        ensures boots { boots_of self.new ≡ boots_of self.old }
+        ensures made { MakesEvent A.behaviour
+            (record { app = app; event = turn_of result.kind instance }) result.kind
+            self.old self.new }
         ensures told { (world : World A) (m : Machine A) → Represents self.old world
             → slice_get world app ≡ Some m
             → result ≡ happening A.behaviour m (turn_of result.kind instance) }
+        ensures kept { KeepsOthers app self.old self.new }
+        ensures turns { turns_made self.new app ≡ turns_made self.old app + 1 }
     {
         let mut replies = Replies::none();
         let kind = self.advance(app, instance, &mut replies);
@@ -182,31 +142,16 @@ impl<B, V: Volume, A: Application> TeeOver<B, V, A> {
         requires known { app < app_count self.old }
         requires room { turns_made self.old app < 2 ^ 63 }
         requires none { replies.old ≡ [] }
-        ensures world { (world : World A) → Represents self.old world
-            → Represents self.new (world_step A.behaviour world
-            (record { app = app; event = turn_of result instance })) }
-        ensures stands { (world : World A) (m : Machine A) → Represents self.old world
-            → slice_get world app ≡ Some m → is_enabled m (turn_of result instance) ≡ true }
-        ensures sound { (world : World A) → Represents self.old world → IsSound result }
+        ensures made { MakesEvent A.behaviour
+            (record { app = app; event = turn_of result instance }) result self.old self.new }
         ensures change { (world : World A) (m : Machine A) → Represents self.old world
             → slice_get world app ≡ Some m
             → SaysChange (store_kind result) (is_changing m instance) }
-        ensures moments { (world : World A) → Represents self.old world
-            → IsWithin V.keeper world (world_step A.behaviour world
-            (record { app = app; event = turn_of result instance }))
-            (volume_of self.old) (volume_of self.new) }
-        ensures counts { KeepsCounts result (V.keeper.condition (volume_of self.old))
-            (V.keeper.condition (volume_of self.new)) }
-        ensures below { V.keeper.honest_below (volume_of self.old)
-            → V.keeper.honest_below (volume_of self.new) }
-        ensures apps { app_count self.new ≡ app_count self.old }
-        ensures turns { turns_made self.new app ≡ turns_made self.old app + 1 }
-        ensures others { (other : ℕ) → other ≢ app
-            → turns_made self.new other ≡ turns_made self.old other }
-        ensures boots { boots_of self.new ≡ boots_of self.old }
         ensures replies { (world : World A) (m : Machine A) → Represents self.old world
             → slice_get world app ≡ Some m
             → replies.new ≡ (step A.behaviour m (turn_of result instance)).replies }
+        ensures kept { KeepsOthers app self.old self.new }
+        ensures turns { turns_made self.new app ≡ turns_made self.old app + 1 }
     {
         let kind = turn_over(
             self.alloc,

@@ -1,13 +1,14 @@
 //! Calls that are run until they are answered.
 
-ghost use Rattle.std.specs.Prelude.{◌≡◌, ◌+◌, ◌≤◌, ◌<◌, ◌≢◌, ◌^◌, ℕ, IfOk, OnErr, OnOk, Some, slice_get};
+ghost use Rattle.std.specs.Prelude.{◌≡◌, ◌+◌, ◌≤◌, ◌<◌, ◌^◌, false, IfOk, OnErr, OnOk, Some, slice_get};
 ghost use Rattle.tee_base.specs.declared.limits.TheConstants.{MAX_CALL_TURNS};
 ghost use Rattle.alone.specs.Machine.{Machine};
 ghost use Rattle.alone.specs.Marks.{Marks, SameWithin};
 ghost use Rattle.tee_core.specs.Happenings.{IsPlainBehind, marks_of, told_of_call};
-ghost use Rattle.tee_core.specs.Moments.{HasRun, HasRunBehind, KeepsFoundation};
-ghost use Rattle.tee_core.specs.Represents.{app_count, boots_of, turns_made, volume_of, Represents, StopsWithin};
-ghost use Rattle.tee_core.specs.Turns.{IsTurnedUntil, StopsBefore};
+ghost use Rattle.tee_core.specs.Moments.{HasRun, HasRunBehind, StaysOn, TellsNoDamage, tells_loss};
+ghost use Rattle.tee_core.specs.Represents.{app_count, turns_made, volume_of, Represents};
+ghost use Rattle.tee_core.specs.Stepping.{KeepsOthers};
+ghost use Rattle.tee_core.specs.Turns.{IsTurnedUntil, StopsBefore, StopsWithin};
 ghost use Rattle.tee_core.specs.World.{World, run_events, world_after};
 
 use crate::happened::RunReplies;
@@ -40,20 +41,17 @@ impl<B, V: Volume, A: Application> TeeOver<B, V, A> {
             → slice_get world app ≡ Some m
             → SameWithin m.turns (turns_made self.new app) marks (marks_of told)
             → told ≡ told_of_call A.behaviour marks m client call) }
+        ensures sound { IfOk result (λ told. (world : World A) → Represents self.old world
+            → TellsNoDamage told) }
         // whatever the board: how often it failed, and that no order is made
         ensures counts { IfOk result (λ told. HasRun told
             (V.keeper.condition (volume_of self.old)) (V.keeper.condition (volume_of self.new))) }
-        ensures foundation { KeepsFoundation (V.keeper.condition (volume_of self.old))
-            (V.keeper.condition (volume_of self.new)) }
-        ensures below { V.keeper.honest_below (volume_of self.old)
-            → V.keeper.honest_below (volume_of self.new) }
+        ensures board { StaysOn V.keeper (volume_of self.old) (volume_of self.new) }
         ensures err { OnErr result ((world : World A) → Represents self.old world
-            → StopsWithin A.behaviour (λ after. Represents self.new after) world app client call) }
-        ensures apps { app_count self.new ≡ app_count self.old }
+            → StopsWithin A.behaviour (λ after. Represents self.new after) world app client call
+            (V.keeper.condition (volume_of self.old)) (V.keeper.condition (volume_of self.new))) }
+        ensures kept { KeepsOthers app self.old self.new }
         ensures turns { turns_made self.new app ≤ turns_made self.old app + MAX_CALL_TURNS }
-        ensures others { (other : ℕ) → other ≢ app
-            → turns_made self.new other ≡ turns_made self.old other }
-        ensures boots { boots_of self.new ≡ boots_of self.old }
     {
         let mut told = RunReplies::new(self.alloc);
         let made = self.call(app, client, call)?;
@@ -83,21 +81,18 @@ impl<B, V: Volume, A: Application> TeeOver<B, V, A> {
             → slice_get world app ≡ Some m
             → IsTurnedUntil A.behaviour (λ after. Represents self.new after) world m app instance op
             (turns_made self.new app) told.old told.new) }
+        ensures sound { OnOk result ((world : World A) (m : Machine A) → Represents self.old world
+            → slice_get world app ≡ Some m → TellsNoDamage told.old → TellsNoDamage told.new) }
         ensures err { OnErr result ((world : World A) (m : Machine A) → Represents self.old world
             → slice_get world app ≡ Some m
-            → StopsBefore A.behaviour (λ after. Represents self.new after) world m app instance
-            op) }
+            → tells_loss told.old ≡ false → TellsNoDamage told.old
+            → StopsBefore A.behaviour (λ after. Represents self.new after) world m app instance op
+            (V.keeper.condition (volume_of self.old)) (V.keeper.condition (volume_of self.new))) }
         ensures counts { OnOk result (HasRunBehind told.old told.new
             (V.keeper.condition (volume_of self.old)) (V.keeper.condition (volume_of self.new))) }
-        ensures foundation { KeepsFoundation (V.keeper.condition (volume_of self.old))
-            (V.keeper.condition (volume_of self.new)) }
-        ensures below { V.keeper.honest_below (volume_of self.old)
-            → V.keeper.honest_below (volume_of self.new) }
-        ensures apps { app_count self.new ≡ app_count self.old }
+        ensures board { StaysOn V.keeper (volume_of self.old) (volume_of self.new) }
+        ensures kept { KeepsOthers app self.old self.new }
         ensures turns { turns_made self.new app ≤ turns_made self.old app + MAX_CALL_TURNS }
-        ensures others { (other : ℕ) → other ≢ app
-            → turns_made self.new other ≡ turns_made self.old other }
-        ensures boots { boots_of self.new ≡ boots_of self.old }
     {
         let mut replies = Replies::none();
         for _ in 0..limits::MAX_CALL_TURNS {

@@ -11,7 +11,6 @@ use Rattle.tee_core.specs.World.{World}
 use Rattle.tee_core.proofs.Steps.{on_err_known}
 use Rattle.tee_top.specs.Boards.{HasOrders, WritesLosses, order_of, orders_of}
 use Rattle.tee_top.specs.Layers.{MakesEvents, Place, RunsLines}
-use Rattle.tee_top.specs.Parts.{StopsIn}
 use Rattle.tee_top.specs.Stops.{IsNoRefusal}
 use Rattle.tee_top.specs.Transcript.{Weather, WorldEvent, after_events, line_events}
 use Rattle.tee_top.specs.declared.lines.Stop.{Stop}

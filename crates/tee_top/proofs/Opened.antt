@@ -1,6 +1,6 @@
 -- The board at the beginning of a run: before it is opened, and as its opening leaves it.
 use Rattle.app_api.specs.Behaviours.{Behaviour}
-use Rattle.std.proofs.Common.{ℕ, ◌≡◌, ◌<◌, ◌≤◌, Bool, List, [], Option, None, Some, Result, Ok, Err, inl, inr, length, refl, sym, subst, ◌∙◌, ap, arith}
+use Rattle.std.proofs.Common.{ℕ, ◌≡◌, ◌<◌, Bool, List, [], Option, None, Some, Result, Ok, Err, inl, inr, length, refl, sym, subst, ◌∙◌, ap, arith}
 use Rattle.std.specs.Prelude.{◌⊎◌}
 use Rattle.app_api.specs.declared.host.Host.{Host}
 use Rattle.board.specs.Moment.{View}

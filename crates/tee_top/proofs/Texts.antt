@@ -1,6 +1,6 @@
 -- The lines of one application in texts of whole runs, without a turn that lost the storage: they follow from its own lines and store.
 use Rattle.app_api.specs.Behaviours.{Behaviour}
-use Rattle.std.proofs.Common.{ℕ, zero, suc, ◌≡◌, ◌≢◌, ◌+◌, ◌++◌, ◌&&◌, Bool, true, false, cond, List, [], ◌∷◌, None, Some, refl, sym, subst, ◌∙◌, ap, append_assoc}
+use Rattle.std.proofs.Common.{ℕ, zero, suc, ◌≡◌, ◌+◌, ◌++◌, ◌&&◌, Bool, true, false, cond, List, [], ◌∷◌, None, Some, refl, sym, subst, ◌∙◌, ap, append_assoc}
 use Rattle.std.specs.Prelude.{◌||◌, ◌==◌, Option, codes, is_some, slice_get, slice_index_or}
 use Rattle.std.specs.List.{AllByRecursion, list_any}
 use Rattle.std.specs.Fmt.{decimal}
@@ -21,11 +21,11 @@ use Rattle.script.specs.Grammar.{names_of}
 use Rattle.script.specs.declared.line.Line.{Line}
 use Rattle.script.specs.declared.line.Line.TheVariants as lines
 use Rattle.store_api.specs.Stores.{Store}
-use Rattle.tee_core.specs.World.{AppEvent, World, world_of}
+use Rattle.tee_core.specs.World.{AppEvent, world_of}
 use Rattle.tee_top.specs.BoardLines.{begins_with, has_line, weather_in, whole_lines}
 use Rattle.tee_top.specs.Isolation.{HasNoLine, IsCalmText, OthersLoseNone, app_met_at, events_for, lines_for, mark_front, met_by_another, own_events, own_line_events, own_lines, own_text}
 use Rattle.tee_top.specs.Parts.{HasNoDamage, IsUndamaged}
-use Rattle.tee_top.specs.Transcript.{Weather, WorldEvent, Fused, Happens, Powered, events_of, transcript}
+use Rattle.tee_top.specs.Transcript.{Weather, WorldEvent, Fused, Happens, Powered, events_of}
 use Rattle.tee_top.proofs.Alike.{LeavesAnother, call_all, calm_stays, chosen, event_is, turn_leaves, turns_all}
 use Rattle.tee_top.proofs.Apart.{own_events_met, written_alone}
 use Rattle.tee_top.proofs.Parts.{all_both, all_first}

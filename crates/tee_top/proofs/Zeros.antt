@@ -4,13 +4,12 @@ use Rattle.std.proofs.lemmas.Bool.Decides.{nat_tests}
 use Rattle.tee_base.specs.declared.limits.TheConstants.{BLOCK_BYTES, BOARD_BLOCKS, LEAVES, MAX_HOSTS}
 use Rattle.board.specs.Moment.{View}
 use Rattle.board.specs.Runs.{Rests}
-use Rattle.epoch.specs.Forms.{Form, blank_leaves, held, held_by, is_leaf}
+use Rattle.epoch.specs.Forms.{Form, blank_leaves, held, held_by}
 use Rattle.epoch.specs.Gates.{gate_at, gate_open}
 use Rattle.epoch.specs.Opening.{opening_by, opening_of}
 use Rattle.epoch.specs.Slots.{slot_of}
 use Rattle.epoch.specs.declared.slots.Slot.{Slot}
 use Rattle.epoch.specs.declared.slots.Slot.TheVariants.{Shut}
-use Rattle.object_dir.specs.Regions.{region_in}
 use Rattle.region_plan.specs.Laws.{IsBlank}
 use Rattle.region_plan.specs.Layout.{version_one}
 use Rattle.region_plan.specs.Regions.{region_of}

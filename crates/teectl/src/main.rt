@@ -1,18 +1,20 @@
 //! `teectl`: runs a script of client calls for the sample applications.
 #![tactic(auto)]
 
+mod blank;
 #[cfg(test)]
 mod tests;
 mod words;
 
+use crate::blank::run_blank;
 use board::Board;
-use boards::{FileBoard, FileBoardFailed, MemBoard};
+use boards::{FileBoard, FileBoardFailed};
 use sample_apps::sample_hosts;
 use std::alloc::Global;
 use std::io;
 use std::process::ExitCode;
 use std::string::String;
-use tee_base::{NoMemory, StdSink, StdSource, limits};
+use tee_base::{StdSink, StdSource};
 use tee_top::{Status, run_tee, status_line};
 
 const HELP: &str = "\
@@ -56,10 +58,12 @@ fn run_over<R: Input + Print, B: Board + Drop>(
 
 /// Runs the words over a blank board in memory.
 fn run_in_memory<R: Input + Print>(rt: &R, alloc: Global, words: &[String]) -> Status {
-    match MemBoard::blank(alloc, [0; 32], limits::BOARD_BLOCKS) {
-        Ok(board) => run_over(rt, alloc, words, board, [0; 32]),
-        Err(NoMemory) => Status::NoMemory,
-    }
+    let Ok(hosts) = sample_hosts(alloc) else {
+        return Status::NoMemory;
+    };
+    let mut source = StdSource::new(rt.reader());
+    let mut sink = StdSink::new(io::writer(rt));
+    run_blank(alloc, words, &mut source, &mut sink, hosts, [0; 32])
 }
 
 /// Runs the words over the board of these files.

@@ -1,4 +1,4 @@
-use Rattle.std.proofs.Common.{◌≡◌, ◌<◌, [], Err, length, refl, sym, subst, Some, arith}
+use Rattle.std.proofs.Common.{◌≡◌, ◌<◌, [], length, refl, sym, subst, Some, arith}
 use Rattle.std.specs.Prelude.{slice_get}
 use Rattle.std.specs.Io.KnownBytes.{Appends}
 use Rattle.std.proofs.lemmas.Result.{err_from_is_err_and}
@@ -55,7 +55,7 @@ returns-in_err-happened-clause-made g c =
           (no_orders _);
       losses = tt;
       honest = λ honest. subst (λ v. g.B.Board.honest (g.V.BoardVolume.board_of v)) (sym c.in_err-happened.ensures.err.1) honest;
-      apps = c.in_err-happened.ensures.apps;
+      apps = c.in_err-happened.ensures.kept.apps;
       fault = λ is. absurd (never_faulty is);
       later = omega arith;
     })
@@ -72,7 +72,7 @@ returns-in_err-written-clause-made g c =
     let new = volume_of then in
     let e = c.args.event in
     let h = c.in_ok-happened.happened in
-    let counts = c.in_ok-happened.ensures.counts in
+    let counts = c.in_ok-happened.ensures.made.counts in
     let known = event_known names (app_count tee) (λ i. turns_made tee i) c.name_of.result.now (app_of e) c.args.app c.requires.own c.requires.names c.requires.known
     c.name_of.ensures (c.has_room.ensures.0 c.if-not-has_room.false) in
     let stop = err_from_is_err_and c.from_residual-in_err-written.result c.from_residual-in_err-written.ensures.1 in
@@ -82,14 +82,14 @@ returns-in_err-written-clause-made g c =
           let p = side_at tee.sides.items w (app_of e) stands.sides_are known.there in
           one_stops behaviour g.V.BoardVolume.form names w e h p.0 p.1 (c.in_ok-happened.ensures.told w p.0 stands p.1) _ _ known.within
           (omega (arith, known.room, sides_turns tee.sides.items w (app_of e) p.0 stands.sides_are p.1))
-          (c.in_ok-happened.ensures.stands w p.0 stands p.1) (c.in_ok-happened.ensures.sound w stands)
-          (stands_leaves g.V.Volume.keeper g.V.BoardVolume.form then.sides.items (volume_of then) _ _ (g.met.V.BoardVolume.seen (volume_of then)) (c.in_ok-happened.ensures.world w stands))
+          (c.in_ok-happened.ensures.made.stands w p.0 stands p.1) (c.in_ok-happened.ensures.made.sound w stands)
+          (stands_leaves g.V.Volume.keeper g.V.BoardVolume.form then.sides.items (volume_of then) _ _ (g.met.V.BoardVolume.seen (volume_of then)) (c.in_ok-happened.ensures.made.world w stands))
           (subst (λ name. AppendsFront (happened_lines name h) (g.W.Sink.written c.args.sink.now) (g.W.Sink.written c.write_happened-written.new.sink)) known.named c.in_err-written.ensures.err);
       served = c.in_err-written.ensures.served;
       orders = unordered g.V.Volume.keeper g.V.BoardVolume.form old new _ _ (g.met.V.BoardVolume.seen old) (g.met.V.BoardVolume.seen new) counts.foundation counts.faults;
       losses = tt;
-      honest = λ honest. (g.met.V.BoardVolume.below new).0 (c.in_ok-happened.ensures.below ((g.met.V.BoardVolume.below old).1 honest));
-      apps = c.in_ok-happened.ensures.apps;
+      honest = λ honest. (g.met.V.BoardVolume.below new).0 (c.in_ok-happened.ensures.made.below ((g.met.V.BoardVolume.below old).1 honest));
+      apps = c.in_ok-happened.ensures.kept.apps;
       fault = λ is. c.in_err-written.ensures.fault (stop_again _ _ _ _ is);
       later = c.in_err-written.ensures.later;
     })
@@ -106,7 +106,7 @@ returns-clause-made g c =
     let new = volume_of then in
     let e = c.args.event in
     let h = c.in_ok-happened.happened in
-    let counts = c.in_ok-happened.ensures.counts in
+    let counts = c.in_ok-happened.ensures.made.counts in
     let within : c.args.app < length names = omega (arith, c.requires.names, c.requires.known) in
     let known = event_known names (app_count tee) (λ i. turns_made tee i) c.name_of.result.now (app_of e) c.args.app c.requires.own c.requires.names c.requires.known
     c.name_of.ensures (c.has_room.ensures.0 c.if-not-has_room.false) in
@@ -115,20 +115,20 @@ returns-clause-made g c =
           let p = side_at tee.sides.items w (app_of e) stands.sides_are known.there in
           one_whole behaviour g.V.BoardVolume.form names w e h p.0 p.1 (c.in_ok-happened.ensures.told w p.0 stands p.1) _ _ _ known.within
           (omega (arith, known.room, sides_turns tee.sides.items w (app_of e) p.0 stands.sides_are p.1))
-          (c.in_ok-happened.ensures.stands w p.0 stands p.1) (c.in_ok-happened.ensures.sound w stands) c.in_ok-happened.ensures.boots
+          (c.in_ok-happened.ensures.made.stands w p.0 stands p.1) (c.in_ok-happened.ensures.made.sound w stands) c.in_ok-happened.ensures.kept.boots
           (event_span g.V.Volume.keeper g.V.BoardVolume.form (volume_of tee) (volume_of then) _ _ (g.met.V.BoardVolume.seen (volume_of tee))
-          (g.met.V.BoardVolume.seen (volume_of then)) e h.kind c.in_ok-happened.ensures.counts)
-          (c.in_ok-happened.ensures.world w stands)
+          (g.met.V.BoardVolume.seen (volume_of then)) e h.kind c.in_ok-happened.ensures.made.counts)
+          (c.in_ok-happened.ensures.made.world w stands)
           (subst (λ name. Appends (g.W.Sink.written c.args.sink.now) (g.W.Sink.written c.write_happened-written.new.sink) (happened_lines name h)) known.named c.in_ok-written.ensures.ok);
       stopped = tt;
       served = tt;
       orders = unordered g.V.Volume.keeper g.V.BoardVolume.form old new _ _ (g.met.V.BoardVolume.seen old) (g.met.V.BoardVolume.seen new) counts.foundation counts.faults;
       losses =
           losses_event g.V.Volume.keeper g.V.BoardVolume.form old new _ _ (g.met.V.BoardVolume.seen old) (g.met.V.BoardVolume.seen new) names c.args.app h _ _ c.requires.words within
-          c.in_ok-happened.ensures.counts
+          c.in_ok-happened.ensures.made.counts
           (subst (λ name. Appends (g.W.Sink.written c.args.sink.now) (g.W.Sink.written c.write_happened-written.new.sink) (happened_lines name h)) c.name_of.ensures c.in_ok-written.ensures.ok);
-      honest = λ honest. (g.met.V.BoardVolume.below new).0 (c.in_ok-happened.ensures.below ((g.met.V.BoardVolume.below old).1 honest));
-      apps = c.in_ok-happened.ensures.apps;
+      honest = λ honest. (g.met.V.BoardVolume.below new).0 (c.in_ok-happened.ensures.made.below ((g.met.V.BoardVolume.below old).1 honest));
+      apps = c.in_ok-happened.ensures.kept.apps;
       fault = λ is. absurd (never_stopped _ _ is);
       later = c.in_ok-written.ensures.later;
     }

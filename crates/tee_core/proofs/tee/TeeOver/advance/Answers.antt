@@ -37,27 +37,6 @@ invariant_of-self-clause-booted g c =
     c.lose_all.ensures.boots c.args.self.now.boots (booted_kept c.args.self.now.boots items c.args.app c.index_mut.result.now _ c.turn_over-kind.new.side c.args.self.now.booted
     c.requires.known c.index_mut.ensures.value c.turn_over-kind.ensures.boot)
 
-pub returns-in-Lost-clause-world : goal.returns-in-Lost-clause-world
-returns-in-Lost-clause-world g c =
-    let items = c.args.self.now.sides.items in
-    moved_lost g.V.Volume.keeper g.met.V.Volume.rests g.met.V.Volume.since_earlier g.A.Application.behaviour items c.args.app c.args.instance c.turn_over-kind.result
-    c.turn_over-kind.new.replies c.index_mut.result.now _ c.turn_over-kind.new.side c.args.self.now.volume c.turn_over-kind.new.volume c.requires.known
-    c.index_mut.ensures.value c.turn_over-kind.ensures.turn c.in-Lost.change c.in-Lost.is c.lose_all.new.sides.items c.lose_all.ensures.sides
-
-pub returns-in-Lost-clause-stands : goal.returns-in-Lost-clause-stands
-returns-in-Lost-clause-stands g c =
-    let items = c.args.self.now.sides.items in
-    may_all g.V.Volume.keeper g.met.V.Volume.rests g.met.V.Volume.since_earlier g.A.Application.behaviour items c.args.app c.args.instance c.turn_over-kind.result
-    c.turn_over-kind.new.replies c.index_mut.result.now _ c.turn_over-kind.new.side c.args.self.now.volume c.turn_over-kind.new.volume c.requires.known
-    c.index_mut.ensures.value c.turn_over-kind.ensures.turn
-
-pub returns-in-Lost-clause-sound : goal.returns-in-Lost-clause-sound
-returns-in-Lost-clause-sound g c =
-    let items = c.args.self.now.sides.items in
-    sound_all g.V.Volume.keeper g.met.V.Volume.rests g.met.V.Volume.since_earlier g.A.Application.behaviour items c.args.app c.args.instance c.turn_over-kind.result
-    c.turn_over-kind.new.replies c.index_mut.result.now _ c.turn_over-kind.new.side c.args.self.now.volume c.turn_over-kind.new.volume c.requires.known
-    c.index_mut.ensures.value c.turn_over-kind.ensures.turn
-
 pub returns-in-Lost-clause-change : goal.returns-in-Lost-clause-change
 returns-in-Lost-clause-change g c =
     let items = c.args.self.now.sides.items in
@@ -65,34 +44,11 @@ returns-in-Lost-clause-change g c =
     c.turn_over-kind.new.replies c.index_mut.result.now _ c.turn_over-kind.new.side c.args.self.now.volume c.turn_over-kind.new.volume c.requires.known
     c.index_mut.ensures.value c.turn_over-kind.ensures.turn
 
-pub returns-in-Lost-clause-moments : goal.returns-in-Lost-clause-moments
-returns-in-Lost-clause-moments g c =
-    let items = c.args.self.now.sides.items in
-    within_all g.V.Volume.keeper g.met.V.Volume.rests g.met.V.Volume.since_earlier g.A.Application.behaviour items c.args.app c.args.instance c.turn_over-kind.result
-    c.turn_over-kind.new.replies c.index_mut.result.now _ c.turn_over-kind.new.side c.args.self.now.volume c.turn_over-kind.new.volume c.requires.known
-    c.index_mut.ensures.value c.turn_over-kind.ensures.turn
-
-pub returns-in-Lost-clause-counts : goal.returns-in-Lost-clause-counts
-returns-in-Lost-clause-counts g c =
-    let items = c.args.self.now.sides.items in
-    counts_kept g.V.Volume.keeper g.A.Application.behaviour c.args.app c.args.instance c.turn_over-kind.result c.turn_over-kind.new.replies c.index_mut.result.now
-    c.turn_over-kind.new.side c.args.self.now.volume c.turn_over-kind.new.volume c.turn_over-kind.ensures.turn
-
-pub returns-in-Lost-clause-below : goal.returns-in-Lost-clause-below
-returns-in-Lost-clause-below g c =
-    below_kept g.V.Volume.keeper g.A.Application.behaviour c.args.app c.args.instance c.turn_over-kind.result c.turn_over-kind.new.replies c.index_mut.result.now
-    c.turn_over-kind.new.side c.args.self.now.volume c.turn_over-kind.new.volume c.turn_over-kind.ensures.turn
-
 pub returns-in-Lost-clause-turns : goal.returns-in-Lost-clause-turns
 returns-in-Lost-clause-turns g c =
     let items = c.args.self.now.sides.items in
     turns_one items c.lose_all.new.sides.items c.args.app c.index_mut.result.now _ c.turn_over-kind.new.side c.requires.known c.index_mut.ensures.value
     c.turn_over-kind.ensures.turns c.lose_all.ensures.turns
-
-pub returns-in-Lost-clause-others : goal.returns-in-Lost-clause-others
-returns-in-Lost-clause-others g c =
-    let items = c.args.self.now.sides.items in
-    λ other apart. turns_apart items c.lose_all.new.sides.items c.args.app other c.turn_over-kind.new.side apart c.lose_all.ensures.turns
 
 pub returns-in-Lost-clause-replies : goal.returns-in-Lost-clause-replies
 returns-in-Lost-clause-replies g c =
@@ -116,27 +72,6 @@ invariant_of-self-in_default-clause-booted g c =
     booted_kept c.args.self.now.boots items c.args.app c.index_mut.result.now _ c.turn_over-kind.new.side c.args.self.now.booted c.requires.known c.index_mut.ensures.value
     c.turn_over-kind.ensures.boot
 
-pub returns-in_default-clause-world : goal.returns-in_default-clause-world
-returns-in_default-clause-world g c =
-    let items = c.args.self.now.sides.items in
-    moved_plain g.V.Volume.keeper g.met.V.Volume.rests g.met.V.Volume.since_earlier g.A.Application.behaviour items c.args.app c.args.instance c.turn_over-kind.result
-    c.turn_over-kind.new.replies c.index_mut.result.now _ c.turn_over-kind.new.side c.args.self.now.volume c.turn_over-kind.new.volume c.requires.known
-    c.index_mut.ensures.value c.turn_over-kind.ensures.turn c.in_default.not-Lost
-
-pub returns-in_default-clause-stands : goal.returns-in_default-clause-stands
-returns-in_default-clause-stands g c =
-    let items = c.args.self.now.sides.items in
-    may_all g.V.Volume.keeper g.met.V.Volume.rests g.met.V.Volume.since_earlier g.A.Application.behaviour items c.args.app c.args.instance c.turn_over-kind.result
-    c.turn_over-kind.new.replies c.index_mut.result.now _ c.turn_over-kind.new.side c.args.self.now.volume c.turn_over-kind.new.volume c.requires.known
-    c.index_mut.ensures.value c.turn_over-kind.ensures.turn
-
-pub returns-in_default-clause-sound : goal.returns-in_default-clause-sound
-returns-in_default-clause-sound g c =
-    let items = c.args.self.now.sides.items in
-    sound_all g.V.Volume.keeper g.met.V.Volume.rests g.met.V.Volume.since_earlier g.A.Application.behaviour items c.args.app c.args.instance c.turn_over-kind.result
-    c.turn_over-kind.new.replies c.index_mut.result.now _ c.turn_over-kind.new.side c.args.self.now.volume c.turn_over-kind.new.volume c.requires.known
-    c.index_mut.ensures.value c.turn_over-kind.ensures.turn
-
 pub returns-in_default-clause-change : goal.returns-in_default-clause-change
 returns-in_default-clause-change g c =
     let items = c.args.self.now.sides.items in
@@ -144,34 +79,11 @@ returns-in_default-clause-change g c =
     c.turn_over-kind.new.replies c.index_mut.result.now _ c.turn_over-kind.new.side c.args.self.now.volume c.turn_over-kind.new.volume c.requires.known
     c.index_mut.ensures.value c.turn_over-kind.ensures.turn
 
-pub returns-in_default-clause-moments : goal.returns-in_default-clause-moments
-returns-in_default-clause-moments g c =
-    let items = c.args.self.now.sides.items in
-    within_all g.V.Volume.keeper g.met.V.Volume.rests g.met.V.Volume.since_earlier g.A.Application.behaviour items c.args.app c.args.instance c.turn_over-kind.result
-    c.turn_over-kind.new.replies c.index_mut.result.now _ c.turn_over-kind.new.side c.args.self.now.volume c.turn_over-kind.new.volume c.requires.known
-    c.index_mut.ensures.value c.turn_over-kind.ensures.turn
-
-pub returns-in_default-clause-counts : goal.returns-in_default-clause-counts
-returns-in_default-clause-counts g c =
-    let items = c.args.self.now.sides.items in
-    counts_kept g.V.Volume.keeper g.A.Application.behaviour c.args.app c.args.instance c.turn_over-kind.result c.turn_over-kind.new.replies c.index_mut.result.now
-    c.turn_over-kind.new.side c.args.self.now.volume c.turn_over-kind.new.volume c.turn_over-kind.ensures.turn
-
-pub returns-in_default-clause-below : goal.returns-in_default-clause-below
-returns-in_default-clause-below g c =
-    below_kept g.V.Volume.keeper g.A.Application.behaviour c.args.app c.args.instance c.turn_over-kind.result c.turn_over-kind.new.replies c.index_mut.result.now
-    c.turn_over-kind.new.side c.args.self.now.volume c.turn_over-kind.new.volume c.turn_over-kind.ensures.turn
-
 pub returns-in_default-clause-turns : goal.returns-in_default-clause-turns
 returns-in_default-clause-turns g c =
     let items = c.args.self.now.sides.items in
     turns_one items (set items c.args.app c.turn_over-kind.new.side) c.args.app c.index_mut.result.now _ c.turn_over-kind.new.side c.requires.known c.index_mut.ensures.value
     c.turn_over-kind.ensures.turns refl
-
-pub returns-in_default-clause-others : goal.returns-in_default-clause-others
-returns-in_default-clause-others g c =
-    let items = c.args.self.now.sides.items in
-    λ other apart. turns_apart items (set items c.args.app c.turn_over-kind.new.side) c.args.app other c.turn_over-kind.new.side apart refl
 
 pub returns-in_default-clause-replies : goal.returns-in_default-clause-replies
 returns-in_default-clause-replies g c =
@@ -185,10 +97,78 @@ turn_over-kind-requires-clause-few g c =
     let here = turns_here c.args.self.now.sides.items c.args.app c.index_mut.result.now _ c.requires.known c.index_mut.ensures.value in
     omega (arith, here, c.requires.room)
 
-pub returns-in-Lost-clause-apps : goal.returns-in-Lost-clause-apps
-returns-in-Lost-clause-apps g c =
+pub returns-in-Lost-clause-made : goal.returns-in-Lost-clause-made
+returns-in-Lost-clause-made g c =
     let items = c.args.self.now.sides.items in
-    mapped_length c.lose_all.new.sides.items (set items c.args.app c.turn_over-kind.new.side) c.lose_all.ensures.turns ∙ set_length items c.args.app c.turn_over-kind.new.side
+    record {
+      world =
+          moved_lost g.V.Volume.keeper g.met.V.Volume.rests g.met.V.Volume.since_earlier g.A.Application.behaviour items c.args.app c.args.instance c.turn_over-kind.result
+          c.turn_over-kind.new.replies c.index_mut.result.now _ c.turn_over-kind.new.side c.args.self.now.volume c.turn_over-kind.new.volume c.requires.known
+          c.index_mut.ensures.value c.turn_over-kind.ensures.turn c.in-Lost.change c.in-Lost.is c.lose_all.new.sides.items c.lose_all.ensures.sides;
+      stands =
+          may_all g.V.Volume.keeper g.met.V.Volume.rests g.met.V.Volume.since_earlier g.A.Application.behaviour items c.args.app c.args.instance c.turn_over-kind.result
+          c.turn_over-kind.new.replies c.index_mut.result.now _ c.turn_over-kind.new.side c.args.self.now.volume c.turn_over-kind.new.volume c.requires.known
+          c.index_mut.ensures.value c.turn_over-kind.ensures.turn;
+      sound =
+          sound_all g.V.Volume.keeper g.met.V.Volume.rests g.met.V.Volume.since_earlier g.A.Application.behaviour items c.args.app c.args.instance c.turn_over-kind.result
+          c.turn_over-kind.new.replies c.index_mut.result.now _ c.turn_over-kind.new.side c.args.self.now.volume c.turn_over-kind.new.volume c.requires.known
+          c.index_mut.ensures.value c.turn_over-kind.ensures.turn;
+      moments =
+          within_all g.V.Volume.keeper g.met.V.Volume.rests g.met.V.Volume.since_earlier g.A.Application.behaviour items c.args.app c.args.instance c.turn_over-kind.result
+          c.turn_over-kind.new.replies c.index_mut.result.now _ c.turn_over-kind.new.side c.args.self.now.volume c.turn_over-kind.new.volume c.requires.known
+          c.index_mut.ensures.value c.turn_over-kind.ensures.turn;
+      counts =
+          counts_kept g.V.Volume.keeper g.A.Application.behaviour c.args.app c.args.instance c.turn_over-kind.result c.turn_over-kind.new.replies c.index_mut.result.now
+          c.turn_over-kind.new.side c.args.self.now.volume c.turn_over-kind.new.volume c.turn_over-kind.ensures.turn;
+      below =
+          below_kept g.V.Volume.keeper g.A.Application.behaviour c.args.app c.args.instance c.turn_over-kind.result c.turn_over-kind.new.replies c.index_mut.result.now
+          c.turn_over-kind.new.side c.args.self.now.volume c.turn_over-kind.new.volume c.turn_over-kind.ensures.turn;
+    }
 
-pub returns-in_default-clause-apps : goal.returns-in_default-clause-apps
-returns-in_default-clause-apps g c = set_length c.args.self.now.sides.items c.args.app c.turn_over-kind.new.side
+pub returns-in-Lost-clause-kept : goal.returns-in-Lost-clause-kept
+returns-in-Lost-clause-kept g c =
+    let items = c.args.self.now.sides.items in
+    record {
+      apps =
+          mapped_length c.lose_all.new.sides.items (set items c.args.app c.turn_over-kind.new.side) c.lose_all.ensures.turns ∙ set_length items c.args.app c.turn_over-kind.new.side;
+      others = λ other apart. turns_apart items c.lose_all.new.sides.items c.args.app other c.turn_over-kind.new.side apart c.lose_all.ensures.turns;
+      boots = refl;
+    }
+
+pub returns-in_default-clause-made : goal.returns-in_default-clause-made
+returns-in_default-clause-made g c =
+    let items = c.args.self.now.sides.items in
+    record {
+      world =
+          moved_plain g.V.Volume.keeper g.met.V.Volume.rests g.met.V.Volume.since_earlier g.A.Application.behaviour items c.args.app c.args.instance c.turn_over-kind.result
+          c.turn_over-kind.new.replies c.index_mut.result.now _ c.turn_over-kind.new.side c.args.self.now.volume c.turn_over-kind.new.volume c.requires.known
+          c.index_mut.ensures.value c.turn_over-kind.ensures.turn c.in_default.not-Lost;
+      stands =
+          may_all g.V.Volume.keeper g.met.V.Volume.rests g.met.V.Volume.since_earlier g.A.Application.behaviour items c.args.app c.args.instance c.turn_over-kind.result
+          c.turn_over-kind.new.replies c.index_mut.result.now _ c.turn_over-kind.new.side c.args.self.now.volume c.turn_over-kind.new.volume c.requires.known
+          c.index_mut.ensures.value c.turn_over-kind.ensures.turn;
+      sound =
+          sound_all g.V.Volume.keeper g.met.V.Volume.rests g.met.V.Volume.since_earlier g.A.Application.behaviour items c.args.app c.args.instance c.turn_over-kind.result
+          c.turn_over-kind.new.replies c.index_mut.result.now _ c.turn_over-kind.new.side c.args.self.now.volume c.turn_over-kind.new.volume c.requires.known
+          c.index_mut.ensures.value c.turn_over-kind.ensures.turn;
+      moments =
+          within_all g.V.Volume.keeper g.met.V.Volume.rests g.met.V.Volume.since_earlier g.A.Application.behaviour items c.args.app c.args.instance c.turn_over-kind.result
+          c.turn_over-kind.new.replies c.index_mut.result.now _ c.turn_over-kind.new.side c.args.self.now.volume c.turn_over-kind.new.volume c.requires.known
+          c.index_mut.ensures.value c.turn_over-kind.ensures.turn;
+      counts =
+          counts_kept g.V.Volume.keeper g.A.Application.behaviour c.args.app c.args.instance c.turn_over-kind.result c.turn_over-kind.new.replies c.index_mut.result.now
+          c.turn_over-kind.new.side c.args.self.now.volume c.turn_over-kind.new.volume c.turn_over-kind.ensures.turn;
+      below =
+          below_kept g.V.Volume.keeper g.A.Application.behaviour c.args.app c.args.instance c.turn_over-kind.result c.turn_over-kind.new.replies c.index_mut.result.now
+          c.turn_over-kind.new.side c.args.self.now.volume c.turn_over-kind.new.volume c.turn_over-kind.ensures.turn;
+    }
+
+pub returns-in_default-clause-kept : goal.returns-in_default-clause-kept
+returns-in_default-clause-kept g c =
+    let items = c.args.self.now.sides.items in
+    record {
+      apps =
+          set_length c.args.self.now.sides.items c.args.app c.turn_over-kind.new.side;
+      others = λ other apart. turns_apart items (set items c.args.app c.turn_over-kind.new.side) c.args.app other c.turn_over-kind.new.side apart refl;
+      boots = refl;
+    }

@@ -1,53 +1,38 @@
-use Rattle.std.proofs.Common.{sym, subst}
-use Rattle.tee_core.specs.Represents.{volume_of}
-use Rattle.tee_core.proofs.Steps.{if_ok_all}
-use Rattle.tee_core.proofs.Still.{moments_still}
+use Rattle.std.proofs.Common.{arith}
 use Rattle.tee_core.proofs.tee.TeeOver.event.Goals as goal
 
-pub returns-in-Call-clause-moments : goal.returns-in-Call-clause-moments
-returns-in-Call-clause-moments g c =
-    let tee = c.args.self.now in
-    if_ok_all c.call.result _ (λ told world whole.
-    moments_still g.V.Volume.keeper tee.sides.items tee.volume (volume_of c.call.new.self) world _ c.call.ensures.volume whole)
-
-pub returns-in-Call-clause-below : goal.returns-in-Call-clause-below
-returns-in-Call-clause-below g c = λ below. subst g.V.Volume.keeper.honest_below (sym c.call.ensures.volume) below
-
-pub returns-in-Cancel-clause-below : goal.returns-in-Cancel-clause-below
-returns-in-Cancel-clause-below g c = λ below. subst g.V.Volume.keeper.honest_below (sym c.cancel.ensures.volume) below
-
-pub returns-in-Cancel-clause-world : goal.returns-in-Cancel-clause-world
-returns-in-Cancel-clause-world g c = rw c.in-Cancel.is c.cancel.ensures.world
-
-pub returns-in-Cancel-clause-told : goal.returns-in-Cancel-clause-told
-returns-in-Cancel-clause-told g c = rw c.in-Cancel.is c.cancel.ensures.told
-
-pub returns-in-Call-clause-world : goal.returns-in-Call-clause-world
-returns-in-Call-clause-world g c = rw c.in-Call.is c.call.ensures.world
+pub returns-in-Call-clause-made : goal.returns-in-Call-clause-made
+returns-in-Call-clause-made g c = rw c.in-Call.is c.call.ensures.made
 
 pub returns-in-Call-clause-told : goal.returns-in-Call-clause-told
 returns-in-Call-clause-told g c = rw c.in-Call.is c.call.ensures.told
 
-pub returns-in-Turn-clause-world : goal.returns-in-Turn-clause-world
-returns-in-Turn-clause-world g c = rw c.in-Turn.is c.turn.ensures.world
+pub returns-in-Call-clause-kept : goal.returns-in-Call-clause-kept
+returns-in-Call-clause-kept g c = rw c.in-Call.is c.call.ensures.kept
+
+pub returns-in-Call-clause-turns : goal.returns-in-Call-clause-turns
+returns-in-Call-clause-turns g c = rw c.in-Call.is (omega (arith, c.call.ensures.turns))
+
+pub returns-in-Cancel-clause-made : goal.returns-in-Cancel-clause-made
+returns-in-Cancel-clause-made g c = rw c.in-Cancel.is c.cancel.ensures.made
+
+pub returns-in-Cancel-clause-told : goal.returns-in-Cancel-clause-told
+returns-in-Cancel-clause-told g c = rw c.in-Cancel.is c.cancel.ensures.told
+
+pub returns-in-Cancel-clause-kept : goal.returns-in-Cancel-clause-kept
+returns-in-Cancel-clause-kept g c = rw c.in-Cancel.is c.cancel.ensures.kept
+
+pub returns-in-Cancel-clause-turns : goal.returns-in-Cancel-clause-turns
+returns-in-Cancel-clause-turns g c = rw c.in-Cancel.is (omega (arith, c.cancel.ensures.turns))
+
+pub returns-in-Turn-clause-made : goal.returns-in-Turn-clause-made
+returns-in-Turn-clause-made g c = rw c.in-Turn.is c.turn.ensures.made
 
 pub returns-in-Turn-clause-told : goal.returns-in-Turn-clause-told
 returns-in-Turn-clause-told g c = rw c.in-Turn.is c.turn.ensures.told
 
-pub returns-in-Turn-clause-stands : goal.returns-in-Turn-clause-stands
-returns-in-Turn-clause-stands g c = rw c.in-Turn.is c.turn.ensures.stands
+pub returns-in-Turn-clause-kept : goal.returns-in-Turn-clause-kept
+returns-in-Turn-clause-kept g c = rw c.in-Turn.is c.turn.ensures.kept
 
-pub returns-in-Turn-clause-moments : goal.returns-in-Turn-clause-moments
-returns-in-Turn-clause-moments g c = rw c.in-Turn.is c.turn.ensures.moments
-
-pub returns-in-Turn-clause-others : goal.returns-in-Turn-clause-others
-returns-in-Turn-clause-others g c = rw c.in-Turn.is c.turn.ensures.others
-
-pub returns-in-Turn-clause-sound : goal.returns-in-Turn-clause-sound
-returns-in-Turn-clause-sound g c = c.turn.ensures.sound
-
-pub returns-in-Turn-clause-counts : goal.returns-in-Turn-clause-counts
-returns-in-Turn-clause-counts g c = c.turn.ensures.counts
-
-pub returns-in-Turn-clause-below : goal.returns-in-Turn-clause-below
-returns-in-Turn-clause-below g c = c.turn.ensures.below
+pub returns-in-Turn-clause-turns : goal.returns-in-Turn-clause-turns
+returns-in-Turn-clause-turns g c = rw c.in-Turn.is (omega (arith, c.turn.ensures.turns))

@@ -5,6 +5,12 @@ use Rattle.tee_core.proofs.Steps.{turn_is}
 use Rattle.tee_core.proofs.Turns.{kind_counts}
 use Rattle.tee_core.proofs.tee.TeeOver.turn.Goals as goal
 
+pub returns-clause-made : goal.returns-clause-made
+returns-clause-made g c = c.advance-kind.ensures.made
+
+pub returns-clause-kept : goal.returns-clause-kept
+returns-clause-kept g c = c.advance-kind.ensures.kept
+
 pub returns-clause-told : goal.returns-clause-told
 returns-clause-told g c = λ world m whole here.
     turn_is g.A.Application.behaviour m c.advance-kind.result c.args.instance c.turns.result c.advance-kind.new.replies
