@@ -8,12 +8,7 @@ ghost use Rattle.store_api.specs.declared.leaves.LeafAnswer.TheVariants as answe
 ghost use Rattle.board.specs.Steps.{CallRun};
 ghost use Rattle.epoch.specs.Reading.{OnlyReads, no_fault};
 ghost use Rattle.seal.specs.Keys.{AreKeysOf};
-<<<<<<< HEAD
-ghost use Rattle.tree_volume.specs.Gather.{AreGathered, AreTrue, IsPushed, named};
-=======
 ghost use Rattle.tree_volume.specs.Gather.{AreGathered, AreTrue, IsOnWay, IsPushed, named};
-ghost use Rattle.tree_volume.specs.Reading.{OnlyReads};
->>>>>>> D6
 ghost use Rattle.tree_volume.specs.Shape.{shape};
 ghost use Rattle.tree_volume.specs.Touched.{AreOrdered, fresh_of};
 ghost use Rattle.tree_volume.specs.Tree.{damage_at, damage_of, on_image};
