@@ -1,5 +1,9 @@
 //! Rows of calls on a flat volume over a board in memory, and what has to come of each.
 
+ghost use Rattle.std.specs.Prelude.{◌<◌, IfOk, IsTrue};
+ghost use Rattle.tee_base.specs.declared.limits.TheConstants.{LEAVES};
+ghost use Rattle.store_api.specs.Ascending.{is_above_all};
+
 use crate::filling::byte_at;
 use boards::MemBoard;
 use epoch::{BoardVolume, OpenAnswer};
@@ -35,7 +39,10 @@ pub enum Row {
 pub type Flat = FlatVolume<MemBoard>;
 
 /// One leaf, filled with a byte.
-fn leaf_of(alloc: Global, number: u8, byte: u8) -> Result<Leaves, NoMemory> {
+fn leaf_of(alloc: Global, number: u16, byte: u8) -> Result<Leaves, NoMemory>
+    requires { number < LEAVES }
+    ensures { IfOk result (λ leaves. IsTrue (is_above_all leaves LEAVES)) }
+{
     let mut leaves = Leaves::none(alloc);
     leaves.push(Leaf {
         number,
@@ -58,7 +65,9 @@ fn is_replaced(
 }
 
 /// Whether a leaf of region 2 is filled with a byte.
-fn is_leaf(volume: &mut Flat, leaf: u8, byte: u8) -> bool {
+fn is_leaf(volume: &mut Flat, leaf: u16, byte: u8) -> bool
+    requires { leaf < LEAVES }
+{
     let mut bytes = [1; 1024];
     volume.read_leaf(2, leaf, &mut bytes) == Ok(()) && bytes == [byte; 1024]
 }

@@ -189,7 +189,7 @@ returns-clause-refusal g c = λ why same honest.
 pub returns-clause-opened : goal.returns-clause-opened
 returns-clause-opened g c = λ honest.
     let admitted = c.in-Ok-open.ensures.exact honest in
-    inr (admitted.0, admitted.1, _, admitted.3)
+    inr (admitted.0, admitted.1, _, _, admitted.3)
 
 pub returns-clause-orders : goal.returns-clause-orders
 returns-clause-orders g c = λ done.
