@@ -90,9 +90,11 @@ impl<V: Volume> AppStore for ObjectDir<'_, V> {
     ghost since_earlier = { λ d t u o le left.
         (left.0, V.since_earlier d.region.volume.now t u left.0 le left.1, left.2) };
 
-    ghost left_now = { λ d has works. (Some (V.keeper.held d.region.volume.now),
-        V.left_now d.region.volume.now has.honest works,
-        sym (reads_back d.region.number (V.keeper.held d.region.volume.now) has.stands)) };
+    ghost left_now = { λ d has works. (
+      Some (V.keeper.held d.region.volume.now),
+      V.left_now d.region.volume.now has.honest works,
+      sym (reads_back d.region.number (V.keeper.held d.region.volume.now) has.stands),
+    ) };
 
     /// Besides, it reads leaves of the region alone: whatever they stand for, it leaves what an honest volume holds, and an
     /// answer of the store is that of leaves without damage. So it is with the others.

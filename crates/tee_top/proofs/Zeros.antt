@@ -26,7 +26,7 @@ unfolding slot_of
 shut key image slot zero = let closed : gate_open (image (gate_at slot)) ≡ false = ap gate_open zero ∙ not_open in rw closed refl
 
 opens : (f : Form) (key : List ℕ) (image : ℕ → List ℕ) → image 0 ≡ replicate BLOCK_BYTES 0 → image 2 ≡ replicate BLOCK_BYTES 0
-    → held f key image 0 ≡ Some (record { leaves = blank_leaves; sequence = 0 })
+    → held f key image 0 ≡ Some (record { leaves = blank_leaves; sequence = 0; version = f.version })
 unfolding held opening_of
 opens f key image first second =
     let one : slot_of key image 0 ≡ Shut = shut key image 0 first in
@@ -46,7 +46,7 @@ begins law view hosts rests size zero few = record {
   counter = 0;
   rests = rests;
   size = size;
-  held = record { leaves = blank_leaves; sequence = 0 };
+  held = record { leaves = blank_leaves; sequence = 0; version = form_in_use.version };
   sound = record {
     opens = opens form_in_use view.key view.state.reads (zero 0 (omega arith)) (zero 2 (omega arith));
     stand = λ app below. law (blank_leaves app) (blank app (omega (arith, below, few)));

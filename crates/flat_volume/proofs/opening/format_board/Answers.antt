@@ -17,8 +17,12 @@ returns-in_err-root-clause-opens g c honest h mounts =
     let kept : IfErr c.from_residual-in_err-root.result (λ why. IsKeptFromOpening why) = search rules in
     format_failed (g.B.Board.view c.args.board.now) (g.B.Board.view c.commit.new.board) c.from_residual-in_err-root.result h mounts.0 (mounts.1 NO_ROOT refl).version
     c.from_residual-in_err-root.ensures.0 kept
-    (c.in_err-root.ensures.crash honest h (record { last = mounts.0; mounted = mounts.1 NO_ROOT refl; fits =
-    record { keyed = keys; stands = c.in_ok-blank_table.ensures.table ∙ sym (blank_stands _ NO_ROOT refl) } }))
+    (c.in_err-root.ensures.crash honest h (record {
+      last = mounts.0;
+      mounted = mounts.1 NO_ROOT refl;
+      fits =
+          record { keyed = keys; stands = c.in_ok-blank_table.ensures.table ∙ sym (blank_stands _ NO_ROOT refl) };
+    }))
 
 pub returns-clause-verified : goal.returns-clause-verified
 returns-clause-verified g c =

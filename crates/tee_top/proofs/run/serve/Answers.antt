@@ -57,11 +57,14 @@ returns-in-Err-clause-refusal g c = λ why same honest.
 pub returns-in-Err-clause-refused : goal.returns-in-Err-clause-refused
 returns-in-Err-clause-refused g c = λ why same honest.
     let exact = c.in-Err.ensures.exact honest in
-    inl (refl, record {
-      counter = exact.0;
-      may_tell = exact.1;
-      refused = rule_told g.V.BoardVolume.form (g.B.Board.view c.args.board) exact.0 c.in-Err.field-0.why why (sym c.refusal_status.ensures ∙ same) exact.2;
-    })
+    inl (
+      refl,
+      record {
+        counter = exact.0;
+        may_tell = exact.1;
+        refused = rule_told g.V.BoardVolume.form (g.B.Board.view c.args.board) exact.0 c.in-Err.field-0.why why (sym c.refusal_status.ensures ∙ same) exact.2;
+      },
+    )
 
 pub returns-in-Err-clause-rule : goal.returns-in-Err-clause-rule
 returns-in-Err-clause-rule g c = λ why same tells.
@@ -73,10 +76,13 @@ returns-in-Err-clause-answer g c = λ why same. answer_told c.in-Err.field-0.why
 
 pub returns-in-Err-clause-cause : goal.returns-in-Err-clause-cause
 returns-in-Err-clause-cause g c = λ fault.
-    inl (refl, record {
-      orders = orders_opened _ _ _ c.in-Err.ensures.back;
-      failed = c.in-Err.ensures.cause (failed_told c.in-Err.field-0.why (sym c.refusal_status.ensures ∙ fault));
-    })
+    inl (
+      refl,
+      record {
+        orders = orders_opened _ _ _ c.in-Err.ensures.back;
+        failed = c.in-Err.ensures.cause (failed_told c.in-Err.field-0.why (sym c.refusal_status.ensures ∙ fault));
+      },
+    )
 
 pub returns-in-Err-clause-first_orders : goal.returns-in-Err-clause-first_orders
 returns-in-Err-clause-first_orders g c = first_orders_none c.args.lines.items _ _ (orders_opened _ _ _ c.in-Err.ensures.back)
