@@ -24,7 +24,7 @@ pub enum Outcome {
 pub enum CryptoOutcome {
     /// It was served.
     Settled(Outcome),
-    /// The key of this object decides, by `Crypto::set_key`. Nothing has changed.
+    /// The key of this object decides, by `Operations::set_key`. Nothing has changed.
     WantsKey { op: u32, object: u32 },
 }
 
