@@ -3,8 +3,7 @@ use Rattle.std.proofs.Common.{◌≡◌, ◌≢◌, ◌∙◌, ℕ, Bool, true, 
 use Rattle.board.specs.Moment.{IsConsistent, Moment, View}
 use Rattle.board.specs.Steps.{Powered, SameBlocks, Synced, Unchanged, Wrote}
 use Rattle.epoch.specs.Commits.{IsSteady, StaysSettled}
-use Rattle.epoch.specs.Forms.{Form, IsFramed, leaves_of}
-use Rattle.epoch.specs.declared.header.TreeEntry.{TreeEntry}
+use Rattle.epoch.specs.Forms.{Form, IsFramed, Root, leaves_of}
 use Rattle.epoch.proofs.CommitLemmas.{leaves_same}
 
 at : {A : Type 0} {f g : ℕ → A} → f ≡ g → (k : ℕ) → f k ≡ g k
@@ -36,7 +35,7 @@ pub settled_wrote : (block place : ℕ) (bytes : List ℕ) (ok : Bool) (old new 
     → (k : ℕ) → k ≢ place → old.pending k ≡ false → new.pending k ≡ false
 settled_wrote block place bytes ok old new is wrote k ne was = wrote.pending k (λ e. ne (e ∙ is)) ∙ was
 
-module _ (f : Form) (key : List ℕ) (root : TreeEntry) where
+module _ (f : Form) (key : List ℕ) (root : Root) where
   -- where nothing is pending
   pub steady_rests : (m : Moment) → ((k : ℕ) → m.pending k ≡ false) → IsSteady f key root m
   steady_rests m pending = record { base = m.reads; same = λ k used. refl; pending = λ k used. pending k }

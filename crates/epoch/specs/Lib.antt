@@ -1,5 +1,6 @@
 pub mod Commits
 pub mod Finding
+pub mod Formats
 pub mod Forms
 pub mod Gates
 pub mod Header

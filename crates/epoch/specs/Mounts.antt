@@ -2,16 +2,14 @@
 -- leaves.
 use Rattle.std.specs.Prelude.{◌≡◌, ◌≤◌, ◌⊎◌, ◌+◌, ◌%◌, ◌^◌, ℕ, List, ◌∷◌, false, true, Option, Some, None, Result, Ok, Err, IfErr, IfOk, OnErr}
 use Rattle.tee_base.specs.Crash.{LeavesOnly, read_as}
-use Rattle.tee_base.specs.declared.limits.TheConstants.{BOARD_BLOCKS}
 use Rattle.store_api.specs.Volumes.{Held, RestsAt, VolumeKeeper}
 use Rattle.board.specs.Moment.{IsBehind, IsCounter, Outcome, View, left_since, moment}
 use Rattle.board.specs.Steps.{Passes, Powered}
-use Rattle.epoch.specs.Forms.{Form, held_of}
+use Rattle.epoch.specs.Forms.{Form, Root, held_of, root_of}
 use Rattle.epoch.specs.Opening.{found_header, header_answer, opening_of, opens_as}
 use Rattle.epoch.specs.declared.answer.OpenAnswer.{OpenAnswer}
 use Rattle.epoch.specs.declared.answer.OpenAnswer.TheVariants as answers
 use Rattle.epoch.specs.declared.header.Header.{Header}
-use Rattle.epoch.specs.declared.header.TreeEntry.{TreeEntry}
 use Rattle.epoch.specs.declared.rule.Found.{Found}
 
 -- what is held once a board that opens so was opened: one that was blank was formatted, to the sequence 1
@@ -23,7 +21,7 @@ opened_by (Err answer) held = held
 -- the same of a board that holds this
 abbrev pub after_opening : Form → View → Held → Held
 after_opening f view held =
-    opened_by (opening_of f.version view.key view.state.reads view.state.counter) held
+    opened_by (opening_of f.known view.key view.state.reads view.state.counter) held
 
 -- a crash left a sound volume
 abbrev pub IsLeftSound : Option Held → Type 0
@@ -36,33 +34,34 @@ abbrev pub IsRefusal : Form → View → (ℕ → List ℕ) → ℕ → OpenAnsw
 IsRefusal f view image counter answers.Failed = Unit {0}
 IsRefusal f view image counter answers.NoMemory = Unit {0}
 IsRefusal f view image counter why =
-    opens_as f.version BOARD_BLOCKS view.size view.key image counter ≡ Err why
+    opens_as f.known f.blocks view.size view.key image counter ≡ Err why
 
 -- the same of the board as it reads now, at a counter that it may tell
 abbrev pub IsRefusedNow : Form → View → OpenAnswer → Type 0
 IsRefusedNow f view answers.Failed = Unit {0}
 IsRefusedNow f view answers.NoMemory = Unit {0}
 IsRefusedNow f view why = (counter : ℕ) × IsCounter view.state counter
-    × (opens_as f.version BOARD_BLOCKS view.size view.key view.state.reads counter ≡ Err why)
+    × (opens_as f.known f.blocks view.size view.key view.state.reads counter ≡ Err why)
 
 -- what is taken up is the header that counts, with its sequence and its root; where none does, the board has this sequence, and a
--- root of the same
-abbrev pub TakesUp : Option Header → ℕ → ℕ → TreeEntry → Type 0
-TakesUp None blank sequence root = (sequence ≡ blank) × (root.sequence ≡ blank)
-TakesUp (Some header) blank sequence root = (header.sequence ≡ sequence) × (header.root ≡ root)
+-- root of the same and of the version that is written
+abbrev pub TakesUp : Form → Option Header → ℕ → ℕ → Root → Type 0
+TakesUp f None blank sequence root =
+    (sequence ≡ blank) × (root.version ≡ f.version) × (root.entry.sequence ≡ blank)
+TakesUp f (Some header) blank sequence root = (header.sequence ≡ sequence) × (root_of header ≡ root)
 
 -- the opening rule opens a board over this image and this counter, and what counts there is taken up
-abbrev pub IsAdmitted : Form → View → (ℕ → List ℕ) → ℕ → ℕ → ℕ → TreeEntry → Type 0
+abbrev pub IsAdmitted : Form → View → (ℕ → List ℕ) → ℕ → ℕ → ℕ → Root → Type 0
 IsAdmitted f view image counter blank sequence root = (found : Option Found)
-    × (opens_as f.version BOARD_BLOCKS view.size view.key image counter ≡ Ok found)
-    × TakesUp (found_header found) blank sequence root
+    × (opens_as f.known f.blocks view.size view.key image counter ≡ Ok found)
+    × TakesUp f (found_header found) blank sequence root
 
 -- what a search for the header answers is the rule's, over this image and this counter
 abbrev pub IsRuledBy : Form → View → (ℕ → List ℕ) → ℕ → Result (Option Header) OpenAnswer
     → Type 0
 IsRuledBy f view image counter result = IfErr result (λ why. IsRefusal f view image counter why)
     × IfOk result (λ found. header_answer
-    (opens_as f.version BOARD_BLOCKS view.size view.key image counter) ≡ Ok found)
+    (opens_as f.known f.blocks view.size view.key image counter) ≡ Ok found)
 
 -- a call of the board failed, or there was no memory
 abbrev pub IsKeptFromOpening : OpenAnswer → Type 0

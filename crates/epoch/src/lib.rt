@@ -7,6 +7,7 @@ mod answer;
 mod bytes;
 mod commits;
 mod find;
+mod format;
 mod gates;
 mod header;
 mod laws;
@@ -19,7 +20,8 @@ mod steps;
 
 pub use answer::{OpenAnswer, Unopened};
 pub use commits::{Change, commit};
-pub use find::{FLAT_VERSION, VOLUME_BLOCKS, find_header, find_version};
+pub use find::find_header;
+pub use format::Format;
 pub use header::{Header, TreeEntry, entry_at, entry_bytes};
 pub use laws::opening_laws;
 pub use laying::lay;

@@ -1,7 +1,6 @@
 //! A volume on a board: how it is opened, and what happens to its board beside the leaves.
 ghost use Rattle.std.specs.Prelude.{◌≡◌, ◌≢◌, ◌≤◌, ◌↔◌, ℕ, true, false, Some, Err, IsTrue, IfOk, IfErr, OnErr};
 ghost use Rattle.tee_base.specs.Faults.{Rose};
-ghost use Rattle.tee_base.specs.declared.limits.TheConstants.{BOARD_BLOCKS};
 ghost use Rattle.store_api.specs.Volumes.{Held};
 ghost use Rattle.board.specs.Moment.{IsCounter, IsLeft, Outcome};
 ghost use Rattle.board.specs.Runs.{Rests};
@@ -9,12 +8,11 @@ ghost use Rattle.board.specs.Fuse.{refitted};
 ghost use Rattle.board.specs.Steps.{CallRun, Passes, SameBlocks, Unchanged};
 ghost use Rattle.board.specs.declared.fuse.Fuse.TheVariants.{Unset};
 ghost use Rattle.epoch.specs.Finding.{IsSettledAt};
-ghost use Rattle.epoch.specs.Forms.{Form, held};
+ghost use Rattle.epoch.specs.Forms.{Form, Root, held};
 ghost use Rattle.epoch.specs.Mounts.{IsAdmitted, IsAlwaysSound, IsBack, IsKeptFromOpening, IsOrdered, IsRefusal, IsRefusedNow, IsSeenOn, LeavesOpening, OpensAfterPower, OpensAgain, OrderRun, PowerFirst, after_opening};
 ghost use Rattle.epoch.specs.Opening.{is_no_failure, no_failure};
 ghost use Rattle.epoch.specs.Past.{KeepsPast};
 ghost use Rattle.epoch.specs.declared.answer.OpenAnswer.TheVariants as answers;
-ghost use Rattle.epoch.specs.declared.header.TreeEntry.{TreeEntry as Entry};
 
 use crate::answer::{OpenAnswer, Unopened};
 use board::Board;
@@ -35,8 +33,8 @@ pub trait BoardVolume<B: Board>: Volume + Sized {
     /// The board that it stands on.
     ghost board_of: { Self → B };
 
-    /// The entry of the root that it keeps.
-    ghost root: { Self → Entry };
+    /// The root that it keeps.
+    ghost root: { Self → Root };
 
     /// Opens a board; one that is blank is formatted.
     ///
@@ -77,13 +75,13 @@ pub trait BoardVolume<B: Board>: Volume + Sized {
             → IfErr result (λ u. IsRefusedNow form (B.view u.board) u.why) }
         // a board at rest with a sound image is opened, unless a call failed or there was no memory
         ensures opened { B.honest board → (n : ℕ) (h : Held) → Rests n (B.view board).state
-            → BOARD_BLOCKS ≤ (B.view board).size
+            → form.blocks ≤ (B.view board).size
             → held form (B.view board).key (B.view board).state.reads n ≡ Some h
             → IfOk result (λ v. Self.keeper.honest v
             × (Self.keeper.held v ≡ after_opening form (B.view board) h)
             × LeavesOpening form h (B.view board) (B.view (board_of v))) }
         ensures unopened { B.honest board → (n : ℕ) (h : Held) → Rests n (B.view board).state
-            → BOARD_BLOCKS ≤ (B.view board).size
+            → form.blocks ≤ (B.view board).size
             → held form (B.view board).key (B.view board).state.reads n ≡ Some h
             → IfErr result (λ u. IsKeptFromOpening u.why
             × LeavesOpening form h (B.view board) (B.view u.board)) };

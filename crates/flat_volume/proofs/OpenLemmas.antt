@@ -13,7 +13,8 @@ use Rattle.board.proofs.Runs.{starts}
 use Rattle.seal.specs.declared.keys.Keys.{Keys}
 use Rattle.epoch.specs.Commits.{BeforeOrAfter, IsMounted, next_held}
 use Rattle.epoch.specs.Finding.{sequence_of}
-use Rattle.epoch.specs.Forms.{held_of}
+use Rattle.epoch.specs.Formats.{IsAccepted, accepts}
+use Rattle.epoch.specs.Forms.{IsBlankRoot, Root, held_of, root_of as root_of_header}
 use Rattle.epoch.specs.Mounting.{MountsTo, after_found}
 use Rattle.epoch.specs.Mounts.{IsAdmitted, IsKeptFromOpening, IsRefusal, IsRuledBy, TakesUp, after_opening}
 use Rattle.epoch.specs.declared.answer.OpenAnswer.{OpenAnswer}
@@ -22,62 +23,74 @@ use Rattle.epoch.specs.declared.header.Header.{Header}
 use Rattle.epoch.specs.declared.header.TreeEntry.{TreeEntry}
 use Rattle.epoch.proofs.MountLemmas.{admitted_by, mounted_left}
 use Rattle.flat_volume.specs.Change.{ChecksFlat, FitsFlat}
-use Rattle.flat_volume.specs.Flat.{flat, table_damage, table_in, zero_table}
-use Rattle.flat_volume.specs.Frame.{flat_framed}
+use Rattle.flat_volume.specs.Flat.{flat, flat_root, table_damage, table_in, zero_table}
+use Rattle.flat_volume.specs.Frame.{flat_framed, zero_alone}
 use Rattle.flat_volume.specs.Keeping.{IsKept, IsOpen, held_now}
 use Rattle.flat_volume.specs.Opens.{Opens, root_of}
+use Rattle.flat_volume.specs.declared.places.TheConstants.{FLAT}
 use Rattle.flat_volume.specs.declared.table.Table.{Table}
 use Rattle.flat_volume.specs.declared.volume.Opened.{Opened}
 use Rattle.flat_volume.specs.declared.write.TheConstants.{NO_ROOT}
 
 -- what is held under a root that a board is mounted with
-pub held_is : (view : View) (root : TreeEntry) (sequence : ℕ) (h : Held) → IsMounted flat view.key root h view.state → sequence ≡ h.sequence → held_now view root sequence ≡ h
+pub held_is : (view : View) (root : TreeEntry) (sequence : ℕ) (h : Held) → IsMounted flat view.key (flat_root root) h view.state → sequence ≡ h.sequence → held_now view root sequence ≡ h
 held_is view root sequence h mounted e = λ i. record { leaves = (sym mounted.leaves) i; sequence = e i; version = (sym mounted.version) i }
 
 -- such a board is open
-pub open_with : (view : View) (root : TreeEntry) (sequence : ℕ) (table : Option Table) (h : Held) → IsMounted flat view.key root h view.state → sequence ≡ h.sequence
+pub open_with : (view : View) (root : TreeEntry) (sequence : ℕ) (table : Option Table) (h : Held) → IsMounted flat view.key (flat_root root) h view.state → sequence ≡ h.sequence
     → IsKept table view.state.reads root → IsOpen view root sequence table × (held_now view root sequence ≡ h)
 open_with view root sequence table h mounted e kept =
     let same = held_is view root sequence h mounted e in
-    (record { mounted = subst (λ (x : Held). IsMounted flat view.key root x view.state) (sym same) mounted; kept = kept }, same)
+    (record { mounted = subst (λ (x : Held). IsMounted flat view.key (flat_root root) x view.state) (sym same) mounted; kept = kept }, same)
 
 -- and nothing else is left of it
-rests_so : (view : View) (root : TreeEntry) (h after : Held) → IsMounted flat view.key root h view.state
+rests_so : (view : View) (root : TreeEntry) (h after : Held) → IsMounted flat view.key (flat_root root) h view.state
     → LeavesOnly moment left_since view view (λ c. (held_of flat view.key c ≡ Some h) ⊎ (held_of flat view.key c ≡ Some after))
 rests_so view root h after mounted =
-    starts view (λ c. (held_of flat view.key c ≡ Some h) ⊎ (held_of flat view.key c ≡ Some after)) (λ c left. inl (mounted_left flat flat_framed root h view mounted c left))
+    starts view (λ c. (held_of flat view.key c ≡ Some h) ⊎ (held_of flat view.key c ≡ Some after)) (λ c left. inl (mounted_left flat flat_framed (flat_root root) h view mounted c left))
 
 none_kept : (table : Option Table) (reads : ℕ → List ℕ) (root : TreeEntry) → table ≡ None → IsKept table reads root
 none_kept table reads root none = subst (λ (t : Option Table). IsKept t reads root) (sym none) tt
 
+-- what a blank board has in place of a root
+pub blank_root : IsBlankRoot flat (flat_root NO_ROOT)
+blank_root = record { version = refl; sequence = refl }
+
+-- the root of a header of an accepted version
+root_is : (header : Header) → accepts FLAT header.version ≡ true → root_of_header header ≡ flat_root header.root
+root_is header accepted =
+    let zero : (header.version == 0) ≡ true = zero_alone header.version ∙ accepted in
+    let is : header.version ≡ 0 = grind (arith, nat_tests, zero) in
+    λ i. record { version = is i; entry = header.root }
+
 -- a board is mounted with the root of what was found, and with its sequence
-mounted_found : (view : View) (h : Held) (found : Option Header) → MountsTo flat view.key h view.state found
-    → IsMounted flat view.key (root_of found) h view.state × (sequence_of found ≡ h.sequence)
-mounted_found view h None mounts = (mounts.1 NO_ROOT refl, sym mounts.0)
-mounted_found view h (Some header) mounts = (mounts.1, sym mounts.0)
+mounted_found : (view : View) (h : Held) (found : Option Header) → IsAccepted FLAT found → MountsTo flat view.key h view.state found
+    → IsMounted flat view.key (flat_root (root_of found)) h view.state × (sequence_of found ≡ h.sequence)
+mounted_found view h None accepted mounts = (mounts.1 (flat_root NO_ROOT) blank_root, sym mounts.0)
+mounted_found view h (Some header) accepted mounts = (subst (λ (r : Root). IsMounted flat view.key r h view.state) (root_is header accepted) mounts.1, sym mounts.0)
 
 -- so it is open where that is taken up
 pub open_found : (view : View) (o : Opened) (found : Option Header) (h : Held) → o.root ≡ root_of found → o.sequence ≡ sequence_of found → o.table ≡ None
-    → MountsTo flat view.key h view.state found → IsOpen view o.root o.sequence o.table × (held_now view o.root o.sequence ≡ h)
-open_found view o found h root sequence table mounts =
-    let is = mounted_found view h found mounts in
-    open_with view o.root o.sequence o.table h (subst (λ (r : TreeEntry). IsMounted flat view.key r h view.state) (sym root) is.0) (sequence ∙ is.1)
+    → IsAccepted FLAT found → MountsTo flat view.key h view.state found → IsOpen view o.root o.sequence o.table × (held_now view o.root o.sequence ≡ h)
+open_found view o found h root sequence table accepted mounts =
+    let is = mounted_found view h found accepted mounts in
+    open_with view o.root o.sequence o.table h (subst (λ (r : TreeEntry). IsMounted flat view.key (flat_root r) h view.state) (sym root) is.0) (sequence ∙ is.1)
     (none_kept o.table view.state.reads o.root table)
 
 -- a header that was found is taken up
 pub opens_found : (view : View) (o : Opened) (header : Header) (found : Option Header) (h : Held) → found ≡ Some header → o.root ≡ root_of found → o.sequence ≡ sequence_of found → o.table ≡ None
-    → MountsTo flat view.key h view.state found → Opens h (after_found found h) (Ok o) view view
-opens_found view o header found h is root sequence table mounts =
-    let open_so = open_found view o found h root sequence table mounts in
+    → IsAccepted FLAT found → MountsTo flat view.key h view.state found → Opens h (after_found found h) (Ok o) view view
+opens_found view o header found h is root sequence table accepted mounts =
+    let open_so = open_found view o found h root sequence table accepted mounts in
     let same : after_found found h ≡ h = ap (λ (f : Option Header). after_found f h) is in
     record {
       opened = (open_so.0, open_so.1 ∙ sym same);
       failed = tt;
-      leaves = rests_so view (root_of found) h (after_found found h) (mounted_found view h found mounts).0;
+      leaves = rests_so view (root_of found) h (after_found found h) (mounted_found view h found accepted mounts).0;
     }
 
 -- a blank board that wasn't formatted, since there was no memory
-pub opens_without : (view : View) (root : TreeEntry) (result : Result Opened OpenAnswer) (h after : Held) → IsMounted flat view.key root h view.state
+pub opens_without : (view : View) (root : TreeEntry) (result : Result Opened OpenAnswer) (h after : Held) → IsMounted flat view.key (flat_root root) h view.state
     → IsErr result → IfErr result (λ why. IsKeptFromOpening why) → Opens h after result view view
 opens_without view root (Ok o) h after mounted fails kept = absurd (false≢true fails)
 opens_without view root (Err why) h after mounted fails kept = record { opened = tt; failed = kept; leaves = rests_so view root h after mounted }
@@ -115,11 +128,11 @@ format_failed old new (Err why) h zero version fails kept run = record { opened 
 
 pub format_done : (old new : View) (root root' : TreeEntry) (keys : Keys) (table : Table) (h : Held) → h.sequence ≡ 0 → h.version ≡ flat.version → new.key ≡ old.key → root' ≡ root
     → LeavesOnly moment left_since old new (BeforeOrAfter flat old.key h (next_held flat (replaced 0 [] h.leaves) h.sequence))
-    → IsMounted flat old.key root (next_held flat (replaced 0 [] h.leaves) h.sequence) new.state → FitsFlat keys table root' old.key new.state.reads
+    → IsMounted flat old.key (flat_root root) (next_held flat (replaced 0 [] h.leaves) h.sequence) new.state → FitsFlat keys table root' old.key new.state.reads
     → Opens h (after_found None h) (Ok (record { root = root; sequence = 1; table = Some table })) old new
 format_done old new root root' keys table h zero version key same run mounted fits =
-    let mounted' : IsMounted flat new.key root (after_found None h) new.state
-    = subst (λ (k : List ℕ). IsMounted flat k root (after_found None h) new.state) (sym key) (subst (λ (x : Held). IsMounted flat old.key root x new.state) (formatted h zero version) mounted) in
+    let mounted' : IsMounted flat new.key (flat_root root) (after_found None h) new.state
+    = subst (λ (k : List ℕ). IsMounted flat k (flat_root root) (after_found None h) new.state) (sym key) (subst (λ (x : Held). IsMounted flat old.key (flat_root root) x new.state) (formatted h zero version) mounted) in
     let kept : table.bytes.items ≡ table_in new.state.reads root = fits.stands ∙ ap (table_in new.state.reads) same in
     record {
       opened = open_with new root 1 (Some table) (after_found None h) mounted' refl kept;
@@ -190,28 +203,28 @@ kept_refusal view image n why kept =
     kept
 
 -- what an opening takes up of what was found: its sequence and its root
-pub taken_up : (found : Option Header) (o : Opened) → o.root ≡ root_of found → o.sequence ≡ sequence_of found → TakesUp found 0 o.sequence o.root
-taken_up None o root sequence = (sequence, ap (λ (e : TreeEntry). e.sequence) root)
-taken_up (Some header) o root sequence = (sym sequence, sym root)
+pub taken_up : (found : Option Header) (o : Opened) → IsAccepted FLAT found → o.root ≡ root_of found → o.sequence ≡ sequence_of found → TakesUp flat found 0 o.sequence (flat_root o.root)
+taken_up None o accepted root sequence = (sequence, refl, ap (λ (e : TreeEntry). e.sequence) root)
+taken_up (Some header) o accepted root sequence = (sym sequence, root_is header accepted ∙ ap flat_root (sym root))
 
 -- the same of a header, whatever a blank board is taken up with
-pub takes_header : (found : Option Header) (header : Header) (o : Opened) (blank : ℕ) → found ≡ Some header → o.root ≡ root_of found → o.sequence ≡ sequence_of found
-    → TakesUp found blank o.sequence o.root
-takes_header None header o blank is root sequence = absurd (cc)
-takes_header (Some other) header o blank is root sequence = (sym sequence, sym root)
+pub takes_header : (found : Option Header) (header : Header) (o : Opened) (blank : ℕ) → found ≡ Some header → IsAccepted FLAT found → o.root ≡ root_of found → o.sequence ≡ sequence_of found
+    → TakesUp flat found blank o.sequence (flat_root o.root)
+takes_header None header o blank is accepted root sequence = absurd (cc)
+takes_header (Some other) header o blank is accepted root sequence = (sym sequence, root_is other accepted ∙ ap flat_root (sym root))
 
 -- and of a blank board
 pub takes_none : (found : Option Header) (result : Result Opened OpenAnswer) (blank : ℕ) → found ≡ None → IfOk result (λ o. (o.sequence ≡ blank) × (o.root.sequence ≡ blank))
-    → IfOk result (λ o. TakesUp found blank o.sequence o.root)
-takes_none None (Ok o) blank is both = both
+    → IfOk result (λ o. TakesUp flat found blank o.sequence (flat_root o.root))
+takes_none None (Ok o) blank is both = (both.0, refl, both.1)
 takes_none (Some header) (Ok o) blank is both = absurd (cc)
 takes_none found (Err why) blank is both = tt
 
 -- what was found by the rule, and then taken up or not, is so by the rule
 pub ruled_opening : (view : View) (image : ℕ → List ℕ) (n blank : ℕ) (found : Option Header) (result : Result Opened OpenAnswer) → IsRuledBy flat view image n (Ok found)
-    → IfErr result (λ why. IsKeptFromOpening why) → IfOk result (λ o. TakesUp found blank o.sequence o.root)
-    → IfErr result (λ why. IsRefusal flat view image n why) × IfOk result (λ o. IsAdmitted flat view image n blank o.sequence o.root)
-ruled_opening view image n blank found (Ok o) ruled kept at = (tt, admitted_by flat view image n blank o.sequence o.root found ruled.1 at)
+    → IfErr result (λ why. IsKeptFromOpening why) → IfOk result (λ o. TakesUp flat found blank o.sequence (flat_root o.root))
+    → IfErr result (λ why. IsRefusal flat view image n why) × IfOk result (λ o. IsAdmitted flat view image n blank o.sequence (flat_root o.root))
+ruled_opening view image n blank found (Ok o) ruled kept at = (tt, admitted_by flat view image n blank o.sequence (flat_root o.root) found ruled.1 at)
 ruled_opening view image n blank found (Err why) ruled kept at = (kept_refusal view image n why kept, tt)
 
 -- what is told of a refusal goes on to what follows from it

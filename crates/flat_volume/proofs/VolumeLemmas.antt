@@ -25,7 +25,7 @@ use Rattle.epoch.specs.declared.header.TreeEntry.{TreeEntry}
 use Rattle.epoch.proofs.CommitLemmas.{held_before, sealed_each}
 use Rattle.epoch.proofs.RunLemmas.{rest_starts}
 use Rattle.epoch.proofs.SettledLemmas.{settled_blocks, settled_unchanged, steady_leaves, steady_rests, steady_stays}
-use Rattle.flat_volume.specs.Flat.{entry_of, first_damage, flat, leaf_damage, leaf_text, number_of, path_damage, table_damage, table_in}
+use Rattle.flat_volume.specs.Flat.{entry_of, first_damage, flat, flat_root, leaf_damage, leaf_text, number_of, path_damage, table_damage, table_in}
 use Rattle.flat_volume.specs.Frame.{flat_framed}
 use Rattle.flat_volume.specs.Keeping.{Exhausts, IsKept, IsOpen, IsVerified, Replaces, StaysOpen, damage_now, held_now, table_now, text_now}
 use Rattle.flat_volume.specs.Laws.{kept_table}
@@ -46,7 +46,7 @@ kept_by None reads root same = tt
 pub held_same : (old new : View) (root : TreeEntry) (sequence : ℕ) → new.key ≡ old.key → new.state.reads ≡ old.state.reads
     → held_now new root sequence ≡ held_now old root sequence
 held_same old new root sequence key reads =
-    let leaves : leaves_of flat new.key new.state.reads root ≡ leaves_of flat old.key old.state.reads root = rw (key, reads) refl in
+    let leaves : leaves_of flat new.key new.state.reads (flat_root root) ≡ leaves_of flat old.key old.state.reads (flat_root root) = rw (key, reads) refl in
     λ i. record { leaves = leaves i; sequence = sequence; version = flat.version }
 
 -- and show the same damage
@@ -54,7 +54,7 @@ pub damage_same : (old new : View) (table table' : Option Table) (root : TreeEnt
     → table_now table' new.state.reads root ≡ table_now table old.state.reads root → damage_now table' new root ≡ damage_now table old root
 unfolding damage_now
 damage_same old new table table' root key reads same = λ i region leaf.
-    if is_leaf region leaf then path_damage (key i) (same i) (reads i) root (number_of region leaf) else None
+    if is_leaf LEAVES region leaf then path_damage (key i) (same i) (reads i) root (number_of region leaf) else None
 
 -- a volume stays open while its board is only read
 pub open_same : (old new : View) (root : TreeEntry) (sequence : ℕ) (table table' : Option Table) → new.key ≡ old.key → Unchanged old.state new.state
@@ -80,24 +80,24 @@ open_same old new root sequence table table' key same tables is =
     }
 
 -- a root stays steady while no block that no crash could change is written
-pub steady_same : (old new : View) (root : TreeEntry) → new.key ≡ old.key → StaysSettled old.state new.state → IsSteady flat old.key root old.state
-    → IsSteady flat new.key root new.state
+pub steady_same : (old new : View) (root : TreeEntry) → new.key ≡ old.key → StaysSettled old.state new.state → IsSteady flat old.key (flat_root root) old.state
+    → IsSteady flat new.key (flat_root root) new.state
 steady_same old new root key stays is =
-    subst (λ (k : List ℕ). IsSteady flat k root new.state) (sym key) (steady_stays flat old.key root old.state new.state stays is)
+    subst (λ (k : List ℕ). IsSteady flat k (flat_root root) new.state) (sym key) (steady_stays flat old.key (flat_root root) old.state new.state stays is)
 
 -- and holds the same
-pub held_steady : (old new : View) (root : TreeEntry) (sequence : ℕ) → new.key ≡ old.key → StaysSettled old.state new.state → IsSteady flat old.key root old.state
+pub held_steady : (old new : View) (root : TreeEntry) (sequence : ℕ) → new.key ≡ old.key → StaysSettled old.state new.state → IsSteady flat old.key (flat_root root) old.state
     → held_now new root sequence ≡ held_now old root sequence
 held_steady old new root sequence key stays is =
-    let leaves : leaves_of flat new.key new.state.reads root ≡ leaves_of flat old.key old.state.reads root
-    = ap (λ (k : List ℕ). leaves_of flat k new.state.reads root) key ∙ steady_leaves flat old.key root flat_framed old.state new.state stays is in
+    let leaves : leaves_of flat new.key new.state.reads (flat_root root) ≡ leaves_of flat old.key old.state.reads (flat_root root)
+    = ap (λ (k : List ℕ). leaves_of flat k new.state.reads (flat_root root)) key ∙ steady_leaves flat old.key (flat_root root) flat_framed old.state new.state stays is in
     λ i. record { leaves = leaves i; sequence = sequence; version = flat.version }
 
 -- the root of a volume that is open is steady
-pub steady_open : (view : View) (root : TreeEntry) (sequence : ℕ) (table : Option Table) → IsOpen view root sequence table → IsSteady flat view.key root view.state
-steady_open view root sequence table is = steady_rests flat view.key root view.state is.mounted.rests.pending
+pub steady_open : (view : View) (root : TreeEntry) (sequence : ℕ) (table : Option Table) → IsOpen view root sequence table → IsSteady flat view.key (flat_root root) view.state
+steady_open view root sequence table is = steady_rests flat view.key (flat_root root) view.state is.mounted.rests.pending
 
-pub steady_read : (old new : View) (root : TreeEntry) → new.key ≡ old.key → Unchanged old.state new.state → IsSteady flat old.key root old.state → IsSteady flat new.key root new.state
+pub steady_read : (old new : View) (root : TreeEntry) → new.key ≡ old.key → Unchanged old.state new.state → IsSteady flat old.key (flat_root root) old.state → IsSteady flat new.key (flat_root root) new.state
 steady_read old new root key same is = steady_same old new root key (settled_unchanged old.state new.state same) is
 
 -- what a crash leaves while the board is only read
@@ -110,8 +110,8 @@ reads_crash old new root sequence table is only =
     (λ c left.
     let image : c.image ≡ old.state.reads = λ i k. left.image k refl i in
     let counter : c.counter ≡ sequence = omega (arith, left.least, left.greatest) in
-    held_before flat flat_framed old.key root (held_now old root sequence) old.state c.image c.counter is.mounted
-    (ap (opening_of flat.version old.key c.image) counter ∙ ap (λ (f : ℕ → List ℕ). opening_of flat.version old.key f sequence) image)
+    held_before flat flat_framed old.key (flat_root root) (held_now old root sequence) old.state c.image c.counter is.mounted
+    (ap (opening_of flat.known old.key c.image) counter ∙ ap (λ (f : ℕ → List ℕ). opening_of flat.known old.key f sequence) image)
     (λ k used. left.image k refl))
     run.leaves
 
@@ -123,7 +123,7 @@ open_read old new root sequence table key same is =
     (ap (λ (f : ℕ → List ℕ). table_in f root) same.reads ∙ sym (kept_table table old.state.reads root is.kept)) is
 
 -- a board that is mounted with the table of its root is open, and holds this
-pub mounted_open : (view : View) (key : List ℕ) (root : TreeEntry) (h : Held) (table : Table) → view.key ≡ key → IsMounted flat key root h view.state
+pub mounted_open : (view : View) (key : List ℕ) (root : TreeEntry) (h : Held) (table : Table) → view.key ≡ key → IsMounted flat key (flat_root root) h view.state
     → table.bytes.items ≡ table_in view.state.reads root → IsOpen view root h.sequence (Some table)
 mounted_open view key root h table same mounted stands = record {
   mounted = record {
@@ -136,13 +136,13 @@ mounted_open view key root h table same mounted stands = record {
   kept = stands;
 }
 
-pub leaves_held : (view : View) (key : List ℕ) (root : TreeEntry) (h : Held) → view.key ≡ key → leaves_of flat key view.state.reads root ≡ h.leaves → h.version ≡ flat.version
+pub leaves_held : (view : View) (key : List ℕ) (root : TreeEntry) (h : Held) → view.key ≡ key → leaves_of flat key view.state.reads (flat_root root) ≡ h.leaves → h.version ≡ flat.version
     → held_now view root h.sequence ≡ h
 leaves_held view key root h same leaves version =
-    let now : leaves_of flat view.key view.state.reads root ≡ h.leaves = rw same leaves in
+    let now : leaves_of flat view.key view.state.reads (flat_root root) ≡ h.leaves = rw same leaves in
     λ i. record { leaves = now i; sequence = h.sequence; version = (sym version) i }
 
-pub mounted_held : (view : View) (key : List ℕ) (root : TreeEntry) (h : Held) → view.key ≡ key → IsMounted flat key root h view.state → held_now view root h.sequence ≡ h
+pub mounted_held : (view : View) (key : List ℕ) (root : TreeEntry) (h : Held) → view.key ≡ key → IsMounted flat key (flat_root root) h view.state → held_now view root h.sequence ≡ h
 mounted_held view key root h same mounted = leaves_held view key root h same (sym mounted.leaves) mounted.version
 
 -- what a crash leaves whose blocks are those of an open volume, and whose counter is its sequence
@@ -153,8 +153,8 @@ left_holds view m root sequence table c is same left counter =
     let each : (k : ℕ) → c.image k ≡ view.state.reads k
     = λ k. left.kept k (at same.pending k ∙ rests.pending k) ∙ at same.durable k ∙ sym (rests.as_read k) in
     let image : c.image ≡ view.state.reads = λ i k. each k i in
-    held_before flat flat_framed view.key root (held_now view root sequence) view.state c.image c.counter is.mounted
-    (ap (opening_of flat.version view.key c.image) counter ∙ ap (λ (f : ℕ → List ℕ). opening_of flat.version view.key f sequence) image)
+    held_before flat flat_framed view.key (flat_root root) (held_now view root sequence) view.state c.image c.counter is.mounted
+    (ap (opening_of flat.known view.key c.image) counter ∙ ap (λ (f : ℕ → List ℕ). opening_of flat.known view.key f sequence) image)
     (λ k used. each k)
 
 -- an advance past the last sequence: no counter is its answer
@@ -216,10 +216,10 @@ first_none (Some tags) rest e = e
 first_none None rest e = refl
 
 -- the table under a root that seals its leaves has no damage
-pub sealed_table : (key : List ℕ) (reads : ℕ → List ℕ) (root : TreeEntry) → is_sealed flat key reads root ≡ true → table_damage key (table_in reads root) root ≡ None
+pub sealed_table : (key : List ℕ) (reads : ℕ → List ℕ) (root : TreeEntry) → is_sealed flat key reads (flat_root root) ≡ true → table_damage key (table_in reads root) root ≡ None
 sealed_table key reads root sealed =
     first_none (table_damage key (table_in reads root) root) (leaf_damage key reads (FIRST_LEAF + number_of 0 0) (entry_of (table_in reads root) (number_of 0 0)))
-    (sealed_each flat key root reads sealed 0 0 (omega arith) (omega arith))
+    (sealed_each flat key (flat_root root) reads sealed 0 0 (omega arith) (omega arith))
 
 -- a table that is kept of a volume that is open has no damage
 pub verified_open : (view : View) (root : TreeEntry) (sequence : ℕ) (table : Option Table) → IsOpen view root sequence table → IsVerified view.key table root
@@ -235,7 +235,7 @@ err_undamaged A B answers.Failed damage shows none = tt
 err_undamaged A B answers.NoMemory damage shows none = tt
 
 -- there is a leaf of these numbers
-pub leaf_is : (region leaf : ℕ) → region < MAX_HOSTS → leaf < LEAVES → is_leaf region leaf ≡ true
+pub leaf_is : (region leaf : ℕ) → region < MAX_HOSTS → leaf < LEAVES → is_leaf LEAVES region leaf ≡ true
 leaf_is region leaf r l =
     let one : nat_lt region MAX_HOSTS ≡ true = grind (arith, nat_tests) in
     let two : nat_lt leaf LEAVES ≡ true = grind (arith, nat_tests) in
@@ -246,7 +246,7 @@ pub damage_of : (table : Option Table) (view : View) (root : TreeEntry) (region 
     → path_damage view.key (table_now table view.state.reads root) view.state.reads root number ≡ damage_now table view root region leaf
 unfolding damage_now
 damage_of table view root region leaf number r l is =
-    let there : is_leaf region leaf ≡ true = leaf_is region leaf r l in
+    let there : is_leaf LEAVES region leaf ≡ true = leaf_is region leaf r l in
     rw (there, is) refl
 
 -- the same of what is found
@@ -254,7 +254,7 @@ pub text_found : (table : Option Table) (view : View) (root : TreeEntry) (region
     → leaf_text view.key view.state.reads (FIRST_LEAF + number) (entry_of (table_now table view.state.reads root) number) ≡ text_now table view root region leaf
 unfolding text_now
 text_found table view root region leaf number r l is =
-    let there : is_leaf region leaf ≡ true = leaf_is region leaf r l in
+    let there : is_leaf LEAVES region leaf ≡ true = leaf_is region leaf r l in
     rw (there, is) refl
 
 -- the same key, the same reads and the same table find the same
@@ -262,7 +262,7 @@ pub text_same : (old new : View) (table table' : Option Table) (root : TreeEntry
     → table_now table' new.state.reads root ≡ table_now table old.state.reads root → text_now table' new root ≡ text_now table old root
 unfolding text_now
 text_same old new table table' root key reads same = λ i region leaf.
-    if is_leaf region leaf then leaf_text (key i) (reads i) (FIRST_LEAF + number_of region leaf) (entry_of (same i) (number_of region leaf)) else []
+    if is_leaf LEAVES region leaf then leaf_text (key i) (reads i) (FIRST_LEAF + number_of region leaf) (entry_of (same i) (number_of region leaf)) else []
 
 -- a damage of the table is one of each leaf
 pub table_shows : (table : Option Table) (view : View) (root : TreeEntry) (region : ℕ) (tags : Mismatch) → region < MAX_HOSTS

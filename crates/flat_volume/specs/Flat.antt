@@ -1,13 +1,12 @@
 -- The flat form: the entries of all leaves stand in one table of plain blocks, under one tag.
-use Rattle.std.specs.Prelude.{ℕ, zero, suc, ◌+◌, ◌-◌, ◌*◌, ◌/◌, ◌%◌, ◌==◌, ◌&&◌, nat_lt, bytes_eq, if◌then◌else◌, Bool, false, List, [], ◌++◌, Option, Some, None, replicate}
-use Rattle.tee_base.specs.declared.limits.TheConstants.{BLOCK_BYTES, LEAVES}
+use Rattle.std.specs.Prelude.{ℕ, zero, suc, ◌+◌, ◌-◌, ◌*◌, ◌/◌, ◌%◌, ◌==◌, ◌&&◌, nat_lt, true, bytes_eq, if◌then◌else◌, Bool, false, List, [], ◌++◌, Option, Some, None, replicate}
+use Rattle.tee_base.specs.declared.limits.TheConstants.{BLOCK_BYTES, BOARD_BLOCKS, LEAVES}
 use Rattle.store_api.specs.declared.answer.Mismatch.{Mismatch}
 use Rattle.seal.specs.Sealing.{plaintext, seal_tag}
-use Rattle.epoch.specs.Forms.{Form}
+use Rattle.epoch.specs.Forms.{Form, Root}
 use Rattle.epoch.specs.Header.{entry_at}
-use Rattle.epoch.specs.declared.find.TheConstants.{FLAT_VERSION}
 use Rattle.epoch.specs.declared.header.TreeEntry.{TreeEntry}
-use Rattle.flat_volume.specs.declared.places.TheConstants.{FIRST_LEAF, FIRST_TABLE, SLOT_BLOCKS, TABLE_BLOCKS, TABLE_BYTES, ENTRY_BYTES}
+use Rattle.flat_volume.specs.declared.places.TheConstants.{FIRST_LEAF, FIRST_TABLE, FLAT_VERSION, SLOT_BLOCKS, TABLE_BLOCKS, TABLE_BYTES, ENTRY_BYTES}
 
 -- which of its two copies a number names
 abbrev pub copy_of : ℕ → ℕ
@@ -99,9 +98,17 @@ flat_uses key image root k =
 abbrev pub flat : Form
 flat = record {
   version = FLAT_VERSION;
+  known = λ version. version == FLAT_VERSION;
+  leaves = LEAVES;
+  blocks = BOARD_BLOCKS;
   damage = λ key image root region leaf.
-      path_damage key (table_in image root) image root (number_of region leaf);
+      path_damage key (table_in image root.entry) image root.entry (number_of region leaf);
   leaf = λ key image root region leaf. leaf_text key image (FIRST_LEAF + number_of region leaf)
-      (entry_of (table_in image root) (number_of region leaf));
-  uses = flat_uses;
+      (entry_of (table_in image root.entry) (number_of region leaf));
+  sound = λ key image root. true;
+  uses = λ key image root. flat_uses key image root.entry;
 }
+
+-- the root of a flat volume with this entry
+abbrev pub flat_root : TreeEntry → Root
+flat_root entry = record { version = FLAT_VERSION; entry = entry }

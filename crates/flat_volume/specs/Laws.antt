@@ -1,6 +1,7 @@
 -- The laws of a flat volume: what a crash leaves of one that is open, that no leaf of it is damaged, and its clock.
 use Rattle.std.proofs.Common.{◌≡◌, ◌≤◌, ◌+◌, ◌∙◌, if◌then◌else◌, ℕ, true, false, List, [], ◌∷◌, Option, Some, None, length, refl, sym, ap, inl, inr, ⊎_elim, arith}
 use Rattle.tee_base.specs.Crash.{read_as}
+use Rattle.tee_base.specs.declared.limits.TheConstants.{LEAVES}
 use Rattle.store_api.specs.Volumes.{Held}
 use Rattle.board.specs.Moment.{IsConsistent, IsCounter, Outcome, Moment, View, IsLeft, WasLeft, moment, left_since}
 use Rattle.epoch.specs.Forms.{held_of, is_leaf, leaves_of}
@@ -8,7 +9,7 @@ use Rattle.epoch.specs.Opening.{opening_of}
 use Rattle.epoch.specs.declared.header.TreeEntry.{TreeEntry}
 use Rattle.epoch.proofs.CommitLemmas.{held_before, leaf_below, mounted_holds, region_below, sealed_each}
 use Rattle.flat_volume.specs.declared.places.TheConstants.{FIRST_LEAF}
-use Rattle.flat_volume.specs.Flat.{entry_of, flat, leaf_text, number_of, path_damage, table_in}
+use Rattle.flat_volume.specs.Flat.{entry_of, flat, flat_root, leaf_text, number_of, path_damage, table_in}
 use Rattle.flat_volume.specs.Frame.{flat_framed}
 use Rattle.flat_volume.specs.Keeping.{IsKept, IsOpen, damage_now, held_now, table_now, text_now}
 use Rattle.flat_volume.specs.declared.table.Table.{Table}
@@ -39,8 +40,8 @@ rests_open view root sequence table is o left =
     let image : (k : ℕ) → left.0.image k ≡ view.state.reads k = λ k. now.kept k (rests.pending k) ∙ sym (rests.as_read k) in
     let whole : left.0.image ≡ view.state.reads = λ i k. image k i in
     let counter : left.0.counter ≡ sequence = omega (arith, now.counter.least, now.counter.greatest, rests.counter, rests.slack) in
-    left.2 ∙ held_before flat flat_framed view.key root (held_now view root sequence) view.state left.0.image left.0.counter is.mounted
-    (ap (opening_of flat.version view.key left.0.image) counter ∙ ap (λ (f : ℕ → List ℕ). opening_of flat.version view.key f sequence) whole)
+    left.2 ∙ held_before flat flat_framed view.key (flat_root root) (held_now view root sequence) view.state left.0.image left.0.counter is.mounted
+    (ap (opening_of flat.known view.key left.0.image) counter ∙ ap (λ (f : ℕ → List ℕ). opening_of flat.known view.key f sequence) whole)
     (λ k used. image k)
 
 -- a table that is kept is the one that counts
@@ -53,11 +54,11 @@ pub sound_open : (view : View) (root : TreeEntry) (sequence : ℕ) (table : Opti
     → (region leaf : ℕ) → damage_now table view root region leaf ≡ None
 unfolding damage_now
 sound_open view root sequence table is region leaf =
-    elim (is_leaf region leaf) as (λ b. is_leaf region leaf ≡ b → (if b then path_damage view.key (table_now table view.state.reads root) view.state.reads root
+    elim (is_leaf LEAVES region leaf) as (λ b. is_leaf LEAVES region leaf ≡ b → (if b then path_damage view.key (table_now table view.state.reads root) view.state.reads root
     (number_of region leaf) else None) ≡ None) [
       | true ↦ λ e.
           ap (λ (t : List ℕ). path_damage view.key t view.state.reads root (number_of region leaf)) (kept_table table view.state.reads root is.kept)
-          ∙ sealed_each flat view.key root view.state.reads is.mounted.sealed region leaf (region_below region leaf e) (leaf_below region leaf e)
+          ∙ sealed_each flat view.key (flat_root root) view.state.reads is.mounted.sealed region leaf (region_below LEAVES region leaf e) (leaf_below LEAVES region leaf e)
       | false ↦ λ e. refl
     ] refl
 
@@ -66,7 +67,7 @@ pub found_open : (view : View) (root : TreeEntry) (sequence : ℕ) (table : Opti
     → (region leaf : ℕ) → text_now table view root region leaf ≡ (held_now view root sequence).leaves region leaf
 unfolding text_now leaves_of
 found_open view root sequence table is region leaf =
-    ap (λ (t : List ℕ). if is_leaf region leaf then leaf_text view.key view.state.reads (FIRST_LEAF + number_of region leaf) (entry_of t (number_of region leaf)) else [])
+    ap (λ (t : List ℕ). if is_leaf LEAVES region leaf then leaf_text view.key view.state.reads (FIRST_LEAF + number_of region leaf) (entry_of t (number_of region leaf)) else [])
     (kept_table table view.state.reads root is.kept)
 
 -- what is held is among what a crash now may leave
@@ -87,5 +88,5 @@ left_open view root sequence table whole is =
         faults = refl;
         orders = refl;
       }),
-      sym (mounted_holds flat flat_framed view.key root (held_now view root sequence) view.state is.mounted),
+      sym (mounted_holds flat flat_framed view.key (flat_root root) (held_now view root sequence) view.state is.mounted),
     )

@@ -1,5 +1,6 @@
 -- What the writing of leaves and of the table does to a board.
 use Rattle.std.specs.Prelude.{◌≡◌, ◌<◌, ℕ, ◌+◌, ◌-◌, Bool, true, List, [], ◌∷◌, Option, None, Some, if◌then◌else◌}
+use Rattle.tee_base.specs.declared.limits.TheConstants.{LEAVES}
 use Rattle.store_api.specs.declared.leaves.Leaf.{Leaf}
 use Rattle.seal.specs.Sealing.{seal_vector}
 use Rattle.epoch.specs.Forms.{is_leaf}
@@ -28,7 +29,7 @@ AreSealed key table reads =
 -- the leaves by the entries of a table
 unfoldable pub leaves_by : List ℕ → List ℕ → (ℕ → List ℕ) → ℕ → ℕ → List ℕ
 leaves_by key table reads region leaf =
-    if is_leaf region leaf
+    if is_leaf LEAVES region leaf
     then leaf_text key reads (FIRST_LEAF + number_of region leaf)
     (entry_of table (number_of region leaf))
     else []

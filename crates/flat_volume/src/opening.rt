@@ -7,6 +7,7 @@ ghost use Rattle.board.specs.Moment.{IsCounter};
 ghost use Rattle.board.specs.Runs.{Rests};
 ghost use Rattle.board.specs.Steps.{CallRun, SameBlocks};
 ghost use Rattle.epoch.specs.Finding.{sequence_of};
+ghost use Rattle.epoch.specs.Formats.{IsAccepted};
 ghost use Rattle.epoch.specs.Forms.{held};
 ghost use Rattle.epoch.specs.Mounting.{MountsTo, after_found};
 ghost use Rattle.epoch.specs.Mounts.{IsAdmitted, IsKeptFromOpening, IsRefusal, IsRefusedNow, TakesUp, after_opening};
@@ -14,17 +15,18 @@ ghost use Rattle.epoch.specs.Opening.{no_failure};
 ghost use Rattle.epoch.specs.Past.{KeepsPast};
 ghost use Rattle.epoch.specs.declared.answer.OpenAnswer.TheVariants as refusals;
 ghost use Rattle.epoch.specs.declared.header.Header.{Header as Kept};
-ghost use Rattle.flat_volume.specs.Flat.{flat, zero_table};
+ghost use Rattle.flat_volume.specs.Flat.{flat, flat_root, zero_table};
 ghost use Rattle.flat_volume.specs.Keeping.{IsOpen, IsVerified, held_now};
 ghost use Rattle.flat_volume.specs.Opens.{Opens, root_of};
 
+use crate::places::{FLAT, VOLUME_BLOCKS};
 use crate::table::Table;
 use crate::volume::{FlatVolume, Opened};
 use crate::write::{FlatChange, NO_ROOT};
 use board::Board;
 use epoch::{
-    BLANK, BoardVolume, FLAT_VERSION, FORMATTED, Header, OpenAnswer, Unopened, VOLUME_BLOCKS,
-    commit, mount, mount_after_power, mount_again,
+    BLANK, BoardVolume, FORMATTED, Header, OpenAnswer, Unopened, commit, mount, mount_after_power,
+    mount_again,
 };
 use seal::Keys;
 use std::alloc::Global;
@@ -47,12 +49,12 @@ fn open_board<B: Board>(alloc: Global, board: &mut B) -> Result<Opened, OpenAnsw
         × IfErr result (λ why. IsRefusal flat (B.view board.old)
         (B.view board.old).state.reads counter why)
         × IfOk result (λ o. IsAdmitted flat (B.view board.old)
-        (B.view board.old).state.reads counter FORMATTED o.sequence o.root) }
+        (B.view board.old).state.reads counter FORMATTED o.sequence (flat_root o.root)) }
     ensures exact { B.honest board.old → (counter : ℕ) × IsCounter (B.view board.old).state counter
         × IfErr result (λ why. IsRefusal flat (B.view board.old)
         (B.view board.old).state.reads counter why)
         × IfOk result (λ o. IsAdmitted flat (B.view board.old)
-        (B.view board.old).state.reads counter FORMATTED o.sequence o.root) }
+        (B.view board.old).state.reads counter FORMATTED o.sequence (flat_root o.root)) }
     ensures refusal { B.honest board.old
         → IfErr result (λ why. IsRefusedNow flat (B.view board.new) why) }
     ensures opens { B.honest board.old → (n : ℕ) (h : Held) → Rests n (B.view board.old).state
@@ -61,7 +63,7 @@ fn open_board<B: Board>(alloc: Global, board: &mut B) -> Result<Opened, OpenAnsw
         → Opens h (after_opening flat (B.view board.old) h) result (B.view board.old)
         (B.view board.new) }
 {
-    let found = mount(board, FLAT_VERSION)?;
+    let found = mount(board, FLAT)?;
     take_up(alloc, board, found)
 }
 
@@ -71,7 +73,8 @@ fn take_up<B: Board>(
     board: &mut B,
     found: Option<Header>,
 ) -> Result<Opened, OpenAnswer>
-    requires { VOLUME_BLOCKS ≤ (B.view board.old).size }
+    requires size { VOLUME_BLOCKS ≤ (B.view board.old).size }
+    requires accepted { IsAccepted FLAT found }
     ensures calls { CallRun (no_failure result) (B.view board.old) (B.view board.new) }
     ensures cause { result ≡ Err refusals.Failed
         → Rose (B.view board.old).state.faults (B.view board.new).state.faults }
@@ -86,7 +89,7 @@ fn take_up<B: Board>(
     ensures past { B.honest board.old → KeepsPast (B.view board.old) (B.view board.new) }
     ensures same { (header : Kept) → found ≡ Some header
         → (B.view board.new ≡ B.view board.old) × OnErr result ⊥ }
-    ensures taken { IfOk result (λ o. TakesUp found FORMATTED o.sequence o.root) }
+    ensures taken { IfOk result (λ o. TakesUp flat found FORMATTED o.sequence (flat_root o.root)) }
     ensures opens { B.honest board.old → (h : Held)
         → MountsTo flat (B.view board.old).key h (B.view board.old).state found
         → Opens h (after_found found h) result (B.view board.old) (B.view board.new) }
@@ -167,10 +170,11 @@ impl<B: Board + Drop> FlatVolume<B> {
     /// Takes up what was found on the board of a lost volume, and gives the sequence. Where no header counts, the volume is
     /// empty, at the sequence 0, and nothing is written. The table is read again when it is needed.
     fn resume(&mut self, found: Option<Header>) -> u64
+        requires { IsAccepted FLAT found }
         ensures board { self.new.board ≡ self.old.board }
         ensures works { self.new.lost ≡ false }
         ensures sequence { self.new.sequence ≡ result }
-        ensures found { TakesUp found BLANK result self.new.root }
+        ensures found { TakesUp flat found BLANK result (flat_root self.new.root) }
         ensures opened { (h : Held)
             → MountsTo flat (B.view self.old.board).key h (B.view self.old.board).state found
             → IsOpen (B.view self.new.board) self.new.root self.new.sequence self.new.table
@@ -194,7 +198,7 @@ impl<B: Board + Drop> BoardVolume<B> for FlatVolume<B> {
 
     ghost board_of = { λ v. v.board };
 
-    ghost root = { λ v. v.root };
+    ghost root = { λ v. flat_root v.root };
 
     ghost seen = { λ v. record {
       faults = refl;
@@ -233,13 +237,13 @@ impl<B: Board + Drop> BoardVolume<B> for FlatVolume<B> {
 
     fn reopen(&mut self) -> Result<u64, OpenAnswer> {
         self.lost = true;
-        let found = mount_again(&mut self.board, FLAT_VERSION)?;
+        let found = mount_again(&mut self.board, FLAT)?;
         Ok(self.resume(found))
     }
 
     fn power(&mut self, pick: u64) -> Result<u64, OpenAnswer> {
         self.lost = true;
-        let found = mount_after_power(&mut self.board, pick, FLAT_VERSION)?;
+        let found = mount_after_power(&mut self.board, pick, FLAT)?;
         Ok(self.resume(found))
     }
 

@@ -3,7 +3,21 @@ ghost use Rattle.std.specs.Prelude.{◌≡◌, ◌<◌, ◌+◌, ◌*◌, ◌-�
 ghost use Rattle.tee_base.specs.declared.limits.TheConstants.{BOARD_BLOCKS, LEAVES, MAX_HOSTS};
 ghost use Rattle.flat_volume.specs.Flat.{block_at as block_of_copy, copy_of, number_of};
 
+use epoch::Format;
 use tee_base::limits;
+
+/// The version of a volume that is one flat table.
+pub const FLAT_VERSION: u32 = 0;
+
+/// How many blocks a volume has.
+pub const VOLUME_BLOCKS: u64 = limits::BOARD_BLOCKS;
+
+/// What an opening takes of the form.
+pub const FLAT: Format = Format {
+    oldest: FLAT_VERSION,
+    newest: FLAT_VERSION,
+    blocks: VOLUME_BLOCKS,
+};
 
 /// How many blocks the two slots have.
 pub const SLOT_BLOCKS: u64 = 4;

@@ -22,11 +22,11 @@ ghost use Rattle.flat_volume.specs.Writing.{KeepsSealed};
 ghost use Rattle.flat_volume.specs.Laws.{found_open, left_open, rests_open, since_earlier, sound_open};
 
 use crate::load::{find_leaf, known_table};
-use crate::places::{TABLE_BLOCKS, number_in_all};
+use crate::places::{TABLE_BLOCKS, VOLUME_BLOCKS, number_in_all};
 use crate::table::Table;
 use crate::write::FlatChange;
 use board::Board;
-use epoch::{FLAT_VERSION, TreeEntry, VOLUME_BLOCKS, commit};
+use epoch::{TreeEntry, commit};
 use seal::Keys;
 use std::alloc::Global;
 use store_api::{LeafAnswer, Leaves, Volume};
@@ -214,7 +214,7 @@ impl<B: Board + Drop> Volume for FlatVolume<B> {
         // from then on the board is refused at every greater counter
         ensures rollback { flat_keeper.honest self.old → IfOk result (λ sequence.
             (counter : ℕ) → sequence < counter
-            → opening_of FLAT_VERSION (B.view self.new.board).key
+            → opening_of flat.known (B.view self.new.board).key
             (B.view self.new.board).state.reads counter ≡ Err (Rollback sequence counter)) }
         // at the last sequence the counter is advanced in vain, and nothing else is called
         ensures exhausted { self.old.lost ≡ false → self.old.sequence ≡ 2 ^ 64 - 1

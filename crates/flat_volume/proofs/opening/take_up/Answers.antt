@@ -5,7 +5,7 @@ use Rattle.flat_volume.proofs.opening.take_up.Goals as goal
 
 pub returns-in-Some-clause-taken : goal.returns-in-Some-clause-taken
 returns-in-Some-clause-taken g c =
-    takes_header c.args.found c.in-Some.field-0 c.opened_at.result 1 c.in-Some.is c.opened_at.ensures.root c.opened_at.ensures.sequence
+    takes_header c.args.found c.in-Some.field-0 c.opened_at.result 1 c.in-Some.is c.requires.accepted c.opened_at.ensures.root c.opened_at.ensures.sequence
 
 pub returns-in-None-clause-taken : goal.returns-in-None-clause-taken
 returns-in-None-clause-taken g c = takes_none c.args.found c.format_board.result 1 c.in-None.is c.format_board.ensures.formatted
@@ -16,7 +16,7 @@ returns-in-Some-clause-past g c h = itself _
 pub returns-in-Some-clause-opens : goal.returns-in-Some-clause-opens
 returns-in-Some-clause-opens g c honest h mounts =
     opens_found (g.B.Board.view c.args.board.now) c.opened_at.result c.in-Some.field-0 c.args.found h c.in-Some.is c.opened_at.ensures.root c.opened_at.ensures.sequence
-    c.opened_at.ensures.table mounts
+    c.opened_at.ensures.table c.requires.accepted mounts
 
 pub returns-in-None-clause-opens : goal.returns-in-None-clause-opens
 returns-in-None-clause-opens g c honest h mounts =

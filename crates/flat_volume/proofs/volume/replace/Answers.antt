@@ -8,10 +8,11 @@ use Rattle.store_api.specs.Volumes.{Held, after_commit}
 use Rattle.seal.specs.Keys.{AreKeysOf}
 use Rattle.epoch.proofs.CallLemmas.{run_as, run_more}
 use Rattle.epoch.specs.Reading.{no_fault}
+use Rattle.epoch.specs.Forms.{Root}
 use Rattle.epoch.specs.Commits.{IsBegun, IsSteady}
 use Rattle.epoch.proofs.SettledLemmas.{steady_rests}
 use Rattle.flat_volume.specs.Change.{FitsFlat}
-use Rattle.flat_volume.specs.Flat.{flat, table_in}
+use Rattle.flat_volume.specs.Flat.{flat, flat_root, table_in}
 use Rattle.flat_volume.specs.Keeping.{IsOpen, Replaces, held_now}
 use Rattle.flat_volume.specs.Writing.{AreSealedFor}
 use Rattle.flat_volume.proofs.VolumeLemmas.{commit_crash, held_same, leaves_held, mounted_held, mounted_open, open_same, read_replaces, verified_open}
@@ -47,7 +48,7 @@ returns-clause-replaced g c h is =
     let is' : IsOpen mid root sequence (Some known) = open_same v mid root sequence table (Some known) told.calls.key read.1.state (told.table tells) is in
     let before : Held = held_now mid root sequence in
     let fits : FitsFlat c.of-keys.result known root mid.key mid.state.reads = record { keyed = keys; stands = is'.kept } in
-    let begins : IsBegun flat (λ key reads. FitsFlat c.of-keys.result known root key reads) mid root sequence before = record { last = refl; mounted = is'.mounted; fits = fits } in
+    let begins : IsBegun flat (λ key reads. FitsFlat c.of-keys.result known root key reads) mid (flat_root root) sequence before = record { last = refl; mounted = is'.mounted; fits = fits } in
     let named = c.as_slice.result.now in
     let after : Held = after_commit c.args.region named before in
     let held = held_same v mid root sequence told.calls.key read.1.state.reads in
@@ -59,15 +60,15 @@ returns-clause-replaced g c h is =
           rw w.result-is (record {
             undamaged = tt;
             stays = mounted_open new mid.key w.in-Ok.root after change.table w.in-Ok.ensures.calls.key done.0
-                (done.1.stands ∙ ap (table_in new.state.reads) w.in-Ok.ensures.root);
-            steady = steady_rests flat new.key w.in-Ok.root new.state done.0.rests.pending;
+                (done.1.stands ∙ ap (λ (r : Root). table_in new.state.reads r.entry) w.in-Ok.ensures.root);
+            steady = steady_rests flat new.key (flat_root w.in-Ok.root) new.state done.0.rests.pending;
             commits = (mounted_held new mid.key w.in-Ok.root after w.in-Ok.ensures.calls.key done.0 ∙ ap (after_commit c.args.region named) held, refl);
             crash = commit_crash v mid new root sequence table c.args.region named is told.calls.key read.1 (w.in-Ok.ensures.crash read.0 before begins);
           })
       | in-Err w ↦ rw w.result-is (record {
         undamaged = tt;
         stays = tt;
-        steady = subst (λ (k : List ℕ). IsSteady flat k root new.state) (sym w.in-Err.ensures.calls.key) (w.in-Err.ensures.steady read.0 before begins);
+        steady = subst (λ (k : List ℕ). IsSteady flat k (flat_root root) new.state) (sym w.in-Err.ensures.calls.key) (w.in-Err.ensures.steady read.0 before begins);
         commits = leaves_held new mid.key root before w.in-Err.ensures.calls.key (w.in-Err.ensures.kept read.0 before begins) refl ∙ held;
         crash = commit_crash v mid new root sequence table c.args.region named is told.calls.key read.1 (w.in-Err.ensures.crash read.0 before begins);
       })

@@ -5,7 +5,7 @@ use Rattle.tee_base.proofs.Crash.{mapped}
 use Rattle.store_api.specs.Volumes.{Held, LeftByCommit, after_commit}
 use Rattle.board.specs.Moment.{moment, left_since}
 use Rattle.epoch.specs.Forms.{held_of}
-use Rattle.flat_volume.specs.Flat.{flat}
+use Rattle.flat_volume.specs.Flat.{flat, flat_root}
 use Rattle.flat_volume.specs.Keeping.{IsOpen, IsVerified, held_now}
 use Rattle.flat_volume.specs.declared.table.Table.{Table}
 use Rattle.flat_volume.specs.declared.volume.Opened.{Opened}
@@ -64,7 +64,7 @@ returns-in-Ok-clause-rollback g c h counter above =
     let is : IsOpen (g.B.Board.view old.board) old.root old.sequence c.take.result
     = subst (IsOpen (g.B.Board.view old.board) old.root old.sequence) (sym c.take.ensures.value) (h.1 c.if-self.false) in
     let stays = (c.in-Ok.ensures.replaced h.0 is).stays in
-    mounted_refuses flat w.key o.root (held_now w o.root o.sequence) w.state stays.mounted (omega (arith, c.in-Ok.ensures.sequence)) counter above
+    mounted_refuses flat w.key (flat_root o.root) (held_now w o.root o.sequence) w.state stays.mounted (omega (arith, c.in-Ok.ensures.sequence)) counter above
 
 pub returns-in-Ok-clause-entries : goal.returns-in-Ok-clause-entries
 returns-in-Ok-clause-entries g c =
