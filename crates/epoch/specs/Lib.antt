@@ -1,9 +1,11 @@
 pub mod Commits
+pub mod Copies
 pub mod Finding
 pub mod Formats
 pub mod Forms
 pub mod Gates
 pub mod Header
+pub mod Keeping
 pub mod Laws
 pub mod Mounting
 pub mod Mounts

@@ -6,10 +6,12 @@
 mod answer;
 mod bytes;
 mod commits;
+mod copies;
 mod find;
 mod format;
 mod gates;
 mod header;
+mod last;
 mod laws;
 mod laying;
 mod mounting;
@@ -20,9 +22,11 @@ mod steps;
 
 pub use answer::{OpenAnswer, Unopened};
 pub use commits::{Change, commit};
+pub use copies::{named_copy, other_copy};
 pub use find::find_header;
 pub use format::Format;
 pub use header::{Header, TreeEntry, entry_at, entry_bytes};
+pub use last::{exhaust, is_failed};
 pub use laws::opening_laws;
 pub use laying::lay;
 pub use mounting::{mount, mount_after_power, mount_again};

@@ -7,6 +7,7 @@ use Rattle.tee_base.specs.declared.limits.TheConstants.{MAX_HOSTS, LEAVES}
 use Rattle.store_api.specs.declared.answer.Mismatch.{Mismatch}
 use Rattle.store_api.specs.declared.leaves.Leaf.{Leaf}
 use Rattle.board.specs.declared.TheConstants.{BLOCK}
+use Rattle.epoch.specs.Copies.{copy_of, differing, first_damage}
 use Rattle.epoch.specs.Commits.{IsWritten, spare}
 use Rattle.epoch.specs.Forms.{all_below, is_leaf, is_sealed, leaves_of}
 use Rattle.epoch.specs.Gates.{header_at}
@@ -14,10 +15,11 @@ use Rattle.epoch.specs.Parts.{part}
 use Rattle.epoch.specs.declared.header.TreeEntry.{TreeEntry}
 use Rattle.epoch.proofs.CommitLemmas.{all_below_all, sealed_each}
 use Rattle.flat_volume.specs.declared.places.TheConstants.{ALL_LEAVES, FIRST_LEAF, FIRST_TABLE, TABLE_BLOCKS, TABLE_BYTES}
-use Rattle.flat_volume.specs.Flat.{block_at, copy_of, differing, entry_of, first_damage, flat, flat_root, flat_uses, leaf_damage, number_of, path_damage, table_damage, table_in, table_tag}
+use Rattle.flat_volume.specs.Flat.{block_at, entry_of, flat, flat_root, flat_uses, leaf_damage, number_of, path_damage, table_damage, table_in, table_tag}
 use Rattle.flat_volume.specs.Frame.{leaf_damage_same, leaf_text_same, leaf_needs, table_needs, uses_by}
 use Rattle.flat_volume.specs.Writing.{AreSealed, AreSpare, leaves_by, spare_block}
 use Rattle.flat_volume.proofs.LeafLemmas.{other_block}
+use Rattle.epoch.proofs.EntryLemmas.{no_difference}
 use Rattle.flat_volume.proofs.TableLemmas.{joined_whole}
 
 -- the other copy isn't the one that is named
@@ -79,11 +81,6 @@ same_by key reads root r l = refl
 -- the leaves under a root are those by the entries of its table
 pub leaves_are_by : (key : List ℕ) (reads : ℕ → List ℕ) (root : TreeEntry) → leaves_of flat key reads (flat_root root) ≡ leaves_by key (table_in reads root) reads
 leaves_are_by key reads root = λ i r l. same_by key reads root r l i
-
--- equal tags don't differ
-pub no_difference : (tag : List ℕ) → differing tag tag ≡ None
-unfolding differing
-no_difference tag = let e : bytes_eq tag tag ≡ true = (bytes_eq-Decides tag tag).1 refl in rw e refl
 
 pub tagged : (key table : List ℕ) (root : TreeEntry) → root.tag ≡ table_tag key root.sequence table → table_damage key table root ≡ None
 unfolding table_damage

@@ -9,11 +9,12 @@ use Rattle.tee_base.specs.declared.limits.TheConstants.{MAX_HOSTS, LEAVES}
 use Rattle.store_api.specs.declared.leaves.Leaf.{Leaf}
 use Rattle.store_api.specs.Ascending.{is_above_all, is_ascending}
 use Rattle.store_api.specs.Volumes.{leaf_after, replaced}
+use Rattle.epoch.specs.Copies.{copy_of}
 use Rattle.epoch.specs.Forms.{is_leaf}
 use Rattle.epoch.specs.declared.header.TreeEntry.{TreeEntry}
 use Rattle.epoch.proofs.CommitLemmas.{first_true, second_true, leaf_below}
 use Rattle.flat_volume.specs.declared.places.TheConstants.{FIRST_LEAF}
-use Rattle.flat_volume.specs.Flat.{block_at, copy_of, entry_of, leaf_damage, leaf_text, number_of}
+use Rattle.flat_volume.specs.Flat.{block_at, entry_of, leaf_damage, leaf_text, number_of}
 use Rattle.flat_volume.specs.Frame.{copy_below, leaf_damage_same, leaf_text_same}
 use Rattle.flat_volume.specs.Writing.{AreSealed, AreSealedFor, AreSpare, IsSealedFor, leaves_by, spare_block}
 

@@ -5,12 +5,13 @@ use Rattle.std.proofs.lemmas.Bool.Decides.{nat_tests}
 use Rattle.std.proofs.lemmas.List.{drop-replicate, take-replicate}
 use Rattle.tee_base.specs.declared.limits.TheConstants.{BLOCK_BYTES, BOARD_BLOCKS, MAX_HOSTS, LEAVES}
 use Rattle.store_api.specs.declared.answer.Mismatch.{Mismatch}
+use Rattle.epoch.specs.Copies.{copy_of, first_damage}
 use Rattle.epoch.specs.Formats.{IsFormatOf}
 use Rattle.epoch.specs.Forms.{IsFramed, SameUsed}
 use Rattle.epoch.specs.Parts.{part}
 use Rattle.epoch.specs.declared.header.TreeEntry.{TreeEntry}
 use Rattle.flat_volume.specs.declared.places.TheConstants.{FLAT, FIRST_LEAF, FIRST_TABLE, TABLE_BLOCKS, TABLE_BYTES, ENTRY_BYTES, ALL_LEAVES}
-use Rattle.flat_volume.specs.Flat.{block_at, copy_of, entry_of, first_damage, flat, flat_root, flat_uses, joined_below, leaf_damage, leaf_text}
+use Rattle.flat_volume.specs.Flat.{block_at, entry_of, flat, flat_root, flat_uses, joined_below, leaf_damage, leaf_text}
 use Rattle.flat_volume.specs.Flat.{needs_copy, number_of, path_damage, table_damage, table_in, zero_table, zeros_of}
 
 -- a copy is 0 or 1

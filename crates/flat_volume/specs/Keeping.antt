@@ -1,5 +1,5 @@
 -- What contracts see of a flat volume: what it holds, its damage, and when it is open on a sound board.
-use Rattle.std.specs.Prelude.{◌≡◌, ℕ, ◌+◌, ◌-◌, ◌^◌, List, [], Option, Some, None, Result, Ok, Err, IfSome, if◌then◌else◌}
+use Rattle.std.specs.Prelude.{◌≡◌, ℕ, ◌+◌, List, [], Option, Some, None, Result, Ok, Err, IfSome, if◌then◌else◌}
 use Rattle.tee_base.specs.Crash.{LeavesOnly}
 use Rattle.tee_base.specs.declared.limits.TheConstants.{LEAVES}
 use Rattle.store_api.specs.declared.answer.Mismatch.{Mismatch}
@@ -8,8 +8,9 @@ use Rattle.store_api.specs.declared.leaves.LeafAnswer.{LeafAnswer}
 use Rattle.store_api.specs.declared.leaves.LeafAnswer.TheVariants as answers
 use Rattle.store_api.specs.Volumes.{Commits, Held, IsUndamaged, LeftByCommit, after_commit}
 use Rattle.board.specs.Moment.{View, moment, left_since}
-use Rattle.epoch.specs.Commits.{IsMounted, IsSteady}
-use Rattle.epoch.specs.Forms.{held_of, is_leaf, leaves_of}
+use Rattle.epoch.specs.Commits.{IsSteady}
+use Rattle.epoch.specs.Forms.{held_of, is_leaf}
+use Rattle.epoch.specs.Keeping.{IsInUse, held_now as held_under}
 use Rattle.epoch.specs.declared.header.TreeEntry.{TreeEntry}
 use Rattle.flat_volume.specs.declared.places.TheConstants.{FIRST_LEAF}
 use Rattle.flat_volume.specs.Flat.{entry_of, flat, flat_root, leaf_text, number_of, path_damage, table_damage, table_in}
@@ -47,16 +48,12 @@ text_now table view root region leaf =
 
 -- what is held under a root, with the sequence
 abbrev pub held_now : View → TreeEntry → ℕ → Held
-held_now view root sequence = record {
-  leaves = leaves_of flat view.key view.state.reads (flat_root root);
-  sequence = sequence;
-  version = flat.version;
-}
+held_now view root sequence = held_under flat view (flat_root root) sequence
 
 -- the board is at rest with a sound image that holds this under the root, and a table that is kept is its table
 pub record IsOpen (view : View) (root : TreeEntry) (sequence : ℕ) (table : Option Table)
     : Type 0 where
-  pub mounted : IsMounted flat view.key (flat_root root) (held_now view root sequence) view.state
+  pub mounted : IsInUse flat view (flat_root root) sequence
   pub kept : IsKept table view.state.reads root
 
 -- what a commit answers of what it leaves: the sequence
@@ -92,11 +89,3 @@ pub record Replaces (region : ℕ) (named : List Leaf) (result : Result Opened L
       (held_now old before.root before.sequence)
       (after_commit region named (held_now old before.root before.sequence))
       (held_of flat old.key c))
-
--- a commit at the last sequence: it fails, and a crash leaves what was held
-pub record Exhausts (root : TreeEntry) (answer : LeafAnswer) (old new : View) : Type 0 where
-  pub failed : answer ≡ answers.Failed
-  pub held : held_now new root (2 ^ 64 - 1) ≡ held_now old root (2 ^ 64 - 1)
-  pub steady : IsSteady flat new.key (flat_root root) new.state
-  pub crash : LeavesOnly moment left_since old new
-      (λ c. held_of flat old.key c ≡ Some (held_now old root (2 ^ 64 - 1)))

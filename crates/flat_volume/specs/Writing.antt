@@ -3,11 +3,12 @@ use Rattle.std.specs.Prelude.{◌≡◌, ◌<◌, ℕ, ◌+◌, ◌-◌, Bool, t
 use Rattle.tee_base.specs.declared.limits.TheConstants.{LEAVES}
 use Rattle.store_api.specs.declared.leaves.Leaf.{Leaf}
 use Rattle.seal.specs.Sealing.{seal_vector}
+use Rattle.epoch.specs.Copies.{copy_of}
 use Rattle.epoch.specs.Forms.{is_leaf}
 use Rattle.epoch.specs.declared.header.TreeEntry.{TreeEntry}
 use Rattle.flat_volume.specs.declared.table.Table.{Table}
 use Rattle.flat_volume.specs.declared.places.TheConstants.{ALL_LEAVES, FIRST_LEAF}
-use Rattle.flat_volume.specs.Flat.{block_at, copy_of, entry_of, leaf_damage, leaf_text, number_of}
+use Rattle.flat_volume.specs.Flat.{block_at, entry_of, leaf_damage, leaf_text, number_of}
 
 -- the block of a leaf's copy that its entry doesn't name
 abbrev pub spare_block : List ℕ → ℕ → ℕ

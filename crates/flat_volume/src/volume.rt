@@ -13,20 +13,20 @@ ghost use Rattle.epoch.specs.Forms.{held_of};
 ghost use Rattle.epoch.specs.Opening.{opening_of};
 ghost use Rattle.epoch.specs.declared.answer.OpenAnswer.TheVariants.{Rollback};
 ghost use Rattle.epoch.specs.Past.{KeepsPast};
-ghost use Rattle.epoch.specs.Reading.{is_failure, no_fault};
-ghost use Rattle.epoch.specs.declared.header.TreeEntry.{TreeEntry as Entry};
-ghost use Rattle.flat_volume.specs.Flat.{flat, table_damage, table_in};
-ghost use Rattle.flat_volume.specs.Keeping.{Exhausts, IsOpen, IsVerified, Replaces, damage_now, held_now, text_now};
-ghost use Rattle.flat_volume.specs.declared.table.Table.{Table as Known};
+ghost use Rattle.epoch.specs.Reading.{no_fault};
+ghost use Rattle.flat_volume.specs.Flat.{flat, flat_root, table_damage, table_in};
+ghost use Rattle.flat_volume.specs.Frame.{flat_framed};
+ghost use Rattle.flat_volume.specs.Keeping.{IsOpen, IsVerified, Replaces, damage_now, held_now, text_now};
 ghost use Rattle.flat_volume.specs.Writing.{KeepsSealed};
-ghost use Rattle.flat_volume.specs.Laws.{found_open, left_open, rests_open, since_earlier, sound_open};
+ghost use Rattle.epoch.proofs.LeftLemmas.{left_in_use, rests_in_use, since_earlier};
+ghost use Rattle.flat_volume.specs.Laws.{found_open, sound_open};
 
 use crate::load::{find_leaf, known_table};
 use crate::places::{TABLE_BLOCKS, VOLUME_BLOCKS, number_in_all};
 use crate::table::Table;
 use crate::write::FlatChange;
 use board::Board;
-use epoch::{TreeEntry, commit};
+use epoch::{TreeEntry, commit, exhaust, is_failed};
 use seal::Keys;
 use std::alloc::Global;
 use store_api::{LeafAnswer, Leaves, Volume};
@@ -120,46 +120,16 @@ fn replace<B: Board>(
     }
 }
 
-/// No sequence is left: the counter is advanced before anything is written, which fails where the board is honest.
-fn exhaust<B: Board>(board: &mut B) -> LeafAnswer
-    ensures calls { CallRun (not (is_failure result)) (B.view board.old) (B.view board.new) }
-    ensures cause { result ≡ answers.Failed
-        → Rose (B.view board.old).state.faults (B.view board.new).state.faults }
-    ensures answer { (result ≡ answers.Failed) ⊎ (result ≡ answers.NoMemory) }
-    ensures writes { (B.view board.new).writes ≡ (B.view board.old).writes }
-    ensures called { (B.view board.new).fuse ≡ burnt (B.view board.old).fuse }
-    ensures honest { B.honest board.old → B.honest board.new }
-    ensures past { B.honest board.old → KeepsPast (B.view board.old) (B.view board.new) }
-    ensures failed { B.honest board.old → (root : Entry) (table : Option Known)
-        → IsOpen (B.view board.old) root (2 ^ 64 - 1) table
-        → Exhausts root result (B.view board.old) (B.view board.new) }
-{
-    match board.advance() {
-        Ok(_) => LeafAnswer::NoMemory,
-        Err(_) => LeafAnswer::Failed,
-    }
-}
-
-/// Whether a call of the board failed.
-fn is_failed(answer: LeafAnswer) -> bool
-    ensures { result ≡ is_failure answer }
-{
-    match answer {
-        LeafAnswer::Failed => true,
-        _ => false,
-    }
-}
-
 impl<B: Board + Drop> Volume for FlatVolume<B> {
     ghost use Rattle.flat_volume.specs.Keepers.{flat_keeper};
 
     ghost keeper = { flat_keeper };
 
-    ghost rests = { λ v h live. record { only = rests_open (B.view v.board) v.root v.sequence v.table (h.1 live) } };
+    ghost rests = { λ v h live. record { only = rests_in_use flat flat_framed (B.view v.board) (flat_root v.root) v.sequence (h.1 live).mounted } };
 
     ghost whole = { refl };
 
-    ghost left_now = { λ v h live. left_open (B.view v.board) v.root v.sequence v.table (B.consistent v.board h.0) (h.1 live) };
+    ghost left_now = { λ v h live. left_in_use flat flat_framed (B.view v.board) (flat_root v.root) v.sequence (h.1 live).mounted (B.consistent v.board h.0) };
 
     ghost found = { λ v h live region leaf r l. found_open (B.view v.board) v.root v.sequence v.table (h.1 live) region leaf };
 
@@ -167,7 +137,7 @@ impl<B: Board + Drop> Volume for FlatVolume<B> {
 
     ghost honest_tells = { λ v h. B.honest_reads v.board h.0 };
 
-    ghost since_earlier = { λ v t u o le left. since_earlier (B.view v.board) t u o le left };
+    ghost since_earlier = { λ v t u o le left. since_earlier flat (B.view v.board) t u o le left };
 
     fn read_leaf(
         &mut self,

@@ -7,9 +7,10 @@ ghost use Rattle.board.specs.Moment.{View};
 ghost use Rattle.board.specs.Runs.{RunsOver};
 ghost use Rattle.board.specs.Steps.{CallRun};
 ghost use Rattle.seal.specs.Keys.{AreKeysOf};
+ghost use Rattle.epoch.specs.Copies.{copy_of};
 ghost use Rattle.epoch.specs.Parts.{part};
 ghost use Rattle.epoch.specs.Past.{KeepsPast};
-ghost use Rattle.flat_volume.specs.Flat.{block_at as block_of_copy, copy_of, entry_of, flat, flat_root, leaf_damage, leaf_text, number_of, table_in};
+ghost use Rattle.flat_volume.specs.Flat.{block_at as block_of_copy, entry_of, flat, flat_root, leaf_damage, leaf_text, number_of, table_in};
 ghost use Rattle.flat_volume.specs.Frame.{flat_framed};
 ghost use Rattle.flat_volume.specs.declared.places.TheConstants.{TABLE_BLOCKS};
 ghost use Rattle.flat_volume.specs.Writing.{AreSealed, AreSealedFor, AreSpare, IsSealedFor, leaves_by, spare_block};
@@ -17,11 +18,11 @@ ghost use Rattle.flat_volume.specs.Change.{ChecksFlat, FitsFlat, table_still_fit
 
 use crate::places::{
     ALL_LEAVES, FIRST_LEAF, FIRST_TABLE, FLAT_VERSION, TABLE_BLOCKS, VOLUME_BLOCKS, block_at,
-    number_in_all, other_copy,
+    number_in_all,
 };
 use crate::table::Table;
 use board::{BLOCK, Board, BoardFailed};
-use epoch::{Change, TreeEntry};
+use epoch::{Change, TreeEntry, other_copy};
 use seal::{Keys, Tags, seal_leaf};
 use store_api::Leaf;
 

@@ -1,5 +1,6 @@
 use Rattle.std.proofs.Common.{◌≡◌, ◌+◌, ◌∙◌, ℕ, List, Some, length, refl, sym, ap, subst, true, false, arith, rules, Err}
 use Rattle.std.proofs.lemmas.Bool.{false≢true}
+use Rattle.epoch.proofs.KeepLemmas.{commit_crash, held_same, leaves_held, mounted_held}
 use Rattle.epoch.proofs.CommitLemmas.{on_err}
 use Rattle.epoch.proofs.PastLemmas.{followed}
 use Rattle.std.proofs.lemmas.Result.{err_from_is_err_and}
@@ -11,11 +12,12 @@ use Rattle.epoch.specs.Reading.{no_fault}
 use Rattle.epoch.specs.Forms.{Root}
 use Rattle.epoch.specs.Commits.{IsBegun, IsSteady}
 use Rattle.epoch.proofs.SettledLemmas.{steady_rests}
+use Rattle.flat_volume.specs.Frame.{flat_framed}
 use Rattle.flat_volume.specs.Change.{FitsFlat}
 use Rattle.flat_volume.specs.Flat.{flat, flat_root, table_in}
 use Rattle.flat_volume.specs.Keeping.{IsOpen, Replaces, held_now}
 use Rattle.flat_volume.specs.Writing.{AreSealedFor}
-use Rattle.flat_volume.proofs.VolumeLemmas.{commit_crash, held_same, leaves_held, mounted_held, mounted_open, open_same, read_replaces, verified_open}
+use Rattle.flat_volume.proofs.VolumeLemmas.{mounted_open, open_same, read_replaces, verified_open}
 use Rattle.flat_volume.proofs.volume.replace.Goals as goal
 use Rattle.flat_volume.proofs.volume.replace.Goals.{in-Ok, in-Err}
 
@@ -51,7 +53,7 @@ returns-clause-replaced g c h is =
     let begins : IsBegun flat (λ key reads. FitsFlat c.of-keys.result known root key reads) mid (flat_root root) sequence before = record { last = refl; mounted = is'.mounted; fits = fits } in
     let named = c.as_slice.result.now in
     let after : Held = after_commit c.args.region named before in
-    let held = held_same v mid root sequence told.calls.key read.1.state.reads in
+    let held = held_same flat flat_framed v mid (flat_root root) sequence told.calls.key read.1.state.reads in
     subst (λ (l : List Leaf). Replaces c.args.region l c.match-commit.result c.args.opened v new) c.as_slice.ensures.leaves
     (elim c.match-commit.branch [
       | in-Ok w ↦
@@ -62,15 +64,15 @@ returns-clause-replaced g c h is =
             stays = mounted_open new mid.key w.in-Ok.root after change.table w.in-Ok.ensures.calls.key done.0
                 (done.1.stands ∙ ap (λ (r : Root). table_in new.state.reads r.entry) w.in-Ok.ensures.root);
             steady = steady_rests flat new.key (flat_root w.in-Ok.root) new.state done.0.rests.pending;
-            commits = (mounted_held new mid.key w.in-Ok.root after w.in-Ok.ensures.calls.key done.0 ∙ ap (after_commit c.args.region named) held, refl);
-            crash = commit_crash v mid new root sequence table c.args.region named is told.calls.key read.1 (w.in-Ok.ensures.crash read.0 before begins);
+            commits = (mounted_held flat flat_framed new mid.key (flat_root w.in-Ok.root) after w.in-Ok.ensures.calls.key done.0 ∙ ap (after_commit c.args.region named) held, refl);
+            crash = commit_crash flat flat_framed v mid new (flat_root root) sequence c.args.region named is.mounted told.calls.key read.1 (w.in-Ok.ensures.crash read.0 before begins);
           })
       | in-Err w ↦ rw w.result-is (record {
         undamaged = tt;
         stays = tt;
         steady = subst (λ (k : List ℕ). IsSteady flat k (flat_root root) new.state) (sym w.in-Err.ensures.calls.key) (w.in-Err.ensures.steady read.0 before begins);
-        commits = leaves_held new mid.key root before w.in-Err.ensures.calls.key (w.in-Err.ensures.kept read.0 before begins) refl ∙ held;
-        crash = commit_crash v mid new root sequence table c.args.region named is told.calls.key read.1 (w.in-Err.ensures.crash read.0 before begins);
+        commits = leaves_held flat flat_framed new mid.key (flat_root root) before w.in-Err.ensures.calls.key (w.in-Err.ensures.kept read.0 before begins) refl ∙ held;
+        crash = commit_crash flat flat_framed v mid new (flat_root root) sequence c.args.region named is.mounted told.calls.key read.1 (w.in-Err.ensures.crash read.0 before begins);
       })
     ])
 

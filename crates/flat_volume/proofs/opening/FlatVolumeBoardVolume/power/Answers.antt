@@ -3,6 +3,7 @@ use Rattle.std.proofs.lemmas.Bool.{false≢true}
 use Rattle.tee_base.specs.Crash.{LeavesOnly}
 use Rattle.store_api.specs.Volumes.{Held}
 use Rattle.board.specs.Moment.{IsLeft, Outcome, View, left_since, moment}
+use Rattle.epoch.proofs.KeepLemmas.{held_steady, steady_same}
 use Rattle.epoch.specs.Forms.{held_of}
 use Rattle.epoch.specs.Mounting.{MightBe, MountsTo}
 use Rattle.epoch.specs.Mounts.{IsRefusal, IsRefusedNow, PowerFirst}
@@ -16,7 +17,7 @@ use Rattle.flat_volume.specs.Flat.{flat, flat_root}
 use Rattle.flat_volume.specs.Frame.{flat_format, flat_framed}
 use Rattle.flat_volume.specs.Keeping.{held_now}
 use Rattle.flat_volume.proofs.OpenLemmas.{not_ok, told_so}
-use Rattle.flat_volume.proofs.VolumeLemmas.{held_steady, steady_open, steady_same}
+use Rattle.flat_volume.proofs.VolumeLemmas.{steady_open}
 use Rattle.flat_volume.proofs.opening.FlatVolumeBoardVolume.power.Goals as goal
 
 pub returns-in_err-found-clause-exact : goal.returns-in_err-found-clause-exact
@@ -58,9 +59,9 @@ returns-in_err-found-clause-opened g c honest sound =
         honest = λ is. (
           c.in_err-found.ensures.honest honest,
           λ live. absurd (false≢true (sym live)),
-          steady_same v w c.args.self.now.root key (c.in_err-found.ensures.settled honest) is.2,
+          steady_same flat flat_framed v w (flat_root c.args.self.now.root) key (c.in_err-found.ensures.settled honest) is.2,
         );
-        same = λ is. on_err c.from_residual.result _ (held_steady v w c.args.self.now.root c.args.self.now.sequence key (c.in_err-found.ensures.settled honest) is.2);
+        same = λ is. on_err c.from_residual.result _ (held_steady flat flat_framed v w (flat_root c.args.self.now.root) c.args.self.now.sequence key (c.in_err-found.ensures.settled honest) is.2);
         leaves = record {
           crash = before_above flat (λ x. g.B.Board.view x.board) _ _ key again.leaves;
           past = past_above flat v w key (c.in_err-found.ensures.past honest);

@@ -4,6 +4,7 @@ use Rattle.tee_base.specs.Crash.{LeavesOnly}
 use Rattle.store_api.specs.Volumes.{Held}
 use Rattle.board.specs.Moment.{View, left_since, moment}
 use Rattle.board.specs.Steps.{CallRun}
+use Rattle.epoch.proofs.KeepLemmas.{held_steady, steady_same}
 use Rattle.epoch.proofs.CallLemmas.{run_as}
 use Rattle.epoch.specs.Opening.{no_failure}
 use Rattle.epoch.specs.Mounting.{MightBe, MountsTo}
@@ -17,7 +18,7 @@ use Rattle.flat_volume.specs.Flat.{flat, flat_root}
 use Rattle.flat_volume.specs.Frame.{flat_format, flat_framed}
 use Rattle.flat_volume.specs.Keeping.{held_now}
 use Rattle.flat_volume.proofs.OpenLemmas.{not_ok, told_so}
-use Rattle.flat_volume.proofs.VolumeLemmas.{held_steady, steady_open, steady_same}
+use Rattle.flat_volume.proofs.VolumeLemmas.{steady_open}
 use Rattle.flat_volume.proofs.opening.FlatVolumeBoardVolume.reopen.Goals as goal
 
 pub returns-in_err-found-clause-exact : goal.returns-in_err-found-clause-exact
@@ -56,9 +57,9 @@ returns-in_err-found-clause-opened g c honest sound =
       honest = λ is. (
         c.in_err-found.ensures.honest honest,
         λ live. absurd (false≢true (sym live)),
-        steady_same v (g.B.Board.view c.mount_again.new.board) c.args.self.now.root key (c.in_err-found.ensures.settled honest) is.2,
+        steady_same flat flat_framed v (g.B.Board.view c.mount_again.new.board) (flat_root c.args.self.now.root) key (c.in_err-found.ensures.settled honest) is.2,
       );
-      same = λ is. on_err c.from_residual.result _ (held_steady v (g.B.Board.view c.mount_again.new.board) c.args.self.now.root c.args.self.now.sequence key
+      same = λ is. on_err c.from_residual.result _ (held_steady flat flat_framed v (g.B.Board.view c.mount_again.new.board) (flat_root c.args.self.now.root) c.args.self.now.sequence key
           (c.in_err-found.ensures.settled honest) is.2);
       leaves = record {
         crash = before_above flat (λ x. g.B.Board.view x.board) _ _ key again.leaves;

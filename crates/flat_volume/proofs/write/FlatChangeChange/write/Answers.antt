@@ -1,8 +1,9 @@
 use Rattle.std.proofs.Common.{◌+◌, ◌*◌, ◌∙◌, ℕ, List, sym, ap, subst, rules, arith}
 use Rattle.store_api.specs.Volumes.{replaced}
+use Rattle.epoch.specs.Copies.{copy_of}
 use Rattle.epoch.specs.Commits.{spare}
 use Rattle.epoch.proofs.PastLemmas.{followed}
-use Rattle.flat_volume.specs.Flat.{copy_of, flat, flat_root}
+use Rattle.flat_volume.specs.Flat.{flat, flat_root}
 use Rattle.flat_volume.specs.Writing.{AreSealed, leaves_by}
 use Rattle.flat_volume.proofs.FlatLemmas.{entries_sealed, flat_written, table_is, tagged, leaves_are_by, leaves_spare, table_spare}
 use Rattle.flat_volume.proofs.write.FlatChangeChange.write.Goals as goal
