@@ -1,7 +1,8 @@
 -- What the opening of a volume on a board promises, and its reopening, a loss of power and a fuse, over the form of the
 -- leaves.
-use Rattle.std.specs.Prelude.{◌≡◌, ◌≤◌, ◌⊎◌, ◌+◌, ◌%◌, ◌^◌, ℕ, List, ◌∷◌, false, true, Option, Some, None, Result, Ok, Err, IfErr, IfOk, OnErr}
+use Rattle.std.specs.Prelude.{◌≡◌, ◌≤◌, ◌<◌, ◌⊎◌, ◌+◌, ◌%◌, ◌^◌, ℕ, List, ◌∷◌, false, true, Option, Some, None, Result, Ok, Err, IfErr, IfOk, OnErr}
 use Rattle.tee_base.specs.Crash.{LeavesOnly, read_as}
+use Rattle.tee_base.specs.declared.limits.TheConstants.{MAX_HOSTS}
 use Rattle.store_api.specs.Volumes.{Held, RestsAt, VolumeKeeper}
 use Rattle.board.specs.Moment.{IsBehind, IsCounter, Outcome, View, left_since, moment}
 use Rattle.board.specs.Steps.{Passes, Powered}
@@ -100,6 +101,13 @@ module _ {V : Type 0} (K : VolumeKeeper V) where
         → read_as (held_of f view.key) (left_since view) t o
     pub left_back : (t : ℕ) (c : Outcome) → left_since view t c
         → K.left_since volume t (held_of f view.key c)
+
+  -- the damage of each leaf, and what is found of it, is the form's over what reads give
+  pub record IsFormed (f : Form) (volume : V) (root : Root) (view : View) : Type 0 where
+    pub damage : (region leaf : ℕ) → region < MAX_HOSTS → leaf < K.leaves
+        → K.damage volume region leaf ≡ f.damage view.key view.state.reads root region leaf
+    pub text : (region leaf : ℕ) → region < MAX_HOSTS → leaf < K.leaves
+        → K.text volume region leaf ≡ f.leaf view.key view.state.reads root region leaf
 
   -- all that a crash may leave now is sound
   abbrev pub IsAlwaysSound : V → Type 0

@@ -1,6 +1,6 @@
 -- What the opening of a flat volume leaves, over what was found on its board.
 use Rattle.std.proofs.Common.{◌≡◌, ◌+◌, ◌⊎◌, ◌==◌, ◌∙◌, if◌then◌else◌, ℕ, Bool, true, false, List, [], Option, Some, None, Result}
-use Rattle.std.proofs.Common.{Ok, Err, IfErr, IfOk, refl, sym, ap, subst, inl, arith, ⊎_elim}
+use Rattle.std.proofs.Common.{Ok, Err, IfErr, IfOk, refl, sym, ap, subst, inl, inr, arith, ⊎_elim}
 use Rattle.std.specs.Result.{IsErr}
 use Rattle.std.proofs.lemmas.Bool.{false≢true}
 use Rattle.std.proofs.lemmas.Bool.Decides.{nat_tests}
@@ -243,3 +243,12 @@ blocks_more first mid last one two = record {
 -- before the first of them
 pub blocks_none : (m : Moment) → SameBlocks m m
 blocks_none m = record { reads = refl; durable = refl; pending = refl }
+
+-- what was formatted is at the sequence 1
+pub formatted_bare : (result : Result Opened OpenAnswer) → IfOk result (λ o. (o.sequence ≡ 1) × (o.root.sequence ≡ 1)) → IfOk result (λ o. (o.table ≡ None) ⊎ (o.sequence ≡ 1))
+formatted_bare (Ok o) both = inr both.0
+formatted_bare (Err why) both = tt
+
+-- no table that is kept
+pub bare_open : (table : Option Table) (root : TreeEntry) → table ≡ None → (image : ℕ → List ℕ) → IsKept table image root
+bare_open table root none image = none_kept table image root none

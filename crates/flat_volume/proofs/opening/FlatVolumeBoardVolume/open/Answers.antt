@@ -1,3 +1,5 @@
+use Rattle.std.proofs.Common.{inl, inr, ⊎_elim}
+use Rattle.flat_volume.proofs.OpenLemmas.{bare_open}
 use Rattle.flat_volume.proofs.VolumeLemmas.{steady_open}
 use Rattle.flat_volume.proofs.opening.FlatVolumeBoardVolume.open.Goals as goal
 
@@ -10,3 +12,10 @@ pub returns-in-Err-clause-unopened : goal.returns-in-Err-clause-unopened
 returns-in-Err-clause-unopened g c honest n h rests large is =
     let opens = c.in-Err.ensures.opens honest n h rests large is in
     (opens.failed, opens.leaves)
+
+pub returns-in-Ok-clause-bare : goal.returns-in-Ok-clause-bare
+returns-in-Ok-clause-bare g c =
+    ⊎_elim
+    (λ none. inl (bare_open _ _ none))
+    (λ formatted. inr formatted)
+    c.in-Ok.ensures.bare
