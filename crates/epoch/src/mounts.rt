@@ -9,7 +9,7 @@ ghost use Rattle.board.specs.Steps.{CallRun, Passes, SameBlocks, Unchanged};
 ghost use Rattle.board.specs.declared.fuse.Fuse.TheVariants.{Unset};
 ghost use Rattle.epoch.specs.Finding.{IsSettledAt};
 ghost use Rattle.epoch.specs.Forms.{Form, Root, held};
-ghost use Rattle.epoch.specs.Mounts.{IsAdmitted, IsAlwaysSound, IsBack, IsFormed, IsKeptFromOpening, IsOrdered, IsRefusal, IsRefusedNow, IsSeenOn, LeavesOpening, OpensAfterPower, OpensAgain, OrderRun, PowerFirst, after_opening};
+ghost use Rattle.epoch.specs.Mounts.{IsAdmitted, IsAlwaysSound, IsBack, IsFormed, IsKeptFromOpening, IsOpenedTo, IsOrdered, IsRefusal, IsRefusedNow, IsSeenOn, LeavesOpening, OpensAfterPower, OpensAgain, OrderRun, PowerFirst};
 ghost use Rattle.epoch.specs.Opening.{is_no_failure, no_failure};
 ghost use Rattle.epoch.specs.Past.{KeepsPast};
 ghost use Rattle.epoch.specs.declared.answer.OpenAnswer.TheVariants as answers;
@@ -87,7 +87,7 @@ pub trait BoardVolume<B: Board>: Volume + Sized {
             → form.blocks ≤ (B.view board).size
             → held form (B.view board).key (B.view board).state.reads n ≡ Some h
             → IfOk result (λ v. Self.keeper.honest v
-            × (Self.keeper.held v ≡ after_opening form (B.view board) h)
+            × IsOpenedTo form (B.view board) h (Self.keeper.held v)
             × LeavesOpening form h (B.view board) (B.view (board_of v))) }
         ensures unopened { B.honest board → (n : ℕ) (h : Held) → Rests n (B.view board).state
             → form.blocks ≤ (B.view board).size
