@@ -12,22 +12,23 @@ ghost use Rattle.epoch.specs.Forms.{held};
 ghost use Rattle.epoch.specs.Mounting.{MountsTo, after_found, after_opening};
 ghost use Rattle.epoch.specs.Mounts.{IsAdmitted, IsKeptFromOpening, IsRefusal, IsRefusedNow, TakesUp};
 ghost use Rattle.epoch.specs.Opening.{no_failure};
+ghost use Rattle.epoch.specs.Opens.{entry_found};
 ghost use Rattle.epoch.specs.Past.{KeepsPast};
 ghost use Rattle.epoch.specs.declared.answer.OpenAnswer.TheVariants as refusals;
 ghost use Rattle.epoch.specs.declared.header.Header.{Header as Kept};
 ghost use Rattle.flat_volume.specs.Flat.{flat, flat_root, zero_table};
 ghost use Rattle.flat_volume.specs.Keeping.{IsKept, IsOpen, IsVerified, held_now};
 ghost use Rattle.flat_volume.specs.Laws.{found_formed, leaf_formed};
-ghost use Rattle.flat_volume.specs.Opens.{Opens, root_of};
+ghost use Rattle.flat_volume.specs.Opens.{Opens};
 
 use crate::places::{FLAT, VOLUME_BLOCKS};
 use crate::table::Table;
 use crate::volume::{FlatVolume, Opened};
-use crate::write::{FlatChange, NO_ROOT};
+use crate::write::FlatChange;
 use board::Board;
 use epoch::{
-    BLANK, BoardVolume, FORMATTED, Header, OpenAnswer, Unopened, commit, mount, mount_after_power,
-    mount_again,
+    BLANK, BoardVolume, FORMATTED, Header, NO_ROOT, OpenAnswer, Unopened, commit, mount,
+    mount_after_power, mount_again, taken_from,
 };
 use seal::Keys;
 use std::alloc::Global;
@@ -112,14 +113,11 @@ fn take_up<B: Board>(
 /// The root and the sequence of the header that was found; where none counts, no root, at the sequence 0. The table isn't
 /// read yet.
 fn opened_at(found: Option<Header>) -> Opened
-    ensures root { result.root ≡ root_of found }
+    ensures root { result.root ≡ entry_found found }
     ensures sequence { result.sequence ≡ sequence_of found }
     ensures table { result.table ≡ None }
 {
-    let (root, sequence) = match found {
-        Some(header) => (header.root, header.sequence),
-        None => (NO_ROOT, 0),
-    };
+    let (root, sequence) = taken_from(found);
     Opened {
         root,
         sequence,

@@ -39,14 +39,6 @@ pub struct FlatChange<'a> {
     ghost inside: { is_above_all leaves.now LEAVES ≡ true },
 }
 
-/// What a blank board has in place of a root: the table that formatting writes goes into copy 0.
-pub const NO_ROOT: TreeEntry = TreeEntry {
-    copy: 1,
-    sequence: 0,
-    iv: [0; 16],
-    tag: [0; 32],
-};
-
 impl Change for FlatChange<'_> {
     ghost form = { flat };
 

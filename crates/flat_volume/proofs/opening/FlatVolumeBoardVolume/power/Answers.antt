@@ -3,6 +3,7 @@ use Rattle.std.proofs.lemmas.Bool.{false≢true}
 use Rattle.tee_base.specs.Crash.{LeavesOnly}
 use Rattle.store_api.specs.Volumes.{Held}
 use Rattle.board.specs.Moment.{IsLeft, Outcome, View, left_since, moment}
+use Rattle.epoch.proofs.OpenLemmas.{not_ok, told_so}
 use Rattle.epoch.proofs.KeepLemmas.{held_steady, steady_same}
 use Rattle.epoch.specs.Forms.{held_of}
 use Rattle.epoch.specs.Mounting.{MightBe, MountsTo}
@@ -16,7 +17,7 @@ use Rattle.epoch.specs.Finding.{IsSettledAt, sequence_of}
 use Rattle.flat_volume.specs.Flat.{flat, flat_root}
 use Rattle.flat_volume.specs.Frame.{flat_format, flat_framed}
 use Rattle.flat_volume.specs.Keeping.{held_now}
-use Rattle.flat_volume.proofs.OpenLemmas.{bare_open, not_ok, told_so}
+use Rattle.flat_volume.proofs.OpenLemmas.{bare_open}
 use Rattle.flat_volume.proofs.VolumeLemmas.{steady_open}
 use Rattle.flat_volume.proofs.opening.FlatVolumeBoardVolume.power.Goals as goal
 
