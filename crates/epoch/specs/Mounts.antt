@@ -102,6 +102,7 @@ abbrev pub LeftByOpening : Form → Held → View → Outcome → Type 0
 LeftByOpening f held old c = (held_of f old.key c ≡ Some held)
     ⊎ ((after : Held) × (held_of f old.key c ≡ Some after) × IsOpenedTo f old held after)
 
+-- so at every moment of a call
 abbrev pub LeavesOpening : Form → Held → View → View → Type 0
 LeavesOpening f held old new = LeavesOnly moment left_since old new (LeftByOpening f held old)
 

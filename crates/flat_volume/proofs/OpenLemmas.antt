@@ -68,7 +68,8 @@ pub format_done : (old new : View) (root root' : TreeEntry) (keys : Keys) (table
     → Opens h (after_found None h) (Ok (record { root = root; sequence = 1; table = Some table })) old new
 format_done old new root root' keys table h zero version key same run mounted fits =
     let mounted' : IsMounted flat new.key (flat_root root) (after_found None h) new.state
-    = subst (λ (k : List ℕ). IsMounted flat k (flat_root root) (after_found None h) new.state) (sym key) (subst (λ (x : Held). IsMounted flat old.key (flat_root root) x new.state) (formatted flat h zero version) mounted) in
+    = subst (λ (k : List ℕ). IsMounted flat k (flat_root root) (after_found None h) new.state) (sym key)
+    (subst (λ (x : Held). IsMounted flat old.key (flat_root root) x new.state) (formatted flat h zero version) mounted) in
     let kept : table.bytes.items ≡ table_in new.state.reads root = fits.stands ∙ ap (table_in new.state.reads) same in
     record {
       opened = open_with new root 1 (Some table) (after_found None h) mounted' refl kept;

@@ -15,13 +15,15 @@ use Rattle.flat_volume.proofs.opening.format_board.Goals as goal
 pub returns-in_err-blank_table-clause-opens : goal.returns-in_err-blank_table-clause-opens
 returns-in_err-blank_table-clause-opens g c honest h mounts =
     let kept : IfErr c.from_residual.result (λ why. IsKeptFromOpening why) = search rules in
-    opens_without flat IsOpenAs holding flat_framed (g.B.Board.view c.args.board.now) _ c.from_residual.result h _ (mounts.1 (flat_root NO_ROOT) (blank_root flat FLAT flat_format flat_single)) c.from_residual.ensures.0 kept
+    opens_without flat IsOpenAs holding flat_framed (g.B.Board.view c.args.board.now) _ c.from_residual.result h _
+    (mounts.1 (flat_root NO_ROOT) (blank_root flat FLAT flat_format flat_single)) c.from_residual.ensures.0 kept
 
 pub returns-in_err-root-clause-opens : goal.returns-in_err-root-clause-opens
 returns-in_err-root-clause-opens g c honest h mounts =
     let keys : AreKeysOf c.of-keys.result (g.B.Board.view c.args.board.now).key = subst (λ (k : List ℕ). AreKeysOf c.of-keys.result k) c.key.ensures c.of-keys.ensures in
     let kept : IfErr c.from_residual-in_err-root.result (λ why. IsKeptFromOpening why) = search rules in
-    format_failed flat IsOpenAs holding (g.B.Board.view c.args.board.now) (g.B.Board.view c.commit.new.board) c.from_residual-in_err-root.result h mounts.0 (mounts.1 (flat_root NO_ROOT) (blank_root flat FLAT flat_format flat_single)).version
+    format_failed flat IsOpenAs holding (g.B.Board.view c.args.board.now) (g.B.Board.view c.commit.new.board) c.from_residual-in_err-root.result
+    h mounts.0 (mounts.1 (flat_root NO_ROOT) (blank_root flat FLAT flat_format flat_single)).version
     c.from_residual-in_err-root.ensures.0 kept
     (c.in_err-root.ensures.crash honest h (record {
       last = mounts.0;

@@ -52,21 +52,25 @@ pub returns-clause-rule : goal.returns-clause-rule
 returns-clause-rule g c tells =
     let v = g.B.Board.view c.args.board.now in
     let told = c.in_ok-found.ensures.rule tells in
-    let both = ruled_opening flat (λ (o : Opened). flat_root o.root) (λ (o : Opened). o.sequence) v v.state.reads told.0 1 c.in_ok-found.found c.take_up.result (told.1 flat flat_format) c.take_up.ensures.kept c.take_up.ensures.taken in
+    let both = ruled_opening flat (λ (o : Opened). flat_root o.root) (λ (o : Opened). o.sequence) v v.state.reads told.0 1 c.in_ok-found.found c.take_up.result
+    (told.1 flat flat_format) c.take_up.ensures.kept c.take_up.ensures.taken in
     (told.0, both.0, both.1)
 
 pub returns-clause-exact : goal.returns-clause-exact
 returns-clause-exact g c honest =
     let v = g.B.Board.view c.args.board.now in
     let told = c.in_ok-found.ensures.exact honest in
-    let both = ruled_opening flat (λ (o : Opened). flat_root o.root) (λ (o : Opened). o.sequence) v v.state.reads told.0 1 c.in_ok-found.found c.take_up.result (told.2 flat flat_format) c.take_up.ensures.kept c.take_up.ensures.taken in
+    let both = ruled_opening flat (λ (o : Opened). flat_root o.root) (λ (o : Opened). o.sequence) v v.state.reads told.0 1
+    c.in_ok-found.found c.take_up.result (told.2 flat flat_format) c.take_up.ensures.kept c.take_up.ensures.taken in
     (told.0, told.1, both.0, both.1)
 
 pub returns-clause-opens : goal.returns-clause-opens
 returns-clause-opens g c honest n h rests large is =
     let v = g.B.Board.view c.args.board.now in
-    let mounts = c.in_ok-found.ensures.holds honest flat h flat_framed flat_format large (rests_holding flat v.key h n v.state rests is) in
-    opens_joined flat IsOpenAs holding v (g.B.Board.view c.mount.new.board) (g.B.Board.view c.take_up.new.board) c.in_ok-found.found c.take_up.result h c.in_ok-found.ensures.calls.key mounts.mounted mounts.leaves
+    let mounts = c.in_ok-found.ensures.holds honest flat h flat_framed flat_format large
+    (rests_holding flat v.key h n v.state rests is) in
+    opens_joined flat IsOpenAs holding v (g.B.Board.view c.mount.new.board) (g.B.Board.view c.take_up.new.board) c.in_ok-found.found c.take_up.result h
+    c.in_ok-found.ensures.calls.key mounts.mounted mounts.leaves
     (c.take_up.ensures.opens (c.in_ok-found.ensures.honest honest) h)
 
 pub returns-in_err-found-clause-calls : goal.returns-in_err-found-clause-calls

@@ -11,4 +11,6 @@ returns-clause-opened g c h mounts =
     c.opened_at-sequence.ensures.table c.requires mounts
 
 pub returns-clause-found : goal.returns-clause-found
-returns-clause-found g c = taken_up flat FLAT flat_format flat_single c.args.found c.opened_at-sequence.result.root c.opened_at-sequence.result.sequence c.requires c.opened_at-sequence.ensures.root c.opened_at-sequence.ensures.sequence
+returns-clause-found g c =
+    taken_up flat FLAT flat_format flat_single c.args.found c.opened_at-sequence.result.root c.opened_at-sequence.result.sequence
+    c.requires c.opened_at-sequence.ensures.root c.opened_at-sequence.ensures.sequence

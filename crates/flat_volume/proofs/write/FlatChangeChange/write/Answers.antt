@@ -27,7 +27,8 @@ returns-in_err-write_table-clause-run g c h slot low high first fits run =
     let one = c.in_ok-write_leaves.ensures.run h (spare flat v.key v.state.reads (flat_root root) slot) v.state.reads low high first
     (leaves_spare v.key v.state.reads root slot c.args.self.now.table.bytes.items c.args.self.now.region c.args.self.now.leaves.now fits.stands) run in
     c.in_err-write_table.ensures.run (c.in_ok-write_leaves.ensures.honest h) (spare flat v.key v.state.reads (flat_root root) slot) v.state.reads low high first
-    (λ i below. ap (λ (copy : ℕ). spare flat v.key v.state.reads (flat_root root) slot (4 + 2 * (17 + i) + copy_of copy)) c.other_copy-copy.ensures ∙ table_spare v.key v.state.reads root slot i below) one
+    (λ i below. ap (λ (copy : ℕ). spare flat v.key v.state.reads (flat_root root) slot (4 + 2 * (17 + i) + copy_of copy)) c.other_copy-copy.ensures
+    ∙ table_spare v.key v.state.reads root slot i below) one
 
 pub returns-clause-past : goal.returns-clause-past
 returns-clause-past g c h =
@@ -39,8 +40,10 @@ returns-clause-run g c h slot low high first fits run =
     let root = c.args.self.now.root in
     let one = c.in_ok-write_leaves.ensures.run h (spare flat v.key v.state.reads (flat_root root) slot) v.state.reads low high first
     (leaves_spare v.key v.state.reads root slot c.args.self.now.table.bytes.items c.args.self.now.region c.args.self.now.leaves.now fits.stands) run in
-    c.in_ok-write_table.ensures.run (c.in_ok-write_leaves.ensures.honest h) (spare flat v.key v.state.reads (flat_root root) slot) v.state.reads low high first
-    (λ i below. ap (λ (copy : ℕ). spare flat v.key v.state.reads (flat_root root) slot (4 + 2 * (17 + i) + copy_of copy)) c.other_copy-copy.ensures ∙ table_spare v.key v.state.reads root slot i below) one
+    c.in_ok-write_table.ensures.run (c.in_ok-write_leaves.ensures.honest h)
+    (spare flat v.key v.state.reads (flat_root root) slot) v.state.reads low high first
+    (λ i below. ap (λ (copy : ℕ). spare flat v.key v.state.reads (flat_root root) slot (4 + 2 * (17 + i) + copy_of copy)) c.other_copy-copy.ensures
+    ∙ table_spare v.key v.state.reads root slot i below) one
 
 pub returns-clause-written : goal.returns-clause-written
 returns-clause-written g c h fits sealed =
