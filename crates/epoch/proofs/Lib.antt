@@ -1,10 +1,15 @@
 pub mod CallLemmas
 pub mod CommitLemmas
 pub mod CommitStages
+pub mod EntryLemmas
 pub mod FindLemmas
 pub mod HeaderLemmas
+pub mod KeepLemmas
+pub mod LeftLemmas
 pub mod MountLemmas
+pub mod OpenLemmas
 pub mod PastLemmas
+pub mod ReadLemmas
 pub mod RuleLemmas
 pub mod RunLemmas
 pub mod SettledLemmas

@@ -1,11 +1,10 @@
 -- What a board holds that is opened, over the form of the leaves.
-use Rattle.std.proofs.Common.{◌≡◌, ◌≢◌, ◌≤◌, ◌<◌, ◌+◌, ◌^◌, ◌%◌, ◌==◌, ◌&&◌, ◌∙◌, if◌then◌else◌, ℕ, Bool, true, false, List, [], ◌∷◌, length, Option}
+use Rattle.std.proofs.Common.{◌≡◌, ◌≢◌, ◌≤◌, ◌<◌, ◌+◌, ◌^◌, ◌%◌, ◌==◌, ◌&&◌, ◌∙◌, ◌⊎◌, not, if◌then◌else◌, ℕ, Bool, true, false, List, [], ◌∷◌, length, Option}
 use Rattle.std.proofs.Common.{Some, None, Result, Ok, Err, IfOk, IfErr, nat_lt, refl, sym, ap, subst, inl, inr, ⊎_elim, arith}
 use Rattle.std.proofs.lemmas.Bool.{cases_lt}
 use Rattle.std.proofs.lemmas.Bool.Decides.{nat_tests}
 use Rattle.tee_base.specs.Crash.{LeavesOnly, read_as}
 use Rattle.tee_base.proofs.Crash.{joined, mapped, weaker}
-use Rattle.tee_base.specs.declared.limits.TheConstants.{BOARD_BLOCKS}
 use Rattle.store_api.specs.Volumes.{Held}
 use Rattle.board.specs.Moment.{IsConsistent, IsCounter, IsLeft, Moment, Outcome, View, WasLeft, left_since, moment}
 use Rattle.board.specs.Runs.{IsBase, LeavesBase, Rests, RunsOver}
@@ -13,17 +12,17 @@ use Rattle.board.specs.Steps.{Answered, Passes, Powered, SameBlocks, Synced, Unc
 use Rattle.board.proofs.Runs.{goes_on, run_starts, starts}
 use Rattle.epoch.specs.Commits.{IsMounted, OpensTo}
 use Rattle.epoch.specs.Finding.{Finds, IsSettledAt, OpensBelow, sequence_of}
-use Rattle.epoch.specs.Forms.{Form, IsFramed, blank_leaves, held, held_by, held_of, is_sealed, leaves_of}
-use Rattle.epoch.specs.Mounting.{AreSound, IsHolding, MightBe, Mounts, MountsAfterPower, MountsAgain, MountsTo, after_found}
-use Rattle.epoch.specs.Mounts.{IsAdmitted, IsKeptFromOpening, IsLeftSound, IsRefusal, IsRefusedNow, IsRuledBy, TakesUp, after_opening, opened_by}
+use Rattle.epoch.specs.Formats.{IsFormatOf, accepts}
+use Rattle.epoch.specs.Forms.{Form, IsBlankRoot, IsFramed, Root, blank_leaves, held, held_by, held_of, is_sealed, leaves_of, root_of}
+use Rattle.epoch.specs.Mounting.{AreSound, IsHolding, MightBe, Mounts, MountsAfterPower, MountsAgain, MountsTo, after_found, after_opening, opened_by}
+use Rattle.epoch.specs.Mounts.{IsAdmitted, IsKeptFromOpening, IsLeftSound, IsRefusal, IsRefusedNow, IsRuledBy, IsOpenedTo, IsRewritten, LeavesOpening, LeftByOpening, MakesBy, MakesOf, TakesUp}
 use Rattle.epoch.specs.Opening.{IsRuled, answer_at, found_header, header_answer, opening_by, opening_of, opens_as}
 use Rattle.epoch.specs.Past.{KeepsPast}
 use Rattle.epoch.specs.Slots.{slot_of}
 use Rattle.epoch.specs.declared.answer.OpenAnswer.{OpenAnswer}
 use Rattle.epoch.specs.declared.answer.OpenAnswer.TheVariants.{Ahead, BadHeader, Failed, NoMemory, NoVolume, Rollback, TooSmall, UnknownVersion}
-use Rattle.epoch.specs.declared.find.TheConstants.{VOLUME_BLOCKS}
+use Rattle.epoch.specs.declared.format.Format.{Format}
 use Rattle.epoch.specs.declared.header.Header.{Header}
-use Rattle.epoch.specs.declared.header.TreeEntry.{TreeEntry}
 use Rattle.epoch.specs.declared.rule.Found.{Found}
 use Rattle.epoch.specs.declared.slots.Slot.TheVariants.{Shut}
 use Rattle.epoch.proofs.CommitLemmas.{first_true, held_before, second_true, zero_leaves, zero_sealed}
@@ -32,33 +31,33 @@ use Rattle.epoch.proofs.RuleLemmas.{asked, counts, opens_at_two, refuses_rollbac
 use Rattle.epoch.proofs.StageLemmas.{blank_first}
 
 -- of one image, two headers that count at two counters are one
-pub same_found : (version : ℕ) (key : List ℕ) (image : ℕ → List ℕ) (n m : ℕ) (a b : Found)
-    → opening_of version key image n ≡ Ok (Some a) → opening_of version key image m ≡ Ok (Some b) → b ≡ a
+pub same_found : (knows : ℕ → Bool) (key : List ℕ) (image : ℕ → List ℕ) (n m : ℕ) (a b : Found)
+    → opening_of knows key image n ≡ Ok (Some a) → opening_of knows key image m ≡ Ok (Some b) → b ≡ a
 unfolding opening_of
-same_found version key image n m a b one two =
-    let x = asked version (slot_of key image 0) (slot_of key image 1) n a one in
-    let y : answer_at version a.slot a.header m ≡ Ok (Some b) = sym (x.same m) ∙ two in
-    (counts version a.slot a.header m b y).is
+same_found knows key image n m a b one two =
+    let x = asked knows (slot_of key image 0) (slot_of key image 1) n a one in
+    let y : answer_at knows a.slot a.header m ≡ Ok (Some b) = sym (x.same m) ∙ two in
+    (counts knows a.slot a.header m b y).is
 
 no_slot : (b : Bool) (n : ℕ) (found : Found) → (let none : Result (Option Found) OpenAnswer = Ok None in if b then none else Err (NoVolume n)) ≡ Ok (Some found) → ⊥
 no_slot true n found e = cc
 no_slot false n found e = cc
 
 -- where it is blank at one counter, no header counts at another
-pub never_found : (version : ℕ) (key : List ℕ) (image : ℕ → List ℕ) (n m : ℕ) (b : Found)
-    → (let none : Result (Option Found) OpenAnswer = Ok None in opening_of version key image n ≡ none) → opening_of version key image m ≡ Ok (Some b) → ⊥
+pub never_found : (knows : ℕ → Bool) (key : List ℕ) (image : ℕ → List ℕ) (n m : ℕ) (b : Found)
+    → (let none : Result (Option Found) OpenAnswer = Ok None in opening_of knows key image n ≡ none) → opening_of knows key image m ≡ Ok (Some b) → ⊥
 unfolding opening_of
-never_found version key image n m b blank found =
-    let shut = blank_first version (slot_of key image 0) (slot_of key image 1) n blank in
-    let one : opening_by version Shut (slot_of key image 1) m ≡ Ok (Some b) = rw shut.0 at found in
-    let both : opening_by version Shut Shut m ≡ Ok (Some b) = rw shut.1 at one in
+never_found knows key image n m b blank found =
+    let shut = blank_first knows (slot_of key image 0) (slot_of key image 1) n blank in
+    let one : opening_by knows Shut (slot_of key image 1) m ≡ Ok (Some b) = rw shut.0 at found in
+    let both : opening_by knows Shut Shut m ≡ Ok (Some b) = rw shut.1 at one in
     no_slot (m == 0) m b both
 
 -- and the counter is 0
-pub blank_at : (version : ℕ) (key : List ℕ) (image : ℕ → List ℕ) (n : ℕ)
-    → (let none : Result (Option Found) OpenAnswer = Ok None in opening_of version key image n ≡ none) → n ≡ 0
+pub blank_at : (knows : ℕ → Bool) (key : List ℕ) (image : ℕ → List ℕ) (n : ℕ)
+    → (let none : Result (Option Found) OpenAnswer = Ok None in opening_of knows key image n ≡ none) → n ≡ 0
 unfolding opening_of
-blank_at version key image n e = blank_counter version (slot_of key image 0) (slot_of key image 1) n e
+blank_at knows key image n e = blank_counter knows (slot_of key image 0) (slot_of key image 1) n e
 
 -- a choice that is something is its first
 if_some : {A : Type 0} (b : Bool) (x h : A) → (let none : Option A = None in if b then Some x else none) ≡ Some h → (b ≡ true) × (x ≡ h)
@@ -67,46 +66,46 @@ if_some false x h e = absurd (cc)
 
 -- what is held, by how the image opens
 abbrev pub HeldAs : Form → List ℕ → (ℕ → List ℕ) → Held → Result (Option Found) OpenAnswer → Type 0
-HeldAs f key image h (Ok None) = (h.leaves ≡ blank_leaves) × (h.sequence ≡ 0) × (h.version ≡ f.version)
+HeldAs f key image h (Ok None) = (h.leaves ≡ blank_leaves f.leaves) × (h.sequence ≡ 0) × (h.version ≡ f.version)
 HeldAs f key image h (Ok (Some found)) =
-    (found.slot ≡ found.header.sequence % 2) × (is_sealed f key image found.header.root ≡ true)
-    × (h.leaves ≡ leaves_of f key image found.header.root) × (h.sequence ≡ found.header.sequence)
-    × (h.version ≡ f.version)
+    (found.slot ≡ found.header.sequence % 2) × (is_sealed f key image (root_of found.header) ≡ true)
+    × (h.leaves ≡ leaves_of f key image (root_of found.header)) × (h.sequence ≡ found.header.sequence)
+    × (h.version ≡ found.header.version)
 HeldAs f key image h (Err answer) = ⊥
 
 held_as : (f : Form) (key : List ℕ) (image : ℕ → List ℕ) (h : Held) (o : Result (Option Found) OpenAnswer) → held_by f key image o ≡ Some h → HeldAs f key image h o
 held_as f key image h (Ok None) e =
-    let same : record { leaves = blank_leaves; sequence = 0; version = f.version } ≡ h = cc in
+    let same : record { leaves = blank_leaves f.leaves; sequence = 0; version = f.version } ≡ h = cc in
     (ap (λ (x : Held). x.leaves) (sym same), ap (λ (x : Held). x.sequence) (sym same), ap (λ (x : Held). x.version) (sym same))
 held_as f key image h (Ok (Some found)) e =
-    let two = if_some ((found.slot == found.header.sequence % 2) && is_sealed f key image found.header.root) _ h e in
-    let slot : (found.slot == found.header.sequence % 2) ≡ true = first_true (found.slot == found.header.sequence % 2) (is_sealed f key image found.header.root) two.0 in (
+    let two = if_some ((found.slot == found.header.sequence % 2) && is_sealed f key image (root_of found.header)) _ h e in
+    let slot : (found.slot == found.header.sequence % 2) ≡ true = first_true (found.slot == found.header.sequence % 2) (is_sealed f key image (root_of found.header)) two.0 in (
       grind (arith, nat_tests, slot),
-      second_true (found.slot == found.header.sequence % 2) (is_sealed f key image found.header.root) two.0,
+      second_true (found.slot == found.header.sequence % 2) (is_sealed f key image (root_of found.header)) two.0,
       ap (λ (x : Held). x.leaves) (sym two.1),
       ap (λ (x : Held). x.sequence) (sym two.1),
       ap (λ (x : Held). x.version) (sym two.1),
     )
 held_as f key image h (Err answer) e = absurd (cc)
 
-pub holds_as : (f : Form) (key : List ℕ) (image : ℕ → List ℕ) (n : ℕ) (h : Held) → held f key image n ≡ Some h → HeldAs f key image h (opening_of f.version key image n)
+pub holds_as : (f : Form) (key : List ℕ) (image : ℕ → List ℕ) (n : ℕ) (h : Held) → held f key image n ≡ Some h → HeldAs f key image h (opening_of f.known key image n)
 unfolding held
-holds_as f key image n h e = held_as f key image h (opening_of f.version key image n) e
+holds_as f key image n h e = held_as f key image h (opening_of f.known key image n) e
 
 -- what an opening gives is what is held
-pub held_opening : (f : Form) (key : List ℕ) (image : ℕ → List ℕ) (n m : ℕ) → opening_of f.version key image n ≡ opening_of f.version key image m → held f key image n ≡ held f key image m
+pub held_opening : (f : Form) (key : List ℕ) (image : ℕ → List ℕ) (n m : ℕ) → opening_of f.known key image n ≡ opening_of f.known key image m → held f key image n ≡ held f key image m
 unfolding held
 held_opening f key image n m e = ap (held_by f key image) e
 
 -- one image opens alike at two counters at which it is sound: to one header, or as a blank board, where both are 0
 opens_alike : (f : Form) (key : List ℕ) (image : ℕ → List ℕ) (n m : ℕ) (a b : Held) (x y : Result (Option Found) OpenAnswer)
-    → opening_of f.version key image n ≡ x → opening_of f.version key image m ≡ y → HeldAs f key image a x → HeldAs f key image b y
-    → opening_of f.version key image m ≡ opening_of f.version key image n
+    → opening_of f.known key image n ≡ x → opening_of f.known key image m ≡ y → HeldAs f key image a x → HeldAs f key image b y
+    → opening_of f.known key image m ≡ opening_of f.known key image n
 opens_alike f key image n m a b (Ok None) (Ok None) one two is is' = two ∙ sym one
-opens_alike f key image n m a b (Ok None) (Ok (Some found)) one two is is' = absurd (never_found f.version key image n m found one two)
-opens_alike f key image n m a b (Ok (Some found)) (Ok None) one two is is' = absurd (never_found f.version key image m n found two one)
+opens_alike f key image n m a b (Ok None) (Ok (Some found)) one two is is' = absurd (never_found f.known key image n m found one two)
+opens_alike f key image n m a b (Ok (Some found)) (Ok None) one two is is' = absurd (never_found f.known key image m n found two one)
 opens_alike f key image n m a b (Ok (Some found)) (Ok (Some other)) one two is is' =
-    let same : other ≡ found = same_found f.version key image n m found other one two in
+    let same : other ≡ found = same_found f.known key image n m found other one two in
     two ∙ ap (λ (w : Found). let r : Result (Option Found) OpenAnswer = Ok (Some w) in r) same ∙ sym one
 opens_alike f key image n m a b (Ok found) (Err answer) one two is is' = absurd is'
 opens_alike f key image n m a b (Err answer) y one two is is' = absurd is
@@ -115,7 +114,7 @@ opens_alike f key image n m a b (Err answer) y one two is is' = absurd is
 pub one_held : (f : Form) (key : List ℕ) (image : ℕ → List ℕ) (n m : ℕ) (a b : Held) → held f key image n ≡ Some a → held f key image m ≡ Some b → held f key image m ≡ held f key image n
 one_held f key image n m a b one two =
     held_opening f key image m n
-    (opens_alike f key image n m a b (opening_of f.version key image n) (opening_of f.version key image m) refl refl (holds_as f key image n a one) (holds_as f key image m b two))
+    (opens_alike f key image n m a b (opening_of f.known key image n) (opening_of f.known key image m) refl refl (holds_as f key image n a one) (holds_as f key image m b two))
 
 -- what a crash left has a counter that fits
 was_fits : (past : List Moment) (t : ℕ) (c : Outcome) → WasLeft past t c → c.counter < 2 ^ 64
@@ -134,7 +133,7 @@ fitted old new P run = record {
 
 -- how far a counter may rise within a search, of a board that opens so
 abbrev BoundsBy : Form → List ℕ → Moment → ℕ → Type 0
-BoundsBy f key m high = (found : Found) → opening_of f.version key m.reads m.counter ≡ Ok (Some found) → found.header.sequence ≤ high
+BoundsBy f key m high = (found : Found) → opening_of f.known key m.reads m.counter ≡ Ok (Some found) → found.header.sequence ≤ high
 
 module _ (f : Form) (key : List ℕ) (h : Held) (m : Moment) (holding : IsHolding f key h m) (fits : m.counter < 2 ^ 64) where
   least_counter : IsCounter m m.counter
@@ -144,26 +143,26 @@ module _ (f : Form) (key : List ℕ) (h : Held) (m : Moment) (holding : IsHoldin
   pub held_least : held f key m.reads m.counter ≡ Some h
   held_least = holding.each m.counter least_counter
 
-  pub opens_least : HeldAs f key m.reads h (opening_of f.version key m.reads m.counter)
+  pub opens_least : HeldAs f key m.reads h (opening_of f.known key m.reads m.counter)
   opens_least = holds_as f key m.reads m.counter h held_least
 
-  below_by : (o : Result (Option Found) OpenAnswer) → opening_of f.version key m.reads m.counter ≡ o → HeldAs f key m.reads h o
-      → (high n : ℕ) (found : Found) → BoundsBy f key m high → opening_of f.version key m.reads n ≡ Ok (Some found) → found.header.sequence ≤ high
-  below_by (Ok None) e is high n found bounds opens = absurd (never_found f.version key m.reads m.counter n found e opens)
+  below_by : (o : Result (Option Found) OpenAnswer) → opening_of f.known key m.reads m.counter ≡ o → HeldAs f key m.reads h o
+      → (high n : ℕ) (found : Found) → BoundsBy f key m high → opening_of f.known key m.reads n ≡ Ok (Some found) → found.header.sequence ≤ high
+  below_by (Ok None) e is high n found bounds opens = absurd (never_found f.known key m.reads m.counter n found e opens)
   below_by (Ok (Some other)) e is high n found bounds opens =
-      let same : found ≡ other = same_found f.version key m.reads m.counter n other found e opens in
+      let same : found ≡ other = same_found f.known key m.reads m.counter n other found e opens in
       let at : found.header.sequence ≡ other.header.sequence = ap (λ (w : Found). w.header.sequence) same in
       let top : other.header.sequence ≤ high = bounds other e in
       omega (arith, at, top)
   below_by (Err answer) e is high n found bounds opens = absurd is
 
-  opens_under : (high : ℕ) → BoundsBy f key m high → OpensBelow f.version key m.reads m.counter high
+  opens_under : (high : ℕ) → BoundsBy f key m high → OpensBelow f.known key m.reads m.counter high
   opens_under high bounds n found low up opens =
-      below_by (opening_of f.version key m.reads m.counter) refl opens_least high n found bounds opens
+      below_by (opening_of f.known key m.reads m.counter) refl opens_least high n found bounds opens
 
 -- a search over a board that holds this leaves nothing else
 module _ (f : Form) (h : Held) (old new : View) (holding : IsHolding f old.key h old.state) (fits : old.state.counter < 2 ^ 64)
-    (goes : (open_at : ℕ → Bool) (base : ℕ → List ℕ) (low high : ℕ) (first : View) → OpensBelow f.version old.key old.state.reads low high
+    (goes : (open_at : ℕ → Bool) (base : ℕ → List ℕ) (low high : ℕ) (first : View) → OpensBelow f.known old.key old.state.reads low high
     → RunsOver open_at base low high first old → RunsOver open_at base low high first new) where
   base_high : (high : ℕ) → old.state.counter + old.state.slack ≤ high → IsBase (λ k. false) old.state.reads old.state.counter high old.state
   base_high high room = record {
@@ -190,15 +189,15 @@ module _ (f : Form) (h : Held) (old new : View) (holding : IsHolding f old.key h
   within : (n : ℕ) → old.state.counter ≤ n → n ≤ old.state.counter + old.state.slack → n < 2 ^ 64 → held f old.key old.state.reads n ≡ Some h
   within n low high fit = holding.each n (record { least = low; greatest = high; fits = fit })
 
-  leaves_by : (o : Result (Option Found) OpenAnswer) → opening_of f.version old.key old.state.reads old.state.counter ≡ o → HeldAs f old.key old.state.reads h o
+  leaves_by : (o : Result (Option Found) OpenAnswer) → opening_of f.known old.key old.state.reads old.state.counter ≡ o → HeldAs f old.key old.state.reads h o
       → LeavesOnly moment left_since old new (λ c. held_of f old.key c ≡ Some h)
   leaves_by (Ok None) e is =
-      leaves_high (old.state.counter + old.state.slack) (omega arith) (λ found opens. absurd (never_found f.version old.key old.state.reads old.state.counter old.state.counter found e opens)) within
+      leaves_high (old.state.counter + old.state.slack) (omega arith) (λ found opens. absurd (never_found f.known old.key old.state.reads old.state.counter old.state.counter found e opens)) within
   leaves_by (Ok (Some found)) e is =
-      let two = opens_at_two f.version old.key old.state.reads old.state.counter found e in
+      let two = opens_at_two f.known old.key old.state.reads old.state.counter found e in
       let bounds : (high : ℕ) → found.header.sequence ≤ high → BoundsBy f old.key old.state high
       = λ high le other opens. (let same : other.header.sequence ≡ found.header.sequence = ap (λ (w : Found). w.header.sequence)
-      (same_found f.version old.key old.state.reads old.state.counter old.state.counter found other e opens) in omega (arith, same, le)) in
+      (same_found f.known old.key old.state.reads old.state.counter old.state.counter found other e opens) in omega (arith, same, le)) in
       ⊎_elim
       (λ (under : found.header.sequence < old.state.counter + old.state.slack).
       leaves_high (old.state.counter + old.state.slack) (omega arith) (bounds (old.state.counter + old.state.slack) (omega (arith, under))) within)
@@ -210,7 +209,7 @@ module _ (f : Form) (h : Held) (old new : View) (holding : IsHolding f old.key h
   leaves_by (Err answer) e is = absurd is
 
   pub leaves_held : LeavesOnly moment left_since old new (λ c. held_of f old.key c ≡ Some h)
-  leaves_held = leaves_by (opening_of f.version old.key old.state.reads old.state.counter) refl (opens_least f old.key h old.state holding fits)
+  leaves_held = leaves_by (opening_of f.known old.key old.state.reads old.state.counter) refl (opens_least f old.key h old.state holding fits)
 
 -- and the board is mounted then
 module _ (f : Form) (framed : IsFramed f) (key : List ℕ) (h : Held) (old new : Moment) (as_read : (k : ℕ) → old.reads k ≡ old.durable k) (pending : (k : ℕ) → old.pending k ≡ false)
@@ -223,41 +222,41 @@ module _ (f : Form) (framed : IsFramed f) (key : List ℕ) (h : Held) (old new :
     slack = settled.slack;
   }
 
-  opens_then : (n : ℕ) (o : Result (Option Found) OpenAnswer) → opening_of f.version key old.reads n ≡ o → opening_of f.version key new.reads n ≡ o
-  opens_then n o e = ap (λ (image : ℕ → List ℕ). opening_of f.version key image n) blocks.reads ∙ e
+  opens_then : (n : ℕ) (o : Result (Option Found) OpenAnswer) → opening_of f.known key old.reads n ≡ o → opening_of f.known key new.reads n ≡ o
+  opens_then n o e = ap (λ (image : ℕ → List ℕ). opening_of f.known key image n) blocks.reads ∙ e
 
-  mounts_by : (n : ℕ) (o : Result (Option Found) OpenAnswer) → opening_of f.version key old.reads n ≡ o → HeldAs f key old.reads h o
+  mounts_by : (n : ℕ) (o : Result (Option Found) OpenAnswer) → opening_of f.known key old.reads n ≡ o → HeldAs f key old.reads h o
       → (found : Option Header) → Ok found ≡ header_answer o → IsSettledAt (sequence_of found) new → MountsTo f key h new found
   mounts_by n (Ok None) e is found answers settled =
       let none : found ≡ None = cc in
-      let zero : n ≡ 0 = blank_at f.version key old.reads n e in
-      let at : opening_of f.version key new.reads h.sequence ≡ opening_of f.version key old.reads n
-      = ap (opening_of f.version key new.reads) (is.1 ∙ sym zero) ∙ ap (λ (image : ℕ → List ℕ). opening_of f.version key image n) blocks.reads in
+      let zero : n ≡ 0 = blank_at f.known key old.reads n e in
+      let at : opening_of f.known key new.reads h.sequence ≡ opening_of f.known key old.reads n
+      = ap (opening_of f.known key new.reads) (is.1 ∙ sym zero) ∙ ap (λ (image : ℕ → List ℕ). opening_of f.known key image n) blocks.reads in
       let settled' : IsSettledAt h.sequence new = subst (λ (s : ℕ). IsSettledAt s new) (ap sequence_of none ∙ sym is.1) settled in
       subst (MountsTo f key h new) (sym none) (
         is.1,
         λ root zeros. record {
           rests = rests_then h.sequence settled';
-          opens = subst (OpensTo h.sequence root) (sym (at ∙ e)) (is.1, zeros);
+          opens = subst (OpensTo f h.sequence root) (sym (at ∙ e)) (is.1, zeros);
           sealed = zero_sealed f framed key root new.reads zeros;
           leaves = is.0 ∙ sym (zero_leaves f framed key root new.reads zeros);
-          version = is.2;
+          version = is.2 ∙ sym zeros.version;
         },
       )
   mounts_by n (Ok (Some w)) e is found answers settled =
       let some : found ≡ Some w.header = cc in
       let same : h.sequence ≡ w.header.sequence = is.3 in
-      let two = opens_at_two f.version key old.reads n w e in
-      let at : opening_of f.version key new.reads h.sequence ≡ Ok (Some w)
-      = ap (opening_of f.version key new.reads) same ∙ opens_then w.header.sequence (Ok (Some w)) (two.2 w.header.sequence (omega arith) (omega arith)) in
+      let two = opens_at_two f.known key old.reads n w e in
+      let at : opening_of f.known key new.reads h.sequence ≡ Ok (Some w)
+      = ap (opening_of f.known key new.reads) same ∙ opens_then w.header.sequence (Ok (Some w)) (two.2 w.header.sequence (omega arith) (omega arith)) in
       let settled' : IsSettledAt h.sequence new = subst (λ (q : ℕ). IsSettledAt q new) (ap sequence_of some ∙ sym same) settled in
       subst (MountsTo f key h new) (sym some) (
         same,
         record {
           rests = rests_then h.sequence settled';
-          opens = subst (OpensTo h.sequence w.header.root) (sym at) (sym same, is.0 ∙ ap (λ (q : ℕ). q % 2) (sym same), refl);
-          sealed = ap (λ (image : ℕ → List ℕ). is_sealed f key image w.header.root) blocks.reads ∙ is.1;
-          leaves = is.2 ∙ ap (λ (image : ℕ → List ℕ). leaves_of f key image w.header.root) (sym blocks.reads);
+          opens = subst (OpensTo f h.sequence (root_of w.header)) (sym at) (sym same, is.0 ∙ ap (λ (q : ℕ). q % 2) (sym same), refl);
+          sealed = ap (λ (image : ℕ → List ℕ). is_sealed f key image (root_of w.header)) blocks.reads ∙ is.1;
+          leaves = is.2 ∙ ap (λ (image : ℕ → List ℕ). leaves_of f key image (root_of w.header)) (sym blocks.reads);
           version = is.4;
         },
       )
@@ -279,45 +278,46 @@ never_refused : (f : Form) (key : List ℕ) (image : ℕ → List ℕ) (h : Held
 never_refused f key image h (Ok found) is answer e = cc
 never_refused f key image h (Err other) is answer e = is
 
-module _ (f : Form) (framed : IsFramed f) (version : ℕ) (same : f.version ≡ version) (h : Held) (old new : View) (holding : IsHolding f old.key h old.state) (fits : old.state.counter < 2 ^ 64)
-    (large : VOLUME_BLOCKS ≤ old.size) where
+module _ (f : Form) (framed : IsFramed f) (format : Format) (serves : IsFormatOf f format) (h : Held) (old new : View) (holding : IsHolding f old.key h old.state) (fits : old.state.counter < 2 ^ 64)
+    (large : f.blocks ≤ old.size) where
   -- on a board that is large enough the answer is that of what the image opens to
-  opens_large : (counter : ℕ) → opens_as version VOLUME_BLOCKS old.size old.key old.state.reads counter ≡ opening_of f.version old.key old.state.reads counter
+  opens_large : (counter : ℕ) → opens_as (accepts format) format.blocks old.size old.key old.state.reads counter ≡ opening_of f.known old.key old.state.reads counter
   opens_large counter =
-      let enough : nat_lt old.size VOLUME_BLOCKS ≡ false = grind arith in
-      rw (enough, same) refl
+      let blocks = serves.blocks in
+      let enough : nat_lt old.size format.blocks ≡ false = grind arith in
+      rw enough (ap (λ (knows : ℕ → Bool). opening_of knows old.key old.state.reads counter) (sym serves.known))
 
-  after_least : (o : Result (Option Found) OpenAnswer) → opening_of f.version old.key old.state.reads old.state.counter ≡ o → HeldAs f old.key old.state.reads h o
-      → (n : ℕ) (found : Found) → opening_of f.version old.key old.state.reads n ≡ Ok (Some found) → opened_by o h ≡ h
-  after_least (Ok None) e is n found opens = absurd (never_found f.version old.key old.state.reads old.state.counter n found e opens)
+  after_least : (o : Result (Option Found) OpenAnswer) → opening_of f.known old.key old.state.reads old.state.counter ≡ o → HeldAs f old.key old.state.reads h o
+      → (n : ℕ) (found : Found) → opening_of f.known old.key old.state.reads n ≡ Ok (Some found) → opened_by o h ≡ h
+  after_least (Ok None) e is n found opens = absurd (never_found f.known old.key old.state.reads old.state.counter n found e opens)
   after_least (Ok (Some other)) e is n found opens = refl
   after_least (Err answer) e is n found opens = absurd is
 
-  after_by : (n : ℕ) → IsCounter old.state n → (o : Result (Option Found) OpenAnswer) → opening_of f.version old.key old.state.reads n ≡ o → HeldAs f old.key old.state.reads h o
+  after_by : (n : ℕ) → IsCounter old.state n → (o : Result (Option Found) OpenAnswer) → opening_of f.known old.key old.state.reads n ≡ o → HeldAs f old.key old.state.reads h o
       → (found : Option Header) → Ok found ≡ header_answer o → after_found found h ≡ after_opening f old h
   after_by n among (Ok None) e is found answers =
       let none : found ≡ None = cc in
-      let zero : n ≡ 0 = blank_at f.version old.key old.state.reads n e in
+      let zero : n ≡ 0 = blank_at f.known old.key old.state.reads n e in
       let least : old.state.counter ≡ n = omega (arith, zero, among.least) in
-      let at : opening_of f.version old.key old.state.reads old.state.counter ≡ Ok None = ap (opening_of f.version old.key old.state.reads) least ∙ e in
+      let at : opening_of f.known old.key old.state.reads old.state.counter ≡ Ok None = ap (opening_of f.known old.key old.state.reads) least ∙ e in
       ap (λ (w : Option Header). after_found w h) none ∙ sym (ap (λ (o : Result (Option Found) OpenAnswer). opened_by o h) at)
   after_by n among (Ok (Some v)) e is found answers =
       let some : found ≡ Some v.header = cc in
       ap (λ (w : Option Header). after_found w h) some
-      ∙ sym (after_least (opening_of f.version old.key old.state.reads old.state.counter) refl (opens_least f old.key h old.state holding fits) n v e)
+      ∙ sym (after_least (opening_of f.known old.key old.state.reads old.state.counter) refl (opens_least f old.key h old.state holding fits) n v e)
   after_by n among (Err answer) e is found answers = absurd is
 
-  found_by : (result : Result (Option Header) OpenAnswer) → Finds version VOLUME_BLOCKS old.size old.key old.state new.state result → SameBlocks old.state new.state
+  found_by : (result : Result (Option Header) OpenAnswer) → Finds (accepts format) format.blocks old.size old.key old.state new.state result → SameBlocks old.state new.state
       → IfOk result (λ found. IsSettledAt (sequence_of found) new.state)
       → IfOk result (λ found. MountsTo f old.key h new.state found × (after_found found h ≡ after_opening f old h)) × IfErr result (λ why. why ≡ Failed)
   found_by (Ok found) finds blocks settled =
-      let opening = opening_of f.version old.key old.state.reads finds.counter in
-      let answers : Ok found ≡ header_answer (opening_of f.version old.key old.state.reads finds.counter) = finds.ruled (λ w. cc) ∙ ap header_answer (opens_large finds.counter) in
+      let opening = opening_of f.known old.key old.state.reads finds.counter in
+      let answers : Ok found ≡ header_answer (opening_of f.known old.key old.state.reads finds.counter) = finds.ruled (λ w. cc) ∙ ap header_answer (opens_large finds.counter) in
       let is = holds_as f old.key old.state.reads finds.counter h (holding.each finds.counter finds.among) in (
         (
-          mounts_by f framed old.key h old.state new.state holding.as_read holding.pending blocks finds.counter (opening_of f.version old.key old.state.reads finds.counter) refl is
+          mounts_by f framed old.key h old.state new.state holding.as_read holding.pending blocks finds.counter (opening_of f.known old.key old.state.reads finds.counter) refl is
               found answers settled,
-          after_by finds.counter finds.among (opening_of f.version old.key old.state.reads finds.counter) refl is found answers,
+          after_by finds.counter finds.among (opening_of f.known old.key old.state.reads finds.counter) refl is found answers,
         ),
         tt,
       )
@@ -325,12 +325,12 @@ module _ (f : Form) (framed : IsFramed f) (version : ℕ) (same : f.version ≡ 
       let is = holds_as f old.key old.state.reads finds.counter h (holding.each finds.counter finds.among) in (
         tt,
         is_failure answer (λ other.
-            never_refused f old.key old.state.reads h (opening_of f.version old.key old.state.reads finds.counter) is answer (finds.ruled other ∙ ap header_answer (opens_large finds.counter))),
+            never_refused f old.key old.state.reads h (opening_of f.known old.key old.state.reads finds.counter) is answer (finds.ruled other ∙ ap header_answer (opens_large finds.counter))),
       )
 
-  pub mounts_found : (result : Result (Option Header) OpenAnswer) → Finds version VOLUME_BLOCKS old.size old.key old.state new.state result → SameBlocks old.state new.state
+  pub mounts_found : (result : Result (Option Header) OpenAnswer) → Finds (accepts format) format.blocks old.size old.key old.state new.state result → SameBlocks old.state new.state
       → IfOk result (λ found. IsSettledAt (sequence_of found) new.state)
-      → ((open_at : ℕ → Bool) (base : ℕ → List ℕ) (low high : ℕ) (first : View) → OpensBelow version old.key old.state.reads low high
+      → ((open_at : ℕ → Bool) (base : ℕ → List ℕ) (low high : ℕ) (first : View) → OpensBelow (accepts format) old.key old.state.reads low high
       → RunsOver open_at base low high first old → RunsOver open_at base low high first new)
       → Mounts f h result old new
   mounts_found result finds blocks settled goes =
@@ -339,7 +339,7 @@ module _ (f : Form) (framed : IsFramed f) (version : ℕ) (same : f.version ≡ 
         mounted = both.0;
         failed = both.1;
         leaves = leaves_held f h old new holding fits (λ open_at base low high first below.
-            goes open_at base low high first (subst (λ (v : ℕ). OpensBelow v old.key old.state.reads low high) same below));
+            goes open_at base low high first (subst (λ (knows : ℕ → Bool). OpensBelow knows old.key old.state.reads low high) serves.known below));
       }
 
 -- a board as it reads is among what a crash may leave
@@ -499,7 +499,7 @@ module _ (f : Form) (old mid : View) (key : mid.key ≡ old.key) (time : Passes 
 
 -- what the rule says of a board that has the same size and key, and reads so
 module _ (f : Form) (old mid : View) (size : mid.size ≡ old.size) (key : mid.key ≡ old.key) (image base : ℕ → List ℕ) (counter n : ℕ) (reads : image ≡ base) (count : counter ≡ n) where
-  same_rule : opens_as f.version BOARD_BLOCKS old.size old.key base n ≡ opens_as f.version BOARD_BLOCKS mid.size mid.key image counter
+  same_rule : opens_as f.known f.blocks old.size old.key base n ≡ opens_as f.known f.blocks mid.size mid.key image counter
   same_rule = rw (sym size, sym key, sym reads, sym count) refl
 
   refusal_moved : (why : OpenAnswer) → IsRefusal f mid image counter why → IsRefusal f old base n why
@@ -522,12 +522,12 @@ refused_as (Ok found) why e = absurd (cc)
 refused_as (Err other) why e = cc
 
 -- an answer that is the rule's, where no call of the board failed
-module _ (f : Form) (version : ℕ) (same : f.version ≡ version) (view : View) (image : ℕ → List ℕ) (counter : ℕ) where
-  version_as : opens_as version VOLUME_BLOCKS view.size view.key image counter ≡ opens_as f.version BOARD_BLOCKS view.size view.key image counter
-  version_as = rw same refl
+module _ (f : Form) (format : Format) (serves : IsFormatOf f format) (view : View) (image : ℕ → List ℕ) (counter : ℕ) where
+  format_as : opens_as (accepts format) format.blocks view.size view.key image counter ≡ opens_as f.known f.blocks view.size view.key image counter
+  format_as = λ i. opens_as (sym serves.known i) (sym serves.blocks i) view.size view.key image counter
 
   refusal_as : (why : OpenAnswer)
-      → (let refused : Result (Option Header) OpenAnswer = Err why in IsRuled refused (opens_as f.version BOARD_BLOCKS view.size view.key image counter)) → IsRefusal f view image counter why
+      → (let refused : Result (Option Header) OpenAnswer = Err why in IsRuled refused (opens_as f.known f.blocks view.size view.key image counter)) → IsRefusal f view image counter why
   refusal_as (TooSmall m) ruled = refused_as _ _ (ruled (λ w. cc))
   refusal_as (NoVolume m) ruled = refused_as _ _ (ruled (λ w. cc))
   refusal_as (BadHeader slot found kept) ruled = refused_as _ _ (ruled (λ w. cc))
@@ -537,12 +537,12 @@ module _ (f : Form) (version : ℕ) (same : f.version ≡ version) (view : View)
   refusal_as Failed ruled = tt
   refusal_as NoMemory ruled = tt
 
-  ruled_as : (result : Result (Option Header) OpenAnswer) → IsRuled result (opens_as f.version BOARD_BLOCKS view.size view.key image counter) → IsRuledBy f view image counter result
+  ruled_as : (result : Result (Option Header) OpenAnswer) → IsRuled result (opens_as f.known f.blocks view.size view.key image counter) → IsRuledBy f view image counter result
   ruled_as (Ok found) ruled = (tt, sym (ruled (λ w. cc)))
   ruled_as (Err why) ruled = (refusal_as why ruled, tt)
 
-  pub ruled_by : (result : Result (Option Header) OpenAnswer) → IsRuled result (opens_as version VOLUME_BLOCKS view.size view.key image counter) → IsRuledBy f view image counter result
-  ruled_by result ruled = ruled_as result (subst (IsRuled result) version_as ruled)
+  pub ruled_by : (result : Result (Option Header) OpenAnswer) → IsRuled result (opens_as (accepts format) format.blocks view.size view.key image counter) → IsRuledBy f view image counter result
+  ruled_by result ruled = ruled_as result (subst (IsRuled result) format_as ruled)
 
 -- a refusal is of the board as it reads then
 module _ (f : Form) (old new : View) (size : new.size ≡ old.size) (key : new.key ≡ old.key) (reads : new.state.reads ≡ old.state.reads) (counter : ℕ) where
@@ -558,11 +558,11 @@ module _ (f : Form) (old new : View) (size : new.size ≡ old.size) (key : new.k
   now_refused NoMemory among e = tt
 
 -- the same of what a search answers
-pub found_refused : (version : ℕ) (old new : View) (result : Result (Option Header) OpenAnswer) → new.size ≡ old.size → new.key ≡ old.key → new.state.reads ≡ old.state.reads
-    → Finds version VOLUME_BLOCKS old.size old.key old.state new.state result → IfErr result (λ why. (f : Form) → f.version ≡ version → IsRefusedNow f new why)
-found_refused version old new (Ok found) size key reads finds = tt
-found_refused version old new (Err why) size key reads finds = λ f same.
-    now_refused f old new size key reads finds.counter why finds.still (ruled_by f version same old old.state.reads finds.counter (Err why) finds.ruled).0
+pub found_refused : (format : Format) (old new : View) (result : Result (Option Header) OpenAnswer) → new.size ≡ old.size → new.key ≡ old.key → new.state.reads ≡ old.state.reads
+    → Finds (accepts format) format.blocks old.size old.key old.state new.state result → IfErr result (λ why. (f : Form) → IsFormatOf f format → IsRefusedNow f new why)
+found_refused format old new (Ok found) size key reads finds = tt
+found_refused format old new (Err why) size key reads finds = λ f serves.
+    now_refused f old new size key reads finds.counter why finds.still (ruled_by f format serves old old.state.reads finds.counter (Err why) finds.ruled).0
 
 -- what only keeps a board from being opened is no refusal
 pub kept_refused : {A : Type 0} (f : Form) (view : View) (result : Result A OpenAnswer) → IfErr result (λ why. IsKeptFromOpening why) → IfErr result (λ why. IsRefusedNow f view why)
@@ -573,28 +573,28 @@ kept_refused f view (Err why) kept = ⊎_elim
     kept
 
 -- where the rule opens with this header, or with none, what takes it up is admitted
-admitted_as : (rule : Result (Option Found) OpenAnswer) (blank sequence : ℕ) (root : TreeEntry) (found : Option Header) → header_answer rule ≡ Ok found → TakesUp found blank sequence root
-    → (one : Option Found) × (rule ≡ Ok one) × TakesUp (found_header one) blank sequence root
-admitted_as (Ok one) blank sequence root found answers is =
+admitted_as : (f : Form) (rule : Result (Option Found) OpenAnswer) (blank sequence : ℕ) (root : Root) (found : Option Header) → header_answer rule ≡ Ok found → TakesUp f found blank sequence root
+    → (one : Option Found) × (rule ≡ Ok one) × TakesUp f (found_header one) blank sequence root
+admitted_as f (Ok one) blank sequence root found answers is =
     let same : found ≡ found_header one = cc in
-    (one, refl, subst (λ (h : Option Header). TakesUp h blank sequence root) same is)
-admitted_as (Err answer) blank sequence root found answers is = absurd (cc)
+    (one, refl, subst (λ (h : Option Header). TakesUp f h blank sequence root) same is)
+admitted_as f (Err answer) blank sequence root found answers is = absurd (cc)
 
-pub admitted_by : (f : Form) (view : View) (image : ℕ → List ℕ) (counter blank sequence : ℕ) (root : TreeEntry) (found : Option Header)
-    → header_answer (opens_as f.version BOARD_BLOCKS view.size view.key image counter) ≡ Ok found → TakesUp found blank sequence root
+pub admitted_by : (f : Form) (view : View) (image : ℕ → List ℕ) (counter blank sequence : ℕ) (root : Root) (found : Option Header)
+    → header_answer (opens_as f.known f.blocks view.size view.key image counter) ≡ Ok found → TakesUp f found blank sequence root
     → IsAdmitted f view image counter blank sequence root
 admitted_by f view image counter blank sequence root found answers is =
-    admitted_as (opens_as f.version BOARD_BLOCKS view.size view.key image counter) blank sequence root found answers is
+    admitted_as f (opens_as f.known f.blocks view.size view.key image counter) blank sequence root found answers is
 
 -- a board that is mounted at a sequence is refused at every greater counter
-pub mounted_refuses : (f : Form) (key : List ℕ) (root : TreeEntry) (h : Held) (m : Moment) → IsMounted f key root h m → 0 < h.sequence → (c : ℕ) → h.sequence < c
-    → opening_of f.version key m.reads c ≡ Err (Rollback h.sequence c)
-mounted_refuses f key root h m mounted some c above = refused_by (opening_of f.version key m.reads h.sequence) refl mounted.opens where
-  refused_by : (o : Result (Option Found) OpenAnswer) → opening_of f.version key m.reads h.sequence ≡ o → OpensTo h.sequence root o
-      → opening_of f.version key m.reads c ≡ Err (Rollback h.sequence c)
+pub mounted_refuses : (f : Form) (key : List ℕ) (root : Root) (h : Held) (m : Moment) → IsMounted f key root h m → 0 < h.sequence → (c : ℕ) → h.sequence < c
+    → opening_of f.known key m.reads c ≡ Err (Rollback h.sequence c)
+mounted_refuses f key root h m mounted some c above = refused_by (opening_of f.known key m.reads h.sequence) refl mounted.opens where
+  refused_by : (o : Result (Option Found) OpenAnswer) → opening_of f.known key m.reads h.sequence ≡ o → OpensTo f h.sequence root o
+      → opening_of f.known key m.reads c ≡ Err (Rollback h.sequence c)
   refused_by (Ok None) e opens = absurd (omega (arith, some, opens.0))
   refused_by (Ok (Some found)) e opens =
-      refuses_rollback f.version key m.reads h.sequence c found e (omega (arith, above, opens.0))
+      refuses_rollback f.known key m.reads h.sequence c found e (omega (arith, above, opens.0))
       ∙ ap (λ (n : ℕ). let r : Result (Option Found) OpenAnswer = Err (Rollback n c) in r) opens.0
   refused_by (Err answer) e opens = absurd opens
 
@@ -603,16 +603,16 @@ pub failed_ok : {A : Type 0} (r : Result A OpenAnswer) (P : A → Type 0) → r 
 failed_ok r P is = subst (λ (x : Result _ OpenAnswer). IfOk x P) (sym is) tt
 
 -- a counter that is settled at what was found is settled at what is taken up
-pub taken_counter : (found : Option Header) (sequence : ℕ) (root : TreeEntry) (m : Moment) → TakesUp found 0 sequence root → IsSettledAt (sequence_of found) m → IsSettledAt sequence m
-taken_counter None sequence root m takes settled = subst (λ (n : ℕ). IsSettledAt n m) (sym takes.0) settled
-taken_counter (Some header) sequence root m takes settled = subst (λ (n : ℕ). IsSettledAt n m) takes.0 settled
+pub taken_counter : (f : Form) (found : Option Header) (sequence : ℕ) (root : Root) (m : Moment) → TakesUp f found 0 sequence root → IsSettledAt (sequence_of found) m → IsSettledAt sequence m
+taken_counter f None sequence root m takes settled = subst (λ (n : ℕ). IsSettledAt n m) (sym takes.0) settled
+taken_counter f (Some header) sequence root m takes settled = subst (λ (n : ℕ). IsSettledAt n m) takes.0 settled
 
 -- a reopening that ends before its sync is done
 pub stopped : {f : Form} {result failed : Result (Option Header) OpenAnswer} {old new : View} → result ≡ failed → MountsAgain f failed old new → MountsAgain f result old new
 stopped {f} {result} {failed} {old} {new} same again = subst (λ (r : Result (Option Header) OpenAnswer). MountsAgain f r old new) (sym same) again
 
 -- a board that is mounted with this leaves it
-pub mounted_left : (f : Form) (framed : IsFramed f) (root : TreeEntry) (h : Held) (view : View) → IsMounted f view.key root h view.state → (c : Outcome) → IsLeft view.state c
+pub mounted_left : (f : Form) (framed : IsFramed f) (root : Root) (h : Held) (view : View) → IsMounted f view.key root h view.state → (c : Outcome) → IsLeft view.state c
     → held_of f view.key c ≡ Some h
 mounted_left f framed root h view mounted c left =
     let rests = mounted.rests in
@@ -620,7 +620,7 @@ mounted_left f framed root h view mounted c left =
     let whole : c.image ≡ view.state.reads = λ i k. image k i in
     let counter : c.counter ≡ h.sequence = omega (arith, left.counter.least, left.counter.greatest, rests.counter, rests.slack) in
     held_before f framed view.key root h view.state c.image c.counter mounted
-    (ap (opening_of f.version view.key c.image) counter ∙ ap (λ (g : ℕ → List ℕ). opening_of f.version view.key g h.sequence) whole)
+    (ap (opening_of f.known view.key c.image) counter ∙ ap (λ (g : ℕ → List ℕ). opening_of f.known view.key g h.sequence) whole)
     (λ k used. image k)
 
 -- a board at rest holds what it reads
@@ -688,3 +688,40 @@ rests_above f key view h same each o left =
     let now : IsLeft view.state left.0 = ⊎_elim (λ (x : IsLeft view.state left.0). x) (λ (was : WasLeft view.past (moment view) left.0). absurd
     (none_now view.past (moment view) left.0 (omega arith) was)) left.1 in
     left.2 ∙ ap (λ (k : List ℕ). held_of f k left.0) same ∙ each left.0 now
+
+-- what the opening of a form of one version makes
+module _ (f : Form) (single : (version : ℕ) → f.known version ≡ true → (version == f.version) ≡ true) where
+  not_known : (b : Bool) → not b ≡ false → b ≡ true
+  not_known true e = refl
+  not_known false e = absurd (cc)
+
+  makes_of : (key : List ℕ) (image : ℕ → List ℕ) (n : ℕ) (h : Held) (r : Result (Option Found) OpenAnswer) → opening_of f.known key image n ≡ r → HeldAs f key image h r
+      → MakesOf f r h (opened_by r h)
+  unfolding opening_of
+  makes_of key image n h (Ok None) e is = record { leaves = refl; sequence = omega (arith, is.1); version = is.2 }
+  makes_of key image n h (Ok (Some w)) e is =
+      let known = (asked f.known (slot_of key image 0) (slot_of key image 1) n w e).counts.known in
+      subst (λ (b : Bool). MakesBy f b h h) (sym (single w.header.version (not_known (f.known w.header.version) known))) refl
+  makes_of key image n h (Err answer) e is = absurd is
+
+  pub opened_to : (view : View) (n : ℕ) (h : Held) → Rests n view.state → held f view.key view.state.reads n ≡ Some h → IsOpenedTo f view h (after_opening f view h)
+  opened_to view n h rests is =
+      let here : held f view.key view.state.reads view.state.counter ≡ Some h = ap (held f view.key view.state.reads) rests.counter ∙ is in
+      makes_of view.key view.state.reads view.state.counter h (opening_of f.known view.key view.state.reads view.state.counter) refl
+      (holds_as f view.key view.state.reads view.state.counter h here)
+
+-- a crash that leaves what was held, or what an opening makes of it
+pub leaves_opening : (f : Form) (old new : View) (h after : Held) → IsOpenedTo f old h after
+    → LeavesOnly moment left_since old new (λ c. (held_of f old.key c ≡ Some h) ⊎ (held_of f old.key c ≡ Some after)) → LeavesOpening f h old new
+leaves_opening f old new h after makes run =
+    weaker moment left_since old new (λ c. (held_of f old.key c ≡ Some h) ⊎ (held_of f old.key c ≡ Some after)) (LeftByOpening f h old)
+    (λ c is. ⊎_elim (λ (e : held_of f old.key c ≡ Some h). inl e) (λ (e : held_of f old.key c ≡ Some after). inr (after, e, makes)) is) run
+
+-- whatever an opening makes of what is held has the same leaves
+pub opening_keeps : (f : Form) (r : Result (Option Found) OpenAnswer) (before after : Held) → MakesOf f r before after → after.leaves ≡ before.leaves
+opening_keeps f (Ok None) before after makes = makes.leaves
+opening_keeps f (Ok (Some found)) before after makes = by_version (found.header.version == f.version) makes where
+  by_version : (b : Bool) → MakesBy f b before after → after.leaves ≡ before.leaves
+  by_version true same = ap (λ (h : Held). h.leaves) same
+  by_version false makes = makes.leaves
+opening_keeps f (Err answer) before after same = ap (λ (h : Held). h.leaves) same

@@ -40,32 +40,32 @@ differs k at ne = grind arith
 pub is_itself : (k : ℕ) → (k == k) ≡ true
 is_itself k = grind arith
 
-module _ (version n slot : ℕ) (old new : View) (below : slot < 2) where
-  pub shut_crash : CountsElsewhere slot (opening_of version old.key old.state.reads n)
+module _ (knows : ℕ → Bool) (n slot : ℕ) (old new : View) (below : slot < 2) where
+  pub shut_crash : CountsElsewhere slot (opening_of knows old.key old.state.reads n)
       → RunsOver (shut_writes slot old.state.reads) old.state.reads n n old new
-      → LeavesOnly moment left_since old new (λ c. outcome_opening version old.key c ≡ opening_of version old.key old.state.reads n)
+      → LeavesOnly moment left_since old new (λ c. outcome_opening knows old.key c ≡ opening_of knows old.key old.state.reads n)
   shut_crash other run =
-      weaker moment left_since old new (LeavesBase (shut_writes slot old.state.reads) old.state.reads n n) (λ c. outcome_opening version old.key c ≡ opening_of version old.key old.state.reads n)
+      weaker moment left_since old new (LeavesBase (shut_writes slot old.state.reads) old.state.reads n n) (λ c. outcome_opening knows old.key c ≡ opening_of knows old.key old.state.reads n)
       (λ c leaves. let same : c.counter ≡ n = omega (arith, leaves.least, leaves.greatest) in
-      ap (λ (k : ℕ). opening_of version old.key c.image k) same ∙ shut_opens version old.key old.state.reads c.image n slot below leaves.image other)
+      ap (λ (k : ℕ). opening_of knows old.key c.image k) same ∙ shut_opens knows old.key old.state.reads c.image n slot below leaves.image other)
       run.leaves
 
   pub lay_crash : gate_open (old.state.reads (gate_at slot)) ≡ false → RunsOver (λ k. k == header_at slot) old.state.reads n n old new
-      → LeavesOnly moment left_since old new (λ c. outcome_opening version old.key c ≡ opening_of version old.key old.state.reads n)
+      → LeavesOnly moment left_since old new (λ c. outcome_opening knows old.key c ≡ opening_of knows old.key old.state.reads n)
   lay_crash shut run =
-      weaker moment left_since old new (LeavesBase (λ k. k == header_at slot) old.state.reads n n) (λ c. outcome_opening version old.key c ≡ opening_of version old.key old.state.reads n)
+      weaker moment left_since old new (LeavesBase (λ k. k == header_at slot) old.state.reads n n) (λ c. outcome_opening knows old.key c ≡ opening_of knows old.key old.state.reads n)
       (λ c leaves. let same : c.counter ≡ n = omega (arith, leaves.least, leaves.greatest) in
-      ap (λ (k : ℕ). opening_of version old.key c.image k) same ∙ lay_opens version old.key old.state.reads c.image n slot below (λ k ne. leaves.image k (differs k (header_at slot) ne)) shut)
+      ap (λ (k : ℕ). opening_of knows old.key c.image k) same ∙ lay_opens knows old.key old.state.reads c.image n slot below (λ k ne. leaves.image k (differs k (header_at slot) ne)) shut)
       run.leaves
 
-  pub flip_crash : (header : Header) → IsLaid version old.key slot n header old.state
+  pub flip_crash : (header : Header) → IsLaid knows old.key slot n header old.state
       → LeavesOnly moment left_since old new (LeavesFlip slot old.state.reads n)
-      → LeavesOnly moment left_since old new (λ c. (outcome_opening version old.key c ≡ opening_of version old.key old.state.reads n) ⊎
-      (outcome_opening version old.key c ≡ Ok (Some (record { header = header; slot = slot }))))
+      → LeavesOnly moment left_since old new (λ c. (outcome_opening knows old.key c ≡ opening_of knows old.key old.state.reads n) ⊎
+      (outcome_opening knows old.key c ≡ Ok (Some (record { header = header; slot = slot }))))
   flip_crash header laid run =
       weaker moment left_since old new (LeavesFlip slot old.state.reads n)
-      (λ c. (outcome_opening version old.key c ≡ opening_of version old.key old.state.reads n) ⊎ (outcome_opening version old.key c ≡ Ok (Some (record { header = header; slot = slot }))))
-      (λ c leaves. flip_opens version old.key slot n header old.state c below laid leaves)
+      (λ c. (outcome_opening knows old.key c ≡ opening_of knows old.key old.state.reads n) ⊎ (outcome_opening knows old.key c ≡ Ok (Some (record { header = header; slot = slot }))))
+      (λ c leaves. flip_opens knows old.key slot n header old.state c below laid leaves)
       run
 
 -- before the counter is advanced a flip changes the gate alone
@@ -127,11 +127,11 @@ flip_after slot n base first old new (Err e) is run answered advanced =
     (omega (arith, left.counter.greatest, failed.0, failed.1, is.counter, is.slack)))
 
 -- a flip that is done opens to the header that was laid
-pub flip_opened : (version : ℕ) (key : List ℕ) (slot n m : ℕ) (header : Header) (old new : Moment) → slot < 2 → IsLaid version key slot n header old
-    → IsFlipped slot m old new → opening_of version key new.reads m ≡ Ok (Some (record { header = header; slot = slot }))
-flip_opened version key slot n m header old new below laid flipped =
+pub flip_opened : (knows : ℕ → Bool) (key : List ℕ) (slot n m : ℕ) (header : Header) (old new : Moment) → slot < 2 → IsLaid knows key slot n header old
+    → IsFlipped slot m old new → opening_of knows key new.reads m ≡ Ok (Some (record { header = header; slot = slot }))
+flip_opened knows key slot n m header old new below laid flipped =
     let next : m ≡ n + 1 = omega (arith, flipped.positive, flipped.among.least, flipped.among.greatest, laid.rests.counter, laid.rests.slack) in
-    flip_open version key n header old new.reads m (omega (arith, next)) (omega (arith, next)) slot below laid flipped.elsewhere flipped.gate
+    flip_open knows key n header old new.reads m (omega (arith, next)) (omega (arith, next)) slot below laid flipped.elsewhere flipped.gate
 
 -- after a write to a block and a sync
 pub synced_write : (block : ℕ) (bytes : List ℕ) (old mid new : Moment) → Wrote block bytes true old mid → Synced true mid new → SyncedBut block old new
@@ -190,8 +190,8 @@ flip_answers slot block start mid old new (Err e) at wrote synced advanced = tt
 -- and what the board then opens to
 pub opened_answers : (key : List ℕ) (slot : ℕ) (start new : Moment) (result : Result ℕ BoardFailed) → slot < 2
     → IfOk result (λ m. IsFlipped slot m start new)
-    → IfOk result (λ m. (version n : ℕ) (header : Header) → IsLaid version key slot n header start → opening_of version key new.reads m ≡ Ok (Some (record { header = header; slot = slot })))
-opened_answers key slot start new (Ok m) below flipped = λ version n header laid. flip_opened version key slot n m header start new below laid flipped
+    → IfOk result (λ m. (knows : ℕ → Bool) (n : ℕ) (header : Header) → IsLaid knows key slot n header start → opening_of knows key new.reads m ≡ Ok (Some (record { header = header; slot = slot })))
+opened_answers key slot start new (Ok m) below flipped = λ knows n header laid. flip_opened knows key slot n m header start new below laid flipped
 opened_answers key slot start new (Err e) below flipped = tt
 
 -- the write of a flip

@@ -3,31 +3,30 @@ use Rattle.std.specs.Prelude.{◌≡◌, ◌⊎◌, ℕ, ◌+◌, ◌%◌, ◌==
 use Rattle.store_api.specs.Volumes.{Held}
 use Rattle.board.specs.Moment.{Outcome, Moment, View}
 use Rattle.board.specs.Runs.{Rests}
-use Rattle.epoch.specs.Forms.{Form, SameUsed, held_of, is_sealed, leaves_of}
+use Rattle.epoch.specs.Forms.{Form, SameUsed, IsBlankRoot, Root, held_of, is_sealed, leaves_of, root_of}
 use Rattle.epoch.specs.Gates.{header_at}
 use Rattle.epoch.specs.Opening.{opening_of}
 use Rattle.epoch.specs.declared.answer.OpenAnswer.{OpenAnswer}
-use Rattle.epoch.specs.declared.header.TreeEntry.{TreeEntry}
 use Rattle.epoch.specs.declared.rule.Found.{Found}
 
--- a header of this sequence counts, in its slot, with this root; or the board is blank, as is a root of sequence 0
-abbrev pub OpensTo : ℕ → TreeEntry → Result (Option Found) OpenAnswer → Type 0
-OpensTo sequence root (Ok None) = (sequence ≡ 0) × (root.sequence ≡ 0)
-OpensTo sequence root (Ok (Some found)) =
-    (found.header.sequence ≡ sequence) × (found.slot ≡ sequence % 2) × (found.header.root ≡ root)
-OpensTo sequence root (Err answer) = ⊥
+-- a header of this sequence counts, in its slot, with this root; or the board is blank, as is the root
+abbrev pub OpensTo : Form → ℕ → Root → Result (Option Found) OpenAnswer → Type 0
+OpensTo f sequence root (Ok None) = (sequence ≡ 0) × IsBlankRoot f root
+OpensTo f sequence root (Ok (Some found)) =
+    (found.header.sequence ≡ sequence) × (found.slot ≡ sequence % 2) × (root_of found.header ≡ root)
+OpensTo f sequence root (Err answer) = ⊥
 
 -- a board at rest with a sound image: under this root it holds this, and the counter is the sequence
-pub record IsMounted (f : Form) (key : List ℕ) (root : TreeEntry) (held : Held) (m : Moment)
+pub record IsMounted (f : Form) (key : List ℕ) (root : Root) (held : Held) (m : Moment)
     : Type 0 where
   pub rests : Rests held.sequence m
-  pub opens : OpensTo held.sequence root (opening_of f.version key m.reads held.sequence)
+  pub opens : OpensTo f held.sequence root (opening_of f.known key m.reads held.sequence)
   pub sealed : is_sealed f key m.reads root ≡ true
   pub leaves : held.leaves ≡ leaves_of f key m.reads root
-  pub version : held.version ≡ f.version
+  pub version : held.version ≡ root.version
 
 -- a commit to the sequence after this one begins over a board that is mounted with this under a root, with a change that fits it
-pub record IsBegun (f : Form) (Fits : List ℕ → (ℕ → List ℕ) → Type 0) (view : View) (root : TreeEntry)
+pub record IsBegun (f : Form) (Fits : List ℕ → (ℕ → List ℕ) → Type 0) (view : View) (root : Root)
     (sequence : ℕ) (before : Held) : Type 0 where
   pub last : before.sequence ≡ sequence
   pub mounted : IsMounted f view.key root before view.state
@@ -35,11 +34,11 @@ pub record IsBegun (f : Form) (Fits : List ℕ → (ℕ → List ℕ) → Type 0
 
 -- the blocks that a commit to this slot may write: the slot's header, and behind the slots those that the root in use
 -- doesn't
-abbrev pub spare : Form → List ℕ → (ℕ → List ℕ) → TreeEntry → ℕ → ℕ → Bool
+abbrev pub spare : Form → List ℕ → (ℕ → List ℕ) → Root → ℕ → ℕ → Bool
 spare f key base root slot k = (k == header_at slot) || (nat_lt 3 k && not (f.uses key base root k))
 
 -- what a commit's copies hold once they are written: under the new root these leaves, sealed
-pub record IsWritten (f : Form) (key : List ℕ) (root : TreeEntry) (leaves : ℕ → ℕ → List ℕ)
+pub record IsWritten (f : Form) (key : List ℕ) (root : Root) (leaves : ℕ → ℕ → List ℕ)
     (reads : ℕ → List ℕ) : Type 0 where
   pub sealed : is_sealed f key reads root ≡ true
   pub leaves_are : leaves_of f key reads root ≡ leaves
@@ -54,7 +53,7 @@ BeforeOrAfter f key before after c =
     (held_of f key c ≡ Some before) ⊎ (held_of f key c ≡ Some after)
 
 -- the blocks on the ways to the leaves of a root read as in a base, and no crash may change them
-pub record IsSteady (f : Form) (key : List ℕ) (root : TreeEntry) (m : Moment) : Type 0 where
+pub record IsSteady (f : Form) (key : List ℕ) (root : Root) (m : Moment) : Type 0 where
   pub base : ℕ → List ℕ
   pub same : SameUsed f key root base m.reads
   pub pending : (k : ℕ) → f.uses key base root k ≡ true → m.pending k ≡ false

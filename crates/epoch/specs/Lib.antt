@@ -1,12 +1,16 @@
 pub mod Commits
+pub mod Copies
 pub mod Finding
+pub mod Formats
 pub mod Forms
 pub mod Gates
 pub mod Header
+pub mod Keeping
 pub mod Laws
 pub mod Mounting
 pub mod Mounts
 pub mod Opening
+pub mod Opens
 pub mod Parts
 pub mod Past
 pub mod Reading

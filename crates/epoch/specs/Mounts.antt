@@ -1,29 +1,41 @@
 -- What the opening of a volume on a board promises, and its reopening, a loss of power and a fuse, over the form of the
 -- leaves.
-use Rattle.std.specs.Prelude.{◌≡◌, ◌≤◌, ◌⊎◌, ◌+◌, ◌%◌, ◌^◌, ℕ, List, ◌∷◌, false, true, Option, Some, None, Result, Ok, Err, IfErr, IfOk, OnErr}
+use Rattle.std.specs.Prelude.{◌≡◌, ◌≤◌, ◌<◌, ◌⊎◌, ◌+◌, ◌%◌, ◌^◌, ◌==◌, ℕ, Bool, List, ◌∷◌, false, true, Option, Some, None, Result, Ok, Err, IfErr, IfOk, OnErr}
 use Rattle.tee_base.specs.Crash.{LeavesOnly, read_as}
-use Rattle.tee_base.specs.declared.limits.TheConstants.{BOARD_BLOCKS}
+use Rattle.tee_base.specs.declared.limits.TheConstants.{MAX_HOSTS}
 use Rattle.store_api.specs.Volumes.{Held, RestsAt, VolumeKeeper}
 use Rattle.board.specs.Moment.{IsBehind, IsCounter, Outcome, View, left_since, moment}
 use Rattle.board.specs.Steps.{Passes, Powered}
-use Rattle.epoch.specs.Forms.{Form, held_of}
+use Rattle.epoch.specs.Forms.{Form, Root, held_of, root_of}
 use Rattle.epoch.specs.Opening.{found_header, header_answer, opening_of, opens_as}
 use Rattle.epoch.specs.declared.answer.OpenAnswer.{OpenAnswer}
 use Rattle.epoch.specs.declared.answer.OpenAnswer.TheVariants as answers
 use Rattle.epoch.specs.declared.header.Header.{Header}
-use Rattle.epoch.specs.declared.header.TreeEntry.{TreeEntry}
 use Rattle.epoch.specs.declared.rule.Found.{Found}
 
--- what is held once a board that opens so was opened: one that was blank was formatted, to the sequence 1
-abbrev pub opened_by : Result (Option Found) OpenAnswer → Held → Held
-opened_by (Ok None) held = record held { sequence = 1 }
-opened_by (Ok (Some found)) held = held
-opened_by (Err answer) held = held
+-- an opening that writes a header keeps the leaves, so that each region stands for the same store; the sequence is the next
+-- one, and the version the one that is written
+pub record IsRewritten (f : Form) (before after : Held) : Type 0 where
+  pub leaves : after.leaves ≡ before.leaves
+  pub sequence : after.sequence ≡ before.sequence + 1
+  pub version : after.version ≡ f.version
+
+-- a header is written unless the one that counts is of the version that is written
+abbrev pub MakesBy : Form → Bool → Held → Held → Type 0
+MakesBy f true before after = after ≡ before
+MakesBy f false before after = IsRewritten f before after
+
+-- what an opening makes of what is held by a board that opens so: where no header counts, it is formatted
+abbrev pub MakesOf : Form → Result (Option Found) OpenAnswer → Held → Held → Type 0
+MakesOf f (Ok None) before after = MakesBy f false before after
+MakesOf f (Ok (Some found)) before after =
+    MakesBy f (found.header.version == f.version) before after
+MakesOf f (Err answer) before after = after ≡ before
 
 -- the same of a board that holds this
-abbrev pub after_opening : Form → View → Held → Held
-after_opening f view held =
-    opened_by (opening_of f.version view.key view.state.reads view.state.counter) held
+abbrev pub IsOpenedTo : Form → View → Held → Held → Type 0
+IsOpenedTo f view before after =
+    MakesOf f (opening_of f.known view.key view.state.reads view.state.counter) before after
 
 -- a crash left a sound volume
 abbrev pub IsLeftSound : Option Held → Type 0
@@ -36,33 +48,34 @@ abbrev pub IsRefusal : Form → View → (ℕ → List ℕ) → ℕ → OpenAnsw
 IsRefusal f view image counter answers.Failed = Unit {0}
 IsRefusal f view image counter answers.NoMemory = Unit {0}
 IsRefusal f view image counter why =
-    opens_as f.version BOARD_BLOCKS view.size view.key image counter ≡ Err why
+    opens_as f.known f.blocks view.size view.key image counter ≡ Err why
 
 -- the same of the board as it reads now, at a counter that it may tell
 abbrev pub IsRefusedNow : Form → View → OpenAnswer → Type 0
 IsRefusedNow f view answers.Failed = Unit {0}
 IsRefusedNow f view answers.NoMemory = Unit {0}
 IsRefusedNow f view why = (counter : ℕ) × IsCounter view.state counter
-    × (opens_as f.version BOARD_BLOCKS view.size view.key view.state.reads counter ≡ Err why)
+    × (opens_as f.known f.blocks view.size view.key view.state.reads counter ≡ Err why)
 
 -- what is taken up is the header that counts, with its sequence and its root; where none does, the board has this sequence, and a
--- root of the same
-abbrev pub TakesUp : Option Header → ℕ → ℕ → TreeEntry → Type 0
-TakesUp None blank sequence root = (sequence ≡ blank) × (root.sequence ≡ blank)
-TakesUp (Some header) blank sequence root = (header.sequence ≡ sequence) × (header.root ≡ root)
+-- root of the same and of the version that is written
+abbrev pub TakesUp : Form → Option Header → ℕ → ℕ → Root → Type 0
+TakesUp f None blank sequence root =
+    (sequence ≡ blank) × (root.version ≡ f.version) × (root.entry.sequence ≡ blank)
+TakesUp f (Some header) blank sequence root = (header.sequence ≡ sequence) × (root_of header ≡ root)
 
 -- the opening rule opens a board over this image and this counter, and what counts there is taken up
-abbrev pub IsAdmitted : Form → View → (ℕ → List ℕ) → ℕ → ℕ → ℕ → TreeEntry → Type 0
+abbrev pub IsAdmitted : Form → View → (ℕ → List ℕ) → ℕ → ℕ → ℕ → Root → Type 0
 IsAdmitted f view image counter blank sequence root = (found : Option Found)
-    × (opens_as f.version BOARD_BLOCKS view.size view.key image counter ≡ Ok found)
-    × TakesUp (found_header found) blank sequence root
+    × (opens_as f.known f.blocks view.size view.key image counter ≡ Ok found)
+    × TakesUp f (found_header found) blank sequence root
 
 -- what a search for the header answers is the rule's, over this image and this counter
 abbrev pub IsRuledBy : Form → View → (ℕ → List ℕ) → ℕ → Result (Option Header) OpenAnswer
     → Type 0
 IsRuledBy f view image counter result = IfErr result (λ why. IsRefusal f view image counter why)
     × IfOk result (λ found. header_answer
-    (opens_as f.version BOARD_BLOCKS view.size view.key image counter) ≡ Ok found)
+    (opens_as f.known f.blocks view.size view.key image counter) ≡ Ok found)
 
 -- a call of the board failed, or there was no memory
 abbrev pub IsKeptFromOpening : OpenAnswer → Type 0
@@ -84,11 +97,14 @@ pub record PowerFirst (old new : View) : Type 0 where
   pub reads : new.state.reads ≡ between.state.reads
   pub behind : IsBehind between new
 
--- within an opening a crash leaves what the board held, or that once it is formatted
+-- within an opening a crash leaves what the board held, or what the opening makes of that
+abbrev pub LeftByOpening : Form → Held → View → Outcome → Type 0
+LeftByOpening f held old c = (held_of f old.key c ≡ Some held)
+    ⊎ ((after : Held) × (held_of f old.key c ≡ Some after) × IsOpenedTo f old held after)
+
+-- so at every moment of a call
 abbrev pub LeavesOpening : Form → Held → View → View → Type 0
-LeavesOpening f held old new = LeavesOnly moment left_since old new
-    (λ c. (held_of f old.key c ≡ Some held)
-    ⊎ (held_of f old.key c ≡ Some (after_opening f old held)))
+LeavesOpening f held old new = LeavesOnly moment left_since old new (LeftByOpening f held old)
 
 module _ {V : Type 0} (K : VolumeKeeper V) where
   -- how a volume is seen on its board
@@ -101,6 +117,13 @@ module _ {V : Type 0} (K : VolumeKeeper V) where
         → read_as (held_of f view.key) (left_since view) t o
     pub left_back : (t : ℕ) (c : Outcome) → left_since view t c
         → K.left_since volume t (held_of f view.key c)
+
+  -- the damage of each leaf, and what is found of it, is the form's over what reads give
+  pub record IsFormed (f : Form) (volume : V) (root : Root) (view : View) : Type 0 where
+    pub damage : (region leaf : ℕ) → region < MAX_HOSTS → leaf < K.leaves
+        → K.damage volume region leaf ≡ f.damage view.key view.state.reads root region leaf
+    pub text : (region leaf : ℕ) → region < MAX_HOSTS → leaf < K.leaves
+        → K.text volume region leaf ≡ f.leaf view.key view.state.reads root region leaf
 
   -- all that a crash may leave now is sound
   abbrev pub IsAlwaysSound : V → Type 0

@@ -1,5 +1,5 @@
--- The rule by which a board is opened, over an image and a counter. The version and the number of
--- blocks that a volume has are parameters.
+-- The rule by which a board is opened, over an image and a counter. Which versions are accepted, and the number of blocks
+-- that a volume has, are parameters.
 use Rattle.std.specs.Prelude.{◌≡◌, ◌≢◌, ℕ, ◌+◌, ◌==◌, not, nat_lt, if◌then◌else◌, Bool, true, false, List, Option, Some, None, Result, Ok, Err}
 use Rattle.store_api.specs.declared.answer.Mismatch.{Mismatch}
 use Rattle.epoch.specs.Slots.{slot_of}
@@ -19,36 +19,36 @@ abbrev pub without_slot : ℕ → Result (Option Found) OpenAnswer
 without_slot counter = if counter == 0 then Ok None else Err (NoVolume counter)
 
 -- the header that counts: its version first, then its sequence beside the counter
-abbrev pub answer_at : ℕ → ℕ → Header → ℕ → Result (Option Found) OpenAnswer
-answer_at version slot header counter =
-    if not (header.version == version) then Err (UnknownVersion header.version) else
+abbrev pub answer_at : (ℕ → Bool) → ℕ → Header → ℕ → Result (Option Found) OpenAnswer
+answer_at knows slot header counter =
+    if not (knows header.version) then Err (UnknownVersion header.version) else
     if nat_lt header.sequence counter then Err (Rollback header.sequence counter) else
     if nat_lt (counter + 1) header.sequence then Err (Ahead header.sequence counter) else
     Ok (Some (record { header = header; slot = slot }))
 
 -- the rule over both slots: a damaged one first; of two the greater sequence, slot 0 on a tie
-abbrev pub opening_by : ℕ → Slot → Slot → ℕ → Result (Option Found) OpenAnswer
-opening_by version (Bad tags) second counter = bad_header 0 tags
-opening_by version Shut (Bad tags) counter = bad_header 1 tags
-opening_by version Shut Shut counter = without_slot counter
-opening_by version Shut (Good header) counter = answer_at version 1 header counter
-opening_by version (Good header) (Bad tags) counter = bad_header 1 tags
-opening_by version (Good header) Shut counter = answer_at version 0 header counter
-opening_by version (Good header) (Good other) counter =
-    if nat_lt header.sequence other.sequence then answer_at version 1 other counter
-    else answer_at version 0 header counter
+abbrev pub opening_by : (ℕ → Bool) → Slot → Slot → ℕ → Result (Option Found) OpenAnswer
+opening_by knows (Bad tags) second counter = bad_header 0 tags
+opening_by knows Shut (Bad tags) counter = bad_header 1 tags
+opening_by knows Shut Shut counter = without_slot counter
+opening_by knows Shut (Good header) counter = answer_at knows 1 header counter
+opening_by knows (Good header) (Bad tags) counter = bad_header 1 tags
+opening_by knows (Good header) Shut counter = answer_at knows 0 header counter
+opening_by knows (Good header) (Good other) counter =
+    if nat_lt header.sequence other.sequence then answer_at knows 1 other counter
+    else answer_at knows 0 header counter
 
 -- what an image and a counter open to under a key
-unfoldable pub opening_of : ℕ → List ℕ → (ℕ → List ℕ) → ℕ → Result (Option Found) OpenAnswer
-opening_of version key image counter =
-    opening_by version (slot_of key image 0) (slot_of key image 1) counter
+unfoldable pub opening_of : (ℕ → Bool) → List ℕ → (ℕ → List ℕ) → ℕ → Result (Option Found) OpenAnswer
+opening_of knows key image counter =
+    opening_by knows (slot_of key image 0) (slot_of key image 1) counter
 
 -- the same of a board with so many blocks
-abbrev pub opens_as : ℕ → ℕ → ℕ → List ℕ → (ℕ → List ℕ) → ℕ
+abbrev pub opens_as : (ℕ → Bool) → ℕ → ℕ → List ℕ → (ℕ → List ℕ) → ℕ
     → Result (Option Found) OpenAnswer
-opens_as version blocks size key image counter =
+opens_as knows blocks size key image counter =
     if nat_lt size blocks then Err (TooSmall size) else
-    opening_of version key image counter
+    opening_of knows key image counter
 
 -- the header of what was found
 abbrev pub found_header : Option Found → Option Header

@@ -37,8 +37,8 @@ abbrev pub shut_writes : ℕ → (ℕ → List ℕ) → ℕ → Bool
 shut_writes slot base k = (k == gate_at slot) && gate_open (base k)
 
 -- what an image and a counter that a crash left open to
-abbrev pub outcome_opening : ℕ → List ℕ → Outcome → Result (Option Found) OpenAnswer
-outcome_opening version key c = opening_of version key c.image c.counter
+abbrev pub outcome_opening : (ℕ → Bool) → List ℕ → Outcome → Result (Option Found) OpenAnswer
+outcome_opening knows key c = opening_of knows key c.image c.counter
 
 -- the board is blank, or the header that counts is in another slot than this
 abbrev pub CountsElsewhere : ℕ → Result (Option Found) OpenAnswer → Type 0
@@ -53,11 +53,11 @@ IsCurrent n (Ok (Some found)) = found.header.sequence ≡ n
 IsCurrent n (Err _) = ⊥
 
 -- a slot whose gate isn't open holds the header that is to count next
-pub record IsLaid (version : ℕ) (key : List ℕ) (slot n : ℕ) (header : Header)
+pub record IsLaid (knows : ℕ → Bool) (key : List ℕ) (slot n : ℕ) (header : Header)
     (m : Moment) : Type 0 where
   pub rests : Rests n m
-  pub current : IsCurrent n (opening_of version key m.reads n)
+  pub current : IsCurrent n (opening_of knows key m.reads n)
   pub gate : gate_open (m.reads (gate_at slot)) ≡ false
   pub good : header_slot key slot (m.reads (header_at slot)) ≡ Good header
-  pub known : header.version ≡ version
+  pub accepted : knows header.version ≡ true
   pub next : header.sequence ≡ n + 1

@@ -6,9 +6,9 @@ ghost use Rattle.board.specs.Moment.{View, moment, left_since};
 ghost use Rattle.board.specs.Runs.{RunsOver};
 ghost use Rattle.board.specs.Steps.{CallRun};
 ghost use Rattle.epoch.specs.Commits.{BeforeOrAfter, IsBegun, IsMounted, IsSteady, IsWritten, next_held, spare};
-ghost use Rattle.epoch.specs.Forms.{Form, IsFramed, SameUsed, is_sealed, leaves_of};
+ghost use Rattle.epoch.specs.Finding.{IsSettledAt};
+ghost use Rattle.epoch.specs.Forms.{Form, IsFramed, Root, SameUsed, is_sealed, leaves_of, root_written};
 ghost use Rattle.epoch.specs.Past.{KeepsPast};
-ghost use Rattle.epoch.specs.declared.header.TreeEntry.{TreeEntry as Entry};
 
 use crate::gates::slot_for;
 use crate::header::{Header, TreeEntry};
@@ -20,8 +20,8 @@ use board::{Board, BoardFailed};
 pub trait Change {
     ghost form: { Form };
 
-    /// The entry of the root in use.
-    ghost root: { Self → Entry };
+    /// The root in use.
+    ghost root: { Self → Root };
 
     /// The leaves after it, of those before.
     ghost after: { Self → (ℕ → ℕ → List ℕ) → ℕ → ℕ → List ℕ };
@@ -32,15 +32,12 @@ pub trait Change {
     /// Whatever the board holds: under this key what it keeps of the blocks in use has no damage.
     ghost checks: { Self → List ℕ → Type 0 };
 
-    /// After a write of this sequence under this key, beside what it was before: the entries of what it replaces are sealed
-    /// for the sequence, with the stated vectors.
+    /// After a write of this sequence under this key, beside what it was before: the root's entry and those of what it
+    /// replaces are sealed for the sequence, with the stated vectors.
     ghost seals: { Self → Self → List ℕ → ℕ → Type 0 };
 
     /// How many blocks it writes at most.
     ghost cost: { Self → ℕ };
-
-    /// How many blocks a volume of the form has.
-    ghost blocks: { ℕ };
 
     /// The version of the form.
     fn version(&self) -> u32
@@ -53,15 +50,17 @@ pub trait Change {
     ///
     /// A call of the board failed.
     fn write<B: Board>(&mut self, board: &mut B, sequence: u64) -> Result<TreeEntry, BoardFailed>
-        requires size { blocks ≤ (B.view board.old).size }
+        requires size { form.blocks ≤ (B.view board.old).size }
         requires sequence { 0 < sequence }
         ensures calls { CallRun (is_ok result) (B.view board.old) (B.view board.new) }
         ensures writes { (B.view board.new).writes ≤ (B.view board.old).writes + cost self.old }
-        ensures root { IfOk result (λ new_root. root self.new ≡ new_root) }
-        ensures sealed_for { IfOk result (λ new_root. new_root.sequence ≡ sequence) }
+        ensures root { IfOk result (λ entry. root self.new ≡ root_written form entry) }
+        ensures sealed_for { IfOk result (λ entry. entry.sequence ≡ sequence) }
         ensures entries { (key : List ℕ) → checks self.old key
             → OnOk result (seals self.old self.new key sequence) }
         ensures checked { (key : List ℕ) → checks self.old key → OnOk result (checks self.new key) }
+        ensures counter { B.honest board.old → (n : ℕ) → IsSettledAt n (B.view board.old).state
+            → OnOk result (IsSettledAt n (B.view board.new).state) }
         ensures honest { B.honest board.old → B.honest board.new }
         ensures past { B.honest board.old → KeepsPast (B.view board.old) (B.view board.new) }
         ensures run { B.honest board.old → (slot low high : ℕ) (first : View)
@@ -76,7 +75,7 @@ pub trait Change {
             → fits self.old (B.view board.old).key (B.view board.old).state.reads
             → is_sealed form (B.view board.old).key (B.view board.old).state.reads (root self.old)
             ≡ true
-            → IfOk result (λ new_root. IsWritten form (B.view board.old).key new_root
+            → IfOk result (λ entry. IsWritten form (B.view board.old).key (root_written form entry)
             (after self.old (leaves_of form (B.view board.old).key (B.view board.old).state.reads
             (root self.old)))
             (B.view board.new).state.reads) }
@@ -88,8 +87,6 @@ pub trait Change {
 
     ghost still_fits: { (c : Self) (key : List ℕ) (base image : ℕ → List ℕ)
         → SameUsed form key (root c) base image → fits c key base → fits c key image };
-
-    ghost enough: { 4 ≤ blocks };
 }
 
 /// Makes a commit to the sequence after this one, and gives the entry of the new root.
@@ -105,18 +102,21 @@ pub fn commit<B: Board, C: Change>(
     change: &mut C,
     sequence: u64,
 ) -> Result<TreeEntry, BoardFailed>
-    requires size { C.blocks ≤ (B.view board.old).size }
+    requires size { C.form.blocks ≤ (B.view board.old).size }
     requires sequence { sequence + 1 < 2 ^ 64 }
     ensures calls { CallRun (is_ok result) (B.view board.old) (B.view board.new) }
     // beside what the change writes a gate is shut, the header laid, and a gate opened
     ensures writes { (B.view board.new).writes
         ≤ (B.view board.old).writes + C.cost change.old + 3 }
-    ensures root { IfOk result (λ root. C.root change.new ≡ root) }
-    ensures sealed_for { IfOk result (λ root. root.sequence ≡ sequence + 1) }
+    ensures root { IfOk result (λ entry. C.root change.new ≡ root_written C.form entry) }
+    ensures sealed_for { IfOk result (λ entry. entry.sequence ≡ sequence + 1) }
     ensures entries { (key : List ℕ) → C.checks change.old key
         → OnOk result (C.seals change.old change.new key (sequence + 1)) }
     ensures checked { (key : List ℕ) → C.checks change.old key
         → OnOk result (C.checks change.new key) }
+    // at Ok the counter is the new sequence, whatever the image
+    ensures counter { B.honest board.old → IsSettledAt sequence (B.view board.old).state
+        → OnOk result (IsSettledAt (sequence + 1) (B.view board.new).state) }
     ensures honest { B.honest board.old → B.honest board.new }
     ensures past { B.honest board.old → KeepsPast (B.view board.old) (B.view board.new) }
     // at every moment since the start all that a crash leaves holds what was held before, or after
@@ -128,7 +128,8 @@ pub fn commit<B: Board, C: Change>(
     // at Ok it is what is held after, and the counter is its sequence
     ensures done { B.honest board.old → (before : Held)
         → IsBegun C.form (C.fits change.old) (B.view board.old) (C.root change.old) sequence before
-        → IfOk result (λ root. IsMounted C.form (B.view board.old).key root
+        → IfOk result (λ entry. IsMounted C.form (B.view board.old).key
+        (root_written C.form entry)
         (next_held C.form (C.after change.old before.leaves) before.sequence)
         (B.view board.new).state
         × C.fits change.new (B.view board.old).key (B.view board.new).state.reads) }

@@ -5,6 +5,7 @@ ghost use Rattle.tee_base.specs.Faults.{Rose};
 ghost use Rattle.board.specs.Moment.{View, IsCounter, moment, left_since};
 ghost use Rattle.board.specs.Runs.{Rests, RunsOver};
 ghost use Rattle.board.specs.Steps.{CallRun, SameBlocks};
+ghost use Rattle.epoch.specs.Formats.{IsAccepted, accepts};
 ghost use Rattle.epoch.specs.Finding.{Finds, OpensBelow, IsSettledAt, RefusesOlder, sequence_of};
 ghost use Rattle.epoch.specs.Opening.{IsRuled, no_failure, opening_of, opens_as};
 ghost use Rattle.epoch.specs.Past.{KeepsPast};
@@ -12,20 +13,14 @@ ghost use Rattle.epoch.specs.Steps.{outcome_opening};
 ghost use Rattle.epoch.specs.declared.answer.OpenAnswer.TheVariants as answers;
 
 use crate::answer::OpenAnswer;
+use crate::format::Format;
 use crate::header::Header;
 use crate::rule::judge;
 use crate::slots::gather;
 use board::{Board, BoardFailed};
 use seal::Keys;
-use tee_base::limits;
 
-/// How many blocks a volume has.
-pub const VOLUME_BLOCKS: u64 = limits::BOARD_BLOCKS;
-
-/// The version of a volume that is one flat table.
-pub const FLAT_VERSION: u32 = 0;
-
-/// The header that counts, of a flat volume; none where the board is blank and its counter 0.
+/// The header that counts, of a volume of this format; none where the board is blank and its counter 0.
 ///
 /// Where the header is one ahead of the counter, the counter is advanced first. It takes no memory, and never answers
 /// `NoMemory`.
@@ -33,12 +28,14 @@ pub const FLAT_VERSION: u32 = 0;
 /// # Errors
 ///
 /// As the opening rule refuses, and `Failed` where a call of the board failed. No block is written.
-pub fn find_header<B: Board>(board: &mut B) -> Result<Option<Header>, OpenAnswer>
+pub fn find_header<B: Board>(board: &mut B, format: Format) -> Result<Option<Header>, OpenAnswer>
+    requires slots { 4 ≤ format.blocks }
     ensures calls { CallRun (no_failure result) (B.view board.old) (B.view board.new) }
     ensures cause { result ≡ Err answers.Failed
         → Rose (B.view board.old).state.faults (B.view board.new).state.faults }
     ensures memory { result ≢ Err answers.NoMemory }
-    ensures size { OnOk result (VOLUME_BLOCKS ≤ (B.view board.old).size) }
+    ensures accepted { IfOk result (λ header. IsAccepted format header) }
+    ensures size { OnOk result (format.blocks ≤ (B.view board.old).size) }
     ensures writes { (B.view board.new).writes ≡ (B.view board.old).writes }
     ensures honest { B.honest board.old → B.honest board.new }
     ensures past { B.honest board.old → KeepsPast (B.view board.old) (B.view board.new) }
@@ -46,70 +43,35 @@ pub fn find_header<B: Board>(board: &mut B) -> Result<Option<Header>, OpenAnswer
         → SameBlocks (B.view board.old).state (B.view board.new).state }
     // whatever the board: by the rule over what it tells, at some counter
     ensures rule { IsTrue B.tells_reads → (counter : ℕ) × IsRuled result
-        (opens_as FLAT_VERSION VOLUME_BLOCKS (B.view board.old).size (B.view board.old).key
+        (opens_as (accepts format) format.blocks (B.view board.old).size (B.view board.old).key
         (B.view board.old).state.reads counter) }
-    ensures exact { B.honest board.old → Finds FLAT_VERSION VOLUME_BLOCKS (B.view board.old).size
-        (B.view board.old).key (B.view board.old).state (B.view board.new).state result }
+    ensures exact { B.honest board.old → let old = B.view board.old in
+        Finds (accepts format) format.blocks old.size old.key old.state
+        (B.view board.new).state result }
     // the counter is settled at the sequence, and at 0 where the board is blank
     ensures counter { B.honest board.old
         → IfOk result (λ header. IsSettledAt (sequence_of header) (B.view board.new).state) }
     // the counter rises no higher than the sequences of headers that may count
     ensures run { B.honest board.old
         → (open_at : ℕ → Bool) (base : ℕ → List ℕ) (low high : ℕ) (first : View)
-        → OpensBelow FLAT_VERSION (B.view board.old).key (B.view board.old).state.reads low high
+        → OpensBelow (accepts format) (B.view board.old).key (B.view board.old).state.reads low high
         → RunsOver open_at base low high first (B.view board.old)
         → RunsOver open_at base low high first (B.view board.new) }
     // all that a crash leaves opens as before
     ensures crash { B.honest board.old → (n : ℕ) → Rests n (B.view board.old).state
         → LeavesOnly moment left_since (B.view board.old) (B.view board.new)
-        (λ c. outcome_opening FLAT_VERSION (B.view board.old).key c
-        ≡ opening_of FLAT_VERSION (B.view board.old).key (B.view board.old).state.reads n) }
-    ensures rollback { B.honest board.old → RefusesOlder FLAT_VERSION VOLUME_BLOCKS
+        (λ c. outcome_opening (accepts format) (B.view board.old).key c
+        ≡ opening_of (accepts format) (B.view board.old).key (B.view board.old).state.reads n) }
+    ensures rollback { B.honest board.old → RefusesOlder (accepts format) format.blocks
         (B.view board.old).size (B.view board.old).key (B.view board.old).state result }
 {
-    find_version(board, FLAT_VERSION)
-}
-
-/// The header that counts, of a volume of this version, as `find_header` has it for the flat volume.
-pub fn find_version<B: Board>(board: &mut B, version: u32) -> Result<Option<Header>, OpenAnswer>
-    ensures calls { CallRun (no_failure result) (B.view board.old) (B.view board.new) }
-    ensures cause { result ≡ Err answers.Failed
-        → Rose (B.view board.old).state.faults (B.view board.new).state.faults }
-    ensures memory { result ≢ Err answers.NoMemory }
-    ensures size { OnOk result (VOLUME_BLOCKS ≤ (B.view board.old).size) }
-    ensures writes { (B.view board.new).writes ≡ (B.view board.old).writes }
-    ensures honest { B.honest board.old → B.honest board.new }
-    ensures past { B.honest board.old → KeepsPast (B.view board.old) (B.view board.new) }
-    ensures blocks { B.honest board.old
-        → SameBlocks (B.view board.old).state (B.view board.new).state }
-    // whatever the board: by the rule over what it tells, at some counter
-    ensures rule { IsTrue B.tells_reads → (counter : ℕ) × IsRuled result
-        (opens_as version VOLUME_BLOCKS (B.view board.old).size (B.view board.old).key
-        (B.view board.old).state.reads counter) }
-    ensures exact { B.honest board.old → Finds version VOLUME_BLOCKS (B.view board.old).size
-        (B.view board.old).key (B.view board.old).state (B.view board.new).state result }
-    // the counter is settled at the sequence, and at 0 where the board is blank
-    ensures counter { B.honest board.old
-        → IfOk result (λ header. IsSettledAt (sequence_of header) (B.view board.new).state) }
-    // the counter rises no higher than the sequences of headers that may count
-    ensures run { B.honest board.old
-        → (open_at : ℕ → Bool) (base : ℕ → List ℕ) (low high : ℕ) (first : View)
-        → OpensBelow version (B.view board.old).key (B.view board.old).state.reads low high
-        → RunsOver open_at base low high first (B.view board.old)
-        → RunsOver open_at base low high first (B.view board.new) }
-    // all that a crash leaves opens as before
-    ensures crash { B.honest board.old → (n : ℕ) → Rests n (B.view board.old).state
-        → LeavesOnly moment left_since (B.view board.old) (B.view board.new)
-        (λ c. outcome_opening version (B.view board.old).key c
-        ≡ opening_of version (B.view board.old).key (B.view board.old).state.reads n) }
-{
     let blocks = board.blocks();
-    if blocks < VOLUME_BLOCKS {
+    if blocks < format.blocks {
         return Err(OpenAnswer::TooSmall(blocks));
     }
     let keys = Keys::of(&board.key());
     let seen = gather(board, &keys)?;
-    match judge(version, seen.first, seen.second, seen.counter) {
+    match judge(format, seen.first, seen.second, seen.counter) {
         Err(answer) => Err(answer),
         Ok(None) => Ok(None),
         Ok(Some(found)) => raise(board, found.header, seen.counter),

@@ -44,11 +44,12 @@ pub fn lay<B: Board>(board: &mut B, header: &Header) -> Result<(), BoardFailed>
         → RunsOver open_at base low high first (B.view board.old)
         → RunsOver open_at base low high first (B.view board.new) }
     // behind a gate that isn't open all that a crash leaves opens as before
-    ensures crash { B.honest board.old → (version n : ℕ) → Rests n (B.view board.old).state
+    ensures crash { B.honest board.old → (knows : ℕ → Bool) (n : ℕ)
+        → Rests n (B.view board.old).state
         → gate_open ((B.view board.old).state.reads (gate_at (header.now.sequence % 2))) ≡ false
         → LeavesOnly moment left_since (B.view board.old) (B.view board.new)
-        (λ c. outcome_opening version (B.view board.old).key c
-        ≡ opening_of version (B.view board.old).key (B.view board.old).state.reads n) }
+        (λ c. outcome_opening knows (B.view board.old).key c
+        ≡ opening_of knows (B.view board.old).key (B.view board.old).state.reads n) }
 {
     let keys = Keys::of(&board.key());
     let slot = slot_for(header.sequence);

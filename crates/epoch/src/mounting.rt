@@ -7,6 +7,7 @@ ghost use Rattle.board.specs.Steps.{CallRun, SameBlocks};
 ghost use Rattle.board.specs.declared.fuse.Fuse.TheVariants.{Unset};
 ghost use Rattle.epoch.specs.Commits.{StaysSettled};
 ghost use Rattle.epoch.specs.Finding.{IsSettledAt, sequence_of};
+ghost use Rattle.epoch.specs.Formats.{IsAccepted, IsFormatOf};
 ghost use Rattle.epoch.specs.Forms.{Form, IsFramed};
 ghost use Rattle.epoch.specs.Mounting.{AreSound, IsHolding, Mounts, MountsAfterPower, MountsAgain};
 ghost use Rattle.epoch.specs.Mounts.{IsRefusedNow, IsRuledBy, OrderRun, PowerFirst};
@@ -15,21 +16,24 @@ ghost use Rattle.epoch.specs.Past.{KeepsPast};
 ghost use Rattle.epoch.specs.declared.answer.OpenAnswer.TheVariants as answers;
 
 use crate::answer::OpenAnswer;
-use crate::find::{VOLUME_BLOCKS, find_version};
+use crate::find::find_header;
+use crate::format::Format;
 use crate::header::Header;
 use board::Board;
 
-/// The header that counts, of a volume of this version; none where the board is blank and its counter 0.
+/// The header that counts, of a volume of this format; none where the board is blank and its counter 0.
 ///
 /// # Errors
 ///
-/// As `find_version`.
-pub fn mount<B: Board>(board: &mut B, version: u32) -> Result<Option<Header>, OpenAnswer>
+/// As `find_header`.
+pub fn mount<B: Board>(board: &mut B, format: Format) -> Result<Option<Header>, OpenAnswer>
+    requires slots { 4 ≤ format.blocks }
     ensures calls { CallRun (no_failure result) (B.view board.old) (B.view board.new) }
     ensures cause { result ≡ Err answers.Failed
         → Rose (B.view board.old).state.faults (B.view board.new).state.faults }
     ensures memory { result ≢ Err answers.NoMemory }
-    ensures size { OnOk result (VOLUME_BLOCKS ≤ (B.view board.old).size) }
+    ensures accepted { IfOk result (λ header. IsAccepted format header) }
+    ensures size { OnOk result (format.blocks ≤ (B.view board.old).size) }
     ensures writes { (B.view board.new).writes ≡ (B.view board.old).writes }
     ensures blocks { B.honest board.old
         → SameBlocks (B.view board.old).state (B.view board.new).state }
@@ -41,32 +45,34 @@ pub fn mount<B: Board>(board: &mut B, version: u32) -> Result<Option<Header>, Op
     ensures settled { B.honest board.old
         → StaysSettled (B.view board.old).state (B.view board.new).state }
     // whatever the board: by the rule over what it tells, at some counter
-    ensures rule { IsTrue B.tells_reads → (counter : ℕ) × ((f : Form) → f.version ≡ version
+    ensures rule { IsTrue B.tells_reads → (counter : ℕ) × ((f : Form) → IsFormatOf f format
         → IsRuledBy f (B.view board.old) (B.view board.old).state.reads counter result) }
     ensures exact { B.honest board.old → (counter : ℕ)
-        × IsCounter (B.view board.old).state counter × ((f : Form) → f.version ≡ version
+        × IsCounter (B.view board.old).state counter × ((f : Form) → IsFormatOf f format
         → IsRuledBy f (B.view board.old) (B.view board.old).state.reads counter result) }
     // a refusal is the rule's over what the board then holds
-    ensures refusal { B.honest board.old → IfErr result (λ why. (f : Form) → f.version ≡ version
+    ensures refusal { B.honest board.old → IfErr result (λ why. (f : Form) → IsFormatOf f format
         → IsRefusedNow f (B.view board.new) why) }
     ensures holds { B.honest board.old → (f : Form) (h : Held) → IsFramed f
-        → f.version ≡ version → VOLUME_BLOCKS ≤ (B.view board.old).size
+        → IsFormatOf f format → f.blocks ≤ (B.view board.old).size
         → IsHolding f (B.view board.old).key h (B.view board.old).state
         → Mounts f h result (B.view board.old) (B.view board.new) }
 {
-    find_version(board, version)
+    find_header(board, format)
 }
 
 /// The header that counts, once what may be pending is made durable.
 ///
 /// # Errors
 ///
-/// As `find_version`, and `Failed` where the sync failed.
-pub fn mount_again<B: Board>(board: &mut B, version: u32) -> Result<Option<Header>, OpenAnswer>
+/// As `find_header`, and `Failed` where the sync failed.
+pub fn mount_again<B: Board>(board: &mut B, format: Format) -> Result<Option<Header>, OpenAnswer>
+    requires slots { 4 ≤ format.blocks }
     ensures calls { CallRun (no_failure result) (B.view board.old) (B.view board.new) }
     ensures cause { result ≡ Err answers.Failed
         → Rose (B.view board.old).state.faults (B.view board.new).state.faults }
     ensures memory { result ≢ Err answers.NoMemory }
+    ensures accepted { IfOk result (λ header. IsAccepted format header) }
     ensures writes { (B.view board.new).writes ≡ (B.view board.old).writes }
     ensures reads { B.honest board.old
         → (B.view board.new).state.reads ≡ (B.view board.old).state.reads }
@@ -78,18 +84,18 @@ pub fn mount_again<B: Board>(board: &mut B, version: u32) -> Result<Option<Heade
     ensures settled { B.honest board.old
         → StaysSettled (B.view board.old).state (B.view board.new).state }
     ensures exact { B.honest board.old → (counter : ℕ)
-        × IsCounter (B.view board.old).state counter × ((f : Form) → f.version ≡ version
+        × IsCounter (B.view board.old).state counter × ((f : Form) → IsFormatOf f format
         → IsRuledBy f (B.view board.old) (B.view board.old).state.reads counter result) }
     // a refusal is the rule's over what the board then holds
-    ensures refusal { B.honest board.old → IfErr result (λ why. (f : Form) → f.version ≡ version
+    ensures refusal { B.honest board.old → IfErr result (λ why. (f : Form) → IsFormatOf f format
         → IsRefusedNow f (B.view board.new) why) }
     ensures again { B.honest board.old → (f : Form) → IsFramed f
-        → f.version ≡ version → VOLUME_BLOCKS ≤ (B.view board.old).size
+        → IsFormatOf f format → f.blocks ≤ (B.view board.old).size
         → AreSound f (B.view board.old)
         → MountsAgain f result (B.view board.old) (B.view board.new) }
 {
     board.sync()?;
-    mount(board, version)
+    mount(board, format)
 }
 
 /// The header that counts after a loss of power.
@@ -100,12 +106,14 @@ pub fn mount_again<B: Board>(board: &mut B, version: u32) -> Result<Option<Heade
 pub fn mount_after_power<B: Board>(
     board: &mut B,
     pick: u64,
-    version: u32,
+    format: Format,
 ) -> Result<Option<Header>, OpenAnswer>
+    requires slots { 4 ≤ format.blocks }
     ensures ordered { OrderRun pick (B.view board.old) (B.view board.new) }
     ensures cause { result ≡ Err answers.Failed
         → Rose (B.view board.old).state.faults (B.view board.new).state.faults }
     ensures memory { result ≢ Err answers.NoMemory }
+    ensures accepted { IfOk result (λ header. IsAccepted format header) }
     ensures begins { B.honest board.old
         → PowerFirst (B.view board.old) (B.view board.new) }
     ensures writes { (B.view board.new).writes ≡ (B.view board.old).writes }
@@ -120,16 +128,16 @@ pub fn mount_after_power<B: Board>(
     ensures settled { B.honest board.old
         → StaysSettled (B.view board.old).state (B.view board.new).state }
     ensures exact { B.honest board.old → (c : Outcome) × IsLeft (B.view board.old).state c
-        × ((f : Form) → f.version ≡ version
+        × ((f : Form) → IsFormatOf f format
         → IsRuledBy f (B.view board.old) c.image c.counter result) }
     // a refusal is the rule's over what the board then holds
-    ensures refusal { B.honest board.old → IfErr result (λ why. (f : Form) → f.version ≡ version
+    ensures refusal { B.honest board.old → IfErr result (λ why. (f : Form) → IsFormatOf f format
         → IsRefusedNow f (B.view board.new) why) }
     ensures again { B.honest board.old → (f : Form) → IsFramed f
-        → f.version ≡ version → VOLUME_BLOCKS ≤ (B.view board.old).size
+        → IsFormatOf f format → f.blocks ≤ (B.view board.old).size
         → AreSound f (B.view board.old)
         → MountsAfterPower f result (B.view board.old) (B.view board.new) }
 {
     board.power(pick);
-    mount_again(board, version)
+    mount_again(board, format)
 }

@@ -2,12 +2,18 @@ use crate::counters::counter_behind;
 use board::{BLOCK, Board, BoardFailed};
 use boards::MemBoard;
 use epoch::{
-    FLAT_VERSION, Header, OpenAnswer, TreeEntry, entry_at, entry_bytes, find_header, flip, lay,
-    shut,
+    Format, Header, OpenAnswer, TreeEntry, entry_at, entry_bytes, find_header, flip, lay, shut,
 };
 use std::alloc::Global;
 use std::process::Abort;
 use std::test::Fail;
+
+/// A format whose one version is 0.
+const FORMAT: Format = Format {
+    oldest: 0,
+    newest: 0,
+    blocks: 8_742,
+};
 
 /// The board's key: the bytes from 0 to 31.
 const KEY: [u8; 32] = [
@@ -218,7 +224,7 @@ fn prepare<B: Board>(rt: &impl Abort, board: &mut B, row: &Row) -> Result<(), Bo
 /// The opening answers as the row says, writes nothing, and leaves the counter where it belongs.
 fn check_opening<B: Board>(rt: &impl Abort, board: &mut B, row: &Row) -> Result<(), BoardFailed> {
     let written = board.writes();
-    let found = find_header(board);
+    let found = find_header(board, FORMAT);
     let answer = found.map(|header| header.map(|header| header.sequence));
     assert!(rt; answer == row.answer);
     assert!(rt; board.writes() == written);
@@ -264,7 +270,7 @@ fn end_commit<B: Board>(rt: &impl Abort, board: &mut B, header: Header) -> Resul
     shut(board, 1)?;
     lay(board, &header)?;
     assert!(rt; flip(board, 1)? == 5);
-    assert!(rt; find_header(board) == Ok(Some(header)));
+    assert!(rt; find_header(board, FORMAT) == Ok(Some(header)));
     Ok(())
 }
 
@@ -281,7 +287,7 @@ fn check_blocks<B: Board>(rt: &impl Abort, alloc: Global, board: &mut B) -> Resu
 
 fn check_commit<B: Board>(rt: &impl Abort, alloc: Global, board: &mut B) -> Result<(), Fail> {
     raise(board, 4)?;
-    end_commit(rt, board, header_of(FLAT_VERSION, 5))?;
+    end_commit(rt, board, header_of(FORMAT.newest, 5))?;
     check_blocks(rt, alloc, board)
 }
 

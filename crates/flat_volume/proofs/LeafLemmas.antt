@@ -9,11 +9,12 @@ use Rattle.tee_base.specs.declared.limits.TheConstants.{MAX_HOSTS, LEAVES}
 use Rattle.store_api.specs.declared.leaves.Leaf.{Leaf}
 use Rattle.store_api.specs.Ascending.{is_above_all, is_ascending}
 use Rattle.store_api.specs.Volumes.{leaf_after, replaced}
+use Rattle.epoch.specs.Copies.{copy_of}
 use Rattle.epoch.specs.Forms.{is_leaf}
 use Rattle.epoch.specs.declared.header.TreeEntry.{TreeEntry}
 use Rattle.epoch.proofs.CommitLemmas.{first_true, second_true, leaf_below}
 use Rattle.flat_volume.specs.declared.places.TheConstants.{FIRST_LEAF}
-use Rattle.flat_volume.specs.Flat.{block_at, copy_of, entry_of, leaf_damage, leaf_text, number_of}
+use Rattle.flat_volume.specs.Flat.{block_at, entry_of, leaf_damage, leaf_text, number_of}
 use Rattle.flat_volume.specs.Frame.{copy_below, leaf_damage_same, leaf_text_same}
 use Rattle.flat_volume.specs.Writing.{AreSealed, AreSealedFor, AreSpare, IsSealedFor, leaves_by, spare_block}
 
@@ -45,10 +46,11 @@ module _ (key told tnew : List ℕ) (old new : ℕ → List ℕ) (number : ℕ) 
   -- a leaf of another number
   other_leaf : (r l : ℕ) → number_of r l ≢ number → leaves_by key tnew new r l ≡ leaves_by key told old r l
   unfolding leaves_by
-  other_leaf r l ne = ap (λ (bytes : List ℕ). if is_leaf r l then bytes else []) (other_text (number_of r l) ne)
+  other_leaf r l ne = ap (λ (bytes : List ℕ). if is_leaf LEAVES r l then bytes else []) (other_text (number_of r l) ne)
 
   -- and the one that was written
-  this_leaf : (r l : ℕ) (bytes : List ℕ) → number_of r l ≡ number → is_leaf r l ≡ true → leaf_text key new (FIRST_LEAF + number) (entry_of tnew number) ≡ bytes → leaves_by key tnew new r l ≡ bytes
+  this_leaf : (r l : ℕ) (bytes : List ℕ) → number_of r l ≡ number → is_leaf LEAVES r l ≡ true → leaf_text key new (FIRST_LEAF + number) (entry_of tnew number) ≡ bytes
+      → leaves_by key tnew new r l ≡ bytes
   unfolding leaves_by
   this_leaf r l bytes e is text =
       rw is (subst (λ (m : ℕ). leaf_text key new (FIRST_LEAF + m) (entry_of tnew m) ≡ bytes) (sym e) text)
@@ -72,20 +74,20 @@ module _ (key told tnew : List ℕ) (old new : ℕ → List ℕ) (region : ℕ) 
     (text : leaf_text key new (FIRST_LEAF + number_of region leaf.number) (entry_of tnew (number_of region leaf.number)) ≡ leaf.bytes)
     (ascending : list_all (λ later. nat_lt leaf.number later.number) rest ≡ true) where
   -- outside of the leaves there is nothing
-  no_leaf : (r l : ℕ) → is_leaf r l ≡ false → leaves_by key tnew new r l ≡ leaves_by key told old r l
+  no_leaf : (r l : ℕ) → is_leaf LEAVES r l ≡ false → leaves_by key tnew new r l ≡ leaves_by key told old r l
   unfolding leaves_by
   no_leaf r l none = rw none refl
 
   kept_leaf : (r l : ℕ) → (r ≢ region) ⊎ (l ≢ leaf.number) → leaves_by key tnew new r l ≡ leaves_by key told old r l
   kept_leaf r l ne =
-      elim (is_leaf r l) as (λ b. is_leaf r l ≡ b → leaves_by key tnew new r l ≡ leaves_by key told old r l) [
+      elim (is_leaf LEAVES r l) as (λ b. is_leaf LEAVES r l ≡ b → leaves_by key tnew new r l ≡ leaves_by key told old r l) [
         | false ↦ λ none. no_leaf r l none
         | true ↦ λ is. other_leaf key told tnew old new (number_of region leaf.number) elsewhere others r l
-            (λ e. let both = same_number r l region leaf.number (leaf_below r l is) leaf_in e in
+            (λ e. let both = same_number r l region leaf.number (leaf_below LEAVES r l is) leaf_in e in
             absurd (⊎_elim (λ (h : r ≢ region). h both.0) (λ (h : l ≢ leaf.number). h both.1) ne))
       ] refl
 
-  is_this : is_leaf region leaf.number ≡ true
+  is_this : is_leaf LEAVES region leaf.number ≡ true
   is_this =
       let one : nat_lt region MAX_HOSTS ≡ true = grind (arith, nat_tests) in
       let two : nat_lt leaf.number LEAVES ≡ true = grind (arith, nat_tests) in

@@ -1,4 +1,4 @@
--- Runs of calls, one call more.
+-- What is read of a table and of leaves.
 use Rattle.std.proofs.Common.{◌≡◌, ◌≢◌, ◌≤◌, ◌*◌, ◌<◌, ◌+◌, ◌-◌, ◌==◌, ◌∙◌, ℕ, true, false, List, Option, None, Some, Result}
 use Rattle.std.proofs.Common.{Ok, Err, IfOk, if◌then◌else◌, bytes_eq, refl, sym, ap, subst, ⊎_elim, arith}
 use Rattle.std.proofs.lemmas.Bool.{cases_lt}
@@ -7,49 +7,18 @@ use Rattle.store_api.specs.declared.answer.Mismatch.{Mismatch}
 use Rattle.store_api.specs.declared.leaves.LeafAnswer.{LeafAnswer}
 use Rattle.store_api.specs.declared.leaves.LeafAnswer.TheVariants as answers
 use Rattle.store_api.specs.Volumes.{ShowsLeaf}
-use Rattle.board.specs.Moment.{View}
-use Rattle.board.specs.Steps.{Answered, Unchanged}
 use Rattle.seal.specs.Sealing.{ciphertext, plaintext, seal_tag}
 use Rattle.seal.proofs.SealLemmas.{reopened}
+use Rattle.epoch.specs.Copies.{copy_of, differing, first_damage}
 use Rattle.epoch.specs.Parts.{part}
-use Rattle.epoch.proofs.PastLemmas.{followed, itself, once}
-use Rattle.epoch.proofs.RunLemmas.{over_read}
 use Rattle.epoch.specs.declared.header.TreeEntry.{TreeEntry}
 use Rattle.flat_volume.specs.declared.places.TheConstants.{FIRST_TABLE, TABLE_BLOCKS}
 use Rattle.flat_volume.specs.declared.table.Table.{Table}
-use Rattle.flat_volume.specs.Flat.{block_at, copy_of, differing, entry_of, first_damage, joined_below, leaf_damage, leaf_text, table_damage, table_in, table_tag}
-use Rattle.epoch.specs.Reading.{OnlyReads}
+use Rattle.flat_volume.specs.Flat.{block_at, entry_of, joined_below, leaf_damage, leaf_text, table_damage, table_in, table_tag}
 use Rattle.flat_volume.specs.Writing.{spare_block}
-use Rattle.flat_volume.proofs.FlatLemmas.{no_difference, tagged}
+use Rattle.epoch.proofs.EntryLemmas.{differs, no_difference}
+use Rattle.flat_volume.proofs.FlatLemmas.{tagged}
 use Rattle.flat_volume.proofs.LeafLemmas.{other_block}
-
--- calls that only read
-pub only_itself : (v : View) → OnlyReads v v
-only_itself v = record {
-  state = record { reads = refl; durable = refl; pending = refl; counter = refl; slack = refl };
-  past = itself v;
-  run = λ open_at base low high first run. run;
-}
-
-pub only_once : (old new : View) → Answered old new → Unchanged old.state new.state → OnlyReads old new
-only_once old new answered same = record {
-  state = same;
-  past = once old new answered;
-  run = λ open_at base low high first run. over_read open_at base low high first old new run answered same;
-}
-
-pub only_more : (first old new : View) → OnlyReads first old → OnlyReads old new → OnlyReads first new
-only_more first old new one two = record {
-  state = record {
-    reads = two.state.reads ∙ one.state.reads;
-    durable = two.state.durable ∙ one.state.durable;
-    pending = two.state.pending ∙ one.state.pending;
-    counter = two.state.counter ∙ one.state.counter;
-    slack = two.state.slack ∙ one.state.slack;
-  };
-  past = followed first old new one.past two.past;
-  run = λ open_at base low high start run. two.run open_at base low high start (one.run open_at base low high start run);
-}
 
 -- an entry of a block that was sealed, and read where the entry says
 module _ (key : List ℕ) (reads : ℕ → List ℕ) (place : ℕ) (e : TreeEntry) (plain cipher : List ℕ) (positive : 0 < e.sequence) (here : reads (block_at place e.copy) ≡ cipher) where
@@ -96,15 +65,6 @@ pub spare_is : (table : List ℕ) (number copy block : ℕ) → block ≡ block_
 spare_is table number copy block is other = is ∙ ap (block_at (273 + number)) other
 
 -- tags that aren't equal differ
-differs : (found kept : List ℕ) → found ≢ kept → differing found kept ≡ Some (record { found = found; kept = kept })
-unfolding differing
-differs found kept ne =
-    elim (bytes_eq found kept) as (λ b. bytes_eq found kept ≡ b →
-    (let none : Option Mismatch = None in if b then none else Some (record { found = found; kept = kept })) ≡ Some (record { found = found; kept = kept })) [
-      | true ↦ λ e. absurd (ne ((bytes_eq-Decides found kept).0 e))
-      | false ↦ λ e. refl
-    ] refl
-
 pub table_differs : (key table : List ℕ) (root : TreeEntry) (found : List ℕ) → root.sequence ≢ 0 → found ≡ table_tag key root.sequence table → found ≢ root.tag
     → table_damage key table root ≡ Some (record { found = found; kept = root.tag })
 unfolding table_damage
@@ -148,10 +108,3 @@ pub table_kept : (key bytes : List ℕ) (root : TreeEntry) (r : Result Table Lea
     → ShowsLeaf r (table_damage key bytes root) → IfOk r (λ t. table_damage key t.bytes.items root ≡ None)
 table_kept key bytes root (Ok t) same shows = ap (λ (b : List ℕ). table_damage key b root) same ∙ shows
 table_kept key bytes root (Err e) same shows = tt
-
--- what is found first is found on the way
-pub shows_first : (A B : Type 0) (e : LeafAnswer) (first rest : Option Mismatch) → ShowsLeaf {A = A} (Err e) first → ShowsLeaf {A = B} (Err e) (first_damage first rest)
-shows_first A B (answers.Mismatch tags) first rest shows = ap (λ (d : Option Mismatch). first_damage d rest) shows
-shows_first A B answers.Lost first rest shows = tt
-shows_first A B answers.Failed first rest shows = tt
-shows_first A B answers.NoMemory first rest shows = tt

@@ -1,12 +1,11 @@
 -- What a commit keeps of a flat volume fits the board.
-use Rattle.std.specs.Prelude.{◌≡◌, ◌≤◌, ℕ, List, None}
-use Rattle.std.proofs.Common.{◌∙◌, sym, arith}
-use Rattle.tee_base.specs.declared.limits.TheConstants.{BOARD_BLOCKS}
+use Rattle.std.specs.Prelude.{◌≡◌, ℕ, List, None}
+use Rattle.std.proofs.Common.{◌∙◌, sym}
 use Rattle.seal.specs.Keys.{AreKeysOf}
 use Rattle.seal.specs.declared.keys.Keys.{Keys}
 use Rattle.epoch.specs.Forms.{SameUsed}
 use Rattle.epoch.specs.declared.header.TreeEntry.{TreeEntry}
-use Rattle.flat_volume.specs.Flat.{flat, table_damage, table_in}
+use Rattle.flat_volume.specs.Flat.{flat, flat_root, table_damage, table_in}
 use Rattle.flat_volume.specs.Frame.{table_same}
 use Rattle.flat_volume.specs.declared.table.Table.{Table}
 
@@ -22,12 +21,8 @@ pub record ChecksFlat (keys : Keys) (table : Table) (root : TreeEntry) (key : Li
   pub undamaged : table_damage key table.bytes.items root ≡ None
 
 pub table_still_fits : (keys : Keys) (table : Table) (root : TreeEntry) (key : List ℕ) (base image : ℕ → List ℕ)
-    → SameUsed flat key root base image → FitsFlat keys table root key base → FitsFlat keys table root key image
+    → SameUsed flat key (flat_root root) base image → FitsFlat keys table root key base → FitsFlat keys table root key image
 table_still_fits keys table root key base image same fits = record {
   keyed = fits.keyed;
   stands = fits.stands ∙ sym (table_same key root base image same);
 }
-
--- a volume has the blocks of both slots
-pub four_blocks : 4 ≤ BOARD_BLOCKS
-four_blocks = omega arith

@@ -1,17 +1,13 @@
 -- The flat form: the entries of all leaves stand in one table of plain blocks, under one tag.
-use Rattle.std.specs.Prelude.{ℕ, zero, suc, ◌+◌, ◌-◌, ◌*◌, ◌/◌, ◌%◌, ◌==◌, ◌&&◌, nat_lt, bytes_eq, if◌then◌else◌, Bool, false, List, [], ◌++◌, Option, Some, None, replicate}
-use Rattle.tee_base.specs.declared.limits.TheConstants.{BLOCK_BYTES, LEAVES}
+use Rattle.std.specs.Prelude.{ℕ, zero, suc, ◌+◌, ◌-◌, ◌*◌, ◌/◌, ◌%◌, ◌==◌, ◌&&◌, nat_lt, true, if◌then◌else◌, Bool, false, List, [], ◌++◌, Option, None, replicate}
+use Rattle.tee_base.specs.declared.limits.TheConstants.{BLOCK_BYTES, BOARD_BLOCKS, LEAVES}
 use Rattle.store_api.specs.declared.answer.Mismatch.{Mismatch}
 use Rattle.seal.specs.Sealing.{plaintext, seal_tag}
-use Rattle.epoch.specs.Forms.{Form}
+use Rattle.epoch.specs.Copies.{copy_of, differing, first_damage}
+use Rattle.epoch.specs.Forms.{Form, Root}
 use Rattle.epoch.specs.Header.{entry_at}
-use Rattle.epoch.specs.declared.find.TheConstants.{FLAT_VERSION}
 use Rattle.epoch.specs.declared.header.TreeEntry.{TreeEntry}
-use Rattle.flat_volume.specs.declared.places.TheConstants.{FIRST_LEAF, FIRST_TABLE, SLOT_BLOCKS, TABLE_BLOCKS, TABLE_BYTES, ENTRY_BYTES}
-
--- which of its two copies a number names
-abbrev pub copy_of : ℕ → ℕ
-copy_of copy = if copy == 0 then 0 else 1
+use Rattle.flat_volume.specs.declared.places.TheConstants.{FIRST_LEAF, FIRST_TABLE, FLAT_VERSION, SLOT_BLOCKS, TABLE_BLOCKS, TABLE_BYTES, ENTRY_BYTES}
 
 -- the block of a copy of a place
 abbrev pub block_at : ℕ → ℕ → ℕ
@@ -44,11 +40,6 @@ table_in image root =
 abbrev pub entry_of : List ℕ → ℕ → TreeEntry
 entry_of table number = entry_at (ENTRY_BYTES * number) table
 
--- a tag that was computed and the one that is kept, where they differ
-unfoldable pub differing : List ℕ → List ℕ → Option Mismatch
-differing found kept =
-    if bytes_eq found kept then None else Some (record { found = found; kept = kept })
-
 -- the tag of a table, as a commit with this sequence writes it: that of a sealed block at place 0, with a vector of zeros
 unfoldable pub table_tag : List ℕ → ℕ → List ℕ → List ℕ
 table_tag key sequence table = seal_tag key 0 sequence (replicate 16 0) table
@@ -64,11 +55,6 @@ leaf_damage key image place entry =
     if entry.sequence == 0 then None
     else differing
     (seal_tag key place entry.sequence entry.iv (image (block_at place entry.copy))) entry.tag
-
--- the first of two damages
-abbrev pub first_damage : Option Mismatch → Option Mismatch → Option Mismatch
-first_damage (Some tags) rest = Some tags
-first_damage None rest = rest
 
 -- the first damage on the way from a table to a leaf: the table's, and then the leaf's
 abbrev pub path_damage : List ℕ → List ℕ → (ℕ → List ℕ) → TreeEntry → ℕ → Option Mismatch
@@ -99,9 +85,17 @@ flat_uses key image root k =
 abbrev pub flat : Form
 flat = record {
   version = FLAT_VERSION;
+  known = λ version. version == FLAT_VERSION;
+  leaves = LEAVES;
+  blocks = BOARD_BLOCKS;
   damage = λ key image root region leaf.
-      path_damage key (table_in image root) image root (number_of region leaf);
+      path_damage key (table_in image root.entry) image root.entry (number_of region leaf);
   leaf = λ key image root region leaf. leaf_text key image (FIRST_LEAF + number_of region leaf)
-      (entry_of (table_in image root) (number_of region leaf));
-  uses = flat_uses;
+      (entry_of (table_in image root.entry) (number_of region leaf));
+  sound = λ key image root. true;
+  uses = λ key image root. flat_uses key image root.entry;
 }
+
+-- the root of a flat volume with this entry
+abbrev pub flat_root : TreeEntry → Root
+flat_root entry = record { version = FLAT_VERSION; entry = entry }

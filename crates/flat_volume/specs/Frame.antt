@@ -1,15 +1,17 @@
 -- The laws of the flat form: what its leaves rest on, and what a root of sequence 0 stands for.
-use Rattle.std.proofs.Common.{◌≡◌, ◌≤◌, ◌<◌, ◌+◌, ◌-◌, ◌*◌, ◌/◌, ◌%◌, ◌==◌, ◌∙◌, if◌then◌else◌, ℕ, zero, suc, true, false, nat_lt, List, Option, None, take, replicate, refl, ap, arith}
+use Rattle.std.proofs.Common.{◌≡◌, ◌≤◌, ◌<◌, ◌+◌, ◌-◌, ◌*◌, ◌/◌, ◌%◌, ◌==◌, ◌||◌, ◌∙◌, if◌then◌else◌, ℕ, zero, suc, not, true, false, nat_lt, List, Option, None, take, replicate, refl, ap, arith}
 use Rattle.std.specs.Int.{w64, from_le_bytes}
 use Rattle.std.proofs.lemmas.Bool.Decides.{nat_tests}
 use Rattle.std.proofs.lemmas.List.{drop-replicate, take-replicate}
-use Rattle.tee_base.specs.declared.limits.TheConstants.{BLOCK_BYTES, MAX_HOSTS, LEAVES}
+use Rattle.tee_base.specs.declared.limits.TheConstants.{BLOCK_BYTES, BOARD_BLOCKS, MAX_HOSTS, LEAVES}
 use Rattle.store_api.specs.declared.answer.Mismatch.{Mismatch}
+use Rattle.epoch.specs.Copies.{copy_of, first_damage}
+use Rattle.epoch.specs.Formats.{IsFormatOf}
 use Rattle.epoch.specs.Forms.{IsFramed, SameUsed}
 use Rattle.epoch.specs.Parts.{part}
 use Rattle.epoch.specs.declared.header.TreeEntry.{TreeEntry}
-use Rattle.flat_volume.specs.declared.places.TheConstants.{FIRST_LEAF, FIRST_TABLE, TABLE_BLOCKS, TABLE_BYTES, ENTRY_BYTES, ALL_LEAVES}
-use Rattle.flat_volume.specs.Flat.{block_at, copy_of, entry_of, first_damage, flat, flat_uses, joined_below, leaf_damage, leaf_text}
+use Rattle.flat_volume.specs.declared.places.TheConstants.{FLAT, FIRST_LEAF, FIRST_TABLE, TABLE_BLOCKS, TABLE_BYTES, ENTRY_BYTES, ALL_LEAVES}
+use Rattle.flat_volume.specs.Flat.{block_at, entry_of, flat, flat_root, flat_uses, joined_below, leaf_damage, leaf_text}
 use Rattle.flat_volume.specs.Flat.{needs_copy, number_of, path_damage, table_damage, table_in, zero_table, zeros_of}
 
 -- a copy is 0 or 1
@@ -82,7 +84,7 @@ table_by root base image same =
       | false ↦ joined_same TABLE_BLOCKS (λ i. image (block_at (FIRST_TABLE + i) root.copy)) (λ i. base (block_at (FIRST_TABLE + i) root.copy)) same
     ]
 
-pub table_same : (key : List ℕ) (root : TreeEntry) (base image : ℕ → List ℕ) → SameUsed flat key root base image → table_in image root ≡ table_in base root
+pub table_same : (key : List ℕ) (root : TreeEntry) (base image : ℕ → List ℕ) → SameUsed flat key (flat_root root) base image → table_in image root ≡ table_in base root
 table_same key root base image same =
     table_by root base image (λ i below. same (block_at (FIRST_TABLE + i) root.copy) (uses_table key base root i below))
 
@@ -96,7 +98,7 @@ pub leaf_text_same : (key : List ℕ) (place : ℕ) (e : TreeEntry) (base image 
 unfolding leaf_text
 leaf_text_same key place e base image same = rw same refl
 
-flat_damage_same : (key : List ℕ) (root : TreeEntry) (base image : ℕ → List ℕ) (n : ℕ) → SameUsed flat key root base image
+flat_damage_same : (key : List ℕ) (root : TreeEntry) (base image : ℕ → List ℕ) (n : ℕ) → SameUsed flat key (flat_root root) base image
     → path_damage key (table_in image root) image root n ≡ path_damage key (table_in base root) base root n
 flat_damage_same key root base image n same =
     let e : TreeEntry = entry_of (table_in base root) n in
@@ -104,7 +106,7 @@ flat_damage_same key root base image n same =
     ∙ ap (first_damage (table_damage key (table_in base root) root))
     (leaf_damage_same key (FIRST_LEAF + n) e base image (same (block_at (FIRST_LEAF + n) e.copy) (uses_leaf key base root n)))
 
-flat_leaf_same : (key : List ℕ) (root : TreeEntry) (base image : ℕ → List ℕ) (n : ℕ) → SameUsed flat key root base image
+flat_leaf_same : (key : List ℕ) (root : TreeEntry) (base image : ℕ → List ℕ) (n : ℕ) → SameUsed flat key (flat_root root) base image
     → leaf_text key image (FIRST_LEAF + n) (entry_of (table_in image root) n) ≡ leaf_text key base (FIRST_LEAF + n) (entry_of (table_in base root) n)
 flat_leaf_same key root base image n same =
     let e : TreeEntry = entry_of (table_in base root) n in
@@ -160,9 +162,29 @@ flat_zeros key root image n none below =
 
 pub flat_framed : IsFramed flat
 flat_framed = record {
-  same_damage = λ key root base image region leaf same r l. flat_damage_same key root base image (number_of region leaf) same;
-  same_leaf = λ key root base image region leaf same r l. flat_leaf_same key root base image (number_of region leaf) same;
-  behind = λ key root image k low. flat_behind key root image k low;
-  no_damage = λ key root image region leaf none r l. flat_no_damage key root image (number_of region leaf) none (number_below region leaf r l);
-  zeros = λ key root image region leaf none r l. flat_zeros key root image (number_of region leaf) none (number_below region leaf r l);
+  same_damage = λ key root base image region leaf same r l. flat_damage_same key root.entry base image (number_of region leaf) same;
+  same_leaf = λ key root base image region leaf same r l. flat_leaf_same key root.entry base image (number_of region leaf) same;
+  same_sound = λ key root base image same. refl;
+  behind = λ key root image k low. flat_behind key root.entry image k low;
+  slots = omega arith;
+  accepted = refl;
+  no_damage = λ key root image region leaf none r l. flat_no_damage key root.entry image (number_of region leaf) none.sequence (number_below region leaf r l);
+  zeros = λ key root image region leaf none r l. flat_zeros key root.entry image (number_of region leaf) none.sequence (number_below region leaf r l);
+  blank_sound = λ key root image none. refl;
 }
+
+-- version 0 alone is accepted
+pub zero_alone : (version : ℕ) → (version == 0) ≡ not (nat_lt version 0 || nat_lt 0 version)
+zero_alone zero = refl
+zero_alone (suc n) =
+    let some : (suc n == 0) ≡ false = grind arith in
+    let below : nat_lt (suc n) 0 ≡ false = grind (arith, nat_tests) in
+    let above : nat_lt 0 (suc n) ≡ true = grind (arith, nat_tests) in
+    rw (some, below, above) refl
+
+pub flat_format : IsFormatOf flat FLAT
+flat_format = record { known = λ i version. zero_alone version i; blocks = refl }
+
+-- what is accepted is what is written
+pub flat_single : (version : ℕ) → (version == 0) ≡ true → (version == 0) ≡ true
+flat_single version is = is

@@ -7,7 +7,7 @@ use Rattle.board.specs.Moment.{moment, left_since}
 use Rattle.board.specs.declared.Board.{Ghosts}
 use Rattle.epoch.specs.Commits.{IsSteady}
 use Rattle.epoch.specs.Forms.{held_of}
-use Rattle.flat_volume.specs.Flat.{flat}
+use Rattle.flat_volume.specs.Flat.{flat, flat_root}
 use Rattle.flat_volume.specs.Keeping.{IsOpen, damage_now, held_now, text_now}
 use Rattle.flat_volume.specs.declared.volume.FlatVolume.{FlatVolume}
 
@@ -30,7 +30,7 @@ flat_keeper {B} {G} = record {
   honest_below = λ v. G.honest v.board;
   honest = λ v. G.honest v.board
       × (v.lost ≡ false → IsOpen (G.view v.board) v.root v.sequence v.table)
-      × IsSteady flat (G.view v.board).key v.root (G.view v.board).state;
+      × IsSteady flat (G.view v.board).key (flat_root v.root) (G.view v.board).state;
   text = λ v. text_now v.table (G.view v.board) v.root;
   damage = λ v. damage_now v.table (G.view v.board) v.root;
   moment = λ v. moment (G.view v.board);

@@ -9,10 +9,12 @@ ghost use Rattle.flat_volume.specs.Flat.{joined_below, block_at as block_of_copy
 ghost use Rattle.flat_volume.specs.Keeping.{IsVerified, table_now};
 ghost use Rattle.epoch.specs.Reading.{OnlyReads, no_fault};
 
-use crate::places::{ALL_LEAVES, FIRST_LEAF, FIRST_TABLE, PLACES, TABLE_BLOCKS, block_at};
+use crate::places::{
+    ALL_LEAVES, FIRST_LEAF, FIRST_TABLE, PLACES, TABLE_BLOCKS, VOLUME_BLOCKS, block_at,
+};
 use crate::table::Table;
 use board::{Board, BoardFailed};
-use epoch::{TreeEntry, VOLUME_BLOCKS};
+use epoch::TreeEntry;
 use seal::{Keys, Tags, open_leaf};
 use std::alloc::Global;
 use store_api::{LeafAnswer, Mismatch};

@@ -1,9 +1,23 @@
 //! Where the table and the leaves stand.
-ghost use Rattle.std.specs.Prelude.{◌≡◌, ◌<◌, ◌+◌, ◌*◌, ◌-◌};
+ghost use Rattle.std.specs.Prelude.{◌≡◌, ◌<◌, ◌+◌, ◌*◌};
 ghost use Rattle.tee_base.specs.declared.limits.TheConstants.{BOARD_BLOCKS, LEAVES, MAX_HOSTS};
-ghost use Rattle.flat_volume.specs.Flat.{block_at as block_of_copy, copy_of, number_of};
+ghost use Rattle.flat_volume.specs.Flat.{block_at as block_of_copy, number_of};
 
+use epoch::{Format, named_copy};
 use tee_base::limits;
+
+/// The version of a volume that is one flat table.
+pub const FLAT_VERSION: u32 = 0;
+
+/// How many blocks a volume has.
+pub const VOLUME_BLOCKS: u64 = limits::BOARD_BLOCKS;
+
+/// What an opening takes of the form.
+pub const FLAT: Format = Format {
+    oldest: FLAT_VERSION,
+    newest: FLAT_VERSION,
+    blocks: VOLUME_BLOCKS,
+};
 
 /// How many blocks the two slots have.
 pub const SLOT_BLOCKS: u64 = 4;
@@ -28,21 +42,6 @@ pub const FIRST_LEAF: u64 = 273;
 
 /// How many places there are.
 pub const PLACES: u64 = 4369;
-
-/// Which of its two copies a number names.
-pub fn named_copy(copy: u64) -> u64
-    ensures copy { result ≡ copy_of copy }
-    ensures below { result < 2 }
-{
-    if copy == 0 { 0 } else { 1 }
-}
-
-/// The number of the copy that another number doesn't name.
-pub fn other_copy(copy: u64) -> u64
-    ensures { result ≡ 1 - copy_of copy }
-{
-    if copy == 0 { 1 } else { 0 }
-}
 
 /// The block of a copy of a place.
 pub fn block_at(place: u64, copy: u64) -> u64

@@ -1,5 +1,6 @@
 //! A flat volume on a board.
 ghost use Rattle.std.specs.Prelude.{◌≡◌, ◌≢◌, ◌≤◌, ◌<◌, ◌+◌, ◌-◌, ◌^◌, ◌⊎◌, not, true, false, ◌∷◌, ℕ, Option, Some, Err, IsTrue, IfOk, OnErr, length, refl};
+ghost use Rattle.std.proofs.Common.{arith};
 ghost use Rattle.std.proofs.Props.{props};
 ghost use Rattle.tee_base.specs.Faults.{Rose};
 ghost use Rattle.tee_base.specs.declared.limits.TheConstants.{BOARD_BLOCKS, LEAVES, MAX_HOSTS};
@@ -13,20 +14,20 @@ ghost use Rattle.epoch.specs.Forms.{held_of};
 ghost use Rattle.epoch.specs.Opening.{opening_of};
 ghost use Rattle.epoch.specs.declared.answer.OpenAnswer.TheVariants.{Rollback};
 ghost use Rattle.epoch.specs.Past.{KeepsPast};
-ghost use Rattle.epoch.specs.Reading.{is_failure, no_fault};
-ghost use Rattle.epoch.specs.declared.header.TreeEntry.{TreeEntry as Entry};
-ghost use Rattle.flat_volume.specs.Flat.{flat, table_damage, table_in};
-ghost use Rattle.flat_volume.specs.Keeping.{Exhausts, IsOpen, IsVerified, Replaces, damage_now, held_now, text_now};
-ghost use Rattle.flat_volume.specs.declared.table.Table.{Table as Known};
-ghost use Rattle.flat_volume.specs.Writing.{KeepsSealed};
-ghost use Rattle.flat_volume.specs.Laws.{found_open, left_open, rests_open, since_earlier, sound_open};
+ghost use Rattle.epoch.specs.Reading.{no_fault};
+ghost use Rattle.flat_volume.specs.Flat.{flat, flat_root, table_damage, table_in};
+ghost use Rattle.flat_volume.specs.Frame.{flat_framed};
+ghost use Rattle.flat_volume.specs.Keeping.{IsKept, IsOpen, IsVerified, Replaces, damage_now, held_now, text_now};
+ghost use Rattle.flat_volume.specs.Writing.{IsRootFor, KeepsSealed};
+ghost use Rattle.epoch.proofs.LeftLemmas.{left_in_use, rests_in_use, since_earlier};
+ghost use Rattle.flat_volume.specs.Laws.{found_open, sound_open};
 
 use crate::load::{find_leaf, known_table};
-use crate::places::{TABLE_BLOCKS, number_in_all};
+use crate::places::{TABLE_BLOCKS, VOLUME_BLOCKS, number_in_all};
 use crate::table::Table;
 use crate::write::FlatChange;
 use board::Board;
-use epoch::{FLAT_VERSION, TreeEntry, VOLUME_BLOCKS, commit};
+use epoch::{TreeEntry, commit, exhaust, is_failed};
 use seal::Keys;
 use std::alloc::Global;
 use store_api::{LeafAnswer, Leaves, Volume};
@@ -81,7 +82,8 @@ fn replace<B: Board>(
         ≤ (B.view board.old).writes + length leaves.now + TABLE_BLOCKS + 3 }
     ensures unwritten { OnErr result (no_fault result ≡ true
         → (B.view board.new).writes ≡ (B.view board.old).writes) }
-    ensures sealed_for { IfOk result (λ after. after.root.sequence ≡ opened.sequence + 1) }
+    ensures sealed_for { IsVerified (B.view board.old).key opened.table opened.root
+        → IfOk result (λ after. IsRootFor (opened.sequence + 1) after.root) }
     ensures entries { IsVerified (B.view board.old).key opened.table opened.root
         → IfOk result (λ after. KeepsSealed (B.view board.old).key (opened.sequence + 1)
         after.table region leaves.now) }
@@ -120,46 +122,16 @@ fn replace<B: Board>(
     }
 }
 
-/// No sequence is left: the counter is advanced before anything is written, which fails where the board is honest.
-fn exhaust<B: Board>(board: &mut B) -> LeafAnswer
-    ensures calls { CallRun (not (is_failure result)) (B.view board.old) (B.view board.new) }
-    ensures cause { result ≡ answers.Failed
-        → Rose (B.view board.old).state.faults (B.view board.new).state.faults }
-    ensures answer { (result ≡ answers.Failed) ⊎ (result ≡ answers.NoMemory) }
-    ensures writes { (B.view board.new).writes ≡ (B.view board.old).writes }
-    ensures called { (B.view board.new).fuse ≡ burnt (B.view board.old).fuse }
-    ensures honest { B.honest board.old → B.honest board.new }
-    ensures past { B.honest board.old → KeepsPast (B.view board.old) (B.view board.new) }
-    ensures failed { B.honest board.old → (root : Entry) (table : Option Known)
-        → IsOpen (B.view board.old) root (2 ^ 64 - 1) table
-        → Exhausts root result (B.view board.old) (B.view board.new) }
-{
-    match board.advance() {
-        Ok(_) => LeafAnswer::NoMemory,
-        Err(_) => LeafAnswer::Failed,
-    }
-}
-
-/// Whether a call of the board failed.
-fn is_failed(answer: LeafAnswer) -> bool
-    ensures { result ≡ is_failure answer }
-{
-    match answer {
-        LeafAnswer::Failed => true,
-        _ => false,
-    }
-}
-
 impl<B: Board + Drop> Volume for FlatVolume<B> {
     ghost use Rattle.flat_volume.specs.Keepers.{flat_keeper};
 
     ghost keeper = { flat_keeper };
 
-    ghost rests = { λ v h live. record { only = rests_open (B.view v.board) v.root v.sequence v.table (h.1 live) } };
+    ghost rests = { λ v h live. record { only = rests_in_use flat flat_framed (B.view v.board) (flat_root v.root) v.sequence (h.1 live).mounted } };
 
-    ghost whole = { refl };
+    ghost whole = { Prim.omega arith };
 
-    ghost left_now = { λ v h live. left_open (B.view v.board) v.root v.sequence v.table (B.consistent v.board h.0) (h.1 live) };
+    ghost left_now = { λ v h live. left_in_use flat flat_framed (B.view v.board) (flat_root v.root) v.sequence (h.1 live).mounted (B.consistent v.board h.0) };
 
     ghost found = { λ v h live region leaf r l. found_open (B.view v.board) v.root v.sequence v.table (h.1 live) region leaf };
 
@@ -167,7 +139,7 @@ impl<B: Board + Drop> Volume for FlatVolume<B> {
 
     ghost honest_tells = { λ v h. B.honest_reads v.board h.0 };
 
-    ghost since_earlier = { λ v t u o le left. since_earlier (B.view v.board) t u o le left };
+    ghost since_earlier = { λ v t u o le left. since_earlier flat (B.view v.board) t u o le left };
 
     fn read_leaf(
         &mut self,
@@ -179,6 +151,10 @@ impl<B: Board + Drop> Volume for FlatVolume<B> {
         requires leaf { leaf < LEAVES }
         ensures reads { ReadsLeaf flat_keeper region leaf into.new result self.old self.new }
         ensures root { self.new.root ≡ self.old.root }
+        // what it keeps stays what reads give
+        ensures kept { IsTrue B.tells_reads
+            → IsKept self.old.table (B.view self.old.board).state.reads self.old.root
+            → IsKept self.new.table (B.view self.new.board).state.reads self.old.root }
     {
         if self.lost {
             return Err(LeafAnswer::Lost);
@@ -208,13 +184,13 @@ impl<B: Board + Drop> Volume for FlatVolume<B> {
         ensures writes { (B.view self.new.board).writes
             ≤ (B.view self.old.board).writes + length leaves.now + TABLE_BLOCKS + 3 }
         ensures root { OnErr result (self.new.root ≡ self.old.root) }
-        ensures sealed_for { IfOk result (λ sequence. self.new.root.sequence ≡ sequence) }
+        ensures sealed_for { IfOk result (λ sequence. IsRootFor sequence self.new.root) }
         ensures entries { IfOk result (λ sequence. KeepsSealed (B.view self.old.board).key sequence
             self.new.table region leaves.now) }
         // from then on the board is refused at every greater counter
         ensures rollback { flat_keeper.honest self.old → IfOk result (λ sequence.
             (counter : ℕ) → sequence < counter
-            → opening_of FLAT_VERSION (B.view self.new.board).key
+            → opening_of flat.known (B.view self.new.board).key
             (B.view self.new.board).state.reads counter ≡ Err (Rollback sequence counter)) }
         // at the last sequence the counter is advanced in vain, and nothing else is called
         ensures exhausted { self.old.lost ≡ false → self.old.sequence ≡ 2 ^ 64 - 1

@@ -1,26 +1,28 @@
 //! What a commit of a flat volume writes: the copies of its leaves, and the whole table.
 ghost use Rattle.std.specs.Prelude.{◌≡◌, ◌≢◌, ◌≤◌, ◌<◌, ◌+◌, ◌-◌, ◌*◌, ◌^◌, ℕ, Bool, true, List, None, IfOk, OnOk, is_ok, length};
-ghost use Rattle.tee_base.specs.declared.limits.TheConstants.{BOARD_BLOCKS, LEAVES, MAX_HOSTS};
+ghost use Rattle.tee_base.specs.declared.limits.TheConstants.{LEAVES, MAX_HOSTS};
 ghost use Rattle.store_api.specs.Ascending.{is_above_all, is_ascending};
 ghost use Rattle.store_api.specs.Volumes.{replaced};
 ghost use Rattle.board.specs.Moment.{View};
 ghost use Rattle.board.specs.Runs.{RunsOver};
 ghost use Rattle.board.specs.Steps.{CallRun};
 ghost use Rattle.seal.specs.Keys.{AreKeysOf};
+ghost use Rattle.epoch.specs.Copies.{copy_of};
 ghost use Rattle.epoch.specs.Parts.{part};
 ghost use Rattle.epoch.specs.Past.{KeepsPast};
-ghost use Rattle.flat_volume.specs.Flat.{block_at as block_of_copy, copy_of, entry_of, flat, leaf_damage, leaf_text, number_of, table_in};
+ghost use Rattle.flat_volume.specs.Flat.{block_at as block_of_copy, entry_of, flat, flat_root, leaf_damage, leaf_text, number_of, table_in};
 ghost use Rattle.flat_volume.specs.Frame.{flat_framed};
 ghost use Rattle.flat_volume.specs.declared.places.TheConstants.{TABLE_BLOCKS};
-ghost use Rattle.flat_volume.specs.Writing.{AreSealed, AreSealedFor, AreSpare, IsSealedFor, leaves_by, spare_block};
-ghost use Rattle.flat_volume.specs.Change.{ChecksFlat, FitsFlat, four_blocks, table_still_fits};
+ghost use Rattle.flat_volume.specs.Writing.{AreSealed, AreSealedFor, AreSpare, IsRootFor, IsSealedFor, leaves_by, spare_block};
+ghost use Rattle.flat_volume.specs.Change.{ChecksFlat, FitsFlat, table_still_fits};
 
 use crate::places::{
-    ALL_LEAVES, FIRST_LEAF, FIRST_TABLE, TABLE_BLOCKS, block_at, number_in_all, other_copy,
+    ALL_LEAVES, FIRST_LEAF, FIRST_TABLE, FLAT_VERSION, TABLE_BLOCKS, VOLUME_BLOCKS, block_at,
+    number_in_all,
 };
 use crate::table::Table;
 use board::{BLOCK, Board, BoardFailed};
-use epoch::{Change, FLAT_VERSION, TreeEntry, VOLUME_BLOCKS};
+use epoch::{Change, TreeEntry, other_copy};
 use seal::{Keys, Tags, seal_leaf};
 use store_api::Leaf;
 
@@ -37,18 +39,10 @@ pub struct FlatChange<'a> {
     ghost inside: { is_above_all leaves.now LEAVES ≡ true },
 }
 
-/// What a blank board has in place of a root: the table that formatting writes goes into copy 0.
-pub const NO_ROOT: TreeEntry = TreeEntry {
-    copy: 1,
-    sequence: 0,
-    iv: [0; 16],
-    tag: [0; 32],
-};
-
 impl Change for FlatChange<'_> {
     ghost form = { flat };
 
-    ghost root = { λ c. c.root };
+    ghost root = { λ c. flat_root c.root };
 
     ghost after = { λ c. replaced c.region c.leaves.now };
 
@@ -56,17 +50,13 @@ impl Change for FlatChange<'_> {
 
     ghost checks = { λ c key. ChecksFlat c.keys.now c.table c.root key };
 
-    ghost seals = { λ old new key sequence. AreSealedFor key sequence new.table.bytes.items old.region old.leaves.now };
+    ghost seals = { λ old new key sequence. IsRootFor sequence new.root × AreSealedFor key sequence new.table.bytes.items old.region old.leaves.now };
 
     ghost cost = { λ c. length c.leaves.now + TABLE_BLOCKS };
-
-    ghost blocks = { BOARD_BLOCKS };
 
     ghost framed = { flat_framed };
 
     ghost still_fits = { λ c key base image same fits. table_still_fits c.keys.now c.table c.root key base image same fits };
-
-    ghost enough = { four_blocks };
 
     fn version(&self) -> u32 {
         FLAT_VERSION

@@ -4,7 +4,7 @@ use super::steps::{Row, opened, run};
 use crate::filling::{NEW, OLD};
 use board::{Board, BoardFailed};
 use boards::MemBoard;
-use epoch::{FLAT_VERSION, Header, OpenAnswer, TreeEntry, flip, lay};
+use epoch::{Header, OpenAnswer, TreeEntry, flip, lay};
 use std::alloc::Global;
 use std::process::Abort;
 use std::test::Fail;
@@ -99,7 +99,7 @@ fn a_commit_is_found_at_the_next_opening(rt: HostRuntime) -> Result<(), Fail> {
 
 /// A header of sequence 0, whose root stands for zeros.
 const OF_ZERO: Header = Header {
-    version: FLAT_VERSION,
+    version: 0,
     sequence: 0,
     root: TreeEntry {
         copy: 1,

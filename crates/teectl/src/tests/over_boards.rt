@@ -3,7 +3,7 @@
 use super::{Streams, blank, run_over, streams_of};
 use board::Board;
 use boards::MemBoard;
-use epoch::{FLAT_VERSION, Header, OpenAnswer, TreeEntry, flip, lay};
+use epoch::{Header, OpenAnswer, TreeEntry, flip, lay};
 use sample_apps::sample_hosts;
 use std::alloc::Global;
 use std::process::Abort;
@@ -220,7 +220,7 @@ fn lay_first(rt: &impl Abort, board: &mut MemBoard) {
         tag: [0; 32],
     };
     let header = Header {
-        version: FLAT_VERSION,
+        version: 0,
         sequence: 0,
         root,
     };

@@ -1,5 +1,147 @@
-use Rattle.epoch.proofs.FindLemmas.{refuses_older}
+use Rattle.epoch.proofs.CallLemmas.{run_as, run_failed, run_more, run_none}
+use Rattle.epoch.proofs.PastLemmas.{itself, followed}
+use Rattle.std.proofs.Common.{◌≡◌, ◌≢◌, ◌≤◌, ◌∙◌, ℕ, List, false, Some, None, Ok, Err, refl, sym, subst, arith, rules}
+use Rattle.std.proofs.lemmas.Bool.{ltb-false}
+use Rattle.seal.specs.Keys.{AreKeysOf}
+use Rattle.epoch.specs.Opening.{header_answer}
+use Rattle.epoch.specs.declared.answer.OpenAnswer.TheVariants.{Failed}
+use Rattle.epoch.specs.Formats.{accepts}
+use Rattle.epoch.proofs.RuleLemmas.{asked}
+use Rattle.epoch.proofs.FindLemmas.{accepted_answer, blank_counter, settled_answer, told_counter, find_starts, find_crash, opens_below, judged_opening, judged_so, refuses_older, ruled_answer, between}
 use Rattle.epoch.proofs.find.find_header.Goals as goal
+use Rattle.epoch.proofs.find.find_header.Goals.{in-Err, in-Ok-None, in-Ok-Some}
+
+pub returns-then-blocks-format-clause-crash : goal.returns-then-blocks-format-clause-crash
+returns-then-blocks-format-clause-crash g c h n rests = find_crash (accepts c.args.format) n _ _ (find_starts (accepts c.args.format) n _ rests)
+
+pub returns-in_err-seen-clause-run : goal.returns-in_err-seen-clause-run
+returns-in_err-seen-clause-run g c h open_at base low high first opens run = c.in_err-seen.ensures.run h open_at base low high first run
+
+pub returns-in_err-seen-clause-crash : goal.returns-in_err-seen-clause-crash
+returns-in_err-seen-clause-crash g c h n rests =
+    find_crash (accepts c.args.format) n _ _ (c.in_err-seen.ensures.run h (λ k. false) (g.B.Board.view c.args.board.now).state.reads n _ _ (find_starts (accepts c.args.format) n _ rests))
+
+pub returns-clause-rule : goal.returns-clause-rule
+returns-clause-rule g c tells =
+    let v = g.B.Board.view c.args.board.now in
+    let keys : AreKeysOf c.of-keys.result v.key = subst (λ (k : List ℕ). AreKeysOf c.of-keys.result k) c.key.ensures c.of-keys.ensures in
+    let slots = c.in_ok-seen.ensures.slots tells v.key keys in
+    let told = judged_opening (accepts c.args.format) v.key v.state.reads c.in_ok-seen.seen.first c.in_ok-seen.seen.second c.in_ok-seen.seen.counter c.judge.result slots.0 slots.1 c.judge.ensures in
+    let large : c.args.format.blocks ≤ v.size = omega (arith, c.if-blocks-format.false, c.blocks-blocks.ensures) in
+    let answers : c.match-judge.result ≢ Err Failed → c.match-judge.result ≡ header_answer c.judge.result
+    = λ made. elim c.match-judge.branch [
+      | in-Err w ↦ rw (w.in-Err.is, w.result-is) refl
+      | in-Ok-None w ↦ (let e : c.judge.result ≡ Ok None = cc in rw (e, w.result-is) refl)
+      | in-Ok-Some w ↦ (let e : c.judge.result ≡ Ok (Some w.in-Ok-Some.found) = cc in rw e (w.result-is ∙ w.raise.ensures.answer (λ failed. made (w.result-is ∙ failed))))
+    ] in
+    (c.in_ok-seen.seen.counter, ruled_answer (accepts c.args.format) c.args.format.blocks v.size v.key v.state.reads c.in_ok-seen.seen.counter c.judge.result c.match-judge.result large told answers)
+
+pub returns-clause-exact : goal.returns-clause-exact
+returns-clause-exact g c h =
+    let v = g.B.Board.view c.args.board.now in
+    let keys : AreKeysOf c.of-keys.result v.key = subst (λ (k : List ℕ). AreKeysOf c.of-keys.result k) c.key.ensures c.of-keys.ensures in
+    let slots = c.in_ok-seen.ensures.slots (g.met.B.Board.honest_reads c.args.board.now h) v.key keys in
+    let told = judged_opening (accepts c.args.format) v.key v.state.reads c.in_ok-seen.seen.first c.in_ok-seen.seen.second c.in_ok-seen.seen.counter c.judge.result slots.0 slots.1 c.judge.ensures in
+    let large : c.args.format.blocks ≤ v.size = omega (arith, c.if-blocks-format.false, c.blocks-blocks.ensures) in
+    let answers : c.match-judge.result ≢ Err Failed → c.match-judge.result ≡ header_answer c.judge.result
+    = λ made. elim c.match-judge.branch [
+      | in-Err w ↦ rw (w.in-Err.is, w.result-is) refl
+      | in-Ok-None w ↦ (let e : c.judge.result ≡ Ok None = cc in rw (e, w.result-is) refl)
+      | in-Ok-Some w ↦ (let e : c.judge.result ≡ Ok (Some w.in-Ok-Some.found) = cc in rw e (w.result-is ∙ w.raise.ensures.answer (λ failed. made (w.result-is ∙ failed))))
+    ] in
+    record {
+      counter = c.in_ok-seen.seen.counter;
+      among = (c.in_ok-seen.ensures.counter h).among;
+      ruled = ruled_answer (accepts c.args.format) c.args.format.blocks v.size v.key v.state.reads c.in_ok-seen.seen.counter c.judge.result c.match-judge.result large told answers;
+      still = λ made. elim c.match-judge.branch [
+        | in-Err w ↦ rw (w.result-is, w.board-is) (told_counter _ _ _ (c.in_ok-seen.ensures.counter h))
+        | in-Ok-None w ↦ rw w.result-is tt
+        | in-Ok-Some w ↦ rw (w.result-is ∙ w.raise.ensures.answer (λ failed. made (w.result-is ∙ failed))) tt
+      ];
+    }
+
+pub returns-clause-run : goal.returns-clause-run
+returns-clause-run g c h open_at base low high first opens run =
+    let v = g.B.Board.view c.args.board.now in
+    let keys : AreKeysOf c.of-keys.result v.key = subst (λ (k : List ℕ). AreKeysOf c.of-keys.result k) c.key.ensures c.of-keys.ensures in
+    let slots = c.in_ok-seen.ensures.slots (g.met.B.Board.honest_reads c.args.board.now h) v.key keys in
+    let n = c.in_ok-seen.seen.counter in
+    let told = judged_opening (accepts c.args.format) v.key v.state.reads c.in_ok-seen.seen.first c.in_ok-seen.seen.second n c.judge.result slots.0 slots.1 c.judge.ensures in
+    let counted = c.in_ok-seen.ensures.counter h in
+    let mid = c.in_ok-seen.ensures.run h open_at base low high first run in
+    elim c.match-judge.branch [
+      | in-Err w ↦ rw w.board-is mid
+      | in-Ok-None w ↦ rw w.board-is mid
+      | in-Ok-Some w ↦
+          let e : c.judge.result ≡ Ok (Some w.in-Ok-Some.found) = cc in
+          let b = between (accepts c.args.format) v.key open_at base low high n v.state w.in-Ok-Some.found run.now counted.among opens (sym told ∙ e) in
+          rw w.board-is (w.raise.ensures.run (c.in_ok-seen.ensures.honest h)
+          (record { counter = counted.counter; slack = counted.slack }) open_at base low high first b.counter b.highest b.least b.most mid)
+    ]
+
+pub returns-clause-crash : goal.returns-clause-crash
+returns-clause-crash g c h n rests =
+    let v = g.B.Board.view c.args.board.now in
+    find_crash (accepts c.args.format) n _ _ (returns-clause-run g c h (λ k. false) v.state.reads n _ _ (opens_below (accepts c.args.format) v.key v.state.reads n)
+    (find_starts (accepts c.args.format) n _ rests))
+
+pub returns-clause-counter : goal.returns-clause-counter
+returns-clause-counter g c h =
+    let seen = c.in_ok-seen.seen in
+    let counted = c.in_ok-seen.ensures.counter h in
+    elim c.match-judge.branch [
+      | in-Err w ↦ rw w.result-is tt
+      | in-Ok-None w ↦
+          let e : c.judge.result ≡ Ok None = cc in
+          let zero = blank_counter (accepts c.args.format) seen.first seen.second seen.counter (sym c.judge.ensures ∙ e) in
+          rw (w.result-is, w.board-is) (record { counter = counted.counter ∙ zero; slack = counted.slack })
+      | in-Ok-Some w ↦
+          let e : c.judge.result ≡ Ok (Some w.in-Ok-Some.found) = cc in
+          let two = (asked (accepts c.args.format) seen.first seen.second seen.counter w.in-Ok-Some.found (sym c.judge.ensures ∙ e)).counts in
+          let settled = w.raise.ensures.counter (c.in_ok-seen.ensures.honest h) (record { counter = counted.counter; slack = counted.slack })
+          (ltb-false _ _ two.least) (ltb-false _ _ two.most) in
+          rw (w.result-is, w.board-is) (settled_answer w.raise.result w.in-Ok-Some.found.header _ w.raise.ensures.answer settled)
+    ]
+
+pub returns-then-blocks-format-clause-past : goal.returns-then-blocks-format-clause-past
+returns-then-blocks-format-clause-past g c h = itself _
+
+pub returns-clause-past : goal.returns-clause-past
+returns-clause-past g c h =
+    let one = c.in_ok-seen.ensures.past h in
+    elim c.match-judge.branch [
+      | in-Err w ↦ rw w.board-is one
+      | in-Ok-None w ↦ rw w.board-is one
+      | in-Ok-Some w ↦ rw w.board-is (followed _ _ _ one (w.raise.ensures.past (c.in_ok-seen.ensures.honest h)))
+    ]
+
+pub returns-then-blocks-format-clause-calls : goal.returns-then-blocks-format-clause-calls
+returns-then-blocks-format-clause-calls g c = run_none _
+
+pub returns-in_err-seen-clause-calls : goal.returns-in_err-seen-clause-calls
+returns-in_err-seen-clause-calls g c = run_failed c.from_residual.result _ _ (search rules) c.in_err-seen.ensures.calls
+
+pub returns-clause-calls : goal.returns-clause-calls
+returns-clause-calls g c =
+    let one = c.in_ok-seen.ensures.calls in
+    elim c.match-judge.branch [
+      | in-Err w ↦
+          rw (w.result-is, w.board-is) (run_as _ _ _ _ (judged_so (accepts c.args.format) c.in_ok-seen.seen.first c.in_ok-seen.seen.second c.in_ok-seen.seen.counter w.in-Err.answer
+          (sym c.judge.ensures ∙ w.in-Err.is)) one)
+      | in-Ok-None w ↦ rw (w.result-is, w.board-is) one
+      | in-Ok-Some w ↦ rw (w.result-is, w.board-is) (run_more _ _ _ _ one w.raise.ensures.calls)
+    ]
 
 pub returns-clause-rollback : goal.returns-clause-rollback
-returns-clause-rollback g c h = refuses_older _ _ _ _ _ _ _ (c.find_version.ensures.exact h)
+returns-clause-rollback g c h = refuses_older _ _ _ _ _ _ _ (returns-clause-exact g c h)
+
+pub returns-clause-accepted : goal.returns-clause-accepted
+returns-clause-accepted g c =
+    let seen = c.in_ok-seen.seen in
+    elim c.match-judge.branch [
+      | in-Err w ↦ rw w.result-is tt
+      | in-Ok-None w ↦ rw w.result-is tt
+      | in-Ok-Some w ↦
+          let e : c.judge.result ≡ Ok (Some w.in-Ok-Some.found) = cc in
+          rw w.result-is (accepted_answer c.args.format seen.first seen.second seen.counter w.in-Ok-Some.found w.raise.result (sym c.judge.ensures ∙ e) w.raise.ensures.answer)
+    ]

@@ -14,8 +14,8 @@ returns-in_err-write-clause-run g c h open_at base low high first opened run =
     over_write open_at base low high first _ _ run w.1 _ _ _ (rw (c.header_block.ensures, c.slot_for-slot.ensures.slot) opened) w.2
 
 pub returns-in_err-write-clause-crash : goal.returns-in_err-write-clause-crash
-returns-in_err-write-clause-crash g c h version n rests shut =
-    lay_crash version n (c.args.header.now.sequence % 2) _ _ (subst (λ s. s < 2) c.slot_for-slot.ensures.slot c.slot_for-slot.ensures.below) shut
+returns-in_err-write-clause-crash g c h knows n rests shut =
+    lay_crash knows n (c.args.header.now.sequence % 2) _ _ (subst (λ s. s < 2) c.slot_for-slot.ensures.slot c.slot_for-slot.ensures.below) shut
     (returns-in_err-write-clause-run g c h (λ k. k == header_at (c.args.header.now.sequence % 2)) _ n n _ (is_itself (header_at (c.args.header.now.sequence % 2)))
     (rest_starts n _ rests (λ k. k == header_at (c.args.header.now.sequence % 2))))
 
@@ -35,8 +35,8 @@ returns-clause-run g c h open_at base low high first opened run =
     over_sync open_at base low high first _ _ (over_write open_at base low high first _ _ run w.1 _ _ _ (rw (c.header_block.ensures, c.slot_for-slot.ensures.slot) opened) w.2) s.1 _ s.2
 
 pub returns-clause-crash : goal.returns-clause-crash
-returns-clause-crash g c h version n rests shut =
-    lay_crash version n (c.args.header.now.sequence % 2) _ _ (subst (λ s. s < 2) c.slot_for-slot.ensures.slot c.slot_for-slot.ensures.below) shut
+returns-clause-crash g c h knows n rests shut =
+    lay_crash knows n (c.args.header.now.sequence % 2) _ _ (subst (λ s. s < 2) c.slot_for-slot.ensures.slot c.slot_for-slot.ensures.below) shut
     (returns-clause-run g c h (λ k. k == header_at (c.args.header.now.sequence % 2)) _ n n _ (is_itself (header_at (c.args.header.now.sequence % 2)))
     (rest_starts n _ rests (λ k. k == header_at (c.args.header.now.sequence % 2))))
 

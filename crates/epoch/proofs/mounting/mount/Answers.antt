@@ -3,28 +3,28 @@ use Rattle.epoch.proofs.SettledLemmas.{settled_blocks}
 use Rattle.epoch.proofs.mounting.mount.Goals as goal
 
 pub returns-clause-holds : goal.returns-clause-holds
-returns-clause-holds g c honest f h framed same large holding =
-    mounts_found f framed c.args.version same h (g.B.Board.view c.args.board.now) (g.B.Board.view c.find_version.new.board) holding (g.met.B.Board.consistent c.args.board.now honest).counter large
-    c.find_version.result (c.find_version.ensures.exact honest) (c.find_version.ensures.blocks honest) (c.find_version.ensures.counter honest) (c.find_version.ensures.run honest)
+returns-clause-holds g c honest f h framed serves large holding =
+    mounts_found f framed c.args.format serves h (g.B.Board.view c.args.board.now) (g.B.Board.view c.find_header.new.board) holding (g.met.B.Board.consistent c.args.board.now honest).counter large
+    c.find_header.result (c.find_header.ensures.exact honest) (c.find_header.ensures.blocks honest) (c.find_header.ensures.counter honest) (c.find_header.ensures.run honest)
 
 pub returns-clause-rule : goal.returns-clause-rule
 returns-clause-rule g c tells =
-    let told = c.find_version.ensures.rule tells in
+    let told = c.find_header.ensures.rule tells in
     let v = g.B.Board.view c.args.board.now in
-    (told.0, λ f same. ruled_by f c.args.version same v v.state.reads told.0 c.find_version.result told.1)
+    (told.0, λ f serves. ruled_by f c.args.format serves v v.state.reads told.0 c.find_header.result told.1)
 
 pub returns-clause-exact : goal.returns-clause-exact
 returns-clause-exact g c honest =
-    let finds = c.find_version.ensures.exact honest in
+    let finds = c.find_header.ensures.exact honest in
     let v = g.B.Board.view c.args.board.now in
-    (finds.counter, finds.among, λ f same. ruled_by f c.args.version same v v.state.reads finds.counter c.find_version.result finds.ruled)
+    (finds.counter, finds.among, λ f serves. ruled_by f c.args.format serves v v.state.reads finds.counter c.find_header.result finds.ruled)
 
 pub returns-clause-refusal : goal.returns-clause-refusal
 returns-clause-refusal g c honest =
-    let calls = c.find_version.ensures.calls in
-    found_refused c.args.version (g.B.Board.view c.args.board.now) (g.B.Board.view c.find_version.new.board) c.find_version.result calls.size calls.key
-    (c.find_version.ensures.blocks honest).reads (c.find_version.ensures.exact honest)
+    let calls = c.find_header.ensures.calls in
+    found_refused c.args.format (g.B.Board.view c.args.board.now) (g.B.Board.view c.find_header.new.board) c.find_header.result calls.size calls.key
+    (c.find_header.ensures.blocks honest).reads (c.find_header.ensures.exact honest)
 
 pub returns-clause-settled : goal.returns-clause-settled
 returns-clause-settled g c honest =
-    settled_blocks (g.B.Board.view c.args.board.now).state (g.B.Board.view c.find_version.new.board).state (c.find_version.ensures.blocks honest)
+    settled_blocks (g.B.Board.view c.args.board.now).state (g.B.Board.view c.find_header.new.board).state (c.find_header.ensures.blocks honest)

@@ -11,8 +11,8 @@ returns-in_err-write-clause-run g c h n rests =
     flip_before c.args.slot n _ _ (flip_wrote c.args.slot n _ _ _ _ rests c.gate_block.ensures w.1 w.2)
 
 pub returns-in_err-write-clause-crash : goal.returns-in_err-write-clause-crash
-returns-in_err-write-clause-crash g c h version n header laid =
-    flip_crash version n c.args.slot _ _ c.requires.slot header laid (returns-in_err-write-clause-run g c h n laid.rests)
+returns-in_err-write-clause-crash g c h knows n header laid =
+    flip_crash knows n c.args.slot _ _ c.requires.slot header laid (returns-in_err-write-clause-run g c h n laid.rests)
 
 pub returns-in_err-sync-clause-run : goal.returns-in_err-sync-clause-run
 returns-in_err-sync-clause-run g c h n rests =
@@ -21,8 +21,8 @@ returns-in_err-sync-clause-run g c h n rests =
     flip_before c.args.slot n _ _ (over_sync _ _ n n _ _ _ (flip_wrote c.args.slot n _ _ _ _ rests c.gate_block.ensures w.1 w.2) s.1 _ s.2)
 
 pub returns-in_err-sync-clause-crash : goal.returns-in_err-sync-clause-crash
-returns-in_err-sync-clause-crash g c h version n header laid =
-    flip_crash version n c.args.slot _ _ c.requires.slot header laid (returns-in_err-sync-clause-run g c h n laid.rests)
+returns-in_err-sync-clause-crash g c h knows n header laid =
+    flip_crash knows n c.args.slot _ _ c.requires.slot header laid (returns-in_err-sync-clause-run g c h n laid.rests)
 
 pub returns-clause-flipped : goal.returns-clause-flipped
 returns-clause-flipped g c h =
@@ -39,8 +39,8 @@ returns-clause-run g c h n rests =
     flip_advanced c.args.slot n _ _ _ _ _ c.advance.result rests c.gate_block.ensures w.1 w.2 s.1 s.2 a.1 a.2
 
 pub returns-clause-crash : goal.returns-clause-crash
-returns-clause-crash g c h version n header laid =
-    flip_crash version n c.args.slot _ _ c.requires.slot header laid (returns-clause-run g c h n laid.rests)
+returns-clause-crash g c h knows n header laid =
+    flip_crash knows n c.args.slot _ _ c.requires.slot header laid (returns-clause-run g c h n laid.rests)
 
 pub returns-clause-opened : goal.returns-clause-opened
 returns-clause-opened g c h = opened_answers _ c.args.slot _ _ c.advance.result c.requires.slot (returns-clause-flipped g c h)

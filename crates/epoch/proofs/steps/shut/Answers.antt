@@ -6,15 +6,15 @@ use Rattle.epoch.proofs.RunLemmas.{rest_starts, over_read, over_sync, over_write
 use Rattle.epoch.proofs.steps.shut.Goals as goal
 
 pub returns-in_err-read-clause-crash : goal.returns-in_err-read-clause-crash
-returns-in_err-read-clause-crash g c h version n rests other =
+returns-in_err-read-clause-crash g c h knows n rests other =
     let r = c.in_err-read.ensures.honest h in
-    shut_crash version n c.args.slot _ _ c.requires.slot other (over_read _ _ n n _ _ _ (rest_starts n _ rests (shut_writes c.args.slot (g.B.Board.view c.args.board.now).state.reads)) r.1 r.2)
+    shut_crash knows n c.args.slot _ _ c.requires.slot other (over_read _ _ n n _ _ _ (rest_starts n _ rests (shut_writes c.args.slot (g.B.Board.view c.args.board.now).state.reads)) r.1 r.2)
 
 pub returns-then-not-is_open-clause-crash : goal.returns-then-not-is_open-clause-crash
-returns-then-not-is_open-clause-crash g c h version n rests other =
+returns-then-not-is_open-clause-crash g c h knows n rests other =
     let r = c.in_ok-read.ensures.honest h in
     let s = c.sync.ensures.honest r.0 in
-    shut_crash version n c.args.slot _ _ c.requires.slot other (over_sync _ _ n n _ _ _
+    shut_crash knows n c.args.slot _ _ c.requires.slot other (over_sync _ _ n n _ _ _
     (over_read _ _ n n _ _ _ (rest_starts n _ rests (shut_writes c.args.slot (g.B.Board.view c.args.board.now).state.reads)) r.1 r.2) s.1 _ s.2)
 
 pub returns-in_err-write-clause-run : goal.returns-in_err-write-clause-run
@@ -27,8 +27,8 @@ returns-in_err-write-clause-run g c h open_at base low high first opens run =
     over_write open_at base low high first _ _ (over_read open_at base low high first _ _ run r.1 r.2) w.1 _ _ _ (rw c.gate_block-2.ensures (opens was)) w.2
 
 pub returns-in_err-write-clause-crash : goal.returns-in_err-write-clause-crash
-returns-in_err-write-clause-crash g c h version n rests other =
-    shut_crash version n c.args.slot _ _ c.requires.slot other (returns-in_err-write-clause-run g c h _ _ n n _
+returns-in_err-write-clause-crash g c h knows n rests other =
+    shut_crash knows n c.args.slot _ _ c.requires.slot other (returns-in_err-write-clause-run g c h _ _ n n _
     (shut_itself c.args.slot (g.B.Board.view c.args.board.now).state.reads) (rest_starts n _ rests (shut_writes c.args.slot (g.B.Board.view c.args.board.now).state.reads)))
 
 pub returns-clause-shut : goal.returns-clause-shut
@@ -69,8 +69,8 @@ returns-clause-run g c h open_at base low high first opens run =
     (rw c.gate_block-2.ensures (opens was)) w.2) s.1 _ s.2
 
 pub returns-clause-crash : goal.returns-clause-crash
-returns-clause-crash g c h version n rests other =
-    shut_crash version n c.args.slot _ _ c.requires.slot other (returns-clause-run g c h _ _ n n _ (shut_itself c.args.slot (g.B.Board.view c.args.board.now).state.reads)
+returns-clause-crash g c h knows n rests other =
+    shut_crash knows n c.args.slot _ _ c.requires.slot other (returns-clause-run g c h _ _ n n _ (shut_itself c.args.slot (g.B.Board.view c.args.board.now).state.reads)
     (rest_starts n _ rests (shut_writes c.args.slot (g.B.Board.view c.args.board.now).state.reads)))
 
 pub returns-in_err-read-clause-past : goal.returns-in_err-read-clause-past

@@ -1,7 +1,8 @@
 use Rattle.std.proofs.Common.{◌≡◌, ◌+◌, ◌∙◌, ℕ, List, true, length, refl, sym, ap, arith, rules, false}
+use Rattle.epoch.proofs.ReadLemmas.{only_itself, only_more, only_once}
 use Rattle.epoch.proofs.CallLemmas.{call_more, run_none, run_stops}
 use Rattle.flat_volume.specs.Flat.{block_at}
-use Rattle.flat_volume.proofs.ReadLemmas.{only_itself, only_once, only_more, filled_step}
+use Rattle.flat_volume.proofs.ReadLemmas.{filled_step}
 use Rattle.flat_volume.proofs.TableLemmas.{joined_whole}
 use Rattle.flat_volume.proofs.load.fill.Goals as goal
 

@@ -1,7 +1,7 @@
 use Rattle.std.proofs.Common.{◌≡◌, Err, ap, rules}
+use Rattle.epoch.proofs.ReadLemmas.{only_more}
 use Rattle.epoch.proofs.CallLemmas.{rose_later, run_as, run_more}
 use Rattle.epoch.specs.Reading.{no_fault}
-use Rattle.flat_volume.proofs.ReadLemmas.{only_more}
 use Rattle.flat_volume.proofs.load.find_leaf.Goals as goal
 
 pub returns-clause-honest : goal.returns-clause-honest

@@ -1,5 +1,6 @@
 use Rattle.std.proofs.Common.{◌≡◌, ◌+◌, ◌∙◌, ℕ, List, Some, length, refl, sym, ap, subst, true, false, arith, rules, Err}
 use Rattle.std.proofs.lemmas.Bool.{false≢true}
+use Rattle.epoch.proofs.KeepLemmas.{commit_crash, held_same, leaves_held, mounted_held}
 use Rattle.epoch.proofs.CommitLemmas.{on_err}
 use Rattle.epoch.proofs.PastLemmas.{followed}
 use Rattle.std.proofs.lemmas.Result.{err_from_is_err_and}
@@ -8,13 +9,15 @@ use Rattle.store_api.specs.Volumes.{Held, after_commit}
 use Rattle.seal.specs.Keys.{AreKeysOf}
 use Rattle.epoch.proofs.CallLemmas.{run_as, run_more}
 use Rattle.epoch.specs.Reading.{no_fault}
+use Rattle.epoch.specs.Forms.{Root}
 use Rattle.epoch.specs.Commits.{IsBegun, IsSteady}
 use Rattle.epoch.proofs.SettledLemmas.{steady_rests}
+use Rattle.flat_volume.specs.Frame.{flat_framed}
 use Rattle.flat_volume.specs.Change.{FitsFlat}
-use Rattle.flat_volume.specs.Flat.{flat, table_in}
+use Rattle.flat_volume.specs.Flat.{flat, flat_root, table_in}
 use Rattle.flat_volume.specs.Keeping.{IsOpen, Replaces, held_now}
-use Rattle.flat_volume.specs.Writing.{AreSealedFor}
-use Rattle.flat_volume.proofs.VolumeLemmas.{commit_crash, held_same, leaves_held, mounted_held, mounted_open, open_same, read_replaces, verified_open}
+use Rattle.flat_volume.specs.Writing.{AreSealedFor, IsRootFor}
+use Rattle.flat_volume.proofs.VolumeLemmas.{mounted_open, open_same, read_replaces, verified_open}
 use Rattle.flat_volume.proofs.volume.replace.Goals as goal
 use Rattle.flat_volume.proofs.volume.replace.Goals.{in-Ok, in-Err}
 
@@ -47,10 +50,10 @@ returns-clause-replaced g c h is =
     let is' : IsOpen mid root sequence (Some known) = open_same v mid root sequence table (Some known) told.calls.key read.1.state (told.table tells) is in
     let before : Held = held_now mid root sequence in
     let fits : FitsFlat c.of-keys.result known root mid.key mid.state.reads = record { keyed = keys; stands = is'.kept } in
-    let begins : IsBegun flat (λ key reads. FitsFlat c.of-keys.result known root key reads) mid root sequence before = record { last = refl; mounted = is'.mounted; fits = fits } in
+    let begins : IsBegun flat (λ key reads. FitsFlat c.of-keys.result known root key reads) mid (flat_root root) sequence before = record { last = refl; mounted = is'.mounted; fits = fits } in
     let named = c.as_slice.result.now in
     let after : Held = after_commit c.args.region named before in
-    let held = held_same v mid root sequence told.calls.key read.1.state.reads in
+    let held = held_same flat flat_framed v mid (flat_root root) sequence told.calls.key read.1.state.reads in
     subst (λ (l : List Leaf). Replaces c.args.region l c.match-commit.result c.args.opened v new) c.as_slice.ensures.leaves
     (elim c.match-commit.branch [
       | in-Ok w ↦
@@ -59,17 +62,17 @@ returns-clause-replaced g c h is =
           rw w.result-is (record {
             undamaged = tt;
             stays = mounted_open new mid.key w.in-Ok.root after change.table w.in-Ok.ensures.calls.key done.0
-                (done.1.stands ∙ ap (table_in new.state.reads) w.in-Ok.ensures.root);
-            steady = steady_rests flat new.key w.in-Ok.root new.state done.0.rests.pending;
-            commits = (mounted_held new mid.key w.in-Ok.root after w.in-Ok.ensures.calls.key done.0 ∙ ap (after_commit c.args.region named) held, refl);
-            crash = commit_crash v mid new root sequence table c.args.region named is told.calls.key read.1 (w.in-Ok.ensures.crash read.0 before begins);
+                (done.1.stands ∙ ap (λ (r : Root). table_in new.state.reads r.entry) w.in-Ok.ensures.root);
+            steady = steady_rests flat new.key (flat_root w.in-Ok.root) new.state done.0.rests.pending;
+            commits = (mounted_held flat flat_framed new mid.key (flat_root w.in-Ok.root) after w.in-Ok.ensures.calls.key done.0 ∙ ap (after_commit c.args.region named) held, refl);
+            crash = commit_crash flat flat_framed v mid new (flat_root root) sequence c.args.region named is.mounted told.calls.key read.1 (w.in-Ok.ensures.crash read.0 before begins);
           })
       | in-Err w ↦ rw w.result-is (record {
         undamaged = tt;
         stays = tt;
-        steady = subst (λ (k : List ℕ). IsSteady flat k root new.state) (sym w.in-Err.ensures.calls.key) (w.in-Err.ensures.steady read.0 before begins);
-        commits = leaves_held new mid.key root before w.in-Err.ensures.calls.key (w.in-Err.ensures.kept read.0 before begins) refl ∙ held;
-        crash = commit_crash v mid new root sequence table c.args.region named is told.calls.key read.1 (w.in-Err.ensures.crash read.0 before begins);
+        steady = subst (λ (k : List ℕ). IsSteady flat k (flat_root root) new.state) (sym w.in-Err.ensures.calls.key) (w.in-Err.ensures.steady read.0 before begins);
+        commits = leaves_held flat flat_framed new mid.key (flat_root root) before w.in-Err.ensures.calls.key (w.in-Err.ensures.kept read.0 before begins) refl ∙ held;
+        crash = commit_crash flat flat_framed v mid new (flat_root root) sequence c.args.region named is.mounted told.calls.key read.1 (w.in-Err.ensures.crash read.0 before begins);
       })
     ])
 
@@ -109,9 +112,13 @@ returns-clause-unwritten g c =
     ]
 
 pub returns-clause-sealed_for : goal.returns-clause-sealed_for
-returns-clause-sealed_for g c =
+returns-clause-sealed_for g c verified =
+    let v = g.B.Board.view c.args.board.now in
+    let keyed : AreKeysOf c.of-keys.result v.key = subst (λ (k : List ℕ). AreKeysOf c.of-keys.result k) c.key.ensures c.of-keys.ensures in
+    let none = c.in_ok-known_table.ensures.verified v.key keyed verified in
     elim c.match-commit.branch [
-      | in-Ok w ↦ rw w.result-is w.in-Ok.ensures.sealed_for
+      | in-Ok w ↦ rw w.result-is (subst (IsRootFor (c.args.opened.sequence + 1)) (ap (λ (r : Root). r.entry) w.in-Ok.ensures.root)
+          (w.in-Ok.ensures.entries v.key (record { keyed = keyed; undamaged = none })).0)
       | in-Err w ↦ rw w.result-is tt
     ]
 
@@ -130,6 +137,6 @@ returns-clause-entries g c verified =
     let none = c.in_ok-known_table.ensures.verified v.key keyed verified in
     elim c.match-commit.branch [
       | in-Ok w ↦ rw w.result-is (subst (AreSealedFor v.key (c.args.opened.sequence + 1) c.commit.new.change.table.bytes.items c.args.region) c.as_slice.ensures.leaves
-          (w.in-Ok.ensures.entries v.key (record { keyed = keyed; undamaged = none })))
+          (w.in-Ok.ensures.entries v.key (record { keyed = keyed; undamaged = none })).1)
       | in-Err w ↦ rw w.result-is tt
     ]

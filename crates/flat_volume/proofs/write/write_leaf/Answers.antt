@@ -1,9 +1,10 @@
 use Rattle.std.proofs.Common.{◌≡◌, ◌+◌, ◌-◌, ◌∙◌, refl, sym, ap, true, false}
+use Rattle.epoch.specs.Copies.{copy_of}
 use Rattle.epoch.proofs.CallLemmas.{run_once, run_stops}
 use Rattle.epoch.proofs.PastLemmas.{once}
 use Rattle.epoch.proofs.RunLemmas.{over_write}
 use Rattle.epoch.specs.declared.header.TreeEntry.{TreeEntry}
-use Rattle.flat_volume.specs.Flat.{block_at, copy_of, leaf_damage, leaf_text}
+use Rattle.flat_volume.specs.Flat.{block_at, leaf_damage, leaf_text}
 use Rattle.flat_volume.proofs.ReadLemmas.{sealed_damage, sealed_text, spare_is}
 use Rattle.flat_volume.proofs.write.write_leaf.Goals as goal
 

@@ -3,6 +3,8 @@ use Rattle.std.proofs.lemmas.Bool.{false≢true}
 use Rattle.tee_base.specs.Crash.{LeavesOnly}
 use Rattle.store_api.specs.Volumes.{Held}
 use Rattle.board.specs.Moment.{IsLeft, Outcome, View, left_since, moment}
+use Rattle.epoch.proofs.OpenLemmas.{not_ok, told_so}
+use Rattle.epoch.proofs.KeepLemmas.{held_steady, steady_same}
 use Rattle.epoch.specs.Forms.{held_of}
 use Rattle.epoch.specs.Mounting.{MightBe, MountsTo}
 use Rattle.epoch.specs.Mounts.{IsRefusal, IsRefusedNow, PowerFirst}
@@ -12,11 +14,11 @@ use Rattle.epoch.specs.declared.answer.OpenAnswer.TheVariants.{Failed}
 use Rattle.epoch.proofs.CommitLemmas.{on_err}
 use Rattle.epoch.proofs.MountLemmas.{admitted_by, before_above, board_sound, past_above, rests_above, taken_counter}
 use Rattle.epoch.specs.Finding.{IsSettledAt, sequence_of}
-use Rattle.flat_volume.specs.Flat.{flat}
-use Rattle.flat_volume.specs.Frame.{flat_framed}
+use Rattle.flat_volume.specs.Flat.{flat, flat_root}
+use Rattle.flat_volume.specs.Frame.{flat_format, flat_framed}
 use Rattle.flat_volume.specs.Keeping.{held_now}
-use Rattle.flat_volume.proofs.OpenLemmas.{not_ok, told_so}
-use Rattle.flat_volume.proofs.VolumeLemmas.{held_steady, steady_open, steady_same}
+use Rattle.flat_volume.proofs.OpenLemmas.{bare_open}
+use Rattle.flat_volume.proofs.VolumeLemmas.{steady_open}
 use Rattle.flat_volume.proofs.opening.FlatVolumeBoardVolume.power.Goals as goal
 
 pub returns-in_err-found-clause-exact : goal.returns-in_err-found-clause-exact
@@ -26,7 +28,7 @@ returns-in_err-found-clause-exact g c honest =
     let told = c.in_err-found.ensures.exact honest in (
       told.0,
       told.1,
-      told_so c.from_residual.result c.in_err-found.field-0.0 (λ why. IsRefusal flat v told.0.image told.0.counter why) is (told.2 flat refl).0,
+      told_so c.from_residual.result c.in_err-found.field-0.0 (λ why. IsRefusal flat v told.0.image told.0.counter why) is (told.2 flat flat_format).0,
       not_ok c.from_residual.result _ c.from_residual.ensures.0,
     )
 
@@ -34,20 +36,20 @@ pub returns-clause-exact : goal.returns-clause-exact
 returns-clause-exact g c honest =
     let v = g.B.Board.view c.args.self.now.board in
     let told = c.in_ok-found.ensures.exact honest in
-    (told.0, told.1, tt, admitted_by flat v told.0.image told.0.counter 0 c.resume.result c.resume.new.self.root c.in_ok-found.found (told.2 flat refl).1 c.resume.ensures.found)
+    (told.0, told.1, tt, admitted_by flat v told.0.image told.0.counter 0 c.resume.result (flat_root c.resume.new.self.root) c.in_ok-found.found (told.2 flat flat_format).1 c.resume.ensures.found)
 
 pub returns-in_err-found-clause-refusal : goal.returns-in_err-found-clause-refusal
 returns-in_err-found-clause-refusal g c honest =
     let w = g.B.Board.view c.mount_after_power.new.board in
     let is : c.from_residual.result ≡ Err c.in_err-found.field-0.0 = search rules in
-    told_so c.from_residual.result c.in_err-found.field-0.0 (λ why. IsRefusedNow flat w why) is (c.in_err-found.ensures.refusal honest flat refl)
+    told_so c.from_residual.result c.in_err-found.field-0.0 (λ why. IsRefusedNow flat w why) is (c.in_err-found.ensures.refusal honest flat flat_format)
 
 pub returns-in_err-found-clause-opened : goal.returns-in_err-found-clause-opened
 returns-in_err-found-clause-opened g c honest sound =
     let v = g.B.Board.view c.args.self.now.board in
     let w = g.B.Board.view c.mount_after_power.new.board in
     let is : c.from_residual.result ≡ Err c.in_err-found.field-0.0 = search rules in
-    let after = c.in_err-found.ensures.again honest flat flat_framed refl c.args.self.now.large (board_sound flat v sound) in
+    let after = c.in_err-found.ensures.again honest flat flat_framed flat_format c.args.self.now.large (board_sound flat v sound) in
     let again = after.again in
     let key = c.in_err-found.ensures.ordered.key in
     record {
@@ -58,9 +60,9 @@ returns-in_err-found-clause-opened g c honest sound =
         honest = λ is. (
           c.in_err-found.ensures.honest honest,
           λ live. absurd (false≢true (sym live)),
-          steady_same v w c.args.self.now.root key (c.in_err-found.ensures.settled honest) is.2,
+          steady_same flat flat_framed v w (flat_root c.args.self.now.root) key (c.in_err-found.ensures.settled honest) is.2,
         );
-        same = λ is. on_err c.from_residual.result _ (held_steady v w c.args.self.now.root c.args.self.now.sequence key (c.in_err-found.ensures.settled honest) is.2);
+        same = λ is. on_err c.from_residual.result _ (held_steady flat flat_framed v w (flat_root c.args.self.now.root) c.args.self.now.sequence key (c.in_err-found.ensures.settled honest) is.2);
         leaves = record {
           crash = before_above flat (λ x. g.B.Board.view x.board) _ _ key again.leaves;
           past = past_above flat v w key (c.in_err-found.ensures.past honest);
@@ -77,7 +79,7 @@ returns-clause-opened g c honest sound =
     let w = g.B.Board.view c.mount_after_power.new.board in
     let n = g.B.Board.view c.resume.new.self.board in
     let stays : n ≡ w = ap g.B.Board.view c.resume.ensures.board in
-    let after = c.in_ok-found.ensures.again honest flat flat_framed refl c.args.self.now.large (board_sound flat v sound) in
+    let after = c.in_ok-found.ensures.again honest flat flat_framed flat_format c.args.self.now.large (board_sound flat v sound) in
     let again = after.again in
     let key = c.in_ok-found.ensures.ordered.key in
     let mounted = subst (λ (k : List ℕ). MountsTo flat k again.chosen w.state c.in_ok-found.found) (sym key) again.mounted in
@@ -137,5 +139,8 @@ returns-in_err-found-clause-counter g c honest = not_ok c.from_residual.result _
 
 pub returns-clause-counter : goal.returns-clause-counter
 returns-clause-counter g c honest =
-    taken_counter c.in_ok-found.found c.resume.result c.resume.new.self.root _ c.resume.ensures.found
+    taken_counter flat c.in_ok-found.found c.resume.result (flat_root c.resume.new.self.root) _ c.resume.ensures.found
     (subst (λ (x : View). IsSettledAt (sequence_of c.in_ok-found.found) x.state) (sym (ap g.B.Board.view c.resume.ensures.board)) (c.in_ok-found.ensures.counter honest))
+
+pub returns-clause-bare : goal.returns-clause-bare
+returns-clause-bare g c = bare_open _ _ c.resume.ensures.bare

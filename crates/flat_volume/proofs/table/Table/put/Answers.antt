@@ -1,6 +1,7 @@
 use Rattle.std.proofs.Common.{◌≡◌, ◌≤◌, ◌+◌, ◌*◌, ◌∙◌, ap, length, rules, arith}
+use Rattle.epoch.proofs.EntryLemmas.{written_back}
 use Rattle.epoch.specs.Parts.{patched}
-use Rattle.flat_volume.proofs.TableLemmas.{written_back, block_here, blocks_other}
+use Rattle.flat_volume.proofs.TableLemmas.{block_here, blocks_other}
 use Rattle.flat_volume.proofs.table.Table.put.Goals as goal
 
 pub returns-clause-here : goal.returns-clause-here

@@ -1,6 +1,7 @@
 use Rattle.std.proofs.Common.{◌≡◌, ◌≤◌, ◌<◌, ◌+◌, ◌*◌, ◌∙◌, ap, ◌^◌, length, rules, arith}
+use Rattle.epoch.proofs.EntryLemmas.{entry_here, written_back}
 use Rattle.epoch.specs.Parts.{patched}
-use Rattle.flat_volume.proofs.TableLemmas.{written_back, entry_here, entries_other}
+use Rattle.flat_volume.proofs.TableLemmas.{entries_other}
 use Rattle.flat_volume.proofs.table.Table.set.Goals as goal
 
 pub returns-clause-here : goal.returns-clause-here

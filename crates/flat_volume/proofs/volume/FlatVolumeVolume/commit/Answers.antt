@@ -1,16 +1,18 @@
-use Rattle.std.proofs.Common.{◌≡◌, ◌≢◌, ◌∙◌, ℕ, true, false, List, Option, Err, refl, sym, ap, subst, arith}
+use Rattle.std.proofs.Common.{◌≡◌, ◌≢◌, ◌∙◌, ℕ, true, false, List, Option, Some, Err, refl, sym, ap, subst, arith}
+use Rattle.epoch.proofs.KeepLemmas.{err_cause, exhausts_at, foundation_same, if_unwritten, left_before, no_mismatch, not_lost, past_read, still_failed, still_tags, unless_failed}
 use Rattle.epoch.proofs.MountLemmas.{mounted_refuses}
 use Rattle.tee_base.specs.Crash.{LeavesOnly}
-use Rattle.tee_base.proofs.Crash.{mapped}
+use Rattle.tee_base.proofs.Crash.{mapped, weaker}
 use Rattle.store_api.specs.Volumes.{Held, LeftByCommit, after_commit}
 use Rattle.board.specs.Moment.{moment, left_since}
 use Rattle.epoch.specs.Forms.{held_of}
-use Rattle.flat_volume.specs.Flat.{flat}
+use Rattle.flat_volume.specs.Flat.{flat, flat_root}
+use Rattle.flat_volume.specs.Frame.{flat_framed}
 use Rattle.flat_volume.specs.Keeping.{IsOpen, IsVerified, held_now}
 use Rattle.flat_volume.specs.declared.table.Table.{Table}
 use Rattle.flat_volume.specs.declared.volume.Opened.{Opened}
-use Rattle.flat_volume.specs.Writing.{KeepsSealed}
-use Rattle.flat_volume.proofs.VolumeLemmas.{err_cause, err_shows, foundation_same, if_unwritten, past_read, still_open, still_tags, unless_failed}
+use Rattle.flat_volume.specs.Writing.{IsRootFor, KeepsSealed}
+use Rattle.flat_volume.proofs.VolumeLemmas.{err_shows, still_open}
 use Rattle.flat_volume.proofs.volume.FlatVolumeVolume.commit.Goals as goal
 
 pub returns-in-Err-clause-commits : goal.returns-in-Err-clause-commits
@@ -45,7 +47,7 @@ returns-in-Err-clause-commits g c =
               still_tags Opened ℕ (λ tags. ⊥) e does.undamaged,
             );
         quiet = λ lost. absurd (let f : true ≡ false = sym lost ∙ c.if-self.false in cc);
-        past = λ h. past_read v w told.calls.key (told.past h.0);
+        past = λ h. past_read flat v w told.calls.key (told.past h.0);
       };
       crash = λ h live. mapped moment left_since (λ x. g.B.Board.view x.board) (λ x. held_of flat (g.B.Board.view x.board).key) _ _ (LeftByCommit (Err e) before after)
           (λ o. ap (λ (k : List ℕ). held_of flat k o) told.calls.key)
@@ -64,7 +66,7 @@ returns-in-Ok-clause-rollback g c h counter above =
     let is : IsOpen (g.B.Board.view old.board) old.root old.sequence c.take.result
     = subst (IsOpen (g.B.Board.view old.board) old.root old.sequence) (sym c.take.ensures.value) (h.1 c.if-self.false) in
     let stays = (c.in-Ok.ensures.replaced h.0 is).stays in
-    mounted_refuses flat w.key o.root (held_now w o.root o.sequence) w.state stays.mounted (omega (arith, c.in-Ok.ensures.sequence)) counter above
+    mounted_refuses flat w.key (flat_root o.root) (held_now w o.root o.sequence) w.state stays.mounted (omega (arith, c.in-Ok.ensures.sequence)) counter above
 
 pub returns-in-Ok-clause-entries : goal.returns-in-Ok-clause-entries
 returns-in-Ok-clause-entries g c =
@@ -73,3 +75,49 @@ returns-in-Ok-clause-entries g c =
     let o = c.in-Ok.field-0 in
     let verified : IsVerified v.key c.take.result old.root = subst (λ (t : Option Table). IsVerified v.key t old.root) (sym c.take.ensures.value) old.verified in
     subst (λ (n : ℕ). KeepsSealed v.key n o.table c.args.region c.args.leaves.now) (sym c.in-Ok.ensures.sequence) (c.in-Ok.ensures.entries verified)
+
+pub returns-then-self-2-clause-commits : goal.returns-then-self-2-clause-commits
+returns-then-self-2-clause-commits g c =
+    let old = c.args.self.now in
+    let v = g.B.Board.view old.board in
+    let w = g.B.Board.view c.exhaust-answer.new.board in
+    let e = c.exhaust-answer.result in
+    let told = c.exhaust-answer.ensures in
+    let before : Held = held_now v old.root old.sequence in
+    let after : Held = after_commit c.args.region c.args.leaves.now before in
+    let does = λ (h : g.B.Board.honest old.board) (is : IsOpen v old.root old.sequence old.table).
+    exhausts_at flat (flat_root old.root) old.sequence e v w c.if-self-2.true (told.failed h flat (flat_root old.root) flat_framed) is.mounted in
+    record {
+      committed = λ h. (does h.0 (h.1 c.if-self.false)).held;
+      sequence = refl;
+      unwritten = if_unwritten e _ (λ made. told.writes);
+      shows = λ tells. no_mismatch ℕ e _ told.answer;
+      call = record {
+        cause = record {
+          cause = err_cause ℕ e _ _ c.if-self.false c.is_failed-self.ensures told.cause (λ lost. not_lost e told.answer lost) (no_mismatch ℕ e _ told.answer);
+          later = told.calls.faults;
+          unfailed = unless_failed ℕ e _ (λ made. told.calls.steady made);
+          foundation = foundation_same v w told.calls;
+        };
+        below = told.honest;
+        honest = λ h.
+            let gone = does h.0 (h.1 c.if-self.false) in (
+              (told.honest h.0, λ live. absurd (still_failed e gone.failed (sym c.is_failed-self.ensures ∙ live)), gone.steady),
+              no_mismatch ℕ e _ told.answer,
+            );
+        quiet = λ lost. absurd (let f : true ≡ false = sym lost ∙ c.if-self.false in cc);
+        past = λ h. past_read flat v w told.calls.key (told.past h.0);
+      };
+      crash = λ h live. mapped moment left_since (λ x. g.B.Board.view x.board) (λ x. held_of flat (g.B.Board.view x.board).key) _ _ (LeftByCommit (Err e) before after)
+          (λ o. ap (λ (k : List ℕ). held_of flat k o) told.calls.key)
+          (weaker moment left_since v w (λ c. held_of flat v.key c ≡ Some before) (λ o. LeftByCommit (Err e) before after (held_of flat w.key o))
+          (λ o same. left_before (Err e) before after (held_of flat w.key o) (ap (λ (k : List ℕ). held_of flat k o) told.calls.key ∙ same))
+          (does h.0 (h.1 live)).crash);
+    }
+
+pub returns-in-Ok-clause-sealed_for : goal.returns-in-Ok-clause-sealed_for
+returns-in-Ok-clause-sealed_for g c =
+    let old = c.args.self.now in
+    let verified : IsVerified (g.B.Board.view old.board).key c.take.result old.root
+    = subst (λ (t : Option Table). IsVerified (g.B.Board.view old.board).key t old.root) (sym c.take.ensures.value) old.verified in
+    subst (λ (n : ℕ). IsRootFor n c.in-Ok.field-0.root) (sym c.in-Ok.ensures.sequence) (c.in-Ok.ensures.sealed_for verified)

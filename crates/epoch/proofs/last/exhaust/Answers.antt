@@ -1,12 +1,12 @@
 use Rattle.std.proofs.Common.{refl, true, false}
 use Rattle.epoch.proofs.CallLemmas.{run_once}
-use Rattle.flat_volume.proofs.VolumeLemmas.{exhausted}
-use Rattle.flat_volume.proofs.volume.exhaust.Goals as goal
+use Rattle.epoch.proofs.KeepLemmas.{exhausted}
+use Rattle.epoch.proofs.last.exhaust.Goals as goal
 
 pub returns-in-Err-clause-failed : goal.returns-in-Err-clause-failed
-returns-in-Err-clause-failed g c h root table is =
+returns-in-Err-clause-failed g c h f root framed is =
     let told = c.in-Err.ensures.honest h in
-    exhausted _ _ root table _ is c.in-Err.ensures.call.key told.1.time told.2
+    exhausted f framed _ _ root _ is c.in-Err.ensures.call.key told.1.time told.2
 
 pub returns-in-Ok-clause-calls : goal.returns-in-Ok-clause-calls
 returns-in-Ok-clause-calls g c = run_once true _ _ c.in-Ok.ensures.call

@@ -1,0 +1,43 @@
+//! A commit at the last sequence.
+ghost use Rattle.std.specs.Prelude.{◌≡◌, ◌⊎◌, ◌-◌, ◌^◌, not};
+ghost use Rattle.tee_base.specs.Faults.{Rose};
+ghost use Rattle.store_api.specs.declared.leaves.LeafAnswer.TheVariants as answers;
+ghost use Rattle.board.specs.Fuse.{burnt};
+ghost use Rattle.board.specs.Steps.{CallRun};
+ghost use Rattle.epoch.specs.Forms.{Form, IsFramed, Root};
+ghost use Rattle.epoch.specs.Keeping.{Exhausts, IsInUse};
+ghost use Rattle.epoch.specs.Past.{KeepsPast};
+ghost use Rattle.epoch.specs.Reading.{is_failure};
+
+use board::Board;
+use store_api::LeafAnswer;
+
+/// No sequence is left: the counter is advanced before anything is written, which fails where the board is honest.
+pub fn exhaust<B: Board>(board: &mut B) -> LeafAnswer
+    ensures calls { CallRun (not (is_failure result)) (B.view board.old) (B.view board.new) }
+    ensures cause { result ≡ answers.Failed
+        → Rose (B.view board.old).state.faults (B.view board.new).state.faults }
+    ensures answer { (result ≡ answers.Failed) ⊎ (result ≡ answers.NoMemory) }
+    ensures writes { (B.view board.new).writes ≡ (B.view board.old).writes }
+    ensures called { (B.view board.new).fuse ≡ burnt (B.view board.old).fuse }
+    ensures honest { B.honest board.old → B.honest board.new }
+    ensures past { B.honest board.old → KeepsPast (B.view board.old) (B.view board.new) }
+    ensures failed { B.honest board.old → (f : Form) (root : Root) → IsFramed f
+        → IsInUse f (B.view board.old) root (2 ^ 64 - 1)
+        → Exhausts f root result (B.view board.old) (B.view board.new) }
+{
+    match board.advance() {
+        Ok(_) => LeafAnswer::NoMemory,
+        Err(_) => LeafAnswer::Failed,
+    }
+}
+
+/// Whether a call of the board failed.
+pub fn is_failed(answer: LeafAnswer) -> bool
+    ensures { result ≡ is_failure answer }
+{
+    match answer {
+        LeafAnswer::Failed => true,
+        _ => false,
+    }
+}
