@@ -364,7 +364,8 @@ module _ (f : Form) (framed : IsFramed f) (key : List ℕ) where
           (weaker moment left_since mid new (LeavesBase (spare f key mid.state.reads root slot) mid.state.reads h.sequence h.sequence) (BeforeOrAfter f key h after)
           (λ c left. inl (spare_holds mid.state c mounted shut left)) run.leaves)
 
-    pub crash_flip : (leaves : ℕ → ℕ → List ℕ) (old laid new : View) (header : Header) → header.version ≡ f.version → LeavesOnly moment left_since old laid (BeforeOrAfter f key h (next_held f leaves h.sequence))
+    pub crash_flip : (leaves : ℕ → ℕ → List ℕ) (old laid new : View) (header : Header) → header.version ≡ f.version
+        → LeavesOnly moment left_since old laid (BeforeOrAfter f key h (next_held f leaves h.sequence))
         → IsMounted f key root h laid.state → IsLaid f.known key slot h.sequence header laid.state → IsWritten f key (root_of header) leaves laid.state.reads
         → LeavesOnly moment left_since laid new (LeavesFlip slot laid.state.reads h.sequence)
         → LeavesOnly moment left_since old new (BeforeOrAfter f key h (next_held f leaves h.sequence))

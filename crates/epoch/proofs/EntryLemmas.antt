@@ -1,5 +1,6 @@
 -- The entries of a block, before and after one of them is put there, and tags that differ.
-use Rattle.std.proofs.Common.{◌≡◌, ◌≢◌, ◌≤◌, ◌<◌, ◌+◌, ◌*◌, ◌^◌, ◌⊎◌, ◌∙◌, if◌then◌else◌, ℕ, true, false, List, ◌++◌, Option, None, Some, bytes_eq, length, take, drop, refl, sym, ap, subst, ⊎_elim, inl, inr, arith}
+use Rattle.std.proofs.Common.{◌≡◌, ◌≢◌, ◌≤◌, ◌<◌, ◌+◌, ◌*◌, ◌^◌, ◌⊎◌, ◌∙◌, if◌then◌else◌, ℕ, true, false, List, ◌++◌}
+use Rattle.std.proofs.Common.{Option, None, Some, bytes_eq, length, take, drop, refl, sym, ap, subst, ⊎_elim, inl, inr, arith}
 use Rattle.std.specs.Int.{w64, from_le_bytes}
 use Rattle.std.proofs.lemmas.Bool.{cases_lt}
 use Rattle.std.proofs.lemmas.List.{take_all, take-append-le}

@@ -7,6 +7,7 @@ pub mod HeaderLemmas
 pub mod KeepLemmas
 pub mod LeftLemmas
 pub mod MountLemmas
+pub mod OpenLemmas
 pub mod PastLemmas
 pub mod ReadLemmas
 pub mod RuleLemmas

@@ -1,5 +1,5 @@
 -- What a board holds that is opened, over the form of the leaves.
-use Rattle.std.proofs.Common.{◌≡◌, ◌≢◌, ◌≤◌, ◌<◌, ◌+◌, ◌^◌, ◌%◌, ◌==◌, ◌&&◌, ◌∙◌, if◌then◌else◌, ℕ, Bool, true, false, List, [], ◌∷◌, length, Option}
+use Rattle.std.proofs.Common.{◌≡◌, ◌≢◌, ◌≤◌, ◌<◌, ◌+◌, ◌^◌, ◌%◌, ◌==◌, ◌&&◌, ◌∙◌, ◌⊎◌, not, if◌then◌else◌, ℕ, Bool, true, false, List, [], ◌∷◌, length, Option}
 use Rattle.std.proofs.Common.{Some, None, Result, Ok, Err, IfOk, IfErr, nat_lt, refl, sym, ap, subst, inl, inr, ⊎_elim, arith}
 use Rattle.std.proofs.lemmas.Bool.{cases_lt}
 use Rattle.std.proofs.lemmas.Bool.Decides.{nat_tests}
@@ -14,8 +14,8 @@ use Rattle.epoch.specs.Commits.{IsMounted, OpensTo}
 use Rattle.epoch.specs.Finding.{Finds, IsSettledAt, OpensBelow, sequence_of}
 use Rattle.epoch.specs.Formats.{IsFormatOf, accepts}
 use Rattle.epoch.specs.Forms.{Form, IsBlankRoot, IsFramed, Root, blank_leaves, held, held_by, held_of, is_sealed, leaves_of, root_of}
-use Rattle.epoch.specs.Mounting.{AreSound, IsHolding, MightBe, Mounts, MountsAfterPower, MountsAgain, MountsTo, after_found}
-use Rattle.epoch.specs.Mounts.{IsAdmitted, IsKeptFromOpening, IsLeftSound, IsRefusal, IsRefusedNow, IsRuledBy, TakesUp, after_opening, opened_by}
+use Rattle.epoch.specs.Mounting.{AreSound, IsHolding, MightBe, Mounts, MountsAfterPower, MountsAgain, MountsTo, after_found, after_opening, opened_by}
+use Rattle.epoch.specs.Mounts.{IsAdmitted, IsKeptFromOpening, IsLeftSound, IsRefusal, IsRefusedNow, IsRuledBy, IsOpenedTo, IsRewritten, LeavesOpening, LeftByOpening, MakesBy, MakesOf, TakesUp}
 use Rattle.epoch.specs.Opening.{IsRuled, answer_at, found_header, header_answer, opening_by, opening_of, opens_as}
 use Rattle.epoch.specs.Past.{KeepsPast}
 use Rattle.epoch.specs.Slots.{slot_of}
@@ -688,3 +688,40 @@ rests_above f key view h same each o left =
     let now : IsLeft view.state left.0 = ⊎_elim (λ (x : IsLeft view.state left.0). x) (λ (was : WasLeft view.past (moment view) left.0). absurd
     (none_now view.past (moment view) left.0 (omega arith) was)) left.1 in
     left.2 ∙ ap (λ (k : List ℕ). held_of f k left.0) same ∙ each left.0 now
+
+-- what the opening of a form of one version makes
+module _ (f : Form) (single : (version : ℕ) → f.known version ≡ true → (version == f.version) ≡ true) where
+  not_known : (b : Bool) → not b ≡ false → b ≡ true
+  not_known true e = refl
+  not_known false e = absurd (cc)
+
+  makes_of : (key : List ℕ) (image : ℕ → List ℕ) (n : ℕ) (h : Held) (r : Result (Option Found) OpenAnswer) → opening_of f.known key image n ≡ r → HeldAs f key image h r
+      → MakesOf f r h (opened_by r h)
+  unfolding opening_of
+  makes_of key image n h (Ok None) e is = record { leaves = refl; sequence = omega (arith, is.1); version = is.2 }
+  makes_of key image n h (Ok (Some w)) e is =
+      let known = (asked f.known (slot_of key image 0) (slot_of key image 1) n w e).counts.known in
+      subst (λ (b : Bool). MakesBy f b h h) (sym (single w.header.version (not_known (f.known w.header.version) known))) refl
+  makes_of key image n h (Err answer) e is = absurd is
+
+  pub opened_to : (view : View) (n : ℕ) (h : Held) → Rests n view.state → held f view.key view.state.reads n ≡ Some h → IsOpenedTo f view h (after_opening f view h)
+  opened_to view n h rests is =
+      let here : held f view.key view.state.reads view.state.counter ≡ Some h = ap (held f view.key view.state.reads) rests.counter ∙ is in
+      makes_of view.key view.state.reads view.state.counter h (opening_of f.known view.key view.state.reads view.state.counter) refl
+      (holds_as f view.key view.state.reads view.state.counter h here)
+
+-- a crash that leaves what was held, or what an opening makes of it
+pub leaves_opening : (f : Form) (old new : View) (h after : Held) → IsOpenedTo f old h after
+    → LeavesOnly moment left_since old new (λ c. (held_of f old.key c ≡ Some h) ⊎ (held_of f old.key c ≡ Some after)) → LeavesOpening f h old new
+leaves_opening f old new h after makes run =
+    weaker moment left_since old new (λ c. (held_of f old.key c ≡ Some h) ⊎ (held_of f old.key c ≡ Some after)) (LeftByOpening f h old)
+    (λ c is. ⊎_elim (λ (e : held_of f old.key c ≡ Some h). inl e) (λ (e : held_of f old.key c ≡ Some after). inr (after, e, makes)) is) run
+
+-- whatever an opening makes of what is held has the same leaves
+pub opening_keeps : (f : Form) (r : Result (Option Found) OpenAnswer) (before after : Held) → MakesOf f r before after → after.leaves ≡ before.leaves
+opening_keeps f (Ok None) before after makes = makes.leaves
+opening_keeps f (Ok (Some found)) before after makes = by_version (found.header.version == f.version) makes where
+  by_version : (b : Bool) → MakesBy f b before after → after.leaves ≡ before.leaves
+  by_version true same = ap (λ (h : Held). h.leaves) same
+  by_version false makes = makes.leaves
+opening_keeps f (Err answer) before after same = ap (λ (h : Held). h.leaves) same

@@ -92,7 +92,8 @@ opens_at_two knows key image n found e =
     )
 
 -- two slots of which one is shut
-pub alone_first : (knows : ℕ → Bool) (first second : Slot) (n : ℕ) (found : Found) → opening_by knows first second n ≡ Ok (Some found) → found.slot ≢ 1 → opening_by knows first Shut n ≡ Ok (Some found)
+pub alone_first : (knows : ℕ → Bool) (first second : Slot) (n : ℕ) (found : Found) → opening_by knows first second n ≡ Ok (Some found) → found.slot ≢ 1
+    → opening_by knows first Shut n ≡ Ok (Some found)
 alone_first knows (Bad t) second n found e other = absurd cc
 alone_first knows Shut (Bad t) n found e other = absurd cc
 alone_first knows Shut Shut n found e other = e

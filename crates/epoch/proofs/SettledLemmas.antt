@@ -1,9 +1,13 @@
 -- What calls that write no block leave of what no crash could change, and what that makes of the leaves of a root.
-use Rattle.std.proofs.Common.{◌≡◌, ◌≢◌, ◌∙◌, ℕ, Bool, true, false, List, refl, sym, ap}
+use Rattle.std.proofs.Common.{◌≡◌, ◌≢◌, ◌≤◌, ◌<◌, ◌+◌, ◌-◌, ◌∙◌, ℕ, Bool, true, false, List, refl, sym, ap, arith}
 use Rattle.board.specs.Moment.{IsConsistent, Moment, View}
 use Rattle.board.specs.Steps.{Powered, SameBlocks, Synced, Unchanged, Wrote}
+use Rattle.board.specs.Runs.{IsBase, RunsOver}
+use Rattle.board.proofs.Runs.{run_starts}
 use Rattle.epoch.specs.Commits.{IsSteady, StaysSettled}
+use Rattle.epoch.specs.Finding.{IsSettledAt}
 use Rattle.epoch.specs.Forms.{Form, IsFramed, Root, leaves_of}
+use Rattle.epoch.specs.Steps.{IsFlipped, SyncedBut}
 use Rattle.epoch.proofs.CommitLemmas.{leaves_same}
 
 at : {A : Type 0} {f g : ℕ → A} → f ≡ g → (k : ℕ) → f k ≡ g k
@@ -52,3 +56,29 @@ module _ (f : Form) (key : List ℕ) (root : Root) where
   unfolding steady_stays
   steady_leaves framed old new stays is =
       leaves_same f framed key root is.base new.reads (steady_stays old new stays is).same ∙ sym (leaves_same f framed key root is.base old.reads is.same)
+
+-- a counter that is settled, over a run that may write each block
+pub settled_starts : (n : ℕ) (v : View) → IsSettledAt n v.state → RunsOver (λ k. true) v.state.reads n n v v
+settled_starts n v settled = run_starts (λ k. true) v.state.reads n n v (record {
+  reads = λ k shut. refl;
+  durable = λ k shut. absurd (let f : true ≡ false = shut in cc);
+  pending = λ k shut. absurd (let f : true ≡ false = shut in cc);
+  least = omega (arith, settled.counter);
+  greatest = omega (arith, settled.counter, settled.slack);
+})
+
+pub settled_run : (n : ℕ) (base : ℕ → List ℕ) (first v : View) → RunsOver (λ k. true) base n n first v → IsSettledAt n v.state
+settled_run n base first v run = record {
+  counter = omega (arith, run.now.least, run.now.greatest);
+  slack = omega (arith, run.now.least, run.now.greatest);
+}
+
+-- over the steps of a commit
+pub settled_synced : (n block : ℕ) (old new : Moment) → SyncedBut block old new → IsSettledAt n old → IsSettledAt n new
+settled_synced n block old new synced settled = record { counter = synced.counter ∙ settled.counter; slack = synced.slack ∙ settled.slack }
+
+pub settled_flipped : (n slot m : ℕ) (old new : Moment) → IsFlipped slot m old new → IsSettledAt n old → IsSettledAt (n + 1) new
+settled_flipped n slot m old new flipped settled = record {
+  counter = omega (arith, flipped.positive, flipped.among.least, flipped.among.greatest, flipped.rests.counter, settled.counter, settled.slack);
+  slack = flipped.rests.slack;
+}

@@ -50,7 +50,8 @@ not_blank knows slot h n e =
     let three = if_other (nat_lt (n + 1) h.sequence) _ _ _ two.1 (λ w. cc) in
     let last = three.1 in cc
 
-pub blank_first : (knows : ℕ → Bool) (first second : Slot) (n : ℕ) → (let none : Result (Option Found) OpenAnswer = Ok None in opening_by knows first second n ≡ none) → (first ≡ Shut) × (second ≡ Shut)
+pub blank_first : (knows : ℕ → Bool) (first second : Slot) (n : ℕ) → (let none : Result (Option Found) OpenAnswer = Ok None in opening_by knows first second n ≡ none)
+    → (first ≡ Shut) × (second ≡ Shut)
 blank_first knows (Bad t) second n e = absurd cc
 blank_first knows Shut (Bad t) n e = absurd cc
 blank_first knows Shut Shut n e = (refl, refl)

@@ -1,5 +1,9 @@
 -- Laws of the rule by which a board is opened.
 use Rattle.std.specs.Prelude.{◌≡◌, ◌<◌, ◌≤◌, ℕ, ◌+◌, Bool, List, Some, Ok, Err}
+use Rattle.store_api.specs.Volumes.{Held}
+use Rattle.board.specs.Moment.{View}
+use Rattle.epoch.specs.Forms.{Form}
+use Rattle.epoch.specs.Mounts.{IsOpenedTo}
 use Rattle.epoch.specs.Opening.{opening_of}
 use Rattle.epoch.specs.declared.answer.OpenAnswer.TheVariants.{Rollback}
 use Rattle.epoch.specs.declared.rule.Found.{Found}
@@ -19,3 +23,9 @@ OpensAtTwo =
     → (n ≤ found.header.sequence) × (found.header.sequence ≤ n + 1)
     × ((m : ℕ) → m ≤ found.header.sequence → found.header.sequence ≤ m + 1
     → opening_of knows key image m ≡ Ok (Some found))
+
+-- whatever an opening makes of what is held, each region has the same leaves, and so stands for the same store
+abbrev pub OpeningKeepsLeaves : Type 0
+OpeningKeepsLeaves =
+    (f : Form) (view : View) (before after : Held) → IsOpenedTo f view before after
+    → (region : ℕ) → after.leaves region ≡ before.leaves region

@@ -10,6 +10,7 @@ pub mod Laws
 pub mod Mounting
 pub mod Mounts
 pub mod Opening
+pub mod Opens
 pub mod Parts
 pub mod Past
 pub mod Reading

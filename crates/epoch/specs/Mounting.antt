@@ -1,15 +1,17 @@
 -- What is found by a search for the header that counts, over the form of the leaves: on a board that holds this, after a
 -- sync, and after a loss of power.
-use Rattle.std.specs.Prelude.{◌≡◌, ℕ, false, List, Option, Some, None, Result, IfErr, IfOk}
+use Rattle.std.specs.Prelude.{◌≡◌, ℕ, false, List, Option, Some, None, Result, Ok, Err, IfErr, IfOk}
 use Rattle.tee_base.specs.Crash.{LeavesOnly}
 use Rattle.store_api.specs.Volumes.{Held}
 use Rattle.board.specs.Moment.{IsCounter, IsLeft, Moment, Outcome, View, left_since, moment}
 use Rattle.epoch.specs.Commits.{IsMounted}
 use Rattle.epoch.specs.Forms.{Form, IsBlankRoot, Root, held, held_of, root_of}
-use Rattle.epoch.specs.Mounts.{IsLeftSound, after_opening}
+use Rattle.epoch.specs.Mounts.{IsLeftSound}
+use Rattle.epoch.specs.Opening.{opening_of}
 use Rattle.epoch.specs.declared.answer.OpenAnswer.{OpenAnswer}
 use Rattle.epoch.specs.declared.answer.OpenAnswer.TheVariants as answers
 use Rattle.epoch.specs.declared.header.Header.{Header}
+use Rattle.epoch.specs.declared.rule.Found.{Found}
 
 -- nothing is pending, and whichever counter is told, the board holds this
 pub record IsHolding (f : Form) (key : List ℕ) (h : Held) (m : Moment) : Type 0 where
@@ -21,6 +23,17 @@ pub record IsHolding (f : Form) (key : List ℕ) (h : Held) (m : Moment) : Type 
 abbrev pub after_found : Option Header → Held → Held
 after_found None h = record h { sequence = 1 }
 after_found (Some header) h = h
+
+-- what an opening makes of what is held, for a form of one version: a board that was blank is formatted, to the sequence 1
+abbrev pub opened_by : Result (Option Found) OpenAnswer → Held → Held
+opened_by (Ok None) held = record held { sequence = 1 }
+opened_by (Ok (Some found)) held = held
+opened_by (Err answer) held = held
+
+-- the same of a board that holds this
+abbrev pub after_opening : Form → View → Held → Held
+after_opening f view held =
+    opened_by (opening_of f.known view.key view.state.reads view.state.counter) held
 
 -- the board is mounted with this under the root of the header, and where there is none, under each root of a blank board
 abbrev pub MountsTo : Form → List ℕ → Held → Moment → Option Header → Type 0

@@ -1,7 +1,8 @@
 -- What the opening of a volume on a board promises, and its reopening, a loss of power and a fuse, over the form of the
 -- leaves.
-use Rattle.std.specs.Prelude.{◌≡◌, ◌≤◌, ◌⊎◌, ◌+◌, ◌%◌, ◌^◌, ℕ, List, ◌∷◌, false, true, Option, Some, None, Result, Ok, Err, IfErr, IfOk, OnErr}
+use Rattle.std.specs.Prelude.{◌≡◌, ◌≤◌, ◌<◌, ◌⊎◌, ◌+◌, ◌%◌, ◌^◌, ◌==◌, ℕ, Bool, List, ◌∷◌, false, true, Option, Some, None, Result, Ok, Err, IfErr, IfOk, OnErr}
 use Rattle.tee_base.specs.Crash.{LeavesOnly, read_as}
+use Rattle.tee_base.specs.declared.limits.TheConstants.{MAX_HOSTS}
 use Rattle.store_api.specs.Volumes.{Held, RestsAt, VolumeKeeper}
 use Rattle.board.specs.Moment.{IsBehind, IsCounter, Outcome, View, left_since, moment}
 use Rattle.board.specs.Steps.{Passes, Powered}
@@ -12,16 +13,29 @@ use Rattle.epoch.specs.declared.answer.OpenAnswer.TheVariants as answers
 use Rattle.epoch.specs.declared.header.Header.{Header}
 use Rattle.epoch.specs.declared.rule.Found.{Found}
 
--- what is held once a board that opens so was opened: one that was blank was formatted, to the sequence 1
-abbrev pub opened_by : Result (Option Found) OpenAnswer → Held → Held
-opened_by (Ok None) held = record held { sequence = 1 }
-opened_by (Ok (Some found)) held = held
-opened_by (Err answer) held = held
+-- an opening that writes a header keeps the leaves, so that each region stands for the same store; the sequence is the next
+-- one, and the version the one that is written
+pub record IsRewritten (f : Form) (before after : Held) : Type 0 where
+  pub leaves : after.leaves ≡ before.leaves
+  pub sequence : after.sequence ≡ before.sequence + 1
+  pub version : after.version ≡ f.version
+
+-- a header is written unless the one that counts is of the version that is written
+abbrev pub MakesBy : Form → Bool → Held → Held → Type 0
+MakesBy f true before after = after ≡ before
+MakesBy f false before after = IsRewritten f before after
+
+-- what an opening makes of what is held by a board that opens so: where no header counts, it is formatted
+abbrev pub MakesOf : Form → Result (Option Found) OpenAnswer → Held → Held → Type 0
+MakesOf f (Ok None) before after = MakesBy f false before after
+MakesOf f (Ok (Some found)) before after =
+    MakesBy f (found.header.version == f.version) before after
+MakesOf f (Err answer) before after = after ≡ before
 
 -- the same of a board that holds this
-abbrev pub after_opening : Form → View → Held → Held
-after_opening f view held =
-    opened_by (opening_of f.known view.key view.state.reads view.state.counter) held
+abbrev pub IsOpenedTo : Form → View → Held → Held → Type 0
+IsOpenedTo f view before after =
+    MakesOf f (opening_of f.known view.key view.state.reads view.state.counter) before after
 
 -- a crash left a sound volume
 abbrev pub IsLeftSound : Option Held → Type 0
@@ -83,11 +97,14 @@ pub record PowerFirst (old new : View) : Type 0 where
   pub reads : new.state.reads ≡ between.state.reads
   pub behind : IsBehind between new
 
--- within an opening a crash leaves what the board held, or that once it is formatted
+-- within an opening a crash leaves what the board held, or what the opening makes of that
+abbrev pub LeftByOpening : Form → Held → View → Outcome → Type 0
+LeftByOpening f held old c = (held_of f old.key c ≡ Some held)
+    ⊎ ((after : Held) × (held_of f old.key c ≡ Some after) × IsOpenedTo f old held after)
+
+-- so at every moment of a call
 abbrev pub LeavesOpening : Form → Held → View → View → Type 0
-LeavesOpening f held old new = LeavesOnly moment left_since old new
-    (λ c. (held_of f old.key c ≡ Some held)
-    ⊎ (held_of f old.key c ≡ Some (after_opening f old held)))
+LeavesOpening f held old new = LeavesOnly moment left_since old new (LeftByOpening f held old)
 
 module _ {V : Type 0} (K : VolumeKeeper V) where
   -- how a volume is seen on its board
@@ -100,6 +117,13 @@ module _ {V : Type 0} (K : VolumeKeeper V) where
         → read_as (held_of f view.key) (left_since view) t o
     pub left_back : (t : ℕ) (c : Outcome) → left_since view t c
         → K.left_since volume t (held_of f view.key c)
+
+  -- the damage of each leaf, and what is found of it, is the form's over what reads give
+  pub record IsFormed (f : Form) (volume : V) (root : Root) (view : View) : Type 0 where
+    pub damage : (region leaf : ℕ) → region < MAX_HOSTS → leaf < K.leaves
+        → K.damage volume region leaf ≡ f.damage view.key view.state.reads root region leaf
+    pub text : (region leaf : ℕ) → region < MAX_HOSTS → leaf < K.leaves
+        → K.text volume region leaf ≡ f.leaf view.key view.state.reads root region leaf
 
   -- all that a crash may leave now is sound
   abbrev pub IsAlwaysSound : V → Type 0

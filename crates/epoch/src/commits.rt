@@ -6,6 +6,7 @@ ghost use Rattle.board.specs.Moment.{View, moment, left_since};
 ghost use Rattle.board.specs.Runs.{RunsOver};
 ghost use Rattle.board.specs.Steps.{CallRun};
 ghost use Rattle.epoch.specs.Commits.{BeforeOrAfter, IsBegun, IsMounted, IsSteady, IsWritten, next_held, spare};
+ghost use Rattle.epoch.specs.Finding.{IsSettledAt};
 ghost use Rattle.epoch.specs.Forms.{Form, IsFramed, Root, SameUsed, is_sealed, leaves_of, root_written};
 ghost use Rattle.epoch.specs.Past.{KeepsPast};
 
@@ -34,8 +35,8 @@ pub trait Change {
     /// Whatever the board holds: under this key what it keeps of the blocks in use has no damage.
     ghost checks: { Self → List ℕ → Type 0 };
 
-    /// After a write of this sequence under this key, beside what it was before: the entries of what it replaces are sealed
-    /// for the sequence, with the stated vectors.
+    /// After a write of this sequence under this key, beside what it was before: the root's entry and those of what it
+    /// replaces are sealed for the sequence, with the stated vectors.
     ghost seals: { Self → Self → List ℕ → ℕ → Type 0 };
 
     /// How many blocks it writes at most.
@@ -61,6 +62,8 @@ pub trait Change {
         ensures entries { (key : List ℕ) → checks self.old key
             → OnOk result (seals self.old self.new key sequence) }
         ensures checked { (key : List ℕ) → checks self.old key → OnOk result (checks self.new key) }
+        ensures counter { B.honest board.old → (n : ℕ) → IsSettledAt n (B.view board.old).state
+            → OnOk result (IsSettledAt n (B.view board.new).state) }
         ensures honest { B.honest board.old → B.honest board.new }
         ensures past { B.honest board.old → KeepsPast (B.view board.old) (B.view board.new) }
         ensures run { B.honest board.old → (slot low high : ℕ) (first : View)
@@ -118,6 +121,9 @@ pub fn commit<B: Board, C: Change>(
         → OnOk result (C.seals change.old change.new key (sequence + 1)) }
     ensures checked { (key : List ℕ) → C.checks change.old key
         → OnOk result (C.checks change.new key) }
+    // at Ok the counter is the new sequence, whatever the image
+    ensures counter { B.honest board.old → IsSettledAt sequence (B.view board.old).state
+        → OnOk result (IsSettledAt (sequence + 1) (B.view board.new).state) }
     ensures honest { B.honest board.old → B.honest board.new }
     ensures past { B.honest board.old → KeepsPast (B.view board.old) (B.view board.new) }
     // at every moment since the start all that a crash leaves holds what was held before, or after

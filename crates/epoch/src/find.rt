@@ -45,8 +45,9 @@ pub fn find_header<B: Board>(board: &mut B, format: Format) -> Result<Option<Hea
     ensures rule { IsTrue B.tells_reads → (counter : ℕ) × IsRuled result
         (opens_as (accepts format) format.blocks (B.view board.old).size (B.view board.old).key
         (B.view board.old).state.reads counter) }
-    ensures exact { B.honest board.old → Finds (accepts format) format.blocks (B.view board.old).size
-        (B.view board.old).key (B.view board.old).state (B.view board.new).state result }
+    ensures exact { B.honest board.old → let old = B.view board.old in
+        Finds (accepts format) format.blocks old.size old.key old.state
+        (B.view board.new).state result }
     // the counter is settled at the sequence, and at 0 where the board is blank
     ensures counter { B.honest board.old
         → IfOk result (λ header. IsSettledAt (sequence_of header) (B.view board.new).state) }

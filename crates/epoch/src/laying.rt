@@ -44,7 +44,8 @@ pub fn lay<B: Board>(board: &mut B, header: &Header) -> Result<(), BoardFailed>
         → RunsOver open_at base low high first (B.view board.old)
         → RunsOver open_at base low high first (B.view board.new) }
     // behind a gate that isn't open all that a crash leaves opens as before
-    ensures crash { B.honest board.old → (knows : ℕ → Bool) (n : ℕ) → Rests n (B.view board.old).state
+    ensures crash { B.honest board.old → (knows : ℕ → Bool) (n : ℕ)
+        → Rests n (B.view board.old).state
         → gate_open ((B.view board.old).state.reads (gate_at (header.now.sequence % 2))) ≡ false
         → LeavesOnly moment left_since (B.view board.old) (B.view board.new)
         (λ c. outcome_opening knows (B.view board.old).key c

@@ -19,6 +19,7 @@ mod mounts;
 mod rule;
 mod slots;
 mod steps;
+mod taking;
 
 pub use answer::{OpenAnswer, Unopened};
 pub use commits::{Change, commit};
@@ -32,3 +33,4 @@ pub use laying::lay;
 pub use mounting::{mount, mount_after_power, mount_again};
 pub use mounts::{BLANK, BoardVolume, FORMATTED};
 pub use steps::{flip, shut};
+pub use taking::{NO_ROOT, taken_from};

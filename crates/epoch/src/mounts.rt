@@ -1,5 +1,5 @@
 //! A volume on a board: how it is opened, and what happens to its board beside the leaves.
-ghost use Rattle.std.specs.Prelude.{◌≡◌, ◌≢◌, ◌≤◌, ◌↔◌, ℕ, true, false, Some, Err, IsTrue, IfOk, IfErr, OnErr};
+ghost use Rattle.std.specs.Prelude.{◌≡◌, ◌≢◌, ◌≤◌, ◌↔◌, ◌⊎◌, ℕ, List, true, false, Some, Err, IsTrue, IfOk, IfErr, OnOk, OnErr};
 ghost use Rattle.tee_base.specs.Faults.{Rose};
 ghost use Rattle.store_api.specs.Volumes.{Held};
 ghost use Rattle.board.specs.Moment.{IsCounter, IsLeft, Outcome};
@@ -9,7 +9,7 @@ ghost use Rattle.board.specs.Steps.{CallRun, Passes, SameBlocks, Unchanged};
 ghost use Rattle.board.specs.declared.fuse.Fuse.TheVariants.{Unset};
 ghost use Rattle.epoch.specs.Finding.{IsSettledAt};
 ghost use Rattle.epoch.specs.Forms.{Form, Root, held};
-ghost use Rattle.epoch.specs.Mounts.{IsAdmitted, IsAlwaysSound, IsBack, IsKeptFromOpening, IsOrdered, IsRefusal, IsRefusedNow, IsSeenOn, LeavesOpening, OpensAfterPower, OpensAgain, OrderRun, PowerFirst, after_opening};
+ghost use Rattle.epoch.specs.Mounts.{IsAdmitted, IsAlwaysSound, IsBack, IsFormed, IsKeptFromOpening, IsOpenedTo, IsOrdered, IsRefusal, IsRefusedNow, IsSeenOn, LeavesOpening, OpensAfterPower, OpensAgain, OrderRun, PowerFirst};
 ghost use Rattle.epoch.specs.Opening.{is_no_failure, no_failure};
 ghost use Rattle.epoch.specs.Past.{KeepsPast};
 ghost use Rattle.epoch.specs.declared.answer.OpenAnswer.TheVariants as answers;
@@ -35,6 +35,9 @@ pub trait BoardVolume<B: Board>: Volume + Sized {
 
     /// The root that it keeps.
     ghost root: { Self → Root };
+
+    /// What it keeps of the blocks on the ways to its leaves is what an image has.
+    ghost keeps: { Self → (ℕ → List ℕ) → Type 0 };
 
     /// Opens a board; one that is blank is formatted.
     ///
@@ -68,17 +71,23 @@ pub trait BoardVolume<B: Board>: Volume + Sized {
             (B.view board).state.reads counter u.why)
             × IfOk result (λ v. IsAdmitted form (B.view board) (B.view board).state.reads counter
             FORMATTED (Self.keeper.held v).sequence (root v)) }
+        // at Ok the counter is the sequence, whatever the image, and no other is left open
+        ensures counter { B.honest board → IfOk result (λ v.
+            IsSettledAt (Self.keeper.held v).sequence (B.view (board_of v)).state) }
         ensures honest { B.honest board → IfOk result (λ v. B.honest (board_of v)) }
         ensures honest_back { B.honest board → IfErr result (λ u. B.honest u.board) }
         // a refusal is of the board that is handed back
         ensures refusal { B.honest board
             → IfErr result (λ u. IsRefusedNow form (B.view u.board) u.why) }
+        // nothing is kept but what the formatting wrote
+        ensures bare { IfOk result (λ v. ((image : ℕ → List ℕ) → keeps v image)
+            ⊎ ((Self.keeper.held v).sequence ≡ FORMATTED)) }
         // a board at rest with a sound image is opened, unless a call failed or there was no memory
         ensures opened { B.honest board → (n : ℕ) (h : Held) → Rests n (B.view board).state
             → form.blocks ≤ (B.view board).size
             → held form (B.view board).key (B.view board).state.reads n ≡ Some h
             → IfOk result (λ v. Self.keeper.honest v
-            × (Self.keeper.held v ≡ after_opening form (B.view board) h)
+            × IsOpenedTo form (B.view board) h (Self.keeper.held v)
             × LeavesOpening form h (B.view board) (B.view (board_of v))) }
         ensures unopened { B.honest board → (n : ℕ) (h : Held) → Rests n (B.view board).state
             → form.blocks ≤ (B.view board).size
@@ -107,6 +116,7 @@ pub trait BoardVolume<B: Board>: Volume + Sized {
             × IfOk result (λ sequence. IsAdmitted form (B.view (board_of self.old))
             (B.view (board_of self.old)).state.reads counter BLANK sequence (root self.new)) }
         ensures root { OnErr result (root self.new ≡ root self.old) }
+        ensures bare { OnOk result ((image : ℕ → List ℕ) → keeps self.new image) }
         // a refusal is of the board as it is then
         ensures refusal { B.honest (board_of self.old)
             → IfErr result (λ why. IsRefusedNow form (B.view (board_of self.new)) why) }
@@ -144,6 +154,7 @@ pub trait BoardVolume<B: Board>: Volume + Sized {
             × IfOk result (λ sequence. IsAdmitted form (B.view (board_of self.old)) c.image
             c.counter BLANK sequence (root self.new)) }
         ensures root { OnErr result (root self.new ≡ root self.old) }
+        ensures bare { OnOk result ((image : ℕ → List ℕ) → keeps self.new image) }
         // a refusal is of the board as it is then
         ensures refusal { B.honest (board_of self.old)
             → IfErr result (λ why. IsRefusedNow form (B.view (board_of self.new)) why) }
@@ -185,6 +196,14 @@ pub trait BoardVolume<B: Board>: Volume + Sized {
     /// The board.
     fn into_board(self) -> B
         ensures { result ≡ board_of self };
+
+    /// What it calls the damage of a leaf, and what it finds of the leaf, is the form's: over what reads of the board give
+    /// and the root that it keeps, where what it keeps of blocks is what they read as.
+    ghost formed: { (v : Self) → keeps v (B.view (board_of v)).state.reads → IsFormed Self.keeper form v (root v) (B.view (board_of v)) };
+
+    /// What an honest volume that isn't lost keeps is what reads of the board give.
+    ghost kept: { (v : Self) → Self.keeper.honest v → (Self.keeper.condition v).lost ≡ false
+        → keeps v (B.view (board_of v)).state.reads };
 
     /// How it is seen on its board.
     ghost seen: { (v : Self) → IsSeenOn Self.keeper form v (B.view (board_of v)) };

@@ -47,7 +47,8 @@ pub fn shut<B: Board>(board: &mut B, slot: u8) -> Result<(), BoardFailed>
         → RunsOver open_at base low high first (B.view board.old)
         → RunsOver open_at base low high first (B.view board.new) }
     // all that a crash leaves opens as before
-    ensures crash { B.honest board.old → (knows : ℕ → Bool) (n : ℕ) → Rests n (B.view board.old).state
+    ensures crash { B.honest board.old → (knows : ℕ → Bool) (n : ℕ)
+        → Rests n (B.view board.old).state
         → CountsElsewhere slot
         (opening_of knows (B.view board.old).key (B.view board.old).state.reads n)
         → LeavesOnly moment left_since (B.view board.old) (B.view board.new)
@@ -95,7 +96,8 @@ pub fn flip<B: Board>(board: &mut B, slot: u8) -> Result<u64, BoardFailed>
         ⊎ (outcome_opening knows (B.view board.old).key c
         ≡ Ok (Some (record { header = header; slot = slot })))) }
     // at Ok it opens to that header, at the counter that was told
-    ensures opened { B.honest board.old → IfOk result (λ m. (knows : ℕ → Bool) (n : ℕ) (header : HeaderValue)
+    ensures opened { B.honest board.old → IfOk result (λ m.
+        (knows : ℕ → Bool) (n : ℕ) (header : HeaderValue)
         → IsLaid knows (B.view board.old).key slot n header (B.view board.old).state
         → opening_of knows (B.view board.old).key (B.view board.new).state.reads m
         ≡ Ok (Some (record { header = header; slot = slot }))) }

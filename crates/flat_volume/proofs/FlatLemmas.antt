@@ -61,6 +61,11 @@ leaves_spare key reads root slot table region [] is = tt
 leaves_spare key reads root slot table region (leaf ∷ leaves) is =
     (leaf_spare key reads root slot table (number_of region leaf.number) is, leaves_spare key reads root slot table region leaves is)
 
+-- where each block is open, all copies are
+pub all_spare : (table : List ℕ) (region : ℕ) (leaves : List Leaf) → AreSpare (λ k. true) table region leaves
+all_spare table region [] = tt
+all_spare table region (leaf ∷ leaves) = (refl, all_spare table region leaves)
+
 second_none : (a b : Option Mismatch) → first_damage a b ≡ None → b ≡ None
 second_none None b e = e
 second_none (Some tags) b e = absurd (cc)

@@ -49,7 +49,8 @@ module _ (key told tnew : List ℕ) (old new : ℕ → List ℕ) (number : ℕ) 
   other_leaf r l ne = ap (λ (bytes : List ℕ). if is_leaf LEAVES r l then bytes else []) (other_text (number_of r l) ne)
 
   -- and the one that was written
-  this_leaf : (r l : ℕ) (bytes : List ℕ) → number_of r l ≡ number → is_leaf LEAVES r l ≡ true → leaf_text key new (FIRST_LEAF + number) (entry_of tnew number) ≡ bytes → leaves_by key tnew new r l ≡ bytes
+  this_leaf : (r l : ℕ) (bytes : List ℕ) → number_of r l ≡ number → is_leaf LEAVES r l ≡ true → leaf_text key new (FIRST_LEAF + number) (entry_of tnew number) ≡ bytes
+      → leaves_by key tnew new r l ≡ bytes
   unfolding leaves_by
   this_leaf r l bytes e is text =
       rw is (subst (λ (m : ℕ). leaf_text key new (FIRST_LEAF + m) (entry_of tnew m) ≡ bytes) (sym e) text)

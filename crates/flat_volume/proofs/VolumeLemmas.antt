@@ -174,3 +174,9 @@ still_open answers.Lost before view table none live stays = subst (IsOpen view b
 still_open answers.Failed before view table none live stays = absurd (let f : true ≡ false = live in cc)
 still_open (answers.Mismatch tags) before view table none live stays = subst (IsOpen view before.root before.sequence) (sym none) stays
 still_open answers.NoMemory before view table none live stays = subst (IsOpen view before.root before.sequence) (sym none) stays
+
+-- a table that counts as before is kept as before
+pub still_kept : (table table' : Option Table) (old new : ℕ → List ℕ) (root : TreeEntry) → new ≡ old → table_now table' old root ≡ table_now table old root
+    → IsKept table old root → IsKept table' new root
+still_kept table table' old new root reads same kept =
+    subst (λ (f : ℕ → List ℕ). IsKept table' f root) (sym reads) (kept_by table' old root (same ∙ kept_table table old root kept))

@@ -184,3 +184,7 @@ zero_alone (suc n) =
 
 pub flat_format : IsFormatOf flat FLAT
 flat_format = record { known = λ i version. zero_alone version i; blocks = refl }
+
+-- what is accepted is what is written
+pub flat_single : (version : ℕ) → (version == 0) ≡ true → (version == 0) ≡ true
+flat_single version is = is

@@ -1,13 +1,14 @@
 -- The laws of a flat volume: what a crash leaves of one that is open, that no leaf of it is damaged, and its clock.
-use Rattle.std.proofs.Common.{◌≡◌, ◌≤◌, ◌+◌, ◌∙◌, if◌then◌else◌, ℕ, true, false, List, [], ◌∷◌, Option, Some, None, length, refl, sym, ap, inl, inr, ⊎_elim, arith}
+use Rattle.std.proofs.Common.{◌≡◌, ◌≤◌, ◌<◌, ◌+◌, ◌∙◌, if◌then◌else◌, ℕ, true, false, List, [], ◌∷◌, Option, Some, None, length, refl, sym, ap, inl, inr, ⊎_elim, arith}
 use Rattle.tee_base.specs.Crash.{read_as}
-use Rattle.tee_base.specs.declared.limits.TheConstants.{LEAVES}
+use Rattle.tee_base.specs.declared.limits.TheConstants.{LEAVES, MAX_HOSTS}
 use Rattle.store_api.specs.Volumes.{Held}
 use Rattle.board.specs.Moment.{IsConsistent, IsCounter, Outcome, Moment, View, IsLeft, WasLeft, moment, left_since}
 use Rattle.epoch.specs.Forms.{held_of, is_leaf, leaves_of}
 use Rattle.epoch.specs.Opening.{opening_of}
 use Rattle.epoch.specs.declared.header.TreeEntry.{TreeEntry}
 use Rattle.epoch.proofs.CommitLemmas.{held_before, leaf_below, mounted_holds, region_below, sealed_each}
+use Rattle.epoch.proofs.KeepLemmas.{leaf_is}
 use Rattle.flat_volume.specs.declared.places.TheConstants.{FIRST_LEAF}
 use Rattle.flat_volume.specs.Flat.{entry_of, flat, flat_root, leaf_text, number_of, path_damage, table_in}
 use Rattle.flat_volume.specs.Frame.{flat_framed}
@@ -39,3 +40,20 @@ unfolding text_now leaves_of
 found_open view root sequence table is region leaf =
     ap (λ (t : List ℕ). if is_leaf LEAVES region leaf then leaf_text view.key view.state.reads (FIRST_LEAF + number_of region leaf) (entry_of t (number_of region leaf)) else [])
     (kept_table table view.state.reads root is.kept)
+
+-- a table that is kept as reads give it finds what the form finds
+pub found_formed : (table : Option Table) (view : View) (root : TreeEntry) → IsKept table view.state.reads root → (region leaf : ℕ) → region < MAX_HOSTS → leaf < LEAVES
+    → damage_now table view root region leaf ≡ flat.damage view.key view.state.reads (flat_root root) region leaf
+unfolding damage_now
+found_formed table view root kept region leaf r l =
+    let there : is_leaf LEAVES region leaf ≡ true = leaf_is LEAVES region leaf r l in
+    let same = kept_table table view.state.reads root kept in
+    rw (there, same) refl
+
+pub leaf_formed : (table : Option Table) (view : View) (root : TreeEntry) → IsKept table view.state.reads root → (region leaf : ℕ) → region < MAX_HOSTS → leaf < LEAVES
+    → text_now table view root region leaf ≡ flat.leaf view.key view.state.reads (flat_root root) region leaf
+unfolding text_now
+leaf_formed table view root kept region leaf r l =
+    let there : is_leaf LEAVES region leaf ≡ true = leaf_is LEAVES region leaf r l in
+    let same = kept_table table view.state.reads root kept in
+    rw (there, same) refl

@@ -1,5 +1,5 @@
 -- What the writing of leaves and of the table does to a board.
-use Rattle.std.specs.Prelude.{◌≡◌, ◌<◌, ℕ, ◌+◌, ◌-◌, Bool, true, List, [], ◌∷◌, Option, None, Some, if◌then◌else◌}
+use Rattle.std.specs.Prelude.{◌≡◌, ◌<◌, ℕ, ◌+◌, ◌-◌, Bool, true, List, [], ◌∷◌, Option, None, Some, replicate, if◌then◌else◌}
 use Rattle.tee_base.specs.declared.limits.TheConstants.{LEAVES}
 use Rattle.store_api.specs.declared.leaves.Leaf.{Leaf}
 use Rattle.seal.specs.Sealing.{seal_vector}
@@ -39,6 +39,11 @@ leaves_by key table reads region leaf =
 pub record IsSealedFor (key : List ℕ) (place number : ℕ) (plain : List ℕ) (entry : TreeEntry) : Type 0 where
   pub sequence : entry.sequence ≡ number
   pub vector : entry.iv ≡ seal_vector key place number plain
+
+-- the entry of a root is sealed for this sequence, with the vector of zeros that a table has
+pub record IsRootFor (number : ℕ) (root : TreeEntry) : Type 0 where
+  pub sequence : root.sequence ≡ number
+  pub vector : root.iv ≡ replicate 16 0
 
 -- so are the entries of these leaves of a region in a table
 abbrev pub AreSealedFor : List ℕ → ℕ → List ℕ → ℕ → List Leaf → Type 0

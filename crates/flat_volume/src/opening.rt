@@ -1,32 +1,34 @@
 //! How a flat volume is opened and formatted, and opened again.
-ghost use Rattle.std.specs.Prelude.{◌≡◌, ◌≢◌, ◌≤◌, ◌<◌, ℕ, true, false, None, Some, Err, IsTrue, IfOk, IfErr, OnOk, OnErr, refl};
+ghost use Rattle.std.specs.Prelude.{◌≡◌, ◌≢◌, ◌≤◌, ◌<◌, ◌⊎◌, ℕ, true, false, None, Some, Err, IsTrue, IfOk, IfErr, OnOk, OnErr, refl};
 ghost use Rattle.tee_base.specs.Faults.{Rose};
 ghost use Rattle.tee_base.specs.declared.limits.TheConstants.{BOARD_BLOCKS};
 ghost use Rattle.store_api.specs.Volumes.{Held};
 ghost use Rattle.board.specs.Moment.{IsCounter};
 ghost use Rattle.board.specs.Runs.{Rests};
 ghost use Rattle.board.specs.Steps.{CallRun, SameBlocks};
-ghost use Rattle.epoch.specs.Finding.{sequence_of};
+ghost use Rattle.epoch.specs.Finding.{IsSettledAt, sequence_of};
 ghost use Rattle.epoch.specs.Formats.{IsAccepted};
 ghost use Rattle.epoch.specs.Forms.{held};
-ghost use Rattle.epoch.specs.Mounting.{MountsTo, after_found};
-ghost use Rattle.epoch.specs.Mounts.{IsAdmitted, IsKeptFromOpening, IsRefusal, IsRefusedNow, TakesUp, after_opening};
+ghost use Rattle.epoch.specs.Mounting.{MountsTo, after_found, after_opening};
+ghost use Rattle.epoch.specs.Mounts.{IsAdmitted, IsKeptFromOpening, IsRefusal, IsRefusedNow, TakesUp};
 ghost use Rattle.epoch.specs.Opening.{no_failure};
+ghost use Rattle.epoch.specs.Opens.{entry_found};
 ghost use Rattle.epoch.specs.Past.{KeepsPast};
 ghost use Rattle.epoch.specs.declared.answer.OpenAnswer.TheVariants as refusals;
 ghost use Rattle.epoch.specs.declared.header.Header.{Header as Kept};
 ghost use Rattle.flat_volume.specs.Flat.{flat, flat_root, zero_table};
-ghost use Rattle.flat_volume.specs.Keeping.{IsOpen, IsVerified, held_now};
-ghost use Rattle.flat_volume.specs.Opens.{Opens, root_of};
+ghost use Rattle.flat_volume.specs.Keeping.{IsKept, IsOpen, IsVerified, held_now};
+ghost use Rattle.flat_volume.specs.Laws.{found_formed, leaf_formed};
+ghost use Rattle.flat_volume.specs.Opens.{Opens};
 
 use crate::places::{FLAT, VOLUME_BLOCKS};
 use crate::table::Table;
 use crate::volume::{FlatVolume, Opened};
-use crate::write::{FlatChange, NO_ROOT};
+use crate::write::FlatChange;
 use board::Board;
 use epoch::{
-    BLANK, BoardVolume, FORMATTED, Header, OpenAnswer, Unopened, commit, mount, mount_after_power,
-    mount_again,
+    BLANK, BoardVolume, FORMATTED, Header, NO_ROOT, OpenAnswer, Unopened, commit, mount,
+    mount_after_power, mount_again, taken_from,
 };
 use seal::Keys;
 use std::alloc::Global;
@@ -36,6 +38,7 @@ fn open_board<B: Board>(alloc: Global, board: &mut B) -> Result<Opened, OpenAnsw
     ensures calls { CallRun (no_failure result) (B.view board.old) (B.view board.new) }
     ensures cause { result ≡ Err refusals.Failed
         → Rose (B.view board.old).state.faults (B.view board.new).state.faults }
+    ensures bare { IfOk result (λ o. (o.table ≡ None) ⊎ (o.sequence ≡ FORMATTED)) }
     ensures size { OnOk result (BOARD_BLOCKS ≤ (B.view board.old).size) }
     ensures verified { IfOk result (λ o. IsVerified (B.view board.old).key o.table o.root) }
     // what isn't opened for another cause than a failed call is as it was
@@ -43,6 +46,9 @@ fn open_board<B: Board>(alloc: Global, board: &mut B) -> Result<Opened, OpenAnsw
         → (B.view board.new).writes ≡ (B.view board.old).writes) }
     ensures unchanged { B.honest board.old → IfErr result (λ why. why ≢ refusals.Failed
         → SameBlocks (B.view board.old).state (B.view board.new).state) }
+    // at Ok the counter is the sequence, whatever the image
+    ensures counter { B.honest board.old
+        → IfOk result (λ o. IsSettledAt o.sequence (B.view board.new).state) }
     ensures honest { B.honest board.old → B.honest board.new }
     ensures past { B.honest board.old → KeepsPast (B.view board.old) (B.view board.new) }
     ensures rule { IsTrue B.tells_reads → (counter : ℕ)
@@ -79,12 +85,16 @@ fn take_up<B: Board>(
     ensures cause { result ≡ Err refusals.Failed
         → Rose (B.view board.old).state.faults (B.view board.new).state.faults }
     ensures kept { IfErr result (λ why. IsKeptFromOpening why) }
+    ensures bare { IfOk result (λ o. (o.table ≡ None) ⊎ (o.sequence ≡ FORMATTED)) }
     ensures verified { IfOk result (λ o. IsVerified (B.view board.old).key o.table o.root) }
     // what isn't opened for another cause than a failed call is as it was
     ensures unwritten { IfErr result (λ why. why ≢ refusals.Failed
         → (B.view board.new).writes ≡ (B.view board.old).writes) }
     ensures unchanged { B.honest board.old → IfErr result (λ why. why ≢ refusals.Failed
         → SameBlocks (B.view board.old).state (B.view board.new).state) }
+    ensures counter { B.honest board.old
+        → IsSettledAt (sequence_of found) (B.view board.old).state
+        → IfOk result (λ o. IsSettledAt o.sequence (B.view board.new).state) }
     ensures honest { B.honest board.old → B.honest board.new }
     ensures past { B.honest board.old → KeepsPast (B.view board.old) (B.view board.new) }
     ensures same { (header : Kept) → found ≡ Some header
@@ -103,14 +113,11 @@ fn take_up<B: Board>(
 /// The root and the sequence of the header that was found; where none counts, no root, at the sequence 0. The table isn't
 /// read yet.
 fn opened_at(found: Option<Header>) -> Opened
-    ensures root { result.root ≡ root_of found }
+    ensures root { result.root ≡ entry_found found }
     ensures sequence { result.sequence ≡ sequence_of found }
     ensures table { result.table ≡ None }
 {
-    let (root, sequence) = match found {
-        Some(header) => (header.root, header.sequence),
-        None => (NO_ROOT, 0),
-    };
+    let (root, sequence) = taken_from(found);
     Opened {
         root,
         sequence,
@@ -133,6 +140,8 @@ fn format_board<B: Board>(alloc: Global, board: &mut B) -> Result<Opened, OpenAn
         → (B.view board.new).writes ≡ (B.view board.old).writes) }
     ensures unchanged { B.honest board.old → IfErr result (λ why. why ≢ refusals.Failed
         → SameBlocks (B.view board.old).state (B.view board.new).state) }
+    ensures counter { B.honest board.old → IsSettledAt 0 (B.view board.old).state
+        → IfOk result (λ o. IsSettledAt o.sequence (B.view board.new).state) }
     ensures honest { B.honest board.old → B.honest board.new }
     ensures past { B.honest board.old → KeepsPast (B.view board.old) (B.view board.new) }
     ensures opens { B.honest board.old → (h : Held)
@@ -174,6 +183,7 @@ impl<B: Board + Drop> FlatVolume<B> {
         ensures board { self.new.board ≡ self.old.board }
         ensures works { self.new.lost ≡ false }
         ensures sequence { self.new.sequence ≡ result }
+        ensures bare { self.new.table ≡ None }
         ensures found { TakesUp flat found BLANK result (flat_root self.new.root) }
         ensures opened { (h : Held)
             → MountsTo flat (B.view self.old.board).key h (B.view self.old.board).state found
@@ -199,6 +209,15 @@ impl<B: Board + Drop> BoardVolume<B> for FlatVolume<B> {
     ghost board_of = { λ v. v.board };
 
     ghost root = { λ v. flat_root v.root };
+
+    ghost keeps = { λ v image. IsKept v.table image v.root };
+
+    ghost formed = { λ v keeps. record {
+      damage = λ region leaf r l. found_formed v.table (B.view v.board) v.root keeps region leaf r l;
+      text = λ region leaf r l. leaf_formed v.table (B.view v.board) v.root keeps region leaf r l;
+    } };
+
+    ghost kept = { λ v h live. (h.1 live).kept };
 
     ghost seen = { λ v. record {
       faults = refl;

@@ -1,5 +1,6 @@
 //! A flat volume on a board.
 ghost use Rattle.std.specs.Prelude.{◌≡◌, ◌≢◌, ◌≤◌, ◌<◌, ◌+◌, ◌-◌, ◌^◌, ◌⊎◌, not, true, false, ◌∷◌, ℕ, Option, Some, Err, IsTrue, IfOk, OnErr, length, refl};
+ghost use Rattle.std.proofs.Common.{arith};
 ghost use Rattle.std.proofs.Props.{props};
 ghost use Rattle.tee_base.specs.Faults.{Rose};
 ghost use Rattle.tee_base.specs.declared.limits.TheConstants.{BOARD_BLOCKS, LEAVES, MAX_HOSTS};
@@ -16,8 +17,8 @@ ghost use Rattle.epoch.specs.Past.{KeepsPast};
 ghost use Rattle.epoch.specs.Reading.{no_fault};
 ghost use Rattle.flat_volume.specs.Flat.{flat, flat_root, table_damage, table_in};
 ghost use Rattle.flat_volume.specs.Frame.{flat_framed};
-ghost use Rattle.flat_volume.specs.Keeping.{IsOpen, IsVerified, Replaces, damage_now, held_now, text_now};
-ghost use Rattle.flat_volume.specs.Writing.{KeepsSealed};
+ghost use Rattle.flat_volume.specs.Keeping.{IsKept, IsOpen, IsVerified, Replaces, damage_now, held_now, text_now};
+ghost use Rattle.flat_volume.specs.Writing.{IsRootFor, KeepsSealed};
 ghost use Rattle.epoch.proofs.LeftLemmas.{left_in_use, rests_in_use, since_earlier};
 ghost use Rattle.flat_volume.specs.Laws.{found_open, sound_open};
 
@@ -81,7 +82,8 @@ fn replace<B: Board>(
         ≤ (B.view board.old).writes + length leaves.now + TABLE_BLOCKS + 3 }
     ensures unwritten { OnErr result (no_fault result ≡ true
         → (B.view board.new).writes ≡ (B.view board.old).writes) }
-    ensures sealed_for { IfOk result (λ after. after.root.sequence ≡ opened.sequence + 1) }
+    ensures sealed_for { IsVerified (B.view board.old).key opened.table opened.root
+        → IfOk result (λ after. IsRootFor (opened.sequence + 1) after.root) }
     ensures entries { IsVerified (B.view board.old).key opened.table opened.root
         → IfOk result (λ after. KeepsSealed (B.view board.old).key (opened.sequence + 1)
         after.table region leaves.now) }
@@ -127,7 +129,7 @@ impl<B: Board + Drop> Volume for FlatVolume<B> {
 
     ghost rests = { λ v h live. record { only = rests_in_use flat flat_framed (B.view v.board) (flat_root v.root) v.sequence (h.1 live).mounted } };
 
-    ghost whole = { refl };
+    ghost whole = { Prim.omega arith };
 
     ghost left_now = { λ v h live. left_in_use flat flat_framed (B.view v.board) (flat_root v.root) v.sequence (h.1 live).mounted (B.consistent v.board h.0) };
 
@@ -149,6 +151,10 @@ impl<B: Board + Drop> Volume for FlatVolume<B> {
         requires leaf { leaf < LEAVES }
         ensures reads { ReadsLeaf flat_keeper region leaf into.new result self.old self.new }
         ensures root { self.new.root ≡ self.old.root }
+        // what it keeps stays what reads give
+        ensures kept { IsTrue B.tells_reads
+            → IsKept self.old.table (B.view self.old.board).state.reads self.old.root
+            → IsKept self.new.table (B.view self.new.board).state.reads self.old.root }
     {
         if self.lost {
             return Err(LeafAnswer::Lost);
@@ -178,7 +184,7 @@ impl<B: Board + Drop> Volume for FlatVolume<B> {
         ensures writes { (B.view self.new.board).writes
             ≤ (B.view self.old.board).writes + length leaves.now + TABLE_BLOCKS + 3 }
         ensures root { OnErr result (self.new.root ≡ self.old.root) }
-        ensures sealed_for { IfOk result (λ sequence. self.new.root.sequence ≡ sequence) }
+        ensures sealed_for { IfOk result (λ sequence. IsRootFor sequence self.new.root) }
         ensures entries { IfOk result (λ sequence. KeepsSealed (B.view self.old.board).key sequence
             self.new.table region leaves.now) }
         // from then on the board is refused at every greater counter

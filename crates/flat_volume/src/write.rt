@@ -13,7 +13,7 @@ ghost use Rattle.epoch.specs.Past.{KeepsPast};
 ghost use Rattle.flat_volume.specs.Flat.{block_at as block_of_copy, entry_of, flat, flat_root, leaf_damage, leaf_text, number_of, table_in};
 ghost use Rattle.flat_volume.specs.Frame.{flat_framed};
 ghost use Rattle.flat_volume.specs.declared.places.TheConstants.{TABLE_BLOCKS};
-ghost use Rattle.flat_volume.specs.Writing.{AreSealed, AreSealedFor, AreSpare, IsSealedFor, leaves_by, spare_block};
+ghost use Rattle.flat_volume.specs.Writing.{AreSealed, AreSealedFor, AreSpare, IsRootFor, IsSealedFor, leaves_by, spare_block};
 ghost use Rattle.flat_volume.specs.Change.{ChecksFlat, FitsFlat, table_still_fits};
 
 use crate::places::{
@@ -39,14 +39,6 @@ pub struct FlatChange<'a> {
     ghost inside: { is_above_all leaves.now LEAVES ≡ true },
 }
 
-/// What a blank board has in place of a root: the table that formatting writes goes into copy 0.
-pub const NO_ROOT: TreeEntry = TreeEntry {
-    copy: 1,
-    sequence: 0,
-    iv: [0; 16],
-    tag: [0; 32],
-};
-
 impl Change for FlatChange<'_> {
     ghost form = { flat };
 
@@ -60,7 +52,7 @@ impl Change for FlatChange<'_> {
 
     ghost checks = { λ c key. ChecksFlat c.keys.now c.table c.root key };
 
-    ghost seals = { λ old new key sequence. AreSealedFor key sequence new.table.bytes.items old.region old.leaves.now };
+    ghost seals = { λ old new key sequence. IsRootFor sequence new.root × AreSealedFor key sequence new.table.bytes.items old.region old.leaves.now };
 
     ghost cost = { λ c. length c.leaves.now + TABLE_BLOCKS };
 

@@ -1,7 +1,8 @@
 -- The leaves of an honest volume as they are found, and the store that they stand for.
-use Rattle.std.proofs.Common.{◌≡◌, ◌<◌, ℕ, true, false, nat_lt, List, [], ◌∷◌, Result, Ok, Err, refl, sym, ap, ◌∙◌, subst, arith}
+use Rattle.std.proofs.Common.{◌≡◌, ◌≤◌, ◌<◌, ℕ, true, false, nat_lt, List, [], ◌∷◌, Result, Ok, Err, refl, sym, ap, ◌∙◌, subst, arith}
 use Rattle.std.specs.Prelude.{◌&&◌, bytes_eq, IsTrue}
 use Rattle.std.proofs.lemmas.Bool.{ltb-true}
+use Rattle.std.proofs.lemmas.Bool.Decides.{nat_tests}
 use Rattle.tee_base.specs.declared.limits.TheConstants.{LEAVES, MAX_HOSTS}
 use Rattle.store_api.specs.Ascending.{is_above_all}
 use Rattle.store_api.specs.declared.answer.StoreAnswer.{StoreAnswer}
@@ -26,7 +27,7 @@ use Rattle.object_dir.proofs.HeldLemmas.{never_breaks}
 
 -- what is known of each volume of a kind
 pub record IsLawful {V : Type 0} (K : VolumeKeeper V) : Type 0 where
-  pub whole : K.leaves ≡ LEAVES
+  pub whole : LEAVES ≤ K.leaves
   pub tells : (v : V) → K.honest v → IsTrue K.tells_reads
   pub found : (v : V) → K.honest v → (K.condition v).lost ≡ false → (region leaf : ℕ) → region < MAX_HOSTS → leaf < K.leaves → K.text v region leaf ≡ (K.held v).leaves region leaf
 
@@ -47,6 +48,14 @@ answers_working (Err (Corrupt tags)) stated old new cause told = tt
 answers_working (Err (Garbled leaf)) stated old new cause told = tt
 answers_working (Err NoMemory) stated old new cause told = tt
 
+-- a number above all of them, and a greater one
+pub above_more : (named : List Leaf) (n m : ℕ) → n ≤ m → is_above_all named n ≡ true → is_above_all named m ≡ true
+above_more [] n m le above = refl
+above_more (leaf ∷ named) n m le above =
+    let parts = and_both (nat_lt leaf.number n) (is_above_all named n) above in
+    let here : nat_lt leaf.number m ≡ true = (let x = ltb-true leaf.number n parts.0 in grind (arith, nat_tests)) in
+    rw here (above_more named n m le parts.1)
+
 -- leaves that are there, where others agree with them
 pub there_alike : (named : List Leaf) (one two : ℕ → List ℕ) → is_above_all named LEAVES ≡ true → ((i : ℕ) → i < 256 → one i ≡ two i) → are_there one named ≡ are_there two named
 there_alike [] one two below same = refl
@@ -64,7 +73,7 @@ module _ {V : Type 0} (K : VolumeKeeper V) (laws : IsLawful K) (r : Region V) (h
 
   -- each leaf is found as it is held
   pub agrees : (i : ℕ) → i < 256 → text i ≡ held i
-  agrees i below = laws.found r.volume.now h works r.number i r.fits (subst (λ (n : ℕ). i < n) (sym laws.whole) below)
+  agrees i below = laws.found r.volume.now h works r.number i r.fits (omega (arith, below, laws.whole))
 
   -- so what is found stands for what is held
   pub stands_found : (store : Store) → region_in r.number (K.held r.volume.now) ≡ Ok store → region_of version_one text ≡ Ok store

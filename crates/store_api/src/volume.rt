@@ -52,8 +52,8 @@ pub trait Volume {
     fn sequence(&self) -> u64
         ensures { result ≡ (keeper.held self.now).sequence };
 
-    /// A region has as many leaves as the format gives it.
-    ghost whole: { keeper.leaves ≡ LEAVES };
+    /// A region has at least the leaves of a region's format.
+    ghost whole: { LEAVES ≤ keeper.leaves };
 
     /// A crash of an honest volume that isn't lost leaves what it holds.
     ghost rests: { (v : Self) → keeper.honest v → (keeper.condition v).lost ≡ false → RestsAt keeper v (keeper.held v) };

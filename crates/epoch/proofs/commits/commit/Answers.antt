@@ -4,6 +4,7 @@ use Rattle.epoch.specs.Commits.{next_held}
 use Rattle.epoch.proofs.PastLemmas.{followed}
 use Rattle.epoch.proofs.CommitLemmas.{on_err}
 use Rattle.epoch.proofs.CommitStages as stages
+use Rattle.epoch.proofs.SettledLemmas.{settled_flipped, settled_synced}
 use Rattle.epoch.proofs.commits.commit.Goals as goal
 
 pub returns-in_err-shut-clause-crash : goal.returns-in_err-shut-clause-crash
@@ -220,3 +221,13 @@ returns-clause-kept g c h before begins = tt
 
 pub returns-clause-steady : goal.returns-clause-steady
 returns-clause-steady g c h before begins = tt
+
+pub returns-clause-counter : goal.returns-clause-counter
+returns-clause-counter g c h settled =
+    let hon1 = c.in_ok-shut.ensures.honest h in
+    let hon2 = c.in_ok-root.ensures.honest hon1 in
+    let hon3 = c.in_ok-lay.ensures.honest hon2 in
+    let shut = settled_synced c.args.sequence _ _ _ (c.in_ok-shut.ensures.shut h).0 settled in
+    let wrote = c.in_ok-root.ensures.counter hon1 c.args.sequence shut in
+    let laid = settled_synced c.args.sequence _ _ _ (c.in_ok-lay.ensures.laid hon2).0 wrote in
+    settled_flipped c.args.sequence _ _ _ _ (c.in_ok-_counter.ensures.flipped hon3) laid

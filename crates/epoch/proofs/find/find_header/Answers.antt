@@ -82,7 +82,8 @@ returns-clause-run g c h open_at base low high first opens run =
 pub returns-clause-crash : goal.returns-clause-crash
 returns-clause-crash g c h n rests =
     let v = g.B.Board.view c.args.board.now in
-    find_crash (accepts c.args.format) n _ _ (returns-clause-run g c h (λ k. false) v.state.reads n _ _ (opens_below (accepts c.args.format) v.key v.state.reads n) (find_starts (accepts c.args.format) n _ rests))
+    find_crash (accepts c.args.format) n _ _ (returns-clause-run g c h (λ k. false) v.state.reads n _ _ (opens_below (accepts c.args.format) v.key v.state.reads n)
+    (find_starts (accepts c.args.format) n _ rests))
 
 pub returns-clause-counter : goal.returns-clause-counter
 returns-clause-counter g c h =

@@ -1,11 +1,20 @@
+use Rattle.std.proofs.Common.{ℕ, Option, sym, subst, inl}
+use Rattle.flat_volume.specs.declared.places.TheConstants.{FLAT}
+use Rattle.flat_volume.specs.Opens.{IsOpenAs, holding}
+use Rattle.flat_volume.specs.Frame.{flat_format, flat_single}
+use Rattle.epoch.proofs.OpenLemmas.{opens_none, takes_header}
+use Rattle.flat_volume.specs.Flat.{flat}
+use Rattle.epoch.specs.Finding.{IsSettledAt, sequence_of}
+use Rattle.epoch.specs.declared.header.Header.{Header}
 use Rattle.epoch.proofs.CallLemmas.{run_none}
-use Rattle.flat_volume.proofs.OpenLemmas.{opens_found, opens_none, takes_header, takes_none}
+use Rattle.flat_volume.proofs.OpenLemmas.{formatted_bare, opens_found, takes_none}
 use Rattle.epoch.proofs.PastLemmas.{itself}
 use Rattle.flat_volume.proofs.opening.take_up.Goals as goal
 
 pub returns-in-Some-clause-taken : goal.returns-in-Some-clause-taken
 returns-in-Some-clause-taken g c =
-    takes_header c.args.found c.in-Some.field-0 c.opened_at.result 1 c.in-Some.is c.requires.accepted c.opened_at.ensures.root c.opened_at.ensures.sequence
+    takes_header flat FLAT flat_format flat_single c.args.found c.in-Some.field-0 c.opened_at.result.root c.opened_at.result.sequence 1
+    c.in-Some.is c.requires.accepted c.opened_at.ensures.root c.opened_at.ensures.sequence
 
 pub returns-in-None-clause-taken : goal.returns-in-None-clause-taken
 returns-in-None-clause-taken g c = takes_none c.args.found c.format_board.result 1 c.in-None.is c.format_board.ensures.formatted
@@ -20,7 +29,8 @@ returns-in-Some-clause-opens g c honest h mounts =
 
 pub returns-in-None-clause-opens : goal.returns-in-None-clause-opens
 returns-in-None-clause-opens g c honest h mounts =
-    opens_none (g.B.Board.view c.args.board.now) (g.B.Board.view c.format_board.new.board) c.format_board.result c.args.found h c.in-None.is (c.format_board.ensures.opens honest h) mounts
+    opens_none flat IsOpenAs holding (g.B.Board.view c.args.board.now) (g.B.Board.view c.format_board.new.board) c.format_board.result c.args.found h c.in-None.is
+    (c.format_board.ensures.opens honest h) mounts
 
 pub returns-in-Some-clause-calls : goal.returns-in-Some-clause-calls
 returns-in-Some-clause-calls g c = run_none _
@@ -30,3 +40,17 @@ returns-in-None-clause-calls g c = c.format_board.ensures.calls
 
 pub returns-in-None-clause-cause : goal.returns-in-None-clause-cause
 returns-in-None-clause-cause g c = c.format_board.ensures.cause
+
+pub returns-in-Some-clause-counter : goal.returns-in-Some-clause-counter
+returns-in-Some-clause-counter g c honest settled =
+    subst (λ (n : ℕ). IsSettledAt n (g.B.Board.view c.args.board.now).state) (sym c.opened_at.ensures.sequence) settled
+
+pub returns-in-None-clause-counter : goal.returns-in-None-clause-counter
+returns-in-None-clause-counter g c honest settled =
+    c.format_board.ensures.counter honest (subst (λ (f : Option Header). IsSettledAt (sequence_of f) (g.B.Board.view c.args.board.now).state) c.in-None.is settled)
+
+pub returns-in-Some-clause-bare : goal.returns-in-Some-clause-bare
+returns-in-Some-clause-bare g c = inl c.opened_at.ensures.table
+
+pub returns-in-None-clause-bare : goal.returns-in-None-clause-bare
+returns-in-None-clause-bare g c = formatted_bare c.format_board.result c.format_board.ensures.formatted

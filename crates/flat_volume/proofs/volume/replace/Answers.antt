@@ -16,7 +16,7 @@ use Rattle.flat_volume.specs.Frame.{flat_framed}
 use Rattle.flat_volume.specs.Change.{FitsFlat}
 use Rattle.flat_volume.specs.Flat.{flat, flat_root, table_in}
 use Rattle.flat_volume.specs.Keeping.{IsOpen, Replaces, held_now}
-use Rattle.flat_volume.specs.Writing.{AreSealedFor}
+use Rattle.flat_volume.specs.Writing.{AreSealedFor, IsRootFor}
 use Rattle.flat_volume.proofs.VolumeLemmas.{mounted_open, open_same, read_replaces, verified_open}
 use Rattle.flat_volume.proofs.volume.replace.Goals as goal
 use Rattle.flat_volume.proofs.volume.replace.Goals.{in-Ok, in-Err}
@@ -112,9 +112,13 @@ returns-clause-unwritten g c =
     ]
 
 pub returns-clause-sealed_for : goal.returns-clause-sealed_for
-returns-clause-sealed_for g c =
+returns-clause-sealed_for g c verified =
+    let v = g.B.Board.view c.args.board.now in
+    let keyed : AreKeysOf c.of-keys.result v.key = subst (λ (k : List ℕ). AreKeysOf c.of-keys.result k) c.key.ensures c.of-keys.ensures in
+    let none = c.in_ok-known_table.ensures.verified v.key keyed verified in
     elim c.match-commit.branch [
-      | in-Ok w ↦ rw w.result-is w.in-Ok.ensures.sealed_for
+      | in-Ok w ↦ rw w.result-is (subst (IsRootFor (c.args.opened.sequence + 1)) (ap (λ (r : Root). r.entry) w.in-Ok.ensures.root)
+          (w.in-Ok.ensures.entries v.key (record { keyed = keyed; undamaged = none })).0)
       | in-Err w ↦ rw w.result-is tt
     ]
 
@@ -133,6 +137,6 @@ returns-clause-entries g c verified =
     let none = c.in_ok-known_table.ensures.verified v.key keyed verified in
     elim c.match-commit.branch [
       | in-Ok w ↦ rw w.result-is (subst (AreSealedFor v.key (c.args.opened.sequence + 1) c.commit.new.change.table.bytes.items c.args.region) c.as_slice.ensures.leaves
-          (w.in-Ok.ensures.entries v.key (record { keyed = keyed; undamaged = none })))
+          (w.in-Ok.ensures.entries v.key (record { keyed = keyed; undamaged = none })).1)
       | in-Err w ↦ rw w.result-is tt
     ]

@@ -4,6 +4,7 @@ use Rattle.tee_base.specs.Crash.{LeavesOnly}
 use Rattle.store_api.specs.Volumes.{Held}
 use Rattle.board.specs.Moment.{View, left_since, moment}
 use Rattle.board.specs.Steps.{CallRun}
+use Rattle.epoch.proofs.OpenLemmas.{not_ok, told_so}
 use Rattle.epoch.proofs.KeepLemmas.{held_steady, steady_same}
 use Rattle.epoch.proofs.CallLemmas.{run_as}
 use Rattle.epoch.specs.Opening.{no_failure}
@@ -17,7 +18,7 @@ use Rattle.epoch.specs.Finding.{IsSettledAt, sequence_of}
 use Rattle.flat_volume.specs.Flat.{flat, flat_root}
 use Rattle.flat_volume.specs.Frame.{flat_format, flat_framed}
 use Rattle.flat_volume.specs.Keeping.{held_now}
-use Rattle.flat_volume.proofs.OpenLemmas.{not_ok, told_so}
+use Rattle.flat_volume.proofs.OpenLemmas.{bare_open}
 use Rattle.flat_volume.proofs.VolumeLemmas.{steady_open}
 use Rattle.flat_volume.proofs.opening.FlatVolumeBoardVolume.reopen.Goals as goal
 
@@ -123,3 +124,6 @@ pub returns-clause-counter : goal.returns-clause-counter
 returns-clause-counter g c honest =
     taken_counter flat c.in_ok-found.found c.resume.result (flat_root c.resume.new.self.root) _ c.resume.ensures.found
     (subst (λ (x : View). IsSettledAt (sequence_of c.in_ok-found.found) x.state) (sym (ap g.B.Board.view c.resume.ensures.board)) (c.in_ok-found.ensures.counter honest))
+
+pub returns-clause-bare : goal.returns-clause-bare
+returns-clause-bare g c = bare_open _ _ c.resume.ensures.bare

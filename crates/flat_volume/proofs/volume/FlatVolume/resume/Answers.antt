@@ -1,4 +1,8 @@
-use Rattle.flat_volume.proofs.OpenLemmas.{open_found, taken_up}
+use Rattle.flat_volume.specs.declared.places.TheConstants.{FLAT}
+use Rattle.flat_volume.specs.Frame.{flat_format, flat_single}
+use Rattle.epoch.proofs.OpenLemmas.{taken_up}
+use Rattle.flat_volume.specs.Flat.{flat}
+use Rattle.flat_volume.proofs.OpenLemmas.{open_found}
 use Rattle.flat_volume.proofs.volume.FlatVolume.resume.Goals as goal
 
 pub returns-clause-opened : goal.returns-clause-opened
@@ -7,4 +11,6 @@ returns-clause-opened g c h mounts =
     c.opened_at-sequence.ensures.table c.requires mounts
 
 pub returns-clause-found : goal.returns-clause-found
-returns-clause-found g c = taken_up c.args.found c.opened_at-sequence.result c.requires c.opened_at-sequence.ensures.root c.opened_at-sequence.ensures.sequence
+returns-clause-found g c =
+    taken_up flat FLAT flat_format flat_single c.args.found c.opened_at-sequence.result.root c.opened_at-sequence.result.sequence
+    c.requires c.opened_at-sequence.ensures.root c.opened_at-sequence.ensures.sequence

@@ -11,7 +11,7 @@ use Rattle.flat_volume.specs.Frame.{flat_framed}
 use Rattle.flat_volume.specs.Keeping.{IsOpen, IsVerified, held_now}
 use Rattle.flat_volume.specs.declared.table.Table.{Table}
 use Rattle.flat_volume.specs.declared.volume.Opened.{Opened}
-use Rattle.flat_volume.specs.Writing.{KeepsSealed}
+use Rattle.flat_volume.specs.Writing.{IsRootFor, KeepsSealed}
 use Rattle.flat_volume.proofs.VolumeLemmas.{err_shows, still_open}
 use Rattle.flat_volume.proofs.volume.FlatVolumeVolume.commit.Goals as goal
 
@@ -114,3 +114,10 @@ returns-then-self-2-clause-commits g c =
           (λ o same. left_before (Err e) before after (held_of flat w.key o) (ap (λ (k : List ℕ). held_of flat k o) told.calls.key ∙ same))
           (does h.0 (h.1 live)).crash);
     }
+
+pub returns-in-Ok-clause-sealed_for : goal.returns-in-Ok-clause-sealed_for
+returns-in-Ok-clause-sealed_for g c =
+    let old = c.args.self.now in
+    let verified : IsVerified (g.B.Board.view old.board).key c.take.result old.root
+    = subst (λ (t : Option Table). IsVerified (g.B.Board.view old.board).key t old.root) (sym c.take.ensures.value) old.verified in
+    subst (λ (n : ℕ). IsRootFor n c.in-Ok.field-0.root) (sym c.in-Ok.ensures.sequence) (c.in-Ok.ensures.sealed_for verified)

@@ -9,7 +9,7 @@ use Rattle.flat_volume.specs.Flat.{flat, flat_root}
 use Rattle.flat_volume.specs.Keeping.{held_now}
 use Rattle.flat_volume.specs.Laws.{sound_open}
 use Rattle.flat_volume.proofs.VolumeLemmas.{damage_of, damage_same, open_same}
-use Rattle.flat_volume.proofs.VolumeLemmas.{tables_same, text_found, text_same}
+use Rattle.flat_volume.proofs.VolumeLemmas.{still_kept, tables_same, text_found, text_same}
 use Rattle.flat_volume.proofs.volume.FlatVolumeVolume.read_leaf.Goals as goal
 
 pub returns-in-Ok-clause-reads : goal.returns-in-Ok-clause-reads
@@ -90,3 +90,13 @@ returns-in-Err-clause-reads g c =
           (λ o. ap (λ (k : List ℕ). held_of flat k o) told.calls.key)
           (crash_read flat flat_framed v w (flat_root old.root) old.sequence (h.1 live).mounted told.calls.key (told.honest h.0).1);
     }
+
+pub returns-in-Ok-clause-kept : goal.returns-in-Ok-clause-kept
+returns-in-Ok-clause-kept g c tells kept =
+    let told = c.in-Ok.ensures in
+    still_kept c.args.self.now.table c.find_leaf.new.table _ _ c.args.self.now.root (told.same tells) (told.kept tells) kept
+
+pub returns-in-Err-clause-kept : goal.returns-in-Err-clause-kept
+returns-in-Err-clause-kept g c tells kept =
+    let told = c.in-Err.ensures in
+    still_kept c.args.self.now.table c.find_leaf.new.table _ _ c.args.self.now.root (told.same tells) (told.kept tells) kept

@@ -1,11 +1,12 @@
-use Rattle.std.proofs.Common.{◌+◌, ◌*◌, ◌∙◌, ℕ, List, sym, ap, subst, rules, arith}
+use Rattle.std.proofs.Common.{◌+◌, ◌*◌, ◌∙◌, ℕ, true, List, refl, sym, ap, subst, rules, arith}
 use Rattle.store_api.specs.Volumes.{replaced}
 use Rattle.epoch.specs.Copies.{copy_of}
 use Rattle.epoch.specs.Commits.{spare}
 use Rattle.epoch.proofs.PastLemmas.{followed}
+use Rattle.epoch.proofs.SettledLemmas.{settled_run, settled_starts}
 use Rattle.flat_volume.specs.Flat.{flat, flat_root}
 use Rattle.flat_volume.specs.Writing.{AreSealed, leaves_by}
-use Rattle.flat_volume.proofs.FlatLemmas.{entries_sealed, flat_written, table_is, tagged, leaves_are_by, leaves_spare, table_spare}
+use Rattle.flat_volume.proofs.FlatLemmas.{all_spare, entries_sealed, flat_written, table_is, tagged, leaves_are_by, leaves_spare, table_spare}
 use Rattle.flat_volume.proofs.write.FlatChangeChange.write.Goals as goal
 
 pub returns-in_err-write_table-clause-past : goal.returns-in_err-write_table-clause-past
@@ -26,7 +27,8 @@ returns-in_err-write_table-clause-run g c h slot low high first fits run =
     let one = c.in_ok-write_leaves.ensures.run h (spare flat v.key v.state.reads (flat_root root) slot) v.state.reads low high first
     (leaves_spare v.key v.state.reads root slot c.args.self.now.table.bytes.items c.args.self.now.region c.args.self.now.leaves.now fits.stands) run in
     c.in_err-write_table.ensures.run (c.in_ok-write_leaves.ensures.honest h) (spare flat v.key v.state.reads (flat_root root) slot) v.state.reads low high first
-    (λ i below. ap (λ (copy : ℕ). spare flat v.key v.state.reads (flat_root root) slot (4 + 2 * (17 + i) + copy_of copy)) c.other_copy-copy.ensures ∙ table_spare v.key v.state.reads root slot i below) one
+    (λ i below. ap (λ (copy : ℕ). spare flat v.key v.state.reads (flat_root root) slot (4 + 2 * (17 + i) + copy_of copy)) c.other_copy-copy.ensures
+    ∙ table_spare v.key v.state.reads root slot i below) one
 
 pub returns-clause-past : goal.returns-clause-past
 returns-clause-past g c h =
@@ -38,8 +40,10 @@ returns-clause-run g c h slot low high first fits run =
     let root = c.args.self.now.root in
     let one = c.in_ok-write_leaves.ensures.run h (spare flat v.key v.state.reads (flat_root root) slot) v.state.reads low high first
     (leaves_spare v.key v.state.reads root slot c.args.self.now.table.bytes.items c.args.self.now.region c.args.self.now.leaves.now fits.stands) run in
-    c.in_ok-write_table.ensures.run (c.in_ok-write_leaves.ensures.honest h) (spare flat v.key v.state.reads (flat_root root) slot) v.state.reads low high first
-    (λ i below. ap (λ (copy : ℕ). spare flat v.key v.state.reads (flat_root root) slot (4 + 2 * (17 + i) + copy_of copy)) c.other_copy-copy.ensures ∙ table_spare v.key v.state.reads root slot i below) one
+    c.in_ok-write_table.ensures.run (c.in_ok-write_leaves.ensures.honest h)
+    (spare flat v.key v.state.reads (flat_root root) slot) v.state.reads low high first
+    (λ i below. ap (λ (copy : ℕ). spare flat v.key v.state.reads (flat_root root) slot (4 + 2 * (17 + i) + copy_of copy)) c.other_copy-copy.ensures
+    ∙ table_spare v.key v.state.reads root slot i below) one
 
 pub returns-clause-written : goal.returns-clause-written
 returns-clause-written g c h fits sealed =
@@ -77,4 +81,12 @@ pub returns-clause-writes : goal.returns-clause-writes
 returns-clause-writes g c = omega (arith, c.in_ok-write_leaves.ensures.writes, c.in_ok-write_table.ensures.writes)
 
 pub returns-clause-entries : goal.returns-clause-entries
-returns-clause-entries g c key checks = c.in_ok-write_leaves.ensures.entries key checks.keyed
+returns-clause-entries g c key checks = (record { sequence = refl; vector = search rules }, c.in_ok-write_leaves.ensures.entries key checks.keyed)
+
+pub returns-clause-counter : goal.returns-clause-counter
+returns-clause-counter g c h n settled =
+    let v = g.B.Board.view c.args.board.now in
+    let one = c.in_ok-write_leaves.ensures.run h (λ k. true) v.state.reads n n v
+    (all_spare c.args.self.now.table.bytes.items c.args.self.now.region c.args.self.now.leaves.now) (settled_starts n v settled) in
+    settled_run n v.state.reads v (g.B.Board.view c.write_table.new.board)
+    (c.in_ok-write_table.ensures.run (c.in_ok-write_leaves.ensures.honest h) (λ k. true) v.state.reads n n v (λ i below. refl) one)
