@@ -158,3 +158,8 @@ module _ (key : List ℕ) (old new : ℕ → List ℕ) (keys : Keys) (nodes : Li
   -- under the new root these leaves stand in place of their own
   pub tree_written : IsWritten (tree shape) key (tree_root shape e) (replaced region leaves (leaves_of (tree shape) key old (tree_root shape root))) new
   tree_written = record { sealed = new_sealed; leaves_are = λ i r l. one_leaf r l i }
+
+-- where every block is open all copies are
+pub all_spare : (s : Shape) (nodes : List Node) → AreSpare s (λ k. true) nodes
+all_spare s [] = tt
+all_spare s (node ∷ nodes) = (refl, all_spare s nodes)

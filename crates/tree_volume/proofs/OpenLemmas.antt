@@ -14,8 +14,8 @@ use Rattle.epoch.specs.Commits.{BeforeOrAfter, IsMounted, next_held}
 use Rattle.epoch.specs.Finding.{sequence_of}
 use Rattle.epoch.specs.Formats.{IsAccepted, accepts}
 use Rattle.epoch.specs.Forms.{IsBlankRoot, Root, held_of, root_of as root_of_header}
-use Rattle.epoch.specs.Mounting.{MountsTo, after_found}
-use Rattle.epoch.specs.Mounts.{IsAdmitted, IsKeptFromOpening, IsRefusal, IsRuledBy, TakesUp, after_opening}
+use Rattle.epoch.specs.Mounting.{MountsTo, after_found, after_opening}
+use Rattle.epoch.specs.Mounts.{IsAdmitted, IsKeptFromOpening, IsRefusal, IsRuledBy, TakesUp}
 use Rattle.epoch.specs.declared.answer.OpenAnswer.{OpenAnswer}
 use Rattle.epoch.specs.declared.answer.OpenAnswer.TheVariants.{Failed, NoMemory}
 use Rattle.epoch.specs.declared.header.Header.{Header}

@@ -75,29 +75,20 @@ above_all (leaf ∷ leaves) n m inside le zero d below =
 above_all (leaf ∷ leaves) n m inside le (suc k) d below =
     above_all leaves n m (second_true (nat_lt leaf.number n) (list_all (λ (other : Leaf). nat_lt other.number n) leaves) inside) le k d (omega (arith, below))
 
-pub above_more : (leaves : List Leaf) (n m : ℕ) → is_above_all leaves n ≡ true → n ≤ m → is_above_all leaves m ≡ true
-above_more [] n m inside le = refl
-above_more (leaf ∷ leaves) n m inside le =
-    let one : nat_lt leaf.number n ≡ true = first_true (nat_lt leaf.number n) (list_all (λ (other : Leaf). nat_lt other.number n) leaves) inside in
-    let two : is_above_all leaves n ≡ true = second_true (nat_lt leaf.number n) (list_all (λ (other : Leaf). nat_lt other.number n) leaves) inside in
-    let less : nat_lt leaf.number m ≡ true = grind (arith, nat_tests, one) in
-    let rest : is_above_all leaves m ≡ true = above_more leaves n m two le in
-    rw (less, rest) refl
-
 -- what a mismatch tells of a leaf of a region
 abbrev pub IsOfLeaf : View → TreeEntry → ℕ → Mismatch → Type 0
 IsOfLeaf view root region tags =
-    (l : ℕ) × (l < 256) × (damage_of shape (on_image shape view.key view.state.reads) root (shape.leaf_place region l) ≡ Some tags)
+    (l : ℕ) × (l < 1024) × (damage_of shape (on_image shape view.key view.state.reads) root (shape.leaf_place region l) ≡ Some tags)
 
 -- it is so at the return
 pub told_damage : (A B : Type 0) (e : LeafAnswer) (old new : View) (root : TreeEntry) (region : ℕ) → region < MAX_HOSTS → new.key ≡ old.key → new.state.reads ≡ old.state.reads
-    → IfMismatch {A = A} (Err e) (IsOfLeaf old root region) → IfMismatch {A = B} (Err e) (λ tags. (l : ℕ) × (l < 256) × (damage_now new root region l ≡ Some tags))
+    → IfMismatch {A = A} (Err e) (IsOfLeaf old root region) → IfMismatch {A = B} (Err e) (λ tags. (l : ℕ) × (l < 1024) × (damage_now new root region l ≡ Some tags))
 told_damage A B e old new root region r key reads shows =
-    mismatch_told A B e (IsOfLeaf old root region) (λ (tags : Mismatch). (l : ℕ) × (l < 256) × (damage_now new root region l ≡ Some tags))
+    mismatch_told A B e (IsOfLeaf old root region) (λ (tags : Mismatch). (l : ℕ) × (l < 1024) × (damage_now new root region l ≡ Some tags))
     (λ tags shown. (
       shown.0,
       shown.1,
-      ap (λ (f : ℕ → ℕ → Option Mismatch). f region shown.0) (damage_same old new root key reads) ∙ sym (damage_is old root region shown.0 r (let l = shown.1 in omega arith)) ∙ shown.2,
+      ap (λ (f : ℕ → ℕ → Option Mismatch). f region shown.0) (damage_same old new root key reads) ∙ sym (damage_is old root region shown.0 r shown.1) ∙ shown.2,
     )) shows
 
 -- a volume that is open has none
@@ -106,7 +97,7 @@ pub no_damage : (A B : Type 0) (e : LeafAnswer) (view : View) (root : TreeEntry)
 no_damage A B e view root sequence region is r shows =
     mismatch_told A B e (IsOfLeaf view root region) (λ (tags : Mismatch). ⊥)
     (λ tags shown. (
-    let none = sealed_each tree_form view.key (form_root root) view.state.reads is.sealed region shown.0 r (let l = shown.1 in omega arith) in
+    let none = sealed_each tree_form view.key (form_root root) view.state.reads is.sealed region shown.0 r shown.1 in
     let both : Some tags ≡ None = sym shown.2 ∙ none in
     absurd (cc)
     )) shows

@@ -177,3 +177,7 @@ form_framed = tree_framed shape is_shape
 
 pub tree_format : IsFormatOf tree_form TREE
 tree_format = record { known = λ i version. one_alone 2 version i; blocks = refl }
+
+-- what is accepted is what is written
+pub tree_single : (version : ℕ) → (version == 2) ≡ true → (version == 2) ≡ true
+tree_single version is = is

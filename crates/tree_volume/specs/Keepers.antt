@@ -1,12 +1,12 @@
 -- What contracts see of a volume whose entries stand in a tree, as a keeper of leaves.
 use Rattle.std.specs.Prelude.{◌≡◌, ◌∷◌, false}
 use Rattle.tee_base.specs.Crash.{read_as}
-use Rattle.tee_base.specs.declared.limits.TheConstants.{LEAVES}
 use Rattle.store_api.specs.Volumes.{VolumeKeeper}
 use Rattle.board.specs.Moment.{moment, left_since}
 use Rattle.board.specs.declared.Board.{Ghosts}
 use Rattle.epoch.specs.Commits.{IsSteady}
 use Rattle.epoch.specs.Forms.{held_of}
+use Rattle.tree_volume.specs.declared.places.TheConstants.{REGION_LEAVES}
 use Rattle.tree_volume.specs.Form.{form_root, tree_form}
 use Rattle.tree_volume.specs.Keeping.{IsOpen, damage_now, held_now, text_now}
 use Rattle.tree_volume.specs.declared.volume.TreeVolume.{TreeVolume}
@@ -16,7 +16,7 @@ use Rattle.tree_volume.specs.declared.volume.TreeVolume.{TreeVolume}
 abbrev pub tree_keeper : {B : Type 0} {G : Ghosts B} → VolumeKeeper (TreeVolume B G)
 tree_keeper {B} {G} = record {
   tells_reads = G.tells_reads;
-  leaves = LEAVES;
+  leaves = REGION_LEAVES;
   held = λ v. held_now (G.view v.board) v.root v.sequence;
   condition = λ v. record {
     lost = v.lost;

@@ -5,18 +5,20 @@ ghost use Rattle.store_api.specs.Volumes.{Held};
 ghost use Rattle.board.specs.Moment.{IsCounter};
 ghost use Rattle.board.specs.Runs.{Rests};
 ghost use Rattle.board.specs.Steps.{CallRun, SameBlocks};
-ghost use Rattle.epoch.specs.Finding.{sequence_of};
+ghost use Rattle.epoch.specs.Finding.{IsSettledAt, sequence_of};
 ghost use Rattle.epoch.specs.Formats.{IsAccepted};
 ghost use Rattle.epoch.specs.Forms.{held};
-ghost use Rattle.epoch.specs.Mounting.{MountsTo, after_found};
-ghost use Rattle.epoch.specs.Mounts.{IsAdmitted, IsKeptFromOpening, IsRefusal, IsRefusedNow, TakesUp, after_opening};
+ghost use Rattle.epoch.specs.Mounting.{MountsTo, after_found, after_opening};
+ghost use Rattle.epoch.specs.Mounts.{IsAdmitted, IsKeptFromOpening, IsRefusal, IsRefusedNow, TakesUp};
 ghost use Rattle.epoch.specs.Opening.{no_failure};
 ghost use Rattle.epoch.specs.Past.{KeepsPast};
 ghost use Rattle.epoch.specs.declared.answer.OpenAnswer.TheVariants as refusals;
 ghost use Rattle.epoch.specs.declared.header.Header.{Header as Kept};
 ghost use Rattle.tree_volume.specs.Form.{form_root, tree_form};
 ghost use Rattle.tree_volume.specs.Keeping.{IsOpen, held_now};
+ghost use Rattle.tree_volume.specs.Soundness.{damage_formed, text_formed};
 ghost use Rattle.tree_volume.specs.Opens.{IsBlankNode};
+ghost use Rattle.tree_volume.specs.Soundness.{damage_formed, text_formed};
 ghost use Rattle.tree_volume.specs.Opens.{Opens, root_of};
 
 use crate::change::TreeChange;
@@ -50,6 +52,9 @@ fn open_board<B: Board>(alloc: Global, board: &mut B) -> Result<Opened, OpenAnsw
         → (B.view board.new).writes ≡ (B.view board.old).writes) }
     ensures unchanged { B.honest board.old → IfErr result (λ why. why ≢ refusals.Failed
         → SameBlocks (B.view board.old).state (B.view board.new).state) }
+    // at Ok the counter is the sequence, whatever the image
+    ensures counter { B.honest board.old
+        → IfOk result (λ o. IsSettledAt o.sequence (B.view board.new).state) }
     ensures honest { B.honest board.old → B.honest board.new }
     ensures past { B.honest board.old → KeepsPast (B.view board.old) (B.view board.new) }
     ensures rule { IsTrue B.tells_reads → (counter : ℕ)
@@ -93,6 +98,9 @@ fn take_up<B: Board>(
         → SameBlocks (B.view board.old).state (B.view board.new).state) }
     ensures honest { B.honest board.old → B.honest board.new }
     ensures past { B.honest board.old → KeepsPast (B.view board.old) (B.view board.new) }
+    ensures counter { B.honest board.old
+        → IsSettledAt (sequence_of found) (B.view board.old).state
+        → IfOk result (λ o. IsSettledAt o.sequence (B.view board.new).state) }
     ensures same { (header : Kept) → found ≡ Some header
         → (B.view board.new ≡ B.view board.old) × OnErr result ⊥ }
     ensures taken { IfOk result (λ o. TakesUp tree_form found FORMATTED o.sequence (form_root o.root)) }
@@ -125,6 +133,8 @@ fn format_board<B: Board>(alloc: Global, board: &mut B) -> Result<Opened, OpenAn
     ensures cause { result ≡ Err refusals.Failed
         → Rose (B.view board.old).state.faults (B.view board.new).state.faults }
     ensures kept { IfErr result (λ why. IsKeptFromOpening why) }
+    ensures counter { B.honest board.old → IsSettledAt 0 (B.view board.old).state
+        → IfOk result (λ o. IsSettledAt o.sequence (B.view board.new).state) }
     ensures formatted { IfOk result (λ o.
         (o.sequence ≡ FORMATTED) × (o.root.sequence ≡ FORMATTED)) }
     // what isn't opened for another cause than a failed call is as it was
@@ -195,6 +205,15 @@ impl<B: Board + Drop> BoardVolume<B> for TreeVolume<B> {
     ghost board_of = { λ v. v.board };
 
     ghost root = { λ v. form_root v.root };
+
+    ghost keeps = { λ v image. Unit {0} };
+
+    ghost formed = { λ v keeps. record {
+      damage = λ region leaf r l. damage_formed (B.view v.board) v.root region leaf r l;
+      text = λ region leaf r l. text_formed (B.view v.board) v.root region leaf r l;
+    } };
+
+    ghost kept = { λ v h live. tt };
 
     ghost seen = { λ v. record {
       faults = refl;

@@ -1,7 +1,8 @@
 //! A volume whose entries stand in a tree, on a board.
 ghost use Rattle.std.specs.Prelude.{◌≡◌, ◌≢◌, ◌≤◌, ◌<◌, ◌+◌, ◌-◌, ◌*◌, ◌^◌, true, false, ◌∷◌, ℕ, List, Some, Err, IsTrue, IfOk, OnErr, length, refl};
+ghost use Rattle.std.proofs.Common.{arith};
 ghost use Rattle.tee_base.specs.Faults.{Rose};
-ghost use Rattle.tee_base.specs.declared.limits.TheConstants.{LEAVES, MAX_HOSTS};
+ghost use Rattle.tee_base.specs.declared.limits.TheConstants.{MAX_HOSTS};
 ghost use Rattle.store_api.specs.Volumes.{CommitsLeaves, IfMismatch, ReadsLeaf};
 ghost use Rattle.store_api.specs.Ascending.{is_above_all};
 ghost use Rattle.store_api.specs.declared.leaves.LeafAnswer.TheVariants as answers;
@@ -12,7 +13,7 @@ ghost use Rattle.epoch.specs.Past.{KeepsPast};
 ghost use Rattle.epoch.specs.Reading.{no_fault};
 ghost use Rattle.epoch.specs.declared.answer.OpenAnswer.TheVariants.{Rollback};
 ghost use Rattle.epoch.proofs.LeftLemmas.{left_in_use, rests_in_use, since_earlier};
-ghost use Rattle.tree_volume.specs.declared.places.TheConstants.{TREE_BLOCKS};
+ghost use Rattle.tree_volume.specs.declared.places.TheConstants.{REGION_LEAVES, TREE_BLOCKS};
 ghost use Rattle.tree_volume.specs.Form.{form_root, tree_form};
 ghost use Rattle.tree_volume.specs.Frame.{form_framed};
 ghost use Rattle.tree_volume.specs.Keeping.{IsOpen, Replaces, damage_now};
@@ -63,7 +64,7 @@ fn replace<B: Board>(
 ) -> Result<Opened, LeafAnswer>
     requires size { TREE_BLOCKS ≤ (B.view board.old).size }
     requires region { region < MAX_HOSTS }
-    requires inside { is_above_all leaves.now LEAVES ≡ true }
+    requires inside { is_above_all leaves.now REGION_LEAVES ≡ true }
     requires sequence { opened.sequence + 1 < 2 ^ 64 }
     ensures calls { CallRun (no_fault result) (B.view board.old) (B.view board.new) }
     ensures cause { result ≡ Err answers.Failed
@@ -78,7 +79,7 @@ fn replace<B: Board>(
     ensures sealed_for { IfOk result (λ after. after.root.sequence ≡ opened.sequence + 1) }
     ensures made { IfOk result (λ after. IsMade B.tells_reads (B.view board.old)
         (opened.sequence + 1) region leaves.now opened.root after.root) }
-    ensures damage { IsTrue B.tells_reads → IfMismatch result (λ tags. (l : ℕ) × (l < LEAVES)
+    ensures damage { IsTrue B.tells_reads → IfMismatch result (λ tags. (l : ℕ) × (l < REGION_LEAVES)
         × (damage_now (B.view board.new) opened.root region l ≡ Some tags)) }
     ensures honest { B.honest board.old → B.honest board.new }
     ensures past { B.honest board.old → KeepsPast (B.view board.old) (B.view board.new) }
@@ -111,7 +112,7 @@ impl<B: Board + Drop> Volume for TreeVolume<B> {
 
     ghost rests = { λ v h live. record { only = rests_in_use tree_form form_framed (B.view v.board) (form_root v.root) v.sequence (h.1 live) } };
 
-    ghost whole = { refl };
+    ghost whole = { Prim.omega arith };
 
     ghost left_now = { λ v h live. left_in_use tree_form form_framed (B.view v.board) (form_root v.root) v.sequence (h.1 live) (B.consistent v.board h.0) };
 
@@ -130,7 +131,7 @@ impl<B: Board + Drop> Volume for TreeVolume<B> {
         into: &mut [u8; BLOCK_BYTES],
     ) -> Result<(), LeafAnswer>
         requires region { region < MAX_HOSTS }
-        requires leaf { leaf < LEAVES }
+        requires leaf { leaf < REGION_LEAVES }
         ensures reads { ReadsLeaf tree_keeper region leaf into.new result self.old self.new }
         ensures root { self.new.root ≡ self.old.root }
     {
@@ -149,7 +150,7 @@ impl<B: Board + Drop> Volume for TreeVolume<B> {
 
     fn commit(&mut self, region: u8, leaves: &Leaves) -> Result<u64, LeafAnswer>
         requires region { region < MAX_HOSTS }
-        requires leaves { IsTrue (is_above_all leaves.now LEAVES) }
+        requires leaves { IsTrue (is_above_all leaves.now REGION_LEAVES) }
         ensures commits { CommitsLeaves tree_keeper region leaves.now result self.old self.new }
         // the leaves with the nodes above them, the header, and two gates
         ensures writes { (B.view self.new.board).writes

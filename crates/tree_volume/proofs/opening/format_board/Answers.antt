@@ -52,3 +52,6 @@ returns-in_err-root-clause-cause g c failed = c.in_err-root.ensures.calls.cause 
 
 pub returns-clause-calls : goal.returns-clause-calls
 returns-clause-calls g c = c.in_ok-root.ensures.calls
+
+pub returns-clause-counter : goal.returns-clause-counter
+returns-clause-counter g c honest settled = c.in_ok-root.ensures.counter honest settled

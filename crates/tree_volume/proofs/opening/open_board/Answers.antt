@@ -98,3 +98,9 @@ returns-clause-unchanged g c honest =
 
 pub returns-clause-past : goal.returns-clause-past
 returns-clause-past g c honest = followed _ _ _ (c.in_ok-found.ensures.past honest) (c.take_up.ensures.past (c.in_ok-found.ensures.honest honest))
+
+pub returns-in_err-found-clause-counter : goal.returns-in_err-found-clause-counter
+returns-in_err-found-clause-counter g c honest = not_ok c.from_residual.result _ c.from_residual.ensures.0
+
+pub returns-clause-counter : goal.returns-clause-counter
+returns-clause-counter g c honest = c.take_up.ensures.counter (c.in_ok-found.ensures.honest honest) (c.in_ok-found.ensures.counter honest)

@@ -1,3 +1,6 @@
+use Rattle.std.proofs.Common.{ℕ, Option, sym, subst}
+use Rattle.epoch.specs.Finding.{IsSettledAt, sequence_of}
+use Rattle.epoch.specs.declared.header.Header.{Header}
 use Rattle.epoch.proofs.CallLemmas.{run_none}
 use Rattle.tree_volume.proofs.OpenLemmas.{opens_found, opens_none, takes_header, takes_none}
 use Rattle.epoch.proofs.PastLemmas.{itself}
@@ -30,3 +33,11 @@ returns-in-None-clause-calls g c = c.format_board.ensures.calls
 
 pub returns-in-None-clause-cause : goal.returns-in-None-clause-cause
 returns-in-None-clause-cause g c = c.format_board.ensures.cause
+
+pub returns-in-Some-clause-counter : goal.returns-in-Some-clause-counter
+returns-in-Some-clause-counter g c honest settled =
+    subst (λ (n : ℕ). IsSettledAt n (g.B.Board.view c.args.board.now).state) (sym c.opened_at.ensures.sequence) settled
+
+pub returns-in-None-clause-counter : goal.returns-in-None-clause-counter
+returns-in-None-clause-counter g c honest settled =
+    c.format_board.ensures.counter honest (subst (λ (f : Option Header). IsSettledAt (sequence_of f) (g.B.Board.view c.args.board.now).state) c.in-None.is settled)

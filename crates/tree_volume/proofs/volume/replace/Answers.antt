@@ -28,7 +28,7 @@ use Rattle.tree_volume.specs.declared.touched.Touched.{Touched}
 use Rattle.tree_volume.specs.declared.volume.Opened.{Opened}
 use Rattle.tree_volume.proofs.GatherLemmas.{gathered}
 use Rattle.tree_volume.specs.Made.{IsMade}
-use Rattle.tree_volume.proofs.VolumeLemmas.{above_all, above_more, read_replaces, told_damage, true_as}
+use Rattle.tree_volume.proofs.VolumeLemmas.{above_all, read_replaces, told_damage, true_as}
 use Rattle.tree_volume.proofs.volume.replace.Goals as goal
 
 pub returns-in_err-gather-clause-damage : goal.returns-in_err-gather-clause-damage
@@ -39,11 +39,11 @@ returns-in_err-gather-clause-damage g c tells =
     let told = c.in_err-gather.ensures in
     let keyed : AreKeysOf c.of-keys.result v.key = subst (λ (k : List ℕ). AreKeysOf c.of-keys.result k) c.key.ensures c.of-keys.ensures in
     let is_err : c.from_residual.result ≡ Err c.in_err-gather.field-0.0 = search rules in
-    let all : All (λ (leaf : Leaf). leaf.number < 256) c.as_slice.result.now
-    = above_all c.as_slice.result.now 256 256 (subst (λ (l : List Leaf). is_above_all l 256 ≡ true) (sym c.as_slice.ensures.leaves) c.requires.inside) (omega arith) in
-    subst (λ (r : Result Opened LeafAnswer). IfMismatch r (λ tags. (l : ℕ) × (l < 256) × (damage_now mid c.args.opened.root c.args.region l ≡ Some tags))) (sym is_err)
+    let all : All (λ (leaf : Leaf). leaf.number < 1024) c.as_slice.result.now
+    = above_all c.as_slice.result.now 1024 1024 (subst (λ (l : List Leaf). is_above_all l 1024 ≡ true) (sym c.as_slice.ensures.leaves) c.requires.inside) (omega arith) in
+    subst (λ (r : Result Opened LeafAnswer). IfMismatch r (λ tags. (l : ℕ) × (l < 1024) × (damage_now mid c.args.opened.root c.args.region l ≡ Some tags))) (sym is_err)
     (told_damage Touched Opened e v mid c.args.opened.root c.args.region c.requires.region told.calls.key (told.same tells)
-    (told.damage tells v.key keyed 256 (omega arith) (omega arith) all))
+    (told.damage tells v.key keyed 1024 (omega arith) (omega arith) all))
 
 pub returns-in_err-gather-clause-replaced : goal.returns-in_err-gather-clause-replaced
 returns-in_err-gather-clause-replaced g c h is =
@@ -53,19 +53,18 @@ returns-in_err-gather-clause-replaced g c h is =
     let told = c.in_err-gather.ensures in
     let keyed : AreKeysOf c.of-keys.result v.key = subst (λ (k : List ℕ). AreKeysOf c.of-keys.result k) c.key.ensures c.of-keys.ensures in
     let is_err : c.from_residual.result ≡ Err c.in_err-gather.field-0.0 = search rules in
-    let all : All (λ (leaf : Leaf). leaf.number < 256) c.as_slice.result.now
-    = above_all c.as_slice.result.now 256 256 (subst (λ (l : List Leaf). is_above_all l 256 ≡ true) (sym c.as_slice.ensures.leaves) c.requires.inside) (omega arith) in
+    let all : All (λ (leaf : Leaf). leaf.number < 1024) c.as_slice.result.now
+    = above_all c.as_slice.result.now 1024 1024 (subst (λ (l : List Leaf). is_above_all l 1024 ≡ true) (sym c.as_slice.ensures.leaves) c.requires.inside) (omega arith) in
     let tells = g.met.B.Board.honest_reads c.args.board.now h in
     subst (λ (r : Result Opened LeafAnswer). Replaces c.args.region c.args.leaves.now r c.args.opened v mid) (sym is_err)
     (read_replaces c.args.region c.args.leaves.now e c.args.opened v mid is told.calls.key (told.honest h).1 c.requires.region
-    (told.damage tells v.key keyed 256 (omega arith) (omega arith) all))
+    (told.damage tells v.key keyed 1024 (omega arith) (omega arith) all))
 
 pub invariant_of-change : goal.invariant_of-change
 invariant_of-change g c = record {
   gathered = gathered shape c.in_ok-gather.field-0 c.in_ok-gather.ensures.ordered;
   within = c.requires.region;
-  inside = above_more c.as_slice-2.result.now 256 1024
-      (subst (λ (l : List Leaf). is_above_all l 256 ≡ true) (sym c.as_slice-2.ensures.leaves) c.requires.inside) (omega arith);
+  inside = subst (λ (l : List Leaf). is_above_all l 1024 ≡ true) (sym c.as_slice-2.ensures.leaves) c.requires.inside;
 }
 
 pub returns-in-Ok-clause-past : goal.returns-in-Ok-clause-past

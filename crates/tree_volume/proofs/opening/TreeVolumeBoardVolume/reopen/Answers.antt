@@ -122,3 +122,6 @@ pub returns-clause-counter : goal.returns-clause-counter
 returns-clause-counter g c honest =
     taken_counter tree_form c.in_ok-found.found c.resume.result (form_root c.resume.new.self.root) _ c.resume.ensures.found
     (subst (λ (x : View). IsSettledAt (sequence_of c.in_ok-found.found) x.state) (sym (ap g.B.Board.view c.resume.ensures.board)) (c.in_ok-found.ensures.counter honest))
+
+pub returns-clause-bare : goal.returns-clause-bare
+returns-clause-bare g c = λ image. tt
