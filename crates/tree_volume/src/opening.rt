@@ -103,7 +103,8 @@ fn take_up<B: Board>(
         → IfOk result (λ o. IsSettledAt o.sequence (B.view board.new).state) }
     ensures same { (header : Kept) → found ≡ Some header
         → (B.view board.new ≡ B.view board.old) × OnErr result ⊥ }
-    ensures taken { IfOk result (λ o. TakesUp tree_form found FORMATTED o.sequence (form_root o.root)) }
+    ensures taken { IfOk result (λ o.
+        TakesUp tree_form found FORMATTED o.sequence (form_root o.root)) }
     ensures opens { B.honest board.old → (h : Held)
         → MountsTo tree_form (B.view board.old).key h (B.view board.old).state found
         → Opens h (after_found found h) result (B.view board.old) (B.view board.new) }

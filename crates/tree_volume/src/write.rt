@@ -86,12 +86,14 @@ pub fn write_all<B: Board>(
         → RunsOver open_at base low high first (B.view board.old)
         → RunsOver open_at base low high first (B.view board.new) }
     ensures damage { B.honest board.old → AreOrdered shape touched.old
-        → (key : List ℕ) → AreKeysOf keys.now key → IfOk result (λ entry. (root : Entry) (place : ℕ) → place < PLACES
+        → (key : List ℕ) → AreKeysOf keys.now key
+        → IfOk result (λ entry. (root : Entry) (place : ℕ) → place < PLACES
         → damage_of shape (on_image shape key (B.view board.new).state.reads) entry place
         ≡ damage_of shape (with_new (fresh_of touched.old)
         (on_image shape key (B.view board.old).state.reads)) root place) }
     ensures text { B.honest board.old → AreOrdered shape touched.old
-        → (key : List ℕ) → AreKeysOf keys.now key → IfOk result (λ entry. (root : Entry) (place : ℕ) → place < PLACES
+        → (key : List ℕ) → AreKeysOf keys.now key
+        → IfOk result (λ entry. (root : Entry) (place : ℕ) → place < PLACES
         → shape.level place ≡ DEPTH
         → text_of shape (on_image shape key (B.view board.new).state.reads) entry place
         ≡ text_of shape (with_new (fresh_of touched.old)
