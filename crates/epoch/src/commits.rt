@@ -29,6 +29,9 @@ pub trait Change {
     /// Its keys are those of the board's key, and what it keeps of the blocks in use is what they read as.
     ghost fits: { Self → List ℕ → (ℕ → List ℕ) → Type 0 };
 
+    /// The same once it is written: what it then keeps of the blocks in use is what they read as.
+    ghost keeps: { Self → List ℕ → (ℕ → List ℕ) → Type 0 };
+
     /// Whatever the board holds: under this key what it keeps of the blocks in use has no damage.
     ghost checks: { Self → List ℕ → Type 0 };
 
@@ -79,14 +82,18 @@ pub trait Change {
             (after self.old (leaves_of form (B.view board.old).key (B.view board.old).state.reads
             (root self.old)))
             (B.view board.new).state.reads) }
-        ensures fits { B.honest board.old
+        ensures keeps { B.honest board.old
             → fits self.old (B.view board.old).key (B.view board.old).state.reads
-            → OnOk result (fits self.new (B.view board.old).key (B.view board.new).state.reads) };
+            → OnOk result (keeps self.new (B.view board.old).key
+            (B.view board.new).state.reads) };
 
     ghost framed: { IsFramed form };
 
     ghost still_fits: { (c : Self) (key : List ℕ) (base image : ℕ → List ℕ)
         → SameUsed form key (root c) base image → fits c key base → fits c key image };
+
+    ghost still_keeps: { (c : Self) (key : List ℕ) (base image : ℕ → List ℕ)
+        → SameUsed form key (root c) base image → keeps c key base → keeps c key image };
 }
 
 /// Makes a commit to the sequence after this one, and gives the entry of the new root.
@@ -132,7 +139,7 @@ pub fn commit<B: Board, C: Change>(
         (root_written C.form entry)
         (next_held C.form (C.after change.old before.leaves) before.sequence)
         (B.view board.new).state
-        × C.fits change.new (B.view board.old).key (B.view board.new).state.reads) }
+        × C.keeps change.new (B.view board.old).key (B.view board.new).state.reads) }
     ensures kept { B.honest board.old → (before : Held)
         → IsBegun C.form (C.fits change.old) (B.view board.old) (C.root change.old) sequence before
         → OnErr result (leaves_of C.form (B.view board.old).key (B.view board.new).state.reads

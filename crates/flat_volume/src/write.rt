@@ -48,6 +48,8 @@ impl Change for FlatChange<'_> {
 
     ghost fits = { λ c key reads. FitsFlat c.keys.now c.table c.root key reads };
 
+    ghost keeps = { λ c key reads. FitsFlat c.keys.now c.table c.root key reads };
+
     ghost checks = { λ c key. ChecksFlat c.keys.now c.table c.root key };
 
     ghost seals = { λ old new key sequence. IsRootFor sequence new.root × AreSealedFor key sequence new.table.bytes.items old.region old.leaves.now };
@@ -57,6 +59,8 @@ impl Change for FlatChange<'_> {
     ghost framed = { flat_framed };
 
     ghost still_fits = { λ c key base image same fits. table_still_fits c.keys.now c.table c.root key base image same fits };
+
+    ghost still_keeps = { λ c key base image same fits. table_still_fits c.keys.now c.table c.root key base image same fits };
 
     fn version(&self) -> u32 {
         FLAT_VERSION

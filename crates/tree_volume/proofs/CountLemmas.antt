@@ -15,7 +15,7 @@ use Rattle.tree_volume.specs.Gather.{IsOnWay, IsPushed}
 use Rattle.tree_volume.specs.Shape.{Shape, shape}
 use Rattle.tree_volume.specs.Touched.{AreOrdered, fresh_of}
 use Rattle.tree_volume.proofs.GatherLemmas.{pushed_other}
-use Rattle.tree_volume.proofs.ShapeLemmas.{parent_one, parent_three, parent_two}
+use Rattle.tree_volume.specs.Shapes.{parent_one, parent_three, parent_two}
 use Rattle.tree_volume.proofs.TouchedLemmas.{fresh_head, fresh_tail}
 
 member_head : (x : ℕ) (xs : List ℕ) (q : ℕ) → q ≡ x → is_member nat_eq (x ∷ xs) q ≡ true

@@ -7,7 +7,7 @@ use Rattle.std.proofs.lemmas.Bool.Decides.{nat_tests}
 use Rattle.epoch.proofs.CommitLemmas.{first_true, second_true}
 use Rattle.store_api.specs.Ascending.{is_ascending}
 use Rattle.store_api.specs.declared.leaves.Leaf.{Leaf}
-use Rattle.tree_volume.proofs.ShapeLemmas.{level_four}
+use Rattle.tree_volume.specs.Shapes.{level_four}
 use Rattle.std.specs.Prelude.{is_some, option_map, reverse}
 use Rattle.std.proofs.lemmas.Bool.{cases_eq, false≢true}
 use Rattle.std.proofs.lemmas.List.{drop_all, reverse-append, take_more}
@@ -24,7 +24,7 @@ use Rattle.tree_volume.specs.Touched.{AreOrdered, fresh_of}
 use Rattle.tree_volume.specs.Tree.{Look, damage_at, damage_below, damage_of, entry_below, entry_of, first_damage, text_of}
 use Rattle.tree_volume.proofs.ReadLemmas.{damage_split}
 use Rattle.tree_volume.proofs.TouchedLemmas.{fresh_head, fresh_tail}
-use Rattle.tree_volume.proofs.TreeLemmas.{above, is_root}
+use Rattle.tree_volume.specs.Ways.{above, is_root}
 
 -- one test before or behind the look at an entry
 either_way : (at : ℕ) (b : Bool) (bytes : List ℕ) (o : Option (List ℕ)) → (if b then Some (entry_at at bytes) else option_map (entry_at at) o) ≡ option_map (entry_at at) (if b then Some bytes else o)

@@ -7,7 +7,7 @@ use Rattle.tree_volume.specs.Identify.{CodeIdentifies, message_on}
 use Rattle.tree_volume.specs.Laws.{AgreesWhereIdentified}
 use Rattle.tree_volume.specs.Shape.{Shape}
 use Rattle.tree_volume.specs.Tree.{Found, block_at, damage_at, damage_below, entry_below, known, on_image, unless_zero}
-use Rattle.tree_volume.proofs.TreeLemmas.{agree, first_none, second_none}
+use Rattle.tree_volume.specs.Ways.{agree, first_none, second_none}
 
 -- what follows the same list is the same
 cancelled : (a b c : List ℕ) → a ++ b ≡ a ++ c → b ≡ c

@@ -1,13 +1,14 @@
+pub mod ChangeLemmas
 pub mod CountLemmas
 pub mod EntryLemmas
-pub mod FrameLemmas
 pub mod GatherLemmas
 pub mod IdentifyLemmas
+pub mod OpenLemmas
 pub mod ReadLemmas
-pub mod ShapeLemmas
+pub mod SealedLemmas
 pub mod StartLemmas
 pub mod StepLemmas
 pub mod TouchedLemmas
-pub mod TreeLemmas
+pub mod VolumeLemmas
 pub mod WalkLemmas
 pub mod WriteLemmas

@@ -15,7 +15,7 @@ use Rattle.epoch.specs.declared.header.TreeEntry.{TreeEntry}
 use Rattle.epoch.specs.Reading.{OnlyReads}
 use Rattle.tree_volume.specs.Shape.{Shape}
 use Rattle.tree_volume.specs.Tree.{Found, Look, block_at, damage_above, damage_at, damage_below, damage_of, differing, entry_below, first_damage, known, on_image, text_of, unless_zero}
-use Rattle.tree_volume.proofs.TreeLemmas.{differs, no_difference}
+use Rattle.tree_volume.specs.Ways.{differs, found_block, no_difference}
 
 -- calls that only read
 pub only_itself : (v : View) → OnlyReads v v
@@ -46,24 +46,10 @@ only_more first old new one two = record {
 }
 
 module _ (s : Shape) (key : List ℕ) (image : ℕ → List ℕ) (place : ℕ) (e : TreeEntry) where
-  -- an entry of sequence 0 names zeros
-  pub found_zero : e.sequence ≡ 0 → on_image s key image place e ≡ known (replicate 1024 0) e
-  unfolding unless_zero
-  found_zero none = let t : (e.sequence == 0) ≡ true = grind arith in rw t refl
-
-  -- and each other its block
-  pub found_block : e.sequence ≢ 0
-      → on_image s key image place e ≡ record { tag = seal_tag key place e.sequence e.iv (image (block_at s place e.copy)); text = plaintext key e.iv (image (block_at s place e.copy)) }
-  unfolding unless_zero
-  found_block some = let t : (e.sequence == 0) ≡ false = grind arith in rw t refl
-
-  pub zero_damage : e.sequence ≡ 0 → damage_at (on_image s key image) place e ≡ None
-  zero_damage none = ap (λ (f : Found). differing f.tag e.tag) (found_zero none) ∙ no_difference e.tag
-
   -- the block of an entry as it was read
   module _ (cipher : List ℕ) (some : e.sequence ≢ 0) (here : cipher ≡ image (block_at s place e.copy)) where
     block_tag : (on_image s key image place e).tag ≡ seal_tag key place e.sequence e.iv cipher
-    block_tag = ap (λ (f : Found). f.tag) (found_block some) ∙ ap (seal_tag key place e.sequence e.iv) (sym here)
+    block_tag = ap (λ (f : Found). f.tag) (found_block s key image place e some) ∙ ap (seal_tag key place e.sequence e.iv) (sym here)
 
     pub block_differs : (found : List ℕ) → found ≡ seal_tag key place e.sequence e.iv cipher → found ≢ e.tag
         → damage_at (on_image s key image) place e ≡ Some (record { found = found; kept = e.tag })
@@ -73,14 +59,14 @@ module _ (s : Shape) (key : List ℕ) (image : ℕ → List ℕ) (place : ℕ) (
     block_agrees is = ap (λ (t : List ℕ). differing t e.tag) (block_tag ∙ is) ∙ no_difference e.tag
 
     pub block_text : (into : List ℕ) → into ≡ plaintext key e.iv cipher → into ≡ (on_image s key image place e).text
-    block_text into is = is ∙ ap (plaintext key e.iv) here ∙ sym (ap (λ (f : Found). f.text) (found_block some))
+    block_text into is = is ∙ ap (plaintext key e.iv) here ∙ sym (ap (λ (f : Found). f.text) (found_block s key image place e some))
 
   -- a block that was sealed, and stands where the entry says
   pub found_sealed : (plain cipher : List ℕ) → 0 < e.sequence → image (block_at s place e.copy) ≡ cipher → e.tag ≡ seal_tag key place e.sequence e.iv cipher
       → cipher ≡ ciphertext key e.iv plain → on_image s key image place e ≡ known plain e
   unfolding plaintext
   found_sealed plain cipher positive here tag text =
-      found_block (λ none. absurd (omega arith)) ∙ rw (here, tag, reopened key e.iv plain cipher text) refl
+      found_block s key image place e (λ none. absurd (omega arith)) ∙ rw (here, tag, reopened key e.iv plain cipher text) refl
 
 -- the damage on a way is that above the place, and then the place's own
 pub damage_split : (s : Shape) (look : Look) (root : TreeEntry) (level place : ℕ)

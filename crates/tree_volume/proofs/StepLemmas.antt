@@ -6,7 +6,7 @@ use Rattle.epoch.specs.Header.{entry_at}
 use Rattle.epoch.specs.declared.header.TreeEntry.{TreeEntry}
 use Rattle.tree_volume.specs.Shape.{IsShape, Shape}
 use Rattle.tree_volume.specs.Tree.{Found, Look, damage_at, damage_below, differing, entry_below, first_damage, known}
-use Rattle.tree_volume.proofs.TreeLemmas.{above, is_root, no_difference}
+use Rattle.tree_volume.specs.Ways.{above, is_root, no_difference}
 
 -- bytes that are known have no damage
 pub known_damage : (look : Look) (p : ℕ) (x : TreeEntry) (text : List ℕ) → look p x ≡ known text x → damage_at look p x ≡ None

@@ -8,7 +8,7 @@ use Rattle.tree_volume.specs.Shape.{IsShape, Shape}
 use Rattle.tree_volume.specs.Tree.{Look, damage_at, damage_below, entry_below}
 use Rattle.tree_volume.specs.Walk.{AreChildren, Children, Wrong, first_below, first_wrong, walk, wrong_at}
 use Rattle.tree_volume.specs.Laws.{WalkFindsAll}
-use Rattle.tree_volume.proofs.TreeLemmas.{above, both_none, is_root}
+use Rattle.tree_volume.specs.Ways.{above, both_none, is_root}
 
 no_wrong : (p : ℕ) (d : Option Mismatch) → wrong_at p d ≡ None → d ≡ None
 no_wrong p None is = refl

@@ -1,5 +1,6 @@
 -- What is gathered before a commit writes: the nodes that it touches, as they stand under a root.
 use Rattle.std.specs.Prelude.{◌≡◌, ◌<◌, ◌⊎◌, ◌==◌, if◌then◌else◌, ℕ, zero, suc, List, [], ◌∷◌, length, Option, Some, None}
+use Rattle.std.proofs.Props.{props}
 use Rattle.tee_base.specs.declared.limits.TheConstants.{BLOCK_BYTES}
 use Rattle.store_api.specs.declared.leaves.Leaf.{Leaf}
 use Rattle.epoch.specs.declared.header.TreeEntry.{TreeEntry}
@@ -17,6 +18,16 @@ named (leaf ∷ leaves) number = if leaf.number == number then Some leaf.bytes e
 abbrev pub AreGathered : Shape → List Node → Type 0
 AreGathered s [] = Unit {0}
 AreGathered s (node ∷ nodes) = AreOrdered s (node ∷ nodes)
+
+-- it is a proposition
+ordered_prop : (s : Shape) (nodes : List Node) → IsProp (AreOrdered s nodes)
+ordered_prop s [] = Prim.hlevel props
+ordered_prop s (node ∷ []) = Prim.hlevel props
+ordered_prop s (node ∷ next ∷ nodes) = Prim.hlevel (props, ordered_prop s (next ∷ nodes))
+
+pub AreGathered-prop : (s : Shape) (nodes : List Node) → IsProp (AreGathered s nodes)
+AreGathered-prop s [] = Prim.hlevel props
+AreGathered-prop s (node ∷ nodes) = ordered_prop s (node ∷ nodes)
 
 -- a place is on the way to one that lies so far below the root
 abbrev pub IsOnWay : Shape → ℕ → ℕ → ℕ → Type 0

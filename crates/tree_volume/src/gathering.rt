@@ -208,7 +208,8 @@ pub fn gather<B: Board>(
         → IfOk result (λ t. AreTrue shape
         (on_image shape key (B.view board.old).state.reads) root.now DEPTH t) }
     ensures damage { IsTrue B.tells_reads → (key : List ℕ) → AreKeysOf keys.now key
-        → IfMismatch result (λ tags. (l : ℕ) × (l < REGION_LEAVES)
+        → (n : ℕ) → 0 < n → n ≤ REGION_LEAVES → All (λ leaf. leaf.number < n) leaves.now
+        → IfMismatch result (λ tags. (l : ℕ) × (l < n)
         × (damage_of shape (on_image shape key (B.view board.old).state.reads) root.now
         (shape.leaf_place region l) ≡ Some tags)) }
     ensures honest { B.honest board.old

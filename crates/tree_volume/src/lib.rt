@@ -1,16 +1,21 @@
 //! A volume whose entries stand in a tree of nodes, on any board.
 #![tactic(auto)]
 
+mod change;
 mod first_version;
 mod gathering;
 mod laws;
 mod load_place;
+mod opening;
 mod places;
 mod touched;
+mod volume;
 mod write;
 
+pub use change::TreeChange;
 pub use gathering::{gather, hold};
 pub use load_place::{find_entry, find_leaf, load};
 pub use places::TREE_BLOCKS;
 pub use touched::{Node, Touched};
+pub use volume::TreeVolume;
 pub use write::{write_all, write_node};

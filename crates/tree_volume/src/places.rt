@@ -4,6 +4,8 @@ ghost use Rattle.tee_base.specs.declared.limits.TheConstants.{MAX_HOSTS};
 ghost use Rattle.tree_volume.specs.Shape.{shape};
 ghost use Rattle.tree_volume.specs.Tree.{block_at as block_of_copy, copy_of};
 
+use epoch::Format;
+
 /// The version that the header of a volume has.
 pub const TREE_VERSION: u32 = 2;
 
@@ -12,6 +14,13 @@ pub const FIRST_BLOCK: u64 = 8_742;
 
 /// How many blocks a volume has.
 pub const TREE_BLOCKS: u64 = 43_720;
+
+/// What an opening takes of the form.
+pub const TREE: Format = Format {
+    oldest: TREE_VERSION,
+    newest: TREE_VERSION,
+    blocks: TREE_BLOCKS,
+};
 
 /// How many entries fit into a node.
 pub const FAN: u64 = 16;

@@ -55,7 +55,7 @@ impl Touched {
     /// The first node, which is taken away.
     pub fn pop(&mut self) -> Option<Node>
         ensures some { IfSome result (λ node. self.old ≡ node ∷ self.new) }
-        ensures none { result ≡ None → self.old ≡ [] }
+        ensures none { result ≡ None → (self.old ≡ []) × (self.new ≡ []) }
     {
         self.nodes.pop()
     }

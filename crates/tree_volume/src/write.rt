@@ -6,6 +6,8 @@ ghost use Rattle.board.specs.Steps.{CallRun, capped};
 ghost use Rattle.seal.specs.Keys.{AreKeysOf};
 ghost use Rattle.epoch.specs.Past.{KeepsPast};
 ghost use Rattle.epoch.specs.declared.header.TreeEntry.{TreeEntry as Entry};
+ghost use Rattle.tree_volume.specs.Gather.{AreGathered};
+ghost use Rattle.tree_volume.specs.Sealed.{AreSealed, IsSealedFor};
 ghost use Rattle.tree_volume.specs.Shape.{shape};
 ghost use Rattle.tree_volume.specs.Touched.{AreOrdered, AreSpare, fresh_of, spare_block};
 ghost use Rattle.tree_volume.specs.Tree.{damage_of, known, on_image, text_of, with_new};
@@ -15,14 +17,6 @@ use crate::touched::{Node, Touched};
 use board::{Board, BoardFailed};
 use epoch::{TreeEntry, entry_bytes};
 use seal::{Keys, Tags, seal_leaf};
-
-/// What an empty list of nodes has in place of a root.
-const NO_ENTRY: TreeEntry = TreeEntry {
-    copy: 0,
-    sequence: 0,
-    iv: [0; 16],
-    tag: [0; 32],
-};
 
 /// Seals a node into the copy of its place that isn't in use, and gives its new entry.
 pub fn write_node<B: Board>(
@@ -49,6 +43,9 @@ pub fn write_node<B: Board>(
         → IfOk result (λ entry.
         on_image shape key (B.view board.new).state.reads node.now.place entry
         ≡ known node.now.bytes entry) }
+    ensures sealed_for { IfOk result (λ entry. entry.sequence ≡ sequence) }
+    ensures sealed { (key : List ℕ) → AreKeysOf keys.now key
+        → IfOk result (λ entry. IsSealedFor key node.now.place sequence node.now.bytes entry) }
 {
     let copy = other_copy(node.copy);
     let mut cipher = [0; 1024];
@@ -63,7 +60,8 @@ pub fn write_node<B: Board>(
 }
 
 /// Seals all nodes, each before the one that it is an entry of, and gives the entry of the root. What stood under a root
-/// with the bytes of these nodes in place of its own stands under the new one.
+/// with the bytes of these nodes in place of its own stands under the new one. Where there is no node, the entry names
+/// nothing.
 pub fn write_all<B: Board>(
     board: &mut B,
     keys: &Keys,
@@ -71,11 +69,15 @@ pub fn write_all<B: Board>(
     sequence: u64,
 ) -> Result<TreeEntry, BoardFailed>
     requires size { TREE_BLOCKS ≤ (B.view board.old).size }
-    requires ordered { AreOrdered shape touched.old }
+    requires gathered { AreGathered shape touched.old }
     requires sequence { 0 < sequence }
     ensures calls { CallRun (is_ok result) (B.view board.old) (B.view board.new) }
     ensures writes { (B.view board.new).writes
         ≤ (B.view board.old).writes + length touched.old }
+    ensures gathered { AreGathered shape touched.new }
+    ensures sealed_for { IfOk result (λ entry. entry.sequence ≡ sequence) }
+    ensures sealed { AreOrdered shape touched.old → (key : List ℕ) → AreKeysOf keys.now key
+        → IfOk result (λ entry. AreSealed shape DEPTH key sequence touched.old entry) }
     ensures honest { B.honest board.old → B.honest board.new }
     ensures past { B.honest board.old → KeepsPast (B.view board.old) (B.view board.new) }
     ensures run { B.honest board.old
@@ -83,12 +85,14 @@ pub fn write_all<B: Board>(
         → AreSpare shape open_at touched.old
         → RunsOver open_at base low high first (B.view board.old)
         → RunsOver open_at base low high first (B.view board.new) }
-    ensures damage { B.honest board.old → (key : List ℕ) → AreKeysOf keys.now key
+    ensures damage { B.honest board.old → AreOrdered shape touched.old
+        → (key : List ℕ) → AreKeysOf keys.now key
         → IfOk result (λ entry. (root : Entry) (place : ℕ) → place < PLACES
         → damage_of shape (on_image shape key (B.view board.new).state.reads) entry place
         ≡ damage_of shape (with_new (fresh_of touched.old)
         (on_image shape key (B.view board.old).state.reads)) root place) }
-    ensures text { B.honest board.old → (key : List ℕ) → AreKeysOf keys.now key
+    ensures text { B.honest board.old → AreOrdered shape touched.old
+        → (key : List ℕ) → AreKeysOf keys.now key
         → IfOk result (λ entry. (root : Entry) (place : ℕ) → place < PLACES
         → shape.level place ≡ DEPTH
         → text_of shape (on_image shape key (B.view board.new).state.reads) entry place
@@ -103,5 +107,10 @@ pub fn write_all<B: Board>(
         let above = parent(node.place);
         touched.put(above, ENTRY_BYTES * slot(node.place), &entry_bytes(&entry));
     }
-    Ok(NO_ENTRY)
+    Ok(TreeEntry {
+        copy: 0,
+        sequence,
+        iv: [0; 16],
+        tag: [0; 32],
+    })
 }

@@ -153,8 +153,8 @@ returns-clause-done g c h before begins =
     let flipped = c.in_ok-_counter.ensures.flipped hon3 in
     let key3 = c.in_ok-lay.ensures.calls.key ∙ c.in_ok-root.ensures.calls.key ∙ c.in_ok-shut.ensures.calls.key in (
       stages.mounted_flipped has _ (g.B.Board.view c.flip.new.board) key3 flipped (c.in_ok-_counter.ensures.opened hon3),
-      stages.fits_flipped has (g.C.Change.fits _) _ _ (g.B.Board.view c.shut.new.board) (g.B.Board.view c.flip.new.board) c.in_ok-shut.ensures.calls.key flipped (g.met.C.Change.still_fits _)
-          (c.in_ok-root.ensures.fits hon1 shut.fits),
+      stages.fits_flipped has (g.C.Change.keeps _) _ _ (g.B.Board.view c.shut.new.board) (g.B.Board.view c.flip.new.board) c.in_ok-shut.ensures.calls.key flipped (g.met.C.Change.still_keeps _)
+          (c.in_ok-root.ensures.keeps hon1 shut.fits),
     )
 
 pub returns-in_err-root-clause-past : goal.returns-in_err-root-clause-past

@@ -8,8 +8,8 @@ use Rattle.tree_volume.proofs.CountLemmas.{among_pushed, way_up}
 use Rattle.tree_volume.specs.Shape.{shape}
 use Rattle.tree_volume.specs.Tree.{Look, damage_at, damage_of, entry_of, on_image}
 use Rattle.tree_volume.proofs.GatherLemmas.{entry_under, leaf_pushed, mismatch_way, way_of}
-use Rattle.tree_volume.proofs.ShapeLemmas.{is_shape}
-use Rattle.tree_volume.proofs.TreeLemmas.{above}
+use Rattle.tree_volume.specs.Shapes.{is_shape}
+use Rattle.tree_volume.specs.Ways.{above}
 use Rattle.tree_volume.proofs.gathering.add_leaf.Goals as goal
 
 pub returns-in_err-hold-clause-damage : goal.returns-in_err-hold-clause-damage

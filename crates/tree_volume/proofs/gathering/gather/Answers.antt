@@ -15,20 +15,20 @@ use Rattle.tree_volume.specs.Touched.{fresh_of}
 use Rattle.tree_volume.specs.Tree.{Look, damage_of, on_image}
 use Rattle.tree_volume.specs.declared.touched.Touched.{Touched}
 use Rattle.tree_volume.proofs.CountLemmas.{count_of, on_way}
-use Rattle.tree_volume.proofs.GatherLemmas.{below_step, first_bytes, leaf_level, mismatch_shown, named_step, new_number, none_left, nothing_true, rest_ascends, root_damages}
+use Rattle.tree_volume.proofs.GatherLemmas.{below_step, first_bytes, leaf_level, mismatch_shown, mismatch_told, named_step, new_number, none_left, nothing_true, rest_ascends, root_damages}
 use Rattle.tree_volume.proofs.ReadLemmas.{only_more}
-use Rattle.tree_volume.proofs.ShapeLemmas.{is_shape}
+use Rattle.tree_volume.specs.Shapes.{is_shape}
 use Rattle.tree_volume.proofs.gathering.gather.Goals as goal
 
 pub returns-in_err-hold-clause-damage : goal.returns-in_err-hold-clause-damage
-returns-in_err-hold-clause-damage g c tells key keyed =
+returns-in_err-hold-clause-damage g c tells key keyed n some large all =
     let look : Look = on_image shape key (g.B.Board.view c.args.board.now).state.reads in
     let root : TreeEntry = c.args.root.now in
     let is : c.from_residual.result ≡ Err c.in_err-hold.field-0.0 = search rules in
     let inside : shape.leaf_place c.args.region 0 < 17489 = is_shape.leaf_inside c.args.region 0 c.requires.region (omega arith) in
-    subst (λ (r : Result Touched LeafAnswer). IfMismatch r (λ tags. (l : ℕ) × (l < 1024) × (damage_of shape look root (shape.leaf_place c.args.region l) ≡ Some tags))) (sym is)
+    subst (λ (r : Result Touched LeafAnswer). IfMismatch r (λ tags. (l : ℕ) × (l < n) × (damage_of shape look root (shape.leaf_place c.args.region l) ≡ Some tags))) (sym is)
     (mismatch_shown (Unit {0}) Touched c.in_err-hold.field-0.0 (damage_of shape look root 0)
-    (λ (tags : Mismatch). (l : ℕ) × (l < 1024) × (damage_of shape look root (shape.leaf_place c.args.region l) ≡ Some tags))
+    (λ (tags : Mismatch). (l : ℕ) × (l < n) × (damage_of shape look root (shape.leaf_place c.args.region l) ≡ Some tags))
     (λ tags top. (0, omega arith, root_damages shape is_shape look root tags top (shape.level (shape.leaf_place c.args.region 0)) (shape.leaf_place c.args.region 0) refl inside))
     (c.in_err-hold.ensures.damage tells key keyed (nothing_true shape look root 4 c.new-touched.result c.new-touched.ensures)))
 
@@ -37,6 +37,29 @@ returns-in_err-add_leaf-clause-honest g c h =
     let one = c.loop-leaf.invariant.honest h in
     let two = c.in_err-add_leaf.ensures.honest one.0 in
     (two.0, only_more _ _ _ one.1 two.1)
+
+pub returns-in_err-add_leaf-clause-damage : goal.returns-in_err-add_leaf-clause-damage
+returns-in_err-add_leaf-clause-damage g c tells key keyed n some large all =
+    let inv = c.loop-leaf.invariant in
+    let xs : List Leaf = c.args.leaves.now in
+    let i : ℕ = c.loop-leaf.leaf-index in
+    let none : Leaf = record { number = 0; bytes = [] } in
+    let leaf : Leaf = get_or xs i none in
+    let below : leaf.number < n = All-get_or (λ (l : Leaf). l.number < n) xs i none c.loop-leaf-test.true all in
+    let look : Look = on_image shape key (g.B.Board.view c.args.board.now).state.reads in
+    let root : TreeEntry = c.args.root.now in
+    let is : c.from_residual-in_err-add_leaf.result ≡ Err c.in_err-add_leaf.field-0.0 = search rules in
+    let told = c.in_err-add_leaf.ensures.damage tells key keyed
+    (subst (λ (reads : ℕ → List ℕ). AreTrue shape (on_image shape key reads) root 4 c.loop-leaf.touched) (sym (inv.same tells)) (inv.nodes tells key keyed)) in
+    subst (λ (r : Result Touched LeafAnswer). IfMismatch r (λ tags. (l : ℕ) × (l < n) × (damage_of shape look root (shape.leaf_place c.args.region l) ≡ Some tags))) (sym is)
+    (mismatch_told (Unit {0}) Touched c.in_err-add_leaf.field-0.0
+    (λ (tags : Mismatch). damage_of shape (on_image shape key (g.B.Board.view c.loop-leaf.board).state.reads) root (shape.leaf_place c.args.region leaf.number) ≡ Some tags)
+    (λ (tags : Mismatch). (l : ℕ) × (l < n) × (damage_of shape look root (shape.leaf_place c.args.region l) ≡ Some tags))
+    (λ tags shown. (
+      leaf.number,
+      below,
+      subst (λ (reads : ℕ → List ℕ). damage_of shape (on_image shape key reads) root (shape.leaf_place c.args.region leaf.number) ≡ Some tags) (inv.same tells) shown,
+    )) told)
 
 pub loop-leaf-preserved : goal.loop-leaf-preserved
 loop-leaf-preserved g c =

@@ -1,4 +1,4 @@
-use Rattle.tree_volume.proofs.ShapeLemmas.{are_children, are_first_children, is_first_shape, is_shape}
+use Rattle.tree_volume.specs.Shapes.{are_children, are_first_children, is_first_shape, is_shape}
 use Rattle.tree_volume.proofs.laws.shape_laws.Goals as goal
 
 pub returns-clause-shape : goal.returns-clause-shape

@@ -5,16 +5,20 @@ use Rattle.board.specs.Steps.{CallRun}
 use Rattle.epoch.specs.Past.{KeepsPast}
 use Rattle.epoch.specs.declared.header.TreeEntry.{TreeEntry}
 use Rattle.seal.specs.Keys.{AreKeysOf}
+use Rattle.tree_volume.specs.Gather.{AreGathered}
 use Rattle.tree_volume.specs.Shape.{shape}
 use Rattle.tree_volume.specs.Touched.{AreOrdered, AreSpare, fresh_of}
 use Rattle.tree_volume.specs.Tree.{damage_of, on_image, text_of, with_new}
+use Rattle.tree_volume.proofs.SealedLemmas.{AreSealing}
 use Rattle.tree_volume.proofs.write.write_all.Given as goal
 
 -- what stands under a root with the bytes of the nodes that are left is what stood there at first
 abbrev pub invariant-loop-node : goal.invariant-loop-node
 invariant-loop-node g l = record {
   calls : CallRun true (g.B.Board.view l.fn.board) (g.B.Board.view l.board);
-  ordered : AreOrdered shape l.touched;
+  gathered : AreGathered shape l.touched;
+  ordered : AreOrdered shape l.fn.touched → AreOrdered shape l.touched;
+  sealing : (key : List ℕ) → AreKeysOf l.keys key → AreSealing shape 4 key l.sequence l.fn.touched l.touched;
   writes : (g.B.Board.view l.board).writes + length l.touched ≤ (g.B.Board.view l.fn.board).writes + length l.fn.touched;
   honest : g.B.Board.honest l.fn.board → g.B.Board.honest l.board;
   past : g.B.Board.honest l.fn.board → KeepsPast (g.B.Board.view l.fn.board) (g.B.Board.view l.board);

@@ -57,8 +57,8 @@ returns-clause-written g c h fits sealed =
     (c.in_ok-write_leaves.ensures.leaves h v.key fits.keyed ∙ ap (replaced c.args.self.now.region c.args.self.now.leaves.now)
     (ap (λ (t : List ℕ). leaves_by v.key t v.state.reads) fits.stands ∙ sym (leaves_are_by v.key v.state.reads root)))
 
-pub returns-clause-fits : goal.returns-clause-fits
-returns-clause-fits g c h fits =
+pub returns-clause-keeps : goal.returns-clause-keeps
+returns-clause-keeps g c h fits =
     let hon1 = c.in_ok-write_leaves.ensures.honest h in
     record {
       keyed = fits.keyed;

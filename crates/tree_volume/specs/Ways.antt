@@ -1,10 +1,12 @@
--- The place above a place, and damages.
-use Rattle.std.proofs.Common.{◌≡◌, ◌≢◌, ◌<◌, ℕ, suc, true, false, List, Option, None, Some, if◌then◌else◌, bytes_eq, refl, sym, subst, ⊎_elim, arith}
+-- The place above a place, damages, and what an entry of sequence 0 names.
+use Rattle.std.proofs.Common.{◌≡◌, ◌≢◌, ◌<◌, ◌==◌, ◌∙◌, ℕ, suc, true, false, List, Option, None, Some, if◌then◌else◌, bytes_eq, replicate, refl, sym, ap, subst, ⊎_elim, arith}
 use Rattle.std.proofs.lemmas.Bool.{cases_eq}
 use Rattle.std.proofs.lemmas.Slice.Eq.{bytes_eq-Decides}
 use Rattle.store_api.specs.declared.answer.Mismatch.{Mismatch}
 use Rattle.tree_volume.specs.Shape.{IsShape, Shape}
-use Rattle.tree_volume.specs.Tree.{differing, first_damage}
+use Rattle.seal.specs.Sealing.{plaintext, seal_tag}
+use Rattle.epoch.specs.declared.header.TreeEntry.{TreeEntry}
+use Rattle.tree_volume.specs.Tree.{Found, block_at, damage_at, differing, first_damage, known, on_image, unless_zero}
 
 module _ (s : Shape) (is : IsShape s) where
   -- a place below the root isn't the root
@@ -66,3 +68,18 @@ second_none (Some tags) b e = absurd (cc)
 
 pub both_none : (a b : Option Mismatch) → a ≡ None → b ≡ None → first_damage a b ≡ None
 both_none a b one two = rw (one, two) refl
+
+module _ (s : Shape) (key : List ℕ) (image : ℕ → List ℕ) (place : ℕ) (e : TreeEntry) where
+  -- an entry of sequence 0 names zeros
+  pub found_zero : e.sequence ≡ 0 → on_image s key image place e ≡ known (replicate 1024 0) e
+  unfolding unless_zero
+  found_zero none = let t : (e.sequence == 0) ≡ true = grind arith in rw t refl
+
+  -- and each other its block
+  pub found_block : e.sequence ≢ 0
+      → on_image s key image place e ≡ record { tag = seal_tag key place e.sequence e.iv (image (block_at s place e.copy)); text = plaintext key e.iv (image (block_at s place e.copy)) }
+  unfolding unless_zero
+  found_block some = let t : (e.sequence == 0) ≡ false = grind arith in rw t refl
+
+  pub zero_damage : e.sequence ≡ 0 → damage_at (on_image s key image) place e ≡ None
+  zero_damage none = ap (λ (f : Found). differing f.tag e.tag) (found_zero none) ∙ no_difference e.tag

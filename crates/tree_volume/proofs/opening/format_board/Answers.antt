@@ -1,0 +1,57 @@
+use Rattle.std.proofs.Common.{◌∙◌, ℕ, List, [], IfErr, refl, sym, ap, subst, rules, true}
+use Rattle.seal.specs.Keys.{AreKeysOf}
+use Rattle.epoch.proofs.CallLemmas.{run_as, run_failed, run_none}
+use Rattle.epoch.specs.Commits.{IsBegun}
+use Rattle.epoch.specs.Mounts.{IsKeptFromOpening}
+use Rattle.tree_volume.specs.Change.{FitsTree}
+use Rattle.tree_volume.specs.Form.{form_root, tree_form}
+use Rattle.tree_volume.specs.declared.opening.TheConstants.{NO_ROOT}
+use Rattle.tree_volume.proofs.OpenLemmas.{blank_root, format_done, format_failed, opens_without}
+use Rattle.tree_volume.proofs.VolumeLemmas.{blank_fits}
+use Rattle.tree_volume.proofs.opening.format_board.Goals as goal
+
+pub returns-in_err-blank_node-clause-opens : goal.returns-in_err-blank_node-clause-opens
+returns-in_err-blank_node-clause-opens g c honest h mounts =
+    let kept : IfErr c.from_residual.result (λ why. IsKeptFromOpening why) = search rules in
+    opens_without (g.B.Board.view c.args.board.now) _ c.from_residual.result h _ (mounts.1 (form_root NO_ROOT) blank_root) c.from_residual.ensures.0 kept
+
+pub returns-in_err-root-clause-opens : goal.returns-in_err-root-clause-opens
+returns-in_err-root-clause-opens g c honest h mounts =
+    let v = g.B.Board.view c.args.board.now in
+    let keyed : AreKeysOf c.of-keys.result (g.B.Board.view c.args.board.now).key = subst (λ (k : List ℕ). AreKeysOf c.of-keys.result k) c.key.ensures c.of-keys.ensures in
+    let kept : IfErr c.from_residual-in_err-root.result (λ why. IsKeptFromOpening why) = search rules in
+    format_failed v (g.B.Board.view c.commit.new.board) c.from_residual-in_err-root.result h mounts.0 (mounts.1 (form_root NO_ROOT) blank_root).version
+    c.from_residual-in_err-root.ensures.0 kept
+    (c.in_err-root.ensures.crash honest h (record {
+      last = mounts.0;
+      mounted = mounts.1 (form_root NO_ROOT) blank_root;
+      fits = blank_fits c.of-keys.result c.in_ok-blank_node.field-0 v.key v.state.reads keyed c.in_ok-blank_node.ensures.node;
+    }))
+
+pub returns-clause-opens : goal.returns-clause-opens
+returns-clause-opens g c honest h mounts =
+    let v = g.B.Board.view c.args.board.now in
+    let keyed : AreKeysOf c.of-keys.result (g.B.Board.view c.args.board.now).key = subst (λ (k : List ℕ). AreKeysOf c.of-keys.result k) c.key.ensures c.of-keys.ensures in
+    let mounted = mounts.1 (form_root NO_ROOT) blank_root in
+    let begun : IsBegun tree_form (λ key reads. FitsTree c.of-keys.result c.in_ok-blank_node.field-0 0 [] NO_ROOT key reads) v (form_root NO_ROOT) 0 h = record {
+      last = mounts.0;
+      mounted = mounted;
+      fits = blank_fits c.of-keys.result c.in_ok-blank_node.field-0 v.key v.state.reads keyed c.in_ok-blank_node.ensures.node;
+    } in
+    format_done v (g.B.Board.view c.commit.new.board) c.in_ok-root.root h mounts.0 mounted.version c.in_ok-root.ensures.calls.key (c.in_ok-root.ensures.crash honest h begun)
+    (c.in_ok-root.ensures.done honest h begun).0
+
+pub returns-in_err-blank_node-clause-calls : goal.returns-in_err-blank_node-clause-calls
+returns-in_err-blank_node-clause-calls g c = run_as true _ _ _ (search rules) (run_none _)
+
+pub returns-in_err-root-clause-calls : goal.returns-in_err-root-clause-calls
+returns-in_err-root-clause-calls g c = run_failed c.from_residual-in_err-root.result _ _ (search rules) c.in_err-root.ensures.calls
+
+pub returns-in_err-root-clause-cause : goal.returns-in_err-root-clause-cause
+returns-in_err-root-clause-cause g c failed = c.in_err-root.ensures.calls.cause refl
+
+pub returns-clause-calls : goal.returns-clause-calls
+returns-clause-calls g c = c.in_ok-root.ensures.calls
+
+pub returns-clause-counter : goal.returns-clause-counter
+returns-clause-counter g c honest settled = c.in_ok-root.ensures.counter honest settled

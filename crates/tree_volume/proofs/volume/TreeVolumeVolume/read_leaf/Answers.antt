@@ -1,0 +1,91 @@
+use Rattle.std.proofs.Common.{◌≡◌, ◌<◌, ◌∙◌, ℕ, true, false, List, Some, Err, refl, sym, ap, subst, arith}
+use Rattle.tee_base.proofs.Crash.{mapped}
+use Rattle.store_api.specs.Volumes.{ShowsLeaf}
+use Rattle.seal.specs.Keys.{AreKeysOf}
+use Rattle.board.specs.Moment.{moment, left_since}
+use Rattle.epoch.proofs.KeepLemmas.{crash_read, err_cause, err_undamaged, foundation_same, held_same, in_use_same, past_read, steady_read, unless_failed}
+use Rattle.epoch.specs.Forms.{held_of}
+use Rattle.tree_volume.specs.Form.{form_root, tree_form}
+use Rattle.tree_volume.specs.Frame.{form_framed}
+use Rattle.tree_volume.specs.Keeping.{held_now}
+use Rattle.tree_volume.specs.Soundness.{sound_open}
+use Rattle.tree_volume.proofs.VolumeLemmas.{damage_is, damage_same, text_is, text_same}
+use Rattle.tree_volume.proofs.volume.TreeVolumeVolume.read_leaf.Goals as goal
+
+pub returns-in-Ok-clause-reads : goal.returns-in-Ok-clause-reads
+returns-in-Ok-clause-reads g c =
+    let old = c.args.self.now in
+    let v = g.B.Board.view old.board in
+    let w = g.B.Board.view c.find_leaf.new.board in
+    let told = c.in-Ok.ensures in
+    let keyed : AreKeysOf c.of-keys.result v.key = subst (λ (k : List ℕ). AreKeysOf c.of-keys.result k) c.key.ensures c.of-keys.ensures in
+    let small : c.args.leaf < 1024 = c.requires.leaf in
+    record {
+      leaf = λ tells. told.text tells v.key keyed ∙ text_is v old.root c.args.region c.args.leaf c.requires.region small;
+      text = λ tells. text_same v w old.root told.calls.key (told.same tells);
+      same = λ h. held_same tree_form form_framed v w (form_root old.root) old.sequence told.calls.key (told.honest h.0).1.state.reads;
+      sequence = refl;
+      writes = told.writes;
+      shows = λ tells. sym (damage_is v old.root c.args.region c.args.leaf c.requires.region small) ∙ told.damage tells v.key keyed;
+      damage = λ tells. damage_same v w old.root told.calls.key (told.same tells);
+      call = record {
+        cause = record { cause = (c.if-self.false, c.if-self.false); later = told.calls.faults; unfailed = told.calls.steady refl; foundation = foundation_same v w told.calls };
+        below = λ b. (told.honest b).0;
+        honest = λ h. (
+          (
+            (told.honest h.0).0,
+            λ live. in_use_same tree_form form_framed v w (form_root old.root) old.sequence told.calls.key (told.honest h.0).1.state (h.1 c.if-self.false),
+            steady_read tree_form form_framed v w (form_root old.root) told.calls.key (told.honest h.0).1.state h.2,
+          ),
+          tt,
+        );
+        quiet = λ lost. absurd (let f : true ≡ false = sym lost ∙ c.if-self.false in cc);
+        past = λ h. past_read tree_form v w told.calls.key (told.honest h.0).1.past;
+      };
+      crash = λ h live. mapped moment left_since (λ x. g.B.Board.view x.board) (λ x. held_of tree_form (g.B.Board.view x.board).key) _ _ (λ o. o ≡ Some (held_now v old.root old.sequence))
+          (λ o. ap (λ (k : List ℕ). held_of tree_form k o) told.calls.key)
+          (crash_read tree_form form_framed v w (form_root old.root) old.sequence (h.1 live) told.calls.key (told.honest h.0).1);
+    }
+
+pub returns-in-Err-clause-reads : goal.returns-in-Err-clause-reads
+returns-in-Err-clause-reads g c =
+    let old = c.args.self.now in
+    let v = g.B.Board.view old.board in
+    let w = g.B.Board.view c.find_leaf.new.board in
+    let told = c.in-Err.ensures in
+    let keyed : AreKeysOf c.of-keys.result v.key = subst (λ (k : List ℕ). AreKeysOf c.of-keys.result k) c.key.ensures c.of-keys.ensures in
+    let small : c.args.leaf < 1024 = c.requires.leaf in
+    let damage = damage_is v old.root c.args.region c.args.leaf c.requires.region small in
+    record {
+      leaf = λ tells. tt;
+      text = λ tells. text_same v w old.root told.calls.key (told.same tells);
+      same = λ h. held_same tree_form form_framed v w (form_root old.root) old.sequence told.calls.key (told.honest h.0).1.state.reads;
+      sequence = refl;
+      writes = told.writes;
+      shows = λ tells. subst (ShowsLeaf {A = Unit {0}} (Err c.in-Err.answer)) damage (told.damage tells v.key keyed);
+      damage = λ tells. damage_same v w old.root told.calls.key (told.same tells);
+      call = record {
+        cause = record {
+          cause = err_cause (Unit {0}) c.in-Err.answer _ _ c.if-self.false c.is_failed-self.ensures (λ e. told.cause (ap Err e)) (λ e. told.answer.0 (ap Err e)) (told.tags v.key keyed);
+          later = told.calls.faults;
+          unfailed = unless_failed (Unit {0}) c.in-Err.answer _ (λ made. told.calls.steady made);
+          foundation = foundation_same v w told.calls;
+        };
+        below = λ b. (told.honest b).0;
+        honest = λ h.
+            let tells = g.met.B.Board.honest_reads old.board h.0 in
+            let is = h.1 c.if-self.false in (
+              (
+                (told.honest h.0).0,
+                λ live. in_use_same tree_form form_framed v w (form_root old.root) old.sequence told.calls.key (told.honest h.0).1.state is,
+                steady_read tree_form form_framed v w (form_root old.root) told.calls.key (told.honest h.0).1.state h.2,
+              ),
+              err_undamaged (Unit {0}) (Unit {0}) c.in-Err.answer _ (told.damage tells v.key keyed) (damage ∙ sound_open v old.root old.sequence is c.args.region c.args.leaf),
+            );
+        quiet = λ lost. absurd (let f : true ≡ false = sym lost ∙ c.if-self.false in cc);
+        past = λ h. past_read tree_form v w told.calls.key (told.honest h.0).1.past;
+      };
+      crash = λ h live. mapped moment left_since (λ x. g.B.Board.view x.board) (λ x. held_of tree_form (g.B.Board.view x.board).key) _ _ (λ o. o ≡ Some (held_now v old.root old.sequence))
+          (λ o. ap (λ (k : List ℕ). held_of tree_form k o) told.calls.key)
+          (crash_read tree_form form_framed v w (form_root old.root) old.sequence (h.1 live) told.calls.key (told.honest h.0).1);
+    }

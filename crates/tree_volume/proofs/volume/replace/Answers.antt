@@ -1,0 +1,167 @@
+use Rattle.std.proofs.Common.{Result, Ok, All, ◌≡◌, ◌≤◌, ◌<◌, ◌+◌, ◌*◌, ◌∙◌, ℕ, List, Some, length, refl, sym, ap, subst, true, false, arith, rules, Err}
+use Rattle.std.proofs.lemmas.Bool.{false≢true}
+use Rattle.std.proofs.lemmas.Result.{err_from_is_err_and}
+use Rattle.store_api.specs.Ascending.{is_above_all}
+use Rattle.store_api.specs.declared.leaves.Leaf.{Leaf}
+use Rattle.store_api.specs.declared.leaves.LeafAnswer.{LeafAnswer}
+use Rattle.store_api.specs.declared.leaves.LeafAnswer.TheVariants as answers
+use Rattle.store_api.specs.Volumes.{Held, IfMismatch, after_commit}
+use Rattle.seal.specs.Keys.{AreKeysOf}
+use Rattle.epoch.specs.Commits.{IsBegun, IsSteady}
+use Rattle.epoch.specs.Reading.{no_fault}
+use Rattle.epoch.proofs.CallLemmas.{run_as, run_more}
+use Rattle.epoch.proofs.CommitLemmas.{on_err}
+use Rattle.epoch.proofs.KeepLemmas.{commit_crash, held_same, in_use_same, leaves_held, mounted_held, mounted_in_use}
+use Rattle.epoch.proofs.PastLemmas.{followed}
+use Rattle.epoch.proofs.SettledLemmas.{steady_rests}
+use Rattle.tree_volume.specs.Change.{FitsTree}
+use Rattle.tree_volume.specs.Form.{form_root, tree_form}
+use Rattle.tree_volume.specs.Frame.{form_framed}
+use Rattle.epoch.specs.Forms.{Root}
+use Rattle.epoch.specs.declared.header.TreeEntry.{TreeEntry}
+use Rattle.tree_volume.specs.Gather.{named}
+use Rattle.tree_volume.specs.Keeping.{IsOpen, Replaces, damage_now, held_now}
+use Rattle.tree_volume.specs.Sealed.{AreSealed}
+use Rattle.tree_volume.specs.Shape.{shape}
+use Rattle.tree_volume.specs.declared.touched.Node.{Node}
+use Rattle.tree_volume.specs.declared.touched.Touched.{Touched}
+use Rattle.tree_volume.specs.declared.volume.Opened.{Opened}
+use Rattle.tree_volume.proofs.GatherLemmas.{gathered}
+use Rattle.tree_volume.specs.Made.{IsMade}
+use Rattle.tree_volume.proofs.VolumeLemmas.{above_all, read_replaces, told_damage, true_as}
+use Rattle.tree_volume.proofs.volume.replace.Goals as goal
+
+pub returns-in_err-gather-clause-damage : goal.returns-in_err-gather-clause-damage
+returns-in_err-gather-clause-damage g c tells =
+    let v = g.B.Board.view c.args.board.now in
+    let mid = g.B.Board.view c.gather.new.board in
+    let e : LeafAnswer = c.in_err-gather.field-0.0 in
+    let told = c.in_err-gather.ensures in
+    let keyed : AreKeysOf c.of-keys.result v.key = subst (λ (k : List ℕ). AreKeysOf c.of-keys.result k) c.key.ensures c.of-keys.ensures in
+    let is_err : c.from_residual.result ≡ Err c.in_err-gather.field-0.0 = search rules in
+    let all : All (λ (leaf : Leaf). leaf.number < 1024) c.as_slice.result.now
+    = above_all c.as_slice.result.now 1024 1024 (subst (λ (l : List Leaf). is_above_all l 1024 ≡ true) (sym c.as_slice.ensures.leaves) c.requires.inside) (omega arith) in
+    subst (λ (r : Result Opened LeafAnswer). IfMismatch r (λ tags. (l : ℕ) × (l < 1024) × (damage_now mid c.args.opened.root c.args.region l ≡ Some tags))) (sym is_err)
+    (told_damage Touched Opened e v mid c.args.opened.root c.args.region c.requires.region told.calls.key (told.same tells)
+    (told.damage tells v.key keyed 1024 (omega arith) (omega arith) all))
+
+pub returns-in_err-gather-clause-replaced : goal.returns-in_err-gather-clause-replaced
+returns-in_err-gather-clause-replaced g c h is =
+    let v = g.B.Board.view c.args.board.now in
+    let mid = g.B.Board.view c.gather.new.board in
+    let e : LeafAnswer = c.in_err-gather.field-0.0 in
+    let told = c.in_err-gather.ensures in
+    let keyed : AreKeysOf c.of-keys.result v.key = subst (λ (k : List ℕ). AreKeysOf c.of-keys.result k) c.key.ensures c.of-keys.ensures in
+    let is_err : c.from_residual.result ≡ Err c.in_err-gather.field-0.0 = search rules in
+    let all : All (λ (leaf : Leaf). leaf.number < 1024) c.as_slice.result.now
+    = above_all c.as_slice.result.now 1024 1024 (subst (λ (l : List Leaf). is_above_all l 1024 ≡ true) (sym c.as_slice.ensures.leaves) c.requires.inside) (omega arith) in
+    let tells = g.met.B.Board.honest_reads c.args.board.now h in
+    subst (λ (r : Result Opened LeafAnswer). Replaces c.args.region c.args.leaves.now r c.args.opened v mid) (sym is_err)
+    (read_replaces c.args.region c.args.leaves.now e c.args.opened v mid is told.calls.key (told.honest h).1 c.requires.region
+    (told.damage tells v.key keyed 1024 (omega arith) (omega arith) all))
+
+pub invariant_of-change : goal.invariant_of-change
+invariant_of-change g c = record {
+  gathered = gathered shape c.in_ok-gather.field-0 c.in_ok-gather.ensures.ordered;
+  within = c.requires.region;
+  inside = subst (λ (l : List Leaf). is_above_all l 1024 ≡ true) (sym c.as_slice-2.ensures.leaves) c.requires.inside;
+}
+
+pub returns-in-Ok-clause-past : goal.returns-in-Ok-clause-past
+returns-in-Ok-clause-past g c h =
+    let read = c.in_ok-gather.ensures.honest h in
+    followed _ _ _ read.1.past (c.in-Ok.ensures.past read.0)
+
+pub returns-clause-past : goal.returns-clause-past
+returns-clause-past g c h =
+    let read = c.in_ok-gather.ensures.honest h in
+    followed _ _ _ read.1.past (c.in-Err.ensures.past read.0)
+
+pub returns-in-Ok-clause-made : goal.returns-in-Ok-clause-made
+returns-in-Ok-clause-made g c =
+    let v = g.B.Board.view c.args.board.now in
+    let told = c.in_ok-gather.ensures in
+    let keyed : AreKeysOf c.of-keys.result v.key = subst (λ (k : List ℕ). AreKeysOf c.of-keys.result k) c.key.ensures c.of-keys.ensures in
+    let few : length c.in_ok-gather.field-0 ≤ 2 * length c.as_slice.result.now + 6 = told.count in
+    let long : length c.as_slice.result.now ≡ length c.args.leaves.now = ap length c.as_slice.ensures.leaves in
+    record {
+      nodes = c.in_ok-gather.field-0;
+      few = omega (arith, few, long);
+      here = λ l below. told.leaves l below ∙ ap (λ (ls : List Leaf). named ls l) c.as_slice.ensures.leaves;
+      elsewhere = told.elsewhere;
+      stood = λ tells. told.nodes tells v.key keyed;
+      sealed = subst (AreSealed shape 4 v.key (c.args.opened.sequence + 1) c.in_ok-gather.field-0) (ap (λ (r : Root). r.entry) c.in-Ok.ensures.root)
+          (c.in-Ok.ensures.entries v.key keyed told.ordered);
+    }
+
+pub returns-in-Ok-clause-replaced : goal.returns-in-Ok-clause-replaced
+returns-in-Ok-clause-replaced g c h is =
+    let v = g.B.Board.view c.args.board.now in
+    let mid = g.B.Board.view c.gather.new.board in
+    let new = g.B.Board.view c.commit.new.board in
+    let root : TreeEntry = c.args.opened.root in
+    let sequence : ℕ = c.args.opened.sequence in
+    let told = c.in_ok-gather.ensures in
+    let read = told.honest h in
+    let tells = g.met.B.Board.honest_reads c.args.board.now h in
+    let keyed : AreKeysOf c.of-keys.result v.key = subst (λ (k : List ℕ). AreKeysOf c.of-keys.result k) c.key.ensures c.of-keys.ensures in
+    let touched : List Node = c.in_ok-gather.field-0 in
+    let leaves : List Leaf = c.as_slice-2.result.now in
+    let fits : FitsTree c.of-keys.result touched c.args.region leaves root mid.key mid.state.reads = record {
+      keyed = subst (λ (k : List ℕ). AreKeysOf c.of-keys.result k) (sym told.calls.key) keyed;
+      ordered = told.ordered;
+      here = λ l below. told.leaves l below ∙ ap (λ (ls : List Leaf). named ls l) (c.as_slice.ensures.leaves ∙ sym c.as_slice-2.ensures.leaves);
+      elsewhere = told.elsewhere;
+      stands = true_as v mid root touched told.calls.key read.1.state.reads (told.nodes tells v.key keyed);
+    } in
+    let is' : IsOpen mid root sequence = in_use_same tree_form form_framed v mid (form_root root) sequence told.calls.key read.1.state is in
+    let before : Held = held_now mid root sequence in
+    let begins : IsBegun tree_form (λ key reads. FitsTree c.of-keys.result touched c.args.region leaves root key reads) mid (form_root root) sequence before
+    = record { last = refl; mounted = is'; fits = fits } in
+    let after : Held = after_commit c.args.region leaves before in
+    let held = held_same tree_form form_framed v mid (form_root root) sequence told.calls.key read.1.state.reads in
+    let done = c.in-Ok.ensures.done read.0 before begins in
+    subst (λ (l : List Leaf). Replaces c.args.region l (Ok (record { root = c.in-Ok.root; sequence = sequence + 1 })) c.args.opened v new) c.as_slice-2.ensures.leaves (record {
+      undamaged = tt;
+      stays = mounted_in_use tree_form form_framed new mid.key (form_root c.in-Ok.root) after c.in-Ok.ensures.calls.key done.0;
+      steady = steady_rests tree_form new.key (form_root c.in-Ok.root) new.state done.0.rests.pending;
+      commits = (
+        mounted_held tree_form form_framed new mid.key (form_root c.in-Ok.root) after c.in-Ok.ensures.calls.key done.0 ∙ ap (after_commit c.args.region leaves) held,
+        refl,
+      );
+      crash = commit_crash tree_form form_framed v mid new (form_root root) sequence c.args.region leaves is told.calls.key read.1 (c.in-Ok.ensures.crash read.0 before begins);
+    })
+
+pub returns-clause-replaced : goal.returns-clause-replaced
+returns-clause-replaced g c h is =
+    let v = g.B.Board.view c.args.board.now in
+    let mid = g.B.Board.view c.gather.new.board in
+    let new = g.B.Board.view c.commit.new.board in
+    let root : TreeEntry = c.args.opened.root in
+    let sequence : ℕ = c.args.opened.sequence in
+    let told = c.in_ok-gather.ensures in
+    let read = told.honest h in
+    let tells = g.met.B.Board.honest_reads c.args.board.now h in
+    let keyed : AreKeysOf c.of-keys.result v.key = subst (λ (k : List ℕ). AreKeysOf c.of-keys.result k) c.key.ensures c.of-keys.ensures in
+    let touched : List Node = c.in_ok-gather.field-0 in
+    let leaves : List Leaf = c.as_slice-2.result.now in
+    let fits : FitsTree c.of-keys.result touched c.args.region leaves root mid.key mid.state.reads = record {
+      keyed = subst (λ (k : List ℕ). AreKeysOf c.of-keys.result k) (sym told.calls.key) keyed;
+      ordered = told.ordered;
+      here = λ l below. told.leaves l below ∙ ap (λ (ls : List Leaf). named ls l) (c.as_slice.ensures.leaves ∙ sym c.as_slice-2.ensures.leaves);
+      elsewhere = told.elsewhere;
+      stands = true_as v mid root touched told.calls.key read.1.state.reads (told.nodes tells v.key keyed);
+    } in
+    let is' : IsOpen mid root sequence = in_use_same tree_form form_framed v mid (form_root root) sequence told.calls.key read.1.state is in
+    let before : Held = held_now mid root sequence in
+    let begins : IsBegun tree_form (λ key reads. FitsTree c.of-keys.result touched c.args.region leaves root key reads) mid (form_root root) sequence before
+    = record { last = refl; mounted = is'; fits = fits } in
+    let after : Held = after_commit c.args.region leaves before in
+    let held = held_same tree_form form_framed v mid (form_root root) sequence told.calls.key read.1.state.reads in
+    subst (λ (l : List Leaf). Replaces c.args.region l (Err answers.Failed) c.args.opened v new) c.as_slice-2.ensures.leaves (record {
+      undamaged = tt;
+      stays = tt;
+      steady = subst (λ (k : List ℕ). IsSteady tree_form k (form_root root) new.state) (sym c.in-Err.ensures.calls.key) (c.in-Err.ensures.steady read.0 before begins);
+      commits = leaves_held tree_form form_framed new mid.key (form_root root) before c.in-Err.ensures.calls.key (c.in-Err.ensures.kept read.0 before begins) refl ∙ held;
+      crash = commit_crash tree_form form_framed v mid new (form_root root) sequence c.args.region leaves is told.calls.key read.1 (c.in-Err.ensures.crash read.0 before begins);
+    })

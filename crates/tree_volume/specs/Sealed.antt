@@ -1,0 +1,29 @@
+-- What a commit seals of the nodes that it touches.
+use Rattle.std.specs.Prelude.{◌≡◌, ◌<◌, ℕ, ◌*◌, ◌==◌, if◌then◌else◌, List, Some, None, IsSome}
+use Rattle.seal.specs.Sealing.{seal_vector}
+use Rattle.epoch.specs.Header.{entry_at}
+use Rattle.epoch.specs.declared.header.TreeEntry.{TreeEntry}
+use Rattle.tree_volume.specs.declared.places.TheConstants.{ENTRY_BYTES}
+use Rattle.tree_volume.specs.declared.touched.Node.{Node}
+use Rattle.tree_volume.specs.Shape.{Shape}
+use Rattle.tree_volume.specs.Touched.{fresh_of}
+
+-- the entry of a place is sealed for this sequence, with the stated vector of these bytes
+pub record IsSealedFor (key : List ℕ) (place number : ℕ) (plain : List ℕ) (entry : TreeEntry) : Type 0 where
+  pub sequence : entry.sequence ≡ number
+  pub vector : entry.iv ≡ seal_vector key place number plain
+
+-- the entry of a place under a root, where each node has these bytes
+abbrev pub entry_by : Shape → (ℕ → List ℕ) → TreeEntry → ℕ → TreeEntry
+entry_by s texts root place =
+    if place == 0 then root else entry_at (ENTRY_BYTES * s.slot place) (texts (s.parent place))
+
+-- these nodes were sealed for a sequence, under a root: each is as it was but for the entries of the others
+pub record AreSealed (s : Shape) (depth : ℕ) (key : List ℕ) (sequence : ℕ) (nodes : List Node) (root : TreeEntry) : Type 0 where
+  -- the bytes that each was sealed with
+  pub texts : ℕ → List ℕ
+  pub sealed : (p : ℕ) → IsSome (fresh_of nodes p) → IsSealedFor key p sequence (texts p) (entry_by s texts root p)
+  pub leaves : (p : ℕ) (t : List ℕ) → s.level p ≡ depth → fresh_of nodes p ≡ Some t → texts p ≡ t
+  -- what isn't among them keeps its entry
+  pub others : (t : List ℕ) (q : ℕ) → 0 < q → fresh_of nodes (s.parent q) ≡ Some t → fresh_of nodes q ≡ None
+      → entry_at (ENTRY_BYTES * s.slot q) (texts (s.parent q)) ≡ entry_at (ENTRY_BYTES * s.slot q) t
