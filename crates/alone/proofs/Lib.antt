@@ -14,6 +14,7 @@ pub mod Gone
 pub mod Kept
 pub mod KeptByCalls
 pub mod Lists
+pub mod LogLemmas
 pub mod Marked
 pub mod Measure
 pub mod Opened

@@ -3,8 +3,10 @@ pub mod Asks
 pub mod Crypto
 pub mod Families
 pub mod InList
+pub mod KeptLogs
 pub mod Kinds
 pub mod Laws
+pub mod Logs
 pub mod Machine
 pub mod Marks
 pub mod Places

@@ -4,10 +4,13 @@
 
 mod active_entry;
 mod answering;
+mod copies;
 mod delivery;
 mod entries;
 mod family;
 mod laws;
+mod log;
+mod log_entry;
 mod place;
 mod places;
 mod power;
@@ -18,6 +21,7 @@ mod validity;
 pub use active_entry::{ActiveEntry, EntryPoint, Instance, Waits};
 pub use answering::{call_lines_are_answered, operations_are_few};
 pub use app_api::Call;
+pub use copies::{copy_call, copy_params};
 pub use delivery::{deliver, is_misuse, places_of};
 pub use entries::{destroy_entry, first_entry, returned, start_entry};
 pub use family::{Family, family_of};
@@ -25,6 +29,8 @@ pub use laws::{
     boots_stay, calls_leave_the_storage, few_are_born, turns_are_counted, turns_leave_the_doubt,
     turns_without_the_store,
 };
+pub use log::AppLog;
+pub use log_entry::{LogEntry, LogEvent, call_bytes, params_bytes};
 pub use object_asks::Ending;
 pub use place::place_of;
 pub use places::{OutputSlot, Places};

@@ -1,12 +1,14 @@
 //! Replies to client operations.
 
-ghost use Rattle.std.specs.Prelude.{◌≡◌, ◌<◌, ◌++◌, ◌↔◌, [], ◌∷◌, IsTrue, length};
+ghost use Rattle.std.specs.Prelude.{◌≡◌, ◌+◌, ◌<◌, ◌≤◌, ◌++◌, ◌↔◌, [], ◌∷◌, IfOk, IsTrue, length, vec_capacity, vec_len};
+ghost use Rattle.alone.specs.declared.reply.TheConstants.{REPLIES};
 ghost use Rattle.alone.specs.Replies.{no_outputs};
 
 use arrayvec::ArrayVec;
+use std::alloc::Global;
 use std::default::Default;
 use std::marker::Model;
-use tee_base::{Bytes, Code, Origin};
+use tee_base::{Bytes, Code, NoMemory, Origin};
 
 /// What a client is shown of one output parameter.
 #[derive(Debug, Drop)]
@@ -17,6 +19,23 @@ pub enum Shown {
     Mem { size: u32, bytes: Bytes },
     /// A memory output of this size, of which no byte was delivered.
     Size(u32),
+}
+
+impl Shown {
+    /// Another of the same.
+    pub fn copy(&self, alloc: Global) -> Result<Shown, NoMemory>
+        ensures { IfOk result (λ copy. copy ≡ self.now) }
+    {
+        Ok(match self {
+            Shown::Nothing => Shown::Nothing,
+            Shown::Value(a, b) => Shown::Value(*a, *b),
+            Shown::Mem { size, bytes } => Shown::Mem {
+                size: *size,
+                bytes: bytes.copy(alloc)?,
+            },
+            Shown::Size(size) => Shown::Size(*size),
+        })
+    }
 }
 
 /// What a client is shown of the four parameters.
@@ -40,6 +59,18 @@ impl Outputs {
             p3: Shown::Nothing,
         }
     }
+
+    /// Another of the same.
+    pub fn copy(&self, alloc: Global) -> Result<Outputs, NoMemory>
+        ensures { IfOk result (λ copy. copy ≡ self.now) }
+    {
+        Ok(Outputs {
+            p0: self.p0.copy(alloc)?,
+            p1: self.p1.copy(alloc)?,
+            p2: self.p2.copy(alloc)?,
+            p3: self.p3.copy(alloc)?,
+        })
+    }
 }
 
 /// The reply to the client operation of this number.
@@ -49,6 +80,20 @@ pub struct Reply {
     pub code: Code,
     pub origin: Origin,
     pub outputs: Outputs,
+}
+
+impl Reply {
+    /// Another of the same.
+    pub fn copy(&self, alloc: Global) -> Result<Reply, NoMemory>
+        ensures { IfOk result (λ copy. copy ≡ self.now) }
+    {
+        Ok(Reply {
+            op: self.op,
+            code: self.code,
+            origin: self.origin,
+            outputs: self.outputs.copy(alloc)?,
+        })
+    }
 }
 
 impl Default for Reply {
@@ -114,14 +159,43 @@ impl Replies {
     }
 
     pub fn len(&self) -> usize
-        ensures { result ≡ length self.now }
+        ensures value { result ≡ length self.now }
+        ensures few { result ≤ REPLIES }
     {
         self.items.len()
+    }
+
+    /// A law: no event has more replies.
+    pub fn bounds(&self)
+        ensures { length self.now ≤ REPLIES }
+    {
+        let _count = self.len();
+    }
+
+    /// Moves the replies to the end of a list that has room for them. It takes no memory.
+    pub fn append_to(mut self, into: &mut Vec<Reply>)
+        requires { vec_len into.old + length self ≤ vec_capacity into.old }
+        ensures items { into.new.items ≡ into.old.items ++ self }
+        ensures capacity { vec_capacity into.new ≡ vec_capacity into.old }
+    {
+        move_all(&mut self.items, into);
     }
 
     pub fn is_empty(&self) -> bool
         ensures { IsTrue result ↔ (self.now ≡ []) }
     {
         self.items.is_empty()
+    }
+}
+
+/// Moves all of them, in order.
+fn move_all(items: &mut ArrayVec<Reply, 24>, into: &mut Vec<Reply>)
+    requires { vec_len into.old + length items.old.items ≤ vec_capacity into.old }
+    ensures items { into.new.items ≡ into.old.items ++ items.old.items }
+    ensures capacity { vec_capacity into.new ≡ vec_capacity into.old }
+{
+    for place in 0..items.len() {
+        let first = items.remove(0);
+        into.push_reserved(first);
     }
 }

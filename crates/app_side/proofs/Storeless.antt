@@ -1,6 +1,6 @@
 -- A turn that needs no store, over one that serves nothing, is that turn over any.
 use Rattle.app_api.specs.Behaviours.{Behaviour}
-use Rattle.std.proofs.Common.{ℕ, ◌≡◌, ◌+◌, ◌-◌, ◌^◌, ◌<◌, ◌∙◌, Bool, true, false, List, [], Result, IfOk, ⊎_elim, ap, subst, refl, arith}
+use Rattle.std.proofs.Common.{ℕ, ◌≡◌, ◌+◌, ◌-◌, ◌^◌, ◌<◌, ◌∙◌, Bool, true, false, List, [], Result, IfOk, ⊎_elim, ap, subst, refl, sym, arith}
 use Rattle.tee_base.specs.Faults.{Rose}
 use Rattle.store_api.specs.declared.answer.StoreAnswer.{StoreAnswer}
 use Rattle.store_api.specs.declared.change.Change.{Change}
@@ -12,9 +12,10 @@ use Rattle.store_api.proofs.Named.{are_none}
 use Rattle.alone.specs.declared.reply.Reply.{Reply}
 use Rattle.alone.specs.declared.turn.TurnKind.{TurnKind}
 use Rattle.alone.specs.declared.turn.TurnKind.TheVariants.{Plain, Lost, Starved, Corrupted}
-use Rattle.alone.specs.Laws.{step_with_store, with_store}
+use Rattle.alone.specs.Laws.{StorageStays, step_with_store, with_store}
 use Rattle.alone.specs.Machine.{Machine}
 use Rattle.alone.specs.Step.{Stepped, is_enabled, needs_store, step}
+use Rattle.alone.proofs.Storage.{turn_leaves_doubt}
 use Rattle.alone.proofs.WithoutStore.{turned_over}
 use Rattle.app_side.specs.declared.side.AppSide.{AppSide}
 use Rattle.app_side.specs.Represents.{Represents, event_of, is_lost}
@@ -152,3 +153,26 @@ module _ {A : Type 0} (behaviour : Behaviour A) (i : ℕ) (replies : List Reply)
   stays_lost Starved turn is same = turn.lost ∙ turn.status.cause ∙ same
   stays_lost (Lost changes) turn is same = absurd is
   stays_lost Corrupted turn is same = absurd is
+
+  -- the storage is as it was
+  store_stays : (kind : TurnKind) → IsStoreless kind → (m : Machine A) → needs_store m i ≡ false → (step behaviour m (event_of kind i)).machine.store ≡ m.store
+  store_stays Plain is m none = ap (λ (s : Stepped A). s.machine.store) (turned_over m.store behaviour m i none)
+  store_stays Starved is m none = refl
+  store_stays (Lost changes) is m none = absurd is
+  store_stays Corrupted is m none = absurd is
+
+  doubt_stays : (kind : TurnKind) → IsStoreless kind → (m : Machine A) → (step behaviour m (event_of kind i)).machine.in_doubt ≡ m.in_doubt
+  doubt_stays Plain is m = turn_leaves_doubt behaviour m i
+  doubt_stays Starved is m = refl
+  doubt_stays (Lost changes) is m = absurd is
+  doubt_stays Corrupted is m = absurd is
+
+  pub storage_is : (kind : TurnKind) → Turn kind → IsStoreless kind → wants_store before i ≡ false → old.lost ≡ is_lost before → (m : Machine A) → Represents before m
+      → StorageStays m (step behaviour m (event_of kind i)).machine
+  storage_is kind turn is storeless same_loss m stands = record {
+    store = store_stays kind is m (needs m stands storeless);
+    in_doubt = doubt_stays kind is m;
+    lost =
+        ap (λ (x : Machine A). x.lost) (step_is kind turn is storeless m stands).parts ∙ stays_lost kind turn is same_loss
+        ∙ sym (ap (λ (x : Machine A). x.lost) stands.parts);
+  }

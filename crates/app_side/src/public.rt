@@ -3,7 +3,7 @@
 ghost use Rattle.std.specs.Prelude.{◌≡◌, ◌<◌, ◌^◌, ◌+◌, ◌-◌, [], IfOk, OnErr, false, is_some, true};
 ghost use Rattle.store_api.specs.Stores.{Store};
 ghost use Rattle.object_asks.specs.Serving.{TriesOnce};
-ghost use Rattle.alone.specs.Laws.{live};
+ghost use Rattle.alone.specs.Laws.{StorageStays, live};
 ghost use Rattle.alone.specs.Machine.{Machine, start};
 ghost use Rattle.alone.specs.Step.{called, cancelled, is_answered, is_changing, is_enabled, step, torn_down, Cancelled, Lost, Restarted, Starved};
 ghost use Rattle.app_side.specs.Represents.{boot_of, event_of, has_doubt, is_lost, turns_of, Represents};
@@ -176,6 +176,8 @@ impl<A: Application> AppSide<A> {
             → Represents self.new (step A.behaviour m (event_of result.kind instance)).machine }
         ensures told { (m : Machine A) → Represents self.old m
             → result.replies ≡ (step A.behaviour m (event_of result.kind instance)).replies }
+        ensures storage { (m : Machine A) → Represents self.old m
+            → StorageStays m (step A.behaviour m (event_of result.kind instance)).machine }
         ensures lost { is_lost self.new ≡ is_lost self.old }
     {
         let mut store = NoStore::new(self.lost);

@@ -1,5 +1,5 @@
 use Rattle.app_side.specs.Storeless.{IsStoreless}
-use Rattle.app_side.proofs.Storeless.{kind_is, stands_is, step_is, stays_lost, told_is}
+use Rattle.app_side.proofs.Storeless.{kind_is, stands_is, step_is, stays_lost, storage_is, told_is}
 use Rattle.app_side.proofs.side.AppSide.turn_without_store.Goals as goal
 
 pub returns-clause-kind : goal.returns-clause-kind
@@ -37,3 +37,11 @@ returns-clause-lost g c =
     c.turn-turned.new.store kind c.turn-turned.ensures.turn c.bounds.ensures.faults c.bounds.ensures.damage in
     stays_lost g.A.Application.behaviour c.args.instance c.turn-turned.result.replies c.args.self.now c.turn-turned.new.self c.new-store.result c.turn-turned.new.store kind
     c.turn-turned.ensures.turn storeless c.new-store.ensures.lost
+
+pub returns-clause-storage : goal.returns-clause-storage
+returns-clause-storage g c =
+    let kind = c.turn-turned.result.kind in
+    let storeless : IsStoreless kind = kind_is g.A.Application.behaviour c.args.instance c.turn-turned.result.replies c.args.self.now c.turn-turned.new.self c.new-store.result
+    c.turn-turned.new.store kind c.turn-turned.ensures.turn c.bounds.ensures.faults c.bounds.ensures.damage in
+    storage_is g.A.Application.behaviour c.args.instance c.turn-turned.result.replies c.args.self.now c.turn-turned.new.self c.new-store.result c.turn-turned.new.store kind
+    c.turn-turned.ensures.turn storeless c.requires.storeless c.new-store.ensures.lost
