@@ -9,10 +9,9 @@ use Rattle.board.specs.Moment.{IsLeft, Moment, Outcome, View, WasLeft, left_sinc
 use Rattle.board.specs.Runs.{Rests}
 use Rattle.board.specs.Steps.{CallRun}
 use Rattle.epoch.specs.Forms.{Form, held, held_of}
-use Rattle.epoch.specs.Mounts.{LeavesOpening, after_opening, opened_by}
+use Rattle.epoch.specs.Mounts.{IsOpenedTo, LeavesOpening, LeftByOpening}
+use Rattle.epoch.proofs.MountLemmas.{opening_keeps}
 use Rattle.epoch.specs.Opening.{opening_of}
-use Rattle.epoch.specs.declared.answer.OpenAnswer.{OpenAnswer}
-use Rattle.epoch.specs.declared.rule.Found.{Found}
 use Rattle.object_dir.specs.Regions.{region_in}
 use Rattle.region_plan.specs.Layout.{version_one}
 use Rattle.region_plan.specs.Regions.{region_of}
@@ -51,22 +50,17 @@ turns_started r (host ∷ hosts) seed stores (s ∷ ss) are (suc app) = turns_st
 
 -- ---- what is held then
 
-leaves_opened : (r : Result (Option Found) OpenAnswer) (h : Held) → (opened_by r h).leaves ≡ h.leaves
-leaves_opened (Ok None) h = refl
-leaves_opened (Ok (Some found)) h = refl
-leaves_opened (Err answer) h = refl
-
 module _ {V A : Type 0} (K : VolumeKeeper V) (rests : (v : V) → K.honest v → (K.condition v).lost ≡ false → RestsAt K v (K.held v))
     (f : Form) (view : View) (n : ℕ) (h : Held) (hosts : List (Host A)) (seed : List ℕ) (stores : ℕ → Store)
-    (sound : IsSoundFor f view n h (length hosts) stores) where
-  same_region : (app : ℕ) → region_in app (after_opening f view h) ≡ region_in app h
-  same_region app = ap (λ (leaves : ℕ → ℕ → List ℕ). region_of version_one (leaves app)) (leaves_opened (opening_of f.version view.key view.state.reads view.state.counter) h)
+    (sound : IsSoundFor f view n h (length hosts) stores) (after : Held) (makes : IsOpenedTo f view h after) where
+  same_region : (app : ℕ) → region_in app after ≡ region_in app h
+  same_region app = ap (λ (leaves : ℕ → ℕ → List ℕ). region_of version_one (leaves app)) (opening_keeps f (opening_of f.known view.key view.state.reads view.state.counter) h after makes)
 
-  stores_after : HoldsStores none_kept (world_of hosts seed stores) (after_opening f view h)
-  stores_after = stores_started 0 hosts seed stores (after_opening f view h) (λ app lt. same_region app ∙ sound.stand app (omega (arith, lt)))
+  stores_after : HoldsStores none_kept (world_of hosts seed stores) after
+  stores_after = stores_started 0 hosts seed stores after (λ app lt. same_region app ∙ sound.stand app (omega (arith, lt)))
 
   -- the world begins over what was opened
-  pub stand_opened : (sides : List (AppSide A)) (volume : V) → AreSides sides (world_of hosts seed stores) → K.honest volume → K.held volume ≡ after_opening f view h →
+  pub stand_opened : (sides : List (AppSide A)) (volume : V) → AreSides sides (world_of hosts seed stores) → K.honest volume → K.held volume ≡ after →
       (K.condition volume).lost ≡ false
       → StandFor K sides volume (world_of hosts seed stores)
   stand_opened sides volume are honest held works =
@@ -104,7 +98,7 @@ run_of_none view = record {
 -- a crash leaves what it holds
 pub leaves_resting : (f : Form) (view : View) (n : ℕ) (h : Held) → Rests n view.state → held f view.key view.state.reads n ≡ Some h → LeavesOpening f h view view
 leaves_resting f view n h rests is =
-    started moment left_since view (λ c. (held_of f view.key c ≡ Some h) ⊎ (held_of f view.key c ≡ Some (after_opening f view h))) (λ c was.
+    started moment left_since view (LeftByOpening f h view) (λ c was.
     let left : IsLeft view.state c = ⊎_elim (λ (x : IsLeft view.state c). x) (λ (w : WasLeft view.past (moment view) c). absurd (none_now view.past (moment view) c (omega arith) w)) was in
     let image : (k : ℕ) → c.image k ≡ view.state.reads k = λ k. left.kept k (rests.pending k) ∙ sym (rests.as_read k) in
     let whole : c.image ≡ view.state.reads = λ i k. image k i in

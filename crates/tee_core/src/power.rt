@@ -4,7 +4,7 @@ ghost use Rattle.std.specs.Prelude.{◌≡◌, ◌≢◌, ◌≤◌, ◌<◌, �
 ghost use Rattle.app_api.specs.Hosts.{HostsFit};
 ghost use Rattle.tee_base.specs.Crash.{LeavesOnly};
 ghost use Rattle.tee_base.specs.Faults.{Rose};
-ghost use Rattle.tee_base.specs.declared.limits.TheConstants.{BOARD_BLOCKS, MAX_HOSTS};
+ghost use Rattle.tee_base.specs.declared.limits.TheConstants.{MAX_HOSTS};
 ghost use Rattle.store_api.specs.Stores.{Store};
 ghost use Rattle.store_api.specs.Volumes.{Held};
 ghost use Rattle.board.specs.Moment.{IsCounter, IsLeft, Outcome};
@@ -13,7 +13,7 @@ ghost use Rattle.board.specs.Fuse.{refitted};
 ghost use Rattle.board.specs.Steps.{Passes, SameBlocks, Unchanged};
 ghost use Rattle.board.specs.declared.fuse.Fuse.TheVariants.{Unset};
 ghost use Rattle.epoch.specs.Forms.{held};
-ghost use Rattle.epoch.specs.Mounts.{IsAdmitted, IsKeptFromOpening, IsRefusal, IsRefusedNow, LeavesOpening, OrderRun, PowerFirst, after_opening};
+ghost use Rattle.epoch.specs.Mounts.{IsAdmitted, IsKeptFromOpening, IsRefusal, IsRefusedNow, LeavesOpening, OrderRun, PowerFirst};
 ghost use Rattle.epoch.specs.Opening.{is_no_failure, no_failure};
 ghost use Rattle.epoch.specs.Past.{KeepsPast};
 ghost use Rattle.epoch.specs.declared.mounts.TheConstants.{BLANK, FORMATTED};
@@ -100,7 +100,7 @@ impl<B: Board, V: BoardVolume<B>, A: Application> TeeOver<B, V, A> {
         requires { HostsFit hosts.items }
         // over a board at rest with a sound image it begins with the stores of the image
         ensures world { B.honest board → (n : ℕ) (h : Held) (stores : ℕ → Store)
-            → Rests n (B.view board).state → BOARD_BLOCKS ≤ (B.view board).size
+            → Rests n (B.view board).state → V.form.blocks ≤ (B.view board).size
             → IsSoundFor V.form (B.view board) n h (length hosts.items) stores
             → IfOk result (λ tee. Represents tee (world_of hosts.items seed stores)
             × LeavesOpening V.form h (B.view board) (B.view (V.board_of (volume_of tee)))) }
@@ -142,7 +142,7 @@ impl<B: Board, V: BoardVolume<B>, A: Application> TeeOver<B, V, A> {
             (B.view board).state.reads counter FORMATTED (V.keeper.held (volume_of tee)).sequence
             (V.root (volume_of tee))) }
         ensures unopened { B.honest board → (n : ℕ) (h : Held) → Rests n (B.view board).state
-            → BOARD_BLOCKS ≤ (B.view board).size
+            → V.form.blocks ≤ (B.view board).size
             → held V.form (B.view board).key (B.view board).state.reads n ≡ Some h
             → IfErr result (λ u. IsKeptFromOpening u.why
             × LeavesOpening V.form h (B.view board) (B.view u.board)) }

@@ -6,11 +6,12 @@ use Rattle.app_api.specs.declared.host.Host.{Host}
 use Rattle.board.specs.Moment.{View}
 use Rattle.board.specs.Steps.{CallRun}
 use Rattle.epoch.specs.Forms.{Form, held, held_of}
-use Rattle.epoch.specs.Mounts.{LeavesOpening, after_opening, opened_by}
+use Rattle.epoch.specs.Mounts.{IsOpenedTo, LeavesOpening, LeftByOpening}
+use Rattle.epoch.proofs.MountLemmas.{opening_keeps}
 use Rattle.epoch.specs.Opening.{opening_of}
-use Rattle.epoch.specs.declared.answer.OpenAnswer.{OpenAnswer}
-use Rattle.epoch.specs.declared.rule.Found.{Found}
 use Rattle.object_dir.specs.Regions.{region_in}
+use Rattle.region_plan.specs.Layout.{version_one}
+use Rattle.region_plan.specs.Regions.{region_of}
 use Rattle.store_api.specs.Stores.{Store}
 use Rattle.store_api.specs.Volumes.{Held}
 use Rattle.tee_core.specs.Represents.{HasStoresOf, HoldsStores, none_kept}
@@ -51,12 +52,6 @@ pub starts_over : {A : Type 0} (hosts : List (Host A)) (seed : List ℕ) (stores
     HoldsStores none_kept (world_of hosts seed stores) h
 starts_over hosts seed stores h stand = stores_started 0 hosts seed stores h (λ app lt. stand app (omega (arith, lt)))
 
--- also where it is formatted
-stand_opened : (r : Result (Option Found) OpenAnswer) (h : Held) (stores : ℕ → Store) (app : ℕ) → region_in app h ≡ Ok (stores app) → region_in app (opened_by r h) ≡ Ok (stores app)
-stand_opened (Ok None) h stores app stand = stand
-stand_opened (Ok (Some found)) h stores app stand = stand
-stand_opened (Err answer) h stores app stand = stand
-
 module _ {A : Type 0} (form : Form) (hosts : List (Host A)) (seed : List ℕ) (stores : ℕ → Store) (old : View) (begins : BeginsWith form old (length hosts) stores) where
   abbrev begin : World A
   begin = world_of hosts seed stores
@@ -71,16 +66,20 @@ module _ {A : Type 0} (form : Form) (hosts : List (Host A)) (seed : List ℕ) (s
       let holds : held_of form old.key c ≡ Some begins.held = ap (held form old.key c.image) counter ∙ ap (λ (g : ℕ → List ℕ). held form old.key g begins.counter) whole ∙ begins.sound.opens in
       subst (HasStoresOf begin) (sym holds) (inl (starts_over hosts seed stores begins.held begins.sound.stand))
 
-  held_stores : (o : Option Held) → (o ≡ Some begins.held) ⊎ (o ≡ Some (after_opening form old begins.held)) → HasStoresOf begin o
-  held_stores o (inl is) = subst (HasStoresOf begin) (sym is) (inl (starts_over hosts seed stores begins.held begins.sound.stand))
-  held_stores o (inr is) =
-      let rule = opening_of form.version old.key old.state.reads old.state.counter in
-      subst (HasStoresOf begin) (sym is) (inl (starts_over hosts seed stores (after_opening form old begins.held) (λ app lt. stand_opened rule begins.held stores app (begins.sound.stand app lt))))
+  -- what an opening makes of it has the same stores
+  made_stores : (after : Held) → IsOpenedTo form old begins.held after → HasStoresOf begin (Some after)
+  made_stores after makes =
+      let leaves = opening_keeps form (opening_of form.known old.key old.state.reads old.state.counter) begins.held after makes in
+      inl (starts_over hosts seed stores after (λ app lt. ap (λ (l : ℕ → ℕ → List ℕ). region_of version_one (l app)) leaves ∙ begins.sound.stand app lt))
+
+  held_stores : (c : Outcome) → LeftByOpening form begins.held old c → HasStoresOf begin (held_of form old.key c)
+  held_stores c (inl is) = subst (HasStoresOf begin) (sym is) (inl (starts_over hosts seed stores begins.held begins.sound.stand))
+  held_stores c (inr made) = subst (HasStoresOf begin) (sym made.1) (made_stores made.0 made.2)
 
   -- within an opening a crash leaves what was held, or that once it is formatted
   pub opening_leaves : (new : View) → new.key ≡ old.key → LeavesOpening form begins.held old new → LeavesStores form new begin
   opening_leaves new key leaves = λ c left.
-      subst (λ k. HasStoresOf begin (held_of form k c)) (sym key) (held_stores (held_of form old.key c) (leaves.each c (inl left)))
+      subst (λ k. HasStoresOf begin (held_of form k c)) (sym key) (held_stores c (leaves.each c (inl left)))
 
 -- a run after calls of the board without an order
 module _ {A : Type 0} (behaviour : Behaviour A) (form : Form) (names : List (List ℕ)) where

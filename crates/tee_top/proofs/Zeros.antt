@@ -26,14 +26,14 @@ unfolding slot_of
 shut key image slot zero = let closed : gate_open (image (gate_at slot)) ≡ false = ap gate_open zero ∙ not_open in rw closed refl
 
 opens : (f : Form) (key : List ℕ) (image : ℕ → List ℕ) → image 0 ≡ replicate BLOCK_BYTES 0 → image 2 ≡ replicate BLOCK_BYTES 0
-    → held f key image 0 ≡ Some (record { leaves = blank_leaves; sequence = 0; version = f.version })
+    → held f key image 0 ≡ Some (record { leaves = blank_leaves f.leaves; sequence = 0; version = f.version })
 unfolding held opening_of
 opens f key image first second =
     let one : slot_of key image 0 ≡ Shut = shut key image 0 first in
     let two : slot_of key image 1 ≡ Shut = shut key image 1 second in
-    ap (held_by f key image) (ap₂ (λ (a b : Slot). opening_by f.version a b 0) one two)
+    ap (held_by f key image) (ap₂ (λ (a b : Slot). opening_by f.known a b 0) one two)
 
-blank : (app : ℕ) → app < MAX_HOSTS → IsBlank version_one (blank_leaves app)
+blank : (app : ℕ) → app < MAX_HOSTS → IsBlank version_one (blank_leaves LEAVES app)
 unfolding blank_leaves
 blank app low i few =
     let one : nat_lt app MAX_HOSTS ≡ true = grind (arith, nat_tests) in
@@ -46,9 +46,9 @@ begins law view hosts rests size zero few = record {
   counter = 0;
   rests = rests;
   size = size;
-  held = record { leaves = blank_leaves; sequence = 0; version = form_in_use.version };
+  held = record { leaves = blank_leaves form_in_use.leaves; sequence = 0; version = form_in_use.version };
   sound = record {
     opens = opens form_in_use view.key view.state.reads (zero 0 (omega arith)) (zero 2 (omega arith));
-    stand = λ app below. law (blank_leaves app) (blank app (omega (arith, below, few)));
+    stand = λ app below. law (blank_leaves LEAVES app) (blank app (omega (arith, below, few)));
   };
 }

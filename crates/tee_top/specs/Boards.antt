@@ -5,19 +5,17 @@ use Rattle.std.specs.Io.KnownBytes.{Appends}
 use Rattle.alone.specs.Step.{Event, Called, Cancelled, Turned, TurnLost, Corrupted, Lost, Starved, Restarted}
 use Rattle.board.specs.Moment.{Outcome, View, IsCounter, IsLeft}
 use Rattle.board.specs.Runs.{Rests}
-use Rattle.epoch.specs.Forms.{Form, held_of}
+use Rattle.epoch.specs.Forms.{Form, Root, held_of}
 use Rattle.epoch.specs.Mounts.{IsAdmitted, OrderRun}
 use Rattle.epoch.specs.Opening.{opens_as}
 use Rattle.epoch.specs.declared.answer.OpenAnswer.{OpenAnswer}
 use Rattle.epoch.specs.declared.answer.OpenAnswer.TheVariants as answers
-use Rattle.epoch.specs.declared.header.TreeEntry.{TreeEntry}
 use Rattle.epoch.specs.declared.mounts.TheConstants.{FORMATTED}
 use Rattle.script.specs.declared.line.Line.{Line}
 use Rattle.script.specs.declared.line.Line.TheVariants as lines
 use Rattle.store_api.specs.Stores.{Store}
 use Rattle.store_api.specs.Volumes.{Held}
 use Rattle.tee_base.specs.Faults.{Rose}
-use Rattle.tee_base.specs.declared.limits.TheConstants.{BOARD_BLOCKS}
 use Rattle.tee_core.specs.Opening.{IsSoundFor}
 use Rattle.tee_core.specs.Powers.{after_power}
 use Rattle.tee_core.specs.Represents.{HasStoresOf}
@@ -142,7 +140,7 @@ IsRuleAnswer answers.NoMemory = ⊥
 -- the opening rule refuses a board over what it reads as, at this counter, and this is the rule's answer
 pub record IsRefusedAt (form : Form) (view : View) (counter : ℕ) (why : OpenAnswer) : Type 0 where
   pub answer : IsRuleAnswer why
-  pub rule : opens_as form.version BOARD_BLOCKS view.size view.key view.state.reads counter ≡ Err why
+  pub rule : opens_as form.known form.blocks view.size view.key view.state.reads counter ≡ Err why
 
 -- the same at a counter that the board may tell
 pub record IsRefusedByRule (form : Form) (view : View) (why : OpenAnswer) : Type 0 where
@@ -155,14 +153,14 @@ pub record IsRefusedByRule (form : Form) (view : View) (why : OpenAnswer) : Type
 -- the opening rule opens the board's image, at a counter that it may tell
 abbrev pub HasOpened : Form → View → Type 0
 HasOpened form view = (counter : ℕ) × IsCounter view.state counter
-    × (sequence : ℕ) × (root : TreeEntry)
+    × (sequence : ℕ) × (root : Root)
     × IsAdmitted form view view.state.reads counter FORMATTED sequence root
 
 -- the board rests with an image that is sound for so many hosts, whose regions stand for these stores
 pub record BeginsWith (form : Form) (view : View) (hosts : ℕ) (stores : ℕ → Store) : Type 0 where
   pub counter : ℕ
   pub rests : Rests counter view.state
-  pub size : BOARD_BLOCKS ≤ view.size
+  pub size : form.blocks ≤ view.size
   pub held : Held
   pub sound : IsSoundFor form view counter held hosts stores
 

@@ -33,8 +33,8 @@ returns-in_err-volume-clause-unopened g c = λ honest n h rests size is. let kep
 pub returns-clause-world : goal.returns-clause-world
 returns-clause-world g c = λ honest n h stores at_rest size sound.
     let made = c.in_ok-volume.ensures.opened honest n h at_rest size sound.opens in (
-      stand_opened g.V.Volume.keeper g.met.V.Volume.rests g.V.BoardVolume.form (g.B.Board.view c.args.board) n h c.args.hosts.items c.args.seed stores sound c.in-Ok.sides.items
-          c.in_ok-volume.volume (c.in-Ok.ensures.world stores) made.0 made.1 c.in_ok-volume.ensures.fresh,
+      stand_opened g.V.Volume.keeper g.met.V.Volume.rests g.V.BoardVolume.form (g.B.Board.view c.args.board) n h c.args.hosts.items c.args.seed stores sound
+          (g.V.Volume.keeper.held c.in_ok-volume.volume) made.1 c.in-Ok.sides.items c.in_ok-volume.volume (c.in-Ok.ensures.world stores) made.0 refl c.in_ok-volume.ensures.fresh,
       made.2,
     )
 
