@@ -60,7 +60,7 @@ name_ink name h =
 
 -- ---- parameters
 
-abbrev CanPrint : Param → Type 0
+abbrev pub CanPrint : Param → Type 0
 CanPrint param = IsParam (param_word param) param 0
 
 byte_bytes : (digits : List ℕ) (byte : ℕ) → decode_of digits ≡ Ok (byte ∷ []) → byte < 256
@@ -85,7 +85,7 @@ can_print word (MemIn bytes) fill (inr h) =
 can_print word (MemOut size) fill h = ((decimal size, (decimal_number size (omega (arith, h.0.1.1)), h.0.1.1), refl), refl)
 can_print word (MemInOut bytes) fill h = ((encode_lower bytes, decode_of-encode_lower bytes (decode_of-ok h.0.0 bytes h.0.1).3, refl), refl)
 
-none_prints : CanPrint NoParam
+pub none_prints : CanPrint NoParam
 unfolding IsParam
 none_prints = (refl, refl)
 
@@ -110,7 +110,7 @@ unfolding AreParams
 all_none [] e = refl
 all_none (param ∷ params) e = let p = and_parts (is_none param) (are_none params) e in (is_nothing param p.0, all_none params p.1)
 
-params_printed : (params : List Param) → AllByRecursion CanPrint params → AreParams (params_words params) params 0
+pub params_printed : (params : List Param) → AllByRecursion CanPrint params → AreParams (params_words params) params 0
 unfolding AreParams
 params_printed [] h = refl
 params_printed (param ∷ params) h = by_test (are_none (param ∷ params)) refl (params_printed params h.1)
@@ -219,7 +219,7 @@ first_shown text rest h = inl (text, shown_line text h, refl, sym (unstripped te
 -- ---- lines
 
 -- a word and words that say a line of this client
-record IsPrinted {A : Type 0} (hosts : List (Host A)) (client : ℕ) (line : Line) : Type 0 where
+pub record IsPrinted {A : Type 0} (hosts : List (Host A)) (client : ℕ) (line : Line) : Type 0 where
   word : List ℕ
   words : List (List ℕ)
   whole : line_text hosts line ≡ word ++ behind_spaces words
@@ -240,7 +240,7 @@ loud_board : (rest : List ℕ) → ¬ IsSilent (codes "board" ++ rest)
 loud_board rest (inl e) = cc
 loud_board rest (inr s) = let hash : ◌≡◌ {A = ℕ} 98 35 = let e = s.1 in cc in omega (arith, hash)
 
-name_is : {A : Type 0} (hosts : List (Host A)) (app : ℕ) (host : Host A) → slice_get hosts app ≡ Some host → name_at hosts app ≡ host.name
+pub name_is : {A : Type 0} (hosts : List (Host A)) (app : ℕ) (host : Host A) → slice_get hosts app ≡ Some host → name_at hosts app ≡ host.name
 name_is {A} hosts app host e = get_or_from_slice_get (map (λ h. h.name) hosts) app host.name [] (mapped_get (λ (h : Host A). h.name) hosts app host e)
 
 named : {A : Type 0} (hosts : List (Host A)) (word : List ℕ) (app : ℕ) → HostsFit hosts → IsHost hosts word app → IsHost hosts (name_at hosts app) app × IsName (name_at hosts app)
@@ -330,7 +330,7 @@ line_printed hosts client words (lines.Power pick) fill fit h = (
 -- ---- scripts
 
 -- a line that can be printed behind the lines of any client that there is
-abbrev CanStand : {A : Type 0} → List (Host A) → Line → Type 0
+abbrev pub CanStand : {A : Type 0} → List (Host A) → Line → Type 0
 CanStand hosts line = (before : ℕ) → before < MAX_CLIENTS → IsPrinted hosts (client_of before line) line × (client_of before line < MAX_CLIENTS)
 
 fuse_of : {A : Type 0} (hosts : List (Host A)) (client before : ℕ) (words : List (List ℕ)) (count fill : ℕ) → IsLine hosts client words (lines.Fuse count) fill
@@ -343,7 +343,7 @@ power_of : {A : Type 0} (hosts : List (Host A)) (client before : ℕ) (words : L
 unfolding IsLine
 power_of hosts client before words pick fill h = h
 
-can_stand : {A : Type 0} (hosts : List (Host A)) (client : ℕ) (words : List (List ℕ)) (line : Line) (fill : ℕ) → HostsFit hosts → client < MAX_CLIENTS
+pub can_stand : {A : Type 0} (hosts : List (Host A)) (client : ℕ) (words : List (List ℕ)) (line : Line) (fill : ℕ) → HostsFit hosts → client < MAX_CLIENTS
     → IsLine hosts client words line fill → CanStand hosts line
 can_stand hosts client words (lines.Call app owner post call) fill fit below h before known =
     let p = line_printed hosts client words (lines.Call app owner post call) fill fit h in (p.0, subst (λ (c : ℕ). c < MAX_CLIENTS) (sym p.1) below)
@@ -450,9 +450,13 @@ reads_printed hosts before (line ∷ more) known h =
     (eqb before (client_of before line)) p.1 refl
     (reads_line hosts (client_of before line) line (canonical_from hosts (client_of before line) more) more p.0 (reads_printed hosts (client_of before line) more p.1 h.1)))
 
-pub canonical_reads : {A : Type 0} (hosts : List (Host A)) (text : List ℕ) (script : List Line) → HostsFit hosts → Reads Whole hosts text script → Reads Whole hosts (canonical hosts script) script
+-- lines that can be printed are read from their canonical text
+pub printed_reads : {A : Type 0} (hosts : List (Host A)) (script : List Line) → AllByRecursion (CanStand hosts) script → Reads Whole hosts (canonical hosts script) script
 unfolding ReadsOn
-canonical_reads hosts text script fit h =
-    let stand : AllByRecursion (CanStand hosts) script = subst (AllByRecursion (CanStand hosts)) (sym h.told) (lines_stand hosts (start_of text) h.after h.meanings fit (omega arith) h.read) in
+printed_reads hosts script stand =
     let r = reads_printed hosts 0 script (omega arith) stand in
     record { meanings = r.0; after = r.1; read = r.2; whole = r.3; taken = r.4; told = r.5 }
+
+pub canonical_reads : {A : Type 0} (hosts : List (Host A)) (text : List ℕ) (script : List Line) → HostsFit hosts → Reads Whole hosts text script → Reads Whole hosts (canonical hosts script) script
+canonical_reads hosts text script fit h =
+    printed_reads hosts script (subst (AllByRecursion (CanStand hosts)) (sym h.told) (lines_stand hosts (start_of text) h.after h.meanings fit (omega arith) h.read))

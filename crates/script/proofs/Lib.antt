@@ -10,3 +10,5 @@ pub mod ScriptTexts
 pub mod ParseLaws
 pub mod Fronts
 pub mod CanonicalTexts
+pub mod Draws
+pub mod WorkloadTexts

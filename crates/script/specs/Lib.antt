@@ -6,3 +6,4 @@ pub mod Numbers
 pub mod Parameters
 pub mod Scripts
 pub mod Words
+pub mod Workload

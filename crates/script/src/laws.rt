@@ -1,10 +1,12 @@
 //! What follows of the grammar alone, and of reading what was printed.
 
-ghost use Rattle.std.specs.Prelude.{◌≡◌, ◌⊎◌, ◌++◌, List, ℕ, [], Ok, codes};
+ghost use Rattle.std.specs.Prelude.{◌≡◌, ◌⊎◌, ◌++◌, List, ℕ, [], Ok, codes, length};
 ghost use Rattle.app_api.specs.Hosts.{HostsFit};
 ghost use Rattle.app_api.specs.declared.host.Host.{Host};
+ghost use Rattle.script.specs.Canonical.{canonical};
 ghost use Rattle.script.specs.Grammar.{FirstBad, Reads};
 ghost use Rattle.script.specs.Scripts.{Answers};
+ghost use Rattle.script.specs.Workload.{workload_of};
 ghost use Rattle.script.specs.declared.dialect.Dialect.{Dialect};
 ghost use Rattle.script.specs.declared.dialect.Dialect.TheVariants.{Whole};
 ghost use Rattle.script.specs.declared.line.Line.{Line};
@@ -37,6 +39,13 @@ pub fn fronts_are_read<A: Application>()
         → (front ≡ []) ⊎ ((lines : List ℕ) × (front ≡ lines ++ codes "\n"))
         → Reads dialect hosts (front ++ rest) script
         → (some more : List Line) × Reads dialect hosts front some × (script ≡ some ++ more) }
+{}
+
+/// The canonical text of a workload reads to it, for hosts that fit. It does nothing.
+pub fn workloads_are_read<A: Application>()
+    ensures { (hosts : List (Host A)) (number : ℕ) → HostsFit hosts
+        → Reads Whole hosts (canonical hosts (workload_of number (length hosts)))
+        (workload_of number (length hosts)) }
 {}
 
 /// Prints a script that some text reads to, and reads what was printed: that is the same script, unless memory runs out.

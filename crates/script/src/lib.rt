@@ -3,6 +3,7 @@
 
 mod canonical;
 mod dialect;
+mod generated;
 mod laws;
 mod line;
 mod meaning;
@@ -15,6 +16,7 @@ mod words;
 
 pub use canonical::print;
 pub use dialect::Dialect;
-pub use laws::{fronts_are_read, one_reading, print_reads_back};
+pub use generated::workload;
+pub use laws::{fronts_are_read, one_reading, print_reads_back, workloads_are_read};
 pub use line::Line;
 pub use script::{Script, ScriptAnswer, parse, parse_in};

@@ -61,6 +61,13 @@ impl Model for Script {
 impl Script {
     ghost use Rattle.std.specs.Prelude.{◌≡◌};
 
+    /// A script of these lines. It takes no memory.
+    pub(crate) fn from_lines(lines: Vec<Line>) -> Script
+        ensures { result ≡ lines.items }
+    {
+        Script { lines }
+    }
+
     pub fn as_slice(&self) -> &[Line]
         ensures { result.now ≡ self.now }
     {

@@ -2,5 +2,7 @@
 #![tactic(auto)]
 
 #[cfg(test)]
+mod generated;
+#[cfg(test)]
 mod lines;
 pub mod text;
