@@ -1,5 +1,5 @@
 //! The counter of a board over files: a file of eight bytes, and the number that is on the disk.
-ghost use Rattle.std.specs.Prelude.{◌≡◌, ◌≢◌, ◌+◌, ◌-◌, ◌×◌, ◌<◌, ◌^◌, Ok, Some, None, IsErr, IfOk, IfSome, IfNone, OnErr};
+ghost use Rattle.std.specs.Prelude.{◌≡◌, ◌≢◌, ◌+◌, ◌-◌, ◌<◌, ◌^◌, Ok, Some, None, IsErr, IfOk, IfSome, IfNone, OnErr};
 
 use crate::failed::{BoardFile, FileBoardFailed, FileFault, blame};
 use crate::files::{read_at, write_at};

@@ -1,5 +1,5 @@
 //! A board over three files: the blocks, the counter and the keys. It is an edge that is trusted, and tells no contents.
-ghost use Rattle.std.specs.Prelude.{◌≡◌, ◌≢◌, ◌+◌, ◌-◌, ◌×◌, ◌<◌, ◌^◌, true, false, not, Some, None, is_ok, IsErr, IfOk, OnErr};
+ghost use Rattle.std.specs.Prelude.{◌≡◌, ◌≢◌, ◌+◌, ◌-◌, ◌<◌, ◌^◌, true, false, not, Some, None, is_ok, IsErr, IfOk, OnErr};
 ghost use Rattle.board.specs.Fuse.{fate_by, passes, refitted};
 ghost use Rattle.board.specs.Steps.{capped, Called, Ordered};
 ghost use Rattle.board.specs.declared.fuse.Fuse.TheVariants.{Unset};
