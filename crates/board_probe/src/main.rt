@@ -173,10 +173,14 @@ fn main(rt: HostRuntime) -> Result<ExitCode> {
         eprintln!(rt; "usage: board_probe IMAGE look|hold|rounds N|commits N|syncs N")?;
         return Ok(ExitCode::from(USAGE));
     };
-    let Ok(board) = FileBoard::open(&rt, rt.alloc(), image.as_str()) else {
-        eprintln!(rt; "board_probe: the files can't be used")?;
-        return Ok(ExitCode::from(FAILED));
-    };
-    run(&rt, rt.alloc(), board, work)?;
-    Ok(ExitCode::SUCCESS)
+    match FileBoard::open(&rt, rt.alloc(), image.as_str()) {
+        Ok(board) => {
+            run(&rt, rt.alloc(), board, work)?;
+            Ok(ExitCode::SUCCESS)
+        }
+        Err(why) => {
+            eprintln!(rt; "board_probe: {why}")?;
+            Ok(ExitCode::from(FAILED))
+        }
+    }
 }

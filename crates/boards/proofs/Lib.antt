@@ -3,3 +3,4 @@ pub mod Calls
 pub mod Counted
 pub mod Loops
 pub mod Power
+pub mod Answered

@@ -1,5 +1,5 @@
 -- What the contracts of a board over files see of it: its counts, and no contents.
-use Rattle.std.specs.Prelude.{◌≡◌, ℕ, List, [], false}
+use Rattle.std.specs.Prelude.{◌≡◌, ℕ, List, [], Option, false}
 use Rattle.board.specs.declared.fuse.Fuse.TheVariants.{Unset}
 use Rattle.board.specs.Moment.{View}
 use Rattle.boards.specs.declared.file.FileBoard.{FileBoard}
@@ -35,3 +35,15 @@ pub record IsOpened (v : View) : Type 0 where
 -- the random seed
 abbrev pub seed_of : {F : Type 0} → FileBoard F → List ℕ
 seed_of b = b.keys.seed
+
+-- the number of the counter that the board knows to be on the disk, where it knows one
+abbrev pub number_of : {F : Type 0} → FileBoard F → Option ℕ
+number_of b = b.counter.number
+
+-- all but the counts and the fuse is as it was: the files, what is known of them, and the keys
+pub record KeepsFiles {F : Type 0} (old new : FileBoard F) : Type 0 where
+  pub image : new.image ≡ old.image
+  pub sync_failed : new.sync_failed ≡ old.sync_failed
+  pub counter : new.counter ≡ old.counter
+  pub keys : new.keys ≡ old.keys
+  pub blocks : new.blocks ≡ old.blocks

@@ -1,6 +1,5 @@
 pub mod Disk
 pub mod FileBoard
-pub mod FileBoardFailed
 pub mod Image
 pub mod Landing
 pub mod Memory

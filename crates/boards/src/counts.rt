@@ -1,5 +1,5 @@
 //! The counts of a board over files, and its fuse.
-ghost use Rattle.std.specs.Prelude.{◌≡◌, ◌+◌, ◌%◌, ◌^◌, ◌≤◌, false, is_ok, if◌then◌else◌};
+ghost use Rattle.std.specs.Prelude.{◌≡◌, ◌+◌, ◌%◌, ◌^◌, ◌≤◌, false, Ok, is_ok, IfOk, if◌then◌else◌};
 ghost use Rattle.board.specs.Fuse.{burnt, fate_by, passes};
 ghost use Rattle.board.specs.Steps.{capped};
 ghost use Rattle.tee_base.specs.Faults.{Rose};
@@ -54,6 +54,7 @@ impl Counts {
     /// The answer of the call, by that of the files.
     pub fn end<T: Drop>(&mut self, answer: io::Result<T>) -> Result<T, BoardFailed>
         ensures ok { is_ok result ≡ is_ok answer }
+        ensures value { IfOk result (λ value. answer ≡ Ok value) }
         ensures after { self.new ≡ record self.old {
           faults = if is_ok result then self.old.faults else capped (self.old.faults + 1);
         } }

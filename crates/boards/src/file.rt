@@ -1,51 +1,20 @@
 //! A board over three files: the blocks, the counter and the keys. It is an edge that is trusted, and tells no contents.
-ghost use Rattle.std.specs.Prelude.{◌≡◌, ◌≢◌, ◌+◌, ◌-◌, ◌<◌, ◌^◌, true, false, not, Ok, Some, None, is_ok, IsErr, IfOk, IfSome, IfNone, OnErr};
-ghost use Rattle.std.specs.IoError.{error_kind};
-ghost use Rattle.boards.specs.FileBoardFailed.{failed_by};
-ghost use Rattle.boards.specs.declared.file.FileBoardFailed.TheVariants.{NoMemory};
+ghost use Rattle.std.specs.Prelude.{◌≡◌, ◌≢◌, ◌+◌, ◌-◌, ◌<◌, ◌^◌, true, false, not, Some, None, is_ok, IsErr, IfOk, OnErr};
+ghost use Rattle.board.specs.Fuse.{fate_by, passes, refitted};
+ghost use Rattle.board.specs.Steps.{capped, Called, Ordered};
+ghost use Rattle.board.specs.declared.fuse.Fuse.TheVariants.{Unset};
 
+use crate::counter::Counter;
 use crate::counts::Counts;
-use crate::files::{Keys, Lock, take_keys, take_pair};
+use crate::failed::{BoardFile, FileBoardFailed, FileFault, blame};
+use crate::files::{Keys, Lock, read_at, take_keys, take_pair, write_at};
 use board::fuse::Fuse;
 use board::{BLOCK, Board, BoardFailed};
-use std::alloc::{AllocError, Global};
+use std::alloc::Global;
 use std::fs::OpenFile;
 use std::io;
-use std::io::{Read, Seek, SeekFrom, Write};
+use std::io::{Read, Seek, Write};
 use std::rt::Files;
-use tee_base::limits;
-use thiserror::Error;
-
-/// How many blocks a new image has.
-pub const NEW_BLOCKS: u64 = limits::BOARD_BLOCKS;
-
-/// Why files are no board.
-#[derive(Clone, Copy, Debug, PartialEq, Eq, Error)]
-pub enum FileBoardFailed {
-    #[error("the files of the board can't be used")]
-    Failed,
-    #[error("out of memory")]
-    NoMemory,
-}
-
-impl From<AllocError> for FileBoardFailed {
-    ghost from_gives = { λ _ e. e ≡ NoMemory };
-
-    fn from(_error: AllocError) -> FileBoardFailed {
-        FileBoardFailed::NoMemory
-    }
-}
-
-impl From<io::Error> for FileBoardFailed {
-    ghost from_gives = { λ error e. e ≡ failed_by (error_kind error) };
-
-    fn from(error: io::Error) -> FileBoardFailed {
-        match error.kind() {
-            io::ErrorKind::OutOfMemory => FileBoardFailed::NoMemory,
-            _ => FileBoardFailed::Failed,
-        }
-    }
-}
 
 /// A board over files, which this process holds alone. Its `power` ends the fuse and does nothing else.
 #[derive(Drop)]
@@ -54,9 +23,7 @@ pub struct FileBoard<F> {
     /// A sync of the image failed. The system tells of that once and takes the bytes for written from then on, so no
     /// later sync is believed.
     sync_failed: bool,
-    counter: F,
-    /// The number that is on the disk; none after a write or a sync of it failed.
-    number: Option<u64>,
+    counter: Counter<F>,
     keys: Keys<F>,
     blocks: u64,
     counts: Counts,
@@ -67,9 +34,10 @@ impl<F: Read + Write + Seek + OpenFile + Lock + Drop> FileBoard<F> {
     ghost use Rattle.boards.specs.FileBoard.{view_of, seed_of, IsOpened};
 
     /// Opens the board of the files `IMAGE`, `IMAGE.ctr` and `IMAGE.key`, and holds them until it is dropped. The first
-    /// two are made, blank, where they are missing. Both are on the disk as they are read from then on. `Failed` where
-    /// the key file is missing or hasn't 64 bytes, where the image isn't whole blocks or the counter file hasn't 8
-    /// bytes, where one of them is no plain file, can't be used, or is held by another process. Then nothing is made.
+    /// two are made, blank, where they are missing, and an image of fewer blocks is lengthened. Both are on the disk as
+    /// they are read from then on. `Failed` where the key file is missing or hasn't 64 bytes, where the image isn't whole
+    /// blocks or the counter file hasn't 8 bytes, where one of them is no plain file, can't be used, or is held by another
+    /// process. It says which file it was, and what was wrong. Then no file is left that this call made.
     pub fn open<R: Files<File = F>>(
         rt: &R,
         alloc: Global,
@@ -78,17 +46,19 @@ impl<F: Read + Write + Seek + OpenFile + Lock + Drop> FileBoard<F> {
         ensures { IfOk result (λ b. IsOpened (view_of b)) }
     {
         let keys = take_keys(rt, format!(in alloc; "{image}.key")?.as_str())?;
-        let mut pair = take_pair(rt, alloc, image)?;
-        let number = read_number(&mut pair.counter)?;
-        write_number(&mut pair.counter, number)?;
-        let bytes = pair.image.metadata()?.len();
+        let pair = take_pair(rt, alloc, image)?;
+        let counter = Counter::of_file(pair.counter)?;
+        let about = blame(
+            BoardFile::Image,
+            FileFault::Unreadable,
+            pair.image.metadata(),
+        )?;
         Ok(FileBoard {
             image: pair.image,
             sync_failed: false,
-            counter: pair.counter,
-            number: Some(number),
+            counter,
             keys,
-            blocks: bytes / BLOCK as u64,
+            blocks: about.len() / BLOCK as u64,
             counts: Counts::new(),
         })
     }
@@ -98,65 +68,6 @@ impl<F: Read + Write + Seek + OpenFile + Lock + Drop> FileBoard<F> {
         ensures { result ≡ seed_of self.now }
     {
         self.keys.seed
-    }
-}
-
-fn read_at<F: Read + Seek>(file: &mut F, at: u64, into: &mut [u8]) -> io::Result<()> {
-    file.seek(SeekFrom::Start(at))?;
-    file.read_exact(into)
-}
-
-fn write_at<F: Write + Seek>(file: &mut F, at: u64, from: &[u8]) -> io::Result<()> {
-    file.seek(SeekFrom::Start(at))?;
-    file.write_all(from)?;
-    file.flush()
-}
-
-/// The number in the counter file.
-fn read_number<F: Read + Seek>(file: &mut F) -> io::Result<u64> {
-    let mut bytes = [0; 8];
-    read_at(file, 0, &mut bytes)?;
-    Ok(u64::from_le_bytes(bytes))
-}
-
-/// Writes the number into the counter file, on the disk. The same number again serves a process that reads what another
-/// wrote: where that one's sync failed, the bytes may be in the system's cache alone, and count as written there.
-fn write_number<F: Write + Seek + OpenFile>(file: &mut F, number: u64) -> io::Result<()> {
-    write_at(file, 0, &number.to_le_bytes())?;
-    file.sync_all()
-}
-
-/// Raises the number by one, on the disk. After a failure the number isn't known any more; at its type's end it stays,
-/// and nothing is written.
-fn raise_number<F: Write + Seek + OpenFile>(
-    file: &mut F,
-    number: &mut Option<u64>,
-) -> io::Result<u64>
-    ensures unknown { IfNone number.old (IsErr result) }
-    ensures stays { IfNone number.old (number.new ≡ None) }
-    ensures raised { IfOk result (λ n. number.new ≡ Some n) }
-    ensures next { IfOk result (λ n. IfSome number.old (λ before. n ≡ before + 1)) }
-    ensures lost { OnErr result (number.old ≢ Some (2 ^ 64 - 1) → number.new ≡ None) }
-    ensures full { number.old ≡ Some (2 ^ 64 - 1) → number.new ≡ number.old }
-{
-    let next = known(*number)?.checked_add(1);
-    let Some(next) = next else {
-        return Err(io::ErrorKind::InvalidData.into());
-    };
-    *number = None;
-    write_number(file, next)?;
-    *number = Some(next);
-    Ok(next)
-}
-
-/// The number, where it is on the disk.
-fn known(number: Option<u64>) -> io::Result<u64>
-    ensures some { IfSome number (λ n. result ≡ Ok n) }
-    ensures none { IfNone number (IsErr result) }
-{
-    match number {
-        Some(number) => Ok(number),
-        None => Err(io::ErrorKind::Other.into()),
     }
 }
 
@@ -175,7 +86,7 @@ fn sync_once<F: OpenFile>(file: &F, failed: &mut bool) -> io::Result<()>
 }
 
 impl<F: Read + Write + Seek + OpenFile + Drop> Board for FileBoard<F> {
-    ghost use Rattle.boards.specs.FileBoard.{view_of};
+    ghost use Rattle.boards.specs.FileBoard.{view_of, number_of, KeepsFiles};
 
     ghost tells_reads = { false };
 
@@ -208,30 +119,60 @@ impl<F: Read + Write + Seek + OpenFile + Drop> Board for FileBoard<F> {
         self.counts.end(answer)
     }
 
-    fn sync(&mut self) -> Result<(), BoardFailed> {
+    fn sync(&mut self) -> Result<(), BoardFailed>
+        ensures call { Called (is_ok result) (view_of self.old) (view_of self.new) }
+        ensures writes { (view_of self.new).writes ≡ (view_of self.old).writes }
+        ensures refused { self.old.sync_failed ≡ true → is_ok result ≡ false }
+        ensures stays { self.old.sync_failed ≡ true → self.new.sync_failed ≡ true }
+        ensures told { is_ok result ≡ true → self.new.sync_failed ≡ false }
+    {
         self.counts.begin()?;
         let answer = sync_once(&self.image, &mut self.sync_failed);
         self.counts.end(answer)
     }
 
-    fn counter(&mut self) -> Result<u64, BoardFailed> {
+    fn counter(&mut self) -> Result<u64, BoardFailed>
+        ensures call { Called (is_ok result) (view_of self.old) (view_of self.new) }
+        ensures writes { (view_of self.new).writes ≡ (view_of self.old).writes }
+        ensures value { IfOk result (λ n. number_of self.old ≡ Some n) }
+        ensures same { number_of self.new ≡ number_of self.old }
+    {
         self.counts.begin()?;
-        let answer = known(self.number);
+        let answer = self.counter.number();
         self.counts.end(answer)
     }
 
-    fn advance(&mut self) -> Result<u64, BoardFailed> {
+    fn advance(&mut self) -> Result<u64, BoardFailed>
+        ensures call { Called (is_ok result) (view_of self.old) (view_of self.new) }
+        ensures writes { (view_of self.new).writes ≡ (view_of self.old).writes }
+        ensures value { IfOk result (λ n. (0 < n) × (number_of self.old ≡ Some (n - 1))) }
+        ensures known { IfOk result (λ n. number_of self.new ≡ Some n) }
+        ensures lost { OnErr result (passes (fate_by (view_of self.old).fuse) ≡ true
+            → number_of self.old ≢ Some (2 ^ 64 - 1) → number_of self.new ≡ None) }
+        ensures stopped { passes (fate_by (view_of self.old).fuse) ≡ false
+            → number_of self.new ≡ number_of self.old }
+        ensures full { number_of self.old ≡ Some (2 ^ 64 - 1)
+            → number_of self.new ≡ number_of self.old }
+    {
         self.counts.begin()?;
-        let answer = raise_number(&mut self.counter, &mut self.number);
+        let answer = self.counter.raise();
         self.counts.end(answer)
     }
 
-    fn fuse(&mut self, calls: u32) {
+    fn fuse(&mut self, calls: u32)
+        ensures ordered { Ordered calls (view_of self.old) (view_of self.new) }
+        ensures fuse { (view_of self.new).fuse ≡ refitted (view_of self.old).fuse calls }
+        ensures rest { KeepsFiles self.old self.new }
+    {
         self.counts.order(u64::from(calls));
         self.counts.fuse.refit(calls);
     }
 
-    fn power(&mut self, pick: u64) {
+    fn power(&mut self, pick: u64)
+        ensures ordered { Ordered pick (view_of self.old) (view_of self.new) }
+        ensures fuse { (view_of self.new).fuse ≡ Unset }
+        ensures rest { KeepsFiles self.old self.new }
+    {
         self.counts.order(pick);
         self.counts.fuse = Fuse::Unset;
     }

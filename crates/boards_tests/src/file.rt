@@ -1,6 +1,8 @@
 //! The board over files: fresh files, files that are no board, and files that are opened again.
 use crate::rows::{Row, go_through};
-use boards::{FileBoard, FileBoardFailed, NEW_BLOCKS};
+use boards::BoardFile::{Counter, Image, Key};
+use boards::FileFault::{InUse, Missing, NoKeys, NotPlain, WrongLength};
+use boards::{BoardFile, FileBoard, FileBoardFailed, FileFault, NEW_BLOCKS};
 use std::fs::File;
 use std::process::Abort;
 use std::{env, fs, process};
@@ -17,8 +19,8 @@ enum Act<'a> {
     Remove,
     MakeFolder,
     RemoveFolder,
-    /// The board's opening is refused with `Failed`.
-    Refused,
+    /// The board's opening is refused for this fault of this file.
+    Refused(BoardFile, FileFault),
     /// The board is opened, and the calls are made.
     Open(&'a [Row]),
 }
@@ -56,10 +58,12 @@ fn length_of(host: &HostRuntime, path: &str) -> Option<u64> {
     }
 }
 
-/// Whether an opening is refused with `Failed`.
-fn is_refused(host: &HostRuntime, image: &str) -> bool {
-    let answer = FileBoard::open(host, host.alloc(), image);
-    matches!(answer, Err(FileBoardFailed::Failed))
+/// Whether an opening is refused for this fault of this file.
+fn is_refused(host: &HostRuntime, image: &str, file: BoardFile, fault: FileFault) -> bool {
+    match FileBoard::open(host, host.alloc(), image) {
+        Err(FileBoardFailed::Failed(why)) => why.file == file && why.fault == fault,
+        _ => false,
+    }
 }
 
 /// The board of these files.
@@ -85,7 +89,7 @@ fn is_done(rt: &impl Abort, host: &HostRuntime, path: &str, act: &Act<'_>) -> bo
         Act::Remove => fs::remove_file(host, path).is_ok(),
         Act::MakeFolder => fs::create_dir(host, path).is_ok(),
         Act::RemoveFolder => fs::remove_dir(host, path).is_ok(),
-        Act::Refused => is_refused(host, path),
+        Act::Refused(file, fault) => is_refused(host, path, *file, *fault),
         Act::Open(rows) => open(rt, host, path, *rows),
     }
 }
@@ -140,6 +144,14 @@ const GONE_ON: &[Row] = &[
     Row::Orders(2, 3),
 ];
 
+/// The blocks that were there are as they were, and the others are zeros.
+const LENGTHENED: &[Row] = &[
+    Row::Blocks(NEW_BLOCKS),
+    Row::Filled(1, 3),
+    Row::Filled(2, 0),
+    Row::Filled(8741, 0),
+];
+
 #[test]
 fn fresh_files_are_made_and_opened_again(rt: HostRuntime) {
     const STEPS: &[Step] = &[
@@ -160,27 +172,28 @@ fn fresh_files_are_made_and_opened_again(rt: HostRuntime) {
 fn files_that_are_no_board_are_refused(rt: HostRuntime) {
     const STEPS: &[Step] = &[
         // no key file, and a short one: nothing is made
-        ("", Act::Refused),
+        ("", Act::Refused(Key, Missing)),
         (".key", Act::Write(&[1; 63])),
-        ("", Act::Refused),
+        ("", Act::Refused(Key, NoKeys)),
         ("", Act::Is(None)),
         // two blocks whose second is cut: no counter file is made
         ("", Act::Write(&[0; 1025])),
         (".key", Act::Write(KEYS)),
-        ("", Act::Refused),
+        ("", Act::Refused(Image, WrongLength)),
         (".ctr", Act::Is(None)),
-        // two blocks are an image
-        ("", Act::Write(&[0; 2048])),
-        ("", Act::Open(&[Row::Blocks(2)])),
+        // two blocks are an image, which is lengthened
+        ("", Act::Write(&[3; 2048])),
+        ("", Act::Open(LENGTHENED)),
+        ("", Act::Is(Some(NEW_BYTES))),
         // a short counter file, beside an image and without: no image is made
         (".ctr", Act::Write(&[0; 7])),
-        ("", Act::Refused),
+        ("", Act::Refused(Counter, WrongLength)),
         ("", Act::Remove),
-        ("", Act::Refused),
+        ("", Act::Refused(Counter, WrongLength)),
         ("", Act::Is(None)),
         // the image is a folder
         ("", Act::MakeFolder),
-        ("", Act::Refused),
+        ("", Act::Refused(Image, NotPlain)),
         ("", Act::RemoveFolder),
         (".ctr", Act::Remove),
         (".key", Act::Remove),
@@ -191,21 +204,27 @@ fn files_that_are_no_board_are_refused(rt: HostRuntime) {
 
 #[test]
 fn one_board_at_a_time_holds_the_files(rt: HostRuntime) {
-    const LEFT: &[Step] = &[(".new", Act::Write(&[7; 100])), (".key", Act::Write(KEYS))];
-    // what was left is taken away, and another opening is refused
+    // the first name of a counter file that isn't whole yet is another's
+    const OTHERS: &[Step] = &[
+        (".ctr.new0", Act::Write(&[7; 100])),
+        (".key", Act::Write(KEYS)),
+    ];
+    // it is left as it is, and another opening is refused
     const HELD: &[Step] = &[
-        (".new", Act::Is(None)),
+        (".ctr.new0", Act::Holds(&[7; 100])),
+        (".ctr.new1", Act::Is(None)),
         ("", Act::Is(Some(NEW_BYTES))),
-        ("", Act::Refused),
+        ("", Act::Refused(Key, InUse)),
     ];
     const LET_GO: &[Step] = &[
         ("", Act::Open(&[Row::Counter(Some(0))])),
         ("", Act::Remove),
         (".ctr", Act::Remove),
+        (".ctr.new0", Act::Remove),
         (".key", Act::Remove),
     ];
     let image = path_of(&rt, &rt, "held");
-    go(&rt, &rt, image.as_str(), LEFT);
+    go(&rt, &rt, image.as_str(), OTHERS);
     hold(&rt, &rt, image.as_str(), HELD);
     go(&rt, &rt, image.as_str(), LET_GO);
 }

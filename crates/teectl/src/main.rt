@@ -73,7 +73,7 @@ fn run_over_files(rt: &HostRuntime, alloc: Global, words: &[String], image: &str
             let seed = board.random_seed();
             run_over(rt, alloc, words, board, seed)
         }
-        Err(FileBoardFailed::Failed) => Status::BoardFault,
+        Err(FileBoardFailed::Failed(_)) => Status::BoardFault,
         Err(FileBoardFailed::NoMemory) => Status::NoMemory,
     }
 }

@@ -1,4 +1,5 @@
-use Rattle.std.proofs.Common.{false, refl}
+use Rattle.std.proofs.Common.{◌≡◌, ◌-◌, ◌<◌, ℕ, Some, false, refl}
+use Rattle.boards.proofs.Answered.{handed}
 use Rattle.boards.proofs.Counted.{called_err, ended, stopped, writes_same}
 use Rattle.boards.proofs.file.FileBoardBoard.advance.Goals as goal
 
@@ -18,3 +19,11 @@ returns-clause-call g c =
 pub returns-clause-writes : goal.returns-clause-writes
 returns-clause-writes g c =
     writes_same _ c.args.self.now.counts c.begin.new.self c.end.new.self _ c.in_ok-begin.ensures.after c.end.ensures.after
+
+pub returns-clause-value : goal.returns-clause-value
+returns-clause-value g c =
+    handed c.raise-answer.result c.end.result (λ (n : ℕ). (0 < n) × (c.args.self.now.counter.number ≡ Some (n - 1))) c.end.ensures.value c.raise-answer.ensures.raised
+
+pub returns-clause-known : goal.returns-clause-known
+returns-clause-known g c =
+    handed c.raise-answer.result c.end.result (λ (n : ℕ). c.raise-answer.new.self.number ≡ Some n) c.end.ensures.value c.raise-answer.ensures.known

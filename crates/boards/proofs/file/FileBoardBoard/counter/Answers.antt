@@ -1,4 +1,5 @@
-use Rattle.std.proofs.Common.{false, refl}
+use Rattle.std.proofs.Common.{◌≡◌, ℕ, Some, false, refl}
+use Rattle.boards.proofs.Answered.{handed, told_number}
 use Rattle.boards.proofs.Counted.{called_err, ended, stopped, writes_same}
 use Rattle.boards.proofs.file.FileBoardBoard.counter.Goals as goal
 
@@ -18,3 +19,8 @@ returns-clause-call g c =
 pub returns-clause-writes : goal.returns-clause-writes
 returns-clause-writes g c =
     writes_same _ c.args.self.now.counts c.begin.new.self c.end.new.self _ c.in_ok-begin.ensures.after c.end.ensures.after
+
+pub returns-clause-value : goal.returns-clause-value
+returns-clause-value g c =
+    handed c.number-answer.result c.end.result (λ (n : ℕ). c.args.self.now.counter.number ≡ Some n) c.end.ensures.value
+    (told_number c.args.self.now.counter.number c.number-answer.result c.number-answer.ensures.some c.number-answer.ensures.none)
