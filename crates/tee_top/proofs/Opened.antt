@@ -3,7 +3,7 @@ use Rattle.app_api.specs.Behaviours.{Behaviour}
 use Rattle.std.proofs.Common.{ℕ, ◌≡◌, ◌<◌, Bool, List, [], Option, None, Some, Result, Ok, Err, inl, inr, length, refl, sym, subst, ◌∙◌, ap, arith}
 use Rattle.std.specs.Prelude.{◌⊎◌}
 use Rattle.app_api.specs.declared.host.Host.{Host}
-use Rattle.board.specs.Moment.{View}
+use Rattle.board.specs.Moment.{Outcome, View}
 use Rattle.board.specs.Steps.{CallRun}
 use Rattle.epoch.specs.Forms.{Form, held, held_of}
 use Rattle.epoch.specs.Mounts.{IsOpenedTo, LeavesOpening, LeftByOpening}
