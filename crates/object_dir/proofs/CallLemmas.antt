@@ -6,12 +6,11 @@ use Rattle.tee_base.proofs.Crash.{mapped}
 use Rattle.store_api.specs.declared.answer.StoreAnswer.{StoreAnswer}
 use Rattle.store_api.specs.Keeping.{Contents, IsCall, LeavesJust, Remains}
 use Rattle.store_api.specs.Volumes.{Held, VolumeKeeper}
-use Rattle.region_plan.specs.Layout.{version_one}
 use Rattle.region_plan.specs.Reading.{IfGarbled, IsBroken, ReadsOnly, leaves_of, refusal_of}
 use Rattle.region_plan.specs.Regions.{breaks}
 use Rattle.object_dir.specs.Changing.{IsRegionCall}
 use Rattle.object_dir.specs.Directories.{damage_of, damage_reports, dir_keeper}
-use Rattle.object_dir.specs.Regions.{HasStore, kept_in, number_of, region_keeper, remains_in, store_in}
+use Rattle.object_dir.specs.Regions.{in_use, HasStore, kept_in, number_of, region_keeper, remains_in, store_in}
 use Rattle.object_dir.specs.declared.directory.ObjectDir.{ObjectDir}
 use Rattle.object_dir.specs.declared.region.Region.{Region}
 use Rattle.object_dir.proofs.AnswerLemmas.{cause_of, corrupt_under, garbled_also, garbled_never, intact_of, reports_of, tells_of, unfailed_of}
@@ -32,7 +31,7 @@ module _ {V : Type 0} (K : VolumeKeeper V) where
     found_still t = ap (λ (text : ℕ → ℕ → List ℕ). text new.number) (run.text t) ∙ ap (λ (r : ℕ). K.text old.volume.now r) run.same_region
 
     -- reads are a call on a region
-    pub from_reads : IfGarbled why (λ leaf. IsBroken (region_keeper K) number_of version_one old leaf) → IsRegionCall K why old new
+    pub from_reads : IfGarbled why (λ leaf. IsBroken (region_keeper K) number_of in_use old leaf) → IsRegionCall K why old new
     from_reads garbled = record {
       cause = run.cause;
       later = run.later;
@@ -42,10 +41,10 @@ module _ {V : Type 0} (K : VolumeKeeper V) where
       honest = run.honest;
       shows = run.shows;
       garbled = garbled;
-      broken = garbled_also why (λ leaf. IsBroken (region_keeper K) number_of version_one old leaf) (λ leaf. IsBroken (region_keeper K) number_of version_one new leaf)
+      broken = garbled_also why (λ leaf. IsBroken (region_keeper K) number_of in_use old leaf) (λ leaf. IsBroken (region_keeper K) number_of in_use new leaf)
           (λ leaf broken. record {
             below = broken.below;
-            breaks = λ t. subst (λ (leaves : ℕ → List ℕ). IsTrue (breaks version_one leaves leaf)) (sym (found_still t)) (broken.breaks t);
+            breaks = λ t. subst (λ (leaves : ℕ → List ℕ). IsTrue (breaks in_use leaves leaf)) (sym (found_still t)) (broken.breaks t);
           }) garbled;
       quiet = run.quiet;
       past = run.past;
@@ -88,7 +87,7 @@ module _ {V : Type 0} (K : VolumeKeeper V) where
         stands has,
         intact_of result (call.honest has.honest).1
             (garbled_never (refusal_of result) ((region_keeper K).condition old.region) ((region_keeper K).condition new.region)
-            (λ leaf. IsBroken (region_keeper K) number_of version_one old.region leaf) call.cause
+            (λ leaf. IsBroken (region_keeper K) number_of in_use old.region leaf) call.cause
             (λ leaf works broken. broken_never K laws old.region has.honest works (store_in old.region.number (K.held old.region.volume.now)) has.stands leaf broken)
             call.garbled),
       );

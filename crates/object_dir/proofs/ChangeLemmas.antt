@@ -7,16 +7,15 @@ use Rattle.store_api.specs.declared.answer.StoreAnswer.{StoreAnswer}
 use Rattle.store_api.specs.declared.change.Change.{Change}
 use Rattle.store_api.specs.declared.leaves.Leaf.{Leaf}
 use Rattle.store_api.specs.declared.leaves.LeafAnswer.{LeafAnswer}
-use Rattle.store_api.specs.Keeping.{Applied, Contents, LeftByChange}
+use Rattle.store_api.specs.Keeping.{Answers, Applied, Contents, LeftByChange}
 use Rattle.store_api.specs.Stores.{Store, change}
 use Rattle.store_api.specs.Volumes.{Commits, CommitsLeaves, Held, LeftByCommit, VolumeKeeper, after_commit}
-use Rattle.region_plan.specs.Layout.{version_one}
 use Rattle.region_plan.specs.Planning.{IsPlanOf, PlansChange}
 use Rattle.region_plan.specs.Reading.{IfAnswered, IsSound, leaves_of, refusal_of}
 use Rattle.region_plan.specs.Regions.{region_of}
 use Rattle.region_plan.proofs.RegionLemmas.{if_answered}
 use Rattle.object_dir.specs.Changing.{ChangesLeaves, ChangesRegion, CommitsRegion, Decides, IsRegionCall, LeftOfRegion, done_of, planned_leaves}
-use Rattle.object_dir.specs.Regions.{HasStore, contents_in, kept_in, number_of, region_in, region_keeper, remains_in, store_in, store_or_empty}
+use Rattle.object_dir.specs.Regions.{in_use, HasStore, contents_in, kept_in, number_of, region_in, region_keeper, remains_in, store_in, store_or_empty}
 use Rattle.object_dir.specs.declared.region.Region.{Region}
 use Rattle.object_dir.proofs.AnswerLemmas.{commit_cause, commit_corrupt, commit_decides, commit_garbled, commit_held, commit_one, commit_unfailed, commit_unwritten}
 use Rattle.object_dir.proofs.AnswerLemmas.{adds_none, if_kept, left_before, left_held, not_both}
@@ -25,12 +24,13 @@ use Rattle.object_dir.proofs.CallLemmas.{from_reads, reads_go_on, reads_stand}
 use Rattle.object_dir.proofs.CommitLemmas.{commit_applied, commit_idle, commit_kept, commit_left, commit_others, commit_stands}
 use Rattle.object_dir.specs.Laws.{reads_back}
 use Rattle.object_dir.proofs.HeldLemmas.{same_contents}
+use Rattle.object_dir.proofs.UseLemmas.{change_same}
 use Rattle.object_dir.proofs.PlaceLemmas.{same_number}
 
 module _ {V : Type 0} (K : VolumeKeeper V) (laws : IsLawful K) (c : Change) where
   -- a change that a plan refuses, or that has no leaf to change
   module _ (planned : Result (List Leaf) StoreAnswer) (result : Result (Unit {0}) StoreAnswer) (old new : Region V) (why : refusal_of result ≡ refusal_of planned)
-      (plan : PlansChange (region_keeper K) number_of version_one c planned old new) where
+      (plan : PlansChange (region_keeper K) number_of in_use c planned old new) where
     plan_call : IsRegionCall K (refusal_of result) old new
     plan_call = subst (λ (r : Option StoreAnswer). IsRegionCall K r old new) (sym why) (from_reads K (refusal_of planned) old new plan.reads plan.garbled)
 
@@ -46,11 +46,11 @@ module _ {V : Type 0} (K : VolumeKeeper V) (laws : IsLawful K) (c : Change) wher
         (ap (λ (k : ℕ). remains_in k o) plan.reads.same_region ∙ (ap (λ (x : Option Held). remains_in old.number x) is ∙ reads_back old.number (K.held old.volume.now) has.stands)))
         (plan.reads.crash has.honest works)
 
-    pub ends_with_plan : (IsTrue K.tells_reads → (store : Store) → region_of version_one (leaves_of (region_keeper K) number_of old) ≡ Ok store → Decides result (change store c))
+    pub ends_with_plan : (IsTrue K.tells_reads → (store : Store) → region_of in_use (leaves_of (region_keeper K) number_of old) ≡ Ok store → Decides result (change store c))
         → (HasStore K old → Applied result (change (kept_in K old).store c) (kept_in K old) (kept_in K new)) → ChangesRegion K c result old new
     ends_with_plan decided applied = record {
       call = plan_call;
-      sound = λ t. subst (λ (r : Option StoreAnswer). IfAnswered r (IsSound (region_keeper K) number_of version_one old)) (sym why) (plan.sound t);
+      sound = λ t. subst (λ (r : Option StoreAnswer). IfAnswered r (IsSound (region_keeper K) number_of in_use old)) (sym why) (plan.sound t);
       decided = decided;
       kept = λ h. if_kept result _ (plan.reads.same h);
       unwritten = if_kept result _ plan.reads.writes;
@@ -66,36 +66,38 @@ module _ {V : Type 0} (K : VolumeKeeper V) (laws : IsLawful K) (c : Change) wher
     }
 
   -- a plan for what is held
-  plan_for : (named : List Leaf) (old mid : Region V) → PlansChange (region_keeper K) number_of version_one c (Ok named) old mid → (has : HasStore K old)
-      → IsPlanOf version_one ((K.held old.volume.now).leaves old.number) (store_in old.number (K.held old.volume.now)) c named
+  plan_for : (named : List Leaf) (old mid : Region V) → PlansChange (region_keeper K) number_of in_use c (Ok named) old mid → (has : HasStore K old)
+      → IsPlanOf in_use ((K.held old.volume.now).leaves old.number) (store_in old.number (K.held old.volume.now)) c named
   plan_for named old mid plan has =
       let store = store_in old.number (K.held old.volume.now) in
       plan_held K laws old has.honest plan.reads.cause.0 c store named
       (plan.plans (laws.tells old.volume.now has.honest) store (stands_found K laws old has.honest plan.reads.cause.0 store has.stands))
 
-  pub change_refused : (why : StoreAnswer) (old new : Region V) → PlansChange (region_keeper K) number_of version_one c (Err why) old new → ChangesRegion K c (Err why) old new
+  pub change_refused : (why : StoreAnswer) (old new : Region V) → PlansChange (region_keeper K) number_of in_use c (Err why) old new → ChangesRegion K c (Err why) old new
   change_refused why old new plan =
-      ends_with_plan (Err why) (Err why) old new refl plan plan.plans
+      ends_with_plan (Err why) (Err why) old new refl plan
+      (λ t store stands. subst (λ r. Answers {A = Store} (Err why) r) (change_same store c) (plan.plans t store stands))
       (λ has. (
         answers_working {A = Store} (Err why) (change (kept_in K old).store c) ((region_keeper K).condition old) ((region_keeper K).condition new) plan.reads.cause
-            (λ works. plan.plans (laws.tells old.volume.now has.honest) (store_in old.number (K.held old.volume.now))
-            (stands_found K laws old has.honest works (store_in old.number (K.held old.volume.now)) has.stands)),
+            (λ works. subst (λ r. Answers {A = Store} (Err why) r) (change_same (store_in old.number (K.held old.volume.now)) c)
+            (plan.plans (laws.tells old.volume.now has.honest) (store_in old.number (K.held old.volume.now))
+            (stands_found K laws old has.honest works (store_in old.number (K.held old.volume.now)) has.stands))),
         plan_same (Err why) (Err why) old new refl plan has,
       ))
 
-  pub change_refused_as : (why : StoreAnswer) (result : Result (Unit {0}) StoreAnswer) (old new : Region V) → result ≡ Err why → PlansChange (region_keeper K) number_of version_one c (Err why)
+  pub change_refused_as : (why : StoreAnswer) (result : Result (Unit {0}) StoreAnswer) (old new : Region V) → result ≡ Err why → PlansChange (region_keeper K) number_of in_use c (Err why)
       old new → ChangesRegion K c result old new
   change_refused_as why result old new is plan = subst (λ (r : Result (Unit {0}) StoreAnswer). ChangesRegion K c r old new) (sym is) (change_refused why old new plan)
 
   -- a plan of no leaf is one of a change that leaves the store as it was
-  same_store : (n : ℕ) (h : Held) → region_in n h ≡ Ok (store_in n h) → IsPlanOf version_one (h.leaves n) (store_in n h) c [] → change (store_in n h) c ≡ Ok (store_in n h)
+  same_store : (n : ℕ) (h : Held) → region_in n h ≡ Ok (store_in n h) → IsPlanOf in_use (h.leaves n) (store_in n h) c [] → change (store_in n h) c ≡ Ok (store_in n h)
   same_store n h is plan =
       let same : store_in n h ≡ plan.after = ap (λ (r : Result Store ℕ). store_or_empty r) (sym is ∙ plan.stands) in
-      plan.changes ∙ ap (λ (s : Store). Ok s) (sym same)
+      sym (change_same (store_in n h) c) ∙ plan.changes ∙ ap (λ (s : Store). Ok s) (sym same)
 
-  nothing_changes : (old new : Region V) → PlansChange (region_keeper K) number_of version_one c (Ok []) old new → ChangesRegion K c (Ok tt) old new
+  nothing_changes : (old new : Region V) → PlansChange (region_keeper K) number_of in_use c (Ok []) old new → ChangesRegion K c (Ok tt) old new
   nothing_changes old new plan =
-      ends_with_plan (Ok []) (Ok tt) old new refl plan (λ t store stands. (let made = plan.plans t store stands in (made.after, made.changes)))
+      ends_with_plan (Ok []) (Ok tt) old new refl plan (λ t store stands. (let made = plan.plans t store stands in (made.after, sym (change_same store c) ∙ made.changes)))
       (λ has.
       let same : kept_in K new ≡ kept_in K old = plan_same (Ok []) (Ok tt) old new refl plan has in
       let changes = same_store old.number (K.held old.volume.now) has.stands (plan_for [] old new plan has) in (
@@ -106,7 +108,7 @@ module _ {V : Type 0} (K : VolumeKeeper V) (laws : IsLawful K) (c : Change) wher
       ))
 
   -- planned leaves, and one commit of them
-  module _ (named : List Leaf) (answer : Result ℕ LeafAnswer) (old mid new : Region V) (plan : PlansChange (region_keeper K) number_of version_one c (Ok named) old mid)
+  module _ (named : List Leaf) (answer : Result ℕ LeafAnswer) (old mid new : Region V) (plan : PlansChange (region_keeper K) number_of in_use c (Ok named) old mid)
       (commit : CommitsLeaves (region_keeper K) mid.number named answer mid new) where
     works_then : (K.condition mid.volume.now).lost ≡ false
     works_then = plan.reads.cause.1
@@ -145,7 +147,7 @@ module _ {V : Type 0} (K : VolumeKeeper V) (laws : IsLawful K) (c : Change) wher
         (subst (λ (k : ℕ). Commits answer k named (K.held mid.volume.now) (K.held new.volume.now)) plan.reads.same_region (commit.committed (plan.reads.honest h).0))
 
     module _ (has : HasStore K old) where
-      plan_of : IsPlanOf version_one ((K.held old.volume.now).leaves old.number) (store_in old.number (K.held old.volume.now)) c named
+      plan_of : IsPlanOf in_use ((K.held old.volume.now).leaves old.number) (store_in old.number (K.held old.volume.now)) c named
       plan_of = plan_for named old mid plan has
 
       commit_has : HasStore K new
@@ -198,8 +200,8 @@ module _ {V : Type 0} (K : VolumeKeeper V) (laws : IsLawful K) (c : Change) wher
     by_answer : ChangesLeaves K old named → ChangesRegion K c (done_of answer) old new
     by_answer changes = record {
       call = commit_call;
-      sound = λ t. if_answered (refusal_of (done_of answer)) (IsSound (region_keeper K) number_of version_one old) (plan.sound t);
-      decided = λ t store stands. (let found = plan.plans t store stands in commit_decides answer found.after (change store c) found.changes);
+      sound = λ t. if_answered (refusal_of (done_of answer)) (IsSound (region_keeper K) number_of in_use old) (plan.sound t);
+      decided = λ t store stands. (let found = plan.plans t store stands in commit_decides answer found.after (change store c) (sym (change_same store c) ∙ found.changes));
       kept = λ h. commit_kept named old.number (K.held old.volume.now) answer (K.held new.volume.now) (made h);
       unwritten = commit_unwritten answer ((region_keeper K).condition old) ((region_keeper K).condition mid) ((region_keeper K).condition new) plan.reads.cause plan.reads.writes
           commit.call.cause.cause commit.unwritten;
@@ -213,7 +215,7 @@ module _ {V : Type 0} (K : VolumeKeeper V) (laws : IsLawful K) (c : Change) wher
     }
 
   -- a change that is committed
-  change_committed : (named : List Leaf) (result : Result (Unit {0}) StoreAnswer) (old mid new : Region V) → PlansChange (region_keeper K) number_of version_one c (Ok named) old mid
+  change_committed : (named : List Leaf) (result : Result (Unit {0}) StoreAnswer) (old mid new : Region V) → PlansChange (region_keeper K) number_of in_use c (Ok named) old mid
       → ChangesLeaves K old named → CommitsRegion K named result mid new → ChangesRegion K c result old new
   change_committed named result old mid new plan changes commit =
       subst (λ (r : Result (Unit {0}) StoreAnswer). ChangesRegion K c r old new) (sym commit.told)
@@ -221,12 +223,12 @@ module _ {V : Type 0} (K : VolumeKeeper V) (laws : IsLawful K) (c : Change) wher
 
   -- the same by what a plan answered
   pub committed_as : (planned : Option (List Leaf)) (named : List Leaf) (result : Result (Unit {0}) StoreAnswer) (old mid new : Region V) → planned ≡ Some named
-      → PlansChange (region_keeper K) number_of version_one c (planned_leaves (Ok planned)) old mid → IfSome planned (λ leaves. ChangesLeaves K old leaves) → CommitsRegion K named result mid new
+      → PlansChange (region_keeper K) number_of in_use c (planned_leaves (Ok planned)) old mid → IfSome planned (λ leaves. ChangesLeaves K old leaves) → CommitsRegion K named result mid new
       → ChangesRegion K c result old new
   committed_as planned named result old mid new is plan changes commit =
-      change_committed named result old mid new (subst (λ (o : Option (List Leaf)). PlansChange (region_keeper K) number_of version_one c (planned_leaves (Ok o)) old mid) is plan)
+      change_committed named result old mid new (subst (λ (o : Option (List Leaf)). PlansChange (region_keeper K) number_of in_use c (planned_leaves (Ok o)) old mid) is plan)
       (subst (λ (o : Option (List Leaf)). IfSome o (λ leaves. ChangesLeaves K old leaves)) is changes) commit
 
-  pub nothing_as : (planned : Option (List Leaf)) (old new : Region V) → planned ≡ None → PlansChange (region_keeper K) number_of version_one c (planned_leaves (Ok planned)) old new
+  pub nothing_as : (planned : Option (List Leaf)) (old new : Region V) → planned ≡ None → PlansChange (region_keeper K) number_of in_use c (planned_leaves (Ok planned)) old new
       → ChangesRegion K c (Ok tt) old new
-  nothing_as planned old new is plan = nothing_changes old new (subst (λ (o : Option (List Leaf)). PlansChange (region_keeper K) number_of version_one c (planned_leaves (Ok o)) old new) is plan)
+  nothing_as planned old new is plan = nothing_changes old new (subst (λ (o : Option (List Leaf)). PlansChange (region_keeper K) number_of in_use c (planned_leaves (Ok o)) old new) is plan)

@@ -9,11 +9,10 @@ use Rattle.store_api.specs.Stores.{change}
 use Rattle.std.specs.Prelude.{if◌then◌else◌}
 use Rattle.std.proofs.lemmas.Bool.{ne_eqb}
 use Rattle.store_api.specs.Volumes.{Commits, Held, LeftByCommit, after_commit, leaf_after}
-use Rattle.region_plan.specs.Layout.{version_one}
 use Rattle.region_plan.specs.Planning.{IsPlanOf}
 use Rattle.region_plan.specs.Plans.{with_leaves}
 use Rattle.object_dir.specs.Changing.{IfKept, done_of}
-use Rattle.object_dir.specs.Regions.{contents_in, region_in, remains_in, rest_of, store_in}
+use Rattle.object_dir.specs.Regions.{in_use, contents_in, region_in, remains_in, rest_of, store_in}
 use Rattle.object_dir.specs.Laws.{reads_back}
 use Rattle.object_dir.proofs.HeldLemmas.{after_changes, after_remains, after_rest, after_stands, own_leaves}
 
@@ -37,7 +36,7 @@ commit_others named n h (Ok sequence) g made r other =
     ap (λ (x : Held). x.leaves r) made.0 ∙ ap (λ (b : Bool). (λ (l : ℕ). if b then leaf_after named l (h.leaves r l) else h.leaves r l)) (ne_eqb r n other)
 commit_others named n h (Err answer) g made r other = ap (λ (x : Held). x.leaves r) made
 
-module _ (c : Change) (named : List Leaf) (n : ℕ) (h : Held) (is : region_in n h ≡ Ok (store_in n h)) (plan : IsPlanOf version_one (h.leaves n) (store_in n h) c named) where
+module _ (c : Change) (named : List Leaf) (n : ℕ) (h : Held) (is : region_in n h ≡ Ok (store_in n h)) (plan : IsPlanOf in_use (h.leaves n) (store_in n h) c named) where
   pub commit_stands : (answer : Result ℕ LeafAnswer) (g : Held) → Commits answer n named h g → region_in n g ≡ Ok (store_in n g)
   commit_stands (Ok sequence) g made = subst (λ (x : Held). region_in n x ≡ Ok (store_in n x)) (sym made.0) (after_stands c named n h is plan)
   commit_stands (Err answer) g made = subst (λ (x : Held). region_in n x ≡ Ok (store_in n x)) (sym made) is

@@ -8,11 +8,10 @@ use Rattle.store_api.specs.declared.change.Change.{Change}
 use Rattle.store_api.specs.Keeping.{Answers, Applied, Applies, Contents, CrashChanges, CrashLeaves, LeavesJust, LeftByChange, Reads, UnlessFailed}
 use Rattle.store_api.specs.Stores.{Store, change}
 use Rattle.store_api.specs.Volumes.{Condition, Held, RestsAt, VolumeKeeper}
-use Rattle.region_plan.specs.Layout.{version_one}
 use Rattle.region_plan.specs.Reading.{ReadCause, ReadsRegion, refusal_of}
 use Rattle.object_dir.specs.Changing.{ChangesRegion, IsRegionCall}
 use Rattle.object_dir.specs.Directories.{damage_reports, dir_keeper}
-use Rattle.object_dir.specs.Regions.{HasStore, kept_in, number_of, region_keeper, remains_in, store_in}
+use Rattle.object_dir.specs.Regions.{in_use, HasStore, kept_in, number_of, region_keeper, remains_in, store_in}
 use Rattle.object_dir.specs.declared.directory.ObjectDir.{ObjectDir}
 use Rattle.object_dir.proofs.AnswerLemmas.{left_before, not_both}
 use Rattle.object_dir.proofs.FoundLemmas.{IsLawful, answers_working, store_found}
@@ -61,7 +60,7 @@ module _ {V : Type 0} (K : VolumeKeeper V) (laws : IsLawful K) where
   module _ (earlier : (v : V) (t u : ℕ) (o : Option Held) → t ≤ u → K.left_since v u o → K.left_since v t o) {A : Type 0} (stated : Store → Result A StoreAnswer) (Bounds : A → Type 0)
       (result : Result A StoreAnswer) (old new : ObjectDir V)
       (reports : new.damage_reports ≡ old.damage_reports + damage_reports (refusal_of result)) (attempts : new.change_attempts ≡ old.change_attempts)
-      (read : ReadsRegion (region_keeper K) number_of version_one stated Bounds result old.region new.region) where
+      (read : ReadsRegion (region_keeper K) number_of in_use stated Bounds result old.region new.region) where
     read_call : IsRegionCall K (refusal_of result) old.region new.region
     read_call = from_reads K (refusal_of result) old.region new.region read.reads read.garbled
 
@@ -152,7 +151,7 @@ module _ {V : Type 0} (K : VolumeKeeper V) (laws : IsLawful K) where
   pub reads_noted : (earlier : (v : V) (t u : ℕ) (o : Option Held) → t ≤ u → K.left_since v u o → K.left_since v t o) {A : Type 0} (stated : Store → Result A StoreAnswer) (Bounds : A → Type 0)
       (result : Result A StoreAnswer) (old new : ObjectDir V) (why : Option StoreAnswer)
       → why ≡ refusal_of result → new.damage_reports ≡ old.damage_reports + damage_reports why → new.change_attempts ≡ old.change_attempts
-      → ReadsRegion (region_keeper K) number_of version_one stated Bounds result old.region new.region → Reads (dir_keeper K) stated Bounds result old new
+      → ReadsRegion (region_keeper K) number_of in_use stated Bounds result old.region new.region → Reads (dir_keeper K) stated Bounds result old new
   reads_noted earlier stated Bounds result old new why is reports attempts read =
       store_reads earlier stated Bounds result old new
       (reports ∙ ap (λ (w : Option StoreAnswer). old.damage_reports + damage_reports w) is) attempts read

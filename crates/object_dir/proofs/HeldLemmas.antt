@@ -8,14 +8,14 @@ use Rattle.store_api.specs.Keeping.{IsBeforeOrAfter, Remains, Rest}
 use Rattle.store_api.specs.Limits.{IsWithinLimits}
 use Rattle.store_api.specs.Stores.{Store, change}
 use Rattle.store_api.specs.Volumes.{Held, VolumeKeeper, leaf_after, replaced, after_commit}
-use Rattle.region_plan.specs.Layout.{version_one}
 use Rattle.region_plan.specs.Planning.{IsPlanOf}
 use Rattle.region_plan.specs.Plans.{with_leaves}
 use Rattle.region_plan.specs.Regions.{breaks, region_of}
 use Rattle.region_plan.proofs.LimitLemmas.{within_limits}
 use Rattle.region_plan.proofs.SoundLemmas.{region_sound, unbroken_of}
-use Rattle.object_dir.specs.Regions.{HasStore, contents_in, kept_in, others, region_in, remains_in, rest_of, store_in, store_or_empty}
+use Rattle.object_dir.specs.Regions.{in_use, HasStore, contents_in, kept_in, others, region_in, remains_in, rest_of, store_in, store_or_empty}
 use Rattle.object_dir.specs.Laws.{reads_back}
+use Rattle.object_dir.proofs.UseLemmas.{change_same, laid, limits_same}
 use Rattle.object_dir.specs.declared.region.Region.{Region}
 
 -- equal numbers and equal contents of the volume
@@ -34,9 +34,9 @@ pub stands_by : (n : ℕ) (h : Held) (store : Store) → region_in n h ≡ Ok st
 stands_by n h store is = is ∙ ap (λ (s : Store). Ok s) (sym (own_store n h store is))
 
 -- no leaf of it breaks a rule
-pub never_breaks : (leaves : ℕ → List ℕ) (store : Store) → region_of version_one leaves ≡ Ok store → (leaf : ℕ) → leaf < 256 → IsTrue (breaks version_one leaves leaf) → ⊥
+pub never_breaks : (leaves : ℕ → List ℕ) (store : Store) → region_of in_use leaves ≡ Ok store → (leaf : ℕ) → leaf < in_use.leaves → IsTrue (breaks in_use leaves leaf) → ⊥
 never_breaks leaves store is leaf below broken =
-    let fine : breaks version_one leaves leaf ≡ false = unbroken_of version_one leaves (omega arith) (region_sound version_one leaves (omega arith) store is) leaf below in
+    let fine : breaks in_use leaves leaf ≡ false = unbroken_of in_use leaves laid (region_sound in_use leaves laid store is) leaf below in
     let wrong : true ≡ false = sym broken ∙ fine in
     cc
 
@@ -53,16 +53,16 @@ others_same n named leaves = λ i r l. twice (r == n) [] (leaf_after named l (le
 
 module _ {V : Type 0} (K : VolumeKeeper V) (r : Region V) where
   pub kept_limits : HasStore K r → IsWithinLimits (kept_in K r).store
-  kept_limits has = within_limits ((K.held r.volume.now).leaves r.number) (store_in r.number (K.held r.volume.now)) has.stands
+  kept_limits has = limits_same (kept_in K r).store (within_limits in_use laid ((K.held r.volume.now).leaves r.number) (store_in r.number (K.held r.volume.now)) has.stands)
 
 -- a store, a rest and a number, as a crash leaves them
 abbrev left_with : Store → ℕ → Rest → Remains
 left_with store number rest = Some (record { store = store; rest = rest; number = number })
 
 -- a commit of planned leaves
-module _ (c : Change) (named : List Leaf) (n : ℕ) (h : Held) (is : region_in n h ≡ Ok (store_in n h)) (plan : IsPlanOf version_one (h.leaves n) (store_in n h) c named) where
+module _ (c : Change) (named : List Leaf) (n : ℕ) (h : Held) (is : region_in n h ≡ Ok (store_in n h)) (plan : IsPlanOf in_use (h.leaves n) (store_in n h) c named) where
   after_region : region_in n (after_commit n named h) ≡ Ok plan.after
-  after_region = ap (λ (l : ℕ → List ℕ). region_of version_one l) (own_leaves n named h.leaves) ∙ plan.stands
+  after_region = ap (λ (l : ℕ → List ℕ). region_of in_use l) (own_leaves n named h.leaves) ∙ plan.stands
 
   after_store : store_in n (after_commit n named h) ≡ plan.after
   after_store = own_store n (after_commit n named h) plan.after after_region
@@ -74,7 +74,7 @@ module _ (c : Change) (named : List Leaf) (n : ℕ) (h : Held) (is : region_in n
   after_rest = λ i. record { leaves = others_same n named h.leaves i }
 
   pub after_changes : change (store_in n h) c ≡ Ok (store_in n (after_commit n named h))
-  after_changes = plan.changes ∙ ap (λ (s : Store). Ok s) (sym after_store)
+  after_changes = sym (change_same (store_in n h) c) ∙ plan.changes ∙ ap (λ (s : Store). Ok s) (sym after_store)
 
   -- what a crash leaves then is the store after the change, and the rest as it was
   pub after_remains : IsBeforeOrAfter (contents_in n h) (change (store_in n h) c) (remains_in n (Some (after_commit n named h)))

@@ -8,3 +8,4 @@ pub mod HeldLemmas
 pub mod IdleLemmas
 pub mod PlaceLemmas
 pub mod PlannedLemmas
+pub mod UseLemmas

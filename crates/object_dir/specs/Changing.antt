@@ -10,12 +10,11 @@ use Rattle.store_api.specs.declared.leaves.LeafAnswer.{LeafAnswer}
 use Rattle.store_api.specs.Keeping.{Answers, Applied, LeftByChange}
 use Rattle.store_api.specs.Stores.{Store, change}
 use Rattle.store_api.specs.Volumes.{Held, VolumeKeeper, AddsNothing, CommitsLeaves, after_commit}
-use Rattle.region_plan.specs.Layout.{version_one}
 use Rattle.store_api.specs.Refusals.{store_answer}
 use Rattle.region_plan.specs.Plans.{with_leaves}
 use Rattle.region_plan.specs.Reading.{IfAnswered, IfCorrupt, IfGarbled, IsBroken, IsSound, ReadCause, UnlessFailed, leaves_of, refusal_of}
 use Rattle.region_plan.specs.Regions.{region_of}
-use Rattle.object_dir.specs.Regions.{HasStore, kept_in, number_of, region_keeper, remains_in}
+use Rattle.object_dir.specs.Regions.{in_use, HasStore, kept_in, number_of, region_keeper, remains_in}
 use Rattle.object_dir.specs.declared.region.Region.{Region}
 
 -- what a store answers where a commit answers this
@@ -82,8 +81,8 @@ module _ {V : Type 0} (K : VolumeKeeper V) where
     pub honest : K.honest old.volume.now → K.honest new.volume.now × IfCorrupt why (λ tags. ⊥)
     -- damage that is told is that of a leaf of the region, or a leaf that breaks a rule
     pub shows : IsTrue K.tells_reads → IfCorrupt why (λ tags. (leaf : ℕ) × (leaf < K.leaves) × (K.damage new.volume.now new.number leaf ≡ Some tags))
-    pub garbled : IfGarbled why (λ leaf. IsBroken (region_keeper K) number_of version_one old leaf)
-    pub broken : IfGarbled why (λ leaf. IsBroken (region_keeper K) number_of version_one new leaf)
+    pub garbled : IfGarbled why (λ leaf. IsBroken (region_keeper K) number_of in_use old leaf)
+    pub broken : IfGarbled why (λ leaf. IsBroken (region_keeper K) number_of in_use new leaf)
     -- of a crash: over a lost volume nothing new may be left, and nothing of the past is forgotten
     pub quiet : IsTrue (K.condition old.volume.now).lost → AddsNothing (region_keeper K) old new
     pub past : K.honest old.volume.now → (t : ℕ) (o : Option Held) → t ≤ K.moment old.volume.now → K.left_since old.volume.now t o → K.left_since new.volume.now t o
@@ -93,8 +92,8 @@ module _ {V : Type 0} (K : VolumeKeeper V) where
   pub record ChangesRegion (c : Change) (result : Result (Unit {0}) StoreAnswer) (old new : Region V) : Type 0 where
     pub call : IsRegionCall (refusal_of result) old new
     -- an answer comes only of a map and inodes without damage that keep the rules, and is that of the leaves as they are found
-    pub sound : IsTrue K.tells_reads → IfAnswered (refusal_of result) (IsSound (region_keeper K) number_of version_one old)
-    pub decided : IsTrue K.tells_reads → (store : Store) → region_of version_one (leaves_of (region_keeper K) number_of old) ≡ Ok store → Decides result (change store c)
+    pub sound : IsTrue K.tells_reads → IfAnswered (refusal_of result) (IsSound (region_keeper K) number_of in_use old)
+    pub decided : IsTrue K.tells_reads → (store : Store) → region_of in_use (leaves_of (region_keeper K) number_of old) ≡ Ok store → Decides result (change store c)
     -- every answer but Ok and Failed leaves all that is held, and nothing was written; other regions stay in any case
     pub kept : K.honest old.volume.now → IfKept result (K.held new.volume.now ≡ K.held old.volume.now)
     pub unwritten : IfKept result ((K.condition new.volume.now).writes ≡ (K.condition old.volume.now).writes)

@@ -5,9 +5,8 @@ use Rattle.store_api.specs.declared.answer.StoreAnswer.{StoreAnswer}
 use Rattle.store_api.specs.declared.answer.StoreAnswer.TheVariants.{Corrupt, Garbled}
 use Rattle.store_api.specs.Keeping.{Keeper, Status}
 use Rattle.store_api.specs.Volumes.{Condition, VolumeKeeper}
-use Rattle.region_plan.specs.Layout.{version_one}
 use Rattle.region_plan.specs.Reading.{IsBroken}
-use Rattle.object_dir.specs.Regions.{HasStore, kept_in, number_of, region_keeper, remains_in}
+use Rattle.object_dir.specs.Regions.{in_use, HasStore, kept_in, number_of, region_keeper, remains_in}
 use Rattle.object_dir.specs.declared.region.Region.{Region}
 use Rattle.object_dir.specs.declared.directory.ObjectDir.{ObjectDir}
 
@@ -26,7 +25,7 @@ module _ {V : Type 0} (K : VolumeKeeper V) where
   -- what there is for an answer of damage to tell: two tags that differ on the way to a leaf of the region, or a leaf that breaks a rule
   abbrev pub damage_of : Region V → StoreAnswer → Type 0
   damage_of r (Corrupt tags) = IsTrue K.tells_reads → (leaf : ℕ) × (leaf < K.leaves) × (K.damage r.volume.now r.number leaf ≡ Some tags)
-  damage_of r (Garbled leaf) = IsBroken (region_keeper K) number_of version_one r leaf
+  damage_of r (Garbled leaf) = IsBroken (region_keeper K) number_of in_use r leaf
   damage_of r _ = Unit {0}
 
   -- the objects of a region as a store: there is one where the volume is honest and the region stands for one, its rest is all other

@@ -4,7 +4,8 @@ use Rattle.store_api.specs.Keeping.{Contents, Remains, Rest}
 use Rattle.store_api.specs.Stores.{Store, empty_store}
 use Rattle.store_api.specs.Foundations.{Foundation}
 use Rattle.store_api.specs.Volumes.{Condition, Held, VolumeKeeper}
-use Rattle.region_plan.specs.Layout.{Layout, version_one}
+use Rattle.region_plan.specs.Layout.{Layout, layout}
+use Rattle.region_plan.specs.declared.form.Form.TheVariants.{One}
 use Rattle.region_plan.specs.Regions.{region_of}
 use Rattle.object_dir.specs.declared.region.Region.{Region}
 
@@ -43,9 +44,13 @@ others region leaves r l = if r == region then [] else leaves r l
 abbrev pub rest_of : ℕ → Held → Rest
 rest_of region held = record { leaves = others region held.leaves }
 
+-- how the regions in use are laid out
+abbrev pub in_use : Layout
+in_use = layout One
+
 -- how the regions of a version of the format are laid out: one layout so far
 abbrev pub layout_of : ℕ → Layout
-layout_of version = version_one
+layout_of version = in_use
 
 -- what the leaves of a region stand for, by the version that is held
 abbrev pub region_in : ℕ → Held → Result Store ℕ

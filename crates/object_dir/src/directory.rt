@@ -6,15 +6,14 @@ ghost use Rattle.store_api.specs.Keeping.{Reads, Applies, damage_in};
 ghost use Rattle.store_api.specs.Limits.{IsIdentifier, IsChange, AreFacts, IsSecret, IsPart, IsListed};
 ghost use Rattle.store_api.specs.Stores.{found, secret_at, read_at, next_after as next_of};
 ghost use Rattle.tee_base.specs.declared.limits.TheConstants.{MAX_ASK_BYTES, MAX_HOSTS};
-ghost use Rattle.region_plan.specs.Layout.{version_one};
 ghost use Rattle.region_plan.specs.Reading.{IsReadPart, ReadsRegion, refusal_of};
 ghost use Rattle.object_dir.specs.Changing.{ChangesRegion};
 ghost use Rattle.object_dir.specs.Directories.{dir_keeper, damage_reports};
 ghost use Rattle.object_dir.specs.Laws.{reads_back};
-ghost use Rattle.object_dir.specs.Regions.{number_of, region_keeper};
+ghost use Rattle.object_dir.specs.Regions.{in_use, number_of, region_keeper};
 
 use crate::changing::change_region;
-use crate::region::Region;
+use crate::region::{IN_USE, Region};
 use region_plan::{content, facts, next_after, secret};
 use std::alloc::Global;
 use store_api::{AppStore, Change, Facts, Listed, StoreAnswer, Tally, Volume};
@@ -102,10 +101,10 @@ impl<V: Volume> AppStore for ObjectDir<'_, V> {
         requires { IsIdentifier id.now }
         ensures reads { Reads (dir_keeper V.keeper) (λ store. found store id.now) AreFacts result
             self.old self.new }
-        ensures region { ReadsRegion (region_keeper V.keeper) number_of version_one
+        ensures region { ReadsRegion (region_keeper V.keeper) number_of in_use
             (λ store. found store id.now) AreFacts result self.old.region self.new.region }
     {
-        let answer = facts(self.alloc, &mut self.region, id);
+        let answer = facts(self.alloc, &mut self.region, IN_USE, id);
         note(&mut self.damage_reports, refusal(&answer));
         answer
     }
@@ -114,10 +113,10 @@ impl<V: Volume> AppStore for ObjectDir<'_, V> {
         requires { IsIdentifier id.now }
         ensures reads { Reads (dir_keeper V.keeper) (λ store. secret_at store id.now) IsSecret
             result self.old self.new }
-        ensures region { ReadsRegion (region_keeper V.keeper) number_of version_one
+        ensures region { ReadsRegion (region_keeper V.keeper) number_of in_use
             (λ store. secret_at store id.now) IsSecret result self.old.region self.new.region }
     {
-        let answer = secret(self.alloc, &mut self.region, id);
+        let answer = secret(self.alloc, &mut self.region, IN_USE, id);
         note(&mut self.damage_reports, refusal(&answer));
         answer
     }
@@ -127,13 +126,13 @@ impl<V: Volume> AppStore for ObjectDir<'_, V> {
         requires count { count ≤ MAX_ASK_BYTES }
         ensures reads { Reads (dir_keeper V.keeper) (λ store. read_at store id.now from count)
             (IsPart count) result self.old self.new }
-        ensures region { ReadsRegion (region_keeper V.keeper) number_of version_one
+        ensures region { ReadsRegion (region_keeper V.keeper) number_of in_use
             (λ store. read_at store id.now from count) (IsPart count) result self.old.region
             self.new.region }
         ensures part { IsTrue V.keeper.tells_reads → IfOk result (λ bytes. IsReadPart
-            (region_keeper V.keeper) number_of version_one id.now from count self.old.region) }
+            (region_keeper V.keeper) number_of in_use id.now from count self.old.region) }
     {
-        let answer = content(self.alloc, &mut self.region, id, from, count);
+        let answer = content(self.alloc, &mut self.region, IN_USE, id, from, count);
         note(&mut self.damage_reports, refusal(&answer));
         answer
     }
@@ -141,11 +140,11 @@ impl<V: Volume> AppStore for ObjectDir<'_, V> {
     fn next_after(&mut self, last: Option<&[u8]>) -> Result<Listed, StoreAnswer>
         ensures reads { Reads (dir_keeper V.keeper)
             (λ store. next_of store (option_copied last.entry)) IsListed result self.old self.new }
-        ensures region { ReadsRegion (region_keeper V.keeper) number_of version_one
+        ensures region { ReadsRegion (region_keeper V.keeper) number_of in_use
             (λ store. next_of store (option_copied last.entry)) IsListed result self.old.region
             self.new.region }
     {
-        let answer = next_after(self.alloc, &mut self.region, last);
+        let answer = next_after(self.alloc, &mut self.region, IN_USE, last);
         note(&mut self.damage_reports, refusal(&answer));
         answer
     }

@@ -4,13 +4,12 @@ ghost use Rattle.std.specs.Prelude.{◌≡◌, ◌<◌, false, IfOk, IfSome, IsT
 ghost use Rattle.tee_base.specs.declared.limits.TheConstants.{LEAVES};
 ghost use Rattle.store_api.specs.Ascending.{is_above_all};
 ghost use Rattle.store_api.specs.Limits.{IsChange};
-ghost use Rattle.region_plan.specs.Layout.{version_one};
 ghost use Rattle.region_plan.specs.Planning.{PlansChange};
 ghost use Rattle.region_plan.specs.Reading.{IfGarbled, IsUnread, ReadsOnly, leaves_of, refusal_of};
 ghost use Rattle.object_dir.specs.Changing.{ChangesLeaves, are_there, planned_leaves};
-ghost use Rattle.object_dir.specs.Regions.{number_of, region_keeper};
+ghost use Rattle.object_dir.specs.Regions.{in_use, number_of, region_keeper};
 
-use crate::region::Region;
+use crate::region::{IN_USE, Region};
 use region_plan::{LeafSource, plan};
 use std::alloc::Global;
 use store_api::{Change, Leaf, Leaves, StoreAnswer, Volume};
@@ -62,12 +61,12 @@ pub(crate) fn plan_change<V: Volume>(
     change: &Change,
 ) -> Result<Option<Leaves>, StoreAnswer>
     requires { IsChange change.now }
-    ensures plans { PlansChange (region_keeper V.keeper) number_of version_one change.now
+    ensures plans { PlansChange (region_keeper V.keeper) number_of in_use change.now
         (planned_leaves result) region.old region.new }
     ensures writes { IfOk result (λ leaves. IfSome leaves
         (λ named. ChangesLeaves V.keeper region.old named)) }
 {
-    let leaves = plan(alloc, region, change)?;
+    let leaves = plan(alloc, region, IN_USE, change)?;
     if are_all_there(region, leaves.as_slice())? {
         return Ok(None);
     }

@@ -1,12 +1,14 @@
 //! One region of a volume.
 
 ghost use Rattle.std.specs.Prelude.{◌<◌};
-ghost use Rattle.std.proofs.Common.{arith};
 ghost use Rattle.tee_base.specs.declared.limits.TheConstants.{MAX_HOSTS};
 
-use region_plan::LeafSource;
+use region_plan::{Form, LeafSource};
 use store_api::{LeafAnswer, Leaves, StoreAnswer, Volume};
 use tee_base::limits::BLOCK_BYTES;
+
+/// The form of the regions in use.
+pub(crate) const IN_USE: Form = Form::One;
 
 /// One region of a volume.
 #[derive(Drop)]
@@ -22,8 +24,6 @@ impl<V: Volume> LeafSource for Region<'_, V> {
     ghost keeper = { region_keeper V.keeper };
 
     ghost region = { λ r. r.number };
-
-    ghost whole = { Prim.omega (arith, V.whole) };
 
     ghost rests = { λ r honest works. record { only = (V.rests r.volume.now honest works).only } };
 

@@ -3,7 +3,6 @@ use Rattle.std.proofs.Common.{◌≡◌, ℕ, zero, suc, ◌+◌, ◌-◌, ◌*�
 use Rattle.std.proofs.Common.{get_or, take, drop, Option, None, Some, Ok, find, refl, sym, ◌∙◌, ap, subst, arith, nat_le}
 use Rattle.std.specs.Prelude.{◌&&◌, ◌||◌, ◌==◌, if◌then◌else◌, nat_lt}
 use Rattle.std.specs.List.{range_with_len, filter, list_any, list_all, count_by, All}
-use Rattle.std.specs.Int.{w32, from_le_bytes}
 use Rattle.std.specs.Str.{bytes_eq}
 use Rattle.std.specs.FinMap as finite
 use Rattle.std.proofs.lemmas.Bool.{eqb-true}
@@ -12,8 +11,9 @@ use Rattle.std.proofs.lemmas.List.Sums.{sum_by-cons}
 use Rattle.store_api.specs.declared.object.Object.{Object}
 use Rattle.store_api.specs.Stores.{Store}
 use Rattle.region_plan.specs.Layout.{Layout}
-use Rattle.region_plan.specs.Parts.{part, are_zero}
-use Rattle.region_plan.specs.Entries.{entry_at, entry_of, entry_number, form_of, is_inode, is_data_of, is_data_at, is_well_formed}
+use Rattle.region_plan.specs.Parts.{are_zero}
+use Rattle.region_plan.proofs.FormLemmas.{IsLaid}
+use Rattle.region_plan.specs.Entries.{entry_at, entry_number, number_in, form_of, is_zero, is_inode, is_data_of, is_data_at, is_well_formed}
 use Rattle.region_plan.specs.Inodes.{four_at, length_in, identifier_in, secret_in, is_inode_leaf}
 use Rattle.region_plan.specs.Laws.{AgreeInUse}
 use Rattle.region_plan.specs.Regions.{numbers, is_doubled, has_one, is_past, has_data, is_padded, breaks, leaf_of, byte_in, byte_at, content_of}
@@ -108,13 +108,16 @@ used_data : (a b : Bool) → b ≡ true → (a || b) ≡ true
 used_data true b is = refl
 used_data false b is = is
 
-module _ (L : Layout) (leaves others : ℕ → List ℕ) (agree : AgreeInUse L leaves others) (mapped : (i : ℕ) → i < L.leaves → i / L.entries < L.map_leaves) (filled : 0 < L.leaves) where
+module _ (L : Layout) (leaves others : ℕ → List ℕ) (agree : AgreeInUse L leaves others) (laid : IsLaid L) where
+  mapped : (i : ℕ) → i < L.leaves → i / 256 < L.map_leaves
+  mapped i below = (let whole = laid.mapped in omega (arith, whole, below))
+
   number_same : (i : ℕ) → i < L.leaves → entry_number L others i ≡ entry_number L leaves i
-  number_same i below = ap (λ (bytes : List ℕ). from_le_bytes w32 (part (L.width * (i % L.entries)) L.width bytes)) (agree.map (i / L.entries) (mapped i below))
+  number_same i below = ap (λ (bytes : List ℕ). number_in bytes (i % 256)) (agree.map (i / 256) (mapped i below))
 
   entry_same : (i : ℕ) → i < L.leaves → entry_at L others i ≡ entry_at L leaves i
   unfolding entry_at
-  entry_same i below = ap (entry_of L) (number_same i below)
+  entry_same i below = ap (λ (n : ℕ). L.entry_of n) (number_same i below)
 
   inode_same : (i : ℕ) → i < L.leaves → is_inode L others i ≡ is_inode L leaves i
   inode_same i below = ap (λ (e : Entry). e.kind == INODE) (entry_same i below)
@@ -124,14 +127,14 @@ module _ (L : Layout) (leaves others : ℕ → List ℕ) (agree : AgreeInUse L l
 
   owner_below : (i : ℕ) → (entry_at L leaves i).inode < L.leaves
   unfolding entry_at
-  owner_below i = omega (arith, filled)
+  owner_below i = laid.inode (entry_number L leaves i)
 
   formed_same : (i : ℕ) → i < L.leaves → is_well_formed L others i ≡ is_well_formed L leaves i
   unfolding is_well_formed
   formed_same i below =
-      ap (λ (n : ℕ). if nat_lt i L.map_leaves then n == 0 else form_of i (entry_at L others i) (is_inode L others (entry_at L others i).inode)) (number_same i below)
-      ∙ ap (λ (e : Entry). if nat_lt i L.map_leaves then entry_number L leaves i == 0 else form_of i e (is_inode L others e.inode)) (entry_same i below)
-      ∙ ap (λ b. if nat_lt i L.map_leaves then entry_number L leaves i == 0 else form_of i (entry_at L leaves i) b) (inode_same (entry_at L leaves i).inode (owner_below i))
+      ap (λ (e : Entry). if nat_lt i L.map_leaves then is_zero e else form_of i e (is_inode L others e.inode && nat_lt e.index L.indexes)) (entry_same i below)
+      ∙ ap (λ b. if nat_lt i L.map_leaves then is_zero (entry_at L leaves i) else form_of i (entry_at L leaves i) (b && nat_lt (entry_at L leaves i).index L.indexes))
+      (inode_same (entry_at L leaves i).inode (owner_below i))
 
   -- an inode's leaf, and a leaf of data, are as they were
   at_inode : (i : ℕ) → i < L.leaves → is_inode L leaves i ≡ true → others i ≡ leaves i
@@ -187,21 +190,21 @@ module _ (L : Layout) (leaves others : ℕ → List ℕ) (agree : AgreeInUse L l
   unfolding is_well_formed
   owner_is i formed is later =
       let kind : (entry_at L leaves i).kind ≡ 2 = eqb-true (entry_at L leaves i).kind 2 is in
-      let form : form_of i (entry_at L leaves i) (is_inode L leaves (entry_at L leaves i).inode) ≡ true =
-      subst (λ b. (if b then entry_number L leaves i == 0 else form_of i (entry_at L leaves i) (is_inode L leaves (entry_at L leaves i).inode)) ≡ true) later formed in
-      of_form i (entry_at L leaves i) _ kind form
+      let form : form_of i (entry_at L leaves i) (is_inode L leaves (entry_at L leaves i).inode && nat_lt (entry_at L leaves i).index L.indexes) ≡ true =
+      subst (λ b. (if b then is_zero (entry_at L leaves i) else form_of i (entry_at L leaves i) (is_inode L leaves (entry_at L leaves i).inode && nat_lt (entry_at L leaves i).index L.indexes)) ≡ true)
+      later formed in
+      front _ _ (of_form i (entry_at L leaves i) _ kind form)
     where
       of_form : (i : ℕ) (e : Entry) (b : Bool) → e.kind ≡ 2 → form_of i e b ≡ true → b ≡ true
       of_form i e b kind form = sym (ap (λ (k : ℕ). form_of i (record e { kind = k }) b) kind) ∙ form
 
   -- the map's own entries, where they follow the rules, are no data
   map_free : (i : ℕ) → is_well_formed L leaves i ≡ true → nat_lt i L.map_leaves ≡ true → ((entry_at L leaves i).kind == DATA) ≡ false
-  unfolding is_well_formed entry_at
+  unfolding is_well_formed
   map_free i formed is =
-      let zero' : (entry_number L leaves i == 0) ≡ true = subst (λ b. (if b then entry_number L leaves i == 0 else form_of i (entry_of L (entry_number L leaves i))
-      (is_inode L leaves (entry_of L (entry_number L leaves i)).inode)) ≡ true) is formed in
-      let none : entry_number L leaves i ≡ 0 = eqb-true (entry_number L leaves i) 0 zero' in
-      let kind : (entry_of L (entry_number L leaves i)).kind ≡ 0 = omega (arith, none) in
+      let zero' : is_zero (entry_at L leaves i) ≡ true = subst (λ b. (if b then is_zero (entry_at L leaves i) else form_of i (entry_at L leaves i)
+      (is_inode L leaves (entry_at L leaves i).inode && nat_lt (entry_at L leaves i).index L.indexes)) ≡ true) is formed in
+      let kind : (entry_at L leaves i).kind ≡ 0 = eqb-true (entry_at L leaves i).kind 0 (front _ _ zero') in
       ap (λ (k : ℕ). k == DATA) kind
 
   breaks_same : (i : ℕ) → i < L.leaves → breaks L others i ≡ breaks L leaves i

@@ -6,7 +6,7 @@ use Rattle.std.specs.List.{range_with_len}
 use Rattle.std.proofs.lemmas.Bool.{eqb-true, eq-eqb, ltb-true, ltb-false, leb-true, leb-false, lt-ltb, le-ltb, and_from}
 use Rattle.std.proofs.lemmas.Grind.{same_number_lists}
 use Rattle.std.proofs.lemmas.List.FromFn.{get_or-map-range_with_len, length-map-range_with_len}
-use Rattle.region_plan.specs.Layout.{version_one}
+use Rattle.region_plan.specs.Layout.{Layout}
 use Rattle.region_plan.specs.Parts.{are_zero}
 use Rattle.region_plan.specs.Edits.{byte_after, content_after, is_touched, is_left, IsEditedLeaf}
 use Rattle.region_plan.specs.Entries.{entry_at, is_data_of, is_data_at}
@@ -15,6 +15,7 @@ use Rattle.region_plan.specs.Regions.{numbers, leaf_of, byte_in, byte_at, conten
 use Rattle.region_plan.specs.declared.edit.Edit.{Edit}
 use Rattle.region_plan.proofs.SoundLemmas.{and_both}
 use Rattle.region_plan.proofs.PlaceLemmas.{HasEach}
+use Rattle.region_plan.proofs.FormLemmas.{IsLaid}
 
 -- zeros behind a place
 pub zeros_from : (m u : ℕ) (b : List ℕ) → ((j : ℕ) → u ≤ j → j < m → get_or b j 0 ≡ 0) → are_zero (drop u (take m b)) ≡ true
@@ -60,52 +61,33 @@ only_found p (suc n) a k low high is only =
 abbrev pub IsLeafOf : List ℕ → ℕ → List ℕ → Type 0
 IsLeafOf content x b = (j : ℕ) → j < 1024 → get_or b j 0 ≡ get_or content (1024 * x + j) 0
 
--- where an inode has each index of its data, its content is what its leaves hold
-module _ (leaves : ℕ → List ℕ) (n : ℕ) (each : HasEach leaves n (data_leaves (length_in (leaves n)))) where
-  pub leaf_is : (x k : ℕ) → x < data_leaves (length_in (leaves n)) → k < 256 → is_data_at version_one leaves n x k ≡ true → leaf_of version_one leaves n x ≡ Some k
-  unfolding leaf_of numbers
-  leaf_is x k inside below is = only_found (λ i. is_data_at version_one leaves n x i) 256 0 k (omega arith) (omega arith) is (λ j low high t. each.single x j k inside (omega arith) below t is)
+true_not_false : {A : Type 0} {b : Bool} → b ≡ true → b ≡ false → A
+true_not_false is isnt = absurd (let f : true ≡ false = sym is ∙ isnt in cc)
 
-  byte_is : (x k p : ℕ) → p / 1024 ≡ x → x < data_leaves (length_in (leaves n)) → k < 256 → is_data_at version_one leaves n x k ≡ true → byte_at version_one leaves n p ≡ get_or (leaves k) (p % 1024) 0
-  unfolding byte_at
-  byte_is x k p at inside below is = ap (λ (y : ℕ). byte_in version_one leaves (leaf_of version_one leaves n y) (p % 1024)) at
-      ∙ ap (λ r. byte_in version_one leaves r (p % 1024)) (leaf_is x k inside below is)
+-- a leaf that was there, and is written
+pub touched_leaf : (edit : Edit) (index blocks : ℕ) (block old new : List ℕ) (touched : Bool) → blocks ≡ data_leaves edit.kept → index < blocks → touched ≡ is_touched edit index →
+    touched ≡ true → block ≡ old
+    → ((k : ℕ) → k < 1024 → get_or new k 0 ≡ byte_after edit (1024 * index + k) (get_or block k 0)) → IsEditedLeaf edit index old new
+touched_leaf edit index blocks block old new touched many inside told is same written =
+    let there : nat_lt index (data_leaves edit.kept) ≡ true = lt-ltb index (data_leaves edit.kept) (omega (arith, inside, many)) in
+    let not_left : is_left edit index ≡ false = ap (λ b. b && not (is_touched edit index)) there ∙ ap not (sym told ∙ is) in
+    record {
+      left = λ e. true_not_false e not_left;
+      changed = λ e k less. written k less ∙ ap (λ (x : List ℕ). byte_after edit (1024 * index + k) (get_or x k 0)) same
+          ∙ sym (ap (λ b. byte_after edit (1024 * index + k) (cond b (get_or old k 0) 0)) there);
+    }
 
-  -- the content is another one of that length whose leaves these are
-  pub content_is : (content : List ℕ) → length content ≡ length_in (leaves n) → ((k : ℕ) → k < 256 → is_data_of version_one leaves n k ≡ true →
-      IsLeafOf content (entry_at version_one leaves k).index (leaves k))
-      → content_of version_one leaves n ≡ map (λ p. get_or content p 0) (range_with_len 0 (length_in (leaves n)))
-  unfolding content_of
-  content_is content long held = map_range (λ at. byte_at version_one leaves n at) (λ p. get_or content p 0) (length_in (leaves n)) 0 (λ p low high.
-      let inside : p / 1024 < data_leaves (length_in (leaves n)) = omega (arith, high) in
-      let met = each.present (p / 1024) inside in
-      let parts = and_both _ _ met.2 in
-      let index : (entry_at version_one leaves met.0).index ≡ p / 1024 = eqb-true _ _ parts.1 in
-      let place : 1024 * (entry_at version_one leaves met.0).index + p % 1024 ≡ p = omega (arith, index) in
-      byte_is (p / 1024) met.0 p refl inside met.1 met.2 ∙ held met.0 met.1 parts.0 (p % 1024) (omega arith) ∙ ap (λ (q : ℕ). get_or content q 0) place)
-
-  -- the leaves of data are the content's
-  pub leaves_held : ((k : ℕ) → k < 256 → is_data_of version_one leaves n k ≡ true → are_zero (drop (length_in (leaves n) - 1024 * (entry_at version_one leaves k).index) (take 1024 (leaves k))) ≡ true)
-      → (k : ℕ) → k < 256 → is_data_of version_one leaves n k ≡ true → IsLeafOf (content_of version_one leaves n) (entry_at version_one leaves k).index (leaves k)
-  unfolding content_of
-  leaves_held padded k below is j less =
-      let x : ℕ = (entry_at version_one leaves k).index in
-      elim (nat_lt (1024 * (entry_at version_one leaves k).index + j) (length_in (leaves n))) as (λ b. nat_lt (1024 * (entry_at version_one leaves k).index + j) (length_in (leaves n)) ≡ b
-      → get_or (leaves k) j 0 ≡ get_or (map (λ at. byte_at version_one leaves n at) (range_with_len 0 (length_in (leaves n)))) (1024 * (entry_at version_one leaves k).index + j) 0) [
-        | true ↦ λ e.
-            let inside : 1024 * (entry_at version_one leaves k).index + j < length_in (leaves n) = ltb-true _ _ e in
-            let at : (1024 * (entry_at version_one leaves k).index + j) / 1024 ≡ (entry_at version_one leaves k).index = omega arith in
-            let rest : (1024 * (entry_at version_one leaves k).index + j) % 1024 ≡ j = omega arith in
-            let byte = byte_is (entry_at version_one leaves k).index k (1024 * (entry_at version_one leaves k).index + j) at (each.before k below is) below (and_from _ _ is (eq-eqb _ _ refl)) in
-            sym (get_or-map-range_with_len (λ p. byte_at version_one leaves n p) 0 (length_in (leaves n)) (1024 * (entry_at version_one leaves k).index + j)
-            (1024 * (entry_at version_one leaves k).index + j) 0 inside (omega arith)
-            ∙ byte ∙ ap (λ (q : ℕ). get_or (leaves k) q 0) rest)
-        | false ↦ λ e.
-            let past : length_in (leaves n) ≤ 1024 * (entry_at version_one leaves k).index + j = ltb-false _ _ e in
-            zeros_at 1024 (length_in (leaves n) - 1024 * (entry_at version_one leaves k).index) (leaves k) j (padded k below is) (omega (arith, past)) less
-            ∙ sym (past_end (map (λ at. byte_at version_one leaves n at) (range_with_len 0 (length_in (leaves n)))) (1024 * (entry_at version_one leaves k).index + j)
-            (omega (arith, past, length-map-range_with_len (λ at. byte_at version_one leaves n at) 0 (length_in (leaves n)))))
-      ] refl
+-- a leaf that wasn't there
+pub fresh_leaf : (edit : Edit) (index blocks : ℕ) (block old new : List ℕ) → blocks ≡ data_leaves edit.kept → blocks ≤ index → ((k : ℕ) → k < 1024 → get_or block k 0 ≡ 0)
+    → ((k : ℕ) → k < 1024 → get_or new k 0 ≡ byte_after edit (1024 * index + k) (get_or block k 0)) → IsEditedLeaf edit index old new
+fresh_leaf edit index blocks block old new many past zeros written =
+    let absent : nat_lt index (data_leaves edit.kept) ≡ false = le-ltb index (data_leaves edit.kept) (omega (arith, past, many)) in
+    let not_left : is_left edit index ≡ false = ap (λ b. b && not (is_touched edit index)) absent in
+    record {
+      left = λ e. true_not_false e not_left;
+      changed = λ e k less. written k less ∙ ap (λ (x : ℕ). byte_after edit (1024 * index + k) x) (zeros k less)
+          ∙ sym (ap (λ b. byte_after edit (1024 * index + k) (cond b (get_or old k 0) 0)) absent);
+    }
 
 -- a leaf of an edited content
 module _ (edit : Edit) (old : List ℕ) (long : length old ≡ edit.kept) where
@@ -189,48 +171,70 @@ module _ (edit : Edit) (old : List ℕ) (long : length old ≡ edit.kept) where
       same_number_lists _ _ (length-map-range_with_len (λ p. get_or content p 0) 0 m ∙ sym is)
       (λ k less. get_or-map-range_with_len (λ p. get_or content p 0) 0 m k k 0 (omega (arith, less, length-map-range_with_len (λ p. get_or content p 0) 0 m)) (omega arith))
 
-  -- an object whose leaves were edited has the edited content
-  module _ (leaves after : ℕ → List ℕ) (n : ℕ) (length_is : length_in (after n) ≡ edit.length) (each : HasEach after n (data_leaves edit.length))
-      (was : (k : ℕ) → k < 256 → is_data_of version_one after n k ≡ true → (entry_at version_one after k).index < data_leaves edit.kept → IsLeafOf old (entry_at version_one after k).index (leaves k))
-      (edited : (k : ℕ) → k < 256 → is_data_of version_one after n k ≡ true → IsEditedLeaf edit (entry_at version_one after k).index (leaves k) (after k)) where
-    leaf_now : (k : ℕ) → k < 256 → is_data_of version_one after n k ≡ true → IsLeafOf (content_after edit old) (entry_at version_one after k).index (after k)
-    leaf_now k below is j less =
-        leaf_edited (entry_at version_one after k).index (leaves k) (after k) (was k below is) (edited k below is) j less ∙ after_byte (1024 * (entry_at version_one after k).index + j)
+module _ (L : Layout) (laid : IsLaid L) where
+  -- where an inode has each index of its data, its content is what its leaves hold
+  module _ (leaves : ℕ → List ℕ) (n : ℕ) (each : HasEach L laid leaves n (data_leaves (length_in (leaves n)))) where
+    pub leaf_is : (x k : ℕ) → x < data_leaves (length_in (leaves n)) → k < L.leaves → is_data_at L leaves n x k ≡ true → leaf_of L leaves n x ≡ Some k
+    unfolding leaf_of numbers
+    leaf_is x k inside below is = only_found (λ i. is_data_at L leaves n x i) L.leaves 0 k (omega arith) (omega arith) is (λ j low high t. each.single x j k inside (omega arith) below t is)
 
-    pub edited_content : content_of version_one after n ≡ content_after edit old
-    edited_content =
-        content_is after n (subst (λ (m : ℕ). HasEach after n (data_leaves m)) (sym length_is) each) (content_after edit old) (after_long ∙ sym length_is) leaf_now
-        ∙ listed_again (content_after edit old) (length_in (after n)) (after_long ∙ sym length_is)
+    byte_is : (x k p : ℕ) → p / 1024 ≡ x → x < data_leaves (length_in (leaves n)) → k < L.leaves → is_data_at L leaves n x k ≡ true → byte_at L leaves n p ≡ get_or (leaves k) (p % 1024) 0
+    unfolding byte_at
+    byte_is x k p at inside below is = ap (λ (y : ℕ). byte_in L leaves (leaf_of L leaves n y) (p % 1024)) at
+        ∙ ap (λ r. byte_in L leaves r (p % 1024)) (leaf_is x k inside below is)
 
-    pub edited_padded : (k : ℕ) → k < 256 → is_data_of version_one after n k ≡ true → are_zero (drop (length_in (after n) - 1024 * (entry_at version_one after k).index) (take 1024 (after k))) ≡ true
-    edited_padded k below is =
-        zeros_from 1024 (length_in (after n) - 1024 * (entry_at version_one after k).index) (after k) (λ j low high.
-        leaf_now k below is j high ∙ past_end (content_after edit old) (1024 * (entry_at version_one after k).index + j) (omega (arith, low, after_long, length_is)))
+    -- the content is another one of that length whose leaves these are
+    pub content_is : (content : List ℕ) → length content ≡ length_in (leaves n) → ((k : ℕ) → k < L.leaves → is_data_of L leaves n k ≡ true →
+        IsLeafOf content (entry_at L leaves k).index (leaves k))
+        → content_of L leaves n ≡ map (λ p. get_or content p 0) (range_with_len 0 (length_in (leaves n)))
+    unfolding content_of
+    content_is content long held = map_range (λ at. byte_at L leaves n at) (λ p. get_or content p 0) (length_in (leaves n)) 0 (λ p low high.
+        let inside : p / 1024 < data_leaves (length_in (leaves n)) = omega (arith, high) in
+        let met = each.present (p / 1024) inside in
+        let parts = and_both _ _ met.2 in
+        let index : (entry_at L leaves met.0).index ≡ p / 1024 = eqb-true _ _ parts.1 in
+        let place : 1024 * (entry_at L leaves met.0).index + p % 1024 ≡ p = omega (arith, index) in
+        byte_is (p / 1024) met.0 p refl inside met.1 met.2 ∙ held met.0 met.1 parts.0 (p % 1024) (omega arith) ∙ ap (λ (q : ℕ). get_or content q 0) place)
 
-true_not_false : {A : Type 0} {b : Bool} → b ≡ true → b ≡ false → A
-true_not_false is isnt = absurd (let f : true ≡ false = sym is ∙ isnt in cc)
+    -- the leaves of data are the content's
+    pub leaves_held : ((k : ℕ) → k < L.leaves → is_data_of L leaves n k ≡ true → are_zero (drop (length_in (leaves n) - 1024 * (entry_at L leaves k).index) (take 1024 (leaves k))) ≡ true)
+        → (k : ℕ) → k < L.leaves → is_data_of L leaves n k ≡ true → IsLeafOf (content_of L leaves n) (entry_at L leaves k).index (leaves k)
+    unfolding content_of
+    leaves_held padded k below is j less =
+        let x : ℕ = (entry_at L leaves k).index in
+        elim (nat_lt (1024 * (entry_at L leaves k).index + j) (length_in (leaves n))) as (λ b. nat_lt (1024 * (entry_at L leaves k).index + j) (length_in (leaves n)) ≡ b
+        → get_or (leaves k) j 0 ≡ get_or (map (λ at. byte_at L leaves n at) (range_with_len 0 (length_in (leaves n)))) (1024 * (entry_at L leaves k).index + j) 0) [
+          | true ↦ λ e.
+              let inside : 1024 * (entry_at L leaves k).index + j < length_in (leaves n) = ltb-true _ _ e in
+              let at : (1024 * (entry_at L leaves k).index + j) / 1024 ≡ (entry_at L leaves k).index = omega arith in
+              let rest : (1024 * (entry_at L leaves k).index + j) % 1024 ≡ j = omega arith in
+              let byte = byte_is (entry_at L leaves k).index k (1024 * (entry_at L leaves k).index + j) at (each.before k below is) below (and_from _ _ is (eq-eqb _ _ refl)) in
+              sym (get_or-map-range_with_len (λ p. byte_at L leaves n p) 0 (length_in (leaves n)) (1024 * (entry_at L leaves k).index + j)
+              (1024 * (entry_at L leaves k).index + j) 0 inside (omega arith)
+              ∙ byte ∙ ap (λ (q : ℕ). get_or (leaves k) q 0) rest)
+          | false ↦ λ e.
+              let past : length_in (leaves n) ≤ 1024 * (entry_at L leaves k).index + j = ltb-false _ _ e in
+              zeros_at 1024 (length_in (leaves n) - 1024 * (entry_at L leaves k).index) (leaves k) j (padded k below is) (omega (arith, past)) less
+              ∙ sym (past_end (map (λ at. byte_at L leaves n at) (range_with_len 0 (length_in (leaves n)))) (1024 * (entry_at L leaves k).index + j)
+              (omega (arith, past, length-map-range_with_len (λ at. byte_at L leaves n at) 0 (length_in (leaves n)))))
+        ] refl
 
--- a leaf that was there, and is written
-pub touched_leaf : (edit : Edit) (index blocks : ℕ) (block old new : List ℕ) (touched : Bool) → blocks ≡ data_leaves edit.kept → index < blocks → touched ≡ is_touched edit index →
-    touched ≡ true → block ≡ old
-    → ((k : ℕ) → k < 1024 → get_or new k 0 ≡ byte_after edit (1024 * index + k) (get_or block k 0)) → IsEditedLeaf edit index old new
-touched_leaf edit index blocks block old new touched many inside told is same written =
-    let there : nat_lt index (data_leaves edit.kept) ≡ true = lt-ltb index (data_leaves edit.kept) (omega (arith, inside, many)) in
-    let not_left : is_left edit index ≡ false = ap (λ b. b && not (is_touched edit index)) there ∙ ap not (sym told ∙ is) in
-    record {
-      left = λ e. true_not_false e not_left;
-      changed = λ e k less. written k less ∙ ap (λ (x : List ℕ). byte_after edit (1024 * index + k) (get_or x k 0)) same
-          ∙ sym (ap (λ b. byte_after edit (1024 * index + k) (cond b (get_or old k 0) 0)) there);
-    }
+  -- an edited content
+  module _ (edit : Edit) (old : List ℕ) (long : length old ≡ edit.kept) where
+    -- an object whose leaves were edited has the edited content
+    module _ (leaves after : ℕ → List ℕ) (n : ℕ) (length_is : length_in (after n) ≡ edit.length) (each : HasEach L laid after n (data_leaves edit.length))
+        (was : (k : ℕ) → k < L.leaves → is_data_of L after n k ≡ true → (entry_at L after k).index < data_leaves edit.kept → IsLeafOf old (entry_at L after k).index (leaves k))
+        (edited : (k : ℕ) → k < L.leaves → is_data_of L after n k ≡ true → IsEditedLeaf edit (entry_at L after k).index (leaves k) (after k)) where
+      leaf_now : (k : ℕ) → k < L.leaves → is_data_of L after n k ≡ true → IsLeafOf (content_after edit old) (entry_at L after k).index (after k)
+      leaf_now k below is j less =
+          leaf_edited edit old long (entry_at L after k).index (leaves k) (after k) (was k below is) (edited k below is) j less ∙ after_byte edit old long (1024 * (entry_at L after k).index + j)
 
--- a leaf that wasn't there
-pub fresh_leaf : (edit : Edit) (index blocks : ℕ) (block old new : List ℕ) → blocks ≡ data_leaves edit.kept → blocks ≤ index → ((k : ℕ) → k < 1024 → get_or block k 0 ≡ 0)
-    → ((k : ℕ) → k < 1024 → get_or new k 0 ≡ byte_after edit (1024 * index + k) (get_or block k 0)) → IsEditedLeaf edit index old new
-fresh_leaf edit index blocks block old new many past zeros written =
-    let absent : nat_lt index (data_leaves edit.kept) ≡ false = le-ltb index (data_leaves edit.kept) (omega (arith, past, many)) in
-    let not_left : is_left edit index ≡ false = ap (λ b. b && not (is_touched edit index)) absent in
-    record {
-      left = λ e. true_not_false e not_left;
-      changed = λ e k less. written k less ∙ ap (λ (x : ℕ). byte_after edit (1024 * index + k) x) (zeros k less)
-          ∙ sym (ap (λ b. byte_after edit (1024 * index + k) (cond b (get_or old k 0) 0)) absent);
-    }
+      pub edited_content : content_of L after n ≡ content_after edit old
+      edited_content =
+          content_is after n (subst (λ (m : ℕ). HasEach L laid after n (data_leaves m)) (sym length_is) each) (content_after edit old) (after_long edit old long ∙ sym length_is) leaf_now
+          ∙ listed_again edit old long (content_after edit old) (length_in (after n)) (after_long edit old long ∙ sym length_is)
+
+      pub edited_padded : (k : ℕ) → k < L.leaves → is_data_of L after n k ≡ true → are_zero (drop (length_in (after n) - 1024 * (entry_at L after k).index) (take 1024 (after k))) ≡ true
+      edited_padded k below is =
+          zeros_from 1024 (length_in (after n) - 1024 * (entry_at L after k).index) (after k) (λ j low high.
+          leaf_now k below is j high ∙ past_end (content_after edit old) (1024 * (entry_at L after k).index + j) (omega (arith, low, after_long edit old long, length_is)))

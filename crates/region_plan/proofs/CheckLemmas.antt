@@ -7,7 +7,7 @@ use Rattle.std.proofs.lemmas.Bool.{eqb-true, eq-eqb, le-leb, leb-true, leb-false
 use Rattle.std.proofs.lemmas.List.Sums.{sum_by-cons}
 use Rattle.std.proofs.lemmas.List.Folds.{list_any_at, list_all_at}
 use Rattle.std.proofs.lemmas.List.FromFn.{get_or-range_with_len, length-range_with_len}
-use Rattle.region_plan.specs.Layout.{Layout, version_one}
+use Rattle.region_plan.specs.Layout.{Layout}
 use Rattle.region_plan.specs.Entries.{entry_at, is_inode, is_data_of, is_data_at}
 use Rattle.region_plan.specs.Inodes.{inode_of, identifier_in, length_in}
 use Rattle.region_plan.specs.Regions.{numbers, has_one, has_data, is_doubled, is_past, leaf_of, data_leaves}
@@ -15,6 +15,7 @@ use Rattle.region_plan.specs.declared.entry.Entry.{Entry}
 use Rattle.region_plan.specs.declared.entry.TheConstants.{DATA}
 use Rattle.region_plan.specs.declared.inode.Inode.{Inode}
 use Rattle.region_plan.specs.Tables.{inodes_below}
+use Rattle.region_plan.proofs.FormLemmas.{IsLaid}
 
 -- what passes is counted
 count_some : (p : ℕ → Bool) (n a k : ℕ) → a ≤ k → k < a + n → p k ≡ true → 1 ≤ count_by p (range_with_len a n)
@@ -114,41 +115,6 @@ none_is (Some x) b is told = absurd (let f : true ≡ false = is ∙ ap not told
 pub other_leaf : (first leaf : ℕ) → (first == leaf) ≡ false → Some first ≡ Some leaf → ⊥
 other_leaf first leaf apart same = (let e : first ≡ leaf = cc in let f : true ≡ false = sym (eq-eqb first leaf e) ∙ apart in cc)
 
-pub of_inode : (leaves : ℕ → List ℕ) (inode i : ℕ) (e : Entry) → e ≡ entry_at version_one leaves i → e.kind ≡ 2 → e.inode ≡ inode → is_data_of version_one leaves inode i ≡ true
-of_inode leaves inode i e is kind owner =
-    ap (λ (x : Entry). (x.kind == DATA) && (x.inode == inode)) (sym is) ∙ and_from (e.kind == DATA) (e.inode == inode) (eq-eqb e.kind 2 kind) (eq-eqb e.inode inode owner)
-
-pub past_entry : (leaves : ℕ → List ℕ) (inode i blocks : ℕ) (e : Entry) → i < 256 → e ≡ entry_at version_one leaves i → e.kind ≡ 2 → e.inode ≡ inode →
-    blocks ≡ data_leaves (length_in (leaves inode)) → blocks ≤ e.index → has_data version_one leaves inode ≡ false
-past_entry leaves inode i blocks e below is kind owner long past =
-    past_wrong version_one leaves inode i below (of_inode leaves inode i e is kind owner) (subst (λ (x : Entry). data_leaves (length_in (leaves inode)) ≤ x.index) is
-    (subst (λ (n : ℕ). n ≤ e.index) long past))
-
-pub elsewhere_entry : (leaves : ℕ → List ℕ) (inode i blocks : ℕ) (e : Entry) (r : Option ℕ) → i < 256 → e ≡ entry_at version_one leaves i → e.kind ≡ 2 → e.inode ≡ inode →
-    blocks ≡ data_leaves (length_in (leaves inode)) → e.index < blocks
-    → r ≡ leaf_of version_one leaves inode e.index → (r ≡ Some i → ⊥) → has_data version_one leaves inode ≡ false
-elsewhere_entry leaves inode i blocks e r below is kind owner long before found other =
-    elsewhere_wrong version_one leaves inode i below (of_inode leaves inode i e is kind owner)
-    (subst (λ (x : Entry). x.index < data_leaves (length_in (leaves inode))) is (subst (λ (n : ℕ). e.index < n) long before))
-    (λ same. other (found ∙ ap (λ (x : Entry). leaf_of version_one leaves inode x.index) is ∙ same))
-
--- whether an inode that was read has the identifier of none before it
-pub new_is : (leaves : ℕ → List ℕ) (n : ℕ) (block : List ℕ) (inode : Inode) (id : List ℕ) (before : List Inode) (r : Bool) → block ≡ leaves n → inode ≡ inode_of n block →
-    id ≡ inode.id → before ≡ inodes_below version_one leaves n → r ≡ not (list_any (λ x. bytes_eq x.id id) before) → r ≡ not (is_doubled version_one leaves n)
-new_is leaves n block inode id before r read is named earlier told =
-    let id_is : id ≡ identifier_in (leaves n) = named ∙ ap (λ (x : Inode). x.id) is ∙ ap (λ (b : List ℕ). (inode_of n b).id) read ∙ told_id version_one leaves n in
-    told ∙ ap not (ap (λ (l : List Inode). list_any (λ x. bytes_eq x.id id) l) earlier ∙ doubled_is version_one leaves n id id_is)
-
-pub doubled_from : (leaves : ℕ → List ℕ) (n : ℕ) (block : List ℕ) (inode : Inode) (id : List ℕ) (before : List Inode) (r : Bool) → block ≡ leaves n → inode ≡ inode_of n block →
-    id ≡ inode.id → before ≡ inodes_below version_one leaves n
-    → r ≡ not (list_any (λ x. bytes_eq x.id id) before) → r ≡ false → is_doubled version_one leaves n ≡ true
-doubled_from leaves n block inode id before r read is named earlier told isnt = not-false _ (sym (new_is leaves n block inode id before r read is named earlier told) ∙ isnt)
-
-pub single_from : (leaves : ℕ → List ℕ) (n : ℕ) (block : List ℕ) (inode : Inode) (id : List ℕ) (before : List Inode) (r : Bool) → block ≡ leaves n → inode ≡ inode_of n block →
-    id ≡ inode.id → before ≡ inodes_below version_one leaves n
-    → r ≡ not (list_any (λ x. bytes_eq x.id id) before) → r ≡ true → is_doubled version_one leaves n ≡ false
-single_from leaves n block inode id before r read is named earlier told yes' = not-true _ (sym (new_is leaves n block inode id before r read is named earlier told) ∙ yes')
-
 told_number : (leaves : ℕ → List ℕ) (n : ℕ) → (inode_of n (leaves n)).number ≡ n
 unfolding inode_of
 told_number leaves n = refl
@@ -163,3 +129,39 @@ number_is leaves n block inode read is = ap (λ (x : Inode). x.number) is ∙ ap
 pub length_is : (leaves : ℕ → List ℕ) (n : ℕ) (block : List ℕ) (inode : Inode) → block ≡ leaves n → inode ≡ inode_of n block → inode.length ≡ length_in (leaves inode.number)
 length_is leaves n block inode read is =
     ap (λ (x : Inode). x.length) is ∙ ap (λ (b : List ℕ). (inode_of n b).length) read ∙ told_length leaves n ∙ ap (λ (k : ℕ). length_in (leaves k)) (sym (number_is leaves n block inode read is))
+
+module _ (L : Layout) (laid : IsLaid L) where
+  pub of_inode : (leaves : ℕ → List ℕ) (inode i : ℕ) (e : Entry) → e ≡ entry_at L leaves i → e.kind ≡ 2 → e.inode ≡ inode → is_data_of L leaves inode i ≡ true
+  of_inode leaves inode i e is kind owner =
+      ap (λ (x : Entry). (x.kind == DATA) && (x.inode == inode)) (sym is) ∙ and_from (e.kind == DATA) (e.inode == inode) (eq-eqb e.kind 2 kind) (eq-eqb e.inode inode owner)
+
+  pub past_entry : (leaves : ℕ → List ℕ) (inode i blocks : ℕ) (e : Entry) → i < L.leaves → e ≡ entry_at L leaves i → e.kind ≡ 2 → e.inode ≡ inode →
+      blocks ≡ data_leaves (length_in (leaves inode)) → blocks ≤ e.index → has_data L leaves inode ≡ false
+  past_entry leaves inode i blocks e below is kind owner long past =
+      past_wrong L leaves inode i below (of_inode leaves inode i e is kind owner) (subst (λ (x : Entry). data_leaves (length_in (leaves inode)) ≤ x.index) is
+      (subst (λ (n : ℕ). n ≤ e.index) long past))
+
+  pub elsewhere_entry : (leaves : ℕ → List ℕ) (inode i blocks : ℕ) (e : Entry) (r : Option ℕ) → i < L.leaves → e ≡ entry_at L leaves i → e.kind ≡ 2 → e.inode ≡ inode →
+      blocks ≡ data_leaves (length_in (leaves inode)) → e.index < blocks
+      → r ≡ leaf_of L leaves inode e.index → (r ≡ Some i → ⊥) → has_data L leaves inode ≡ false
+  elsewhere_entry leaves inode i blocks e r below is kind owner long before found other =
+      elsewhere_wrong L leaves inode i below (of_inode leaves inode i e is kind owner)
+      (subst (λ (x : Entry). x.index < data_leaves (length_in (leaves inode))) is (subst (λ (n : ℕ). e.index < n) long before))
+      (λ same. other (found ∙ ap (λ (x : Entry). leaf_of L leaves inode x.index) is ∙ same))
+
+  -- whether an inode that was read has the identifier of none before it
+  pub new_is : (leaves : ℕ → List ℕ) (n : ℕ) (block : List ℕ) (inode : Inode) (id : List ℕ) (before : List Inode) (r : Bool) → block ≡ leaves n → inode ≡ inode_of n block →
+      id ≡ inode.id → before ≡ inodes_below L leaves n → r ≡ not (list_any (λ x. bytes_eq x.id id) before) → r ≡ not (is_doubled L leaves n)
+  new_is leaves n block inode id before r read is named earlier told =
+      let id_is : id ≡ identifier_in (leaves n) = named ∙ ap (λ (x : Inode). x.id) is ∙ ap (λ (b : List ℕ). (inode_of n b).id) read ∙ told_id L leaves n in
+      told ∙ ap not (ap (λ (l : List Inode). list_any (λ x. bytes_eq x.id id) l) earlier ∙ doubled_is L leaves n id id_is)
+
+  pub doubled_from : (leaves : ℕ → List ℕ) (n : ℕ) (block : List ℕ) (inode : Inode) (id : List ℕ) (before : List Inode) (r : Bool) → block ≡ leaves n → inode ≡ inode_of n block →
+      id ≡ inode.id → before ≡ inodes_below L leaves n
+      → r ≡ not (list_any (λ x. bytes_eq x.id id) before) → r ≡ false → is_doubled L leaves n ≡ true
+  doubled_from leaves n block inode id before r read is named earlier told isnt = not-false _ (sym (new_is leaves n block inode id before r read is named earlier told) ∙ isnt)
+
+  pub single_from : (leaves : ℕ → List ℕ) (n : ℕ) (block : List ℕ) (inode : Inode) (id : List ℕ) (before : List Inode) (r : Bool) → block ≡ leaves n → inode ≡ inode_of n block →
+      id ≡ inode.id → before ≡ inodes_below L leaves n
+      → r ≡ not (list_any (λ x. bytes_eq x.id id) before) → r ≡ true → is_doubled L leaves n ≡ false
+  single_from leaves n block inode id before r read is named earlier told yes' = not-true _ (sym (new_is leaves n block inode id before r read is named earlier told) ∙ yes')

@@ -1,13 +1,13 @@
 -- The content of an object, piece by piece.
 use Rattle.std.proofs.Common.{◌≡◌, ℕ, zero, suc, ◌+◌, ◌-◌, ◌*◌, ◌/◌, ◌%◌, ◌<◌, ◌≤◌, min, Bool, true, false, cond, List, [], ◌∷◌, ◌++◌, map, length}
 use Rattle.std.proofs.Common.{get_or, take, drop, None, Some, Result, Ok, Err, find, refl, sym, ◌∙◌, ap, subst, arith, nat_le}
-use Rattle.std.specs.Prelude.{IsTrue, IfOk, ◌&&◌, ◌||◌, ◌==◌}
+use Rattle.std.specs.Prelude.{IsTrue, IfOk, OnOk, ◌&&◌, ◌||◌, ◌==◌}
 use Rattle.std.specs.List.{range_with_len, count_by}
 use Rattle.std.proofs.Math.Seq.{drop-cons}
 use Rattle.std.proofs.lemmas.List.Sums.{sum_by-cons}
 use Rattle.std.proofs.lemmas.Bool.{leb-true, leb-false, lt-leb, eqb-true}
 use Rattle.store_api.specs.declared.answer.StoreAnswer.{StoreAnswer}
-use Rattle.region_plan.specs.Layout.{Layout, version_one}
+use Rattle.region_plan.specs.Layout.{Layout}
 use Rattle.region_plan.specs.Parts.{are_zero}
 use Rattle.region_plan.specs.Entries.{entry_at, is_inode, is_data_at}
 use Rattle.region_plan.specs.Inodes.{length_in}
@@ -15,6 +15,7 @@ use Rattle.region_plan.specs.Regions.{numbers, breaks, byte_at, byte_in, leaf_of
 use Rattle.region_plan.specs.declared.entry.TheConstants.{DATA}
 use Rattle.region_plan.proofs.CheckLemmas.{index_wrong}
 use Rattle.region_plan.proofs.RuleLemmas.{data_breaks, index_breaks}
+use Rattle.region_plan.proofs.FormLemmas.{IsLaid}
 
 -- a part of a list as a function of the places
 pub piece_is : (f : ℕ → ℕ) (xs : List ℕ) (n s a : ℕ) → s + n ≤ length xs → ((j : ℕ) → j < n → f (a + j) ≡ get_or xs (s + j) 0) → take n (drop s xs) ≡ map f (range_with_len a n)
@@ -200,33 +201,6 @@ module _ (L : Layout) (leaves : ℕ → List ℕ) where
   unfolding content_of
   content_part inode start count = part_is (λ n. byte_at L leaves inode n) (length_in (leaves inode)) start count
 
--- one more piece of a content
-pub part_joined : (leaves mid : ℕ → List ℕ) (inode start at stop : ℕ) (old new : List ℕ) → mid ≡ leaves → start ≤ at → at ≤ stop →
-    old ≡ map (λ n. byte_at version_one leaves inode n) (range_with_len start (at - start))
-    → new ≡ old ++ map (λ n. byte_at version_one mid inode n) (range_with_len at (stop - at)) → new ≡ map (λ n. byte_at version_one leaves inode n) (range_with_len start (stop - start))
-part_joined leaves mid inode start at stop old new same low high before is =
-    let seam : at ≡ start + (at - start) = omega arith in
-    let sum : (at - start) + (stop - at) ≡ stop - start = omega arith in
-    is ∙ ap (λ (l : List ℕ). l ++ map (λ n. byte_at version_one mid inode n) (range_with_len at (stop - at))) before
-    ∙ ap (λ (l : ℕ → List ℕ). map (λ n. byte_at version_one leaves inode n) (range_with_len start (at - start)) ++ map (λ n. byte_at version_one l inode n) (range_with_len at (stop - at))) same
-    ∙ ap (λ (k : ℕ). map (λ n. byte_at version_one leaves inode n) (range_with_len start (at - start)) ++ map (λ n. byte_at version_one leaves inode n) (range_with_len k (stop - at))) seam
-    ∙ pieces_joined (λ n. byte_at version_one leaves inode n) (at - start) (stop - at) start
-    ∙ ap (λ (k : ℕ). map (λ n. byte_at version_one leaves inode n) (range_with_len start k)) sum
-
--- what a content answers
-pub content_answer : (leaves mid : ℕ → List ℕ) (number start count long s k : ℕ) (a : List ℕ) → mid ≡ leaves → long ≡ length_in (leaves number) → s ≡ min start long → k ≡ min count (long - s)
-    → a ≡ map (λ n. byte_at version_one mid number n) (range_with_len s ((s + k) - s)) → take count (drop start (content_of version_one leaves number)) ≡ a
-content_answer leaves mid number start count long s k a same is_long is_s is_k is =
-    let n : ℕ = length_in (leaves number) in
-    let begin : min start (length_in (leaves number)) ≡ s = ap (λ (x : ℕ). min start x) (sym is_long) ∙ sym is_s in
-    let many : min count (length_in (leaves number) - min start (length_in (leaves number))) ≡ (s + k) - s =
-    ap (λ (x : ℕ). min count (length_in (leaves number) - x)) begin ∙ ap (λ (x : ℕ). min count (x - s)) (sym is_long) ∙ sym is_k ∙ (let e : k ≡ (s + k) - s = omega arith in e) in
-    content_part version_one leaves number start count
-    ∙ ap (λ (x : ℕ). map (λ m. byte_at version_one leaves number m) (range_with_len x (min count (length_in (leaves number) - min start (length_in (leaves number)))))) begin
-    ∙ ap (λ (x : ℕ). map (λ m. byte_at version_one leaves number m) (range_with_len s x)) many
-    ∙ ap (λ (l : ℕ → List ℕ). map (λ m. byte_at version_one l number m) (range_with_len s ((s + k) - s))) (sym same)
-    ∙ sym is
-
 -- a place of the part of a content is among those that are read
 pub part_inside : (start count long long' s k place : ℕ) → s ≡ min start long → k ≡ min count (long - s) → long ≡ long' → start ≤ place → place < min (start + count) long'
     → (s ≤ place) × (place < s + k)
@@ -236,3 +210,40 @@ part_inside start count long long' s k place is_s is_k is low high = (omega (ari
 pub if_ok : {A : Type 0} (r : Result A StoreAnswer) (P Q : A → Type 0) → ((a : A) → P a → Q a) → IfOk r (λ a. P a) → IfOk r (λ a. Q a)
 if_ok (Ok a) P Q implies is = implies a is
 if_ok (Err e) P Q implies is = tt
+
+pub if_ok_three : {A : Type 0} (r : Result A StoreAnswer) (P Q R T : A → Type 0) → ((a : A) → P a → Q a → R a → T a) → IfOk r (λ a. P a) → IfOk r (λ a. Q a) → IfOk r (λ a. R a)
+    → IfOk r (λ a. T a)
+if_ok_three (Ok a) P Q R T implies p q u = implies a p q u
+if_ok_three (Err e) P Q R T implies p q u = tt
+
+pub on_ok : {A : Type 0} (r : Result A StoreAnswer) (P : Type 0) → P → OnOk r P
+on_ok (Ok a) P is = is
+on_ok (Err e) P is = tt
+
+module _ (L : Layout) (laid : IsLaid L) where
+  -- one more piece of a content
+  pub part_joined : (leaves mid : ℕ → List ℕ) (inode start at stop : ℕ) (old new : List ℕ) → mid ≡ leaves → start ≤ at → at ≤ stop →
+      old ≡ map (λ n. byte_at L leaves inode n) (range_with_len start (at - start))
+      → new ≡ old ++ map (λ n. byte_at L mid inode n) (range_with_len at (stop - at)) → new ≡ map (λ n. byte_at L leaves inode n) (range_with_len start (stop - start))
+  part_joined leaves mid inode start at stop old new same low high before is =
+      let seam : at ≡ start + (at - start) = omega arith in
+      let sum : (at - start) + (stop - at) ≡ stop - start = omega arith in
+      is ∙ ap (λ (l : List ℕ). l ++ map (λ n. byte_at L mid inode n) (range_with_len at (stop - at))) before
+      ∙ ap (λ (l : ℕ → List ℕ). map (λ n. byte_at L leaves inode n) (range_with_len start (at - start)) ++ map (λ n. byte_at L l inode n) (range_with_len at (stop - at))) same
+      ∙ ap (λ (k : ℕ). map (λ n. byte_at L leaves inode n) (range_with_len start (at - start)) ++ map (λ n. byte_at L leaves inode n) (range_with_len k (stop - at))) seam
+      ∙ pieces_joined (λ n. byte_at L leaves inode n) (at - start) (stop - at) start
+      ∙ ap (λ (k : ℕ). map (λ n. byte_at L leaves inode n) (range_with_len start k)) sum
+
+  -- what a content answers
+  pub content_answer : (leaves mid : ℕ → List ℕ) (number start count long s k : ℕ) (a : List ℕ) → mid ≡ leaves → long ≡ length_in (leaves number) → s ≡ min start long → k ≡ min count (long - s)
+      → a ≡ map (λ n. byte_at L mid number n) (range_with_len s ((s + k) - s)) → take count (drop start (content_of L leaves number)) ≡ a
+  content_answer leaves mid number start count long s k a same is_long is_s is_k is =
+      let n : ℕ = length_in (leaves number) in
+      let begin : min start (length_in (leaves number)) ≡ s = ap (λ (x : ℕ). min start x) (sym is_long) ∙ sym is_s in
+      let many : min count (length_in (leaves number) - min start (length_in (leaves number))) ≡ (s + k) - s =
+      ap (λ (x : ℕ). min count (length_in (leaves number) - x)) begin ∙ ap (λ (x : ℕ). min count (x - s)) (sym is_long) ∙ sym is_k ∙ (let e : k ≡ (s + k) - s = omega arith in e) in
+      content_part L leaves number start count
+      ∙ ap (λ (x : ℕ). map (λ m. byte_at L leaves number m) (range_with_len x (min count (length_in (leaves number) - min start (length_in (leaves number)))))) begin
+      ∙ ap (λ (x : ℕ). map (λ m. byte_at L leaves number m) (range_with_len s x)) many
+      ∙ ap (λ (l : ℕ → List ℕ). map (λ m. byte_at L l number m) (range_with_len s ((s + k) - s))) (sym same)
+      ∙ sym is

@@ -15,6 +15,7 @@ use Rattle.region_plan.specs.Inodes.{identifier_in, length_in}
 use Rattle.region_plan.specs.Regions.{numbers, inode_numbers, object_of, store_of, used_leaves}
 use Rattle.region_plan.specs.declared.entry.TheConstants.{DATA, INODE}
 use Rattle.region_plan.proofs.StoreLemmas.{length_content, no_entries}
+use Rattle.region_plan.proofs.FormLemmas.{IsLaid}
 use Rattle.region_plan.proofs.SoundLemmas.{Sound, SoundInode, blocks_of, is_data, owner_is, owner_below}
 use Rattle.region_plan.proofs.HeldLemmas.{kept, inodes_in, looked_none}
 use Rattle.region_plan.proofs.Totals.{total, mark, counted, total_agree, total_sum, total_zero, total_swap, total_one, total_each}
@@ -30,7 +31,7 @@ unmarked : (b : Bool) → (b ≡ true → ⊥) → mark b ≡ 0
 unmarked true never = absurd (never refl)
 unmarked false never = refl
 
-module _ (L : Layout) (leaves : ℕ → List ℕ) (filled : 0 < L.leaves) (sound : Sound L leaves) where
+module _ (L : Layout) (leaves : ℕ → List ℕ) (laid : IsLaid L) (sound : Sound L leaves) where
   -- what an inode costs, if it is one
   abbrev price : ℕ → ℕ
   price i = cond (is_inode L leaves i) (1 + blocks_of L leaves i) 0
@@ -96,7 +97,7 @@ module _ (L : Layout) (leaves : ℕ → List ℕ) (filled : 0 < L.leaves) (sound
       elim (is_data L leaves i) as (λ b. is_data L leaves i ≡ b → mark b ≡ total (λ n. cond (is_inode L leaves n) (mark (b && ((entry_at L leaves i).inode == n))) 0) 0 L.leaves) [
         | true ↦ λ e.
             let inode : is_inode L leaves (entry_at L leaves i).inode ≡ true = owner_is L leaves i (sound.formed i below) e in
-            let here = owner_below L leaves i filled in
+            let here = owner_below L leaves i laid in
             sym (total_one (λ n. cond (is_inode L leaves n) (mark ((entry_at L leaves i).inode == n)) 0) 0 L.leaves (entry_at L leaves i).inode (omega arith) (omega (arith, here))
             (λ n low high other. ap (λ (m : ℕ). cond (is_inode L leaves n) m 0) (unmarked ((entry_at L leaves i).inode == n) (λ t. other (sym (eqb-true _ _ t)))) ∙ neither (is_inode L leaves n))
             ∙ ap (λ b. cond b (mark ((entry_at L leaves i).inode == (entry_at L leaves i).inode)) 0) inode

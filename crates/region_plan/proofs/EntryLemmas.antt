@@ -1,33 +1,100 @@
 -- Entries of the map.
-use Rattle.std.proofs.Common.{◌≡◌, ℕ, ◌<◌, ◌≤◌, ◌/◌, ◌≢◌, ◌∙◌, Bool, false, List, sym, ap, subst, arith, nat_lt}
-use Rattle.std.specs.Prelude.{◌==◌, if◌then◌else◌}
-use Rattle.std.specs.Int.{w32, from_le_bytes}
-use Rattle.std.proofs.lemmas.Bool.{le-ltb}
-use Rattle.region_plan.specs.Layout.{version_one}
-use Rattle.region_plan.specs.Parts.{part}
-use Rattle.region_plan.specs.Entries.{entry_at, entry_number, form_of, is_inode, is_well_formed}
+use Rattle.std.proofs.Common.{◌≡◌, ℕ, zero, suc, ◌+◌, ◌<◌, ◌≤◌, ◌/◌, ◌%◌, ◌∙◌, Bool, true, false, List, [], ◌∷◌, length, replicate, nat_le, refl, sym, ap, subst, arith, nat_lt}
+use Rattle.std.specs.Prelude.{◌==◌, ◌&&◌, if◌then◌else◌}
+use Rattle.std.proofs.lemmas.Bool.{eqb-true, ltb-true}
+use Rattle.region_plan.specs.Layout.{Layout}
+use Rattle.region_plan.specs.Entries.{entry_at, number_in, form_of, follows, is_zero, is_well_formed}
+use Rattle.region_plan.specs.Places.{IsMapOf, IsWritable, AreWritable, data_at, entries_in, free_before, free_entry, is_free, is_of, placed, with_entry}
 use Rattle.region_plan.specs.declared.entry.Entry.{Entry}
-use Rattle.region_plan.specs.declared.entry.TheConstants.{INODE}
+use Rattle.region_plan.specs.declared.entry.TheConstants.{FREE, INODE}
+use Rattle.region_plan.proofs.FormLemmas.{IsLaid}
+use Rattle.region_plan.proofs.SoundLemmas.{and_both}
 
--- the first leaf of the map has the entries of all
-pub in_first : (i : ℕ) → i < 256 → (i / 256 ≡ 0)
-in_first i h = omega arith
+-- where a map has no entry, a free leaf's is met
+pub beyond : (map : List Entry) (i : ℕ) → length map ≤ i → free_entry ≡ entries_in map i
+unfolding entries_in
+beyond [] i le = refl
+beyond (e ∷ map) zero le = absurd (omega arith)
+beyond (e ∷ map) (suc i) le = beyond map i (omega arith)
 
--- the entry of the map itself
-pub rule_of_map : (leaves : ℕ → List ℕ) (map : List ℕ) (leaf : ℕ) (result : Bool) → leaf ≡ 0 → leaves 0 ≡ map → result ≡ (from_le_bytes w32 (part 0 4 map) == 0) →
-    result ≡ is_well_formed version_one leaves leaf
-unfolding is_well_formed
-rule_of_map leaves map leaf result at is told = subst (λ (i : ℕ). result ≡ is_well_formed version_one leaves i) (sym at)
-    (subst (λ (m : List ℕ). result ≡ (from_le_bytes w32 (part 0 4 m) == 0)) (sym is) told)
+-- the rules on an entry, of the region and of its map
+module _ (L : Layout) (laid : IsLaid L) (leaves : ℕ → List ℕ) (map : List Entry) (is : IsMapOf L leaves map) where
+  owner_below : (i : ℕ) → (entry_at L leaves i).inode < L.leaves
+  unfolding entry_at
+  owner_below i = laid.inode (number_in (leaves (i / 256)) (i % 256))
 
--- the entry of another leaf
-pub rule_of_leaf : (leaves : ℕ → List ℕ) (leaf : ℕ) (entry inode : Entry) (result : Bool) → leaf ≢ 0 → entry ≡ entry_at version_one leaves leaf → inode ≡ entry_at version_one leaves entry.inode
-    → result ≡ form_of leaf entry (inode.kind == INODE) → result ≡ is_well_formed version_one leaves leaf
-unfolding is_well_formed
-rule_of_leaf leaves leaf entry inode result other is named told =
-    let more : 1 ≤ leaf = omega (arith, other) in
-    let later : nat_lt leaf 1 ≡ false = le-ltb leaf 1 more in
-    let form : form_of leaf entry (inode.kind == INODE) ≡ form_of leaf (entry_at version_one leaves leaf) (is_inode version_one leaves (entry_at version_one leaves leaf).inode) =
-    ap (λ (e : Entry). form_of leaf entry (e.kind == INODE)) named ∙ ap (λ (e : Entry). form_of leaf e (is_inode version_one leaves e.inode)) is in
-    told ∙ form ∙ ap (λ b. if b then entry_number version_one leaves leaf == 0 else form_of leaf (entry_at version_one leaves leaf)
-    (is_inode version_one leaves (entry_at version_one leaves leaf).inode)) (sym later)
+  pub follows_is : (i : ℕ) → i < L.leaves → follows L (entries_in map) i ≡ is_well_formed L leaves i
+  unfolding is_well_formed
+  follows_is i below =
+      ap (λ (e : Entry). if nat_lt i L.map_leaves then is_zero e else form_of i e (((entries_in map e.inode).kind == INODE) && nat_lt e.index L.indexes)) (is i below)
+      ∙ ap (λ (e : Entry). if nat_lt i L.map_leaves then is_zero (entry_at L leaves i) else form_of i (entry_at L leaves i) ((e.kind == INODE) && nat_lt (entry_at L leaves i).index L.indexes))
+      (is (entry_at L leaves i).inode (owner_below i))
+
+-- an entry that follows the rules may be written
+module _ (L : Layout) (laid : IsLaid L) (entries : ℕ → Entry) (i : ℕ) (below : i < L.leaves) (inode : (entries i).inode < L.leaves) where
+  zero_parts : (e : Entry) → is_zero e ≡ true → (e.kind ≡ 0) × (e.index ≡ 0)
+  zero_parts e zero' =
+      let parts = and_both (e.kind == FREE) ((e.inode == 0) && (e.index == 0)) zero' in
+      (eqb-true e.kind 0 parts.0, eqb-true e.index 0 (and_both (e.inode == 0) (e.index == 0) parts.1).1)
+
+  form_parts : (e : Entry) (b : Bool) → form_of i e (b && nat_lt e.index L.indexes) ≡ true → (e.kind ≤ 2) × (e.index < L.indexes)
+  form_parts e b formed = each (e.kind == 0) (e.kind == 1) (e.kind == 2) refl refl refl formed
+    where
+      low : e.index ≡ 0 → e.index < L.indexes
+      low none = (let more = laid.more in let wide = laid.indexes in omega (arith, none, more, wide))
+
+      each : (x y z : Bool) → (e.kind == 0) ≡ x → (e.kind == 1) ≡ y → (e.kind == 2) ≡ z
+          → (if x then (e.inode == 0) && (e.index == 0) else if y then (e.inode == i) && (e.index == 0) else z && (b && nat_lt e.index L.indexes)) ≡ true
+          → (e.kind ≤ 2) × (e.index < L.indexes)
+      each true y z p q r f = (let k : e.kind ≡ 0 = eqb-true e.kind 0 p in let small : e.kind ≤ 2 = omega (arith, k) in (small, low (eqb-true e.index 0 (and_both _ _ f).1)))
+      each false true z p q r f = (let k : e.kind ≡ 1 = eqb-true e.kind 1 q in let small : e.kind ≤ 2 = omega (arith, k) in (small, low (eqb-true e.index 0 (and_both _ _ f).1)))
+      each false false true p q r f = (let k : e.kind ≡ 2 = eqb-true e.kind 2 r in let small : e.kind ≤ 2 = omega (arith, k) in
+          (small, ltb-true e.index L.indexes (and_both _ _ f).1))
+      each false false false p q r f = absurd (let g : false ≡ true = f in cc)
+
+  pub follows_writable : follows L entries i ≡ true → IsWritable L (entries i)
+  follows_writable formed =
+      elim (nat_lt i L.map_leaves) as (λ b. (if b then is_zero (entries i) else form_of i (entries i) (((entries (entries i).inode).kind == INODE) && nat_lt (entries i).index L.indexes)) ≡ true
+      → IsWritable L (entries i)) [
+        | true ↦ λ e. (let parts = zero_parts (entries i) e in let more = laid.more in let wide = laid.indexes in
+            record { kind = omega (arith, parts.0); inode = inode; index = omega (arith, parts.1, more, wide) })
+        | false ↦ λ e. (let parts = form_parts (entries i) _ e in record { kind = parts.0; inode = inode; index = parts.1 })
+      ] formed
+
+-- a map of free leaves
+pub all_free : (n i : ℕ) → entries_in (replicate n free_entry) i ≡ free_entry
+unfolding entries_in
+all_free zero i = refl
+all_free (suc n) zero = refl
+all_free (suc n) (suc i) = all_free n i
+
+pub free_named : (L : Layout) (laid : IsLaid L) (n i : ℕ) → (entries_in (replicate n free_entry) i).inode < L.leaves
+free_named L laid n i = subst (λ (e : Entry). e.inode < L.leaves) (sym (all_free n i)) (let more = laid.more in omega (arith, more))
+
+pub free_writable : (L : Layout) → IsLaid L → IsWritable L free_entry
+free_writable L laid = (let more = laid.more in let wide = laid.indexes in record { kind = omega arith; inode = omega (arith, more); index = omega (arith, more, wide) })
+
+-- entries that may be written, with another one of them
+pub set_writable : (L : Layout) (map next : List Entry) (leaf : ℕ) (e : Entry) → AreWritable L map → IsWritable L e
+    → ((i : ℕ) → entries_in next i ≡ with_entry leaf e (entries_in map) i) → AreWritable L next
+set_writable L map next leaf e all one set i below =
+    subst (λ (x : Entry). IsWritable L x) (sym (set i))
+    (elim (i == leaf) as (λ b. (i == leaf) ≡ b → IsWritable L (if b then e else entries_in map i)) [ true ↦ λ t. one | false ↦ λ t. all i below ] refl)
+
+-- and with data placed
+pub placed_writable : (L : Layout) (laid : IsLaid L) (map next : List Entry) (inode kept blocks : ℕ) → AreWritable L map → inode < L.leaves → blocks ≤ L.indexes
+    → ((i : ℕ) → i < L.leaves → entries_in next i ≡ placed L (entries_in map) inode kept blocks i) → AreWritable L next
+placed_writable L laid map next inode kept blocks all owner few is i below =
+    subst (λ (x : Entry). IsWritable L x) (sym (is i below))
+    (elim (is_free L (entries_in map) i && nat_lt (kept + free_before L (entries_in map) i) blocks) as
+    (λ b. (is_free L (entries_in map) i && nat_lt (kept + free_before L (entries_in map) i) blocks) ≡ b
+    → IsWritable L (if b then data_at inode (kept + free_before L (entries_in map) i) else
+    if is_of inode (entries_in map i) && nat_le blocks (entries_in map i).index then free_entry else entries_in map i)) [
+      | true ↦ λ t. (let inside : kept + free_before L (entries_in map) i < blocks = ltb-true (kept + free_before L (entries_in map) i) blocks (and_both _ _ t).1 in
+          record { kind = omega arith; inode = owner; index = omega (arith, inside, few) })
+      | false ↦ λ t. elim (is_of inode (entries_in map i) && nat_le blocks (entries_in map i).index) as
+          (λ b. IsWritable L (if b then free_entry else entries_in map i)) [
+            | true ↦ free_writable L laid
+            | false ↦ all i below
+          ]
+    ] refl)

@@ -10,6 +10,7 @@ pub mod EditLemmas
 pub mod EditedLemmas
 pub mod EntryLemmas
 pub mod FewLemmas
+pub mod FormLemmas
 pub mod FoundLemmas
 pub mod FrameLemmas
 pub mod HeadLemmas

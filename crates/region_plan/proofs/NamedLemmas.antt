@@ -1,15 +1,20 @@
 -- Leaves that are named one after another.
 use Rattle.std.proofs.Common.{◌≡◌, ◌≤◌, ◌<◌, ◌+◌, ◌++◌, ◌∙◌, ℕ, suc, true, false, List, [], ◌∷◌, length, length-append, nat_lt, refl, sym, ap, subst, arith}
-use Rattle.std.specs.Prelude.{◌==◌, if◌then◌else◌}
+use Rattle.std.specs.Prelude.{◌==◌, ◌&&◌, ◌||◌, not, if◌then◌else◌, Option}
+use Rattle.region_plan.specs.Edits.{is_left}
+use Rattle.region_plan.specs.Places.{entries_in, is_of}
 use Rattle.std.specs.List.{range_with_len, count_by}
 use Rattle.std.proofs.lemmas.Bool.{eqb-true, eqb-false, ne_eqb, ltb-true, lt-ltb, and_from}
 use Rattle.store_api.specs.declared.leaves.Leaf.{Leaf}
 use Rattle.store_api.specs.Ascending.{is_above_all}
 use Rattle.store_api.specs.Volumes.{leaf_after}
-use Rattle.region_plan.specs.Plans.{with_leaves, changing, may_change}
+use Rattle.region_plan.specs.Plans.{IsChangedLeaf, IsMapLeaf, with_leaves, changing, may_change}
 use Rattle.region_plan.specs.declared.edit.Edit.{Edit}
 use Rattle.region_plan.proofs.SoundLemmas.{and_both}
-use Rattle.region_plan.proofs.Totals.{counted, mark, rank_more}
+use Rattle.region_plan.proofs.Totals.{counted, mark, rank_more, total_each}
+use Rattle.region_plan.specs.Layout.{Layout}
+use Rattle.region_plan.specs.declared.entry.Entry.{Entry}
+use Rattle.region_plan.proofs.FormLemmas.{IsLaid}
 
 -- one more leaf named
 after_pushed : (named : List Leaf) (last : Leaf) (i : ℕ) (old : List ℕ) → leaf_after (named ++ last ∷ []) i old ≡ leaf_after named i (if last.number == i then last.bytes else old)
@@ -17,7 +22,7 @@ after_pushed [] last i old = refl
 after_pushed (leaf ∷ named) last i old = ap (λ (r : List ℕ). if leaf.number == i then leaf.bytes else r) (after_pushed named last i old)
 
 -- a leaf at or behind a number that is above all isn't named
-after_above : (named : List Leaf) (m i : ℕ) (old : List ℕ) → is_above_all named m ≡ true → m ≤ i → leaf_after named i old ≡ old
+pub after_above : (named : List Leaf) (m i : ℕ) (old : List ℕ) → is_above_all named m ≡ true → m ≤ i → leaf_after named i old ≡ old
 after_above [] m i old above past = refl
 after_above (leaf ∷ named) m i old above past =
     let parts = and_both (nat_lt leaf.number m) (is_above_all named m) above in
@@ -30,6 +35,13 @@ above_more (leaf ∷ named) m above =
     let parts = and_both (nat_lt leaf.number m) (is_above_all named m) above in
     let less : leaf.number < m = ltb-true leaf.number m parts.0 in
     and_from (nat_lt leaf.number (m + 1)) (is_above_all named (m + 1)) (lt-ltb leaf.number (m + 1) (omega (arith, less))) (above_more named m parts.1)
+
+pub above_most : (named : List Leaf) (m n : ℕ) → m ≤ n → is_above_all named m ≡ true → is_above_all named n ≡ true
+above_most [] m n le above = refl
+above_most (leaf ∷ named) m n le above =
+    let parts = and_both (nat_lt leaf.number m) (is_above_all named m) above in
+    let less : leaf.number < m = ltb-true leaf.number m parts.0 in
+    and_from (nat_lt leaf.number n) (is_above_all named n) (lt-ltb leaf.number n (omega (arith, less, le))) (above_most named m n le parts.1)
 
 pub above_pushed : (named : List Leaf) (last : Leaf) (m : ℕ) → is_above_all named m ≡ true → last.number ≡ m → is_above_all (named ++ last ∷ []) (m + 1) ≡ true
 above_pushed [] last m above is = and_from (nat_lt last.number (m + 1)) true (lt-ltb last.number (m + 1) (omega (arith, is))) refl
@@ -63,20 +75,39 @@ module _ (P : ℕ → List ℕ → Type 0) (leaves : ℕ → List ℕ) (named : 
         | false ↦ λ e. (let other = eqb-false m i e in done i (omega (arith, less, other)))
       ] refl
 
-pub changing_more : (map : List ℕ) (inode : ℕ) (edit : Edit) (n : ℕ) → changing map inode edit (n + 1) ≡ changing map inode edit n + mark (may_change map inode edit n)
-unfolding changing
-changing_more map inode edit n =
-    ap (λ (k : ℕ). count_by (λ i. may_change map inode edit i) (range_with_len 0 k)) (let e : n + 1 ≡ suc n = omega arith in e)
-    ∙ counted (λ i. may_change map inode edit i) 0 (suc n) ∙ rank_more (λ i. may_change map inode edit i) n
-    ∙ ap (λ (k : ℕ). k + mark (may_change map inode edit n)) (sym (counted (λ i. may_change map inode edit i) 0 n))
+module _ (L : Layout) (laid : IsLaid L) where
+  pub changing_more : (map : List Entry) (inode : ℕ) (edit : Edit) (n : ℕ) → changing L map inode edit (n + 1) ≡ changing L map inode edit n + mark (may_change L map inode edit n)
+  unfolding changing
+  changing_more map inode edit n =
+      ap (λ (k : ℕ). count_by (λ i. may_change L map inode edit i) (range_with_len 0 k)) (let e : n + 1 ≡ suc n = omega arith in e)
+      ∙ counted (λ i. may_change L map inode edit i) 0 (suc n) ∙ rank_more (λ i. may_change L map inode edit i) n
+      ∙ ap (λ (k : ℕ). k + mark (may_change L map inode edit n)) (sym (counted (λ i. may_change L map inode edit i) 0 n))
 
-pub few_named : (map : List ℕ) (inode : ℕ) (edit : Edit) (named : List Leaf) (last : Leaf) (n : ℕ) → length named ≤ changing map inode edit n → may_change map inode edit n ≡ true →
-    length (named ++ last ∷ []) ≤ changing map inode edit (n + 1)
-few_named map inode edit named last n few is =
-    let more = changing_more map inode edit n in
-    let one : mark (may_change map inode edit n) ≡ 1 = ap mark is in
-    let long = length-append named (last ∷ []) in
-    omega (arith, more, one, long, few)
+  pub few_named : (map : List Entry) (inode : ℕ) (edit : Edit) (named : List Leaf) (last : Leaf) (n : ℕ) → length named ≤ changing L map inode edit n → may_change L map inode edit n ≡ true →
+      length (named ++ last ∷ []) ≤ changing L map inode edit (n + 1)
+  few_named map inode edit named last n few is =
+      let more = changing_more map inode edit n in
+      let one : mark (may_change L map inode edit n) ≡ 1 = ap mark is in
+      let long = length-append named (last ∷ []) in
+      omega (arith, more, one, long, few)
 
-pub few_unnamed : (map : List ℕ) (inode : ℕ) (edit : Edit) (named : List Leaf) (n : ℕ) → length named ≤ changing map inode edit n → length named ≤ changing map inode edit (n + 1)
-few_unnamed map inode edit named n few = (let more = changing_more map inode edit n in omega (arith, more, few))
+  pub few_unnamed : (map : List Entry) (inode : ℕ) (edit : Edit) (named : List Leaf) (n : ℕ) → length named ≤ changing L map inode edit n → length named ≤ changing L map inode edit (n + 1)
+  few_unnamed map inode edit named n few = (let more = changing_more map inode edit n in omega (arith, more, few))
+
+  -- the leaves of the map may all be among those that change
+  pub changing_first : (map : List Entry) (inode : ℕ) (edit : Edit) → changing L map inode edit L.map_leaves ≡ L.map_leaves
+  unfolding changing
+  changing_first map inode edit =
+      counted (λ i. may_change L map inode edit i) 0 L.map_leaves
+      ∙ total_each (λ i. mark (may_change L map inode edit i)) 0 L.map_leaves
+      (λ i low high. ap (λ b. mark (b || ((i == inode) || (is_of inode (entries_in map i) && not (is_left edit (entries_in map i).index))))) (lt-ltb i L.map_leaves (omega arith)))
+
+  -- once the map is written, each of its leaves is what it is to be
+  pub map_done : (leaves : ℕ → List ℕ) (map : List Entry) (inode : ℕ) (head : Option (List ℕ)) (edit : Edit) (named : List Leaf)
+      → ((i : ℕ) → i < L.map_leaves → IsMapLeaf L map i (with_leaves named leaves i)) → (i : ℕ) → i < L.map_leaves → IsChangedLeaf L leaves map inode head edit i (with_leaves named leaves i)
+  map_done leaves map inode head edit named each i below = record {
+    first = λ low. each i below;
+    own = λ later. absurd (omega (arith, later, below));
+    data' = λ later. absurd (omega (arith, later, below));
+    other = λ later. absurd (omega (arith, later, below));
+  }

@@ -6,7 +6,7 @@ use Rattle.store_api.specs.declared.answer.StoreAnswer.TheVariants as answers
 use Rattle.store_api.specs.Keeping.{Answers}
 use Rattle.store_api.specs.Stores.{Store, object_at}
 use Rattle.store_api.specs.Volumes.{VolumeKeeper}
-use Rattle.region_plan.specs.Layout.{Layout, version_one}
+use Rattle.region_plan.specs.Layout.{Layout}
 use Rattle.region_plan.specs.Locating.{Locates, LocatesInode}
 use Rattle.region_plan.specs.Reading.{AreWhole, IsReadData, IsUndamaged, IsWhole, ReadsOnly, ReadsRegion, IfAnswered, IfGarbled, IsBroken, IsSound, IsUnread, leaves_of, refusal_of}
 use Rattle.region_plan.specs.Regions.{breaks, is_padded, leaf_of, store_of}
@@ -16,6 +16,7 @@ use Rattle.region_plan.specs.Entries.{is_inode, is_well_formed}
 use Rattle.std.proofs.lemmas.Bool.{ltb-true, ltb-false}
 use Rattle.region_plan.proofs.CompleteLemmas.{each_more}
 use Rattle.region_plan.proofs.ReadLemmas.{damage_stays, leaves_stay, reads_joined, reads_not_found, reads_no_memory}
+use Rattle.region_plan.proofs.FormLemmas.{IsLaid}
 
 unread_answers : {A : Type 0} (e : StoreAnswer) (stated : Result A StoreAnswer) → IsUnread (Some e) → Answers (Err e) stated
 unread_answers answers.NotFound stated h = absurd h
@@ -236,11 +237,13 @@ module _ {S : Type 0} (K : VolumeKeeper S) (region : S → ℕ) (L : Layout) whe
     reads = run;
   }
 
--- a map of one leaf and the inodes, by a read of the first and a run behind it
-pub sound_from : {S : Type 0} (K : VolumeKeeper S) (region : S → ℕ) (old mid : S) → ReadsOnly K region None old mid → IsTrue K.tells_reads → IsUndamaged K region old 0
-    → ((i : ℕ) → i < 256 → is_well_formed version_one (leaves_of K region old) i ≡ true) → AreWhole K region version_one mid 256 → IsSound K region version_one old
-sound_from K region old mid run t map formed inodes = record {
-  map = λ i below. subst (λ (n : ℕ). IsUndamaged K region old n) (let none : 0 ≡ i = omega (arith, below) in none) map;
-  formed = formed;
-  inodes = whole_before K region version_one old mid run t 256 inodes;
-}
+module _ (L : Layout) (laid : IsLaid L) where
+  -- a map and the inodes, by a read of the first and a run behind it
+  pub sound_from : {S : Type 0} (K : VolumeKeeper S) (region : S → ℕ) (old mid : S) → ReadsOnly K region None old mid → IsTrue K.tells_reads
+      → ((i : ℕ) → i < L.map_leaves → IsUndamaged K region old i) → ((i : ℕ) → i < L.leaves → is_well_formed L (leaves_of K region old) i ≡ true)
+      → AreWhole K region L mid L.leaves → IsSound K region L old
+  sound_from K region old mid run t map formed inodes = record {
+    map = map;
+    formed = formed;
+    inodes = whole_before K region L old mid run t L.leaves inodes;
+  }

@@ -3,16 +3,17 @@ use Rattle.std.proofs.Common.{◌≡◌, ◌≢◌, ℕ, zero, suc, ◌+◌, ◌
 use Rattle.std.specs.Prelude.{◌&&◌, ◌||◌, ◌==◌, if◌then◌else◌, nat_lt}
 use Rattle.std.specs.List.{range_with_len, list_any, list_all}
 use Rattle.std.specs.Str.{bytes_eq}
-use Rattle.std.proofs.lemmas.Bool.{eqb-true, eq-eqb, leb-true, leb-false, ltb-false, and_from, not_from_false, eqb-false}
+use Rattle.std.proofs.lemmas.Bool.{eqb-true, eq-eqb, leb-true, leb-false, ltb-true, ltb-false, and_from, not_from_false, eqb-false}
 use Rattle.std.proofs.lemmas.Slice.Eq.{bytes_eq-Decides}
 use Rattle.store_api.specs.Stores.{Store}
 use Rattle.region_plan.specs.Layout.{Layout}
 use Rattle.region_plan.specs.Parts.{are_zero}
-use Rattle.region_plan.specs.Entries.{entry_at, entry_number, form_of, is_inode, is_data_of, is_data_at, is_well_formed}
+use Rattle.region_plan.proofs.FormLemmas.{IsLaid}
+use Rattle.region_plan.specs.Entries.{entry_at, entry_number, form_of, is_zero, is_inode, is_data_of, is_data_at, is_well_formed}
 use Rattle.region_plan.specs.Inodes.{length_in, identifier_in, is_inode_leaf}
 use Rattle.region_plan.specs.Regions.{numbers, is_doubled, has_one, is_past, has_data, is_padded, breaks, store_of, first_broken, unless_broken, region_of, data_leaves}
 use Rattle.region_plan.specs.declared.entry.Entry.{Entry}
-use Rattle.region_plan.specs.declared.entry.TheConstants.{DATA}
+use Rattle.region_plan.specs.declared.entry.TheConstants.{DATA, FREE}
 use Rattle.region_plan.proofs.Totals.{total, mark, counted, total_met, total_only, total_one}
 
 -- over a range
@@ -136,22 +137,28 @@ module _ (L : Layout) (leaves : ℕ → List ℕ) where
   owner_of_form : (i : ℕ) (e : Entry) (b : Bool) → e.kind ≡ 2 → form_of i e b ≡ true → b ≡ true
   owner_of_form i e b kind form = sym (ap (λ (k : ℕ). form_of i (record e { kind = k }) b) kind) ∙ form
 
-  zero_kind : (i : ℕ) → entry_number L leaves i ≡ 0 → (entry_at L leaves i).kind ≡ 0
-  unfolding entry_at
-  zero_kind i none = omega (arith, none)
+  zero_kind : (e : Entry) → is_zero e ≡ true → e.kind ≡ 0
+  zero_kind e zero' = eqb-true e.kind 0 (and_both (e.kind == FREE) ((e.inode == 0) && (e.index == 0)) zero').0
 
-  pub owner_is : (i : ℕ) → is_well_formed L leaves i ≡ true → is_data i ≡ true → is_inode L leaves (entry_at L leaves i).inode ≡ true
+  named_is : (i : ℕ) → is_well_formed L leaves i ≡ true → is_data i ≡ true → (is_inode L leaves (entry_at L leaves i).inode ≡ true) × (nat_lt (entry_at L leaves i).index L.indexes ≡ true)
   unfolding is_well_formed
-  owner_is i formed is =
-      elim (nat_lt i L.map_leaves) as (λ b. (if b then entry_number L leaves i == 0 else form_of i (entry_at L leaves i) (is_inode L leaves (entry_at L leaves i).inode)) ≡ true →
-      is_inode L leaves (entry_at L leaves i).inode ≡ true) [
-        | true ↦ λ e. absurd (let none : entry_number L leaves i ≡ 0 = eqb-true _ 0 e in let f : false ≡ true = sym (ap (λ (x : ℕ). x == DATA) (zero_kind i none)) ∙ is in cc)
-        | false ↦ λ e. owner_of_form i (entry_at L leaves i) _ (eqb-true _ 2 is) e
+  named_is i formed is =
+      elim (nat_lt i L.map_leaves) as (λ b. (if b then is_zero (entry_at L leaves i) else form_of i (entry_at L leaves i)
+      (is_inode L leaves (entry_at L leaves i).inode && nat_lt (entry_at L leaves i).index L.indexes)) ≡ true →
+      (is_inode L leaves (entry_at L leaves i).inode ≡ true) × (nat_lt (entry_at L leaves i).index L.indexes ≡ true)) [
+        | true ↦ λ e. absurd (let none = zero_kind (entry_at L leaves i) e in let f : false ≡ true = sym (ap (λ (x : ℕ). x == DATA) none) ∙ is in cc)
+        | false ↦ λ e. and_both _ _ (owner_of_form i (entry_at L leaves i) _ (eqb-true _ 2 is) e)
       ] formed
 
-  pub owner_below : (i : ℕ) → 0 < L.leaves → (entry_at L leaves i).inode < L.leaves
+  pub owner_is : (i : ℕ) → is_well_formed L leaves i ≡ true → is_data i ≡ true → is_inode L leaves (entry_at L leaves i).inode ≡ true
+  owner_is i formed is = (named_is i formed is).0
+
+  pub index_short : (i : ℕ) → is_well_formed L leaves i ≡ true → is_data i ≡ true → (entry_at L leaves i).index < L.indexes
+  index_short i formed is = ltb-true (entry_at L leaves i).index L.indexes (named_is i formed is).1
+
+  pub owner_below : (i : ℕ) → IsLaid L → (entry_at L leaves i).inode < L.leaves
   unfolding entry_at
-  owner_below i filled = omega (arith, filled)
+  owner_below i laid = laid.inode (entry_number L leaves i)
 
   unbroken_inode : (n : ℕ) → n < L.leaves → (has_data L leaves n ≡ true) → (x : ℕ) → x < blocks_of n → total (λ i. mark (is_data_at L leaves n x i)) 0 L.leaves ≡ 1
   unfolding has_data numbers
@@ -170,7 +177,7 @@ module _ (L : Layout) (leaves : ℕ → List ℕ) where
   before_end n has k below of =
       less_or_not (blocks_of n) (entry_at L leaves k).index (sym (ap (λ b. b && nat_le (blocks_of n) (entry_at L leaves k).index) of) ∙ not_past n has k below)
 
-  module _ (filled : 0 < L.leaves) (unbroken : (i : ℕ) → i < L.leaves → breaks L leaves i ≡ false) where
+  module _ (laid : IsLaid L) (unbroken : (i : ℕ) → i < L.leaves → breaks L leaves i ≡ false) where
     formed_is : (i : ℕ) → i < L.leaves → is_well_formed L leaves i ≡ true
     unfolding breaks
     formed_is i below = formed_of (is_well_formed L leaves i) (is_inode L leaves i && not (is_inode_leaf (leaves i) && (not (is_doubled L leaves i) && has_data L leaves i)))
@@ -241,7 +248,7 @@ module _ (L : Layout) (leaves : ℕ → List ℕ) where
   unbroken_region unbroken = ap (λ r. unless_broken L leaves r) (first_none unbroken)
 
   -- and back
-  module _ (filled : 0 < L.leaves) (sound : Sound) where
+  module _ (laid : IsLaid L) (sound : Sound) where
     doubled_not : (n : ℕ) → n < L.leaves → is_inode L leaves n ≡ true → is_doubled L leaves n ≡ false
     unfolding is_doubled
     doubled_not n below inode = none_range (λ o. is_inode L leaves o && bytes_eq (identifier_in (leaves o)) (identifier_in (leaves n))) n 0
@@ -280,7 +287,7 @@ module _ (L : Layout) (leaves : ℕ → List ℕ) where
     unfolding is_padded
     padded_has k below is =
         let n : ℕ = (entry_at L leaves k).inode in
-        or_right' _ _ ((sound.inode (entry_at L leaves k).inode (owner_below k filled) (owner_is k (sound.formed k below) is)).padded k below
+        or_right' _ _ ((sound.inode (entry_at L leaves k).inode (owner_below k laid) (owner_is k (sound.formed k below) is)).padded k below
         (and_from (is_data k) ((entry_at L leaves k).inode == (entry_at L leaves k).inode) is (eq-eqb _ _ refl)))
       where
         or_right' : (x y : Bool) → y ≡ true → (x || y) ≡ true
@@ -306,6 +313,6 @@ module _ (L : Layout) (leaves : ℕ → List ℕ) where
   none_breaks none i below = find_range (λ j. breaks L leaves j) L.leaves 0 i none (omega arith) (omega arith)
 
   -- no rule is broken in a region that stands for a store
-  pub region_sound : 0 < L.leaves → (store : Store) → region_of L leaves ≡ Ok store → Sound
+  pub region_sound : IsLaid L → (store : Store) → region_of L leaves ≡ Ok store → Sound
   unfolding region_of
-  region_sound filled store is = sound_of filled (none_breaks (none_first (first_broken L leaves) store is))
+  region_sound laid store is = sound_of laid (none_breaks (none_first (first_broken L leaves) store is))

@@ -8,7 +8,7 @@ use Rattle.std.proofs.lemmas.Bool.{eq-eqb, ne_eqb}
 use Rattle.std.proofs.lemmas.List.{map-append}
 use Rattle.std.proofs.lemmas.List.Elements.{filter-append}
 use Rattle.std.proofs.lemmas.List.Folds.{find-append}
-use Rattle.region_plan.specs.Layout.{Layout, version_one}
+use Rattle.region_plan.specs.Layout.{Layout}
 use Rattle.region_plan.specs.Entries.{entry_at, is_inode, is_data_at}
 use Rattle.region_plan.specs.Inodes.{inode_of}
 use Rattle.region_plan.specs.Regions.{numbers, inode_numbers, inodes_of, leaf_of}
@@ -16,6 +16,7 @@ use Rattle.region_plan.specs.Tables.{inodes_below}
 use Rattle.region_plan.specs.declared.entry.Entry.{Entry}
 use Rattle.region_plan.specs.declared.entry.TheConstants.{DATA, INODE}
 use Rattle.region_plan.specs.declared.inode.Inode.{Inode}
+use Rattle.region_plan.proofs.FormLemmas.{IsLaid}
 
 -- one more number
 pub range_more : (a n : ℕ) → range_with_len a (suc n) ≡ range_with_len a n ++ (a + n) ∷ []
@@ -118,21 +119,22 @@ any_on p xs i j x is_j below is rest fails =
     let e : j ≡ suc i = omega arith in
     ap (λ (k : ℕ). list_any p (drop k xs)) e ∙ sym (ap (λ b. b || list_any p (drop (suc i) xs)) fails) ∙ sym (any_here p xs i x below is) ∙ rest
 
--- what the code tests of an entry
-pub data_is : (leaves : ℕ → List ℕ) (inode index n : ℕ) (e : Entry) (r b : Bool) → e ≡ entry_at version_one leaves n →
-    r ≡ (((e.kind == DATA) && (e.inode == inode)) && (e.index == index)) → r ≡ b → is_data_at version_one leaves inode index n ≡ b
-data_is leaves inode index n e r b is told result = ap (λ (x : Entry). ((x.kind == DATA) && (x.inode == inode)) && (x.index == index)) (sym is) ∙ sym told ∙ result
+module _ (L : Layout) (laid : IsLaid L) where
+  -- what the code tests of an entry
+  pub data_is : (leaves : ℕ → List ℕ) (inode index n : ℕ) (e : Entry) (r b : Bool) → e ≡ entry_at L leaves n →
+      r ≡ (((e.kind == DATA) && (e.inode == inode)) && (e.index == index)) → r ≡ b → is_data_at L leaves inode index n ≡ b
+  data_is leaves inode index n e r b is told result = ap (λ (x : Entry). ((x.kind == DATA) && (x.inode == inode)) && (x.index == index)) (sym is) ∙ sym told ∙ result
 
--- one more inode was read
-pub inodes_pushed : (leaves mid : ℕ → List ℕ) (n m : ℕ) (e : Entry) (old new : List Inode) (inode : Inode) → mid ≡ leaves → m ≡ n + 1 → e ≡ entry_at version_one leaves n →
-    e.kind ≡ 1 → old ≡ inodes_below version_one leaves n
-    → inode ≡ inode_of n (mid n) → new ≡ old ++ inode ∷ [] → new ≡ inodes_below version_one leaves m
-inodes_pushed leaves mid n m e old new inode same is_m is kind before told pushed =
-    pushed ∙ ap (λ (l : List Inode). l ++ inode ∷ []) before ∙ ap (λ (x : Inode). inodes_below version_one leaves n ++ x ∷ []) (told ∙ ap (λ (l : ℕ → List ℕ). inode_of n (l n)) same)
-    ∙ sym (inodes_more version_one leaves n m is_m (ap (λ (x : Entry). x.kind == INODE) (sym is) ∙ eq-eqb e.kind 1 kind))
+  -- one more inode was read
+  pub inodes_pushed : (leaves mid : ℕ → List ℕ) (n m : ℕ) (e : Entry) (old new : List Inode) (inode : Inode) → mid ≡ leaves → m ≡ n + 1 → e ≡ entry_at L leaves n →
+      e.kind ≡ 1 → old ≡ inodes_below L leaves n
+      → inode ≡ inode_of n (mid n) → new ≡ old ++ inode ∷ [] → new ≡ inodes_below L leaves m
+  inodes_pushed leaves mid n m e old new inode same is_m is kind before told pushed =
+      pushed ∙ ap (λ (l : List Inode). l ++ inode ∷ []) before ∙ ap (λ (x : Inode). inodes_below L leaves n ++ x ∷ []) (told ∙ ap (λ (l : ℕ → List ℕ). inode_of n (l n)) same)
+      ∙ sym (inodes_more L leaves n m is_m (ap (λ (x : Entry). x.kind == INODE) (sym is) ∙ eq-eqb e.kind 1 kind))
 
--- the leaf is no inode
-pub inodes_passed : (leaves : ℕ → List ℕ) (n m : ℕ) (e : Entry) (old new : List Inode) → m ≡ n + 1 → e ≡ entry_at version_one leaves n → (e.kind ≡ 1 → ⊥) →
-    old ≡ inodes_below version_one leaves n → new ≡ old → new ≡ inodes_below version_one leaves m
-inodes_passed leaves n m e old new is_m is kind before same =
-    same ∙ before ∙ sym (inodes_stay version_one leaves n m is_m (ap (λ (x : Entry). x.kind == INODE) (sym is) ∙ ne_eqb e.kind 1 kind))
+  -- the leaf is no inode
+  pub inodes_passed : (leaves : ℕ → List ℕ) (n m : ℕ) (e : Entry) (old new : List Inode) → m ≡ n + 1 → e ≡ entry_at L leaves n → (e.kind ≡ 1 → ⊥) →
+      old ≡ inodes_below L leaves n → new ≡ old → new ≡ inodes_below L leaves m
+  inodes_passed leaves n m e old new is_m is kind before same =
+      same ∙ before ∙ sym (inodes_stay L leaves n m is_m (ap (λ (x : Entry). x.kind == INODE) (sym is) ∙ ne_eqb e.kind 1 kind))

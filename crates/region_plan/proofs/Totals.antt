@@ -40,6 +40,18 @@ total_swap f a zero b m = sym (total_zero (λ j. 0) b m (λ j low high. refl))
 total_swap f a (suc n) b m =
     ap (λ (s : ℕ). total (λ j. f a j) b m + s) (total_swap f (a + 1) n b m) ∙ sym (total_sum (λ j. f a j) (λ j. total (λ i. f i j) (a + 1) n) b m)
 
+-- a sum in two parts
+pub total_split : (f : ℕ → ℕ) (a m n : ℕ) → total f a (m + n) ≡ total f a m + total f (a + m) n
+total_split f a zero n =
+    let long : total f a (0 + n) ≡ total f a n = ap (λ (k : ℕ). total f a k) (let e : 0 + n ≡ n = omega arith in e) in
+    let place : total f a n ≡ total f (a + 0) n = ap (λ (k : ℕ). total f k n) (let e : a ≡ a + 0 = omega arith in e) in
+    omega (arith, long, place)
+total_split f a (suc m) n =
+    let rest = total_split f (a + 1) m n in
+    let place : total f (a + 1 + m) n ≡ total f (a + suc m) n = ap (λ (k : ℕ). total f k n) (let e : a + 1 + m ≡ a + suc m = omega arith in e) in
+    let long : total f a (suc m + n) ≡ f a + total f (a + 1) (m + n) = ap (λ (k : ℕ). total f a k) (let e : suc m + n ≡ suc (m + n) = omega arith in e) in
+    omega (arith, rest, place, long)
+
 -- one number alone has a share
 pub total_one : (f : ℕ → ℕ) (a n k : ℕ) → a ≤ k → k < a + n → ((i : ℕ) → a ≤ i → i < a + n → i ≢ k → f i ≡ 0) → total f a n ≡ f k
 total_one f a zero k low high none = absurd (omega arith)

@@ -1,10 +1,10 @@
 -- What follows from the definition of a region.
 use Rattle.std.specs.Prelude.{ℕ, ◌≡◌, ◌<◌, true, List, Ok, replicate}
 use Rattle.tee_base.specs.declared.limits.TheConstants.{BLOCK_BYTES}
-use Rattle.store_api.specs.Limits.{IsWithinLimits}
 use Rattle.store_api.specs.Stores.{Store, cost}
 use Rattle.region_plan.specs.Layout.{Layout}
 use Rattle.region_plan.specs.Entries.{entry_at, is_inode, is_used, is_well_formed}
+use Rattle.region_plan.specs.Quotas.{KeepsWithin}
 use Rattle.region_plan.specs.Reading.{IsWhole}
 use Rattle.region_plan.specs.Regions.{is_padded, region_of, store_of, used_leaves}
 use Rattle.region_plan.specs.declared.entry.TheConstants.{DATA}
@@ -32,6 +32,6 @@ StandForInodes L leaves = KeepRules L leaves → region_of L leaves ≡ Ok (stor
 abbrev pub CostsItsLeaves : Layout → (ℕ → List ℕ) → Type 0
 CostsItsLeaves L leaves = (store : Store) → region_of L leaves ≡ Ok store → cost store ≡ used_leaves L leaves
 
--- and keeps to the limits of stores
+-- and keeps to the limits of stores, by the quota of the layout
 abbrev pub KeepsLimits : Layout → (ℕ → List ℕ) → Type 0
-KeepsLimits L leaves = (store : Store) → region_of L leaves ≡ Ok store → IsWithinLimits store
+KeepsLimits L leaves = (store : Store) → region_of L leaves ≡ Ok store → KeepsWithin L store

@@ -10,5 +10,6 @@ pub mod Planning
 pub mod Plans
 pub mod Reading
 pub mod Places
+pub mod Quotas
 pub mod Regions
 pub mod Tables

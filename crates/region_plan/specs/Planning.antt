@@ -8,10 +8,11 @@ use Rattle.store_api.specs.declared.leaves.Leaf.{Leaf}
 use Rattle.store_api.specs.declared.object.Object.{Object}
 use Rattle.store_api.specs.Ascending.{is_above_all}
 use Rattle.store_api.specs.Keeping.{Answers}
-use Rattle.store_api.specs.Stores.{Store, object_at, change}
+use Rattle.store_api.specs.Stores.{Store, object_at}
 use Rattle.store_api.specs.Volumes.{VolumeKeeper}
 use Rattle.region_plan.specs.Layout.{Layout}
-use Rattle.region_plan.specs.Plans.{with_leaves}
+use Rattle.region_plan.specs.Plans.{ChangeMap, with_leaves}
+use Rattle.region_plan.specs.Quotas.{change_in}
 use Rattle.region_plan.specs.Reading.{ReadsOnly, IfAnswered, IfGarbled, IsBroken, IsSound, refusal_of, leaves_of}
 use Rattle.region_plan.specs.Regions.{data_leaves, region_of}
 
@@ -25,24 +26,25 @@ abbrev pub leaves_from : Store → List ℕ → ℕ → ℕ → ℕ
 leaves_from store id at end = data_leaves end - min at (content_length (object_at store id)) / BLOCK_BYTES
 
 -- how many leaves a change needs at most: the map, the inode, and the data that it writes
-abbrev pub most_leaves : Store → Change → ℕ
-most_leaves store (Put id kind usage secret content overwrite) = 2 + data_leaves (length content)
-most_leaves store (Delete id) = 1
-most_leaves store (Rename id to) = 1
-most_leaves store (Write id at bytes) = if length bytes == 0 then 0 else 2 + leaves_from store id at (at + length bytes)
-most_leaves store (Truncate id n) = 2 + leaves_from store id n n
+abbrev pub most_leaves : Layout → Store → Change → ℕ
+most_leaves L store (Put id kind usage secret content overwrite) = L.map_leaves + 1 + data_leaves (length content)
+most_leaves L store (Delete id) = L.map_leaves
+most_leaves L store (Rename id to) = 1
+most_leaves L store (Write id at bytes) = if length bytes == 0 then 0 else L.map_leaves + 1 + leaves_from store id at (at + length bytes)
+most_leaves L store (Truncate id n) = L.map_leaves + 1 + leaves_from store id n n
 
 -- leaves after which a region stands for the changed store
 pub record IsPlanOf (L : Layout) (leaves : ℕ → List ℕ) (store : Store) (c : Change) (named : List Leaf) : Type 0 where
   pub after : Store
-  pub changes : change store c ≡ Ok after
+  pub changes : change_in L store c ≡ Ok after
   pub stands : region_of L (with_leaves named leaves) ≡ Ok after
-  pub few : length named ≤ most_leaves store c
+  pub few : length named ≤ most_leaves L store c
+  pub changed : ChangeMap L leaves named
 
 -- a plan of a change, or the change's own refusal; what keeps it from an answer may come instead
 abbrev pub Plans : Layout → (ℕ → List ℕ) → Store → Change → Result (List Leaf) StoreAnswer → Type 0
 Plans L leaves store c (Ok named) = IsPlanOf L leaves store c named
-Plans L leaves store c (Err refusal) = Answers {A = Store} (Err refusal) (change store c)
+Plans L leaves store c (Err refusal) = Answers {A = Store} (Err refusal) (change_in L store c)
 
 module _ {S : Type 0} (K : VolumeKeeper S) (region : S → ℕ) (L : Layout) where
   -- a call that plans a change, and changes nothing itself

@@ -4,18 +4,19 @@ use Rattle.std.specs.List.{find, filter, range_with_len}
 use Rattle.std.specs.Ordering.{nat_cmp, is_lt}
 use Rattle.std.specs.Cmp.Lexicographic.{slice_cmp}
 use Rattle.std.specs.Str.{bytes_eq}
-use Rattle.tee_base.specs.declared.limits.TheConstants.{LEAVES}
 use Rattle.store_api.specs.Limits.{IsIdentifier, IsSecret}
 use Rattle.store_api.specs.Stores.{is_after}
 use Rattle.store_api.specs.declared.object.Facts.{Facts}
 use Rattle.region_plan.specs.Layout.{Layout}
 use Rattle.region_plan.specs.Entries.{is_inode}
 use Rattle.region_plan.specs.Inodes.{length_in, inode_of}
+use Rattle.region_plan.specs.Places.{IsMapOf}
+use Rattle.region_plan.specs.declared.entry.Entry.{Entry}
 use Rattle.region_plan.specs.declared.inode.Inode.{Inode}
 
 -- the identifier, the secret and the leaf of an inode are within their limits
-abbrev pub IsWithin : Inode → Type 0
-IsWithin inode = IsIdentifier inode.id × IsSecret inode.secret × (inode.number < LEAVES)
+abbrev pub IsWithin : Layout → Inode → Type 0
+IsWithin L inode = IsIdentifier inode.id × IsSecret inode.secret × (inode.number < L.leaves)
 
 -- the first inode of an identifier
 abbrev pub inode_with : List ℕ → List Inode → Option Inode
@@ -41,8 +42,8 @@ inode_facts inode = record { kind = inode.kind; usage = inode.usage; secret = le
 unfoldable pub inodes_below : Layout → (ℕ → List ℕ) → ℕ → List Inode
 inodes_below L leaves n = map (λ i. inode_of i (leaves i)) (filter (λ i. is_inode L leaves i) (range_with_len 0 n))
 
--- a leaf is an inode with a content of this length, and these bytes are the first leaf of the map
-pub record IsInode (L : Layout) (leaves : ℕ → List ℕ) (bytes : List ℕ) (number length' : ℕ) : Type 0 where
-  pub first : leaves 0 ≡ bytes
+-- a leaf is an inode with a content of this length, where this is the map
+pub record IsInode (L : Layout) (leaves : ℕ → List ℕ) (map : List Entry) (number length' : ℕ) : Type 0 where
+  pub first : IsMapOf L leaves map
   pub inode : is_inode L leaves number ≡ true
   pub long : length' ≡ length_in (leaves number)

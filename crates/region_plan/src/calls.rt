@@ -6,22 +6,23 @@ ghost use Rattle.std.specs.Ordering.{nat_cmp, is_lt};
 ghost use Rattle.std.specs.Cmp.Lexicographic.{slice_cmp};
 ghost use Rattle.store_api.specs.Limits.{AreFacts, IsIdentifier, IsListed, IsSecret};
 ghost use Rattle.store_api.specs.Stores.{found, secret_at, next_after as next_of, is_after as is_after_of};
-ghost use Rattle.region_plan.specs.Layout.{version_one};
+ghost use Rattle.region_plan.specs.Layout.{layout};
 ghost use Rattle.region_plan.specs.Locating.{LocatesInode};
 ghost use Rattle.region_plan.specs.Reading.{ReadsRegion};
 ghost use Rattle.region_plan.specs.Tables.{IsWithin, best_after, inode_facts, is_better as is_better_of};
 
+use crate::entry::FREE_ENTRY;
+use crate::form::{Form, MOST_LEAVES};
 use crate::inode::Inode;
 use crate::source::LeafSource;
 use crate::table::{find, load};
 use std::alloc::Global;
 use store_api::{Facts, Listed, StoreAnswer};
 use tee_base::Bytes;
-use tee_base::limits::BLOCK_BYTES;
 
 /// What is told of an object.
-fn facts_of(inode: &Inode) -> Facts
-    requires { IsWithin inode.now }
+fn facts_of(form: Form, inode: &Inode) -> Facts
+    requires { IsWithin (layout form) inode.now }
     ensures { result ≡ inode_facts inode.now }
 {
     Facts {
@@ -33,41 +34,59 @@ fn facts_of(inode: &Inode) -> Facts
 }
 
 /// The inode leaf of the object of an identifier. `NotFound` exactly where there is no such object.
-pub fn locate<L: LeafSource>(alloc: Global, from: &mut L, id: &[u8]) -> Result<u16, StoreAnswer>
-    requires { IsIdentifier id.now }
-    ensures { LocatesInode L.keeper L.region version_one id.now result from.old from.new }
+pub fn locate<L: LeafSource>(
+    alloc: Global,
+    from: &mut L,
+    form: Form,
+    id: &[u8],
+) -> Result<u16, StoreAnswer>
+    requires fits { (layout form).leaves ≤ L.keeper.leaves }
+    requires id { IsIdentifier id.now }
+    ensures { LocatesInode L.keeper L.region (layout form) id.now result from.old from.new }
 {
-    let mut map = [0; BLOCK_BYTES];
-    let inodes = load(alloc, from, &mut map)?;
-    let Some(inode) = find(inodes.as_slice(), id) else {
+    let mut map = [FREE_ENTRY; MOST_LEAVES];
+    let inodes = load(alloc, from, form, &mut map)?;
+    let Some(inode) = find(form, inodes.as_slice(), id) else {
         return Err(StoreAnswer::NotFound);
     };
     Ok(inode.number)
 }
 
 /// An object's facts. `NotFound` exactly where there is no such object.
-pub fn facts<L: LeafSource>(alloc: Global, from: &mut L, id: &[u8]) -> Result<Facts, StoreAnswer>
-    requires { IsIdentifier id.now }
-    ensures { ReadsRegion L.keeper L.region version_one (λ store. found store id.now) AreFacts
+pub fn facts<L: LeafSource>(
+    alloc: Global,
+    from: &mut L,
+    form: Form,
+    id: &[u8],
+) -> Result<Facts, StoreAnswer>
+    requires fits { (layout form).leaves ≤ L.keeper.leaves }
+    requires id { IsIdentifier id.now }
+    ensures { ReadsRegion L.keeper L.region (layout form) (λ store. found store id.now) AreFacts
         result from.old from.new }
 {
-    let mut map = [0; BLOCK_BYTES];
-    let inodes = load(alloc, from, &mut map)?;
-    let Some(inode) = find(inodes.as_slice(), id) else {
+    let mut map = [FREE_ENTRY; MOST_LEAVES];
+    let inodes = load(alloc, from, form, &mut map)?;
+    let Some(inode) = find(form, inodes.as_slice(), id) else {
         return Err(StoreAnswer::NotFound);
     };
-    Ok(facts_of(inode))
+    Ok(facts_of(form, inode))
 }
 
 /// An object's secret. `NotFound` exactly where there is no such object.
-pub fn secret<L: LeafSource>(alloc: Global, from: &mut L, id: &[u8]) -> Result<Bytes, StoreAnswer>
-    requires { IsIdentifier id.now }
-    ensures { ReadsRegion L.keeper L.region version_one (λ store. secret_at store id.now) IsSecret
+pub fn secret<L: LeafSource>(
+    alloc: Global,
+    from: &mut L,
+    form: Form,
+    id: &[u8],
+) -> Result<Bytes, StoreAnswer>
+    requires fits { (layout form).leaves ≤ L.keeper.leaves }
+    requires id { IsIdentifier id.now }
+    ensures { ReadsRegion L.keeper L.region (layout form) (λ store. secret_at store id.now) IsSecret
         result from.old from.new }
 {
-    let mut map = [0; BLOCK_BYTES];
-    let inodes = load(alloc, from, &mut map)?;
-    let Some(inode) = find(inodes.as_slice(), id) else {
+    let mut map = [FREE_ENTRY; MOST_LEAVES];
+    let inodes = load(alloc, from, form, &mut map)?;
+    let Some(inode) = find(form, inodes.as_slice(), id) else {
         return Err(StoreAnswer::NotFound);
     };
     Ok(inode.secret.copy(alloc)?)
@@ -101,10 +120,10 @@ fn is_better(best: Option<&Inode>, inode: &Inode) -> bool
 }
 
 /// The inode of the least identifier greater than the last one.
-fn least_after<'i>(inodes: &'i [Inode], last: Option<&[u8]>) -> Option<&'i Inode>
-    requires { All IsWithin inodes.now }
+fn least_after<'i>(form: Form, inodes: &'i [Inode], last: Option<&[u8]>) -> Option<&'i Inode>
+    requires { All (IsWithin (layout form)) inodes.now }
     ensures inode { option_copied result ≡ best_after (option_copied last.entry) inodes.now }
-    ensures within { IfSome result (λ inode. IsWithin inode.now) }
+    ensures within { IfSome result (λ inode. IsWithin (layout form) inode.now) }
 {
     let mut best = None;
     let mut place = inodes.len();
@@ -123,18 +142,20 @@ fn least_after<'i>(inodes: &'i [Inode], last: Option<&[u8]>) -> Option<&'i Inode
 pub fn next_after<L: LeafSource>(
     alloc: Global,
     from: &mut L,
+    form: Form,
     last: Option<&[u8]>,
 ) -> Result<Listed, StoreAnswer>
-    ensures { ReadsRegion L.keeper L.region version_one
+    requires { (layout form).leaves ≤ L.keeper.leaves }
+    ensures { ReadsRegion L.keeper L.region (layout form)
         (λ store. next_of store (option_copied last.entry)) IsListed result from.old from.new }
 {
-    let mut map = [0; BLOCK_BYTES];
-    let inodes = load(alloc, from, &mut map)?;
-    let Some(inode) = least_after(inodes.as_slice(), last) else {
+    let mut map = [FREE_ENTRY; MOST_LEAVES];
+    let inodes = load(alloc, from, form, &mut map)?;
+    let Some(inode) = least_after(form, inodes.as_slice(), last) else {
         return Err(StoreAnswer::NotFound);
     };
     Ok(Listed {
         id: inode.id.copy(alloc)?,
-        facts: facts_of(inode),
+        facts: facts_of(form, inode),
     })
 }

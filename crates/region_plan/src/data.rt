@@ -4,23 +4,25 @@ ghost use Rattle.std.specs.Prelude.{◌≡◌, ◌≤◌, ◌<◌, ◌+◌, ◌-
 ghost use Rattle.std.specs.List.{range_with_len};
 ghost use Rattle.store_api.specs.Limits.{IsIdentifier, IsPart};
 ghost use Rattle.store_api.specs.Stores.{read_at};
-ghost use Rattle.tee_base.specs.declared.limits.TheConstants.{BLOCK_BYTES, MAX_ASK_BYTES, LEAVES};
-ghost use Rattle.region_plan.specs.Layout.{version_one};
+ghost use Rattle.tee_base.specs.declared.limits.TheConstants.{BLOCK_BYTES, MAX_ASK_BYTES};
+ghost use Rattle.region_plan.specs.Layout.{layout};
 ghost use Rattle.region_plan.specs.Entries.{is_inode};
 ghost use Rattle.region_plan.specs.Inodes.{length_in};
 ghost use Rattle.region_plan.specs.Parts.{are_zero};
+ghost use Rattle.region_plan.specs.Places.{IsMapOf};
 ghost use Rattle.region_plan.specs.Reading.{IfGarbled, IsReadData, IsReadPart, IsUnread, ReadsOnly, ReadsRegion, leaves_of, refusal_of};
 ghost use Rattle.region_plan.specs.Regions.{breaks, byte_at, leaf_of};
 ghost use Rattle.region_plan.specs.Tables.{IsInode};
 
 use crate::bytes::all_zero;
-use crate::entry::{DATA, Entry, entry_in};
+use crate::entry::{DATA, Entry, FREE_ENTRY, entry_in};
+use crate::form::{Form, MOST_LEAVES};
 use crate::source::{LeafSource, read};
 use crate::table::{find, load};
 use std::alloc::Global;
 use store_api::StoreAnswer;
 use tee_base::Bytes;
-use tee_base::limits::{BLOCK_BYTES, LEAVES};
+use tee_base::limits::BLOCK_BYTES;
 
 /// Whether a leaf is the data of an inode at an index.
 fn is_data_at(entry: Entry, inode: u16, index: u32) -> bool
@@ -30,12 +32,17 @@ fn is_data_at(entry: Entry, inode: u16, index: u32) -> bool
 }
 
 /// The leaf that holds the data of an inode at an index.
-pub(crate) fn data_leaf(map: &[u8; BLOCK_BYTES], inode: u16, index: u32) -> Option<u16>
-    ensures leaf { (leaves : ℕ → List ℕ) → leaves 0 ≡ map.now
-        → result ≡ leaf_of version_one leaves inode index }
-    ensures below { IfSome result (λ leaf. leaf < LEAVES) }
+pub(crate) fn data_leaf(
+    form: Form,
+    map: &[Entry; MOST_LEAVES],
+    inode: u16,
+    index: u32,
+) -> Option<u16>
+    ensures leaf { (leaves : ℕ → List ℕ) → IsMapOf (layout form) leaves map.now
+        → result ≡ leaf_of (layout form) leaves inode index }
+    ensures below { IfSome result (λ leaf. leaf < (layout form).leaves) }
 {
-    for leaf in 0..LEAVES {
+    for leaf in 0..form.leaves() {
         if is_data_at(entry_in(map, leaf), inode, index) {
             return Some(leaf as u16);
         }
@@ -54,37 +61,39 @@ fn is_zero_behind(block: &[u8; BLOCK_BYTES], used: usize) -> bool
 /// Adds the bytes of a data leaf, from a place of the content up to an end within the leaf.
 fn read_part<L: LeafSource>(
     from: &mut L,
-    map: &[u8; BLOCK_BYTES],
+    form: Form,
+    map: &[Entry; MOST_LEAVES],
     inode: u16,
     length: u32,
     at: u32,
     end: u32,
     bytes: &mut Vec<u8>,
 ) -> Result<(), StoreAnswer>
+    requires fits { (layout form).leaves ≤ L.keeper.leaves }
     requires works { (L.keeper.condition from.old).lost ≡ false }
-    requires inode { inode < LEAVES }
+    requires inode { inode < (layout form).leaves }
     requires some { at < end }
     requires inside { end ≤ length }
     requires leaf { end ≤ 1024 * (at / 1024) + 1024 }
     ensures bytes { IsTrue L.keeper.tells_reads
-        → IsInode version_one (leaves_of L.keeper L.region from.old) map.now inode length
+        → IsInode (layout form) (leaves_of L.keeper L.region from.old) map.now inode length
         → OnOk result (bytes.new.items ≡ bytes.old.items
-        ++ map_of (λ n. byte_at version_one (leaves_of L.keeper L.region from.old) inode n)
+        ++ map_of (λ n. byte_at (layout form) (leaves_of L.keeper L.region from.old) inode n)
         (range_with_len at (end - at))) }
     ensures count { OnOk result (vec_len bytes.new ≡ vec_len bytes.old + (end - at)) }
     ensures found { IsTrue L.keeper.tells_reads
-        → IsInode version_one (leaves_of L.keeper L.region from.old) map.now inode length
-        → OnOk result (IsReadData L.keeper L.region version_one inode at end from.old) }
-    ensures few { IfGarbled (refusal_of result) (λ n. n < LEAVES) }
+        → IsInode (layout form) (leaves_of L.keeper L.region from.old) map.now inode length
+        → OnOk result (IsReadData L.keeper L.region (layout form) inode at end from.old) }
+    ensures few { IfGarbled (refusal_of result) (λ n. n < (layout form).leaves) }
     ensures garbled { IsTrue L.keeper.tells_reads
-        → IsInode version_one (leaves_of L.keeper L.region from.old) map.now inode length
+        → IsInode (layout form) (leaves_of L.keeper L.region from.old) map.now inode length
         → IfGarbled (refusal_of result)
-        (λ n. IsTrue (breaks version_one (leaves_of L.keeper L.region from.old) n)) }
+        (λ n. IsTrue (breaks (layout form) (leaves_of L.keeper L.region from.old) n)) }
     ensures unread { IsUnread (refusal_of result) }
     ensures reads { ReadsOnly L.keeper L.region (refusal_of result) from.old from.new }
 {
     let index = at / 1024;
-    let Some(leaf) = data_leaf(map, inode, index) else {
+    let Some(leaf) = data_leaf(form, map, inode, index) else {
         return Err(StoreAnswer::Garbled(inode));
     };
     let mut block = [0; BLOCK_BYTES];
@@ -100,30 +109,33 @@ fn read_part<L: LeafSource>(
 fn read_between<L: LeafSource>(
     alloc: Global,
     from: &mut L,
-    map: &[u8; BLOCK_BYTES],
+    form: Form,
+    map: &[Entry; MOST_LEAVES],
     inode: u16,
     length: u32,
     start: u32,
     end: u32,
 ) -> Result<Bytes, StoreAnswer>
+    requires fits { (layout form).leaves ≤ L.keeper.leaves }
     requires works { (L.keeper.condition from.old).lost ≡ false }
-    requires inode { inode < LEAVES }
+    requires inode { inode < (layout form).leaves }
     requires order { start ≤ end }
     requires inside { end ≤ length }
     ensures bytes { IsTrue L.keeper.tells_reads
-        → IsInode version_one (leaves_of L.keeper L.region from.old) map.now inode length
+        → IsInode (layout form) (leaves_of L.keeper L.region from.old) map.now inode length
         → IfOk result (λ bytes. bytes
-        ≡ map_of (λ n. byte_at version_one (leaves_of L.keeper L.region from.old) inode n)
+        ≡ map_of (λ n. byte_at (layout form) (leaves_of L.keeper L.region from.old) inode n)
         (range_with_len start (end - start))) }
     ensures count { IfOk result (λ bytes. length_of bytes ≡ end - start) }
     ensures found { IsTrue L.keeper.tells_reads
-        → IsInode version_one (leaves_of L.keeper L.region from.old) map.now inode length
-        → IfOk result (λ bytes. IsReadData L.keeper L.region version_one inode start end from.old) }
-    ensures few { IfGarbled (refusal_of result) (λ n. n < LEAVES) }
+        → IsInode (layout form) (leaves_of L.keeper L.region from.old) map.now inode length
+        → IfOk result
+        (λ bytes. IsReadData L.keeper L.region (layout form) inode start end from.old) }
+    ensures few { IfGarbled (refusal_of result) (λ n. n < (layout form).leaves) }
     ensures garbled { IsTrue L.keeper.tells_reads
-        → IsInode version_one (leaves_of L.keeper L.region from.old) map.now inode length
+        → IsInode (layout form) (leaves_of L.keeper L.region from.old) map.now inode length
         → IfGarbled (refusal_of result)
-        (λ n. IsTrue (breaks version_one (leaves_of L.keeper L.region from.old) n)) }
+        (λ n. IsTrue (breaks (layout form) (leaves_of L.keeper L.region from.old) n)) }
     ensures unread { IsUnread (refusal_of result) }
     ensures reads { ReadsOnly L.keeper L.region (refusal_of result) from.old from.new }
 {
@@ -132,7 +144,7 @@ fn read_between<L: LeafSource>(
     while at < end {
         let room = 1024 - at % 1024;
         let stop = at + room.min(end - at);
-        read_part(from, map, inode, length, at, stop, &mut bytes)?;
+        read_part(from, form, map, inode, length, at, stop, &mut bytes)?;
         at = stop;
     }
     Ok(Bytes::from_vec(bytes))
@@ -142,23 +154,34 @@ fn read_between<L: LeafSource>(
 pub fn content<L: LeafSource>(
     alloc: Global,
     from: &mut L,
+    form: Form,
     id: &[u8],
     start: u32,
     count: u32,
 ) -> Result<Bytes, StoreAnswer>
+    requires fits { (layout form).leaves ≤ L.keeper.leaves }
     requires id { IsIdentifier id.now }
     requires count { count ≤ MAX_ASK_BYTES }
-    ensures reads { ReadsRegion L.keeper L.region version_one
+    ensures reads { ReadsRegion L.keeper L.region (layout form)
         (λ store. read_at store id.now start count) (IsPart count) result from.old from.new }
     ensures found { IsTrue L.keeper.tells_reads → IfOk result
-        (λ bytes. IsReadPart L.keeper L.region version_one id.now start count from.old) }
+        (λ bytes. IsReadPart L.keeper L.region (layout form) id.now start count from.old) }
 {
-    let mut map = [0; BLOCK_BYTES];
-    let inodes = load(alloc, from, &mut map)?;
-    let Some(inode) = find(inodes.as_slice(), id) else {
+    let mut map = [FREE_ENTRY; MOST_LEAVES];
+    let inodes = load(alloc, from, form, &mut map)?;
+    let Some(inode) = find(form, inodes.as_slice(), id) else {
         return Err(StoreAnswer::NotFound);
     };
     let start = start.min(inode.length);
     let end = start + count.min(inode.length - start);
-    read_between(alloc, from, &map, inode.number, inode.length, start, end)
+    read_between(
+        alloc,
+        from,
+        form,
+        &map,
+        inode.number,
+        inode.length,
+        start,
+        end,
+    )
 }

@@ -2,7 +2,6 @@
 
 ghost use Rattle.std.specs.Prelude.{◌≡◌, ◌≤◌, ◌<◌, ◌+◌, ◌*◌, ℕ, false, not, is_some, IfOk, IsTrue};
 ghost use Rattle.std.specs.List.{slice_index};
-ghost use Rattle.tee_base.specs.declared.limits.TheConstants.{LEAVES};
 ghost use Rattle.region_plan.specs.Edits.{IsEditedLeaf, byte_after as byte_of, is_left, is_touched as touches};
 ghost use Rattle.region_plan.specs.Plans.{bytes_or};
 ghost use Rattle.region_plan.specs.Reading.{IfGarbled, IsUnread, ReadsOnly, leaves_of, refusal_of};
@@ -75,7 +74,7 @@ pub(crate) fn edited_leaf<L: LeafSource>(
     index: u32,
 ) -> Result<Option<[u8; BLOCK_BYTES]>, StoreAnswer>
     requires works { (L.keeper.condition from.old).lost ≡ false }
-    requires leaf { leaf < LEAVES }
+    requires leaf { leaf < L.keeper.leaves }
     ensures edited { IsTrue L.keeper.tells_reads → IfOk result (λ new. IsEditedLeaf edit.entry index
         (leaves_of L.keeper L.region from.old leaf)
         (bytes_or new (leaves_of L.keeper L.region from.old leaf))) }

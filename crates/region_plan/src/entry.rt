@@ -1,11 +1,13 @@
 //! The map of a region: what each leaf is.
 
-ghost use Rattle.std.specs.Prelude.{◌≡◌, ◌<◌, ℕ, List};
-ghost use Rattle.region_plan.specs.Layout.{version_one};
-ghost use Rattle.region_plan.specs.Entries.{entry_at, form_of, is_well_formed as follows_rules};
-ghost use Rattle.region_plan.specs.Places.{entries_in, with_entry};
+ghost use Rattle.std.specs.Prelude.{◌≡◌, ◌≤◌, ◌<◌, ◌+◌, ◌*◌, ◌==◌, ◌&&◌, ℕ};
+ghost use Rattle.region_plan.specs.Layout.{layout};
+ghost use Rattle.region_plan.specs.Entries.{follows, form_of, is_zero as has_zeros, number_in};
+ghost use Rattle.region_plan.specs.Places.{AreWritable, entries_in, with_entry};
+ghost use Rattle.region_plan.specs.Plans.{IsMapLeaf};
 
 use crate::bytes::{number_at, put};
+use crate::form::{Form, MOST_LEAVES};
 use tee_base::limits::BLOCK_BYTES;
 
 /// The kind of a free leaf.
@@ -14,6 +16,10 @@ pub(crate) const FREE: u32 = 0;
 pub(crate) const INODE: u32 = 1;
 /// The kind of a leaf with bytes of an object's content.
 pub(crate) const DATA: u32 = 2;
+/// Entries of one leaf of the map.
+pub(crate) const MAP_ENTRIES: usize = 256;
+/// Bytes of an entry.
+pub(crate) const ENTRY_BYTES: usize = 4;
 
 /// What the map says of a leaf: its kind, the leaf of its inode, and its index among the inode's data.
 #[derive(Clone, Copy)]
@@ -23,40 +29,42 @@ pub(crate) struct Entry {
     pub index: u32,
 }
 
-/// The entry of a leaf.
-#[tactic(auto, using(crate::proofs::EntryLemmas::in_first), unfolding(crate::specs::Entries::entry_at))]
-pub(crate) fn entry_in(map: &[u8; BLOCK_BYTES], leaf: usize) -> Entry
-    requires { leaf < 256 }
-    ensures entry { (leaves : ℕ → List ℕ) → leaves 0 ≡ map.now
-        → result ≡ entry_at version_one leaves leaf }
-    ensures kind { result.kind < 256 }
-    ensures inode { result.inode < 256 }
-    ensures index { result.index < 65536 }
+/// The entry of a free leaf.
+pub(crate) const FREE_ENTRY: Entry = Entry {
+    kind: FREE,
+    inode: 0,
+    index: 0,
+};
+
+/// The entry of a leaf, free where there is none.
+pub(crate) fn entry_in(map: &[Entry; MOST_LEAVES], leaf: usize) -> Entry
+    ensures { result ≡ entries_in map.now leaf }
 {
-    let number = number_at(map, 4 * leaf);
-    Entry {
-        kind: number % 256,
-        inode: number / 256 % 256,
-        index: number / 65_536,
+    if leaf < MOST_LEAVES {
+        map[leaf]
+    } else {
+        FREE_ENTRY
     }
 }
 
 /// Sets the entry of a leaf.
-pub(crate) fn set_entry(map: &mut [u8; BLOCK_BYTES], leaf: usize, entry: Entry)
-    requires leaf { leaf < 256 }
-    requires kind { entry.kind < 256 }
-    requires inode { entry.inode < 256 }
-    requires index { entry.index < 65536 }
-    ensures { (i : ℕ) → i < 256
-        → entries_in map.new i ≡ with_entry leaf entry (entries_in map.old) i }
+pub(crate) fn set_entry(map: &mut [Entry; MOST_LEAVES], leaf: usize, entry: Entry)
+    requires { leaf < 1024 }
+    ensures { (i : ℕ) → entries_in map.new i ≡ with_entry leaf entry (entries_in map.old) i }
 {
-    let number = entry.kind + 256 * entry.inode + 65_536 * entry.index;
-    put(map, 4 * leaf, &number.to_le_bytes());
+    map[leaf] = entry;
 }
 
-/// Whether an entry has the form of its kind, where it is known if its inode is one.
-fn has_form(leaf: usize, entry: Entry, names_inode: bool) -> bool
-    ensures { result ≡ form_of leaf entry names_inode }
+/// Whether an entry is zero.
+fn is_zero(entry: Entry) -> bool
+    ensures { result ≡ has_zeros entry }
+{
+    entry.kind == FREE && (entry.inode == 0 && entry.index == 0)
+}
+
+/// Whether an entry has the form of its kind, where it is known if it is named.
+fn has_form(leaf: usize, entry: Entry, named: bool) -> bool
+    ensures { result ≡ form_of leaf entry named }
 {
     if entry.kind == FREE {
         return entry.inode == 0 && entry.index == 0;
@@ -64,19 +72,55 @@ fn has_form(leaf: usize, entry: Entry, names_inode: bool) -> bool
     if entry.kind == INODE {
         return entry.inode as usize == leaf && entry.index == 0;
     }
-    entry.kind == DATA && names_inode
+    entry.kind == DATA && named
 }
 
 /// Whether the entry of a leaf follows the rules.
-pub(crate) fn is_well_formed(map: &[u8; BLOCK_BYTES], leaf: usize) -> bool
-    requires { leaf < 256 }
-    ensures { (leaves : ℕ → List ℕ) → leaves 0 ≡ map.now
-        → result ≡ follows_rules version_one leaves leaf }
+pub(crate) fn is_well_formed(form: Form, map: &[Entry; MOST_LEAVES], leaf: usize) -> bool
+    ensures { result ≡ follows (layout form) (entries_in map.now) leaf }
 {
-    if leaf == 0 {
-        return number_at(map, 0) == 0;
-    }
     let entry = entry_in(map, leaf);
+    if leaf < form.map_leaves() {
+        return is_zero(entry);
+    }
     let inode = entry_in(map, entry.inode as usize);
-    has_form(leaf, entry, inode.kind == INODE)
+    has_form(
+        leaf,
+        entry,
+        inode.kind == INODE && entry.index < form.indexes(),
+    )
+}
+
+/// Takes the entries of a leaf of the map.
+pub(crate) fn take_entries(
+    form: Form,
+    leaf: usize,
+    block: &[u8; BLOCK_BYTES],
+    map: &mut [Entry; MOST_LEAVES],
+)
+    requires { leaf < 4 }
+    ensures taken { IsMapLeaf (layout form) map.new leaf block.now }
+    ensures before { (i : ℕ) → i < 256 * leaf → entries_in map.new i ≡ entries_in map.old i }
+    ensures inodes { ((i : ℕ) → (entries_in map.old i).inode < (layout form).leaves)
+        → (i : ℕ) → (entries_in map.new i).inode < (layout form).leaves }
+{
+    for place in 0..MAP_ENTRIES {
+        let number = number_at(block, ENTRY_BYTES * place);
+        set_entry(map, MAP_ENTRIES * leaf + place, form.entry_of(number));
+    }
+}
+
+/// The bytes of a leaf of the map.
+pub(crate) fn map_leaf(form: Form, map: &[Entry; MOST_LEAVES], leaf: usize) -> [u8; BLOCK_BYTES]
+    requires leaf { leaf < (layout form).map_leaves }
+    requires few { leaf < 4 }
+    requires writable { AreWritable (layout form) map.now }
+    ensures { IsMapLeaf (layout form) map.now leaf result }
+{
+    let mut block = [0; BLOCK_BYTES];
+    for place in 0..MAP_ENTRIES {
+        let number = form.number_of(entry_in(map, MAP_ENTRIES * leaf + place));
+        put(&mut block, ENTRY_BYTES * place, &number.to_le_bytes());
+    }
+    block
 }

@@ -7,6 +7,7 @@ mod check;
 mod data;
 mod edit;
 mod entry;
+mod form;
 mod inode;
 mod laws;
 mod place;
@@ -16,6 +17,7 @@ mod table;
 
 pub use calls::{facts, locate, next_after, secret};
 pub use data::content;
+pub use form::Form;
 pub use laws::region_laws;
 pub use planning::{cost, plan};
 pub use source::LeafSource;

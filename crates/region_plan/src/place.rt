@@ -1,24 +1,17 @@
 //! Where the data of an object is placed: which leaves it gives up, and which free ones it takes.
 
-ghost use Rattle.std.specs.Prelude.{◌≡◌, ◌≤◌, ◌<◌, ◌+◌, ◌==◌, ◌&&◌, ℕ, true, false, not, min, None, IfSome};
-ghost use Rattle.tee_base.specs.declared.limits.TheConstants.{LEAVES};
+ghost use Rattle.std.specs.Prelude.{◌≡◌, ◌≤◌, ◌<◌, ◌+◌, ◌==◌, ◌&&◌, nat_le, ℕ, true, None, IfSome};
+ghost use Rattle.region_plan.specs.Layout.{layout, quota_of};
 ghost use Rattle.region_plan.specs.Places.{entries_in, free_before, is_free as may_be_taken, is_of, placed as placed_at, placed_entry as placed_by};
 
-use crate::entry::{DATA, Entry, FREE, entry_in, set_entry};
-use tee_base::limits::{BLOCK_BYTES, LEAVES};
+use crate::entry::{DATA, Entry, FREE, FREE_ENTRY, entry_in, set_entry};
+use crate::form::{Form, MOST_LEAVES};
 
-/// The entry of a free leaf.
-pub(crate) const FREE_ENTRY: Entry = Entry {
-    kind: FREE,
-    inode: 0,
-    index: 0,
-};
-
-/// Whether a leaf may be taken: it is free, and not the map.
-fn is_free(entry: Entry, leaf: usize) -> bool
-    ensures { result ≡ (not (leaf == 0) && (entry.kind == FREE)) }
+/// Whether a leaf may be taken: it is free, and not of the map.
+fn is_free(form: Form, entry: Entry, leaf: usize) -> bool
+    ensures { result ≡ (nat_le (layout form).map_leaves leaf && (entry.kind == FREE)) }
 {
-    leaf != 0 && entry.kind == FREE
+    form.map_leaves() <= leaf && entry.kind == FREE
 }
 
 /// Whether an entry is of an inode's data.
@@ -47,26 +40,26 @@ fn placed_entry(free: bool, entry: Entry, inode: u16, index: u32, blocks: u32) -
 
 /// The map after an inode's data got so many leaves, of which it has the first ones. None where there are too few free leaves.
 pub(crate) fn with_data(
-    map: &[u8; BLOCK_BYTES],
+    form: Form,
+    map: &[Entry; MOST_LEAVES],
     inode: u16,
     kept: u32,
     blocks: u32,
-) -> Option<[u8; BLOCK_BYTES]>
-    requires inode { inode < LEAVES }
+) -> Option<[Entry; MOST_LEAVES]>
     requires kept { kept ≤ blocks }
-    requires blocks { blocks < 256 }
-    ensures map { IfSome result (λ after. (i : ℕ) → i < 256
-        → entries_in after i ≡ placed_at (entries_in map.now) inode kept blocks i) }
-    ensures enough { IfSome result
-        (λ after. blocks ≤ kept + free_before (entries_in map.now) 256) }
+    requires blocks { blocks ≤ quota_of (layout form) }
+    ensures map { IfSome result (λ after. (i : ℕ) → i < (layout form).leaves → entries_in after i
+        ≡ placed_at (layout form) (entries_in map.now) inode kept blocks i) }
+    ensures enough { IfSome result (λ after. blocks
+        ≤ kept + free_before (layout form) (entries_in map.now) (layout form).leaves) }
     ensures lacks { result ≡ None
-        → kept + free_before (entries_in map.now) 256 < blocks }
+        → kept + free_before (layout form) (entries_in map.now) (layout form).leaves < blocks }
 {
     let mut after = *map;
     let mut index = kept;
-    for leaf in 0..LEAVES {
+    for leaf in 0..form.leaves() {
         let entry = entry_in(map, leaf);
-        let free = is_free(entry, leaf);
+        let free = is_free(form, entry, leaf);
         set_entry(
             &mut after,
             leaf,
@@ -78,13 +71,14 @@ pub(crate) fn with_data(
 }
 
 /// The first leaf that may be taken.
-pub(crate) fn first_free(map: &[u8; BLOCK_BYTES]) -> Option<u16>
-    ensures free { IfSome result (λ leaf.
-        (leaf < LEAVES) × (may_be_taken (entries_in map.now) leaf ≡ true)) }
-    ensures none { result ≡ None → free_before (entries_in map.now) 256 ≡ 0 }
+pub(crate) fn first_free(form: Form, map: &[Entry; MOST_LEAVES]) -> Option<u16>
+    ensures free { IfSome result (λ leaf. (leaf < (layout form).leaves)
+        × (may_be_taken (layout form) (entries_in map.now) leaf ≡ true)) }
+    ensures none { result ≡ None
+        → free_before (layout form) (entries_in map.now) (layout form).leaves ≡ 0 }
 {
-    for leaf in 0..LEAVES {
-        if is_free(entry_in(map, leaf), leaf) {
+    for leaf in 0..form.leaves() {
+        if is_free(form, entry_in(map, leaf), leaf) {
             return Some(leaf as u16);
         }
     }

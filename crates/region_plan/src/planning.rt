@@ -1,29 +1,32 @@
 //! A change of the objects as a change of leaves.
 
-ghost use Rattle.std.specs.Prelude.{◌≡◌, ◌≤◌, ◌<◌, ◌+◌, ℕ, List, true, false, is_some, IfOk, IsTrue, Ok, Err, length as length_of};
+ghost use Rattle.std.specs.Prelude.{◌≡◌, ◌≢◌, ◌≤◌, ◌<◌, ◌+◌, ◌*◌, ℕ, List, true, false, is_some, IfOk, IsTrue, Ok, Err, length as length_of};
 ghost use Rattle.std.specs.List.{All};
-ghost use Rattle.tee_base.specs.declared.limits.TheConstants.{MAX_ASK_BYTES, MAX_POSITION, LEAVES};
+ghost use Rattle.tee_base.specs.declared.limits.TheConstants.{MAX_ASK_BYTES, MAX_POSITION};
 ghost use Rattle.store_api.specs.Ascending.{is_above_all};
 ghost use Rattle.store_api.specs.declared.answer.StoreAnswer.TheVariants.{NoSpace};
 ghost use Rattle.store_api.specs.declared.change.Change.TheVariants as changes;
 ghost use Rattle.store_api.specs.Limits.{IsChange, IsIdentifier, IsSecret};
 ghost use Rattle.store_api.specs.Stores.{Store, blocks_for};
-ghost use Rattle.region_plan.specs.Layout.{version_one};
+ghost use Rattle.region_plan.specs.Layout.{layout};
+ghost use Rattle.region_plan.specs.Places.{AreWritable, IsMapOf, entries_in};
 ghost use Rattle.region_plan.specs.Planning.{Plans, PlansChange};
-ghost use Rattle.region_plan.specs.Plans.{IsChangedLeaf, IsContentPlan, IsDecided, IsNewPlan, IsPlanned, LacksNew, IsUnreadOrFull, LacksSpace, bytes_or, changing, may_change, with_leaves};
+ghost use Rattle.region_plan.specs.Plans.{ChangeMap, IsChangedLeaf, IsContentPlan, IsDecided, IsMapLeaf, IsNewPlan, IsPlanned, LacksNew, IsUnreadOrFull, LacksSpace, bytes_or, changing, may_change, same_entry, with_leaves};
 ghost use Rattle.region_plan.specs.Reading.{IfGarbled, IsUnread, ReadsOnly, leaves_of, refusal_of};
 ghost use Rattle.region_plan.specs.Regions.{inodes_of, region_of};
 ghost use Rattle.region_plan.specs.Tables.{IsWithin};
 
 use crate::edit::{Edit, blocks, edited_leaf};
-use crate::entry::{Entry, INODE, entry_in, set_entry};
+use crate::entry::{Entry, FREE_ENTRY, INODE, MAP_ENTRIES, entry_in, map_leaf, set_entry};
+use crate::form::{Form, MOST_LEAVES};
 use crate::inode::{Head, Inode, inode_block};
-use crate::place::{FREE_ENTRY, first_free, is_data_of, with_data};
+use crate::place::{first_free, is_data_of, with_data};
 use crate::source::LeafSource;
 use crate::table::{find, load};
 use std::alloc::Global;
 use store_api::{Change, Leaf, Leaves, StoreAnswer};
-use tee_base::limits::{BLOCK_BYTES, LEAVES};
+use tee_base::NoMemory;
+use tee_base::limits::BLOCK_BYTES;
 
 /// How many leaves an object with so many bytes of content takes.
 pub fn cost(length: u32) -> u32
@@ -32,35 +35,83 @@ pub fn cost(length: u32) -> u32
     1 + blocks(length)
 }
 
-/// The bytes of a leaf after a change of an inode's object, if they change: the old map becomes this one, and the inode's leaf
-/// these bytes, if there are some.
+/// Whether two entries are the same.
+fn is_same(entry: Entry, other: Entry) -> bool
+    ensures { result ≡ same_entry entry other }
+{
+    entry.kind == other.kind && (entry.inode == other.inode && entry.index == other.index)
+}
+
+/// Whether a leaf of the map has the same entries in two maps.
+fn is_unchanged(old: &[Entry; MOST_LEAVES], map: &[Entry; MOST_LEAVES], leaf: usize) -> bool
+    requires { leaf < 4 }
+    ensures same { result ≡ true → (place : ℕ) → place < MAP_ENTRIES
+        → entries_in map.now (MAP_ENTRIES * leaf + place)
+        ≡ entries_in old.now (MAP_ENTRIES * leaf + place) }
+    ensures other { result ≡ false → (place : ℕ) × (place < MAP_ENTRIES)
+        × (entries_in map.now (MAP_ENTRIES * leaf + place)
+        ≢ entries_in old.now (MAP_ENTRIES * leaf + place)) }
+{
+    for place in 0..MAP_ENTRIES {
+        let at = MAP_ENTRIES * leaf + place;
+        if !is_same(entry_in(map, at), entry_in(old, at)) {
+            return false;
+        }
+    }
+    true
+}
+
+/// The leaves of the map that change where the old map becomes this one, in ascending order.
+fn changed_map(
+    alloc: Global,
+    form: Form,
+    old: &[Entry; MOST_LEAVES],
+    map: &[Entry; MOST_LEAVES],
+) -> Result<Leaves, NoMemory>
+    requires { AreWritable (layout form) map.now }
+    ensures each { (leaves : ℕ → List ℕ) → IsMapOf (layout form) leaves old.now → IfOk result
+        (λ named. (i : ℕ) → i < (layout form).map_leaves
+        → IsMapLeaf (layout form) map.now i (with_leaves named leaves i)) }
+    ensures changed { (leaves : ℕ → List ℕ) → IsMapOf (layout form) leaves old.now → IfOk result
+        (λ named. ChangeMap (layout form) leaves named) }
+    ensures few { IfOk result (λ named. length_of named ≤ (layout form).map_leaves) }
+    ensures named { IfOk result (λ named. IsTrue (is_above_all named (layout form).map_leaves)) }
+{
+    let mut leaves = Leaves::none(alloc);
+    for leaf in 0..form.map_leaves() {
+        if !is_unchanged(old, map, leaf) {
+            let bytes = map_leaf(form, map, leaf);
+            let number = leaf as u16;
+            leaves.push(Leaf { number, bytes })?;
+        }
+    }
+    Ok(leaves)
+}
+
+/// The bytes of a leaf behind the map after a change of an inode's object, if they change: the map is this one then, and the
+/// inode's leaf has these bytes, if there are some.
 fn changed_leaf<L: LeafSource>(
     from: &mut L,
-    old: &[u8; BLOCK_BYTES],
-    map: &[u8; BLOCK_BYTES],
+    form: Form,
+    map: &[Entry; MOST_LEAVES],
     inode: u16,
     head: &Option<[u8; BLOCK_BYTES]>,
     edit: Edit<'_>,
     leaf: u16,
 ) -> Result<Option<[u8; BLOCK_BYTES]>, StoreAnswer>
+    requires fits { (layout form).leaves ≤ L.keeper.leaves }
     requires works { (L.keeper.condition from.old).lost ≡ false }
-    requires leaf { leaf < LEAVES }
-    ensures changed { IsTrue L.keeper.tells_reads
-        → leaves_of L.keeper L.region from.old 0 ≡ old.now → IfOk result
-        (λ new. IsChangedLeaf (leaves_of L.keeper L.region from.old) map.now inode head.now
-        edit.entry leaf (bytes_or new (leaves_of L.keeper L.region from.old leaf))) }
-    ensures few { IfOk result
-        (λ new. is_some new ≡ true → may_change map.now inode edit.entry leaf ≡ true) }
+    requires later { (layout form).map_leaves ≤ leaf }
+    requires leaf { leaf < (layout form).leaves }
+    ensures changed { IsTrue L.keeper.tells_reads → IfOk result
+        (λ new. IsChangedLeaf (layout form) (leaves_of L.keeper L.region from.old) map.now inode
+        head.now edit.entry leaf (bytes_or new (leaves_of L.keeper L.region from.old leaf))) }
+    ensures few { IfOk result (λ new. is_some new ≡ true
+        → may_change (layout form) map.now inode edit.entry leaf ≡ true) }
     ensures garbled { IfGarbled (refusal_of result) (λ n. ⊥) }
     ensures unread { IsUnread (refusal_of result) }
     ensures reads { ReadsOnly L.keeper L.region (refusal_of result) from.old from.new }
 {
-    if leaf == 0 {
-        if old.as_slice() == map.as_slice() {
-            return Ok(None);
-        }
-        return Ok(Some(*map));
-    }
     if leaf == inode {
         return Ok(*head);
     }
@@ -75,29 +126,36 @@ fn changed_leaf<L: LeafSource>(
 fn changed_leaves<L: LeafSource>(
     alloc: Global,
     from: &mut L,
-    old: &[u8; BLOCK_BYTES],
-    map: &[u8; BLOCK_BYTES],
+    form: Form,
+    old: &[Entry; MOST_LEAVES],
+    map: &[Entry; MOST_LEAVES],
     inode: u16,
     head: &Option<[u8; BLOCK_BYTES]>,
     edit: Edit<'_>,
 ) -> Result<Leaves, StoreAnswer>
-    requires { (L.keeper.condition from.old).lost ≡ false }
+    requires fits { (layout form).leaves ≤ L.keeper.leaves }
+    requires works { (L.keeper.condition from.old).lost ≡ false }
+    requires writable { AreWritable (layout form) map.now }
     ensures each { IsTrue L.keeper.tells_reads
-        → leaves_of L.keeper L.region from.old 0 ≡ old.now → IfOk result
-        (λ named. (i : ℕ) → i < 256 → IsChangedLeaf (leaves_of L.keeper L.region from.old)
+        → IsMapOf (layout form) (leaves_of L.keeper L.region from.old) old.now → IfOk result
+        (λ named. (i : ℕ) → i < (layout form).leaves
+        → IsChangedLeaf (layout form) (leaves_of L.keeper L.region from.old)
         map.now inode head.now edit.entry i
         (with_leaves named (leaves_of L.keeper L.region from.old) i)) }
-    ensures few { IfOk result
-        (λ named. length_of named ≤ changing map.now inode edit.entry 256) }
-    ensures named { IfOk result (λ named. IsTrue (is_above_all named LEAVES)) }
+    ensures changed { IsTrue L.keeper.tells_reads
+        → IsMapOf (layout form) (leaves_of L.keeper L.region from.old) old.now → IfOk result
+        (λ named. ChangeMap (layout form) (leaves_of L.keeper L.region from.old) named) }
+    ensures few { IfOk result (λ named. length_of named
+        ≤ changing (layout form) map.now inode edit.entry (layout form).leaves) }
+    ensures named { IfOk result (λ named. IsTrue (is_above_all named (layout form).leaves)) }
     ensures garbled { IfGarbled (refusal_of result) (λ n. ⊥) }
     ensures unread { IsUnread (refusal_of result) }
     ensures reads { ReadsOnly L.keeper L.region (refusal_of result) from.old from.new }
 {
-    let mut leaves = Leaves::none(alloc);
-    for leaf in 0..LEAVES {
+    let mut leaves = changed_map(alloc, form, old, map)?;
+    for leaf in form.map_leaves()..form.leaves() {
         let number = leaf as u16;
-        if let Some(bytes) = changed_leaf(from, old, map, inode, head, edit, number)? {
+        if let Some(bytes) = changed_leaf(from, form, map, inode, head, edit, number)? {
             leaves.push(Leaf { number, bytes })?;
         }
     }
@@ -108,52 +166,58 @@ fn changed_leaves<L: LeafSource>(
 fn plan_edit<L: LeafSource>(
     alloc: Global,
     from: &mut L,
-    map: &[u8; BLOCK_BYTES],
-    base: &[u8; BLOCK_BYTES],
+    form: Form,
+    map: &[Entry; MOST_LEAVES],
+    base: &[Entry; MOST_LEAVES],
     inode: u16,
     head: &Option<[u8; BLOCK_BYTES]>,
     edit: Edit<'_>,
 ) -> Result<Leaves, StoreAnswer>
+    requires fits { (layout form).leaves ≤ L.keeper.leaves }
     requires works { (L.keeper.condition from.old).lost ≡ false }
-    requires inode { inode < LEAVES }
+    requires inode { inode < (layout form).leaves }
+    requires writable { AreWritable (layout form) base.now }
     ensures planned { IsTrue L.keeper.tells_reads
-        → leaves_of L.keeper L.region from.old 0 ≡ map.now → IfOk result
-        (λ named. IsPlanned (leaves_of L.keeper L.region from.old) base.now inode head.now
-        edit.entry named) }
-    ensures space { result ≡ Err NoSpace → LacksSpace base.now edit.entry }
+        → IsMapOf (layout form) (leaves_of L.keeper L.region from.old) map.now → IfOk result
+        (λ named. IsPlanned (layout form) (leaves_of L.keeper L.region from.old)
+        base.now inode head.now edit.entry named) }
+    ensures space { result ≡ Err NoSpace → LacksSpace (layout form) base.now edit.entry }
     ensures refused { IsUnreadOrFull (refusal_of result) }
-    ensures named { IfOk result (λ named. IsTrue (is_above_all named LEAVES)) }
+    ensures named { IfOk result (λ named. IsTrue (is_above_all named (layout form).leaves)) }
     ensures garbled { IfGarbled (refusal_of result) (λ n. ⊥) }
     ensures reads { ReadsOnly L.keeper L.region (refusal_of result) from.old from.new }
 {
     let wanted = blocks(edit.length);
-    if wanted > 255 {
+    if wanted > form.quota() {
         return Err(StoreAnswer::NoSpace);
     }
     let kept = blocks(edit.had).min(wanted);
-    let Some(after) = with_data(base, inode, kept, wanted) else {
+    let Some(after) = with_data(form, base, inode, kept, wanted) else {
         return Err(StoreAnswer::NoSpace);
     };
-    changed_leaves(alloc, from, map, &after, inode, head, edit)
+    changed_leaves(alloc, from, form, map, &after, inode, head, edit)
 }
 
 /// The leaves that change the content of an object.
 fn plan_content<L: LeafSource>(
     alloc: Global,
     from: &mut L,
-    map: &[u8; BLOCK_BYTES],
+    form: Form,
+    map: &[Entry; MOST_LEAVES],
     inode: &Inode,
     edit: Edit<'_>,
 ) -> Result<Leaves, StoreAnswer>
+    requires fits { (layout form).leaves ≤ L.keeper.leaves }
     requires works { (L.keeper.condition from.old).lost ≡ false }
-    requires within { IsWithin inode.now }
+    requires within { IsWithin (layout form) inode.now }
+    requires writable { AreWritable (layout form) map.now }
     ensures planned { IsTrue L.keeper.tells_reads
-        → leaves_of L.keeper L.region from.old 0 ≡ map.now → IfOk result
-        (λ named. IsContentPlan (leaves_of L.keeper L.region from.old) map.now inode.now edit.entry
-        named) }
-    ensures space { result ≡ Err NoSpace → LacksSpace map.now edit.entry }
+        → IsMapOf (layout form) (leaves_of L.keeper L.region from.old) map.now → IfOk result
+        (λ named. IsContentPlan (layout form) (leaves_of L.keeper L.region from.old)
+        map.now inode.now edit.entry named) }
+    ensures space { result ≡ Err NoSpace → LacksSpace (layout form) map.now edit.entry }
     ensures refused { IsUnreadOrFull (refusal_of result) }
-    ensures named { IfOk result (λ named. IsTrue (is_above_all named LEAVES)) }
+    ensures named { IfOk result (λ named. IsTrue (is_above_all named (layout form).leaves)) }
     ensures garbled { IfGarbled (refusal_of result) (λ n. ⊥) }
     ensures reads { ReadsOnly L.keeper L.region (refusal_of result) from.old from.new }
 {
@@ -162,31 +226,34 @@ fn plan_content<L: LeafSource>(
     } else {
         Some(inode_block(inode.head(), edit.length))
     };
-    plan_edit(alloc, from, map, map, inode.number, &head, edit)
+    plan_edit(alloc, from, form, map, map, inode.number, &head, edit)
 }
 
 /// The leaves that keep a new object.
 fn plan_new<L: LeafSource>(
     alloc: Global,
     from: &mut L,
-    map: &[u8; BLOCK_BYTES],
+    form: Form,
+    map: &[Entry; MOST_LEAVES],
     head: Head<'_>,
     edit: Edit<'_>,
 ) -> Result<Leaves, StoreAnswer>
+    requires fits { (layout form).leaves ≤ L.keeper.leaves }
     requires works { (L.keeper.condition from.old).lost ≡ false }
     requires id { IsIdentifier head.id.now }
     requires secret { IsSecret head.secret.now }
+    requires writable { AreWritable (layout form) map.now }
     ensures planned { IsTrue L.keeper.tells_reads
-        → leaves_of L.keeper L.region from.old 0 ≡ map.now → IfOk result
-        (λ named. IsNewPlan (leaves_of L.keeper L.region from.old) map.now head.entry edit.entry
-        named) }
-    ensures space { result ≡ Err NoSpace → LacksNew map.now edit.entry }
+        → IsMapOf (layout form) (leaves_of L.keeper L.region from.old) map.now → IfOk result
+        (λ named. IsNewPlan (layout form) (leaves_of L.keeper L.region from.old)
+        map.now head.entry edit.entry named) }
+    ensures space { result ≡ Err NoSpace → LacksNew (layout form) map.now edit.entry }
     ensures refused { IsUnreadOrFull (refusal_of result) }
-    ensures named { IfOk result (λ named. IsTrue (is_above_all named LEAVES)) }
+    ensures named { IfOk result (λ named. IsTrue (is_above_all named (layout form).leaves)) }
     ensures garbled { IfGarbled (refusal_of result) (λ n. ⊥) }
     ensures reads { ReadsOnly L.keeper L.region (refusal_of result) from.old from.new }
 {
-    let Some(leaf) = first_free(map) else {
+    let Some(leaf) = first_free(form, map) else {
         return Err(StoreAnswer::NoSpace);
     };
     let mut base = *map;
@@ -197,31 +264,36 @@ fn plan_new<L: LeafSource>(
     };
     set_entry(&mut base, leaf as usize, entry);
     let block = Some(inode_block(head, edit.length));
-    plan_edit(alloc, from, map, &base, leaf, &block, edit)
+    plan_edit(alloc, from, form, map, &base, leaf, &block, edit)
 }
 
 /// The leaves that keep an object under an identifier.
 fn plan_put<L: LeafSource>(
     alloc: Global,
     from: &mut L,
-    map: &[u8; BLOCK_BYTES],
+    form: Form,
+    map: &[Entry; MOST_LEAVES],
     inodes: &[Inode],
     head: Head<'_>,
     content: &[u8],
     overwrite: bool,
 ) -> Result<Leaves, StoreAnswer>
+    requires fits { (layout form).leaves ≤ L.keeper.leaves }
     requires works { (L.keeper.condition from.old).lost ≡ false }
-    requires within { All IsWithin inodes.now }
+    requires within { All (IsWithin (layout form)) inodes.now }
     requires id { IsIdentifier head.id.now }
     requires secret { IsSecret head.secret.now }
     requires content { length_of content.now ≤ MAX_ASK_BYTES }
-    ensures plans { IsTrue L.keeper.tells_reads → leaves_of L.keeper L.region from.old 0 ≡ map.now
-        → inodes.now ≡ inodes_of version_one (leaves_of L.keeper L.region from.old)
-        → (store : Store) → region_of version_one (leaves_of L.keeper L.region from.old) ≡ Ok store
-        → Plans version_one (leaves_of L.keeper L.region from.old) store
+    requires writable { AreWritable (layout form) map.now }
+    ensures plans { IsTrue L.keeper.tells_reads
+        → IsMapOf (layout form) (leaves_of L.keeper L.region from.old) map.now
+        → inodes.now ≡ inodes_of (layout form) (leaves_of L.keeper L.region from.old)
+        → (store : Store)
+        → region_of (layout form) (leaves_of L.keeper L.region from.old) ≡ Ok store
+        → Plans (layout form) (leaves_of L.keeper L.region from.old) store
         (changes.Put head.entry.id.now head.entry.kind head.entry.usage head.entry.secret.now
         content.now overwrite) result }
-    ensures named { IfOk result (λ named. IsTrue (is_above_all named LEAVES)) }
+    ensures named { IfOk result (λ named. IsTrue (is_above_all named (layout form).leaves)) }
     ensures garbled { IfGarbled (refusal_of result) (λ n. ⊥) }
     ensures reads { ReadsOnly L.keeper L.region (refusal_of result) from.old from.new }
 {
@@ -232,7 +304,7 @@ fn plan_put<L: LeafSource>(
         bytes: content,
         length: content.len() as u32,
     };
-    match find(inodes, head.id) {
+    match find(form, inodes, head.id) {
         Some(inode) => {
             if !overwrite {
                 return Err(StoreAnswer::Exists);
@@ -242,53 +314,59 @@ fn plan_put<L: LeafSource>(
                 had: inode.length,
                 ..edit
             };
-            plan_edit(alloc, from, map, map, inode.number, &block, edit)
+            plan_edit(alloc, from, form, map, map, inode.number, &block, edit)
         }
-        None => plan_new(alloc, from, map, head, edit),
+        None => plan_new(alloc, from, form, map, head, edit),
     }
 }
 
 /// The leaf that takes an object away.
 fn plan_delete(
     alloc: Global,
-    map: &[u8; BLOCK_BYTES],
+    form: Form,
+    map: &[Entry; MOST_LEAVES],
     inodes: &[Inode],
     id: &[u8],
 ) -> Result<Leaves, StoreAnswer>
-    requires { All IsWithin inodes.now }
-    ensures plans { (leaves : ℕ → List ℕ) → leaves 0 ≡ map.now
-        → inodes.now ≡ inodes_of version_one leaves → (store : Store)
-        → region_of version_one leaves ≡ Ok store
-        → Plans version_one leaves store (changes.Delete id.now) result }
-    ensures named { IfOk result (λ named. IsTrue (is_above_all named LEAVES)) }
+    requires within { All (IsWithin (layout form)) inodes.now }
+    requires writable { AreWritable (layout form) map.now }
+    ensures plans { (leaves : ℕ → List ℕ) → IsMapOf (layout form) leaves map.now
+        → inodes.now ≡ inodes_of (layout form) leaves → (store : Store)
+        → region_of (layout form) leaves ≡ Ok store
+        → Plans (layout form) leaves store (changes.Delete id.now) result }
+    ensures named { IfOk result (λ named. IsTrue (is_above_all named (layout form).leaves)) }
     ensures decided { IsDecided (refusal_of result) }
 {
-    let Some(inode) = find(inodes, id) else {
+    let Some(inode) = find(form, inodes, id) else {
         return Err(StoreAnswer::NotFound);
     };
-    let Some(mut bytes) = with_data(map, inode.number, 0, 0) else {
+    let Some(mut after) = with_data(form, map, inode.number, 0, 0) else {
         return Err(StoreAnswer::NotFound);
     };
-    set_entry(&mut bytes, inode.number as usize, FREE_ENTRY);
-    let mut leaves = Leaves::none(alloc);
-    leaves.push(Leaf { number: 0, bytes })?;
-    Ok(leaves)
+    set_entry(&mut after, inode.number as usize, FREE_ENTRY);
+    Ok(changed_map(alloc, form, map, &after)?)
 }
 
 /// The leaf that moves an object to another identifier.
-fn plan_rename(alloc: Global, inodes: &[Inode], id: &[u8], to: &[u8]) -> Result<Leaves, StoreAnswer>
-    requires within { All IsWithin inodes.now }
+fn plan_rename(
+    alloc: Global,
+    form: Form,
+    inodes: &[Inode],
+    id: &[u8],
+    to: &[u8],
+) -> Result<Leaves, StoreAnswer>
+    requires within { All (IsWithin (layout form)) inodes.now }
     requires to { IsIdentifier to.now }
-    ensures plans { (leaves : ℕ → List ℕ) → inodes.now ≡ inodes_of version_one leaves
-        → (store : Store) → region_of version_one leaves ≡ Ok store
-        → Plans version_one leaves store (changes.Rename id.now to.now) result }
-    ensures named { IfOk result (λ named. IsTrue (is_above_all named LEAVES)) }
+    ensures plans { (leaves : ℕ → List ℕ) → inodes.now ≡ inodes_of (layout form) leaves
+        → (store : Store) → region_of (layout form) leaves ≡ Ok store
+        → Plans (layout form) leaves store (changes.Rename id.now to.now) result }
+    ensures named { IfOk result (λ named. IsTrue (is_above_all named (layout form).leaves)) }
     ensures decided { IsDecided (refusal_of result) }
 {
-    let Some(inode) = find(inodes, id) else {
+    let Some(inode) = find(form, inodes, id) else {
         return Err(StoreAnswer::NotFound);
     };
-    if find(inodes, to).is_some() {
+    if find(form, inodes, to).is_some() {
         return Err(StoreAnswer::Exists);
     }
     let head = Head {
@@ -307,25 +385,30 @@ fn plan_rename(alloc: Global, inodes: &[Inode], id: &[u8], to: &[u8]) -> Result<
 fn plan_write<L: LeafSource>(
     alloc: Global,
     from: &mut L,
-    map: &[u8; BLOCK_BYTES],
+    form: Form,
+    map: &[Entry; MOST_LEAVES],
     inodes: &[Inode],
     id: &[u8],
     at: u32,
     bytes: &[u8],
 ) -> Result<Leaves, StoreAnswer>
+    requires fits { (layout form).leaves ≤ L.keeper.leaves }
     requires works { (L.keeper.condition from.old).lost ≡ false }
-    requires within { All IsWithin inodes.now }
+    requires within { All (IsWithin (layout form)) inodes.now }
     requires bytes { at + length_of bytes.now ≤ MAX_POSITION }
-    ensures plans { IsTrue L.keeper.tells_reads → leaves_of L.keeper L.region from.old 0 ≡ map.now
-        → inodes.now ≡ inodes_of version_one (leaves_of L.keeper L.region from.old)
-        → (store : Store) → region_of version_one (leaves_of L.keeper L.region from.old) ≡ Ok store
-        → Plans version_one (leaves_of L.keeper L.region from.old) store
+    requires writable { AreWritable (layout form) map.now }
+    ensures plans { IsTrue L.keeper.tells_reads
+        → IsMapOf (layout form) (leaves_of L.keeper L.region from.old) map.now
+        → inodes.now ≡ inodes_of (layout form) (leaves_of L.keeper L.region from.old)
+        → (store : Store)
+        → region_of (layout form) (leaves_of L.keeper L.region from.old) ≡ Ok store
+        → Plans (layout form) (leaves_of L.keeper L.region from.old) store
         (changes.Write id.now at bytes.now) result }
-    ensures named { IfOk result (λ named. IsTrue (is_above_all named LEAVES)) }
+    ensures named { IfOk result (λ named. IsTrue (is_above_all named (layout form).leaves)) }
     ensures garbled { IfGarbled (refusal_of result) (λ n. ⊥) }
     ensures reads { ReadsOnly L.keeper L.region (refusal_of result) from.old from.new }
 {
-    let Some(inode) = find(inodes, id) else {
+    let Some(inode) = find(form, inodes, id) else {
         return Err(StoreAnswer::NotFound);
     };
     if bytes.is_empty() {
@@ -338,30 +421,35 @@ fn plan_write<L: LeafSource>(
         bytes,
         length: inode.length.max(at + bytes.len() as u32),
     };
-    plan_content(alloc, from, map, inode, edit)
+    plan_content(alloc, from, form, map, inode, edit)
 }
 
 /// The leaves that give an object's content a length.
 fn plan_truncate<L: LeafSource>(
     alloc: Global,
     from: &mut L,
-    map: &[u8; BLOCK_BYTES],
+    form: Form,
+    map: &[Entry; MOST_LEAVES],
     inodes: &[Inode],
     id: &[u8],
     length: u32,
 ) -> Result<Leaves, StoreAnswer>
+    requires fits { (layout form).leaves ≤ L.keeper.leaves }
     requires works { (L.keeper.condition from.old).lost ≡ false }
-    requires within { All IsWithin inodes.now }
-    ensures plans { IsTrue L.keeper.tells_reads → leaves_of L.keeper L.region from.old 0 ≡ map.now
-        → inodes.now ≡ inodes_of version_one (leaves_of L.keeper L.region from.old)
-        → (store : Store) → region_of version_one (leaves_of L.keeper L.region from.old) ≡ Ok store
-        → Plans version_one (leaves_of L.keeper L.region from.old) store
+    requires within { All (IsWithin (layout form)) inodes.now }
+    requires writable { AreWritable (layout form) map.now }
+    ensures plans { IsTrue L.keeper.tells_reads
+        → IsMapOf (layout form) (leaves_of L.keeper L.region from.old) map.now
+        → inodes.now ≡ inodes_of (layout form) (leaves_of L.keeper L.region from.old)
+        → (store : Store)
+        → region_of (layout form) (leaves_of L.keeper L.region from.old) ≡ Ok store
+        → Plans (layout form) (leaves_of L.keeper L.region from.old) store
         (changes.Truncate id.now length) result }
-    ensures named { IfOk result (λ named. IsTrue (is_above_all named LEAVES)) }
+    ensures named { IfOk result (λ named. IsTrue (is_above_all named (layout form).leaves)) }
     ensures garbled { IfGarbled (refusal_of result) (λ n. ⊥) }
     ensures reads { ReadsOnly L.keeper L.region (refusal_of result) from.old from.new }
 {
-    let Some(inode) = find(inodes, id) else {
+    let Some(inode) = find(form, inodes, id) else {
         return Err(StoreAnswer::NotFound);
     };
     let edit = Edit {
@@ -371,20 +459,22 @@ fn plan_truncate<L: LeafSource>(
         bytes: &[],
         length,
     };
-    plan_content(alloc, from, map, inode, edit)
+    plan_content(alloc, from, form, map, inode, edit)
 }
 
 /// The leaves of a change, in ascending order, after which the region stands for the changed store. It writes nothing.
 pub fn plan<L: LeafSource>(
     alloc: Global,
     from: &mut L,
+    form: Form,
     change: &Change,
 ) -> Result<Leaves, StoreAnswer>
-    requires { IsChange change.now }
-    ensures { PlansChange L.keeper L.region version_one change.now result from.old from.new }
+    requires fits { (layout form).leaves ≤ L.keeper.leaves }
+    requires change { IsChange change.now }
+    ensures { PlansChange L.keeper L.region (layout form) change.now result from.old from.new }
 {
-    let mut map = [0; BLOCK_BYTES];
-    let inodes = load(alloc, from, &mut map)?;
+    let mut map = [FREE_ENTRY; MOST_LEAVES];
+    let inodes = load(alloc, from, form, &mut map)?;
     let inodes = inodes.as_slice();
     match change {
         Change::Put {
@@ -404,6 +494,7 @@ pub fn plan<L: LeafSource>(
             plan_put(
                 alloc,
                 from,
+                form,
                 &map,
                 inodes,
                 head,
@@ -411,12 +502,13 @@ pub fn plan<L: LeafSource>(
                 *overwrite,
             )
         }
-        Change::Delete { id } => plan_delete(alloc, &map, inodes, id.as_slice()),
-        Change::Rename { id, to } => plan_rename(alloc, inodes, id.as_slice(), to.as_slice()),
+        Change::Delete { id } => plan_delete(alloc, form, &map, inodes, id.as_slice()),
+        Change::Rename { id, to } => plan_rename(alloc, form, inodes, id.as_slice(), to.as_slice()),
         Change::Write { id, at, bytes } => {
             plan_write(
                 alloc,
                 from,
+                form,
                 &map,
                 inodes,
                 id.as_slice(),
@@ -425,7 +517,7 @@ pub fn plan<L: LeafSource>(
             )
         }
         Change::Truncate { id, length } => {
-            plan_truncate(alloc, from, &map, inodes, id.as_slice(), *length)
+            plan_truncate(alloc, from, form, &map, inodes, id.as_slice(), *length)
         }
     }
 }

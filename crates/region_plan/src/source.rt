@@ -1,8 +1,7 @@
 //! What gives the leaves of one region.
 
-ghost use Rattle.std.specs.Prelude.{◌≡◌, ◌≤◌, ◌<◌, ℕ, None, false, IsTrue, OnOk};
+ghost use Rattle.std.specs.Prelude.{◌≡◌, ◌<◌, ℕ, None, false, IsTrue, OnOk};
 ghost use Rattle.store_api.specs.Volumes.{VolumeKeeper, RestsAt};
-ghost use Rattle.tee_base.specs.declared.limits.TheConstants.{LEAVES};
 ghost use Rattle.region_plan.specs.Reading.{ReadsNumber, ReadsOnly, IfGarbled, IsUndamaged, IsUnread, leaves_of, refusal_of};
 
 use store_api::{LeafAnswer, StoreAnswer};
@@ -33,9 +32,6 @@ pub trait LeafSource {
     fn is_lost(&self) -> bool
         ensures { result ≡ (keeper.condition self.now).lost };
 
-    /// There are the leaves of a region.
-    ghost whole: { LEAVES ≤ keeper.leaves };
-
     /// A crash of an honest volume that isn't lost leaves what it holds.
     ghost rests: { (s : Self) → keeper.honest s → (keeper.condition s).lost ≡ false
         → RestsAt keeper s (keeper.held s) };
@@ -58,7 +54,7 @@ pub(crate) fn read<L: LeafSource>(
     number: u16,
     into: &mut [u8; BLOCK_BYTES],
 ) -> Result<(), StoreAnswer>
-    requires { number < LEAVES }
+    requires { number < L.keeper.leaves }
     ensures leaf { IsTrue L.keeper.tells_reads
         → OnOk result (into.new ≡ leaves_of L.keeper L.region from.old number) }
     ensures undamaged { IsTrue L.keeper.tells_reads

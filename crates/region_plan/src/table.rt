@@ -1,35 +1,88 @@
-//! The inodes of a region, read in one pass.
+//! The map and the inodes of a region, read in one pass.
 
-ghost use Rattle.std.specs.Prelude.{◌≡◌, ◌<◌, ℕ, List, IfErr, IfOk, IfSome, OnOk, IsTrue, true, false, option_copied};
+ghost use Rattle.std.specs.Prelude.{◌≡◌, ◌≤◌, ◌<◌, ◌*◌, ℕ, List, IfErr, IfOk, IfSome, OnOk, IsTrue, true, false, option_copied};
 ghost use Rattle.std.specs.List.{All};
-ghost use Rattle.tee_base.specs.declared.limits.TheConstants.{LEAVES};
 ghost use Rattle.store_api.specs.declared.answer.StoreAnswer.TheVariants.{Garbled};
-ghost use Rattle.region_plan.specs.Layout.{version_one};
-ghost use Rattle.region_plan.specs.Entries.{is_inode, is_well_formed as follows_rules};
+ghost use Rattle.region_plan.specs.Layout.{layout};
+ghost use Rattle.region_plan.specs.Entries.{follows, is_inode};
 ghost use Rattle.region_plan.specs.Inodes.{inode_of};
+ghost use Rattle.region_plan.specs.Places.{AreWritable, IsMapOf, entries_in};
+ghost use Rattle.region_plan.specs.Plans.{IsMapLeaf};
 ghost use Rattle.region_plan.specs.Reading.{AreWhole, IsBroken, IsSound, IsUndamaged, IsUnread, IsWhole, ReadsOnly, IfGarbled, leaves_of, refusal_of};
 ghost use Rattle.region_plan.specs.Regions.{breaks, inodes_of};
 ghost use Rattle.region_plan.specs.Tables.{IsWithin, inode_with, inodes_below};
 
 use crate::check::{has_data, is_new};
-use crate::entry::{INODE, entry_in, is_well_formed};
+use crate::entry::{Entry, INODE, entry_in, is_well_formed, take_entries};
+use crate::form::{Form, MOST_LEAVES};
 use crate::inode::{Inode, inode_in, is_inode_leaf};
 use crate::source::{LeafSource, read};
 use std::alloc::Global;
 use store_api::StoreAnswer;
-use tee_base::limits::{BLOCK_BYTES, LEAVES};
+use tee_base::limits::BLOCK_BYTES;
+
+/// Reads a leaf of the map.
+fn read_map_leaf<L: LeafSource>(
+    from: &mut L,
+    form: Form,
+    leaf: usize,
+    map: &mut [Entry; MOST_LEAVES],
+) -> Result<(), StoreAnswer>
+    requires fits { (layout form).leaves ≤ L.keeper.leaves }
+    requires leaf { leaf < (layout form).map_leaves }
+    ensures taken { IsTrue L.keeper.tells_reads → OnOk result
+        (IsMapLeaf (layout form) map.new leaf (leaves_of L.keeper L.region from.old leaf)) }
+    ensures before { OnOk result ((i : ℕ) → i < 256 * leaf
+        → entries_in map.new i ≡ entries_in map.old i) }
+    ensures inodes { OnOk result (((i : ℕ) → (entries_in map.old i).inode < (layout form).leaves)
+        → (i : ℕ) → (entries_in map.new i).inode < (layout form).leaves) }
+    ensures undamaged { IsTrue L.keeper.tells_reads
+        → OnOk result (IsUndamaged L.keeper L.region from.old leaf) }
+    ensures garbled { IfGarbled (refusal_of result) (λ leaf. ⊥) }
+    ensures unread { IsUnread (refusal_of result) }
+    ensures reads { ReadsOnly L.keeper L.region (refusal_of result) from.old from.new }
+{
+    let mut block = [0; BLOCK_BYTES];
+    read(from, leaf as u16, &mut block)?;
+    take_entries(form, leaf, &block, map);
+    Ok(())
+}
+
+/// Reads the map.
+fn read_map<L: LeafSource>(
+    from: &mut L,
+    form: Form,
+    map: &mut [Entry; MOST_LEAVES],
+) -> Result<(), StoreAnswer>
+    requires fits { (layout form).leaves ≤ L.keeper.leaves }
+    requires free { (i : ℕ) → (entries_in map.old i).inode < (layout form).leaves }
+    ensures map { IsTrue L.keeper.tells_reads → OnOk result
+        (IsMapOf (layout form) (leaves_of L.keeper L.region from.old) map.new) }
+    ensures inodes { OnOk result ((i : ℕ) → (entries_in map.new i).inode < (layout form).leaves) }
+    ensures undamaged { IsTrue L.keeper.tells_reads → OnOk result ((i : ℕ)
+        → i < (layout form).map_leaves → IsUndamaged L.keeper L.region from.old i) }
+    ensures garbled { IfGarbled (refusal_of result) (λ leaf. ⊥) }
+    ensures unread { IsUnread (refusal_of result) }
+    ensures reads { ReadsOnly L.keeper L.region (refusal_of result) from.old from.new }
+{
+    read_map_leaf(from, form, 0, map)?;
+    for leaf in 1..form.map_leaves() {
+        read_map_leaf(from, form, leaf, map)?;
+    }
+    Ok(())
+}
 
 /// Whether each entry of the map follows the rules.
-fn check_map(map: &[u8; BLOCK_BYTES]) -> Result<(), StoreAnswer>
-    ensures garbled { (leaves : ℕ → List ℕ) → leaves 0 ≡ map.now
-        → IfGarbled (refusal_of result) (λ leaf. IsTrue (breaks version_one leaves leaf)) }
-    ensures formed { (leaves : ℕ → List ℕ) → leaves 0 ≡ map.now → OnOk result
-        ((i : ℕ) → i < LEAVES → follows_rules version_one leaves i ≡ true) }
-    ensures few { IfGarbled (refusal_of result) (λ leaf. leaf < LEAVES) }
+fn check_map(form: Form, map: &[Entry; MOST_LEAVES]) -> Result<(), StoreAnswer>
+    ensures garbled { (leaves : ℕ → List ℕ) → IsMapOf (layout form) leaves map.now
+        → IfGarbled (refusal_of result) (λ leaf. IsTrue (breaks (layout form) leaves leaf)) }
+    ensures formed { OnOk result ((i : ℕ) → i < (layout form).leaves
+        → follows (layout form) (entries_in map.now) i ≡ true) }
+    ensures few { IfGarbled (refusal_of result) (λ leaf. leaf < (layout form).leaves) }
     ensures cause { IfErr result (λ refusal. (leaf : ℕ) × (refusal ≡ Garbled leaf)) }
 {
-    for leaf in 0..LEAVES {
-        if !is_well_formed(map, leaf) {
+    for leaf in 0..form.leaves() {
+        if !is_well_formed(form, map, leaf) {
             return Err(StoreAnswer::Garbled(leaf as u16));
         }
     }
@@ -40,27 +93,29 @@ fn check_map(map: &[u8; BLOCK_BYTES]) -> Result<(), StoreAnswer>
 fn read_inode<L: LeafSource>(
     alloc: Global,
     from: &mut L,
-    map: &[u8; BLOCK_BYTES],
+    form: Form,
+    map: &[Entry; MOST_LEAVES],
     before: &[Inode],
     leaf: u16,
 ) -> Result<Inode, StoreAnswer>
-    requires { leaf < LEAVES }
+    requires fits { (layout form).leaves ≤ L.keeper.leaves }
+    requires leaf { leaf < (layout form).leaves }
     ensures inode { IsTrue L.keeper.tells_reads → IfOk result
         (λ inode. inode ≡ inode_of leaf (leaves_of L.keeper L.region from.old leaf)) }
     ensures undamaged { IsTrue L.keeper.tells_reads
         → IfOk result (λ inode. IsUndamaged L.keeper L.region from.old leaf) }
     ensures whole { IsTrue L.keeper.tells_reads
-        → leaves_of L.keeper L.region from.old 0 ≡ map.now
-        → before.now ≡ inodes_below version_one (leaves_of L.keeper L.region from.old) leaf
-        → IfOk result (λ inode. IsWhole version_one (leaves_of L.keeper L.region from.old) leaf) }
-    ensures within { IfOk result IsWithin }
-    ensures few { IfGarbled (refusal_of result) (λ n. n < LEAVES) }
+        → IsMapOf (layout form) (leaves_of L.keeper L.region from.old) map.now
+        → before.now ≡ inodes_below (layout form) (leaves_of L.keeper L.region from.old) leaf
+        → IfOk result (λ inode. IsWhole (layout form) (leaves_of L.keeper L.region from.old) leaf) }
+    ensures within { IfOk result (λ inode. IsWithin (layout form) inode) }
+    ensures few { IfGarbled (refusal_of result) (λ n. n < (layout form).leaves) }
     ensures garbled { IsTrue L.keeper.tells_reads
-        → leaves_of L.keeper L.region from.old 0 ≡ map.now
-        → IsTrue (is_inode version_one (leaves_of L.keeper L.region from.old) leaf)
-        → before.now ≡ inodes_below version_one (leaves_of L.keeper L.region from.old) leaf
+        → IsMapOf (layout form) (leaves_of L.keeper L.region from.old) map.now
+        → IsTrue (is_inode (layout form) (leaves_of L.keeper L.region from.old) leaf)
+        → before.now ≡ inodes_below (layout form) (leaves_of L.keeper L.region from.old) leaf
         → IfGarbled (refusal_of result)
-        (λ n. IsTrue (breaks version_one (leaves_of L.keeper L.region from.old) n)) }
+        (λ n. IsTrue (breaks (layout form) (leaves_of L.keeper L.region from.old) n)) }
     ensures unread { IsUnread (refusal_of result) }
     ensures reads { ReadsOnly L.keeper L.region (refusal_of result) from.old from.new }
 {
@@ -73,7 +128,7 @@ fn read_inode<L: LeafSource>(
     if !is_new(before, inode.id.as_slice()) {
         return Err(StoreAnswer::Garbled(leaf));
     }
-    if !has_data(map, &inode) {
+    if !has_data(form, map, &inode) {
         return Err(StoreAnswer::Garbled(leaf));
     }
     Ok(inode)
@@ -83,26 +138,32 @@ fn read_inode<L: LeafSource>(
 fn read_inodes<L: LeafSource>(
     alloc: Global,
     from: &mut L,
-    map: &[u8; BLOCK_BYTES],
+    form: Form,
+    map: &[Entry; MOST_LEAVES],
 ) -> Result<Vec<Inode>, StoreAnswer>
-    requires { (L.keeper.condition from.old).lost ≡ false }
-    ensures inodes { IsTrue L.keeper.tells_reads → leaves_of L.keeper L.region from.old 0 ≡ map.now
+    requires fits { (layout form).leaves ≤ L.keeper.leaves }
+    requires works { (L.keeper.condition from.old).lost ≡ false }
+    ensures inodes { IsTrue L.keeper.tells_reads
+        → IsMapOf (layout form) (leaves_of L.keeper L.region from.old) map.now
         → IfOk result
-        (λ inodes. inodes.items ≡ inodes_of version_one (leaves_of L.keeper L.region from.old)) }
-    ensures within { IfOk result (λ inodes. All IsWithin inodes.items) }
-    ensures sound { IsTrue L.keeper.tells_reads → leaves_of L.keeper L.region from.old 0 ≡ map.now
-        → IfOk result (λ inodes. AreWhole L.keeper L.region version_one from.old LEAVES) }
-    ensures few { IfGarbled (refusal_of result) (λ n. n < LEAVES) }
-    ensures garbled { IsTrue L.keeper.tells_reads → leaves_of L.keeper L.region from.old 0 ≡ map.now
+        (λ inodes. inodes.items ≡ inodes_of (layout form) (leaves_of L.keeper L.region from.old)) }
+    ensures within { IfOk result (λ inodes. All (IsWithin (layout form)) inodes.items) }
+    ensures sound { IsTrue L.keeper.tells_reads
+        → IsMapOf (layout form) (leaves_of L.keeper L.region from.old) map.now
+        → IfOk result
+        (λ inodes. AreWhole L.keeper L.region (layout form) from.old (layout form).leaves) }
+    ensures few { IfGarbled (refusal_of result) (λ n. n < (layout form).leaves) }
+    ensures garbled { IsTrue L.keeper.tells_reads
+        → IsMapOf (layout form) (leaves_of L.keeper L.region from.old) map.now
         → IfGarbled (refusal_of result)
-        (λ n. IsTrue (breaks version_one (leaves_of L.keeper L.region from.old) n)) }
+        (λ n. IsTrue (breaks (layout form) (leaves_of L.keeper L.region from.old) n)) }
     ensures unread { IsUnread (refusal_of result) }
     ensures reads { ReadsOnly L.keeper L.region (refusal_of result) from.old from.new }
 {
     let mut inodes = Vec::new(alloc);
-    for leaf in 0..LEAVES {
+    for leaf in 0..form.leaves() {
         if entry_in(map, leaf).kind == INODE {
-            let inode = read_inode(alloc, from, map, inodes.as_slice(), leaf as u16)?;
+            let inode = read_inode(alloc, from, form, map, inodes.as_slice(), leaf as u16)?;
             inodes.push(inode)?;
         }
     }
@@ -113,30 +174,34 @@ fn read_inodes<L: LeafSource>(
 pub(crate) fn load<L: LeafSource>(
     alloc: Global,
     from: &mut L,
-    map: &mut [u8; BLOCK_BYTES],
+    form: Form,
+    map: &mut [Entry; MOST_LEAVES],
 ) -> Result<Vec<Inode>, StoreAnswer>
-    ensures map { IsTrue L.keeper.tells_reads
-        → OnOk result (map.new ≡ leaves_of L.keeper L.region from.old 0) }
+    requires fits { (layout form).leaves ≤ L.keeper.leaves }
+    requires free { (i : ℕ) → (entries_in map.old i).inode < (layout form).leaves }
+    ensures map { IsTrue L.keeper.tells_reads → OnOk result
+        (IsMapOf (layout form) (leaves_of L.keeper L.region from.old) map.new) }
+    ensures writable { OnOk result (AreWritable (layout form) map.new) }
     ensures inodes { IsTrue L.keeper.tells_reads → IfOk result
-        (λ inodes. inodes.items ≡ inodes_of version_one (leaves_of L.keeper L.region from.old)) }
-    ensures within { IfOk result (λ inodes. All IsWithin inodes.items) }
+        (λ inodes. inodes.items ≡ inodes_of (layout form) (leaves_of L.keeper L.region from.old)) }
+    ensures within { IfOk result (λ inodes. All (IsWithin (layout form)) inodes.items) }
     ensures sound { IsTrue L.keeper.tells_reads
-        → IfOk result (λ inodes. IsSound L.keeper L.region version_one from.old) }
+        → IfOk result (λ inodes. IsSound L.keeper L.region (layout form) from.old) }
     ensures garbled { IfGarbled (refusal_of result)
-        (λ n. IsBroken L.keeper L.region version_one from.old n) }
+        (λ n. IsBroken L.keeper L.region (layout form) from.old n) }
     ensures unread { IsUnread (refusal_of result) }
     ensures reads { ReadsOnly L.keeper L.region (refusal_of result) from.old from.new }
 {
-    read(from, 0, map)?;
-    check_map(map)?;
-    read_inodes(alloc, from, map)
+    read_map(from, form, map)?;
+    check_map(form, map)?;
+    read_inodes(alloc, from, form, map)
 }
 
 /// The inode of an identifier.
-pub(crate) fn find<'i>(inodes: &'i [Inode], id: &[u8]) -> Option<&'i Inode>
-    requires { All IsWithin inodes.now }
+pub(crate) fn find<'i>(form: Form, inodes: &'i [Inode], id: &[u8]) -> Option<&'i Inode>
+    requires { All (IsWithin (layout form)) inodes.now }
     ensures inode { option_copied result ≡ inode_with id.now inodes.now }
-    ensures within { IfSome result (λ inode. IsWithin inode.now) }
+    ensures within { IfSome result (λ inode. IsWithin (layout form) inode.now) }
 {
     for inode in inodes {
         if inode.id.as_slice() == id {

@@ -2,7 +2,10 @@
 
 use region_plan::LeafSource;
 use store_api::LeafAnswer;
-use tee_base::limits::{BLOCK_BYTES, LEAVES};
+use tee_base::limits::BLOCK_BYTES;
+
+/// As many leaves as a region has in any form.
+pub const LEAVES: usize = 1024;
 
 /// A source, and how often each of its leaves was read.
 #[derive(Drop)]
@@ -33,8 +36,6 @@ impl<L: LeafSource> LeafSource for Counted<L> {
     } };
 
     ghost region = { λ c. L.region c.source };
-
-    ghost whole = { L.whole };
 
     ghost rests = { λ c honest works. record { only = (L.rests c.source honest works).only } };
 

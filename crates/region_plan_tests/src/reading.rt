@@ -1,13 +1,15 @@
 //! What is told of no object, and of two, and which leaves are read for it.
 
-use super::counted::Counted;
-use super::memory::{Byte, Memory, OBJECTS, with};
-use region_plan::{LeafSource, content, facts, locate, next_after, secret};
+ghost use Rattle.std.specs.Prelude.{◌≤◌};
+ghost use Rattle.region_plan.specs.Layout.{layout};
+
+use super::counted::{Counted, LEAVES};
+use super::memory::{Byte, Memory, OBJECTS, OBJECTS_TWO, with};
+use region_plan::{Form, LeafSource, content, facts, locate, next_after, secret};
 use std::alloc::Global;
 use std::process::Abort;
 use store_api::{Facts, StoreAnswer};
 use tee_base::NoMemory;
-use tee_base::limits::LEAVES;
 
 /// A question, and what has to be told.
 #[derive(Clone, Copy)]
@@ -29,52 +31,59 @@ enum Row {
 }
 
 /// Compares the facts.
-fn has_facts(alloc: Global, memory: &mut Memory, want: &Facts) -> bool {
-    match facts(alloc, memory, b"a") {
+#[tactic(auto, using(region_plan::proofs::FormLemmas::most_leaves))]
+fn has_facts(alloc: Global, memory: &mut Memory, form: Form, want: &Facts) -> bool {
+    match facts(alloc, memory, form, b"a") {
         Ok(facts) => facts == *want,
         Err(_) => false,
     }
 }
 
 /// Compares the secret.
-fn has_secret(alloc: Global, memory: &mut Memory, want: &[u8]) -> bool {
-    match secret(alloc, memory, b"a") {
+#[tactic(auto, using(region_plan::proofs::FormLemmas::most_leaves))]
+fn has_secret(alloc: Global, memory: &mut Memory, form: Form, want: &[u8]) -> bool {
+    match secret(alloc, memory, form, b"a") {
         Ok(secret) => secret.as_slice() == want,
         Err(_) => false,
     }
 }
 
 /// Compares the end of the content.
-fn ends_so<L: LeafSource>(alloc: Global, leaves: &mut L, want: &[u8]) -> bool {
-    match content(alloc, leaves, b"a", 1022, 9) {
+fn ends_so<L: LeafSource>(alloc: Global, leaves: &mut L, form: Form, want: &[u8]) -> bool
+    requires { (layout form).leaves ≤ L.keeper.leaves }
+{
+    match content(alloc, leaves, form, b"a", 1022, 9) {
         Ok(content) => content.as_slice() == want,
         Err(_) => false,
     }
 }
 
 /// Compares what comes next.
+#[tactic(auto, using(region_plan::proofs::FormLemmas::most_leaves))]
 fn is_next(
     alloc: Global,
     memory: &mut Memory,
+    form: Form,
     last: Option<&[u8]>,
     want: &[u8],
     facts: &Facts,
 ) -> bool {
-    match next_after(alloc, memory, last) {
+    match next_after(alloc, memory, form, last) {
         Ok(next) => next.id.as_slice() == want && next.facts == *facts,
         Err(_) => false,
     }
 }
 
 /// Asks the question of a row, and says whether that is told which has to be.
-fn is_told(alloc: Global, memory: &mut Memory, row: &Row) -> bool {
+#[tactic(auto, using(region_plan::proofs::FormLemmas::most_leaves))]
+fn is_told(alloc: Global, memory: &mut Memory, form: Form, row: &Row) -> bool {
     match row {
-        Row::Leaf(want) => locate(alloc, memory, b"a") == *want,
-        Row::Facts(want) => has_facts(alloc, memory, want),
-        Row::Secret(want) => has_secret(alloc, memory, want),
-        Row::End(want) => ends_so(alloc, memory, want),
-        Row::Next(last, want, facts) => is_next(alloc, memory, *last, want, facts),
-        Row::Last(last) => next_after(alloc, memory, *last).is_err(),
+        Row::Leaf(want) => locate(alloc, memory, form, b"a") == *want,
+        Row::Facts(want) => has_facts(alloc, memory, form, want),
+        Row::Secret(want) => has_secret(alloc, memory, form, want),
+        Row::End(want) => ends_so(alloc, memory, form, want),
+        Row::Next(last, want, facts) => is_next(alloc, memory, form, *last, want, facts),
+        Row::Last(last) => next_after(alloc, memory, form, *last).is_err(),
         Row::Lose => {
             memory.lost = true;
             true
@@ -83,16 +92,22 @@ fn is_told(alloc: Global, memory: &mut Memory, row: &Row) -> bool {
 }
 
 /// Asks the questions in order.
-fn go_through(rt: &impl Abort, alloc: Global, memory: &mut Memory, rows: &[Row]) {
+fn go_through(rt: &impl Abort, alloc: Global, memory: &mut Memory, form: Form, rows: &[Row]) {
     for (place, row) in rows.iter().enumerate() {
-        assert!(rt; is_told(alloc, memory, row), "row {place}");
+        assert!(rt; is_told(alloc, memory, form, row), "row {place}");
     }
 }
 
 /// Asks the questions in order, of leaves with these bytes.
-fn ask(rt: &impl Abort, alloc: Global, bytes: &[Byte], rows: &[Row]) -> Result<(), NoMemory> {
+fn ask(
+    rt: &impl Abort,
+    alloc: Global,
+    form: Form,
+    bytes: &[Byte],
+    rows: &[Row],
+) -> Result<(), NoMemory> {
     let mut memory = with(alloc, bytes)?;
-    go_through(rt, alloc, &mut memory, rows);
+    go_through(rt, alloc, &mut memory, form, rows);
     drop(memory);
     Ok(())
 }
@@ -106,7 +121,8 @@ const BLANK: &[Row] = &[
 
 #[test]
 fn a_blank_region(rt: HostRuntime) -> Result<(), NoMemory> {
-    ask(&rt, rt.alloc(), &[], BLANK)
+    ask(&rt, rt.alloc(), Form::One, &[], BLANK)?;
+    ask(&rt, rt.alloc(), Form::Two, &[], BLANK)
 }
 
 const FACTS_OF_A: Facts = Facts {
@@ -125,7 +141,15 @@ const TWO: &[Row] = &[
 
 #[test]
 fn two_objects(rt: HostRuntime) -> Result<(), NoMemory> {
-    ask(&rt, rt.alloc(), OBJECTS, TWO)
+    ask(&rt, rt.alloc(), Form::One, OBJECTS, TWO)?;
+    ask(
+        &rt,
+        rt.alloc(),
+        Form::Two,
+        OBJECTS_TWO,
+        &[Row::Leaf(Ok(700))],
+    )?;
+    ask(&rt, rt.alloc(), Form::Two, OBJECTS_TWO, &TWO[1..])
 }
 
 const FACTS_OF_B: Facts = Facts {
@@ -143,7 +167,8 @@ const IN_ORDER: &[Row] = &[
 
 #[test]
 fn in_order(rt: HostRuntime) -> Result<(), NoMemory> {
-    ask(&rt, rt.alloc(), OBJECTS, IN_ORDER)
+    ask(&rt, rt.alloc(), Form::One, OBJECTS, IN_ORDER)?;
+    ask(&rt, rt.alloc(), Form::Two, OBJECTS_TWO, IN_ORDER)
 }
 
 // A read takes the map, which is leaf 0, then both inode leaves, 2 and 5, since identifiers stand in them alone, and then
@@ -161,12 +186,13 @@ fn once_each() -> [u8; LEAVES] {
 }
 
 /// Whether the end of the content is as it should be, and each of those leaves is read once for it, and no other.
+#[tactic(auto, using(region_plan::proofs::FormLemmas::most_leaves))]
 fn is_read_once(alloc: Global, memory: Memory) -> bool {
     let mut counted = Counted {
         source: memory,
         reads: [0; LEAVES],
     };
-    let ends = ends_so(alloc, &mut counted, &[21, 22, 23, 24]);
+    let ends = ends_so(alloc, &mut counted, Form::One, &[21, 22, 23, 24]);
     let reads = counted.reads;
     drop(counted);
     ends && reads == once_each()

@@ -1,7 +1,7 @@
 //! Each rule of the format broken once, and the leaf that is told.
 
-use super::memory::{Byte, Memory, OBJECTS, set, with};
-use region_plan::{content, locate};
+use super::memory::{Byte, Memory, OBJECTS, OBJECTS_TWO, set, with};
+use region_plan::{Form, content, locate};
 use std::alloc::Global;
 use std::process::Abort;
 use store_api::StoreAnswer;
@@ -50,28 +50,41 @@ enum Ask {
 }
 
 /// What is told where the object `a` is asked for.
-fn answer_of(alloc: Global, memory: &mut Memory, ask: Ask) -> Option<StoreAnswer> {
+#[tactic(auto, using(region_plan::proofs::FormLemmas::most_leaves))]
+fn answer_of(alloc: Global, memory: &mut Memory, form: Form, ask: Ask) -> Option<StoreAnswer> {
     match ask {
-        Ask::Object => locate(alloc, memory, b"a").err(),
-        Ask::Content => content(alloc, memory, b"a", 0, 4096).err(),
+        Ask::Object => locate(alloc, memory, form, b"a").err(),
+        Ask::Content => content(alloc, memory, form, b"a", 0, 4096).err(),
+    }
+}
+
+/// Two objects in a form.
+fn objects(form: Form) -> &'static [Byte] {
+    match form {
+        Form::One => OBJECTS,
+        Form::Two => OBJECTS_TWO,
     }
 }
 
 /// Whether the leaf is told.
-fn is_told(alloc: Global, ask: Ask, row: &Row) -> Result<bool, NoMemory> {
-    let mut memory = with(alloc, OBJECTS)?;
+fn is_told(alloc: Global, form: Form, ask: Ask, row: &Row) -> Result<bool, NoMemory> {
+    let mut memory = with(alloc, objects(form))?;
     set(&mut memory, row.0);
-    let answer = answer_of(alloc, &mut memory, ask);
+    let answer = answer_of(alloc, &mut memory, form, ask);
     drop(memory);
     Ok(matches!(answer, Some(StoreAnswer::Garbled(leaf)) if leaf == row.1))
 }
 
-/// What a table is about, what is asked for, and the rows.
-type Table = (&'static str, Ask, &'static [Row]);
+/// What a table is about, the form of the region, what is asked for, and the rows.
+type Table = (&'static str, Form, Ask, &'static [Row]);
 
 fn are_told(rt: &impl Abort, alloc: Global, table: &Table) -> Result<(), NoMemory> {
-    for (place, row) in table.2.iter().enumerate() {
-        assert!(rt; is_told(alloc, table.1, row)?, "{}, row {place}", table.0);
+    for (place, row) in table.3.iter().enumerate() {
+        assert!(rt;
+            is_told(alloc, table.1, table.2, row)?,
+            "{}, row {place}",
+            table.0
+        );
     }
     Ok(())
 }
@@ -79,11 +92,44 @@ fn are_told(rt: &impl Abort, alloc: Global, table: &Table) -> Result<(), NoMemor
 // A byte behind the end of the content, in its last leaf, which only who reads the content finds.
 const PAST_THE_END: &[Row] = &[(&[(3, 2, 1)], 3)];
 
+// The same in the second form: the entries 0 to 3 are zero, and the number of each other one is below 2^22.
+const MAP_TWO: &[Row] = &[
+    (&[(0, 0, 2)], 0),
+    (&[(0, 12, 0xF2), (0, 13, 0x2A)], 3),
+    (&[(0, 28, 3)], 7),
+    (&[(1, 4, 1)], 257),
+    (&[(2, 754, 0x40)], 700),
+    (&[(0, 38, 0x40)], 9),
+    (&[(3, 1021, 0x0B)], 1023),
+];
+
+const TIES_TWO: &[Row] = &[
+    (&[(6, 16, 0x61)], 700),
+    (&[(700, 9, 8)], 700),
+    (&[(1, 0, 0xF2), (1, 1, 0x0A)], 700),
+    (&[(0, 38, 0x3F)], 700),
+];
+
+const PAST_THE_END_TWO: &[Row] = &[(&[(1023, 2, 1)], 1023)];
+
 const TABLES: &[Table] = &[
-    ("the map", Ask::Object, MAP),
-    ("inode leaves", Ask::Object, INODE_LEAVES),
-    ("what ties leaves", Ask::Object, TIES),
-    ("bytes past the end", Ask::Content, PAST_THE_END),
+    ("the map", Form::One, Ask::Object, MAP),
+    ("inode leaves", Form::One, Ask::Object, INODE_LEAVES),
+    ("what ties leaves", Form::One, Ask::Object, TIES),
+    ("bytes past the end", Form::One, Ask::Content, PAST_THE_END),
+    ("the map of four leaves", Form::Two, Ask::Object, MAP_TWO),
+    (
+        "what ties leaves, of four",
+        Form::Two,
+        Ask::Object,
+        TIES_TWO,
+    ),
+    (
+        "bytes past the end, of 1,024",
+        Form::Two,
+        Ask::Content,
+        PAST_THE_END_TWO,
+    ),
 ];
 
 #[test]

@@ -4,7 +4,7 @@ ghost use Rattle.store_api.specs.Limits.{IsChange, IsIdentifier, IsSecret};
 
 use super::memory::{Memory, commit, with};
 use crate::letters::identifier_bytes;
-use region_plan::{content, next_after, plan, secret};
+use region_plan::{Form, content, next_after, plan, secret};
 use std::alloc::Global;
 use std::process::Abort;
 use store_api::{AppStore, Change, Listed, MapStore, StoreAnswer};
@@ -121,10 +121,11 @@ fn is_wanted(refusal: &StoreAnswer, wanted: Told) -> bool {
 }
 
 /// Plans a change and commits its leaves, and says whether that came which is wanted.
-fn is_planned(alloc: Global, memory: &mut Memory, change: &Change, wanted: Told) -> bool
+#[tactic(auto, using(region_plan::proofs::FormLemmas::most_leaves))]
+fn is_planned(alloc: Global, memory: &mut Memory, form: Form, change: &Change, wanted: Told) -> bool
     requires { IsChange change.now }
 {
-    match plan(alloc, memory, change) {
+    match plan(alloc, memory, form, change) {
         Ok(leaves) => {
             commit(memory, &leaves);
             matches!(wanted, Told::Done(most) if leaves.as_slice().len() <= most)
@@ -144,19 +145,33 @@ fn is_made(store: &mut MapStore, change: &Change, wanted: Told) -> bool
 }
 
 /// Whether the secret of an object is the same in both.
-fn is_same_secret(alloc: Global, memory: &mut Memory, store: &mut MapStore, id: &[u8]) -> bool
+#[tactic(auto, using(region_plan::proofs::FormLemmas::most_leaves))]
+fn is_same_secret(
+    alloc: Global,
+    memory: &mut Memory,
+    form: Form,
+    store: &mut MapStore,
+    id: &[u8],
+) -> bool
     requires { IsIdentifier id.now }
 {
-    let one = secret(alloc, memory, id);
+    let one = secret(alloc, memory, form, id);
     let other = store.secret(id);
     are_same_bytes(&one, &other)
 }
 
 /// Whether the content of an object is the same in both.
-fn is_same_content(alloc: Global, memory: &mut Memory, store: &mut MapStore, id: &[u8]) -> bool
+#[tactic(auto, using(region_plan::proofs::FormLemmas::most_leaves))]
+fn is_same_content(
+    alloc: Global,
+    memory: &mut Memory,
+    form: Form,
+    store: &mut MapStore,
+    id: &[u8],
+) -> bool
     requires { IsIdentifier id.now }
 {
-    let one = content(alloc, memory, id, 0, MAX_ASK_BYTES);
+    let one = content(alloc, memory, form, id, 0, MAX_ASK_BYTES);
     let other = store.read(id, 0, MAX_ASK_BYTES);
     are_same_bytes(&one, &other)
 }
@@ -181,8 +196,15 @@ fn is_same_listed(one: &Result<Listed, StoreAnswer>, other: &Result<Listed, Stor
 }
 
 /// Whether both list the same behind an identifier.
-fn is_same_next(alloc: Global, memory: &mut Memory, store: &mut MapStore, last: &[u8]) -> bool {
-    let one = next_after(alloc, memory, Some(last));
+#[tactic(auto, using(region_plan::proofs::FormLemmas::most_leaves))]
+fn is_same_next(
+    alloc: Global,
+    memory: &mut Memory,
+    form: Form,
+    store: &mut MapStore,
+    last: &[u8],
+) -> bool {
+    let one = next_after(alloc, memory, form, Some(last));
     let other = store.next_after(Some(last));
     is_same_listed(&one, &other)
 }
@@ -198,18 +220,18 @@ fn next_in(store: &mut MapStore, last: &[u8]) -> Result<Bytes, StoreAnswer>
 }
 
 /// Whether both have the same objects.
-fn are_same(alloc: Global, memory: &mut Memory, store: &mut MapStore) -> bool {
+fn are_same(alloc: Global, memory: &mut Memory, form: Form, store: &mut MapStore) -> bool {
     let mut last = Bytes::empty(alloc);
     for _ in 0..9 {
-        if !is_same_next(alloc, memory, store, last.as_slice()) {
+        if !is_same_next(alloc, memory, form, store, last.as_slice()) {
             return false;
         }
         let id = match next_in(store, last.as_slice()) {
             Ok(id) => id,
             Err(answer) => return matches!(answer, StoreAnswer::NotFound),
         };
-        if !is_same_secret(alloc, memory, store, id.as_slice())
-            || !is_same_content(alloc, memory, store, id.as_slice())
+        if !is_same_secret(alloc, memory, form, store, id.as_slice())
+            || !is_same_content(alloc, memory, form, store, id.as_slice())
         {
             return false;
         }
@@ -222,13 +244,14 @@ fn are_same(alloc: Global, memory: &mut Memory, store: &mut MapStore) -> bool {
 fn holds(
     alloc: Global,
     memory: &mut Memory,
+    form: Form,
     store: &mut MapStore,
     row: &Row,
 ) -> Result<bool, NoMemory> {
     let change = change_of(alloc, row.0)?;
-    let came = is_planned(alloc, memory, &change, row.1) && is_made(store, &change, row.1);
+    let came = is_planned(alloc, memory, form, &change, row.1) && is_made(store, &change, row.1);
     drop(change);
-    Ok(came && are_same(alloc, memory, store))
+    Ok(came && are_same(alloc, memory, form, store))
 }
 
 /// Makes the change of each row.
@@ -236,12 +259,13 @@ fn go_through(
     rt: &impl Abort,
     alloc: Global,
     memory: &mut Memory,
+    form: Form,
     store: &mut MapStore,
     table: &Table,
 ) -> Result<(), NoMemory> {
     for (place, row) in table.1.iter().enumerate() {
         assert!(rt;
-            holds(alloc, memory, store, row)?,
+            holds(alloc, memory, form, store, row)?,
             "{}, row {place}",
             table.0
         );
@@ -254,18 +278,19 @@ fn run_beside(
     rt: &impl Abort,
     alloc: Global,
     memory: &mut Memory,
+    form: Form,
     table: &Table,
 ) -> Result<(), NoMemory> {
     let mut store = MapStore::new(alloc, &[])?;
-    let outcome = go_through(rt, alloc, memory, &mut store, table);
+    let outcome = go_through(rt, alloc, memory, form, &mut store, table);
     drop(store);
     outcome
 }
 
 /// Makes the change of each row, from a region of zeros and an empty store.
-pub fn run(rt: &impl Abort, alloc: Global, table: &Table) -> Result<(), NoMemory> {
+pub fn run(rt: &impl Abort, alloc: Global, form: Form, table: &Table) -> Result<(), NoMemory> {
     let mut memory = with(alloc, &[])?;
-    let outcome = run_beside(rt, alloc, &mut memory, table);
+    let outcome = run_beside(rt, alloc, &mut memory, form, table);
     drop(memory);
     outcome
 }

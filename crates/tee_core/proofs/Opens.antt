@@ -12,8 +12,7 @@ use Rattle.epoch.specs.Forms.{Form, held, held_of}
 use Rattle.epoch.specs.Mounts.{IsOpenedTo, LeavesOpening, LeftByOpening}
 use Rattle.epoch.proofs.MountLemmas.{opening_keeps}
 use Rattle.epoch.specs.Opening.{opening_of}
-use Rattle.object_dir.specs.Regions.{region_in}
-use Rattle.region_plan.specs.Layout.{version_one}
+use Rattle.object_dir.specs.Regions.{in_use, region_in}
 use Rattle.region_plan.specs.Regions.{region_of}
 use Rattle.store_api.specs.Stores.{Store}
 use Rattle.store_api.specs.Volumes.{Held, RestsAt, VolumeKeeper}
@@ -54,7 +53,7 @@ module _ {V A : Type 0} (K : VolumeKeeper V) (rests : (v : V) → K.honest v →
     (f : Form) (view : View) (n : ℕ) (h : Held) (hosts : List (Host A)) (seed : List ℕ) (stores : ℕ → Store)
     (sound : IsSoundFor f view n h (length hosts) stores) (after : Held) (makes : IsOpenedTo f view h after) where
   same_region : (app : ℕ) → region_in app after ≡ region_in app h
-  same_region app = ap (λ (leaves : ℕ → ℕ → List ℕ). region_of version_one (leaves app)) (opening_keeps f (opening_of f.known view.key view.state.reads view.state.counter) h after makes)
+  same_region app = ap (λ (leaves : ℕ → ℕ → List ℕ). region_of in_use (leaves app)) (opening_keeps f (opening_of f.known view.key view.state.reads view.state.counter) h after makes)
 
   stores_after : HoldsStores none_kept (world_of hosts seed stores) after
   stores_after = stores_started 0 hosts seed stores after (λ app lt. same_region app ∙ sound.stand app (omega (arith, lt)))

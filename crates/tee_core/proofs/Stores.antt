@@ -6,9 +6,8 @@ use Rattle.std.proofs.lemmas.Bool.{eq-eqb, ne_eqb}
 use Rattle.store_api.specs.Keeping.{Contents, Rest}
 use Rattle.store_api.specs.Stores.{Store}
 use Rattle.store_api.specs.Volumes.{Held}
-use Rattle.region_plan.specs.Layout.{version_one}
 use Rattle.region_plan.specs.Regions.{region_of}
-use Rattle.object_dir.specs.Regions.{beside, opened, others, region_in, remains_in, rest_of}
+use Rattle.object_dir.specs.Regions.{beside, in_use, opened, others, region_in, remains_in, rest_of}
 use Rattle.alone.specs.Machine.{Machine}
 use Rattle.alone.specs.Step.{store_found}
 use Rattle.tee_core.specs.Powers.{all_lost}
@@ -29,7 +28,7 @@ others_at app other leaves apart = ap (λ (b : Bool). (λ (l : ℕ). cond b [] (
 pub same_region : (app other : ℕ) (held held_then : Held) → rest_of app held_then ≡ rest_of app held → other ≢ app → region_in other held_then ≡ region_in other held
 same_region app other held held_then same apart =
     let leaves : others app held_then.leaves other ≡ others app held.leaves other = ap (λ (r : Rest). r.leaves other) same in
-    ap (λ (f : ℕ → List ℕ). region_of version_one f) (sym (others_at app other held_then.leaves apart) ∙ leaves ∙ others_at app other held.leaves apart)
+    ap (λ (f : ℕ → List ℕ). region_of in_use f) (sym (others_at app other held_then.leaves apart) ∙ leaves ∙ others_at app other held.leaves apart)
 
 -- what a crash left of a region, where it is this
 pub record IsRemains (app : ℕ) (o : Option Held) (kept : Contents) : Type 0 where

@@ -9,8 +9,7 @@ use Rattle.epoch.specs.Forms.{Form, held, held_of}
 use Rattle.epoch.specs.Mounts.{IsOpenedTo, LeavesOpening, LeftByOpening}
 use Rattle.epoch.proofs.MountLemmas.{opening_keeps}
 use Rattle.epoch.specs.Opening.{opening_of}
-use Rattle.object_dir.specs.Regions.{region_in}
-use Rattle.region_plan.specs.Layout.{version_one}
+use Rattle.object_dir.specs.Regions.{in_use, region_in}
 use Rattle.region_plan.specs.Regions.{region_of}
 use Rattle.store_api.specs.Stores.{Store}
 use Rattle.store_api.specs.Volumes.{Held}
@@ -70,7 +69,7 @@ module _ {A : Type 0} (form : Form) (hosts : List (Host A)) (seed : List ℕ) (s
   made_stores : (after : Held) → IsOpenedTo form old begins.held after → HasStoresOf begin (Some after)
   made_stores after makes =
       let leaves = opening_keeps form (opening_of form.known old.key old.state.reads old.state.counter) begins.held after makes in
-      inl (starts_over hosts seed stores after (λ app lt. ap (λ (l : ℕ → ℕ → List ℕ). region_of version_one (l app)) leaves ∙ begins.sound.stand app lt))
+      inl (starts_over hosts seed stores after (λ app lt. ap (λ (l : ℕ → ℕ → List ℕ). region_of in_use (l app)) leaves ∙ begins.sound.stand app lt))
 
   held_stores : (c : Outcome) → LeftByOpening form begins.held old c → HasStoresOf begin (held_of form old.key c)
   held_stores c (inl is) = subst (HasStoresOf begin) (sym is) (inl (starts_over hosts seed stores begins.held begins.sound.stand))

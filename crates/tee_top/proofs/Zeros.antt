@@ -1,5 +1,5 @@
 -- A board of zeros begins with empty stores.
-use Rattle.std.proofs.Common.{◌≡◌, ◌≤◌, ◌<◌, ◌∙◌, ℕ, true, false, List, nat_lt, refl, ap, ap₂, Ok, Some, replicate, arith}
+use Rattle.std.proofs.Common.{◌≡◌, ◌≤◌, ◌<◌, ◌∙◌, ℕ, true, false, List, nat_lt, refl, ap, ap₂, Ok, Some, replicate, subst, arith}
 use Rattle.std.proofs.lemmas.Bool.Decides.{nat_tests}
 use Rattle.tee_base.specs.declared.limits.TheConstants.{BLOCK_BYTES, BOARD_BLOCKS, LEAVES, MAX_HOSTS}
 use Rattle.board.specs.Moment.{View}
@@ -11,7 +11,8 @@ use Rattle.epoch.specs.Slots.{slot_of}
 use Rattle.epoch.specs.declared.slots.Slot.{Slot}
 use Rattle.epoch.specs.declared.slots.Slot.TheVariants.{Shut}
 use Rattle.region_plan.specs.Laws.{IsBlank}
-use Rattle.region_plan.specs.Layout.{version_one}
+use Rattle.object_dir.specs.Regions.{in_use}
+use Rattle.object_dir.proofs.UseLemmas.{leaves_are}
 use Rattle.region_plan.specs.Regions.{region_of}
 use Rattle.store_api.specs.Stores.{empty_store}
 use Rattle.tee_core.specs.InUse.{form_in_use}
@@ -33,14 +34,15 @@ opens f key image first second =
     let two : slot_of key image 1 ≡ Shut = shut key image 1 second in
     ap (held_by f key image) (ap₂ (λ (a b : Slot). opening_by f.known a b 0) one two)
 
-blank : (app : ℕ) → app < MAX_HOSTS → IsBlank version_one (blank_leaves LEAVES app)
+blank : (app : ℕ) → app < MAX_HOSTS → IsBlank in_use (blank_leaves LEAVES app)
 unfolding blank_leaves
 blank app low i few =
     let one : nat_lt app MAX_HOSTS ≡ true = grind (arith, nat_tests) in
-    let two : nat_lt i LEAVES ≡ true = grind (arith, nat_tests) in
+    let below : i < LEAVES = subst (λ (n : ℕ). i < n) leaves_are few in
+    let two : nat_lt i LEAVES ≡ true = grind (arith, nat_tests, below) in
     rw (one, two) refl
 
-pub begins : ((leaves : ℕ → List ℕ) → IsBlank version_one leaves → region_of version_one leaves ≡ Ok empty_store) → (view : View) (hosts : ℕ) → Rests 0 view.state → BOARD_BLOCKS ≤ view.size
+pub begins : ((leaves : ℕ → List ℕ) → IsBlank in_use leaves → region_of in_use leaves ≡ Ok empty_store) → (view : View) (hosts : ℕ) → Rests 0 view.state → BOARD_BLOCKS ≤ view.size
     → ((k : ℕ) → k < BOARD_BLOCKS → view.state.reads k ≡ replicate BLOCK_BYTES 0) → hosts ≤ MAX_HOSTS → BeginsWith form_in_use view hosts (λ app. empty_store)
 begins law view hosts rests size zero few = record {
   counter = 0;

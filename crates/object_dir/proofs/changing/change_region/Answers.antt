@@ -1,8 +1,9 @@
-use Rattle.std.proofs.Common.{List, Option, rules, subst}
+use Rattle.std.proofs.Common.{List, Option, ℕ, rules, subst}
 use Rattle.std.specs.Prelude.{IfSome, IsTrue}
-use Rattle.tee_base.specs.declared.limits.TheConstants.{LEAVES}
 use Rattle.store_api.specs.Ascending.{is_above_all}
 use Rattle.store_api.specs.declared.leaves.Leaf.{Leaf}
+use Rattle.object_dir.specs.Regions.{in_use}
+use Rattle.object_dir.proofs.UseLemmas.{leaves_are}
 use Rattle.object_dir.proofs.PlannedLemmas.{named_some}
 use Rattle.object_dir.proofs.ChangeLemmas.{change_refused_as, committed_as, nothing_as}
 use Rattle.object_dir.proofs.changing.change_region.Goals as goal
@@ -23,4 +24,5 @@ returns-in-None g c = nothing_as g.V.Volume.keeper
     c.args.change.now _ c.args.region.now _ c.in-None.is c.in_ok-leaves.ensures.plans
 
 pub commit-requires : goal.commit-requires
-commit-requires g c = subst (λ (o : Option (List Leaf)). IfSome o (λ named. IsTrue (is_above_all named LEAVES))) c.in-Some.is (named_some c.in_ok-leaves.field-0 c.in_ok-leaves.ensures.plans.named)
+commit-requires g c = subst (λ (n : ℕ). IsTrue (is_above_all c.in-Some.leaves n)) leaves_are
+    (subst (λ (o : Option (List Leaf)). IfSome o (λ named. IsTrue (is_above_all named in_use.leaves))) c.in-Some.is (named_some c.in_ok-leaves.field-0 c.in_ok-leaves.ensures.plans.named))

@@ -9,6 +9,7 @@ use Rattle.store_api.specs.Ascending.{is_above_all}
 use Rattle.object_dir.proofs.FoundLemmas.{agrees, there_alike}
 use Rattle.object_dir.proofs.IdleLemmas.{not_there}
 use Rattle.object_dir.proofs.PlannedLemmas.{plan_stays, planned_none}
+use Rattle.object_dir.proofs.UseLemmas.{fits, leaves_are}
 use Rattle.object_dir.proofs.planned.plan_change.Goals as goal
 
 pub returns-then-branch-clause-plans : goal.returns-then-branch-clause-plans
@@ -34,4 +35,8 @@ returns-clause-writes g c h works same =
     (agrees K (record { whole = g.met.V.Volume.whole; tells = g.met.V.Volume.honest_tells; found = g.met.V.Volume.found }) old h works)) ∙ found) same
 
 pub are_all_there-requires-clause-leaves : goal.are_all_there-requires-clause-leaves
-are_all_there-requires-clause-leaves g c = subst (λ (l : List Leaf). is_above_all l LEAVES ≡ true) (sym c.as_slice.ensures.leaves) c.in_ok-leaves.ensures.named
+are_all_there-requires-clause-leaves g c = subst (λ (l : List Leaf). is_above_all l LEAVES ≡ true) (sym c.as_slice.ensures.leaves)
+    (subst (λ (n : ℕ). is_above_all c.in_ok-leaves.leaves n ≡ true) leaves_are c.in_ok-leaves.ensures.named)
+
+pub plan-requires-clause-fits : goal.plan-requires-clause-fits
+plan-requires-clause-fits g c = fits _ g.met.V.Volume.whole

@@ -1,13 +1,32 @@
 use Rattle.std.specs.Prelude.{IsTrue}
-use Rattle.std.proofs.Common.{◌≡◌, ◌≤◌, ◌<◌, ◌+◌, ◌++◌, ◌∙◌, ℕ, true, [], ◌∷◌, None, Option, List, length, is_some, refl, sym, ap, subst}
+use Rattle.std.proofs.Common.{◌≡◌, ◌≤◌, ◌<◌, ◌+◌, ◌++◌, ◌∙◌, ℕ, true, [], ◌∷◌, None, Option, List, length, is_some, refl, sym, ap, subst, arith}
+use Rattle.std.proofs.lemmas.List.Elements.{All-push}
 use Rattle.store_api.specs.Ascending.{is_above_all}
 use Rattle.store_api.specs.declared.leaves.Leaf.{Leaf}
-use Rattle.region_plan.specs.Plans.{IsChangedLeaf, bytes_or, changing, with_leaves}
+use Rattle.region_plan.specs.Plans.{ChangeMap, ChangesMap, IsChangedLeaf, bytes_or, changing, with_leaves}
 use Rattle.region_plan.specs.Reading.{ReadsOnly, leaves_of}
-use Rattle.region_plan.proofs.NamedLemmas.{named_more, unnamed_more, above_more, above_pushed, few_named, few_unnamed}
-use Rattle.region_plan.proofs.ReadLemmas.{reads_joined, leaves_stay}
+use Rattle.region_plan.proofs.NamedLemmas.{named_more, unnamed_more, above_more, above_pushed, few_named, few_unnamed, changing_first, map_done}
+use Rattle.region_plan.proofs.ReadLemmas.{reads_joined, reads_started, leaves_stay}
 use Rattle.region_plan.proofs.planning.changed_leaves.Goals as goal
 use Rattle.region_plan.proofs.planning.changed_leaves.Goals.{in-Some+in_ok-push, in_default}
+use Rattle.region_plan.specs.Layout.{layout}
+use Rattle.region_plan.proofs.FormLemmas.{laid_by}
+
+pub loop-leaf-init : goal.loop-leaf-init
+loop-leaf-init g c =
+    let start : c.map_leaves-leaf.result ≡ (layout c.args.form).map_leaves = c.map_leaves-leaf.ensures.is in
+    record {
+      reads = reads_started g.L.LeafSource.keeper g.L.LeafSource.region c.args.from.now c.requires.works (g.met.L.LeafSource.rests c.args.from.now);
+      above = subst (λ (n : ℕ). is_above_all c.in_ok-leaves.leaves n ≡ true) (sym start) c.in_ok-leaves.ensures.named;
+      later = omega (arith, start);
+      most = (let more = (laid_by c.args.form).more in omega (arith, start, more));
+      done = λ h first i low.
+          map_done (layout c.args.form) (laid_by c.args.form) (leaves_of g.L.LeafSource.keeper g.L.LeafSource.region c.args.from.now) c.args.map.now c.args.inode c.args.head.now c.args.edit
+          c.in_ok-leaves.leaves (c.in_ok-leaves.ensures.each (leaves_of g.L.LeafSource.keeper g.L.LeafSource.region c.args.from.now) first) i (omega (arith, low, start));
+      changed = λ h first. c.in_ok-leaves.ensures.changed (leaves_of g.L.LeafSource.keeper g.L.LeafSource.region c.args.from.now) first;
+      few = subst (λ (n : ℕ). length c.in_ok-leaves.leaves ≤ changing (layout c.args.form) c.args.map.now c.args.inode c.args.edit n) (sym start)
+          (let all = changing_first (layout c.args.form) (laid_by c.args.form) c.args.map.now c.args.inode c.args.edit in let some' = c.in_ok-leaves.ensures.few in omega (arith, all, some'));
+    }
 
 pub loop-leaf-preserved : goal.loop-leaf-preserved
 loop-leaf-preserved g c =
@@ -15,38 +34,64 @@ loop-leaf-preserved g c =
     let R = g.L.LeafSource.region in
     let kept = c.loop-leaf.invariant in
     let reads : ReadsOnly K R None c.args.from.now c.changed_leaf.new.from = reads_joined K R None c.args.from.now c.loop-leaf.from c.changed_leaf.new.from kept.reads c.in_ok-bytes.ensures.reads in
-    let changed = λ (h : IsTrue K.tells_reads) (first : leaves_of K R c.args.from.now 0 ≡ c.args.old.now).
-    subst (λ (l : ℕ → List ℕ). IsChangedLeaf l c.args.map.now c.args.inode c.args.head.now c.args.edit c.loop-leaf.leaf (bytes_or c.in_ok-bytes.field-0 (l c.loop-leaf.leaf)))
+    let changed = λ (h : IsTrue K.tells_reads).
+    subst (λ (l : ℕ → List ℕ). IsChangedLeaf (layout c.args.form) l c.args.map.now c.args.inode c.args.head.now c.args.edit c.loop-leaf.leaf (bytes_or c.in_ok-bytes.field-0 (l c.loop-leaf.leaf)))
     (leaves_stay K R c.args.from.now c.loop-leaf.from kept.reads h)
-    (c.in_ok-bytes.ensures.changed h (ap (λ (l : ℕ → List ℕ). l 0) (leaves_stay K R c.args.from.now c.loop-leaf.from kept.reads h) ∙ first)) in
-    elim c.match-branch-2.branch [
+    (c.in_ok-bytes.ensures.changed h) in
+    elim c.match-branch-3.branch [
       | in-Some+in_ok-push w ↦
           let last : Leaf = record { number = c.loop-leaf.leaf; bytes = w.in-Some.bytes } in
-          let named : c.match-branch-2.leaves ≡ c.loop-leaf.leaves ++ last ∷ [] = w.leaves-is ∙ w.in_ok-push.ensures.ok in
+          let named : c.match-branch-3.leaves ≡ c.loop-leaf.leaves ++ last ∷ [] = w.leaves-is ∙ w.in_ok-push.ensures.ok in
           record {
             reads = reads;
             above = subst (λ (l : List Leaf). is_above_all l (c.loop-leaf.leaf + 1) ≡ true) (sym named) (above_pushed c.loop-leaf.leaves last c.loop-leaf.leaf kept.above refl);
             done = λ h first.
-                subst (λ (l : List Leaf). (i : ℕ) → i < c.loop-leaf.leaf + 1 → IsChangedLeaf (leaves_of K R c.args.from.now) c.args.map.now c.args.inode c.args.head.now c.args.edit
+                subst (λ (l : List Leaf). (i : ℕ) → i < c.loop-leaf.leaf + 1 → IsChangedLeaf (layout c.args.form) (leaves_of K R c.args.from.now) c.args.map.now c.args.inode c.args.head.now
+                c.args.edit
                 i (with_leaves l (leaves_of K R c.args.from.now) i)) (sym named)
-                (named_more (λ i bytes. IsChangedLeaf (leaves_of K R c.args.from.now) c.args.map.now c.args.inode c.args.head.now c.args.edit i bytes)
+                (named_more (λ i bytes. IsChangedLeaf (layout c.args.form) (leaves_of K R c.args.from.now) c.args.map.now c.args.inode c.args.head.now c.args.edit i bytes)
                 (leaves_of K R c.args.from.now) c.loop-leaf.leaves c.loop-leaf.leaf kept.above (kept.done h first) last refl
-                (subst (λ (o : Option (List ℕ)). IsChangedLeaf (leaves_of K R c.args.from.now) c.args.map.now c.args.inode c.args.head.now c.args.edit c.loop-leaf.leaf
-                (bytes_or o (leaves_of K R c.args.from.now c.loop-leaf.leaf))) w.in-Some.is (changed h first)));
-            few = subst (λ (l : List Leaf). length l ≤ changing c.args.map.now c.args.inode c.args.edit (c.loop-leaf.leaf + 1)) (sym named)
-                (few_named c.args.map.now c.args.inode c.args.edit c.loop-leaf.leaves last c.loop-leaf.leaf kept.few (c.in_ok-bytes.ensures.few (ap is_some w.in-Some.is)));
+                (subst (λ (o : Option (List ℕ)). IsChangedLeaf (layout c.args.form) (leaves_of K R c.args.from.now) c.args.map.now c.args.inode c.args.head.now c.args.edit c.loop-leaf.leaf
+                (bytes_or o (leaves_of K R c.args.from.now c.loop-leaf.leaf))) w.in-Some.is (changed h)));
+            later = (let past = kept.later in omega (arith, past));
+            most = omega (arith, c.loop-leaf-test.true, c.leaves-leaf-end.ensures.is);
+            changed = λ h first.
+                subst (λ (l : List Leaf). ChangeMap (layout c.args.form) (leaves_of K R c.args.from.now) l) (sym named)
+                (All-push (λ leaf. ChangesMap (layout c.args.form) (leaves_of K R c.args.from.now) leaf) c.loop-leaf.leaves last (kept.changed h first)
+                (λ low. absurd (let past = kept.later in omega (arith, past, low))));
+            few = subst (λ (l : List Leaf). length l ≤ changing (layout c.args.form) c.args.map.now c.args.inode c.args.edit (c.loop-leaf.leaf + 1)) (sym named)
+                (few_named (layout c.args.form) (laid_by c.args.form) c.args.map.now c.args.inode c.args.edit c.loop-leaf.leaves last c.loop-leaf.leaf kept.few
+                (c.in_ok-bytes.ensures.few (ap is_some w.in-Some.is)));
           }
       | in_default w ↦ record {
         reads = reads;
         above = subst (λ (l : List Leaf). is_above_all l (c.loop-leaf.leaf + 1) ≡ true) (sym w.leaves-is) (above_more c.loop-leaf.leaves c.loop-leaf.leaf kept.above);
         done = λ h first.
-            subst (λ (l : List Leaf). (i : ℕ) → i < c.loop-leaf.leaf + 1 → IsChangedLeaf (leaves_of K R c.args.from.now) c.args.map.now c.args.inode c.args.head.now c.args.edit i
+            subst (λ (l : List Leaf). (i : ℕ) → i < c.loop-leaf.leaf + 1 → IsChangedLeaf (layout c.args.form) (leaves_of K R c.args.from.now) c.args.map.now c.args.inode c.args.head.now c.args.edit i
             (with_leaves l (leaves_of K R c.args.from.now) i)) (sym w.leaves-is)
-            (unnamed_more (λ i bytes. IsChangedLeaf (leaves_of K R c.args.from.now) c.args.map.now c.args.inode c.args.head.now c.args.edit i bytes) (leaves_of K R c.args.from.now)
+            (unnamed_more (λ i bytes. IsChangedLeaf (layout c.args.form) (leaves_of K R c.args.from.now) c.args.map.now c.args.inode c.args.head.now c.args.edit i bytes)
+            (leaves_of K R c.args.from.now)
             c.loop-leaf.leaves c.loop-leaf.leaf kept.above (kept.done h first)
-            (subst (λ (o : Option (List ℕ)). IsChangedLeaf (leaves_of K R c.args.from.now) c.args.map.now c.args.inode c.args.head.now c.args.edit c.loop-leaf.leaf
-            (bytes_or o (leaves_of K R c.args.from.now c.loop-leaf.leaf))) w.in_default.is (changed h first)));
-        few = subst (λ (l : List Leaf). length l ≤ changing c.args.map.now c.args.inode c.args.edit (c.loop-leaf.leaf + 1)) (sym w.leaves-is)
-            (few_unnamed c.args.map.now c.args.inode c.args.edit c.loop-leaf.leaves c.loop-leaf.leaf kept.few);
+            (subst (λ (o : Option (List ℕ)). IsChangedLeaf (layout c.args.form) (leaves_of K R c.args.from.now) c.args.map.now c.args.inode c.args.head.now c.args.edit c.loop-leaf.leaf
+            (bytes_or o (leaves_of K R c.args.from.now c.loop-leaf.leaf))) w.in_default.is (changed h)));
+        later = (let past = kept.later in omega (arith, past));
+        most = omega (arith, c.loop-leaf-test.true, c.leaves-leaf-end.ensures.is);
+        changed = λ h first. subst (λ (l : List Leaf). ChangeMap (layout c.args.form) (leaves_of K R c.args.from.now) l) (sym w.leaves-is) (kept.changed h first);
+        few = subst (λ (l : List Leaf). length l ≤ changing (layout c.args.form) c.args.map.now c.args.inode c.args.edit (c.loop-leaf.leaf + 1)) (sym w.leaves-is)
+            (few_unnamed (layout c.args.form) (laid_by c.args.form) c.args.map.now c.args.inode c.args.edit c.loop-leaf.leaves c.loop-leaf.leaf kept.few);
       }
     ]
+
+pub returns-clause-few : goal.returns-clause-few
+returns-clause-few g c =
+    let kept = c.loop-leaf.invariant in
+    let high = kept.most in
+    subst (λ (n : ℕ). length c.loop-leaf.leaves ≤ changing (layout c.args.form) c.args.map.now c.args.inode c.args.edit n)
+    (let all : c.loop-leaf.leaf ≡ (layout c.args.form).leaves = omega (arith, high, c.loop-leaf-test.false, c.leaves-leaf-end.ensures.is) in all) kept.few
+
+pub returns-clause-named : goal.returns-clause-named
+returns-clause-named g c =
+    let kept = c.loop-leaf.invariant in
+    let high = kept.most in
+    subst (λ (n : ℕ). is_above_all c.loop-leaf.leaves n ≡ true)
+    (let all : c.loop-leaf.leaf ≡ (layout c.args.form).leaves = omega (arith, high, c.loop-leaf-test.false, c.leaves-leaf-end.ensures.is) in all) kept.above

@@ -1,22 +1,25 @@
 use Rattle.std.proofs.Common.{◌≡◌, ◌≢◌, length, refl, sym}
 use Rattle.std.proofs.lemmas.Bool.{eqb-true, eqb-false}
-use Rattle.region_plan.specs.Layout.{version_one}
 use Rattle.region_plan.specs.Reading.{leaves_of}
 use Rattle.region_plan.proofs.ResultLemmas.{write_absent, write_none, write_plans}
 use Rattle.region_plan.proofs.StoreLemmas.{looked_none, looked_up}
 use Rattle.region_plan.proofs.planning.plan_write.Goals as goal
+use Rattle.region_plan.specs.Layout.{layout}
+use Rattle.region_plan.proofs.FormLemmas.{laid_by}
 
 pub returns-in_default-clause-plans : goal.returns-in_default-clause-plans
 returns-in_default-clause-plans g c h first all store stands =
     let leaves = leaves_of g.L.LeafSource.keeper g.L.LeafSource.region c.args.from.now in
-    write_absent leaves store stands c.args.id.now c.args.at c.args.bytes.now (looked_none version_one leaves c.args.id.now c.find.result c.args.inodes.now c.args.inodes.now
+    write_absent (layout c.args.form) (laid_by c.args.form) leaves store stands c.args.id.now c.args.at c.args.bytes.now
+    (looked_none (layout c.args.form) leaves c.args.id.now c.find.result c.args.inodes.now c.args.inodes.now
     c.find.ensures.inode refl all c.in_default.is)
 
 pub returns-then-is_empty-clause-plans : goal.returns-then-is_empty-clause-plans
 returns-then-is_empty-clause-plans g c h first all store stands =
     let leaves = leaves_of g.L.LeafSource.keeper g.L.LeafSource.region c.args.from.now in
     let none : length c.args.bytes.now ≡ 0 = eqb-true (length c.args.bytes.now) 0 (sym c.if-is_empty.ensures) in
-    write_none leaves store stands c.args.id.now c.in-Some.inode.now (looked_up version_one leaves c.args.id.now c.find.result c.args.inodes.now c.args.inodes.now c.in-Some.inode
+    write_none (layout c.args.form) (laid_by c.args.form) leaves store stands c.args.id.now c.in-Some.inode.now
+    (looked_up (layout c.args.form) leaves c.args.id.now c.find.result c.args.inodes.now c.args.inodes.now c.in-Some.inode
     c.find.ensures.inode refl all c.in-Some.is)
     c.args.at c.args.bytes.now c.none.result none c.none.ensures
 
@@ -24,7 +27,8 @@ pub returns-clause-plans : goal.returns-clause-plans
 returns-clause-plans g c h first all store stands =
     let leaves = leaves_of g.L.LeafSource.keeper g.L.LeafSource.region c.args.from.now in
     let some' : length c.args.bytes.now ≢ 0 = eqb-false (length c.args.bytes.now) 0 (sym c.if-is_empty.ensures) in
-    write_plans leaves store stands c.args.id.now c.in-Some.inode.now (looked_up version_one leaves c.args.id.now c.find.result c.args.inodes.now c.args.inodes.now c.in-Some.inode
+    write_plans (layout c.args.form) (laid_by c.args.form) leaves store stands c.args.id.now c.in-Some.inode.now
+    (looked_up (layout c.args.form) leaves c.args.id.now c.find.result c.args.inodes.now c.args.inodes.now c.in-Some.inode
     c.find.ensures.inode refl all c.in-Some.is)
     c.args.map.now _ c.args.at c.args.bytes.now first refl refl refl refl some' c.max.ensures c.plan_content.result (c.plan_content.ensures.planned h first)
     c.plan_content.ensures.space c.plan_content.ensures.refused

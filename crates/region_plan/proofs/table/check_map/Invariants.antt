@@ -1,8 +1,9 @@
-use Rattle.std.proofs.Common.{◌≡◌, ◌<◌, ℕ, List, true}
-use Rattle.region_plan.specs.Entries.{is_well_formed}
-use Rattle.region_plan.specs.Layout.{version_one}
+use Rattle.std.proofs.Common.{◌≡◌, ◌<◌, ℕ, true}
+use Rattle.region_plan.specs.Layout.{layout}
+use Rattle.region_plan.specs.Entries.{follows}
+use Rattle.region_plan.specs.Places.{entries_in}
 use Rattle.region_plan.proofs.table.check_map.Given as goal
 
 -- the entries below the leaf follow the rules
 abbrev pub invariant-loop-leaf : goal.invariant-loop-leaf
-invariant-loop-leaf l = (leaves : ℕ → List ℕ) → leaves 0 ≡ l.map → (i : ℕ) → i < l.leaf → is_well_formed version_one leaves i ≡ true
+invariant-loop-leaf l = (i : ℕ) → i < l.leaf → follows (layout l.form) (entries_in l.map) i ≡ true

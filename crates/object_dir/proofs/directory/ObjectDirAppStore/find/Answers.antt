@@ -2,6 +2,7 @@ use Rattle.std.proofs.Common.{refl}
 use Rattle.store_api.specs.Stores.{found}
 use Rattle.store_api.specs.Limits.{AreFacts}
 use Rattle.object_dir.proofs.DirectoryLemmas.{reads_noted}
+use Rattle.object_dir.proofs.UseLemmas.{fits}
 use Rattle.object_dir.proofs.directory.ObjectDirAppStore.find.Goals as goal
 
 pub returns-clause-reads : goal.returns-clause-reads
@@ -12,3 +13,6 @@ returns-clause-reads g c = reads_noted g.V.Volume.keeper
 
 pub returns-clause-region : goal.returns-clause-region
 returns-clause-region g c = c.facts-answer.ensures
+
+pub facts-answer-requires-clause-fits : goal.facts-answer-requires-clause-fits
+facts-answer-requires-clause-fits g c = fits _ g.met.V.Volume.whole

@@ -2,6 +2,7 @@ use Rattle.std.proofs.Common.{refl, option_copied}
 use Rattle.store_api.specs.Stores.{next_after}
 use Rattle.store_api.specs.Limits.{IsListed}
 use Rattle.object_dir.proofs.DirectoryLemmas.{reads_noted}
+use Rattle.object_dir.proofs.UseLemmas.{fits}
 use Rattle.object_dir.proofs.directory.ObjectDirAppStore.next_after.Goals as goal
 
 pub returns-clause-reads : goal.returns-clause-reads
@@ -12,3 +13,6 @@ returns-clause-reads g c = reads_noted g.V.Volume.keeper
 
 pub returns-clause-region : goal.returns-clause-region
 returns-clause-region g c = c.next_after-answer.ensures
+
+pub next_after-answer-requires : goal.next_after-answer-requires
+next_after-answer-requires g c = fits _ g.met.V.Volume.whole

@@ -2,6 +2,7 @@ use Rattle.std.proofs.Common.{refl}
 use Rattle.store_api.specs.Stores.{read_at}
 use Rattle.store_api.specs.Limits.{IsPart}
 use Rattle.object_dir.proofs.DirectoryLemmas.{reads_noted}
+use Rattle.object_dir.proofs.UseLemmas.{fits}
 use Rattle.object_dir.proofs.directory.ObjectDirAppStore.read.Goals as goal
 
 pub returns-clause-reads : goal.returns-clause-reads
@@ -15,3 +16,6 @@ returns-clause-region g c = c.content-answer.ensures.reads
 
 pub returns-clause-part : goal.returns-clause-part
 returns-clause-part g c = c.content-answer.ensures.found
+
+pub content-answer-requires-clause-fits : goal.content-answer-requires-clause-fits
+content-answer-requires-clause-fits g c = fits _ g.met.V.Volume.whole

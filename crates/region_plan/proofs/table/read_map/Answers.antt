@@ -1,0 +1,14 @@
+use Rattle.std.proofs.Common.{arith}
+use Rattle.region_plan.specs.Layout.{layout}
+use Rattle.region_plan.specs.Reading.{leaves_of}
+use Rattle.region_plan.proofs.FormLemmas.{laid_by}
+use Rattle.region_plan.proofs.MapLemmas.{mapped_by}
+use Rattle.region_plan.proofs.table.read_map.Goals as goal
+
+pub read_map_leaf-requires-clause-leaf : goal.read_map_leaf-requires-clause-leaf
+read_map_leaf-requires-clause-leaf g c = (let some' = (laid_by c.args.form).some' in omega (arith, some'))
+
+pub returns-clause-map : goal.returns-clause-map
+returns-clause-map g c h =
+    mapped_by (layout c.args.form) (laid_by c.args.form) (leaves_of g.L.LeafSource.keeper g.L.LeafSource.region c.args.from.now) c.loop-leaf.map
+    (λ leaf low. c.loop-leaf.invariant.done h leaf (omega (arith, low, c.map_leaves-leaf-end.ensures.is, c.loop-leaf-test.false)))
