@@ -1,6 +1,7 @@
 //! A volume in memory.
 
-ghost use Rattle.std.specs.Prelude.{◌≡◌, ◌<◌, [], None, false, refl, vec_len};
+ghost use Rattle.std.specs.Prelude.{◌≡◌, ◌<◌, [], None, false, vec_len};
+ghost use Rattle.std.proofs.Common.{arith};
 ghost use Rattle.store_api.specs.Foundations.{no_foundation};
 ghost use Rattle.tee_base.specs.declared.limits.TheConstants.{LEAVES, MAX_HOSTS};
 
@@ -106,7 +107,7 @@ impl Volume for Memory {
       left_since = λ m t o. ⊥;
     } };
 
-    ghost whole = { refl };
+    ghost whole = { Prim.omega arith };
 
     ghost rests = { λ v h works. absurd h };
 
