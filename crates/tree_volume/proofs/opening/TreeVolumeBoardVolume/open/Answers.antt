@@ -21,8 +21,7 @@ returns-in-Ok-clause-opened g c honest n h rests large is =
 pub returns-in-Err-clause-unopened : goal.returns-in-Err-clause-unopened
 returns-in-Err-clause-unopened g c honest n h rests large is =
     let v = g.B.Board.view c.args.board in
-    let opens = c.in-Err.ensures.opens honest n h rests large is in
-    (
+    let opens = c.in-Err.ensures.opens honest n h rests large is in (
       opens.failed,
       leaves_opening tree_form v (g.B.Board.view c.open_board.new.board) h (after_opening tree_form v h) (opened_to tree_form tree_single v n h rests is) opens.leaves,
     )
