@@ -1,18 +1,18 @@
-//! Commits of a flat volume over a board, and syncs of the board alone, so that the first can be timed beside the second.
+//! Commits of a volume over a board, and syncs of the board alone, so that the first can be timed beside the second.
 use crate::block_of;
 use anyhow::Result;
 use board::{Board, BoardFailed};
 use epoch::{BoardVolume, OpenAnswer};
-use flat_volume::FlatVolume;
 use std::alloc::Global;
 use store_api::{Leaf, Leaves, Volume};
+use tree_volume::TreeVolume;
 
 /// The block of a round: the first behind the two slots, of a place that no flat volume uses.
 const UNUSED: u64 = 4;
 
 /// Opens the volume of a board; a blank board is formatted.
-fn opened<B: Board + Drop>(alloc: Global, board: B) -> Result<FlatVolume<B>, OpenAnswer> {
-    match FlatVolume::open(alloc, board) {
+fn opened<B: Board + Drop>(alloc: Global, board: B) -> Result<TreeVolume<B>, OpenAnswer> {
+    match TreeVolume::open(alloc, board) {
         Ok(volume) => Ok(volume),
         Err(unopened) => Err(unopened.why),
     }

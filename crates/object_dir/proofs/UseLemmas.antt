@@ -7,12 +7,12 @@ use Rattle.store_api.specs.Limits.{IsWithinLimits}
 use Rattle.store_api.specs.Stores.{Store, change, changed, within_quota}
 use Rattle.region_plan.specs.Layout.{layout, quota_of}
 use Rattle.region_plan.specs.Quotas.{KeepsWithin, change_in, within}
-use Rattle.region_plan.specs.declared.form.Form.TheVariants.{One}
+use Rattle.region_plan.specs.declared.form.Form.TheVariants.{Two}
 use Rattle.region_plan.proofs.FormLemmas.{IsLaid, laid_by}
 use Rattle.object_dir.specs.Regions.{in_use}
 
 pub laid : IsLaid in_use
-laid = laid_by One
+laid = laid_by Two
 
 pub leaves_are : in_use.leaves ≡ LEAVES
 unfolding layout

@@ -5,7 +5,7 @@ use Rattle.store_api.specs.Stores.{Store, empty_store}
 use Rattle.store_api.specs.Foundations.{Foundation}
 use Rattle.store_api.specs.Volumes.{Condition, Held, VolumeKeeper}
 use Rattle.region_plan.specs.Layout.{Layout, layout}
-use Rattle.region_plan.specs.declared.form.Form.TheVariants.{One}
+use Rattle.region_plan.specs.declared.form.Form.TheVariants.{Two}
 use Rattle.region_plan.specs.Regions.{region_of}
 use Rattle.object_dir.specs.declared.region.Region.{Region}
 
@@ -46,7 +46,7 @@ rest_of region held = record { leaves = others region held.leaves }
 
 -- how the regions in use are laid out
 abbrev pub in_use : Layout
-in_use = layout One
+in_use = layout Two
 
 -- how the regions of a version of the format are laid out: one layout so far
 abbrev pub layout_of : ℕ → Layout

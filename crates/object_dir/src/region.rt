@@ -8,7 +8,7 @@ use store_api::{LeafAnswer, Leaves, StoreAnswer, Volume};
 use tee_base::limits::BLOCK_BYTES;
 
 /// The form of the regions in use.
-pub(crate) const IN_USE: Form = Form::One;
+pub(crate) const IN_USE: Form = Form::Two;
 
 /// One region of a volume.
 #[derive(Drop)]

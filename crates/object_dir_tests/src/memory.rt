@@ -24,7 +24,7 @@ pub enum Ending {
 #[derive(Drop)]
 struct Regions {
     leaves: Vec<[u8; BLOCK_BYTES]>,
-    ghost whole: { vec_len leaves ≡ 4096 },
+    ghost whole: { vec_len leaves ≡ 16384 },
 }
 
 impl Regions {

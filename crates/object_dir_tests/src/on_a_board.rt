@@ -7,18 +7,18 @@ use super::over::change_over;
 use super::steps::change_of;
 use boards::MemBoard;
 use epoch::{BoardVolume, OpenAnswer};
-use flat_volume::FlatVolume;
 use std::alloc::Global;
 use std::test::Fail;
 use store_api::{StoreAnswer, Volume};
 use tee_base::{Bytes, NoMemory};
+use tree_volume::TreeVolume;
 
 const KEY: [u8; 32] = [3; 32];
 
-const BLOCKS: u64 = 8_742;
+const BLOCKS: u64 = 43_720;
 
 /// More calls than a change makes.
-const MANY: u32 = 2_000;
+const MANY: u32 = 100;
 
 /// How a change ended that was stopped after some calls of the device, and what was there when the power came back.
 #[derive(Drop)]
@@ -31,15 +31,15 @@ enum Ending {
     Wrong,
 }
 
-fn opened(alloc: Global, board: MemBoard) -> Result<FlatVolume<MemBoard>, OpenAnswer> {
-    match FlatVolume::open(alloc, board) {
+fn opened(alloc: Global, board: MemBoard) -> Result<TreeVolume<MemBoard>, OpenAnswer> {
+    match TreeVolume::open(alloc, board) {
         Ok(volume) => Ok(volume),
         Err(unopened) => Err(unopened.why),
     }
 }
 
 /// A blank board, opened.
-fn blank(alloc: Global) -> Result<FlatVolume<MemBoard>, Fail> {
+fn blank(alloc: Global) -> Result<TreeVolume<MemBoard>, Fail> {
     let board = MemBoard::blank(alloc, KEY, BLOCKS)?;
     Ok(opened(alloc, board)?)
 }
@@ -56,7 +56,7 @@ fn as_in_memory_on_a_board(rt: HostRuntime) -> Result<(), Fail> {
 }
 
 /// The image of the board of a volume.
-fn image_of(alloc: Global, volume: FlatVolume<MemBoard>) -> Result<Bytes, NoMemory> {
+fn image_of(alloc: Global, volume: TreeVolume<MemBoard>) -> Result<Bytes, NoMemory> {
     let board = volume.into_board();
     let image = board.image(alloc);
     drop(board);
@@ -76,7 +76,7 @@ fn image_with_one(alloc: Global) -> Result<Bytes, Fail> {
 }
 
 /// A board with that image, opened.
-fn with_one(alloc: Global, image: &Bytes) -> Result<FlatVolume<MemBoard>, Fail> {
+fn with_one(alloc: Global, image: &Bytes) -> Result<TreeVolume<MemBoard>, Fail> {
     let image = image.copy(alloc)?;
     if image.as_slice().len() % 1024 != 0 {
         return Err(OpenAnswer::TooSmall(0).into());

@@ -67,12 +67,13 @@ const TRUNCATE: &[Row] = &[
     (Step::Truncate(b'a', 1), Told::Done(3)),
 ];
 
-// Two small objects beside a large one, up to the last leaf.
+// Two small objects beside two large ones, up to the last leaf.
 const FULL: &[Row] = &[
     (Step::New(b'a', 10), Told::Done(3)),
     (Step::New(b'b', 1024), Told::Done(3)),
-    (Step::New(b'c', 256_001), Told::NoSpace),
-    (Step::New(b'c', 254_976), Told::Done(251)),
+    (Step::New(b'c', 524_288), Told::Done(516)),
+    (Step::New(b'e', 514_049), Told::NoSpace),
+    (Step::New(b'e', 513_024), Told::Done(504)),
     (Step::New(b'd', 1), Told::NoSpace),
     (Step::New(b'd', 0), Told::Done(2)),
 ];
@@ -80,7 +81,8 @@ const FULL: &[Row] = &[
 // An object that is there is told before the quota.
 const NO_LEAF: &[Row] = &[
     (Step::New(b'a', 10), Told::Done(3)),
-    (Step::New(b'c', 258_048), Told::Done(254)),
+    (Step::New(b'c', 524_288), Told::Done(516)),
+    (Step::New(b'e', 516_096), Told::Done(507)),
     (Step::New(b'a', 2000), Told::Exists),
     (Step::New(b'd', 0), Told::NoSpace),
     (Step::Overwrite(b'a', 1025), Told::NoSpace),
@@ -88,14 +90,16 @@ const NO_LEAF: &[Row] = &[
 
 const NO_ROOM: &[Row] = &[
     (Step::New(b'a', 10), Told::Done(3)),
-    (Step::New(b'c', 258_048), Told::Done(254)),
+    (Step::New(b'c', 524_288), Told::Done(516)),
+    (Step::New(b'e', 516_096), Told::Done(507)),
     (Step::Write(b'a', 1024, 1), Told::NoSpace),
     (Step::Write(b'a', 1020, 4), Told::Done(2)),
     (Step::Truncate(b'a', 1025), Told::NoSpace),
-    (Step::Delete(b'c'), Told::Done(1)),
+    (Step::Delete(b'c'), Told::Done(3)),
     (Step::Truncate(b'a', 0xFFFF_FFFF), Told::NoSpace),
     (Step::Truncate(b'a', 100_000), Told::Done(99)),
-    (Step::Overwrite(b'a', 260_097), Told::NoSpace),
+    (Step::Truncate(b'a', 526_337), Told::NoSpace),
+    (Step::Truncate(b'a', 526_336), Told::Done(420)),
 ];
 
 /// What each table is about, and its rows.
@@ -108,7 +112,7 @@ const TABLES: &[Table] = &[
     ("truncate", TRUNCATE),
 ];
 
-/// The tables that meet the quota of the first form, which is that of the store beside it.
+/// The tables that meet the quota of the second form, which is that of the store beside it.
 const UP_TO_THE_QUOTA: &[Table] = &[("full", FULL), ("no leaf", NO_LEAF), ("no room", NO_ROOM)];
 
 #[test]
@@ -123,7 +127,7 @@ fn each_change(rt: HostRuntime) -> Result<(), NoMemory> {
 #[test]
 fn each_change_up_to_the_quota(rt: HostRuntime) -> Result<(), NoMemory> {
     for table in UP_TO_THE_QUOTA {
-        run(&rt, rt.alloc(), Form::One, table)?;
+        run(&rt, rt.alloc(), Form::Two, table)?;
     }
     Ok(())
 }

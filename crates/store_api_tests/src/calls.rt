@@ -214,23 +214,24 @@ const CHANGES: &[Row] = &[
     Row::Change(Step::Write(b"a", 0, b""), ABSENT),
     Row::Change(Step::Truncate(b"a", 5), ABSENT),
     // An obstacle comes before want of space, and an absent object before an obstacle.
+    Row::Change(Step::New(b"f", 524_288), DONE),
     Row::Change(Step::New(b"a", 0), DONE),
     Row::Change(Step::New(b"a", 0), THERE),
-    Row::Change(Step::New(b"a", 270_000), THERE),
+    Row::Change(Step::New(b"a", 524_288), THERE),
     Row::Change(Step::Overwrite(b"a", 3), DONE),
     Row::Change(Step::Rename(b"a", b"a"), THERE),
     Row::Change(Step::New(LONG, 1), DONE),
     Row::Change(Step::Rename(b"a", LONG), THERE),
     Row::Change(Step::Rename(b"none", b"a"), ABSENT),
-    // 2 and 2 blocks are used, and 256,000 bytes take the other 251.
-    Row::Change(Step::New(b"b", 256_001), FULL),
-    Row::Change(Step::New(b"b", 256_000), DONE),
+    // 513, 2 and 2 blocks are used, and 514,048 bytes take the other 503.
+    Row::Change(Step::New(b"b", 514_049), FULL),
+    Row::Change(Step::New(b"b", 514_048), DONE),
     Row::Change(Step::New(b"c", 0), FULL),
     Row::Change(Step::Write(b"a", 1024, b"x"), FULL),
     Row::Change(Step::Write(b"a", 1023, b"x"), DONE),
     Row::Change(Step::Write(b"a", 9999, b""), DONE),
-    Row::Change(Step::Truncate(b"b", 256_001), FULL),
-    Row::Change(Step::Overwrite(b"b", 256_001), FULL),
+    Row::Change(Step::Truncate(b"b", 514_049), FULL),
+    Row::Change(Step::Overwrite(b"b", 514_049), FULL),
     Row::Change(Step::Rename(b"b", b"bb"), DONE),
     // A deletion makes room again.
     Row::Change(Step::Delete(LONG), DONE),
@@ -261,13 +262,13 @@ fn a_renamed_object(rt: HostRuntime) -> Result<(), NoMemory> {
 }
 
 const LARGEST: &[Row] = &[
-    Row::Change(Step::New(LONG, 260_097), FULL),
-    Row::Change(Step::New(LONG, 260_096), DONE),
-    Row::Change(Step::Overwrite(LONG, 260_097), FULL),
-    Row::Change(Step::Truncate(LONG, 260_097), FULL),
+    Row::Change(Step::New(LONG, 524_288), DONE),
+    Row::Change(Step::Truncate(LONG, 1_043_457), FULL),
     Row::Change(Step::Truncate(LONG, 0xFFFF_FFFF), FULL),
+    Row::Change(Step::Truncate(LONG, 1_043_456), DONE),
     Row::Change(Step::New(b"a", 0), FULL),
-    Row::Content(LONG, 260_094, &[7, 7]),
+    Row::Content(LONG, 524_286, &[7, 7, 0, 0, 0, 0, 0]),
+    Row::Content(LONG, 1_043_454, &[0, 0]),
 ];
 
 #[test]

@@ -31,17 +31,17 @@ pub const MAX_IDENTIFIER_BYTES: usize = 64;
 /// Bytes of an object's secret.
 pub const MAX_SECRET_BYTES: usize = 128;
 /// Bytes of one object's content, by the quota: the first block of an object holds none of them.
-pub const MAX_CONTENT_BYTES: u32 = 260_096;
+pub const MAX_CONTENT_BYTES: u32 = 1_043_456;
 /// The greatest data position of an object's handle.
 pub const MAX_POSITION: u32 = 0xFFFF_FFFF;
 /// The cost that the objects of one application may reach, in blocks.
-pub const QUOTA: u32 = 255;
+pub const QUOTA: u32 = 1_020;
 /// Leaves of one application's region, each a block.
-pub const LEAVES: usize = 256;
+pub const LEAVES: usize = 1024;
 /// Bytes of a block.
 pub const BLOCK_BYTES: usize = 1024;
 /// Blocks of a new board.
-pub const BOARD_BLOCKS: u64 = 8_742;
+pub const BOARD_BLOCKS: u64 = 43_720;
 /// The greatest number that a script's fuse line may have.
 pub const MAX_FUSE_CALLS: u32 = 1_000_000;
 /// The sizes of all filled parameters of a script, added up.

@@ -1,7 +1,7 @@
 -- The kind of volume in use.
 use Rattle.epoch.specs.Forms.{Form}
-use Rattle.flat_volume.specs.Flat.{flat}
+use Rattle.tree_volume.specs.Form.{tree_form}
 
 -- how its leaves lie on a board
 abbrev pub form_in_use : Form
-form_in_use = flat
+form_in_use = tree_form

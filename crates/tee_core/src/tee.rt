@@ -5,13 +5,13 @@ ghost use Rattle.tee_base.specs.declared.limits.TheConstants.{MAX_HOSTS};
 ghost use Rattle.tee_core.specs.Sides.{AreBooted, AreBooted-prop, ServeAs, ServeAs-prop};
 
 use app_side::AppSide;
-use flat_volume::FlatVolume;
+use tree_volume::TreeVolume;
 use std::alloc::Global;
 use std::marker::PhantomData;
 use store_api::Volume;
 
 /// The kind of volume in use. Its form is `form_in_use` of this crate's definitions.
-pub type VolumeInUse<B> = FlatVolume<B>;
+pub type VolumeInUse<B> = TreeVolume<B>;
 
 /// Applications over the volume in use. Another volume takes its place by this line.
 pub type Tee<B, A> = TeeOver<B, VolumeInUse<B>, A>;

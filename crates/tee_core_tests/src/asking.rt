@@ -21,7 +21,7 @@ pub const FEW: u64 = 1_000_000;
 
 const KEY: [u8; 32] = [7; 32];
 
-const BLOCKS: u64 = 8_742;
+const BLOCKS: u64 = 43_720;
 
 /// The flags of a handle that reads, and of one on an object that is made anew.
 const READ: u32 = 1;

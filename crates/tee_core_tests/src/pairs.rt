@@ -9,16 +9,17 @@ use std::process::Abort;
 use tee_base::Code;
 use tee_core::{Event, Happened, TurnKind};
 
-/// What an object of one application may hold at most: with the block of the object itself it costs the whole quota.
-const FULL: usize = 254 * 1024;
+/// What an object holds that costs half of the quota, with the block of the object itself.
+const HALF: usize = 509 * 1024;
 
-/// The application opens a session, and fills its store by one object.
+/// The application opens a session, and fills its store by two objects.
 fn fill(rt: &impl Abort, alloc: Global, tee: &mut Pair, app: u8)
     requires { app < app_count tee.old }
     ensures { app_count tee.new ≡ app_count tee.old }
 {
     succeed(rt, tee, app, session());
-    succeed(rt, tee, app, make(rt, alloc, b"a", FULL));
+    succeed(rt, tee, app, make(rt, alloc, b"a", HALF));
+    succeed(rt, tee, app, make(rt, alloc, b"b", HALF));
 }
 
 /// The first application fills its store, and the second one has all of its own.
@@ -26,7 +27,7 @@ fn fill_both(rt: &impl Abort, alloc: Global, tee: &mut Pair)
     requires { app_count tee.old ≡ 2 }
 {
     fill(rt, alloc, tee, 0);
-    let went = run(rt, tee, 0, make(rt, alloc, b"b", 0));
+    let went = run(rt, tee, 0, make(rt, alloc, b"c", 0));
     check_went(rt, went, Code::STORAGE_NO_SPACE, None);
     fill(rt, alloc, tee, 1);
 }

@@ -449,16 +449,20 @@ fn store_host(rt: &impl Abort, alloc: Global, name: &str, id: u128) -> Host<Samp
 
 const FILLED: &str = "\
 one open 1
-one invoke 1 2 mi:61 vi:3:0 mf:260096:00 vo
-one invoke 1 2 mi:62 vi:3:0 mi: vo
+one invoke 1 2 mi:61 vi:3:0 mf:524288:00 vo
+one invoke 1 10 vi:1:0 vi:524288:0
+one invoke 1 8 vi:1:0 mf:519168:00
+one invoke 1 8 vi:1:0 mi:00
 two open 1
-two invoke 1 2 mi:61 vi:3:0 mf:260096:00 vo
+two invoke 1 2 mi:61 vi:3:0 mi:31 vo
 ";
 
 const FILLED_LINES: &str = "\
 one 1 00000000 4
 one 2 00000000 4 p3=1,0
-one 3 ffff3041 4 p3=0,0
+one 3 00000000 4
+one 4 00000000 4
+one 5 ffff3041 4
 two 1 00000000 4
 two 2 00000000 4 p3=1,0
 ";

@@ -16,4 +16,4 @@ returns c = λ o is.
     let after = cost_after c.args.self.now c.args.id.now o in
     let own = c.blocks_of.ensures ∙ ap blocks_for (sym is) in
     let sum : c.self.inside.used - c.cost_at.result + c.blocks_of.result ≡ cost (finite.insert c.args.self.now c.args.id.now o) = omega (arith, paid, after, own, c.cost_at.ensures) in
-    ap (λ n. nat_le n 255) sum
+    ap (λ n. nat_le n 1020) sum

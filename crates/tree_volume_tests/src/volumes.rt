@@ -1,46 +1,28 @@
-//! A flat volume from an image on: commits, failures of the board, losses of power, and what is refused.
+//! A volume from an image on: commits, openings, and what is refused.
 
 use super::steps::{Row, opened, run};
-use crate::filling::{NEW, OLD};
+use crate::filling::{MOST, NEW, OLD};
 use board::{Board, BoardFailed};
 use boards::MemBoard;
 use epoch::{Header, OpenAnswer, TreeEntry, flip, lay};
 use std::alloc::Global;
 use std::process::Abort;
 use std::test::Fail;
-use store_api::LeafAnswer;
 use tee_base::{Bytes, NoMemory};
 
 const KEY: [u8; 32] = [7; 32];
 
-const BLOCKS: u64 = 8_742;
-
-/// How many calls of the board an opening makes whose slots are both open.
-const CALLS_OF_OPENING: u64 = 5;
-
-/// And the first commit of one leaf behind it: the table is read; the gate is read, written and synced; the leaf and the
-/// table are written; the header is written and synced; the gate is opened and synced; the counter is advanced.
-const CALLS_OF_COMMIT: u64 = 256 + 3 + 1 + 256 + 2 + 3;
-
-/// By turns, a pick that keeps the durable bytes, one that keeps what was offered, and one that mixes both with open bytes.
-fn pick_of(call: u64) -> u64 {
-    match call % 3 {
-        0 => 0,
-        1 => 0x5555_5555_5555_5555,
-        _ => 0xE4E4_E4E4_E4E4_E4E5,
-    }
-}
+const BLOCKS: u64 = 43_720;
 
 /// A blank board.
 const FIRST: &[Row] = &[
     Row::Sequence(1),
-    Row::Filled(0),
-    Row::Replace(OLD, Ok(2)),
+    Row::Replace(MOST, OLD, Ok(2)),
     Row::Filled(OLD),
 ];
 
-/// An image of sequence 2, whose leaf is filled with the old byte.
-fn image_of_two(rt: &impl Abort, alloc: Global) -> Result<Bytes, Fail> {
+/// An image of sequence 2, whose leaves are filled with the old byte.
+pub fn image_of_two(rt: &impl Abort, alloc: Global) -> Result<Bytes, Fail> {
     let board = run(rt, alloc, MemBoard::blank(alloc, KEY, BLOCKS)?, FIRST)?;
     let image = board.image(alloc);
     drop(board);
@@ -63,7 +45,7 @@ fn board_of(
 }
 
 /// Makes the calls in order on the volume of such a board, and answers the board's counter behind them, if it is told.
-fn run_over(
+pub fn run_over(
     rt: &impl Abort,
     alloc: Global,
     image: &Bytes,
@@ -82,8 +64,8 @@ fn run_over(
 const TWICE: &[Row] = &[
     Row::Sequence(2),
     Row::Filled(OLD),
-    Row::Replace(NEW, Ok(3)),
-    Row::Replace(0x33, Ok(4)),
+    Row::Replace(MOST, NEW, Ok(3)),
+    Row::Replace(MOST, 0x33, Ok(4)),
     Row::Reopen(4),
     Row::Filled(0x33),
 ];
@@ -99,7 +81,7 @@ fn a_commit_is_found_at_the_next_opening(rt: HostRuntime) -> Result<(), Fail> {
 
 /// A header of sequence 0, whose root stands for zeros.
 const OF_ZERO: Header = Header {
-    version: 0,
+    version: 2,
     sequence: 0,
     root: TreeEntry {
         copy: 1,
@@ -132,13 +114,12 @@ fn image_of_zero(rt: &impl Abort, alloc: Global) -> Result<Bytes, Fail> {
 }
 
 /// The first commit behind sequence 0, between two losses of power.
-fn rows_at_zero(pick: u64) -> [Row; 7] {
+fn rows_at_zero(pick: u64) -> [Row; 6] {
     [
         Row::Sequence(0),
         Row::Reopen(0),
-        Row::Filled(0),
         Row::Power(pick, 0),
-        Row::Replace(0x11, Ok(1)),
+        Row::Replace(MOST, 0x11, Ok(1)),
         Row::Power(pick, 1),
         Row::Filled(0x11),
     ]
@@ -171,61 +152,5 @@ fn an_older_image_is_refused(rt: HostRuntime) -> Result<(), Fail> {
     let image = image_of_two(&rt, rt.alloc())?;
     let board = board_of(&rt, rt.alloc(), &image, 3, &[])?;
     assert!(rt; is_refused(rt.alloc(), board));
-    Ok(())
-}
-
-/// Makes the calls in order on a volume of sequence 2, over a board that fails one call of the next commit.
-fn run_failing(
-    rt: &impl Abort,
-    alloc: Global,
-    image: &Bytes,
-    call: u64,
-    rows: &[Row],
-) -> Result<(), Fail> {
-    let failing = [CALLS_OF_OPENING.wrapping_add(call)];
-    run_over(rt, alloc, image, 2, &failing, rows)?;
-    Ok(())
-}
-
-/// A commit to sequence 3 that fails, and then the power.
-fn interrupted(pick: u64) -> [Row; 6] {
-    [
-        Row::Replace(NEW, Err(LeafAnswer::Failed)),
-        Row::Lost,
-        Row::Replace(NEW, Err(LeafAnswer::Lost)),
-        Row::Sequence(2),
-        Row::AnyPower(pick),
-        Row::GoOn,
-    ]
-}
-
-#[test]
-fn each_call_of_a_commit_may_fail(rt: HostRuntime) -> Result<(), Fail> {
-    let image = image_of_two(&rt, rt.alloc())?;
-    for call in 0..CALLS_OF_COMMIT {
-        run_failing(&rt, rt.alloc(), &image, call, &interrupted(pick_of(call)))?;
-    }
-    let through = [Row::Replace(NEW, Ok(3))];
-    run_failing(&rt, rt.alloc(), &image, CALLS_OF_COMMIT, &through)
-}
-
-/// A commit to sequence 3 that fails, after which the volume is opened again at this sequence.
-fn opened_again(sequence: u64) -> [Row; 5] {
-    [
-        Row::Replace(NEW, Err(LeafAnswer::Failed)),
-        Row::Lost,
-        Row::Reopen(sequence),
-        Row::Sequence(sequence),
-        Row::GoOn,
-    ]
-}
-
-#[test]
-fn a_volume_is_opened_again_after_a_failed_commit(rt: HostRuntime) -> Result<(), Fail> {
-    let image = image_of_two(&rt, rt.alloc())?;
-    // the write of the leaf fails, and the advance of the counter
-    for (call, sequence) in [(256 + 3, 2), (CALLS_OF_COMMIT - 1, 3)] {
-        run_failing(&rt, rt.alloc(), &image, call, &opened_again(sequence))?;
-    }
     Ok(())
 }

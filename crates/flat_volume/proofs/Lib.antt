@@ -1,6 +1,0 @@
-pub mod FlatLemmas
-pub mod LeafLemmas
-pub mod OpenLemmas
-pub mod ReadLemmas
-pub mod TableLemmas
-pub mod VolumeLemmas

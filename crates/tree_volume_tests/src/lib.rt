@@ -1,0 +1,11 @@
+//! A volume on boards in memory: formatting, commits of one leaf and of twenty, each call of a commit stopped and failed,
+//! a header of sequence 0, and older images.
+#![tactic(auto)]
+
+pub mod filling;
+#[cfg(test)]
+mod steps;
+#[cfg(test)]
+mod stops;
+#[cfg(test)]
+mod volumes;
