@@ -1,2 +1,4 @@
 pub mod Counts
+pub mod Entries
+pub mod Groups
 pub mod Together

@@ -1,5 +1,5 @@
 -- Handles on one persistent object, and when they conflict (TEE Internal Core API 1.3, section 5.7.3).
-use Rattle.std.specs.Prelude.{ℕ, ◌≡◌, ◌+◌, ◌==◌, nat_lt, Bool, true, not, ◌&&◌, ◌||◌, List, ◌∷◌, Option, None, Some, if◌then◌else◌, map, filter, length, position, remove, count_by, bit_and}
+use Rattle.std.specs.Prelude.{ℕ, ◌≡◌, ◌+◌, ◌==◌, nat_lt, Bool, true, not, ◌&&◌, ◌||◌, List, ◌∷◌, if◌then◌else◌, map, filter, length, count_by, bit_and}
 use Rattle.std.specs.List.{list_any, list_all}
 use Rattle.std.specs.Str.{bytes_eq}
 use Rattle.tee_base.specs.declared.codes.Flags.{Flags}
@@ -79,14 +79,3 @@ is_noted shares id flags = list_any (is_share id flags) shares
 -- the new shares are the old ones and one more: each test passes on as many. What order they are in makes no difference
 abbrev pub Gains : List Share → Share → List Share → Type 0
 Gains old share new = (test : Share → Bool) → count_by test new ≡ count_by test old + (if test share then 1 else 0)
-
--- ---- a list of shares
-
--- without the element at a place
-abbrev pub without : {X : Type 0} → List X → Option ℕ → List X
-without xs None = xs
-without xs (Some place) = remove xs place
-
--- without the first such handle
-abbrev pub released : List Share → List ℕ → Flags → List Share
-released shares id flags = without shares (position (is_share id flags) shares)

@@ -1,10 +1,9 @@
 //! The handles that are noted, by the identifiers of their objects.
 
-ghost use Rattle.std.specs.Prelude.{◌≡◌, position};
-ghost use Rattle.share_rules.specs.Sharing.{is_share, released};
-
+use crate::group::Group;
 use crate::uses::Uses;
 use std::alloc::Global;
+use std::collections::BTreeMap;
 use std::marker::Model;
 use tee_base::{Bytes, Flags, NoMemory};
 
@@ -15,39 +14,23 @@ pub struct Share {
     pub flags: Flags,
 }
 
-impl Share {
-    ghost use Rattle.std.specs.Prelude.{◌≡◌};
-    ghost use Rattle.share_rules.specs.Sharing.{is_on, is_share};
-
-    /// Whether the handle is on the object of this identifier.
-    pub fn is_on(&self, id: &[u8]) -> bool
-        ensures { result ≡ is_on id.now self.now }
-    {
-        self.id.as_slice() == id
-    }
-
-    /// Whether it is a handle on this object with these flags.
-    pub fn is(&self, id: &[u8], flags: Flags) -> bool
-        ensures { result ≡ is_share id.now flags self.now }
-    {
-        self.is_on(id) && self.flags.0 == flags.0
-    }
-}
-
 /// The open handles on persistent objects of one application, of all its instances.
 #[derive(Debug, Drop)]
 pub struct ShareIndex {
     alloc: Global,
-    shares: Vec<Share>,
+    groups: BTreeMap<Vec<u8>, Group>,
 }
 
 impl Model for ShareIndex {
     ghost use Rattle.std.specs.Prelude.{List};
     ghost use Rattle.share_rules.specs.declared.index.Share.{Share};
+    ghost use Rattle.share_rules.specs.Groups.{shares_of, AreGrouped};
 
     ghost Value = { List Share };
 
-    ghost view = { λ x. x.shares.items };
+    ghost view = { λ x. shares_of x.groups.entries };
+
+    ghost invariant = { λ x. AreGrouped x.groups.entries };
 }
 
 impl ShareIndex {
@@ -60,7 +43,7 @@ impl ShareIndex {
     {
         ShareIndex {
             alloc,
-            shares: Vec::new(alloc),
+            groups: BTreeMap::new(alloc),
         }
     }
 
@@ -68,12 +51,10 @@ impl ShareIndex {
     pub fn may_open(&self, id: &[u8], flags: Flags) -> bool
         ensures { result ≡ not (conflict self.now id.now flags) }
     {
-        let mut uses = Uses::of(flags);
-        for share in &self.shares {
-            if share.is_on(id) {
-                uses.add(share.flags);
-            }
-        }
+        let uses = match self.groups.get(id) {
+            Some(group) => group.uses_with(flags),
+            None => Uses::of(flags),
+        };
         !uses.conflict()
     }
 
@@ -88,8 +69,12 @@ impl ShareIndex {
         ensures there { OnOk result (IsTrue (is_noted self.new id.now flags)) }
         ensures unchanged { OnErr result (self.new ≡ self.old) }
     {
-        let id = Bytes::from_slice(self.alloc, id)?;
-        self.shares.push(Share { id, flags })?;
+        if let Some(group) = self.groups.get_mut(id) {
+            return group.add(flags);
+        }
+        let id = Vec::from_slice(self.alloc, id)?;
+        let group = Group::of(self.alloc, flags)?;
+        self.groups.insert(id, group)?;
         Ok(())
     }
 
@@ -98,22 +83,11 @@ impl ShareIndex {
         requires { IsTrue (is_noted self.old id.now flags) }
         ensures { Gains self.new (record { id = id.now; flags = flags }) self.old }
     {
-        take_out(&mut self.shares, id, flags);
+        if let Some(group) = self.groups.get_mut(id) {
+            group.take(flags);
+            if group.is_empty() {
+                drop(self.groups.remove(id));
+            }
+        }
     }
-}
-
-/// Takes out the first handle on this object with these flags.
-fn take_out(shares: &mut Vec<Share>, id: &[u8], flags: Flags)
-    ensures { shares.new.items ≡ released shares.old.items id.now flags }
-{
-    if let Some(place) = place_of(shares.as_slice(), id, flags) {
-        drop(shares.remove(place));
-    }
-}
-
-/// The place of the first handle on this object with these flags.
-fn place_of(shares: &[Share], id: &[u8], flags: Flags) -> Option<usize>
-    ensures { result ≡ position (is_share id.now flags) shares.now }
-{
-    shares.iter().position(|share| share.is(id, flags))
 }

@@ -1,14 +1,12 @@
-use Rattle.std.proofs.Common.{ap, sym, ◌∙◌}
-use Rattle.share_rules.specs.Sharing.{with_handle}
-use Rattle.share_rules.proofs.Together.{step_on, step_off}
+use Rattle.std.proofs.Common.{Some, None, ap, ◌∙◌, not}
+use Rattle.share_rules.proofs.Entries.{opened}
 use Rattle.share_rules.proofs.index.ShareIndex.may_open.Goals as goal
-use Rattle.share_rules.proofs.index.ShareIndex.may_open.Goals.{then-is_on, else-is_on}
+use Rattle.share_rules.proofs.index.ShareIndex.may_open.Goals.{in-Some, in-None}
 
-pub loop-share-preserved : goal.loop-share-preserved
-loop-share-preserved c = elim c.if-is_on.branch [
-  | then-is_on w ↦ w.uses-is ∙ w.add.ensures ∙ ap (λ u. with_handle u c.share-item.result.flags) c.loop-share.invariant
-      ∙ step_on c.args.flags c.args.id.now c.args.self.now c.deref-share-items.result.now c.loop-share.share-index c.share-item.result
-      (c.deref-share-items.ensures.value ∙ c.self.view_is) c.loop-share-test.true c.share-item.is (sym c.is_on.ensures ∙ w.if-is_on.true)
-  | else-is_on w ↦ w.uses-is ∙ c.loop-share.invariant ∙ step_off c.args.flags c.args.id.now c.args.self.now c.deref-share-items.result.now c.loop-share.share-index
-      c.share-item.result (c.deref-share-items.ensures.value ∙ c.self.view_is) c.loop-share-test.true c.share-item.is (sym c.is_on.ensures ∙ w.if-is_on.false)
-]
+pub returns : goal.returns
+returns c = ap not c.conflict.ensures ∙ ap not (elim c.match-get.branch [
+  | in-Some w ↦ opened c.args.id.now c.args.flags c.self.inside.groups.entries c.args.self.now c.self.view_is c.self.invariant.sorted (Some w.in-Some.group.now)
+      w.in-Some.ensures.value c.match-get.uses (w.uses-is ∙ w.uses_with-uses.ensures)
+  | in-None w ↦ opened c.args.id.now c.args.flags c.self.inside.groups.entries c.args.self.now c.self.view_is c.self.invariant.sorted None
+      w.in-None.ensures.value c.match-get.uses (w.uses-is ∙ w.of-uses.ensures)
+])
