@@ -14,12 +14,11 @@ ghost use Rattle.epoch.specs.Opening.{no_failure};
 ghost use Rattle.epoch.specs.Past.{KeepsPast};
 ghost use Rattle.epoch.specs.declared.answer.OpenAnswer.TheVariants as refusals;
 ghost use Rattle.epoch.specs.declared.header.Header.{Header as Kept};
+ghost use Rattle.seal.specs.Keys.{AreKeysOf};
 ghost use Rattle.tree_volume.specs.Form.{form_root, tree_form};
 ghost use Rattle.tree_volume.specs.Keeping.{IsOpen, held_now};
 ghost use Rattle.tree_volume.specs.Soundness.{damage_formed, text_formed};
-ghost use Rattle.tree_volume.specs.Opens.{IsBlankNode};
-ghost use Rattle.tree_volume.specs.Soundness.{damage_formed, text_formed};
-ghost use Rattle.tree_volume.specs.Opens.{Opens, root_of};
+ghost use Rattle.tree_volume.specs.Opens.{IsBlankNode, Opens, root_of};
 
 use crate::change::TreeChange;
 use crate::places::{TREE, TREE_BLOCKS};
@@ -42,7 +41,8 @@ pub const NO_ROOT: TreeEntry = TreeEntry {
 };
 
 /// Opens a board; one that is blank is formatted.
-fn open_board<B: Board>(alloc: Global, board: &mut B) -> Result<Opened, OpenAnswer>
+fn open_board<B: Board>(alloc: Global, board: &mut B, keys: &Keys) -> Result<Opened, OpenAnswer>
+    requires keyed { AreKeysOf keys.now (B.view board.old).key }
     ensures calls { CallRun (no_failure result) (B.view board.old) (B.view board.new) }
     ensures cause { result ≡ Err refusals.Failed
         → Rose (B.view board.old).state.faults (B.view board.new).state.faults }
@@ -76,16 +76,18 @@ fn open_board<B: Board>(alloc: Global, board: &mut B) -> Result<Opened, OpenAnsw
         (B.view board.new) }
 {
     let found = mount(board, TREE)?;
-    take_up(alloc, board, found)
+    take_up(alloc, board, keys, found)
 }
 
 /// Takes up the header that was found; where there is none, the board is formatted.
 fn take_up<B: Board>(
     alloc: Global,
     board: &mut B,
+    keys: &Keys,
     found: Option<Header>,
 ) -> Result<Opened, OpenAnswer>
     requires size { TREE_BLOCKS ≤ (B.view board.old).size }
+    requires keyed { AreKeysOf keys.now (B.view board.old).key }
     requires accepted { IsAccepted TREE found }
     ensures calls { CallRun (no_failure result) (B.view board.old) (B.view board.new) }
     ensures cause { result ≡ Err refusals.Failed
@@ -111,7 +113,7 @@ fn take_up<B: Board>(
 {
     match found {
         Some(_) => Ok(opened_at(found)),
-        None => format_board(alloc, board),
+        None => format_board(alloc, board, keys),
     }
 }
 
@@ -128,8 +130,9 @@ fn opened_at(found: Option<Header>) -> Opened
 }
 
 /// Formats a blank board: a commit of no leaf to the sequence 1.
-fn format_board<B: Board>(alloc: Global, board: &mut B) -> Result<Opened, OpenAnswer>
+fn format_board<B: Board>(alloc: Global, board: &mut B, keys: &Keys) -> Result<Opened, OpenAnswer>
     requires size { TREE_BLOCKS ≤ (B.view board.old).size }
+    requires keyed { AreKeysOf keys.now (B.view board.old).key }
     ensures calls { CallRun (no_failure result) (B.view board.old) (B.view board.new) }
     ensures cause { result ≡ Err refusals.Failed
         → Rose (B.view board.old).state.faults (B.view board.new).state.faults }
@@ -149,9 +152,8 @@ fn format_board<B: Board>(alloc: Global, board: &mut B) -> Result<Opened, OpenAn
         → MountsTo tree_form (B.view board.old).key h (B.view board.old).state None
         → Opens h (after_found None h) result (B.view board.old) (B.view board.new) }
 {
-    let keys = Keys::of(&board.key());
     let mut change = TreeChange {
-        keys: &keys,
+        keys,
         root: NO_ROOT,
         touched: blank_node(alloc)?,
         region: 0,
@@ -232,9 +234,11 @@ impl<B: Board + Drop> BoardVolume<B> for TreeVolume<B> {
 
     fn open(alloc: Global, board: B) -> Result<TreeVolume<B>, Unopened<B>> {
         let mut board = board;
-        match open_board(alloc, &mut board) {
+        let keys = Keys::of(&board.key());
+        match open_board(alloc, &mut board, &keys) {
             Ok(Opened { root, sequence }) => Ok(TreeVolume {
                 board,
+                keys,
                 root,
                 sequence,
                 lost: false,

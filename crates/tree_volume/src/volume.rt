@@ -13,7 +13,9 @@ ghost use Rattle.epoch.specs.Past.{KeepsPast};
 ghost use Rattle.epoch.specs.Reading.{no_fault};
 ghost use Rattle.epoch.specs.declared.answer.OpenAnswer.TheVariants.{Rollback};
 ghost use Rattle.epoch.proofs.LeftLemmas.{left_in_use, rests_in_use, since_earlier};
+ghost use Rattle.seal.specs.Keys.{AreKeysOf};
 ghost use Rattle.tree_volume.specs.declared.places.TheConstants.{REGION_LEAVES, TREE_BLOCKS};
+ghost use Rattle.tree_volume.specs.Keyed.{AreKeysOf-prop};
 ghost use Rattle.tree_volume.specs.Form.{form_root, tree_form};
 ghost use Rattle.tree_volume.specs.Frame.{form_framed};
 ghost use Rattle.tree_volume.specs.Keeping.{IsOpen, Replaces, damage_now};
@@ -35,12 +37,15 @@ use tee_base::limits::BLOCK_BYTES;
 #[derive(Drop)]
 pub struct TreeVolume<B: Board> {
     pub(crate) board: B,
+    /// The keys that the board's key gives.
+    pub(crate) keys: Keys,
     pub(crate) root: TreeEntry,
     /// The sequence of the last acknowledged commit, or of the opening.
     pub(crate) sequence: u64,
     pub(crate) lost: bool,
     pub(crate) alloc: Global,
     ghost large: { TREE_BLOCKS ≤ (B.view board).size },
+    ghost keyed: { AreKeysOf keys (B.view board).key } by { AreKeysOf-prop keys (B.view board).key },
 }
 
 /// What an opening finds: the root in use, and its sequence.
@@ -58,11 +63,13 @@ pub(crate) struct Opened {
 fn replace<B: Board>(
     alloc: Global,
     board: &mut B,
+    keys: &Keys,
     opened: Opened,
     region: u8,
     leaves: &Leaves,
 ) -> Result<Opened, LeafAnswer>
     requires size { TREE_BLOCKS ≤ (B.view board.old).size }
+    requires keyed { AreKeysOf keys.now (B.view board.old).key }
     requires region { region < MAX_HOSTS }
     requires inside { is_above_all leaves.now REGION_LEAVES ≡ true }
     requires sequence { opened.sequence + 1 < 2 ^ 64 }
@@ -88,11 +95,10 @@ fn replace<B: Board>(
         → Replaces region leaves.now result opened (B.view board.old) (B.view board.new) }
 {
     let Opened { root, sequence } = opened;
-    let keys = Keys::of(&board.key());
     let mut change = TreeChange {
-        keys: &keys,
+        keys,
         root,
-        touched: gather(alloc, board, &keys, &root, region, leaves.as_slice())?,
+        touched: gather(alloc, board, keys, &root, region, leaves.as_slice())?,
         region,
         leaves: leaves.as_slice(),
     };
@@ -138,8 +144,7 @@ impl<B: Board + Drop> Volume for TreeVolume<B> {
         if self.lost {
             return Err(LeafAnswer::Lost);
         }
-        let keys = Keys::of(&self.board.key());
-        match find_leaf(&mut self.board, &keys, &self.root, region, leaf, into) {
+        match find_leaf(&mut self.board, &self.keys, &self.root, region, leaf, into) {
             Ok(()) => Ok(()),
             Err(answer) => {
                 self.lost = is_failed(answer);
@@ -180,7 +185,14 @@ impl<B: Board + Drop> Volume for TreeVolume<B> {
             root: self.root,
             sequence: self.sequence,
         };
-        match replace(self.alloc, &mut self.board, opened, region, leaves) {
+        match replace(
+            self.alloc,
+            &mut self.board,
+            &self.keys,
+            opened,
+            region,
+            leaves,
+        ) {
             Ok(Opened { root, sequence }) => {
                 self.root = root;
                 self.sequence = sequence;

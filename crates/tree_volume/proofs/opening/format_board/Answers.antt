@@ -18,25 +18,25 @@ returns-in_err-blank_node-clause-opens g c honest h mounts =
 pub returns-in_err-root-clause-opens : goal.returns-in_err-root-clause-opens
 returns-in_err-root-clause-opens g c honest h mounts =
     let v = g.B.Board.view c.args.board.now in
-    let keyed : AreKeysOf c.of-keys.result (g.B.Board.view c.args.board.now).key = subst (λ (k : List ℕ). AreKeysOf c.of-keys.result k) c.key.ensures c.of-keys.ensures in
+    let keyed : AreKeysOf c.args.keys.now v.key = c.requires.keyed in
     let kept : IfErr c.from_residual-in_err-root.result (λ why. IsKeptFromOpening why) = search rules in
     format_failed v (g.B.Board.view c.commit.new.board) c.from_residual-in_err-root.result h mounts.0 (mounts.1 (form_root NO_ROOT) blank_root).version
     c.from_residual-in_err-root.ensures.0 kept
     (c.in_err-root.ensures.crash honest h (record {
       last = mounts.0;
       mounted = mounts.1 (form_root NO_ROOT) blank_root;
-      fits = blank_fits c.of-keys.result c.in_ok-blank_node.field-0 v.key v.state.reads keyed c.in_ok-blank_node.ensures.node;
+      fits = blank_fits c.args.keys.now c.in_ok-blank_node.field-0 v.key v.state.reads keyed c.in_ok-blank_node.ensures.node;
     }))
 
 pub returns-clause-opens : goal.returns-clause-opens
 returns-clause-opens g c honest h mounts =
     let v = g.B.Board.view c.args.board.now in
-    let keyed : AreKeysOf c.of-keys.result (g.B.Board.view c.args.board.now).key = subst (λ (k : List ℕ). AreKeysOf c.of-keys.result k) c.key.ensures c.of-keys.ensures in
+    let keyed : AreKeysOf c.args.keys.now v.key = c.requires.keyed in
     let mounted = mounts.1 (form_root NO_ROOT) blank_root in
-    let begun : IsBegun tree_form (λ key reads. FitsTree c.of-keys.result c.in_ok-blank_node.field-0 0 [] NO_ROOT key reads) v (form_root NO_ROOT) 0 h = record {
+    let begun : IsBegun tree_form (λ key reads. FitsTree c.args.keys.now c.in_ok-blank_node.field-0 0 [] NO_ROOT key reads) v (form_root NO_ROOT) 0 h = record {
       last = mounts.0;
       mounted = mounted;
-      fits = blank_fits c.of-keys.result c.in_ok-blank_node.field-0 v.key v.state.reads keyed c.in_ok-blank_node.ensures.node;
+      fits = blank_fits c.args.keys.now c.in_ok-blank_node.field-0 v.key v.state.reads keyed c.in_ok-blank_node.ensures.node;
     } in
     format_done v (g.B.Board.view c.commit.new.board) c.in_ok-root.root h mounts.0 mounted.version c.in_ok-root.ensures.calls.key (c.in_ok-root.ensures.crash honest h begun)
     (c.in_ok-root.ensures.done honest h begun).0

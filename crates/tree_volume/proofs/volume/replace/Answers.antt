@@ -37,7 +37,7 @@ returns-in_err-gather-clause-damage g c tells =
     let mid = g.B.Board.view c.gather.new.board in
     let e : LeafAnswer = c.in_err-gather.field-0.0 in
     let told = c.in_err-gather.ensures in
-    let keyed : AreKeysOf c.of-keys.result v.key = subst (λ (k : List ℕ). AreKeysOf c.of-keys.result k) c.key.ensures c.of-keys.ensures in
+    let keyed : AreKeysOf c.args.keys.now v.key = c.requires.keyed in
     let is_err : c.from_residual.result ≡ Err c.in_err-gather.field-0.0 = search rules in
     let all : All (λ (leaf : Leaf). leaf.number < 1024) c.as_slice.result.now
     = above_all c.as_slice.result.now 1024 1024 (subst (λ (l : List Leaf). is_above_all l 1024 ≡ true) (sym c.as_slice.ensures.leaves) c.requires.inside) (omega arith) in
@@ -51,7 +51,7 @@ returns-in_err-gather-clause-replaced g c h is =
     let mid = g.B.Board.view c.gather.new.board in
     let e : LeafAnswer = c.in_err-gather.field-0.0 in
     let told = c.in_err-gather.ensures in
-    let keyed : AreKeysOf c.of-keys.result v.key = subst (λ (k : List ℕ). AreKeysOf c.of-keys.result k) c.key.ensures c.of-keys.ensures in
+    let keyed : AreKeysOf c.args.keys.now v.key = c.requires.keyed in
     let is_err : c.from_residual.result ≡ Err c.in_err-gather.field-0.0 = search rules in
     let all : All (λ (leaf : Leaf). leaf.number < 1024) c.as_slice.result.now
     = above_all c.as_slice.result.now 1024 1024 (subst (λ (l : List Leaf). is_above_all l 1024 ≡ true) (sym c.as_slice.ensures.leaves) c.requires.inside) (omega arith) in
@@ -81,7 +81,7 @@ pub returns-in-Ok-clause-made : goal.returns-in-Ok-clause-made
 returns-in-Ok-clause-made g c =
     let v = g.B.Board.view c.args.board.now in
     let told = c.in_ok-gather.ensures in
-    let keyed : AreKeysOf c.of-keys.result v.key = subst (λ (k : List ℕ). AreKeysOf c.of-keys.result k) c.key.ensures c.of-keys.ensures in
+    let keyed : AreKeysOf c.args.keys.now v.key = c.requires.keyed in
     let few : length c.in_ok-gather.field-0 ≤ 2 * length c.as_slice.result.now + 6 = told.count in
     let long : length c.as_slice.result.now ≡ length c.args.leaves.now = ap length c.as_slice.ensures.leaves in
     record {
@@ -104,11 +104,11 @@ returns-in-Ok-clause-replaced g c h is =
     let told = c.in_ok-gather.ensures in
     let read = told.honest h in
     let tells = g.met.B.Board.honest_reads c.args.board.now h in
-    let keyed : AreKeysOf c.of-keys.result v.key = subst (λ (k : List ℕ). AreKeysOf c.of-keys.result k) c.key.ensures c.of-keys.ensures in
+    let keyed : AreKeysOf c.args.keys.now v.key = c.requires.keyed in
     let touched : List Node = c.in_ok-gather.field-0 in
     let leaves : List Leaf = c.as_slice-2.result.now in
-    let fits : FitsTree c.of-keys.result touched c.args.region leaves root mid.key mid.state.reads = record {
-      keyed = subst (λ (k : List ℕ). AreKeysOf c.of-keys.result k) (sym told.calls.key) keyed;
+    let fits : FitsTree c.args.keys.now touched c.args.region leaves root mid.key mid.state.reads = record {
+      keyed = subst (λ (k : List ℕ). AreKeysOf c.args.keys.now k) (sym told.calls.key) keyed;
       ordered = told.ordered;
       here = λ l below. told.leaves l below ∙ ap (λ (ls : List Leaf). named ls l) (c.as_slice.ensures.leaves ∙ sym c.as_slice-2.ensures.leaves);
       elsewhere = told.elsewhere;
@@ -116,7 +116,7 @@ returns-in-Ok-clause-replaced g c h is =
     } in
     let is' : IsOpen mid root sequence = in_use_same tree_form form_framed v mid (form_root root) sequence told.calls.key read.1.state is in
     let before : Held = held_now mid root sequence in
-    let begins : IsBegun tree_form (λ key reads. FitsTree c.of-keys.result touched c.args.region leaves root key reads) mid (form_root root) sequence before
+    let begins : IsBegun tree_form (λ key reads. FitsTree c.args.keys.now touched c.args.region leaves root key reads) mid (form_root root) sequence before
     = record { last = refl; mounted = is'; fits = fits } in
     let after : Held = after_commit c.args.region leaves before in
     let held = held_same tree_form form_framed v mid (form_root root) sequence told.calls.key read.1.state.reads in
@@ -142,11 +142,11 @@ returns-clause-replaced g c h is =
     let told = c.in_ok-gather.ensures in
     let read = told.honest h in
     let tells = g.met.B.Board.honest_reads c.args.board.now h in
-    let keyed : AreKeysOf c.of-keys.result v.key = subst (λ (k : List ℕ). AreKeysOf c.of-keys.result k) c.key.ensures c.of-keys.ensures in
+    let keyed : AreKeysOf c.args.keys.now v.key = c.requires.keyed in
     let touched : List Node = c.in_ok-gather.field-0 in
     let leaves : List Leaf = c.as_slice-2.result.now in
-    let fits : FitsTree c.of-keys.result touched c.args.region leaves root mid.key mid.state.reads = record {
-      keyed = subst (λ (k : List ℕ). AreKeysOf c.of-keys.result k) (sym told.calls.key) keyed;
+    let fits : FitsTree c.args.keys.now touched c.args.region leaves root mid.key mid.state.reads = record {
+      keyed = subst (λ (k : List ℕ). AreKeysOf c.args.keys.now k) (sym told.calls.key) keyed;
       ordered = told.ordered;
       here = λ l below. told.leaves l below ∙ ap (λ (ls : List Leaf). named ls l) (c.as_slice.ensures.leaves ∙ sym c.as_slice-2.ensures.leaves);
       elsewhere = told.elsewhere;
@@ -154,7 +154,7 @@ returns-clause-replaced g c h is =
     } in
     let is' : IsOpen mid root sequence = in_use_same tree_form form_framed v mid (form_root root) sequence told.calls.key read.1.state is in
     let before : Held = held_now mid root sequence in
-    let begins : IsBegun tree_form (λ key reads. FitsTree c.of-keys.result touched c.args.region leaves root key reads) mid (form_root root) sequence before
+    let begins : IsBegun tree_form (λ key reads. FitsTree c.args.keys.now touched c.args.region leaves root key reads) mid (form_root root) sequence before
     = record { last = refl; mounted = is'; fits = fits } in
     let after : Held = after_commit c.args.region leaves before in
     let held = held_same tree_form form_framed v mid (form_root root) sequence told.calls.key read.1.state.reads in

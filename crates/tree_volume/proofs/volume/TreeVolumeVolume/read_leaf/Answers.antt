@@ -18,7 +18,7 @@ returns-in-Ok-clause-reads g c =
     let v = g.B.Board.view old.board in
     let w = g.B.Board.view c.find_leaf.new.board in
     let told = c.in-Ok.ensures in
-    let keyed : AreKeysOf c.of-keys.result v.key = subst (λ (k : List ℕ). AreKeysOf c.of-keys.result k) c.key.ensures c.of-keys.ensures in
+    let keyed : AreKeysOf old.keys v.key = old.keyed in
     let small : c.args.leaf < 1024 = c.requires.leaf in
     record {
       leaf = λ tells. told.text tells v.key keyed ∙ text_is v old.root c.args.region c.args.leaf c.requires.region small;
@@ -53,7 +53,7 @@ returns-in-Err-clause-reads g c =
     let v = g.B.Board.view old.board in
     let w = g.B.Board.view c.find_leaf.new.board in
     let told = c.in-Err.ensures in
-    let keyed : AreKeysOf c.of-keys.result v.key = subst (λ (k : List ℕ). AreKeysOf c.of-keys.result k) c.key.ensures c.of-keys.ensures in
+    let keyed : AreKeysOf old.keys v.key = old.keyed in
     let small : c.args.leaf < 1024 = c.requires.leaf in
     let damage = damage_is v old.root c.args.region c.args.leaf c.requires.region small in
     record {
