@@ -3,6 +3,7 @@ pub mod CountLemmas
 pub mod EntryLemmas
 pub mod GatherLemmas
 pub mod IdentifyLemmas
+pub mod KeptLemmas
 pub mod OpenLemmas
 pub mod ReadLemmas
 pub mod SealedLemmas

@@ -9,13 +9,14 @@ use Rattle.tee_base.proofs.Crash.{joined, weaker}
 use Rattle.store_api.specs.Volumes.{Held, leaf_after, replaced}
 use Rattle.board.specs.Moment.{Moment, View, left_since, moment}
 use Rattle.board.specs.Steps.{SameBlocks}
+use Rattle.board.specs.Runs.{Rests}
 use Rattle.board.proofs.Runs.{starts}
 use Rattle.epoch.specs.Commits.{BeforeOrAfter, IsMounted, next_held}
 use Rattle.epoch.specs.Finding.{sequence_of}
 use Rattle.epoch.specs.Formats.{IsAccepted, accepts}
-use Rattle.epoch.specs.Forms.{IsBlankRoot, Root, held_of, root_of as root_of_header}
+use Rattle.epoch.specs.Forms.{Form, IsBlankRoot, Root, held, held_of, root_of as root_of_header}
 use Rattle.epoch.specs.Mounting.{MountsTo, after_found, after_opening}
-use Rattle.epoch.specs.Mounts.{IsAdmitted, IsKeptFromOpening, IsRefusal, IsRuledBy, TakesUp}
+use Rattle.epoch.specs.Mounts.{IsAdmitted, IsKeptFromOpening, IsRefusal, IsRuledBy, LeavesOpening, LeftByOpening, TakesUp}
 use Rattle.epoch.specs.declared.answer.OpenAnswer.{OpenAnswer}
 use Rattle.epoch.specs.declared.answer.OpenAnswer.TheVariants.{Failed, NoMemory}
 use Rattle.epoch.specs.declared.header.Header.{Header}
@@ -220,3 +221,14 @@ blocks_more first mid last one two = record {
 -- before the first of them
 pub blocks_none : (m : Moment) → SameBlocks m m
 blocks_none m = record { reads = refl; durable = refl; pending = refl }
+
+-- a board at rest leaves what it holds
+pub leaves_resting : (f : Form) (view : View) (n : ℕ) (h : Held) → Rests n view.state → held f view.key view.state.reads n ≡ Some h → LeavesOpening f h view view
+leaves_resting f view n h rests is =
+    starts view (LeftByOpening f h view)
+    (λ c left. inl (
+    let image : (k : ℕ) → c.image k ≡ view.state.reads k = λ k. left.kept k (rests.pending k) ∙ sym (rests.as_read k) in
+    let whole : c.image ≡ view.state.reads = λ i k. image k i in
+    let counter : c.counter ≡ n = omega (arith, left.counter.least, left.counter.greatest, rests.counter, rests.slack) in
+    ap (held f view.key c.image) counter ∙ ap (λ (g : ℕ → List ℕ). held f view.key g n) whole ∙ is
+    ))

@@ -5,6 +5,7 @@ pub mod Gather
 pub mod Identify
 pub mod Keepers
 pub mod Keeping
+pub mod Kept
 pub mod Keyed
 pub mod Laws
 pub mod Made

@@ -14,6 +14,7 @@ ghost use Rattle.epoch.specs.Opening.{no_failure};
 ghost use Rattle.epoch.specs.Past.{KeepsPast};
 ghost use Rattle.epoch.specs.declared.answer.OpenAnswer.TheVariants as refusals;
 ghost use Rattle.epoch.specs.declared.header.Header.{Header as Kept};
+ghost use Rattle.node_cache.specs.Kept.{HoldsNothing};
 ghost use Rattle.seal.specs.Keys.{AreKeysOf};
 ghost use Rattle.tree_volume.specs.Form.{form_root, tree_form};
 ghost use Rattle.tree_volume.specs.Keeping.{IsOpen, held_now};
@@ -21,6 +22,7 @@ ghost use Rattle.tree_volume.specs.Soundness.{damage_formed, text_formed};
 ghost use Rattle.tree_volume.specs.Opens.{IsBlankNode, Opens, root_of};
 
 use crate::change::TreeChange;
+use crate::nodes::Nodes;
 use crate::places::{TREE, TREE_BLOCKS};
 use crate::touched::{Node, Touched};
 use crate::volume::{Opened, TreeVolume};
@@ -184,7 +186,8 @@ impl<B: Board + Drop> TreeVolume<B> {
     /// Takes up what was found on the board of a lost volume, and gives the sequence. Where no header counts, the volume is
     /// empty, at the sequence 0, and nothing is written.
     fn resume(&mut self, found: Option<Header>) -> u64
-        requires { IsAccepted TREE found }
+        requires accepted { IsAccepted TREE found }
+        requires nothing { HoldsNothing self.old.nodes.kept }
         ensures board { self.new.board ≡ self.old.board }
         ensures works { self.new.lost ≡ false }
         ensures sequence { self.new.sequence ≡ result }
@@ -234,11 +237,18 @@ impl<B: Board + Drop> BoardVolume<B> for TreeVolume<B> {
 
     fn open(alloc: Global, board: B) -> Result<TreeVolume<B>, Unopened<B>> {
         let mut board = board;
+        let Ok(nodes) = Nodes::new(alloc) else {
+            return Err(Unopened {
+                board,
+                why: OpenAnswer::NoMemory,
+            });
+        };
         let keys = Keys::of(&board.key());
         match open_board(alloc, &mut board, &keys) {
             Ok(Opened { root, sequence }) => Ok(TreeVolume {
                 board,
                 keys,
+                nodes,
                 root,
                 sequence,
                 lost: false,
@@ -250,17 +260,20 @@ impl<B: Board + Drop> BoardVolume<B> for TreeVolume<B> {
 
     fn reopen(&mut self) -> Result<u64, OpenAnswer> {
         self.lost = true;
+        self.nodes.clear();
         let found = mount_again(&mut self.board, TREE)?;
         Ok(self.resume(found))
     }
 
     fn power(&mut self, pick: u64) -> Result<u64, OpenAnswer> {
         self.lost = true;
+        self.nodes.clear();
         let found = mount_after_power(&mut self.board, pick, TREE)?;
         Ok(self.resume(found))
     }
 
     fn fuse(&mut self, calls: u32) {
+        self.nodes.clear();
         self.board.fuse(calls);
     }
 

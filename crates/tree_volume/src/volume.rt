@@ -1,6 +1,7 @@
 //! A volume whose entries stand in a tree, on a board.
 ghost use Rattle.std.specs.Prelude.{◌≡◌, ◌≢◌, ◌≤◌, ◌<◌, ◌+◌, ◌-◌, ◌*◌, ◌^◌, true, false, ◌∷◌, ℕ, List, Some, Err, IsTrue, IfOk, OnErr, length, refl};
 ghost use Rattle.std.proofs.Common.{arith};
+ghost use Rattle.std.proofs.Props.{props};
 ghost use Rattle.tee_base.specs.Faults.{Rose};
 ghost use Rattle.tee_base.specs.declared.limits.TheConstants.{MAX_HOSTS};
 ghost use Rattle.store_api.specs.Volumes.{CommitsLeaves, IfMismatch, ReadsLeaf};
@@ -18,6 +19,9 @@ ghost use Rattle.tree_volume.specs.declared.places.TheConstants.{REGION_LEAVES, 
 ghost use Rattle.tree_volume.specs.Keyed.{AreKeysOf-prop};
 ghost use Rattle.tree_volume.specs.Form.{form_root, tree_form};
 ghost use Rattle.tree_volume.specs.Frame.{form_framed};
+ghost use Rattle.tree_volume.specs.Kept.{AreKept};
+ghost use Rattle.tree_volume.specs.Shape.{shape};
+ghost use Rattle.tree_volume.specs.Tree.{on_image};
 ghost use Rattle.tree_volume.specs.Keeping.{IsOpen, Replaces, damage_now};
 ghost use Rattle.tree_volume.specs.Made.{IsMade};
 ghost use Rattle.tree_volume.specs.Soundness.{sound_open};
@@ -25,6 +29,7 @@ ghost use Rattle.tree_volume.specs.Soundness.{sound_open};
 use crate::change::TreeChange;
 use crate::gathering::gather;
 use crate::load_place::find_leaf;
+use crate::nodes::Nodes;
 use crate::places::TREE_BLOCKS;
 use board::Board;
 use epoch::{TreeEntry, commit, exhaust, is_failed};
@@ -39,6 +44,8 @@ pub struct TreeVolume<B: Board> {
     pub(crate) board: B,
     /// The keys that the board's key gives.
     pub(crate) keys: Keys,
+    /// Nodes that reads came by since the root or the board last changed.
+    pub(crate) nodes: Nodes,
     pub(crate) root: TreeEntry,
     /// The sequence of the last acknowledged commit, or of the opening.
     pub(crate) sequence: u64,
@@ -46,6 +53,8 @@ pub struct TreeVolume<B: Board> {
     pub(crate) alloc: Global,
     ghost large: { TREE_BLOCKS ≤ (B.view board).size },
     ghost keyed: { AreKeysOf keys (B.view board).key } by { AreKeysOf-prop keys (B.view board).key },
+    ghost cached: { IsTrue B.tells_reads → AreKept shape
+        (on_image shape (B.view board).key (B.view board).state.reads) root nodes.kept } by { Prim.hlevel props },
 }
 
 /// What an opening finds: the root in use, and its sequence.
@@ -144,7 +153,15 @@ impl<B: Board + Drop> Volume for TreeVolume<B> {
         if self.lost {
             return Err(LeafAnswer::Lost);
         }
-        match find_leaf(&mut self.board, &self.keys, &self.root, region, leaf, into) {
+        match find_leaf(
+            &mut self.board,
+            &self.keys,
+            &mut self.nodes,
+            &self.root,
+            region,
+            leaf,
+            into,
+        ) {
             Ok(()) => Ok(()),
             Err(answer) => {
                 self.lost = is_failed(answer);
@@ -176,6 +193,7 @@ impl<B: Board + Drop> Volume for TreeVolume<B> {
         if self.lost {
             return Err(LeafAnswer::Lost);
         }
+        self.nodes.clear();
         if self.sequence == u64::MAX {
             let answer = exhaust(&mut self.board);
             self.lost = is_failed(answer);

@@ -1,19 +1,22 @@
-use Rattle.std.proofs.Common.{inl, sym, subst}
+use Rattle.std.proofs.Common.{inl, inr, refl, sym, subst, arith}
 use Rattle.epoch.specs.Mounting.{after_opening}
 use Rattle.epoch.specs.Mounts.{IsOpenedTo}
+use Rattle.epoch.proofs.CallLemmas.{run_none}
 use Rattle.epoch.proofs.KeepLemmas.{steady_in_use}
 use Rattle.epoch.proofs.MountLemmas.{leaves_opening, opened_to}
+use Rattle.epoch.proofs.PastLemmas.{itself}
 use Rattle.tree_volume.specs.Form.{tree_form}
 use Rattle.tree_volume.specs.Frame.{form_framed, tree_single}
+use Rattle.tree_volume.proofs.OpenLemmas.{blocks_none, leaves_resting}
 use Rattle.tree_volume.proofs.opening.TreeVolumeBoardVolume.open.Goals as goal
 
-pub returns-in-Ok-clause-opened : goal.returns-in-Ok-clause-opened
-returns-in-Ok-clause-opened g c honest n h rests large is =
+pub returns-in-Ok-open_board-clause-opened : goal.returns-in-Ok-open_board-clause-opened
+returns-in-Ok-open_board-clause-opened g c honest n h rests large is =
     let v = g.B.Board.view c.args.board in
     let w = g.B.Board.view c.open_board.new.board in
-    let opens = c.in-Ok.ensures.opens honest n h rests large is in
+    let opens = c.in-Ok-open_board.ensures.opens honest n h rests large is in
     let makes = opened_to tree_form tree_single v n h rests is in (
-      (c.in-Ok.ensures.honest honest, λ live. opens.opened.0, steady_in_use tree_form form_framed w _ _ opens.opened.0),
+      (c.in-Ok-open_board.ensures.honest honest, λ live. opens.opened.0, steady_in_use tree_form form_framed w _ _ opens.opened.0),
       subst (IsOpenedTo tree_form v h) (sym opens.opened.1) makes,
       leaves_opening tree_form v w h (after_opening tree_form v h) makes opens.leaves,
     )
@@ -26,5 +29,25 @@ returns-in-Err-clause-unopened g c honest n h rests large is =
       leaves_opening tree_form v (g.B.Board.view c.open_board.new.board) h (after_opening tree_form v h) (opened_to tree_form tree_single v n h rests is) opens.leaves,
     )
 
-pub returns-in-Ok-clause-bare : goal.returns-in-Ok-clause-bare
-returns-in-Ok-clause-bare g c = inl (λ image. tt)
+pub returns-in-Ok-open_board-clause-bare : goal.returns-in-Ok-open_board-clause-bare
+returns-in-Ok-open_board-clause-bare g c = inl (λ image. tt)
+
+pub returns-in_default-clause-back : goal.returns-in_default-clause-back
+returns-in_default-clause-back g c = run_none _
+
+pub returns-in_default-clause-past_back : goal.returns-in_default-clause-past_back
+returns-in_default-clause-past_back g c honest = itself _
+
+pub returns-in_default-clause-unchanged : goal.returns-in_default-clause-unchanged
+returns-in_default-clause-unchanged g c honest = (λ other. blocks_none _)
+
+pub returns-in_default-clause-rule : goal.returns-in_default-clause-rule
+returns-in_default-clause-rule g c tells = (0, tt, tt)
+
+pub returns-in_default-clause-exact : goal.returns-in_default-clause-exact
+returns-in_default-clause-exact g c honest =
+    let v = g.B.Board.view c.args.board in
+    (v.state.counter, record { least = omega arith; greatest = omega arith; fits = (g.met.B.Board.consistent c.args.board honest).counter }, tt, tt)
+
+pub returns-in_default-clause-unopened : goal.returns-in_default-clause-unopened
+returns-in_default-clause-unopened g c honest n h rests large is = (inr refl, leaves_resting tree_form (g.B.Board.view c.args.board) n h rests is)

@@ -4,7 +4,7 @@ use Rattle.tree_volume.proofs.volume.TreeVolume.resume.Goals as goal
 pub returns-clause-opened : goal.returns-clause-opened
 returns-clause-opened g c h mounts =
     open_found (g.B.Board.view c.args.self.now.board) c.opened_at-sequence.result c.args.found h c.opened_at-sequence.ensures.root c.opened_at-sequence.ensures.sequence
-    c.requires mounts
+    c.requires.accepted mounts
 
 pub returns-clause-found : goal.returns-clause-found
-returns-clause-found g c = taken_up c.args.found c.opened_at-sequence.result c.requires c.opened_at-sequence.ensures.root c.opened_at-sequence.ensures.sequence
+returns-clause-found g c = taken_up c.args.found c.opened_at-sequence.result c.requires.accepted c.opened_at-sequence.ensures.root c.opened_at-sequence.ensures.sequence

@@ -6,11 +6,15 @@ use Rattle.board.specs.Moment.{moment, left_since}
 use Rattle.epoch.proofs.KeepLemmas.{err_cause, exhausts_at, foundation_same, if_unwritten, left_before, no_mismatch, not_lost, past_read, still_failed, still_tags, unless_failed}
 use Rattle.epoch.proofs.MountLemmas.{mounted_refuses}
 use Rattle.epoch.specs.Forms.{held_of}
+use Rattle.seal.specs.Keys.{AreKeysOf}
 use Rattle.tree_volume.specs.Form.{form_root, tree_form}
 use Rattle.tree_volume.specs.Frame.{form_framed}
 use Rattle.tree_volume.specs.Keeping.{IsOpen, held_now}
 use Rattle.tree_volume.specs.Made.{IsMade}
+use Rattle.tree_volume.specs.Shape.{shape}
+use Rattle.tree_volume.specs.Tree.{on_image}
 use Rattle.tree_volume.specs.declared.volume.Opened.{Opened}
+use Rattle.tree_volume.proofs.KeptLemmas.{nothing_kept}
 use Rattle.tree_volume.proofs.VolumeLemmas.{still_open}
 use Rattle.tree_volume.proofs.volume.TreeVolumeVolume.commit.Goals as goal
 
@@ -50,6 +54,15 @@ returns-in-Err-clause-commits g c =
           (λ o. ap (λ (k : List ℕ). held_of tree_form k o) told.calls.key)
           (subst (λ (k : List ℕ). LeavesOnly moment left_since v w (λ o. LeftByCommit (Err e) before after (held_of tree_form k o))) (sym told.calls.key)
           (told.replaced h.0 (h.1 live)).crash);
+    }
+
+pub invariant_of-self-in-Ok : goal.invariant_of-self-in-Ok
+invariant_of-self-in-Ok g c =
+    let w = g.B.Board.view c.replace.new.board in
+    record {
+      large = omega (arith, c.in-Ok.ensures.calls.size, c.args.self.now.large);
+      keyed = subst (AreKeysOf c.args.self.now.keys) (sym c.in-Ok.ensures.calls.key) c.args.self.now.keyed;
+      cached = λ tells. nothing_kept shape (on_image shape w.key w.state.reads) c.in-Ok.field-0.root c.clear.new.self.kept c.clear.ensures;
     }
 
 pub returns-in-Err-clause-writes : goal.returns-in-Err-clause-writes

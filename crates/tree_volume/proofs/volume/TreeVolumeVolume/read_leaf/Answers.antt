@@ -21,12 +21,12 @@ returns-in-Ok-clause-reads g c =
     let keyed : AreKeysOf old.keys v.key = old.keyed in
     let small : c.args.leaf < 1024 = c.requires.leaf in
     record {
-      leaf = λ tells. told.text tells v.key keyed ∙ text_is v old.root c.args.region c.args.leaf c.requires.region small;
+      leaf = λ tells. told.text tells v.key keyed (old.cached tells) ∙ text_is v old.root c.args.region c.args.leaf c.requires.region small;
       text = λ tells. text_same v w old.root told.calls.key (told.same tells);
       same = λ h. held_same tree_form form_framed v w (form_root old.root) old.sequence told.calls.key (told.honest h.0).1.state.reads;
       sequence = refl;
       writes = told.writes;
-      shows = λ tells. sym (damage_is v old.root c.args.region c.args.leaf c.requires.region small) ∙ told.damage tells v.key keyed;
+      shows = λ tells. sym (damage_is v old.root c.args.region c.args.leaf c.requires.region small) ∙ told.damage tells v.key keyed (old.cached tells);
       damage = λ tells. damage_same v w old.root told.calls.key (told.same tells);
       call = record {
         cause = record { cause = (c.if-self.false, c.if-self.false); later = told.calls.faults; unfailed = told.calls.steady refl; foundation = foundation_same v w told.calls };
@@ -62,7 +62,7 @@ returns-in-Err-clause-reads g c =
       same = λ h. held_same tree_form form_framed v w (form_root old.root) old.sequence told.calls.key (told.honest h.0).1.state.reads;
       sequence = refl;
       writes = told.writes;
-      shows = λ tells. subst (ShowsLeaf {A = Unit {0}} (Err c.in-Err.answer)) damage (told.damage tells v.key keyed);
+      shows = λ tells. subst (ShowsLeaf {A = Unit {0}} (Err c.in-Err.answer)) damage (told.damage tells v.key keyed (old.cached tells));
       damage = λ tells. damage_same v w old.root told.calls.key (told.same tells);
       call = record {
         cause = record {
@@ -80,7 +80,7 @@ returns-in-Err-clause-reads g c =
                 λ live. in_use_same tree_form form_framed v w (form_root old.root) old.sequence told.calls.key (told.honest h.0).1.state is,
                 steady_read tree_form form_framed v w (form_root old.root) told.calls.key (told.honest h.0).1.state h.2,
               ),
-              err_undamaged (Unit {0}) (Unit {0}) c.in-Err.answer _ (told.damage tells v.key keyed) (damage ∙ sound_open v old.root old.sequence is c.args.region c.args.leaf),
+              err_undamaged (Unit {0}) (Unit {0}) c.in-Err.answer _ (told.damage tells v.key keyed (old.cached tells)) (damage ∙ sound_open v old.root old.sequence is c.args.region c.args.leaf),
             );
         quiet = λ lost. absurd (let f : true ≡ false = sym lost ∙ c.if-self.false in cc);
         past = λ h. past_read tree_form v w told.calls.key (told.honest h.0).1.past;
