@@ -1,5 +1,6 @@
 -- The entries of the map, seen as the handles that are noted.
-use Rattle.std.proofs.Common.{◌≡◌, ◌+◌, ◌||◌, ◌==◌, ℕ, refl, Bool, true, false, cond, List, Option, None, Some, [], ◌∷◌, ◌++◌, map, filter, count_by, sum_by, unwrap_or, IsTrue, ap, sym, ◌∙◌, ⊎_elim, arith, rules, subst, not, Result, Ok, Err, OnOk, OnErr}
+use Rattle.std.proofs.Common.{◌≡◌, ◌+◌, ◌||◌, ◌==◌, ℕ, refl, Bool, true, false, cond, List, Option, None, Some, [], ◌∷◌, ◌++◌, map}
+use Rattle.std.proofs.Common.{filter, count_by, sum_by, unwrap_or, IsTrue, ap, sym, ◌∙◌, ⊎_elim, arith, rules, subst, not, Result, Ok, Err, OnOk, OnErr}
 use Rattle.std.specs.List.{list_any, AllByRecursion}
 use Rattle.std.specs.List.Sorted.{IsStrictlySortedBy}
 use Rattle.std.specs.Option.{is_some}
@@ -316,7 +317,8 @@ noted_insert id flags es new seen key w view is same single absent =
     subst (λ xs. Gains xs (share id flags) (shares_of new)) view
     (subst (λ fs. Gains (shares_of es) (share id flags) (shares_of fs)) (sym is) (insert_gains id flags es key w same single (sym absent)))
 
-pub grouped_insert : (es new : Entries) (key : Vec ℕ) (w : List Flags) (flags : Flags) → new ≡ insert_entry id_cmp es key w → w ≡ flags ∷ [] → IsStrictlySortedBy id_cmp (keys_of new) → AllHeld es → AreGrouped new
+pub grouped_insert : (es new : Entries) (key : Vec ℕ) (w : List Flags) (flags : Flags) → new ≡ insert_entry id_cmp es key w → w ≡ flags ∷ [] →
+    IsStrictlySortedBy id_cmp (keys_of new) → AllHeld es → AreGrouped new
 grouped_insert es new key w flags is single sorted held =
     record { sorted = sorted; held = subst AllHeld (sym is) (held_insert es key w (subst (λ fs. IsTrue (has_some fs)) (sym single) refl) held) }
 
@@ -332,7 +334,8 @@ released_last id flags es mid new seen v w view is gone stood gains none =
     subst (λ xs. Gains (shares_of new) (share id flags) xs) view
     (subst (λ fs. Gains (shares_of fs) (share id flags) (shares_of es)) (sym (gone ∙ ap (remove_entry (at id)) is)) (removed_takes id flags es v w (sym stood) gains none))
 
-pub grouped_last : (id : List ℕ) (es mid new : Entries) (w : List Flags) → mid ≡ set_value (at id) es w → new ≡ remove_entry (at id) mid → IsStrictlySortedBy id_cmp (keys_of new) → AllHeld es → AreGrouped new
+pub grouped_last : (id : List ℕ) (es mid new : Entries) (w : List Flags) → mid ≡ set_value (at id) es w → new ≡ remove_entry (at id) mid →
+    IsStrictlySortedBy id_cmp (keys_of new) → AllHeld es → AreGrouped new
 grouped_last id es mid new w is gone sorted held =
     record { sorted = sorted; held = subst AllHeld (sym (gone ∙ ap (remove_entry (at id)) is ∙ removed_set id es w)) (held_removed id es held) }
 

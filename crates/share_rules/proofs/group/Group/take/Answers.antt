@@ -23,5 +23,6 @@ returns-else-count-gt1 c =
     let found = sym (c.in-Some.ensures ∙ ap (position (is_of c.args.flags)) c.as_slice.ensures.value) in
     let inside = (position-Some (is_of c.args.flags) c.self.inside.counts.items c.in-Some.place c.index-count.result.now found).0 in
     takes_out c.self.inside.counts.items c.args.flags c.args.self.now c.self.view_is c.in-Some.place c.index-count.result.now found c.index-count.ensures c.remove-last.new.self.items
-    (subst (λ (d : Count). 1 ≤ d.handles) (sym c.index-count.ensures) (All-get_or (λ (d : Count). 1 ≤ d.handles) c.self.inside.counts.items c.in-Some.place c.index-count.result.now inside c.self.invariant))
+    (subst (λ (d : Count). 1 ≤ d.handles) (sym c.index-count.ensures)
+    (All-get_or (λ (d : Count). 1 ≤ d.handles) c.self.inside.counts.items c.in-Some.place c.index-count.result.now inside c.self.invariant))
     (omega (arith, c.if-count-gt1.false)) c.remove-last.ensures.items

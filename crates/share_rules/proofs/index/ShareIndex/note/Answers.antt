@@ -1,5 +1,7 @@
+use Rattle.std.proofs.Common.{◌≡◌}
+use Rattle.std.specs.BTreeMap.{insert_entry}
 use Rattle.share_rules.proofs.Counts.{gained_noted}
-use Rattle.share_rules.proofs.Entries.{on_ok, on_err, some_after, grouped_set, noted_set, kept_set, noted_insert, grouped_insert, inserted_in}
+use Rattle.share_rules.proofs.Entries.{on_ok, on_err, some_after, grouped_set, noted_set, kept_set, noted_insert, grouped_insert, id_cmp, inserted_in}
 use Rattle.share_rules.specs.Groups.{shares_of}
 use Rattle.share_rules.proofs.index.ShareIndex.note.Goals as goal
 
@@ -30,18 +32,22 @@ returns-in-Some-clause-unchanged c = on_err c.add.result _ _
     (c.get_mut.follows.holds c.add.new.self).0 c.in-Some.ensures.value)
     c.add.ensures.unchanged
 
+inserted : (c : goal.Joined-branch-4) → c.insert.new.self.entries ≡ insert_entry id_cmp c.self.inside.groups.entries c.in_ok-id.id c.in_ok-group.group
+inserted c = inserted_in c.self.inside.groups c.get_mut.follows.lender-at-none c.insert.new.self.entries c.in_ok-id.id c.in_ok-group.group c.get_mut.follows.holds-at-none
+    c.in_ok-insert.ensures.entries
+
 pub invariant_of-self-2 : goal.invariant_of-self-2
 invariant_of-self-2 c = grouped_insert c.self.inside.groups.entries c.insert.new.self.entries c.in_ok-id.id c.in_ok-group.group c.args.flags
-    (inserted_in c.self.inside.groups c.get_mut.follows.lender-at-none c.insert.new.self.entries c.in_ok-id.id c.in_ok-group.group c.get_mut.follows.holds-at-none c.in_ok-insert.ensures.entries) c.in_ok-group.ensures
+    (inserted c) c.in_ok-group.ensures
     c.insert.ensures.ordered c.self.invariant.held
 
 pub returns-clause-noted : goal.returns-clause-noted
 returns-clause-noted c = noted_insert c.args.id.now c.args.flags c.self.inside.groups.entries c.insert.new.self.entries c.args.self.now c.in_ok-id.id c.in_ok-group.group c.self.view_is
-    (inserted_in c.self.inside.groups c.get_mut.follows.lender-at-none c.insert.new.self.entries c.in_ok-id.id c.in_ok-group.group c.get_mut.follows.holds-at-none c.in_ok-insert.ensures.entries)
+    (inserted c)
     c.in_ok-id.ensures.items c.in_ok-group.ensures c.in_default.ensures.value
 
 pub returns-clause-there : goal.returns-clause-there
 returns-clause-there c = gained_noted c.args.self.now (shares_of c.insert.new.self.entries) c.args.id.now c.args.flags
     (noted_insert c.args.id.now c.args.flags c.self.inside.groups.entries c.insert.new.self.entries c.args.self.now c.in_ok-id.id c.in_ok-group.group c.self.view_is
-    (inserted_in c.self.inside.groups c.get_mut.follows.lender-at-none c.insert.new.self.entries c.in_ok-id.id c.in_ok-group.group c.get_mut.follows.holds-at-none c.in_ok-insert.ensures.entries)
+    (inserted c)
     c.in_ok-id.ensures.items c.in_ok-group.ensures c.in_default.ensures.value)
