@@ -1,14 +1,15 @@
 -- What is kept of the nodes of a tree, and what a read adds to it.
-use Rattle.std.proofs.Common.{◌≡◌, ◌<◌, ◌⊎◌, ◌∙◌, ℕ, suc, List, ◌∷◌, Option, None, Some, refl, sym, ap, subst, ⊎_elim}
+use Rattle.std.proofs.Common.{◌≡◌, ◌<◌, ◌⊎◌, ◌∙◌, ℕ, suc, List, ◌∷◌, None, Some, refl, sym, ap, subst, ⊎_elim}
 use Rattle.node_cache.specs.Kept.{HoldsNothing, kept_at}
 use Rattle.node_cache.specs.declared.cache.Kept.{Kept}
+use Rattle.board.specs.Moment.{View}
 use Rattle.epoch.specs.declared.header.TreeEntry.{TreeEntry}
 use Rattle.tree_volume.specs.declared.way.Passed.{Passed}
 use Rattle.tree_volume.specs.Kept.{AreKept, ArePassed, IsFound, IsFoundUnder}
 use Rattle.tree_volume.specs.Shape.{IsShape, Shape}
 use Rattle.tree_volume.specs.Tree.{Look, damage_above, damage_at, damage_below, damage_of, entry_below, entry_of, on_image, text_of}
 use Rattle.tree_volume.specs.Ways.{above, second_none}
-use Rattle.tree_volume.proofs.ReadLemmas.{damage_split}
+use Rattle.tree_volume.proofs.ReadLemmas.{damage_split, entry_top}
 
 module _ (s : Shape) (look : Look) (root : TreeEntry) where
   -- where nothing is kept, nothing else is
@@ -76,3 +77,24 @@ pub under_read : (s : Shape) → IsShape s → (key : List ℕ) (one two : ℕ �
 under_read s is key one two root pairs level k place up e more parent inside at entry same kept =
     subst (λ (reads : ℕ → List ℕ). IsFoundUnder pairs (on_image s key reads) up e) (sym same)
     (found_under s (on_image s key one) root k up e (level_up s is level k place up more parent inside at) entry pairs kept)
+
+-- what is kept of the root
+pub found_top : (s : Shape) (look : Look) (root : TreeEntry) (pairs : List (ℕ × Kept)) (place : ℕ) → s.level place ≡ 0 → AreKept s look root pairs → IsFoundUnder pairs look place root
+found_top s look root pairs place at kept = found_under s look root 0 place root at (entry_top s look root 0 place refl) pairs kept
+
+module _ (s : Shape) (key : List ℕ) (one two : ℕ → List ℕ) (same : two ≡ one) (root : TreeEntry) (pairs : List (ℕ × Kept)) (kept : AreKept s (on_image s key one) root pairs) where
+  -- what is kept where reads stayed as they were
+  pub kept_as : AreKept s (on_image s key two) root pairs
+  kept_as = subst (λ (reads : ℕ → List ℕ). AreKept s (on_image s key reads) root pairs) (sym same) kept
+
+  -- and what is kept of one place
+  pub under_as : (place : ℕ) (e : TreeEntry) → e ≡ entry_of s (on_image s key one) root place → IsFoundUnder pairs (on_image s key two) place e
+  under_as place e is =
+      subst (λ (reads : ℕ → List ℕ). IsFoundUnder pairs (on_image s key reads) place e) (sym same)
+      (found_under s (on_image s key one) root (s.level place) place e refl is pairs kept)
+
+-- by the key and the reads of another view
+pub kept_now : (s : Shape) (old new : View) (root : TreeEntry) (pairs : List (ℕ × Kept)) → new.key ≡ old.key → new.state.reads ≡ old.state.reads
+    → AreKept s (on_image s old.key old.state.reads) root pairs → AreKept s (on_image s new.key new.state.reads) root pairs
+kept_now s old new root pairs key reads kept =
+    subst (λ (k : List ℕ). AreKept s (on_image s k new.state.reads) root pairs) (sym key) (kept_as s old.key old.state.reads new.state.reads reads root pairs kept)

@@ -1,5 +1,5 @@
 -- What is found at a place on an image, and calls that only read.
-use Rattle.std.proofs.Common.{◌≡◌, ◌≢◌, ◌<◌, ◌==◌, ◌*◌, ◌∙◌, ℕ, zero, suc, true, false, List, Option, None, Some, Result, Ok, Err, OnOk, replicate, refl, sym, ap, subst, arith}
+use Rattle.std.proofs.Common.{◌≡◌, ◌≢◌, ◌<◌, ◌*◌, ◌∙◌, ℕ, zero, suc, List, Option, None, Some, Result, Ok, Err, refl, sym, ap, subst, arith}
 use Rattle.store_api.specs.declared.answer.Mismatch.{Mismatch}
 use Rattle.store_api.specs.declared.leaves.LeafAnswer.{LeafAnswer}
 use Rattle.store_api.specs.declared.leaves.LeafAnswer.TheVariants as answers
@@ -14,7 +14,7 @@ use Rattle.epoch.specs.Header.{entry_at}
 use Rattle.epoch.specs.declared.header.TreeEntry.{TreeEntry}
 use Rattle.epoch.specs.Reading.{OnlyReads}
 use Rattle.tree_volume.specs.Shape.{Shape}
-use Rattle.tree_volume.specs.Tree.{Found, Look, block_at, damage_above, damage_at, damage_below, damage_of, differing, entry_below, first_damage, known, on_image, text_of, unless_zero}
+use Rattle.tree_volume.specs.Tree.{Found, Look, block_at, damage_above, damage_at, damage_below, damage_of, differing, entry_below, first_damage, known, on_image, text_of}
 use Rattle.tree_volume.specs.Ways.{differs, found_block, no_difference}
 
 -- calls that only read
@@ -117,12 +117,6 @@ module _ (s : Shape) (look : Look) (root : TreeEntry) where
       → (look place e).text ≡ text_of s look root leaf
   text_to level place leaf same at e is =
       ap (λ (x : TreeEntry). (look place x).text) is ∙ ap (λ (l : ℕ). (look place (entry_below s look root l place)).text) (sym at) ∙ ap (text_of s look root) same
-
--- what was found is what was kept, where nothing is damaged
-pub kept_end : (A : Type 0) (r : Result A LeafAnswer) (into found kept : List ℕ) (damage : Option Mismatch) → OnOk r (into ≡ found) → ShowsLeaf r damage → (damage ≡ None → found ≡ kept)
-    → OnOk r (into ≡ kept)
-kept_end A (Ok x) into found kept damage text shows same = text ∙ same shows
-kept_end A (Err e) into found kept damage text shows same = tt
 
 -- what is shown of the first of two damages, or of the second where there is no first
 pub shows_way : (A B : Type 0) (e : LeafAnswer) (whole first rest : Option Mismatch) → whole ≡ first_damage first rest → ShowsLeaf {A = A} (Err e) first → ShowsLeaf {A = B} (Err e) whole

@@ -21,8 +21,8 @@ pub record AreSealing (s : Shape) (depth : ℕ) (key : List ℕ) (sequence : ℕ
   pub sealed : (q : ℕ) → IsSome (fresh_of first q) → fresh_of left q ≡ None
       → (0 < q) × IsSealedFor key q sequence (texts q) (entry_at (64 * s.slot q) (texts (s.parent q)))
   pub leaves : (p : ℕ) (t : List ℕ) → s.level p ≡ depth → fresh_of first p ≡ Some t → texts p ≡ t
-  pub others : (t : List ℕ) (q : ℕ) → 0 < q → fresh_of first (s.parent q) ≡ Some t → fresh_of first q ≡ None
-      → entry_at (64 * s.slot q) (texts (s.parent q)) ≡ entry_at (64 * s.slot q) t
+  pub others : (p i : ℕ) (t : List ℕ) → fresh_of first p ≡ Some t → ((q : ℕ) → 0 < q → s.parent q ≡ p → s.slot q ≡ i → fresh_of first q ≡ None)
+      → entry_at (64 * i) (texts p) ≡ entry_at (64 * i) t
 
 not_both : (o : Option (List ℕ)) → IsSome o → o ≡ None → ⊥
 not_both o has none = false≢true (subst (λ (p : Option (List ℕ)). IsSome p) none has)
@@ -37,7 +37,7 @@ sealing_start s depth key sequence nodes =
       inside = λ p has. has;
       sealed = λ q has none. absurd (not_both (fresh_of nodes q) has none);
       leaves = λ p t at is. text p t is;
-      others = λ t q positive is none. ap (entry_at (64 * s.slot q)) (text (s.parent q) t is);
+      others = λ p i t is none. ap (entry_at (64 * i)) (text p t is);
     }
 
 value : (o : Option (List ℕ)) → IsSome o → (t : List ℕ) × (o ≡ Some t)
@@ -84,19 +84,22 @@ module _ (s : Shape) (is : IsShape s) (depth : ℕ) (key : List ℕ) (sequence :
   fits : 64 * s.slot node.place + 64 ≤ 1024
   fits = let b : s.slot node.place < 16 = is.fits node.place ordered.0 in omega arith
 
-  -- the entry of another place stays
-  entry_stays : (q : ℕ) → 0 < q → q ≢ node.place → entry_at (64 * s.slot q) (texts' (s.parent q)) ≡ entry_at (64 * s.slot q) (inv.texts (s.parent q))
-  entry_stays q positive ne =
+  -- another entry stays
+  other_stays : (p i : ℕ) → (p ≡ s.parent node.place → i ≢ s.slot node.place) → entry_at (64 * i) (texts' p) ≡ entry_at (64 * i) (inv.texts p)
+  other_stays p i ne =
       ⊎_elim
-      (λ (same : s.parent q ≡ s.parent node.place).
-      let slots : s.slot q ≢ s.slot node.place = λ both. ne (is.apart q node.place positive ordered.0 same both) in
-      ap (λ (r : ℕ). entry_at (64 * s.slot q) (texts' r)) same
-      ∙ ap (entry_at (64 * s.slot q)) (text_here (s.parent node.place) (64 * s.slot node.place) bytes inv.texts)
-      ∙ entries_other (s.slot q) (s.slot node.place) bytes (inv.texts (s.parent node.place)) (patched (64 * s.slot node.place) bytes (inv.texts (s.parent node.place))) entry.long
-      (omega (arith, fits, long_above)) slots refl
-      ∙ ap (λ (r : ℕ). entry_at (64 * s.slot q) (inv.texts r)) (sym same))
-      (λ (other : s.parent q ≢ s.parent node.place). ap (entry_at (64 * s.slot q)) (text_other (s.parent node.place) (64 * s.slot node.place) bytes inv.texts (s.parent q) other))
-      (cases_eq (s.parent q) (s.parent node.place))
+      (λ (same : p ≡ s.parent node.place).
+      ap (λ (r : ℕ). entry_at (64 * i) (texts' r)) same
+      ∙ ap (entry_at (64 * i)) (text_here (s.parent node.place) (64 * s.slot node.place) bytes inv.texts)
+      ∙ entries_other i (s.slot node.place) bytes (inv.texts (s.parent node.place)) (patched (64 * s.slot node.place) bytes (inv.texts (s.parent node.place))) entry.long
+      (omega (arith, fits, long_above)) (ne same) refl
+      ∙ ap (λ (r : ℕ). entry_at (64 * i) (inv.texts r)) (sym same))
+      (λ (other : p ≢ s.parent node.place). ap (entry_at (64 * i)) (text_other (s.parent node.place) (64 * s.slot node.place) bytes inv.texts p other))
+      (cases_eq p (s.parent node.place))
+
+  -- and so that of another place
+  entry_stays : (q : ℕ) → 0 < q → q ≢ node.place → entry_at (64 * s.slot q) (texts' (s.parent q)) ≡ entry_at (64 * s.slot q) (inv.texts (s.parent q))
+  entry_stays q positive ne = other_stays (s.parent q) (s.slot q) (λ same both. ne (is.apart q node.place positive ordered.0 same both))
 
   entry_put : entry_at (64 * s.slot node.place) (texts' (s.parent node.place)) ≡ e
   entry_put =
@@ -175,10 +178,11 @@ module _ (s : Shape) (is : IsShape s) (depth : ℕ) (key : List ℕ) (sequence :
         omega arith
         ) in
         text_other (s.parent node.place) (64 * s.slot node.place) bytes inv.texts p ne ∙ inv.leaves p t at has);
-    others = λ t q positive has none.
-        (let ne : q ≢ node.place = λ same. not_both (fresh_of first q)
-        (inv.inside q (subst (λ (o : Option (List ℕ)). IsSome o) (sym (fresh_head node (next ∷ nodes) q (sym same))) refl)) none in
-        entry_stays q positive ne ∙ inv.others t q positive has none);
+    others = λ p i t has none.
+        (let free : p ≡ s.parent node.place → i ≢ s.slot node.place = λ same both. not_both (fresh_of first node.place)
+        (inv.inside node.place (subst (λ (o : Option (List ℕ)). IsSome o) (sym (fresh_head node (next ∷ nodes) node.place refl)) refl))
+        (none node.place ordered.0 (sym same) (sym both)) in
+        other_stays p i free ∙ inv.others p i t has none);
   }
 
 -- the same of a list of which it isn't known how long it is

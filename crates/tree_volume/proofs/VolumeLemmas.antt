@@ -1,8 +1,8 @@
 -- The calls of a volume: what its leaves are, what a read leaves, and what a commit leaves that came no further than its reads.
-use Rattle.std.proofs.Common.{◌≡◌, ◌≢◌, ◌≤◌, ◌<◌, ◌*◌, ◌+◌, ◌==◌, ◌∙◌, ◌&&◌, if◌then◌else◌, ℕ, zero, suc, Bool, true, false, nat_lt, List, [], ◌∷◌}
-use Rattle.std.proofs.Common.{Option, None, Some, Err, All, IsSome, length, replicate, refl, sym, ap, subst, ⊎_elim, arith}
+use Rattle.std.proofs.Common.{◌≡◌, ◌≢◌, ◌≤◌, ◌<◌, ◌∙◌, if◌then◌else◌, ℕ, zero, suc, true, false, nat_lt, List, [], ◌∷◌}
+use Rattle.std.proofs.Common.{Option, None, Some, Err, All, replicate, refl, sym, ap, subst, ⊎_elim, arith}
 use Rattle.std.specs.List.{list_all}
-use Rattle.std.proofs.lemmas.Bool.{cases_eq, false≢true}
+use Rattle.std.proofs.lemmas.Bool.{cases_eq}
 use Rattle.std.proofs.lemmas.Bool.Decides.{nat_tests}
 use Rattle.tee_base.specs.declared.limits.TheConstants.{MAX_HOSTS}
 use Rattle.tee_base.proofs.Crash.{weaker}
@@ -27,11 +27,9 @@ use Rattle.tree_volume.specs.Gather.{AreTrue}
 use Rattle.tree_volume.specs.Keeping.{IsOpen, Replaces, StaysOpen, damage_now, held_now, text_now}
 use Rattle.tree_volume.specs.Opens.{IsBlankNode}
 use Rattle.tree_volume.specs.Shape.{shape}
-use Rattle.tree_volume.specs.Shapes.{at_most}
 use Rattle.tree_volume.specs.Touched.{fresh_of}
 use Rattle.tree_volume.specs.Tree.{Found, damage_below, damage_of, entry_below, on_image, text_of}
-use Rattle.tree_volume.specs.Ways.{found_zero, is_root, zero_damage}
-use Rattle.tree_volume.specs.Shapes.{is_shape}
+use Rattle.tree_volume.specs.Ways.{found_zero, zero_damage}
 use Rattle.tree_volume.specs.declared.opening.TheConstants.{NO_ROOT}
 use Rattle.tree_volume.specs.declared.touched.Node.{Node}
 use Rattle.tree_volume.specs.declared.touched.Touched.{Touched}

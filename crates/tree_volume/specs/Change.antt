@@ -1,5 +1,5 @@
 -- What a commit gathered of a tree fits the board.
-use Rattle.std.proofs.Common.{◌≡◌, ◌≢◌, ◌<◌, ◌∙◌, ℕ, suc, List, [], ◌∷◌, Option, None, Some, refl, sym, ap, arith}
+use Rattle.std.proofs.Common.{◌≡◌, ◌≢◌, ◌<◌, ◌∙◌, ℕ, List, [], ◌∷◌, None, refl, sym, ap, arith}
 use Rattle.seal.specs.Keys.{AreKeysOf}
 use Rattle.seal.specs.declared.keys.Keys.{Keys}
 use Rattle.store_api.specs.declared.leaves.Leaf.{Leaf}
@@ -13,7 +13,7 @@ use Rattle.tree_volume.specs.Gather.{AreInUse, AreTrue, named}
 use Rattle.tree_volume.specs.Shape.{IsShape, Shape, shape}
 use Rattle.tree_volume.specs.Shapes.{is_shape}
 use Rattle.tree_volume.specs.Touched.{AreOrdered, fresh_of}
-use Rattle.tree_volume.specs.Tree.{Found, Look, on_image}
+use Rattle.tree_volume.specs.Tree.{Found, on_image}
 
 -- the keys are those of the board's key, and the nodes are those that a commit of these leaves touches, as they stand under the root
 pub record FitsTree (keys : Keys) (nodes : List Node) (region : ℕ) (leaves : List Leaf) (root : TreeEntry) (key : List ℕ)

@@ -1,5 +1,5 @@
 -- What a volume keeps of its nodes is what reads give under its root.
-use Rattle.std.specs.Prelude.{◌≡◌, ℕ, List, [], ◌∷◌, Option, None, Some}
+use Rattle.std.specs.Prelude.{◌≡◌, ℕ, List, [], ◌∷◌, None, Some}
 use Rattle.std.proofs.Props.{props}
 use Rattle.node_cache.specs.Kept.{kept_at}
 use Rattle.node_cache.specs.declared.cache.Kept.{Kept}

@@ -24,6 +24,7 @@ pub record AreSealed (s : Shape) (depth : ℕ) (key : List ℕ) (sequence : ℕ)
   pub texts : ℕ → List ℕ
   pub sealed : (p : ℕ) → IsSome (fresh_of nodes p) → IsSealedFor key p sequence (texts p) (entry_by s texts root p)
   pub leaves : (p : ℕ) (t : List ℕ) → s.level p ≡ depth → fresh_of nodes p ≡ Some t → texts p ≡ t
-  -- what isn't among them keeps its entry
-  pub others : (t : List ℕ) (q : ℕ) → 0 < q → fresh_of nodes (s.parent q) ≡ Some t → fresh_of nodes q ≡ None
-      → entry_at (ENTRY_BYTES * s.slot q) (texts (s.parent q)) ≡ entry_at (ENTRY_BYTES * s.slot q) t
+  -- an entry that is of none of them stays as it was
+  pub others : (p i : ℕ) (t : List ℕ) → fresh_of nodes p ≡ Some t
+      → ((q : ℕ) → 0 < q → s.parent q ≡ p → s.slot q ≡ i → fresh_of nodes q ≡ None)
+      → entry_at (ENTRY_BYTES * i) (texts p) ≡ entry_at (ENTRY_BYTES * i) t

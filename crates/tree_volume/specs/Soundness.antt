@@ -1,5 +1,5 @@
 -- No leaf of a volume that is open is damaged.
-use Rattle.std.proofs.Common.{◌≡◌, ◌<◌, if◌then◌else◌, ℕ, true, false, List, Option, None, refl}
+use Rattle.std.proofs.Common.{◌≡◌, ◌<◌, if◌then◌else◌, ℕ, true, false, Option, None, refl}
 use Rattle.store_api.specs.declared.answer.Mismatch.{Mismatch}
 use Rattle.board.specs.Moment.{View}
 use Rattle.tee_base.specs.declared.limits.TheConstants.{MAX_HOSTS}

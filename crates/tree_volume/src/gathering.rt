@@ -9,23 +9,26 @@ ghost use Rattle.board.specs.Steps.{CallRun};
 ghost use Rattle.epoch.specs.Reading.{OnlyReads, no_fault};
 ghost use Rattle.seal.specs.Keys.{AreKeysOf};
 ghost use Rattle.tree_volume.specs.Gather.{AreGathered, AreTrue, IsOnWay, IsPushed, named};
+ghost use Rattle.tree_volume.specs.Kept.{AreKept, IsFoundUnder};
 ghost use Rattle.tree_volume.specs.Shape.{shape};
 ghost use Rattle.tree_volume.specs.Touched.{AreOrdered, fresh_of};
 ghost use Rattle.tree_volume.specs.Tree.{damage_at, damage_of, on_image};
 
-use crate::load_place::load;
+use crate::load_place::load_node;
 use crate::places::{DEPTH, PLACES, REGION_LEAVES, TREE_BLOCKS, leaf_place, parent, slot};
 use crate::touched::{Node, Touched};
 use board::Board;
 use epoch::TreeEntry;
+use node_cache::NodeCache;
 use seal::Keys;
 use std::alloc::Global;
 use store_api::{Leaf, LeafAnswer};
 
-/// Reads the node of a place, verified, and takes it in before the others.
+/// Takes in the node of a place, verified, before the others.
 fn take_in<B: Board>(
     board: &mut B,
     keys: &Keys,
+    kept: &NodeCache,
     touched: &mut Touched,
     place: u64,
     entry: &TreeEntry,
@@ -43,23 +46,25 @@ fn take_in<B: Board>(
         → (B.view board.new).state.reads ≡ (B.view board.old).state.reads }
     ensures pushed { OnOk result (IsPushed place entry.now.copy touched.old touched.new) }
     ensures text { IsTrue B.tells_reads → (key : List ℕ) → AreKeysOf keys.now key
-        → OnOk result (fresh_of touched.new place
-        ≡ Some (on_image shape key (B.view board.old).state.reads place entry.now).text) }
+        → let look = on_image shape key (B.view board.old).state.reads in
+        IsFoundUnder kept.now look place entry.now
+        → OnOk result (fresh_of touched.new place ≡ Some (look place entry.now).text) }
     ensures damage { IsTrue B.tells_reads → (key : List ℕ) → AreKeysOf keys.now key
-        → ShowsLeaf result
-        (damage_at (on_image shape key (B.view board.old).state.reads) place entry.now) }
+        → let look = on_image shape key (B.view board.old).state.reads in
+        IsFoundUnder kept.now look place entry.now
+        → ShowsLeaf result (damage_at look place entry.now) }
     ensures honest { B.honest board.old
         → B.honest board.new × OnlyReads (B.view board.old) (B.view board.new) }
 {
     let mut bytes = [0; 1024];
-    load(board, keys, place, entry, &mut bytes)?;
+    load_node(board, keys, kept, place, entry, &mut bytes)?;
     let copy = entry.copy;
     touched.push(Node { place, copy, bytes })?;
     Ok(())
 }
 
-/// Sees that the node of a place above the leaves is among the touched, and all nodes above it. Those that aren't are read,
-/// and verified.
+/// Sees that the node of a place above the leaves is among the touched, and all nodes above it. One that isn't
+/// is one that is kept, or is read and verified.
 ///
 /// # Errors
 ///
@@ -68,6 +73,7 @@ fn take_in<B: Board>(
 pub fn hold<B: Board>(
     board: &mut B,
     keys: &Keys,
+    kept: &NodeCache,
     root: &TreeEntry,
     touched: &mut Touched,
     level: usize,
@@ -96,11 +102,11 @@ pub fn hold<B: Board>(
         → fresh_of touched.new p ≡ fresh_of touched.old p) }
     ensures nodes { IsTrue B.tells_reads → (key : List ℕ) → AreKeysOf keys.now key
         → let look = on_image shape key (B.view board.old).state.reads in
-        AreTrue shape look root.now DEPTH touched.old
+        AreKept shape look root.now kept.now → AreTrue shape look root.now DEPTH touched.old
         → OnOk result (AreTrue shape look root.now DEPTH touched.new) }
     ensures damage { IsTrue B.tells_reads → (key : List ℕ) → AreKeysOf keys.now key
         → let look = on_image shape key (B.view board.old).state.reads in
-        AreTrue shape look root.now DEPTH touched.old
+        AreKept shape look root.now kept.now → AreTrue shape look root.now DEPTH touched.old
         → ShowsLeaf result (damage_of shape look root.now place) }
     ensures honest { B.honest board.old
         → B.honest board.new × OnlyReads (B.view board.old) (B.view board.new) }
@@ -109,18 +115,19 @@ pub fn hold<B: Board>(
         return Ok(());
     }
     if level == 0 {
-        return take_in(board, keys, touched, place, root);
+        return take_in(board, keys, kept, touched, place, root);
     }
     let above = parent(place);
-    hold(board, keys, root, touched, level - 1, above)?;
+    hold(board, keys, kept, root, touched, level - 1, above)?;
     let entry = touched.entry_under(above, slot(place));
-    take_in(board, keys, touched, place, &entry)
+    take_in(board, keys, kept, touched, place, &entry)
 }
 
 /// Takes in a leaf with its new bytes, and before it the nodes above it.
 fn add_leaf<B: Board>(
     board: &mut B,
     keys: &Keys,
+    kept: &NodeCache,
     root: &TreeEntry,
     touched: &mut Touched,
     region: u8,
@@ -151,18 +158,19 @@ fn add_leaf<B: Board>(
         → fresh_of touched.new p ≡ fresh_of touched.old p) }
     ensures nodes { IsTrue B.tells_reads → (key : List ℕ) → AreKeysOf keys.now key
         → let look = on_image shape key (B.view board.old).state.reads in
-        AreTrue shape look root.now DEPTH touched.old
+        AreKept shape look root.now kept.now → AreTrue shape look root.now DEPTH touched.old
         → OnOk result (AreTrue shape look root.now DEPTH touched.new) }
     ensures damage { IsTrue B.tells_reads → (key : List ℕ) → AreKeysOf keys.now key
         → let look = on_image shape key (B.view board.old).state.reads in
-        AreTrue shape look root.now DEPTH touched.old → IfMismatch result (λ tags.
+        AreKept shape look root.now kept.now → AreTrue shape look root.now DEPTH touched.old
+        → IfMismatch result (λ tags.
         damage_of shape look root.now (shape.leaf_place region leaf.now.number) ≡ Some tags) }
     ensures honest { B.honest board.old
         → B.honest board.new × OnlyReads (B.view board.old) (B.view board.new) }
 {
     let place = leaf_place(region, u16::from(leaf.number));
     let above = parent(place);
-    hold(board, keys, root, touched, DEPTH - 1, above)?;
+    hold(board, keys, kept, root, touched, DEPTH - 1, above)?;
     let entry = touched.entry_under(above, slot(place));
     let copy = entry.copy;
     let bytes = leaf.bytes;
@@ -181,6 +189,7 @@ pub fn gather<B: Board>(
     alloc: Global,
     board: &mut B,
     keys: &Keys,
+    kept: &NodeCache,
     root: &TreeEntry,
     region: u8,
     leaves: &[Leaf],
@@ -205,9 +214,11 @@ pub fn gather<B: Board>(
     ensures elsewhere { IfOk result (λ t. (r l : ℕ) → r ≢ region → l < REGION_LEAVES
         → fresh_of t (shape.leaf_place r l) ≡ None) }
     ensures nodes { IsTrue B.tells_reads → (key : List ℕ) → AreKeysOf keys.now key
-        → IfOk result (λ t. AreTrue shape
-        (on_image shape key (B.view board.old).state.reads) root.now DEPTH t) }
+        → let look = on_image shape key (B.view board.old).state.reads in
+        AreKept shape look root.now kept.now
+        → IfOk result (λ t. AreTrue shape look root.now DEPTH t) }
     ensures damage { IsTrue B.tells_reads → (key : List ℕ) → AreKeysOf keys.now key
+        → AreKept shape (on_image shape key (B.view board.old).state.reads) root.now kept.now
         → (n : ℕ) → 0 < n → n ≤ REGION_LEAVES → All (λ leaf. leaf.number < n) leaves.now
         → IfMismatch result (λ tags. (l : ℕ) × (l < n)
         × (damage_of shape (on_image shape key (B.view board.old).state.reads) root.now
@@ -216,9 +227,9 @@ pub fn gather<B: Board>(
         → B.honest board.new × OnlyReads (B.view board.old) (B.view board.new) }
 {
     let mut touched = Touched::new(alloc);
-    hold(board, keys, root, &mut touched, 0, 0)?;
+    hold(board, keys, kept, root, &mut touched, 0, 0)?;
     for leaf in leaves {
-        add_leaf(board, keys, root, &mut touched, region, leaf)?;
+        add_leaf(board, keys, kept, root, &mut touched, region, leaf)?;
     }
     Ok(touched)
 }

@@ -22,7 +22,7 @@ ghost use Rattle.tree_volume.specs.Frame.{form_framed};
 ghost use Rattle.tree_volume.specs.Kept.{AreKept};
 ghost use Rattle.tree_volume.specs.Shape.{shape};
 ghost use Rattle.tree_volume.specs.Tree.{on_image};
-ghost use Rattle.tree_volume.specs.Keeping.{IsOpen, Replaces, damage_now};
+ghost use Rattle.tree_volume.specs.Keeping.{IsOpen, Replaces, damage_now, root_after};
 ghost use Rattle.tree_volume.specs.Made.{IsMade};
 ghost use Rattle.tree_volume.specs.Soundness.{sound_open};
 
@@ -64,7 +64,7 @@ pub(crate) struct Opened {
 }
 
 /// Makes a commit over a root, and gives the new one. There is a sequence left for it. What it touches is read and
-/// verified, and memory is taken, before anything is written.
+/// verified, and memory is taken, before anything is written; no node is kept then.
 ///
 /// # Errors
 ///
@@ -73,12 +73,16 @@ fn replace<B: Board>(
     alloc: Global,
     board: &mut B,
     keys: &Keys,
+    nodes: &mut Nodes,
     opened: Opened,
     region: u8,
     leaves: &Leaves,
 ) -> Result<Opened, LeafAnswer>
     requires size { TREE_BLOCKS ≤ (B.view board.old).size }
     requires keyed { AreKeysOf keys.now (B.view board.old).key }
+    requires cached { IsTrue B.tells_reads → AreKept shape
+        (on_image shape (B.view board.old).key (B.view board.old).state.reads) opened.root
+        nodes.old.kept }
     requires region { region < MAX_HOSTS }
     requires inside { is_above_all leaves.now REGION_LEAVES ≡ true }
     requires sequence { opened.sequence + 1 < 2 ^ 64 }
@@ -97,6 +101,9 @@ fn replace<B: Board>(
         (opened.sequence + 1) region leaves.now opened.root after.root) }
     ensures damage { IsTrue B.tells_reads → IfMismatch result (λ tags. (l : ℕ) × (l < REGION_LEAVES)
         × (damage_now (B.view board.new) opened.root region l ≡ Some tags)) }
+    ensures cached { IsTrue B.tells_reads → AreKept shape
+        (on_image shape (B.view board.new).key (B.view board.new).state.reads)
+        (root_after result opened) nodes.new.kept }
     ensures honest { B.honest board.old → B.honest board.new }
     ensures past { B.honest board.old → KeepsPast (B.view board.old) (B.view board.new) }
     ensures replaced { B.honest board.old
@@ -104,10 +111,20 @@ fn replace<B: Board>(
         → Replaces region leaves.now result opened (B.view board.old) (B.view board.new) }
 {
     let Opened { root, sequence } = opened;
+    let touched = gather(
+        alloc,
+        board,
+        keys,
+        &nodes.kept,
+        &root,
+        region,
+        leaves.as_slice(),
+    )?;
+    nodes.clear();
     let mut change = TreeChange {
         keys,
         root,
-        touched: gather(alloc, board, keys, &root, region, leaves.as_slice())?,
+        touched,
         region,
         leaves: leaves.as_slice(),
     };
@@ -193,8 +210,8 @@ impl<B: Board + Drop> Volume for TreeVolume<B> {
         if self.lost {
             return Err(LeafAnswer::Lost);
         }
-        self.nodes.clear();
         if self.sequence == u64::MAX {
+            self.nodes.clear();
             let answer = exhaust(&mut self.board);
             self.lost = is_failed(answer);
             return Err(answer);
@@ -207,6 +224,7 @@ impl<B: Board + Drop> Volume for TreeVolume<B> {
             self.alloc,
             &mut self.board,
             &self.keys,
+            &mut self.nodes,
             opened,
             region,
             leaves,

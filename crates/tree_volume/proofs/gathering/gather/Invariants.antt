@@ -7,6 +7,7 @@ use Rattle.store_api.specs.Ascending.{is_ascending}
 use Rattle.store_api.specs.declared.leaves.Leaf.{Leaf}
 use Rattle.tree_volume.specs.Gather.{AreTrue, named}
 use Rattle.epoch.specs.Reading.{OnlyReads}
+use Rattle.tree_volume.specs.Kept.{AreKept}
 use Rattle.tree_volume.specs.Shape.{shape}
 use Rattle.tree_volume.specs.Touched.{AreOrdered, fresh_of}
 use Rattle.tree_volume.specs.Tree.{on_image}
@@ -29,5 +30,6 @@ invariant-loop-leaf g l = record {
   elsewhere : (r n : ℕ) → r ≢ l.region → n < 1024 → fresh_of l.touched (shape.leaf_place r n) ≡ None;
   among : (p : ℕ) → IsSome (fresh_of l.touched p) → is_member nat_eq (touchable l.region l.leaves) p ≡ true;
   nodes : IsTrue g.B.Board.tells_reads → (key : List ℕ) → AreKeysOf l.keys key
+      → AreKept shape (on_image shape key (g.B.Board.view l.fn.board).state.reads) l.root l.kept
       → AreTrue shape (on_image shape key (g.B.Board.view l.fn.board).state.reads) l.root 4 l.touched;
 }

@@ -1,11 +1,11 @@
-use Rattle.std.proofs.Common.{◌≡◌, ◌∙◌, ℕ, List, None, Result, Err, refl, sym, ap, subst, rules}
+use Rattle.std.proofs.Common.{◌≡◌, ◌∙◌, ℕ, List, Result, Err, refl, sym, ap, subst, rules}
 use Rattle.store_api.specs.declared.leaves.LeafAnswer.{LeafAnswer}
 use Rattle.store_api.specs.Volumes.{ShowsLeaf}
 use Rattle.epoch.specs.declared.header.TreeEntry.{TreeEntry}
 use Rattle.epoch.proofs.CommitLemmas.{on_err}
 use Rattle.tree_volume.specs.Kept.{ArePassed}
 use Rattle.tree_volume.specs.Shape.{shape}
-use Rattle.tree_volume.specs.Tree.{Look, damage_above, damage_at, damage_of, entry_below, on_image, text_of}
+use Rattle.tree_volume.specs.Tree.{Look, damage_above, damage_at, damage_of, entry_below, on_image}
 use Rattle.tree_volume.proofs.IdentifyLemmas.{agrees}
 use Rattle.tree_volume.proofs.ReadLemmas.{none_way, only_more, shows_rest, shows_way, text_to, way_to}
 use Rattle.tree_volume.proofs.load_place.find_leaf.Goals as goal

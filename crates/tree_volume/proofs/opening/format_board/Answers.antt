@@ -1,4 +1,4 @@
-use Rattle.std.proofs.Common.{◌∙◌, ℕ, List, [], IfErr, refl, sym, ap, subst, rules, true}
+use Rattle.std.proofs.Common.{[], IfErr, refl, rules, true}
 use Rattle.seal.specs.Keys.{AreKeysOf}
 use Rattle.epoch.proofs.CallLemmas.{run_as, run_failed, run_none}
 use Rattle.epoch.specs.Commits.{IsBegun}

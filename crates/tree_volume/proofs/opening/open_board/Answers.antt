@@ -1,4 +1,4 @@
-use Rattle.std.proofs.Common.{◌≡◌, ◌∙◌, ap, Err, refl, rules}
+use Rattle.std.proofs.Common.{◌≡◌, ◌∙◌, ap, Err, rules}
 use Rattle.epoch.proofs.CallLemmas.{rose_later, run_as, run_more}
 use Rattle.epoch.specs.Opening.{no_failure}
 use Rattle.epoch.proofs.PastLemmas.{followed}

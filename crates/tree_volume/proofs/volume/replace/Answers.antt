@@ -1,6 +1,4 @@
-use Rattle.std.proofs.Common.{Result, Ok, All, ◌≡◌, ◌≤◌, ◌<◌, ◌+◌, ◌*◌, ◌∙◌, ℕ, List, Some, length, refl, sym, ap, subst, true, false, arith, rules, Err}
-use Rattle.std.proofs.lemmas.Bool.{false≢true}
-use Rattle.std.proofs.lemmas.Result.{err_from_is_err_and}
+use Rattle.std.proofs.Common.{Result, Ok, All, ◌≡◌, ◌≤◌, ◌<◌, ◌+◌, ◌*◌, ◌∙◌, ℕ, List, Some, length, refl, sym, ap, subst, true, arith, rules, Err}
 use Rattle.store_api.specs.Ascending.{is_above_all}
 use Rattle.store_api.specs.declared.leaves.Leaf.{Leaf}
 use Rattle.store_api.specs.declared.leaves.LeafAnswer.{LeafAnswer}
@@ -8,9 +6,6 @@ use Rattle.store_api.specs.declared.leaves.LeafAnswer.TheVariants as answers
 use Rattle.store_api.specs.Volumes.{Held, IfMismatch, after_commit}
 use Rattle.seal.specs.Keys.{AreKeysOf}
 use Rattle.epoch.specs.Commits.{IsBegun, IsSteady}
-use Rattle.epoch.specs.Reading.{no_fault}
-use Rattle.epoch.proofs.CallLemmas.{run_as, run_more}
-use Rattle.epoch.proofs.CommitLemmas.{on_err}
 use Rattle.epoch.proofs.KeepLemmas.{commit_crash, held_same, in_use_same, leaves_held, mounted_held, mounted_in_use}
 use Rattle.epoch.proofs.PastLemmas.{followed}
 use Rattle.epoch.proofs.SettledLemmas.{steady_rests}
@@ -20,77 +15,98 @@ use Rattle.tree_volume.specs.Frame.{form_framed}
 use Rattle.epoch.specs.Forms.{Root}
 use Rattle.epoch.specs.declared.header.TreeEntry.{TreeEntry}
 use Rattle.tree_volume.specs.Gather.{named}
-use Rattle.tree_volume.specs.Keeping.{IsOpen, Replaces, damage_now, held_now}
+use Rattle.tree_volume.specs.Keeping.{IsOpen, Replaces, damage_now, held_now, root_after}
+use Rattle.tree_volume.specs.Kept.{AreKept}
 use Rattle.tree_volume.specs.Sealed.{AreSealed}
 use Rattle.tree_volume.specs.Shape.{shape}
+use Rattle.tree_volume.specs.Tree.{on_image}
 use Rattle.tree_volume.specs.declared.touched.Node.{Node}
 use Rattle.tree_volume.specs.declared.touched.Touched.{Touched}
 use Rattle.tree_volume.specs.declared.volume.Opened.{Opened}
 use Rattle.tree_volume.proofs.GatherLemmas.{gathered}
-use Rattle.tree_volume.specs.Made.{IsMade}
+use Rattle.tree_volume.proofs.KeptLemmas.{kept_now, nothing_kept}
 use Rattle.tree_volume.proofs.VolumeLemmas.{above_all, read_replaces, told_damage, true_as}
 use Rattle.tree_volume.proofs.volume.replace.Goals as goal
 
-pub returns-in_err-gather-clause-damage : goal.returns-in_err-gather-clause-damage
-returns-in_err-gather-clause-damage g c tells =
+pub returns-in_err-touched-clause-damage : goal.returns-in_err-touched-clause-damage
+returns-in_err-touched-clause-damage g c tells =
     let v = g.B.Board.view c.args.board.now in
     let mid = g.B.Board.view c.gather.new.board in
-    let e : LeafAnswer = c.in_err-gather.field-0.0 in
-    let told = c.in_err-gather.ensures in
+    let e : LeafAnswer = c.in_err-touched.field-0.0 in
+    let told = c.in_err-touched.ensures in
     let keyed : AreKeysOf c.args.keys.now v.key = c.requires.keyed in
-    let is_err : c.from_residual.result ≡ Err c.in_err-gather.field-0.0 = search rules in
+    let is_err : c.from_residual.result ≡ Err c.in_err-touched.field-0.0 = search rules in
     let all : All (λ (leaf : Leaf). leaf.number < 1024) c.as_slice.result.now
     = above_all c.as_slice.result.now 1024 1024 (subst (λ (l : List Leaf). is_above_all l 1024 ≡ true) (sym c.as_slice.ensures.leaves) c.requires.inside) (omega arith) in
     subst (λ (r : Result Opened LeafAnswer). IfMismatch r (λ tags. (l : ℕ) × (l < 1024) × (damage_now mid c.args.opened.root c.args.region l ≡ Some tags))) (sym is_err)
     (told_damage Touched Opened e v mid c.args.opened.root c.args.region c.requires.region told.calls.key (told.same tells)
-    (told.damage tells v.key keyed 1024 (omega arith) (omega arith) all))
+    (told.damage tells v.key keyed (c.requires.cached tells) 1024 (omega arith) (omega arith) all))
 
-pub returns-in_err-gather-clause-replaced : goal.returns-in_err-gather-clause-replaced
-returns-in_err-gather-clause-replaced g c h is =
+pub returns-in_err-touched-clause-replaced : goal.returns-in_err-touched-clause-replaced
+returns-in_err-touched-clause-replaced g c h is =
     let v = g.B.Board.view c.args.board.now in
     let mid = g.B.Board.view c.gather.new.board in
-    let e : LeafAnswer = c.in_err-gather.field-0.0 in
-    let told = c.in_err-gather.ensures in
+    let e : LeafAnswer = c.in_err-touched.field-0.0 in
+    let told = c.in_err-touched.ensures in
     let keyed : AreKeysOf c.args.keys.now v.key = c.requires.keyed in
-    let is_err : c.from_residual.result ≡ Err c.in_err-gather.field-0.0 = search rules in
+    let is_err : c.from_residual.result ≡ Err c.in_err-touched.field-0.0 = search rules in
     let all : All (λ (leaf : Leaf). leaf.number < 1024) c.as_slice.result.now
     = above_all c.as_slice.result.now 1024 1024 (subst (λ (l : List Leaf). is_above_all l 1024 ≡ true) (sym c.as_slice.ensures.leaves) c.requires.inside) (omega arith) in
     let tells = g.met.B.Board.honest_reads c.args.board.now h in
     subst (λ (r : Result Opened LeafAnswer). Replaces c.args.region c.args.leaves.now r c.args.opened v mid) (sym is_err)
     (read_replaces c.args.region c.args.leaves.now e c.args.opened v mid is told.calls.key (told.honest h).1 c.requires.region
-    (told.damage tells v.key keyed 1024 (omega arith) (omega arith) all))
+    (told.damage tells v.key keyed (c.requires.cached tells) 1024 (omega arith) (omega arith) all))
+
+pub returns-in_err-touched-clause-cached : goal.returns-in_err-touched-clause-cached
+returns-in_err-touched-clause-cached g c tells =
+    let v = g.B.Board.view c.args.board.now in
+    let mid = g.B.Board.view c.gather.new.board in
+    let told = c.in_err-touched.ensures in
+    let is_err : c.from_residual.result ≡ Err c.in_err-touched.field-0.0 = search rules in
+    subst (λ (r : Result Opened LeafAnswer). AreKept shape (on_image shape mid.key mid.state.reads) (root_after r c.args.opened) c.args.nodes.now.kept) (sym is_err)
+    (kept_now shape v mid c.args.opened.root c.args.nodes.now.kept told.calls.key (told.same tells) (c.requires.cached tells))
+
+pub returns-in-Ok-clause-cached : goal.returns-in-Ok-clause-cached
+returns-in-Ok-clause-cached g c tells =
+    let new = g.B.Board.view c.commit.new.board in
+    nothing_kept shape (on_image shape new.key new.state.reads) c.in-Ok.root c.clear.new.self.kept c.clear.ensures
+
+pub returns-clause-cached : goal.returns-clause-cached
+returns-clause-cached g c tells =
+    let new = g.B.Board.view c.commit.new.board in
+    nothing_kept shape (on_image shape new.key new.state.reads) c.args.opened.root c.clear.new.self.kept c.clear.ensures
 
 pub invariant_of-change : goal.invariant_of-change
 invariant_of-change g c = record {
-  gathered = gathered shape c.in_ok-gather.field-0 c.in_ok-gather.ensures.ordered;
+  gathered = gathered shape c.in_ok-touched.touched c.in_ok-touched.ensures.ordered;
   within = c.requires.region;
   inside = subst (λ (l : List Leaf). is_above_all l 1024 ≡ true) (sym c.as_slice-2.ensures.leaves) c.requires.inside;
 }
 
 pub returns-in-Ok-clause-past : goal.returns-in-Ok-clause-past
 returns-in-Ok-clause-past g c h =
-    let read = c.in_ok-gather.ensures.honest h in
+    let read = c.in_ok-touched.ensures.honest h in
     followed _ _ _ read.1.past (c.in-Ok.ensures.past read.0)
 
 pub returns-clause-past : goal.returns-clause-past
 returns-clause-past g c h =
-    let read = c.in_ok-gather.ensures.honest h in
+    let read = c.in_ok-touched.ensures.honest h in
     followed _ _ _ read.1.past (c.in-Err.ensures.past read.0)
 
 pub returns-in-Ok-clause-made : goal.returns-in-Ok-clause-made
 returns-in-Ok-clause-made g c =
     let v = g.B.Board.view c.args.board.now in
-    let told = c.in_ok-gather.ensures in
+    let told = c.in_ok-touched.ensures in
     let keyed : AreKeysOf c.args.keys.now v.key = c.requires.keyed in
-    let few : length c.in_ok-gather.field-0 ≤ 2 * length c.as_slice.result.now + 6 = told.count in
+    let few : length c.in_ok-touched.touched ≤ 2 * length c.as_slice.result.now + 6 = told.count in
     let long : length c.as_slice.result.now ≡ length c.args.leaves.now = ap length c.as_slice.ensures.leaves in
     record {
-      nodes = c.in_ok-gather.field-0;
+      nodes = c.in_ok-touched.touched;
       few = omega (arith, few, long);
       here = λ l below. told.leaves l below ∙ ap (λ (ls : List Leaf). named ls l) c.as_slice.ensures.leaves;
       elsewhere = told.elsewhere;
-      stood = λ tells. told.nodes tells v.key keyed;
-      sealed = subst (AreSealed shape 4 v.key (c.args.opened.sequence + 1) c.in_ok-gather.field-0) (ap (λ (r : Root). r.entry) c.in-Ok.ensures.root)
+      stood = λ tells. told.nodes tells v.key keyed (c.requires.cached tells);
+      sealed = subst (AreSealed shape 4 v.key (c.args.opened.sequence + 1) c.in_ok-touched.touched) (ap (λ (r : Root). r.entry) c.in-Ok.ensures.root)
           (c.in-Ok.ensures.entries v.key keyed told.ordered);
     }
 
@@ -101,18 +117,18 @@ returns-in-Ok-clause-replaced g c h is =
     let new = g.B.Board.view c.commit.new.board in
     let root : TreeEntry = c.args.opened.root in
     let sequence : ℕ = c.args.opened.sequence in
-    let told = c.in_ok-gather.ensures in
+    let told = c.in_ok-touched.ensures in
     let read = told.honest h in
     let tells = g.met.B.Board.honest_reads c.args.board.now h in
     let keyed : AreKeysOf c.args.keys.now v.key = c.requires.keyed in
-    let touched : List Node = c.in_ok-gather.field-0 in
+    let touched : List Node = c.in_ok-touched.touched in
     let leaves : List Leaf = c.as_slice-2.result.now in
     let fits : FitsTree c.args.keys.now touched c.args.region leaves root mid.key mid.state.reads = record {
       keyed = subst (λ (k : List ℕ). AreKeysOf c.args.keys.now k) (sym told.calls.key) keyed;
       ordered = told.ordered;
       here = λ l below. told.leaves l below ∙ ap (λ (ls : List Leaf). named ls l) (c.as_slice.ensures.leaves ∙ sym c.as_slice-2.ensures.leaves);
       elsewhere = told.elsewhere;
-      stands = true_as v mid root touched told.calls.key read.1.state.reads (told.nodes tells v.key keyed);
+      stands = true_as v mid root touched told.calls.key read.1.state.reads (told.nodes tells v.key keyed (c.requires.cached tells));
     } in
     let is' : IsOpen mid root sequence = in_use_same tree_form form_framed v mid (form_root root) sequence told.calls.key read.1.state is in
     let before : Held = held_now mid root sequence in
@@ -139,18 +155,18 @@ returns-clause-replaced g c h is =
     let new = g.B.Board.view c.commit.new.board in
     let root : TreeEntry = c.args.opened.root in
     let sequence : ℕ = c.args.opened.sequence in
-    let told = c.in_ok-gather.ensures in
+    let told = c.in_ok-touched.ensures in
     let read = told.honest h in
     let tells = g.met.B.Board.honest_reads c.args.board.now h in
     let keyed : AreKeysOf c.args.keys.now v.key = c.requires.keyed in
-    let touched : List Node = c.in_ok-gather.field-0 in
+    let touched : List Node = c.in_ok-touched.touched in
     let leaves : List Leaf = c.as_slice-2.result.now in
     let fits : FitsTree c.args.keys.now touched c.args.region leaves root mid.key mid.state.reads = record {
       keyed = subst (λ (k : List ℕ). AreKeysOf c.args.keys.now k) (sym told.calls.key) keyed;
       ordered = told.ordered;
       here = λ l below. told.leaves l below ∙ ap (λ (ls : List Leaf). named ls l) (c.as_slice.ensures.leaves ∙ sym c.as_slice-2.ensures.leaves);
       elsewhere = told.elsewhere;
-      stands = true_as v mid root touched told.calls.key read.1.state.reads (told.nodes tells v.key keyed);
+      stands = true_as v mid root touched told.calls.key read.1.state.reads (told.nodes tells v.key keyed (c.requires.cached tells));
     } in
     let is' : IsOpen mid root sequence = in_use_same tree_form form_framed v mid (form_root root) sequence told.calls.key read.1.state is in
     let before : Held = held_now mid root sequence in

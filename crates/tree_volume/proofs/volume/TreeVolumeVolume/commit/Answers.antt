@@ -11,10 +11,7 @@ use Rattle.tree_volume.specs.Form.{form_root, tree_form}
 use Rattle.tree_volume.specs.Frame.{form_framed}
 use Rattle.tree_volume.specs.Keeping.{IsOpen, held_now}
 use Rattle.tree_volume.specs.Made.{IsMade}
-use Rattle.tree_volume.specs.Shape.{shape}
-use Rattle.tree_volume.specs.Tree.{on_image}
 use Rattle.tree_volume.specs.declared.volume.Opened.{Opened}
-use Rattle.tree_volume.proofs.KeptLemmas.{nothing_kept}
 use Rattle.tree_volume.proofs.VolumeLemmas.{still_open}
 use Rattle.tree_volume.proofs.volume.TreeVolumeVolume.commit.Goals as goal
 
@@ -57,13 +54,18 @@ returns-in-Err-clause-commits g c =
     }
 
 pub invariant_of-self-in-Ok : goal.invariant_of-self-in-Ok
-invariant_of-self-in-Ok g c =
-    let w = g.B.Board.view c.replace.new.board in
-    record {
-      large = omega (arith, c.in-Ok.ensures.calls.size, c.args.self.now.large);
-      keyed = subst (AreKeysOf c.args.self.now.keys) (sym c.in-Ok.ensures.calls.key) c.args.self.now.keyed;
-      cached = λ tells. nothing_kept shape (on_image shape w.key w.state.reads) c.in-Ok.field-0.root c.clear.new.self.kept c.clear.ensures;
-    }
+invariant_of-self-in-Ok g c = record {
+  large = omega (arith, c.in-Ok.ensures.calls.size, c.args.self.now.large);
+  keyed = subst (AreKeysOf c.args.self.now.keys) (sym c.in-Ok.ensures.calls.key) c.args.self.now.keyed;
+  cached = c.in-Ok.ensures.cached;
+}
+
+pub invariant_of-self-in-Err : goal.invariant_of-self-in-Err
+invariant_of-self-in-Err g c = record {
+  large = omega (arith, c.in-Err.ensures.calls.size, c.args.self.now.large);
+  keyed = subst (AreKeysOf c.args.self.now.keys) (sym c.in-Err.ensures.calls.key) c.args.self.now.keyed;
+  cached = c.in-Err.ensures.cached;
+}
 
 pub returns-in-Err-clause-writes : goal.returns-in-Err-clause-writes
 returns-in-Err-clause-writes g c = c.in-Err.ensures.writes

@@ -1,4 +1,4 @@
-use Rattle.std.proofs.Common.{◌≡◌, ◌<◌, ◌∙◌, ℕ, true, false, List, Some, Err, refl, sym, ap, subst, arith}
+use Rattle.std.proofs.Common.{◌≡◌, ◌<◌, ◌∙◌, ℕ, true, false, List, Some, Err, refl, sym, ap, subst}
 use Rattle.tee_base.proofs.Crash.{mapped}
 use Rattle.store_api.specs.Volumes.{ShowsLeaf}
 use Rattle.seal.specs.Keys.{AreKeysOf}
