@@ -1,6 +1,10 @@
+pub mod BlockLists
 pub mod Blocks
 pub mod Calls
 pub mod Counted
-pub mod Loops
-pub mod Power
 pub mod Answered
+pub mod Landings
+pub mod Places
+pub mod Power
+pub mod Values
+pub mod Writes

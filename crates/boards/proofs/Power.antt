@@ -1,8 +1,8 @@
 -- A loss of power leaves one of the images and counters that a crash may leave.
-use Rattle.std.proofs.Common.{◌≡◌, ◌≤◌, ◌+◌, ℕ, Bool, true, false, cond, length, ap, ◌∙◌, refl, arith}
+use Rattle.std.proofs.Common.{◌≡◌, ◌≤◌, ◌+◌, ℕ, Bool, true, false, cond, ap, subst, ◌∙◌, refl, arith}
 use Rattle.board.specs.Steps.{Powered}
-use Rattle.boards.specs.Disk.{IsWhole, state_of, reads_of, durable_of, pending_of, offered_of}
-use Rattle.boards.specs.Landing.{digits_of, digit_at, landed, landed_counter, landed_image}
+use Rattle.boards.specs.Disk.{HasLanded, state_of, reads_of, durable_of, pending_of, offered_of}
+use Rattle.boards.specs.Landing.{digits_of, digit_at, landed, landed_counter}
 use Rattle.boards.specs.declared.disk.Disk.{Disk}
 
 least : (raises : Bool) (n : ℕ) → n ≤ cond raises (n + 1) n
@@ -24,39 +24,29 @@ landed_counter-greatest false pick n = omega arith
 abbrev pub settled_disk : Disk → ℕ → Disk
 settled_disk old pick = record old { counter = landed_counter old.unsettled pick old.counter; unsettled = false }
 
-module _ (pick digits : ℕ) (old mid new : Disk) (settled : mid ≡ settled_disk old pick) (number : digits ≡ digits_of old.unsettled pick) (whole : IsWhole new)
-    (image : (k : ℕ) → durable_of new k ≡ landed_image digits (pending_of mid) (durable_of mid) (offered_of mid) k) (pending : (k : ℕ) → pending_of new k ≡ false) where
-  picked : (k : ℕ) → durable_of new k ≡ landed_image (digits_of old.unsettled pick) (pending_of old) (durable_of old) (offered_of old) k
-  picked k =
-      image k
-      ∙ ap (λ (d : Disk). landed_image digits (pending_of d) (durable_of d) (offered_of d) k) settled
-      ∙ ap (λ n. landed_image n (pending_of old) (durable_of old) (offered_of old) k) number
+-- the blocks land by the digits that the counter leaves
+pub picked : (pick digits : ℕ) (old mid new : Disk) → mid ≡ settled_disk old pick → digits ≡ digits_of old.unsettled pick → HasLanded digits mid new
+    → HasLanded (digits_of old.unsettled pick) (settled_disk old pick) new
+picked pick digits old mid new settled number landed =
+    subst (λ n. HasLanded n (settled_disk old pick) new) number (subst (λ (d : Disk). HasLanded digits d new) settled landed)
 
-  pub power_image : (k : ℕ) → reads_of new k ≡ landed_image (digits_of old.unsettled pick) (pending_of old) (durable_of old) (offered_of old) k
-  power_image k = whole.as_read k (pending k) ∙ picked k
-
-  pub powered : ((k : ℕ) → pending_of mid k ≡ true → length (durable_of new k) ≡ 1024) → new.counter ≡ mid.counter → new.unsettled ≡ mid.unsettled → new.faults ≡ mid.faults →
-      new.orders ≡ mid.orders → Powered (state_of old) (state_of new)
-  powered blocks counter unsettled faults orders =
-      let n : new.counter ≡ landed_counter old.unsettled pick old.counter = counter ∙ ap (λ (d : Disk). d.counter) settled in
-      let none : new.unsettled ≡ false = unsettled ∙ ap (λ (d : Disk). d.unsettled) settled in
-      record {
-        left = record { image = durable_of new; counter = new.counter; faults = new.faults; orders = new.orders };
-        may = record {
-          kept = λ k p. image k ∙ ap (λ (d : Disk). landed_image digits (pending_of d) (durable_of d) (offered_of d) k) settled
-              ∙ ap (λ b. cond b (landed (digit_at digits (pending_of old) k) (durable_of old k) (offered_of old k)) (durable_of old k)) p;
-          any = λ k p. blocks k (ap (λ (d : Disk). pending_of d k) settled ∙ p);
-          counter = record {
-            least = rw n (landed_counter-least old.unsettled pick old.counter);
-            greatest = rw n (landed_counter-greatest old.unsettled pick old.counter);
-            fits = whole.counter;
-          };
-          faults = faults ∙ ap (λ (d : Disk). d.faults) settled;
-          orders = orders ∙ ap (λ (d : Disk). d.orders) settled;
-        };
-        reads = λ k. whole.as_read k (pending k);
-        durable = λ k. refl;
-        pending = pending;
-        counter = refl;
-        slack = ap (λ b. cond b 1 0) none;
-      }
+pub powered : (pick : ℕ) (old new : Disk) → HasLanded (digits_of old.unsettled pick) (settled_disk old pick) new → Powered (state_of old) (state_of new)
+powered pick old new l = record {
+  left = record { image = reads_of new; counter = new.counter; faults = new.faults; orders = new.orders };
+  may = record {
+    kept = λ k p. l.image k ∙ ap (λ b. cond b (landed (digit_at (digits_of old.unsettled pick) (pending_of old) k) (durable_of old k) (offered_of old k)) (durable_of old k)) p;
+    any = λ k p. l.whole.seen.whole k;
+    counter = record {
+      least = rw l.counter (landed_counter-least old.unsettled pick old.counter);
+      greatest = rw l.counter (landed_counter-greatest old.unsettled pick old.counter);
+      fits = l.whole.counter;
+    };
+    faults = l.faults;
+    orders = l.orders;
+  };
+  reads = λ k. refl;
+  durable = l.durable;
+  pending = l.pending;
+  counter = refl;
+  slack = ap (λ b. cond b 1 0) l.unsettled;
+}

@@ -1,27 +1,32 @@
 -- What the disk in memory holds, as a moment of the disk model.
-use Rattle.std.specs.Prelude.{◌≡◌, ◌≢◌, ◌<◌, ◌≤◌, ◌^◌, ℕ, if◌then◌else◌, Bool, true, false, List, [], length, slice_index_or, vec_len}
-use Rattle.std.proofs.Common.{⊎_elim, arith}
-use Rattle.std.proofs.lemmas.Bool.{cases_lt}
-use Rattle.std.proofs.lemmas.List.{get_or_past}
-use Rattle.tee_base.specs.declared.limits.TheConstants.{BLOCK_BYTES}
+use Rattle.std.specs.Prelude.{◌≡◌, ◌≢◌, ◌<◌, ◌^◌, ℕ, if◌then◌else◌, Bool, true, false, List}
 use Rattle.board.specs.Moment.{Moment}
+use Rattle.boards.specs.Landing.{landed_image}
+use Rattle.boards.specs.Offer.{last_offered}
+use Rattle.boards.specs.Pending.{IsPending, durable_or, is_pending, offered_in}
+use Rattle.boards.specs.Row.{IsRow, block_of}
 use Rattle.boards.specs.declared.disk.Disk.{Disk}
+use Rattle.boards.specs.declared.row.Row.{Row}
+
+-- how many blocks it has
+abbrev pub size_of : Disk → ℕ
+size_of d = d.seen.written.count
 
 -- what a read of each block gives
 abbrev pub reads_of : Disk → ℕ → List ℕ
-reads_of d k = slice_index_or d.seen.items k []
+reads_of d k = block_of d.seen k
 
--- what is on the disk in each block
+-- what is on the disk in each block: what a read gives, where it isn't pending
 abbrev pub durable_of : Disk → ℕ → List ℕ
-durable_of d k = slice_index_or d.durable.items k []
+durable_of d k = durable_or d.pending k (reads_of d k)
 
 -- the last bytes that a write offered
 abbrev pub offered_of : Disk → ℕ → List ℕ
-offered_of d k = slice_index_or d.offered.items k []
+offered_of d k = last_offered d.offers k
 
 -- the blocks that are written and not yet durable
 abbrev pub pending_of : Disk → ℕ → Bool
-pending_of d k = slice_index_or d.pending.items k false
+pending_of d k = is_pending d.pending k
 
 -- the disk as a moment of the disk model
 abbrev pub state_of : Disk → Moment
@@ -35,24 +40,15 @@ state_of d = record {
   orders = d.orders;
 }
 
--- a block that isn't pending is read as it is on the disk
+-- each block has 1,024 bytes, and a pending one what was offered to it last
 pub record IsWhole (d : Disk) : Type 0 where
-  pub seen : vec_len d.seen ≡ vec_len d.durable
-  pub offered : vec_len d.offered ≡ vec_len d.durable
-  pub pending : vec_len d.pending ≡ vec_len d.durable
-  pub as_read : (k : ℕ) → pending_of d k ≡ false → reads_of d k ≡ durable_of d k
-  pub blocks : (k : ℕ) → k < vec_len d.durable → length (reads_of d k) ≡ BLOCK_BYTES
+  pub seen : IsRow d.seen
+  pub pending : IsPending d.pending
+  pub count : d.pending.listed.count ≡ d.seen.written.count
+  pub offers : (k : ℕ) → pending_of d k ≡ true → offered_in d.pending k ≡ offered_of d k
   pub counter : d.counter < 2 ^ 64
   pub faults : d.faults < 2 ^ 64
   pub orders : d.orders < 2 ^ 64
-
--- only blocks of the disk are pending
-pub pending_within : (d : Disk) → IsWhole d → (k : ℕ) → pending_of d k ≡ true → k < vec_len d.durable
-pending_within d whole k pends =
-    ⊎_elim
-    (λ (below : k < vec_len d.durable). below)
-    (λ (past : vec_len d.durable ≤ k). absurd (let none : pending_of d k ≡ false = get_or_past d.pending.items k false (omega (arith, past, whole.pending)) in cc))
-    (cases_lt k (vec_len d.durable))
 
 -- a write that isn't refused offers its bytes, and a crash may leave some of them
 pub record Offers (block : ℕ) (bytes : List ℕ) (refused : Bool) (pending : ℕ → Bool) (old new : ℕ → List ℕ) : Type 0 where
@@ -61,26 +57,24 @@ pub record Offers (block : ℕ) (bytes : List ℕ) (refused : Bool) (pending : �
   pub elsewhere : (k : ℕ) → k ≢ block → new k ≡ old k
   pub unchanged : refused ≡ true → new block ≡ old block
 
--- the block is this one and durable, and nothing else is changed
-pub record Puts (at : ℕ) (bytes : List ℕ) (old new : Disk) : Type 0 where
+-- each pending block took what its digit picks, all of it durable, and nothing else is changed
+pub record HasLanded (digits : ℕ) (old new : Disk) : Type 0 where
   pub whole : IsWhole new
-  pub size : vec_len new.durable ≡ vec_len old.durable
-  pub here : durable_of new at ≡ bytes
-  pub block : length (durable_of new at) ≡ BLOCK_BYTES
-  pub settled : pending_of new at ≡ false
-  pub elsewhere : (k : ℕ) → k ≢ at → durable_of new k ≡ durable_of old k
-  pub pending : (k : ℕ) → k ≢ at → pending_of new k ≡ pending_of old k
-  pub offered : new.offered ≡ old.offered
+  pub size : size_of new ≡ size_of old
+  pub image : (k : ℕ) → reads_of new k ≡ landed_image digits (pending_of old) (durable_of old) (offered_of old) k
+  pub durable : (k : ℕ) → durable_of new k ≡ reads_of new k
+  pub pending : (k : ℕ) → pending_of new k ≡ false
+  pub offers : new.offers ≡ old.offers
   pub counter : new.counter ≡ old.counter
   pub unsettled : new.unsettled ≡ old.unsettled
   pub faults : new.faults ≡ old.faults
   pub orders : new.orders ≡ old.orders
 
--- the disk holds these blocks, and nothing is pending
-pub record HoldsBlocks (blocks : List (List ℕ)) (d : Disk) : Type 0 where
+-- the disk holds these blocks and this counter, and nothing is pending
+pub record HoldsRow (row : Row) (number : ℕ) (d : Disk) : Type 0 where
   pub whole : IsWhole d
-  pub size : vec_len d.durable ≡ length blocks
-  pub reads : (k : ℕ) → reads_of d k ≡ slice_index_or blocks k []
+  pub seen : d.seen ≡ row
+  pub counter : d.counter ≡ number
   pub pending : (k : ℕ) → pending_of d k ≡ false
   pub unsettled : d.unsettled ≡ false
   pub faults : d.faults ≡ 0

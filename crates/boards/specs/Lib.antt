@@ -1,7 +1,13 @@
+pub mod BlockList
 pub mod Disk
 pub mod FileBoard
 pub mod Image
 pub mod Landing
 pub mod Memory
 pub mod MemoryBoard
+pub mod Offer
+pub mod OfferLog
 pub mod Past
+pub mod Pending
+pub mod Places
+pub mod Row

@@ -1,14 +1,14 @@
 -- What the contracts of the board in memory see of it.
-use Rattle.std.specs.Prelude.{map, vec_len}
+use Rattle.std.specs.Prelude.{map}
 use Rattle.board.specs.Moment.{View}
-use Rattle.boards.specs.Disk.{state_of, offered_of}
+use Rattle.boards.specs.Disk.{size_of, state_of, offered_of}
 use Rattle.boards.specs.Memory.{Memory}
 use Rattle.boards.specs.declared.memory.MemBoard.{MemBoard}
 
 -- what contracts of every board see of a board in memory
 abbrev pub view_of : MemBoard → View
 view_of b = record {
-  size = vec_len b.disk.durable;
+  size = size_of b.disk;
   key = b.key;
   writes = b.writes;
   ordered = b.ordered;

@@ -1,16 +1,20 @@
 //! Two boards: one in memory, which is honest, and one over files.
 #![tactic(auto)]
 
+mod block_list;
 mod counter;
 mod counts;
 mod disk;
 mod failed;
 mod file;
 mod files;
-mod image;
 mod made;
 mod memory;
+mod offer_log;
 mod past;
+mod pending;
+mod room;
+mod row;
 mod schedule;
 
 pub use failed::{BoardFile, FileBoardFailed, FileFailure, FileFault};

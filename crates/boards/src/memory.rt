@@ -5,12 +5,13 @@ ghost use Rattle.board.specs.Fuse.{refitted, is_interrupted, is_refused};
 ghost use Rattle.board.specs.Steps.{capped, Called, Ordered, Answered, Passes, Unchanged, Wrote, Synced, Counted, Advanced, Powered};
 ghost use Rattle.board.specs.declared.fuse.Fuse.TheVariants.{Unset};
 ghost use Rattle.boards.specs.Disk.{IsWhole, Offers};
-ghost use Rattle.boards.specs.Image.{block_at, AreBlocks};
+ghost use Rattle.boards.specs.Image.{block_at};
 ghost use Rattle.boards.specs.Memory.{next_fate, image_after, counter_after, IsExact, IsOrder, IsNew};
+ghost use Rattle.boards.specs.Row.{IsRow, block_of};
 
 use crate::disk::Disk;
-use crate::image;
 use crate::past::Past;
+use crate::row::Row;
 use crate::schedule::Schedule;
 use board::fuse::Fuse;
 use board::{Board, BoardFailed};
@@ -40,8 +41,8 @@ impl MemBoard {
         ensures zero { IfOk result (λ b.
             (k : ℕ) → k < blocks → (view_of b).state.reads k ≡ replicate BLOCK_BYTES 0) }
     {
-        let zero = image::repeated(alloc, [0; 1024], blocks as usize)?;
-        MemBoard::of_blocks(alloc, zero, 0, key)
+        let zeros = Row::repeated(alloc, [0; 1024], blocks as usize)?;
+        MemBoard::of_row(alloc, zeros, 0, key)
     }
 
     /// A board with this image and counter.
@@ -58,23 +59,18 @@ impl MemBoard {
             (k : ℕ) → k < length image / BLOCK_BYTES
             → (view_of b).state.reads k ≡ block_at image k) }
     {
-        let blocks = image::split(alloc, image.as_slice())?;
-        MemBoard::of_blocks(alloc, blocks, counter, key)
+        let row = Row::split(alloc, image.as_slice())?;
+        MemBoard::of_row(alloc, row, counter, key)
     }
 
-    fn of_blocks(
-        alloc: Global,
-        blocks: Vec<[u8; 1024]>,
-        counter: u64,
-        key: [u8; 32],
-    ) -> Result<MemBoard, NoMemory>
-        requires { AreBlocks blocks.items }
-        ensures new { IfOk result (λ b. IsNew key (vec_len blocks) counter (memory_of b)) }
+    fn of_row(alloc: Global, row: Row, counter: u64, key: [u8; 32]) -> Result<MemBoard, NoMemory>
+        requires { IsRow row }
+        ensures new { IfOk result (λ b. IsNew key row.written.count counter (memory_of b)) }
         ensures blocks { IfOk result (λ b.
-            (k : ℕ) → (view_of b).state.reads k ≡ slice_index_or blocks.items k []) }
+            (k : ℕ) → (view_of b).state.reads k ≡ block_of row k) }
     {
         Ok(MemBoard {
-            disk: Disk::of_blocks(alloc, blocks, counter)?,
+            disk: Disk::of_row(alloc, row, counter)?,
             past: Past::start(),
             schedule: Schedule {
                 failing: Vec::new(alloc),
@@ -112,7 +108,8 @@ impl MemBoard {
 
 impl Board for MemBoard {
     ghost use Rattle.boards.specs.MemoryBoard.{view_of, memory_of, IsHonest};
-    ghost use Rattle.boards.specs.Disk.{pending_within};
+    ghost use Rattle.std.proofs.Common.{subst, sym};
+    ghost use Rattle.boards.specs.Disk.{reads_of};
 
     ghost tells_reads = { true };
 
@@ -120,7 +117,7 @@ impl Board for MemBoard {
 
     ghost honest = { IsHonest };
 
-    ghost consistent = { λ b h. record { as_read = b.whole.as_read; whole = b.whole.blocks; within = pending_within b.disk b.whole; counter = b.whole.counter } };
+    ghost consistent = { λ b h. record { as_read = λ k p. sym (b.whole.pending.settled k p (reads_of b.disk k)); whole = λ k h. b.whole.seen.whole k; within = λ k p. subst (λ n. k < n) b.whole.count (b.whole.pending.within k p); counter = b.whole.counter } };
 
     ghost honest_reads = { λ b h. refl };
 

@@ -1,39 +1,17 @@
-use Rattle.std.proofs.Common.{◌<◌, ◌≤◌, length, vec_len, ◌∙◌, arith}
-use Rattle.boards.proofs.Loops.{all_blocks, all_landed, all_settled, landed_none, landed_kept, landed_taken, flag_at}
+use Rattle.std.proofs.Common.{◌≡◌, ◌<◌, length, arith}
+use Rattle.boards.proofs.Landings.{all_landed, landed_more}
 use Rattle.boards.proofs.disk.Disk.land.Goals as goal
-use Rattle.boards.proofs.disk.Disk.land.Goals.{then-index, else-index}
 
-pub loop-at-init : goal.loop-at-init
-loop-at-init c = landed_none c.args.digits c.args.self.now c.requires.whole
+pub loop-place-preserved : goal.loop-place-preserved
+loop-place-preserved c =
+    let p = c.args.self.now.pending in
+    let within : c.loop-place.place < length p.listed.blocks.items = omega (arith, c.loop-place-test.true, c.len-place-end.ensures, p.listed.blocks.ok) in
+    landed_more c.loop-place.place c.args.digits c.args.self.now c.loop-place.self c.loop-place.invariant c.requires.whole within c.block.result c.block.ensures.value c.landed-block.result
+    c.landed-block.ensures c.set.new.self c.set.ensures
 
-pub loop-at-preserved : goal.loop-at-preserved
-loop-at-preserved c =
-    let within : c.loop-at.at < length c.loop-at.self.pending.items = omega (
-      arith,
-      c.len-at-end.ensures,
-      c.requires.whole.pending,
-      c.loop-at.invariant.size,
-      c.loop-at.invariant.whole.pending,
-      c.loop-at.self.pending.ok,
-    ) in
-    let flag = flag_at c.loop-at.self.pending.items c.loop-at.at c.index.result.now within c.index.ensures in
-    elim c.if-index.branch [
-      | then-index w ↦ rw (w.self-is, w.digits-is) (landed_taken _ _ _ _ _ c.loop-at.invariant _ (flag ∙ w.if-index.true) w.put.ensures)
-      | else-index w ↦ rw
-          (w.self-is, w.digits-is) (landed_kept _ _ _ _ _ c.loop-at.invariant (flag ∙ w.if-index.false))
-    ]
-
-pub returns-clause-image : goal.returns-clause-image
-returns-clause-image c =
-    let all : vec_len c.args.self.now.durable ≤ c.loop-at.at = omega (arith, c.len-at-end.ensures, c.requires.whole.pending) in
-    all_landed _ _ _ _ _ c.loop-at.invariant c.requires.whole all
-
-pub returns-clause-blocks : goal.returns-clause-blocks
-returns-clause-blocks c =
-    let all : vec_len c.args.self.now.durable ≤ c.loop-at.at = omega (arith, c.len-at-end.ensures, c.requires.whole.pending) in
-    all_blocks _ _ _ _ _ c.loop-at.invariant c.requires.whole all
-
-pub returns-clause-pending : goal.returns-clause-pending
-returns-clause-pending c =
-    let all : vec_len c.args.self.now.durable ≤ c.loop-at.at = omega (arith, c.len-at-end.ensures, c.requires.whole.pending) in
-    all_settled _ _ _ _ _ c.loop-at.invariant c.requires.whole all
+pub returns : goal.returns
+returns c =
+    let p = c.args.self.now.pending in
+    let all : c.loop-place.place ≡ length p.listed.blocks.items = omega (arith, c.loop-place-test.false, c.loop-place.auto.place-end, c.len-place-end.ensures, p.listed.blocks.ok) in
+    all_landed c.loop-place.place c.args.digits c.args.self.now c.loop-place.self c.clear.new.self c.loop-place.invariant c.requires.whole all c.clear.ensures.pending c.clear.ensures.count
+    c.clear.ensures.empty c.clear.ensures.durable

@@ -1,5 +1,5 @@
-use Rattle.boards.proofs.Loops.{LandedBelow}
+use Rattle.boards.proofs.Landings.{LandedBelow}
 use Rattle.boards.proofs.disk.Disk.land.Given as goal
 
-abbrev pub invariant-loop-at : goal.invariant-loop-at
-invariant-loop-at l = LandedBelow l.at l.fn.digits l.digits l.fn.self l.self
+abbrev pub invariant-loop-place : goal.invariant-loop-place
+invariant-loop-place l = LandedBelow l.place l.digits l.fn.self l.self

@@ -1,6 +1,0 @@
-use Rattle.std.proofs.Common.{arith}
-use Rattle.std.proofs.lemmas.Grind.{common_steps}
-use Rattle.boards.proofs.disk.Disk.keep.Goals as goal
-
-pub returns-clause-puts : goal.returns-clause-puts
-returns-clause-puts c = grind (arith, common_steps)

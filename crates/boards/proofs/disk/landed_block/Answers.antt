@@ -1,5 +1,0 @@
-use Rattle.std.proofs.Common.{rules}
-use Rattle.boards.proofs.disk.landed_block.Goals as goal
-
-pub returns-in-0 : goal.returns-in-0
-returns-in-0 c = search rules
