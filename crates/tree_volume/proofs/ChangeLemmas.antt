@@ -22,7 +22,8 @@ use Rattle.tree_volume.specs.Gather.{AreInUse, named}
 use Rattle.tree_volume.specs.Shape.{IsShape, Shape, shape}
 use Rattle.tree_volume.specs.Shapes.{is_shape}
 use Rattle.tree_volume.specs.Touched.{AreSpare, fresh_of, spare_block}
-use Rattle.tree_volume.specs.Tree.{copy_of, damage_of, entry_below, on_image, text_of, with_new}
+use Rattle.epoch.specs.Copies.{copy_of}
+use Rattle.tree_volume.specs.Tree.{damage_of, entry_below, on_image, text_of, with_new}
 use Rattle.tree_volume.proofs.GatherLemmas.{leaf_level}
 use Rattle.tree_volume.proofs.StartLemmas.{damage_start, or_else, text_start}
 
@@ -125,12 +126,12 @@ module _ (key : List ℕ) (old new : ℕ → List ℕ) (keys : Keys) (nodes : Li
       ∙ ⊎_elim
       (λ (same : r ≡ region).
       let yes : (r == region) ≡ true = grind arith in
-      let fresh : fresh_of nodes (shape.leaf_place r l) ≡ named leaves l = ap (λ (q : ℕ). fresh_of nodes (shape.leaf_place q l)) same ∙ fits.here l hl in
+      let fresh : fresh_of nodes (shape.leaf_place r l) ≡ named leaves l = ap (λ (q : ℕ). fresh_of nodes (shape.leaf_place q l)) same ∙ fits.named.here l hl in
       rw yes (ap (λ (o : Option (List ℕ)). or_else o (text_of shape (on_image shape key old) root (shape.leaf_place r l))) fresh
       ∙ named_after leaves l (text_of shape (on_image shape key old) root (shape.leaf_place r l))))
       (λ (ne : r ≢ region).
       let no : (r == region) ≡ false = grind arith in
-      rw no (ap (λ (o : Option (List ℕ)). or_else o (text_of shape (on_image shape key old) root (shape.leaf_place r l))) (fits.elsewhere r l ne hl)))
+      rw no (ap (λ (o : Option (List ℕ)). or_else o (text_of shape (on_image shape key old) root (shape.leaf_place r l))) (fits.named.elsewhere r l ne hl)))
       (cases_eq r region)
 
   none_there : (r l : ℕ) → is_leaf 1024 r l ≡ false → [] ≡ (if r == region then leaf_after leaves l [] else [])

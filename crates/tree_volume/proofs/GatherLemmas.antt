@@ -21,7 +21,8 @@ use Rattle.tree_volume.specs.declared.touched.Node.{Node}
 use Rattle.tree_volume.specs.Gather.{AreGathered, AreInUse, AreTrue, IsPushed, named}
 use Rattle.tree_volume.specs.Shape.{IsShape, Shape, shape}
 use Rattle.tree_volume.specs.Touched.{AreOrdered, fresh_of}
-use Rattle.tree_volume.specs.Tree.{Look, damage_at, damage_below, damage_of, entry_below, entry_of, first_damage, text_of}
+use Rattle.epoch.specs.Copies.{first_damage}
+use Rattle.tree_volume.specs.Tree.{Look, damage_at, damage_below, damage_of, entry_below, entry_of, text_of}
 use Rattle.tree_volume.proofs.ReadLemmas.{damage_split}
 use Rattle.tree_volume.proofs.TouchedLemmas.{fresh_head, fresh_tail}
 use Rattle.tree_volume.specs.Ways.{above, is_root}

@@ -1,6 +1,5 @@
 pub mod ChangeLemmas
 pub mod CountLemmas
-pub mod EntryLemmas
 pub mod GatherLemmas
 pub mod IdentifyLemmas
 pub mod KeptLemmas

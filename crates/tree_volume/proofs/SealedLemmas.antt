@@ -9,9 +9,9 @@ use Rattle.tree_volume.specs.declared.touched.Node.{Node}
 use Rattle.tree_volume.specs.Sealed.{AreSealed, IsSealedFor, entry_by}
 use Rattle.tree_volume.specs.Shape.{IsShape, Shape}
 use Rattle.tree_volume.specs.Touched.{AreOrdered, all_with_bytes, fresh_of}
-use Rattle.tree_volume.proofs.EntryLemmas.{entries_other, entry_here}
+use Rattle.epoch.proofs.EntryLemmas.{entry_here}
+use Rattle.tree_volume.proofs.TouchedLemmas.{entries_other, fresh_head, fresh_tail, long_of, put_here, put_other, some_kept}
 use Rattle.tree_volume.proofs.StartLemmas.{or_else}
-use Rattle.tree_volume.proofs.TouchedLemmas.{fresh_head, fresh_tail, long_of, put_here, put_other, some_kept}
 
 -- of the first nodes these are left, and the others are sealed, in bytes that hold their entries
 pub record AreSealing (s : Shape) (depth : ℕ) (key : List ℕ) (sequence : ℕ) (first left : List Node) : Type 0 where

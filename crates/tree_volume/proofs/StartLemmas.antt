@@ -4,7 +4,8 @@ use Rattle.epoch.specs.Header.{entry_at}
 use Rattle.epoch.specs.declared.header.TreeEntry.{TreeEntry}
 use Rattle.tree_volume.specs.Shape.{IsShape, Shape}
 use Rattle.tree_volume.specs.Tree.{Found, Look, damage_at, damage_below, entry_below, or_known, with_new}
-use Rattle.tree_volume.specs.Ways.{above, both_none, first_none, no_difference, second_none}
+use Rattle.epoch.proofs.EntryLemmas.{no_difference}
+use Rattle.tree_volume.specs.Ways.{above, both_none, first_none, second_none}
 
 -- the first bytes, where there are any, else the others
 abbrev pub or_else : Option (List ℕ) → List ℕ → List ℕ

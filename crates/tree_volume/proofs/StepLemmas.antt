@@ -5,8 +5,10 @@ use Rattle.store_api.specs.declared.answer.Mismatch.{Mismatch}
 use Rattle.epoch.specs.Header.{entry_at}
 use Rattle.epoch.specs.declared.header.TreeEntry.{TreeEntry}
 use Rattle.tree_volume.specs.Shape.{IsShape, Shape}
-use Rattle.tree_volume.specs.Tree.{Found, Look, damage_at, damage_below, differing, entry_below, first_damage, known}
-use Rattle.tree_volume.specs.Ways.{above, is_root, no_difference}
+use Rattle.epoch.specs.Copies.{differing, first_damage}
+use Rattle.tree_volume.specs.Tree.{Found, Look, damage_at, damage_below, entry_below, known}
+use Rattle.epoch.proofs.EntryLemmas.{no_difference}
+use Rattle.tree_volume.specs.Ways.{above, is_root}
 
 -- bytes that are known have no damage
 pub known_damage : (look : Look) (p : ℕ) (x : TreeEntry) (text : List ℕ) → look p x ≡ known text x → damage_at look p x ≡ None

@@ -1,10 +1,12 @@
 -- The places that a commit touches, when an entry is put into one of them.
-use Rattle.std.proofs.Common.{◌≡◌, ◌≢◌, ◌≤◌, ◌<◌, ◌+◌, ◌==◌, ◌∙◌, ℕ, suc, Bool, true, false, List, [], ◌∷◌}
+use Rattle.std.proofs.Common.{◌≡◌, ◌≢◌, ◌≤◌, ◌<◌, ◌+◌, ◌*◌, ◌==◌, ◌∙◌, ℕ, suc, Bool, true, false, List, [], ◌∷◌}
 use Rattle.std.proofs.Common.{Option, None, Some, IsSome, ◌++◌, length, map, take, drop, append-nil, refl, sym, ap, subst, ⊎_elim, arith}
 use Rattle.std.proofs.lemmas.Bool.{cases_eq, false≢true}
 use Rattle.std.specs.Prelude.{reverse}
 use Rattle.std.proofs.lemmas.List.{drop_all, map-append, reverse-append, take_all}
+use Rattle.epoch.specs.Header.{entry_at}
 use Rattle.epoch.specs.Parts.{patched}
+use Rattle.epoch.proofs.EntryLemmas.{entries_apart, entry_other}
 use Rattle.epoch.proofs.HeaderLemmas.{length-patched}
 use Rattle.tree_volume.specs.declared.touched.Node.{Node}
 use Rattle.tree_volume.specs.Shape.{Shape}
@@ -155,3 +157,9 @@ all_put place at bytes items after nodes n all is view =
     let whole : map f (take n items) ++ drop n items ≡ map f items
     = ap (λ (l : List Node). map f l ++ drop n items) (take_all n items all) ∙ ap (λ (l : List Node). map f items ++ l) (drop_all n items all) ∙ append-nil (map f items) in
     ap reverse (is ∙ whole) ∙ sym (map_reverse f items) ∙ ap (map f) (sym view)
+
+-- the entry at another number stays where one is put
+pub entries_other : (n number : ℕ) (bytes old new : List ℕ) → length bytes ≡ 64 → 64 * number + 64 ≤ length old → n ≢ number → new ≡ patched (64 * number) bytes old
+    → entry_at (64 * n) new ≡ entry_at (64 * n) old
+entries_other n number bytes old new long fits ne patch =
+    entry_other (64 * n) (64 * number) bytes old new long fits (entries_apart n number ne) patch

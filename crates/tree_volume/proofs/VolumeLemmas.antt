@@ -30,7 +30,7 @@ use Rattle.tree_volume.specs.Shape.{shape}
 use Rattle.tree_volume.specs.Touched.{fresh_of}
 use Rattle.tree_volume.specs.Tree.{Found, damage_below, damage_of, entry_below, on_image, text_of}
 use Rattle.tree_volume.specs.Ways.{found_zero, zero_damage}
-use Rattle.tree_volume.specs.declared.opening.TheConstants.{NO_ROOT}
+use Rattle.epoch.specs.declared.taking.TheConstants.{NO_ROOT}
 use Rattle.tree_volume.specs.declared.touched.Node.{Node}
 use Rattle.tree_volume.specs.declared.touched.Touched.{Touched}
 use Rattle.tree_volume.specs.declared.volume.Opened.{Opened}
@@ -173,8 +173,7 @@ module _ (key : List ℕ) (reads : ℕ → List ℕ) where
   blank_stands keys keyed = record {
     keyed = keyed;
     ordered = (refl, refl);
-    here = λ l below. not_top 0 l;
-    elsewhere = λ r l ne below. not_top r l;
+    named = record { here = λ l below. not_top 0 l; elsewhere = λ r l ne below. not_top r l };
     stands = true_blank;
   }
 

@@ -1,19 +1,18 @@
 -- A node that is sealed into its spare copy, and its entry put into the node above: over the list of nodes and the image.
-use Rattle.std.proofs.Common.{◌≡◌, ◌≢◌, ◌≤◌, ◌<◌, ◌+◌, ◌-◌, ◌*◌, ◌^◌, ◌==◌, ◌∙◌, if◌then◌else◌, ℕ, suc, true, false, List, [], ◌∷◌, Option, None, Some, IsSome, length, refl, sym, ap, subst, arith}
+use Rattle.std.proofs.Common.{◌≡◌, ◌≢◌, ◌≤◌, ◌<◌, ◌+◌, ◌-◌, ◌*◌, ◌^◌, ◌∙◌, ℕ, suc, List, [], ◌∷◌, Option, None, Some, IsSome, length, refl, sym, ap, subst, arith}
 use Rattle.std.proofs.lemmas.Bool.{false≢true}
 use Rattle.epoch.specs.Header.{IsEntry, entry_at}
 use Rattle.epoch.specs.Parts.{patched}
 use Rattle.epoch.specs.declared.header.TreeEntry.{TreeEntry}
 use Rattle.tree_volume.specs.declared.touched.Node.{Node}
-use Rattle.tree_volume.specs.Shape.{IsShape, Shape}
+use Rattle.tree_volume.specs.Frame.{copy_below}
+use Rattle.tree_volume.specs.Shape.{IsShape, Shape, shape}
 use Rattle.tree_volume.specs.Touched.{AreOrdered, all_with_bytes, fresh_of, spare_block}
-use Rattle.tree_volume.specs.Tree.{Found, Look, block_at, copy_of, damage_below, entry_below, known, on_image, or_known, with_new}
-use Rattle.tree_volume.proofs.EntryLemmas.{entries_other, entry_here}
+use Rattle.epoch.specs.Copies.{copy_of}
+use Rattle.tree_volume.specs.Tree.{Found, Look, block_at, damage_below, entry_below, known, on_image, or_known, with_new}
+use Rattle.epoch.proofs.EntryLemmas.{entry_here}
+use Rattle.tree_volume.proofs.TouchedLemmas.{entries_other, fresh_head, fresh_tail, long_of, none_kept, order_kept, put_here, put_other}
 use Rattle.tree_volume.proofs.StepLemmas.{damages_after, root_damage, root_text, texts_after}
-use Rattle.tree_volume.proofs.TouchedLemmas.{fresh_head, fresh_tail, long_of, none_kept, order_kept, put_here, put_other}
-
-copy_below : (copy : ℕ) → copy_of copy < 2
-copy_below copy = elim (copy == 0) as (λ b. (if b then 0 else 1) < 2) [ true ↦ omega arith | false ↦ omega arith ]
 
 -- a block of another place is another block
 pub other_block : (s : Shape) (p q a b : ℕ) → p ≢ q → block_at s p a ≢ block_at s q b
@@ -180,3 +179,7 @@ module _ (s : Shape) (is : IsShape s) (key : List ℕ) (old new : ℕ → List �
   more_text [] ordered ne root level r at inside deep = absurd (ne ordered.0)
   more_text (next ∷ nodes) ordered ne root level r at inside deep =
       step_text s is key old new node next nodes e bytes ordered elsewhere found entry copy sequence root level r at inside deep
+
+-- no copy lies before the first one
+pub before_copies : (node : Node) (k : ℕ) → k < 8742 → k ≢ spare_block shape node
+before_copies node k low = λ same. absurd (omega (arith, low, same))

@@ -1,18 +1,18 @@
 -- What a commit gathered of a tree fits the board.
-use Rattle.std.proofs.Common.{◌≡◌, ◌≢◌, ◌<◌, ◌∙◌, ℕ, List, [], ◌∷◌, None, refl, sym, ap, arith}
+use Rattle.std.proofs.Common.{◌<◌, ◌∙◌, ℕ, List, [], ◌∷◌, refl, sym, ap, arith}
 use Rattle.seal.specs.Keys.{AreKeysOf}
 use Rattle.seal.specs.declared.keys.Keys.{Keys}
 use Rattle.store_api.specs.declared.leaves.Leaf.{Leaf}
 use Rattle.epoch.specs.Forms.{SameUsed}
 use Rattle.epoch.specs.declared.header.TreeEntry.{TreeEntry}
-use Rattle.tree_volume.specs.declared.places.TheConstants.{DEPTH, REGION_LEAVES}
+use Rattle.tree_volume.specs.declared.places.TheConstants.{DEPTH}
 use Rattle.tree_volume.specs.declared.touched.Node.{Node}
 use Rattle.tree_volume.specs.Form.{tree, tree_root}
 use Rattle.tree_volume.specs.Frame.{damage_same, entry_same, found_same, image_same}
-use Rattle.tree_volume.specs.Gather.{AreInUse, AreTrue, named}
+use Rattle.tree_volume.specs.Gather.{AreInUse, AreOfLeaves, AreTrue}
 use Rattle.tree_volume.specs.Shape.{IsShape, Shape, shape}
 use Rattle.tree_volume.specs.Shapes.{is_shape}
-use Rattle.tree_volume.specs.Touched.{AreOrdered, fresh_of}
+use Rattle.tree_volume.specs.Touched.{AreOrdered}
 use Rattle.tree_volume.specs.Tree.{Found, on_image}
 
 -- the keys are those of the board's key, and the nodes are those that a commit of these leaves touches, as they stand under the root
@@ -20,8 +20,7 @@ pub record FitsTree (keys : Keys) (nodes : List Node) (region : ℕ) (leaves : L
     (reads : ℕ → List ℕ) : Type 0 where
   pub keyed : AreKeysOf keys key
   pub ordered : AreOrdered shape nodes
-  pub here : (l : ℕ) → l < REGION_LEAVES → fresh_of nodes (shape.leaf_place region l) ≡ named leaves l
-  pub elsewhere : (r l : ℕ) → r ≢ region → l < REGION_LEAVES → fresh_of nodes (shape.leaf_place r l) ≡ None
+  pub named : AreOfLeaves nodes region leaves
   pub stands : AreTrue shape (on_image shape key reads) root DEPTH nodes
 
 -- the copies in use are those that entries name, which stay
@@ -56,7 +55,6 @@ pub tree_still_fits : (keys : Keys) (nodes : List Node) (region : ℕ) (leaves :
 tree_still_fits keys nodes region leaves root key base image same fits = record {
   keyed = fits.keyed;
   ordered = fits.ordered;
-  here = fits.here;
-  elsewhere = fits.elsewhere;
+  named = fits.named;
   stands = true_same shape is_shape key root base image same (omega arith) DEPTH nodes fits.ordered fits.stands;
 }

@@ -3,7 +3,8 @@ use Rattle.std.specs.Prelude.{ℕ, ◌+◌, ◌-◌, ◌*◌, ◌/◌, ◌%◌, 
 use Rattle.epoch.specs.Forms.{Form, Root}
 use Rattle.epoch.specs.declared.header.TreeEntry.{TreeEntry}
 use Rattle.tree_volume.specs.Shape.{Shape, shape}
-use Rattle.tree_volume.specs.Tree.{Look, copy_of, damage_of, entry_of, on_image, text_of}
+use Rattle.epoch.specs.Copies.{copy_of}
+use Rattle.tree_volume.specs.Tree.{Look, damage_of, entry_of, on_image, text_of}
 
 -- a block is the copy of a place that its entry names
 unfoldable pub tree_uses : Shape → Look → TreeEntry → ℕ → Bool

@@ -15,7 +15,8 @@ use Rattle.epoch.specs.declared.header.TreeEntry.{TreeEntry}
 use Rattle.tree_volume.specs.Form.{tree, tree_form, tree_uses}
 use Rattle.tree_volume.specs.declared.places.TheConstants.{TREE}
 use Rattle.tree_volume.specs.Shape.{IsShape, Shape, shape}
-use Rattle.tree_volume.specs.Tree.{Found, Look, block_at, copy_of, damage_at, damage_below, differing, entry_below, entry_of, first_damage, on_image}
+use Rattle.epoch.specs.Copies.{copy_of, differing, first_damage}
+use Rattle.tree_volume.specs.Tree.{Found, Look, block_at, damage_at, damage_below, entry_below, entry_of, on_image}
 use Rattle.tree_volume.specs.Shapes.{is_shape}
 use Rattle.tree_volume.specs.Ways.{above, both_none, found_zero, zero_damage}
 

@@ -1,11 +1,12 @@
 -- What is gathered before a commit writes: the nodes that it touches, as they stand under a root.
-use Rattle.std.specs.Prelude.{◌≡◌, ◌<◌, ◌⊎◌, ◌==◌, if◌then◌else◌, ℕ, zero, suc, List, [], ◌∷◌, length, Option, Some, None}
+use Rattle.std.specs.Prelude.{◌≡◌, ◌≢◌, ◌<◌, ◌⊎◌, ◌==◌, if◌then◌else◌, ℕ, zero, suc, List, [], ◌∷◌, length, Option, Some, None}
 use Rattle.std.proofs.Props.{props}
 use Rattle.tee_base.specs.declared.limits.TheConstants.{BLOCK_BYTES}
 use Rattle.store_api.specs.declared.leaves.Leaf.{Leaf}
 use Rattle.epoch.specs.declared.header.TreeEntry.{TreeEntry}
 use Rattle.tree_volume.specs.declared.touched.Node.{Node}
-use Rattle.tree_volume.specs.Shape.{Shape}
+use Rattle.tree_volume.specs.declared.places.TheConstants.{REGION_LEAVES}
+use Rattle.tree_volume.specs.Shape.{Shape, shape}
 use Rattle.tree_volume.specs.Touched.{AreOrdered, fresh_of}
 use Rattle.tree_volume.specs.Tree.{Look, damage_of, entry_of, text_of}
 
@@ -13,6 +14,12 @@ use Rattle.tree_volume.specs.Tree.{Look, damage_of, entry_of, text_of}
 abbrev pub named : List Leaf → ℕ → Option (List ℕ)
 named [] number = None
 named (leaf ∷ leaves) number = if leaf.number == number then Some leaf.bytes else named leaves number
+
+-- the leaves among nodes are these of a region
+pub record AreOfLeaves (nodes : List Node) (region : ℕ) (leaves : List Leaf) : Type 0 where
+  pub here : (l : ℕ) → l < REGION_LEAVES → fresh_of nodes (shape.leaf_place region l) ≡ named leaves l
+  pub elsewhere : (r l : ℕ) → r ≢ region → l < REGION_LEAVES
+      → fresh_of nodes (shape.leaf_place r l) ≡ None
 
 -- nodes in their order, or none yet
 abbrev pub AreGathered : Shape → List Node → Type 0

@@ -1,14 +1,13 @@
 -- What a commit made of a root.
-use Rattle.std.specs.Prelude.{◌≡◌, ◌≢◌, ◌≤◌, ◌<◌, ◌+◌, ◌*◌, ℕ, Bool, List, None, IsTrue, length}
+use Rattle.std.specs.Prelude.{◌≤◌, ◌+◌, ◌*◌, ℕ, Bool, List, IsTrue, length}
 use Rattle.store_api.specs.declared.leaves.Leaf.{Leaf}
 use Rattle.board.specs.Moment.{View}
 use Rattle.epoch.specs.declared.header.TreeEntry.{TreeEntry}
-use Rattle.tree_volume.specs.declared.places.TheConstants.{DEPTH, REGION_LEAVES}
+use Rattle.tree_volume.specs.declared.places.TheConstants.{DEPTH}
 use Rattle.tree_volume.specs.declared.touched.Node.{Node}
-use Rattle.tree_volume.specs.Gather.{AreTrue, named}
+use Rattle.tree_volume.specs.Gather.{AreOfLeaves, AreTrue}
 use Rattle.tree_volume.specs.Sealed.{AreSealed}
 use Rattle.tree_volume.specs.Shape.{shape}
-use Rattle.tree_volume.specs.Touched.{fresh_of}
 use Rattle.tree_volume.specs.Tree.{on_image}
 
 -- the nodes on the ways to these leaves of a region were sealed for this sequence: each as it stood under the root before, but for the
@@ -16,8 +15,7 @@ use Rattle.tree_volume.specs.Tree.{on_image}
 pub record IsMade (tells : Bool) (old : View) (sequence region : ℕ) (leaves : List Leaf) (before after : TreeEntry) : Type 0 where
   pub nodes : List Node
   pub few : length nodes ≤ 2 * length leaves + 6
-  pub here : (l : ℕ) → l < REGION_LEAVES → fresh_of nodes (shape.leaf_place region l) ≡ named leaves l
-  pub elsewhere : (r l : ℕ) → r ≢ region → l < REGION_LEAVES → fresh_of nodes (shape.leaf_place r l) ≡ None
+  pub named : AreOfLeaves nodes region leaves
   -- where reads are told
   pub stood : IsTrue tells → AreTrue shape (on_image shape old.key old.state.reads) before DEPTH nodes
   pub sealed : AreSealed shape DEPTH old.key sequence nodes after

@@ -4,7 +4,8 @@ use Rattle.tee_base.specs.declared.limits.TheConstants.{BLOCK_BYTES}
 use Rattle.epoch.specs.Parts.{patched}
 use Rattle.tree_volume.specs.declared.touched.Node.{Node}
 use Rattle.tree_volume.specs.Shape.{Shape}
-use Rattle.tree_volume.specs.Tree.{block_at, copy_of}
+use Rattle.epoch.specs.Copies.{copy_of}
+use Rattle.tree_volume.specs.Tree.{block_at}
 
 -- the bytes that a place is to have, where it is among these
 abbrev pub fresh_of : List Node → ℕ → Option (List ℕ)

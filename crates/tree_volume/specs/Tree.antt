@@ -1,29 +1,17 @@
 -- The way from a root down to a place: each entry stands in the node above, over what is found at each place.
-use Rattle.std.specs.Prelude.{ℕ, zero, suc, ◌+◌, ◌*◌, ◌==◌, bytes_eq, if◌then◌else◌, List, Option, Some, None, replicate}
+use Rattle.std.specs.Prelude.{ℕ, zero, suc, ◌+◌, ◌*◌, ◌==◌, if◌then◌else◌, List, Option, Some, None, replicate}
 use Rattle.tee_base.specs.declared.limits.TheConstants.{BLOCK_BYTES}
 use Rattle.store_api.specs.declared.answer.Mismatch.{Mismatch}
 use Rattle.seal.specs.Sealing.{plaintext, seal_tag}
+use Rattle.epoch.specs.Copies.{copy_of, differing, first_damage}
 use Rattle.epoch.specs.Header.{entry_at}
 use Rattle.epoch.specs.declared.header.TreeEntry.{TreeEntry}
 use Rattle.tree_volume.specs.declared.places.TheConstants.{ENTRY_BYTES}
 use Rattle.tree_volume.specs.Shape.{Shape}
 
--- which of its two copies a number names
-abbrev pub copy_of : ℕ → ℕ
-copy_of copy = if copy == 0 then 0 else 1
-
 -- the block of a copy of a place
 abbrev pub block_at : Shape → ℕ → ℕ → ℕ
 block_at s place copy = s.first_block + 2 * place + copy_of copy
-
--- a tag that was computed and the one that is kept, where they differ
-unfoldable pub differing : List ℕ → List ℕ → Option Mismatch
-differing found kept = if bytes_eq found kept then None else Some (record { found = found; kept = kept })
-
--- the first of two damages
-abbrev pub first_damage : Option Mismatch → Option Mismatch → Option Mismatch
-first_damage (Some tags) rest = Some tags
-first_damage None rest = rest
 
 -- what is found at a place: the tag that it has, and the bytes that it stands for
 pub record Found : Type 0 where

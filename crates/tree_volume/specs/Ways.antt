@@ -6,7 +6,9 @@ use Rattle.store_api.specs.declared.answer.Mismatch.{Mismatch}
 use Rattle.tree_volume.specs.Shape.{IsShape, Shape}
 use Rattle.seal.specs.Sealing.{plaintext, seal_tag}
 use Rattle.epoch.specs.declared.header.TreeEntry.{TreeEntry}
-use Rattle.tree_volume.specs.Tree.{Found, block_at, damage_at, differing, first_damage, known, on_image, unless_zero}
+use Rattle.epoch.proofs.EntryLemmas.{no_difference}
+use Rattle.epoch.specs.Copies.{differing, first_damage}
+use Rattle.tree_volume.specs.Tree.{Found, block_at, damage_at, known, on_image, unless_zero}
 
 module _ (s : Shape) (is : IsShape s) where
   -- a place below the root isn't the root
@@ -31,21 +33,6 @@ module _ (s : Shape) (is : IsShape s) where
       ⊎_elim (λ (e : p ≡ 0). e)
       (λ (ne : p ≢ 0). absurd (let up : s.level p ≡ suc (s.level (s.parent p)) = is.below p (omega arith) inside in omega arith))
       (cases_eq p 0)
-
--- equal tags don't differ
-pub no_difference : (tag : List ℕ) → differing tag tag ≡ None
-unfolding differing
-no_difference tag = let e : bytes_eq tag tag ≡ true = (bytes_eq-Decides tag tag).1 refl in rw e refl
-
--- tags that aren't equal differ
-pub differs : (found kept : List ℕ) → found ≢ kept → differing found kept ≡ Some (record { found = found; kept = kept })
-unfolding differing
-differs found kept ne =
-    elim (bytes_eq found kept) as (λ b. bytes_eq found kept ≡ b →
-    (let none : Option Mismatch = None in if b then none else Some (record { found = found; kept = kept })) ≡ Some (record { found = found; kept = kept })) [
-      | true ↦ λ e. absurd (ne ((bytes_eq-Decides found kept).0 e))
-      | false ↦ λ e. refl
-    ] refl
 
 -- tags that don't differ are equal
 pub agree : (found kept : List ℕ) → differing found kept ≡ None → found ≡ kept

@@ -11,6 +11,7 @@ ghost use Rattle.epoch.specs.Forms.{held};
 ghost use Rattle.epoch.specs.Mounting.{MountsTo, after_found, after_opening};
 ghost use Rattle.epoch.specs.Mounts.{IsAdmitted, IsKeptFromOpening, IsRefusal, IsRefusedNow, TakesUp};
 ghost use Rattle.epoch.specs.Opening.{no_failure};
+ghost use Rattle.epoch.specs.Opens.{entry_found};
 ghost use Rattle.epoch.specs.Past.{KeepsPast};
 ghost use Rattle.epoch.specs.declared.answer.OpenAnswer.TheVariants as refusals;
 ghost use Rattle.epoch.specs.declared.header.Header.{Header as Kept};
@@ -19,7 +20,7 @@ ghost use Rattle.seal.specs.Keys.{AreKeysOf};
 ghost use Rattle.tree_volume.specs.Form.{form_root, tree_form};
 ghost use Rattle.tree_volume.specs.Keeping.{IsOpen, held_now};
 ghost use Rattle.tree_volume.specs.Soundness.{damage_formed, text_formed};
-ghost use Rattle.tree_volume.specs.Opens.{IsBlankNode, Opens, root_of};
+ghost use Rattle.tree_volume.specs.Opens.{IsBlankNode, Opens};
 
 use crate::change::TreeChange;
 use crate::nodes::Nodes;
@@ -28,19 +29,11 @@ use crate::touched::{Node, Touched};
 use crate::volume::{Opened, TreeVolume};
 use board::Board;
 use epoch::{
-    BLANK, BoardVolume, FORMATTED, Header, OpenAnswer, TreeEntry, Unopened, commit, mount,
-    mount_after_power, mount_again,
+    BLANK, BoardVolume, FORMATTED, Header, NO_ROOT, OpenAnswer, Unopened, commit, mount,
+    mount_after_power, mount_again, taken_from,
 };
 use seal::Keys;
 use std::alloc::Global;
-
-/// What a blank board has in place of a root: the node that formatting writes goes into copy 0.
-pub const NO_ROOT: TreeEntry = TreeEntry {
-    copy: 1,
-    sequence: 0,
-    iv: [0; 16],
-    tag: [0; 32],
-};
 
 /// Opens a board; one that is blank is formatted.
 fn open_board<B: Board>(alloc: Global, board: &mut B, keys: &Keys) -> Result<Opened, OpenAnswer>
@@ -121,13 +114,10 @@ fn take_up<B: Board>(
 
 /// The root and the sequence of the header that was found; where none counts, no root, at the sequence 0.
 fn opened_at(found: Option<Header>) -> Opened
-    ensures root { result.root ≡ root_of found }
+    ensures root { result.root ≡ entry_found found }
     ensures sequence { result.sequence ≡ sequence_of found }
 {
-    let (root, sequence) = match found {
-        Some(header) => (header.root, header.sequence),
-        None => (NO_ROOT, 0),
-    };
+    let (root, sequence) = taken_from(found);
     Opened { root, sequence }
 }
 

@@ -2,9 +2,9 @@
 ghost use Rattle.std.specs.Prelude.{◌≡◌, ◌<◌, ◌+◌, ◌*◌, ◌-◌, ◌/◌, ◌%◌};
 ghost use Rattle.tee_base.specs.declared.limits.TheConstants.{MAX_HOSTS};
 ghost use Rattle.tree_volume.specs.Shape.{shape};
-ghost use Rattle.tree_volume.specs.Tree.{block_at as block_of_copy, copy_of};
+ghost use Rattle.tree_volume.specs.Tree.{block_at as block_of_copy};
 
-use epoch::Format;
+use epoch::{Format, named_copy};
 
 /// The version that the header of a volume has.
 pub const TREE_VERSION: u32 = 2;
@@ -51,21 +51,6 @@ pub const REGION_LEAVES: u16 = 1_024;
 
 /// How many places there are.
 pub const PLACES: u64 = 17_489;
-
-/// Which of its two copies a number names.
-pub fn named_copy(copy: u64) -> u64
-    ensures copy { result ≡ copy_of copy }
-    ensures below { result < 2 }
-{
-    if copy == 0 { 0 } else { 1 }
-}
-
-/// The number of the copy that another number doesn't name.
-pub fn other_copy(copy: u64) -> u64
-    ensures { result ≡ 1 - copy_of copy }
-{
-    if copy == 0 { 1 } else { 0 }
-}
 
 /// The block of a copy of a place.
 pub fn block_at(place: u64, copy: u64) -> u64

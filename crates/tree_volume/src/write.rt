@@ -8,14 +8,15 @@ ghost use Rattle.epoch.specs.Past.{KeepsPast};
 ghost use Rattle.epoch.specs.declared.header.TreeEntry.{TreeEntry as Entry};
 ghost use Rattle.tree_volume.specs.Gather.{AreGathered};
 ghost use Rattle.tree_volume.specs.Sealed.{AreSealed, IsSealedFor};
+ghost use Rattle.tree_volume.specs.declared.places.TheConstants.{FIRST_BLOCK};
 ghost use Rattle.tree_volume.specs.Shape.{shape};
 ghost use Rattle.tree_volume.specs.Touched.{AreOrdered, AreSpare, fresh_of, spare_block};
 ghost use Rattle.tree_volume.specs.Tree.{damage_of, known, on_image, text_of, with_new};
 
-use crate::places::{DEPTH, ENTRY_BYTES, PLACES, TREE_BLOCKS, block_at, other_copy, parent, slot};
+use crate::places::{DEPTH, ENTRY_BYTES, PLACES, TREE_BLOCKS, block_at, parent, slot};
 use crate::touched::{Node, Touched};
 use board::{Board, BoardFailed};
-use epoch::{TreeEntry, entry_bytes};
+use epoch::{TreeEntry, entry_bytes, other_copy};
 use seal::{Keys, Tags, seal_leaf};
 
 /// Seals a node into the copy of its place that isn't in use, and gives its new entry.
@@ -85,6 +86,9 @@ pub fn write_all<B: Board>(
         → AreSpare shape open_at touched.old
         → RunsOver open_at base low high first (B.view board.old)
         → RunsOver open_at base low high first (B.view board.new) }
+    // the blocks before the copies stay
+    ensures before { B.honest board.old → (k : ℕ) → k < FIRST_BLOCK
+        → (B.view board.new).state.reads k ≡ (B.view board.old).state.reads k }
     ensures damage { B.honest board.old → AreOrdered shape touched.old
         → (key : List ℕ) → AreKeysOf keys.now key
         → IfOk result (λ entry. (root : Entry) (place : ℕ) → place < PLACES

@@ -11,7 +11,8 @@ use Rattle.tree_volume.specs.Tree.{Look, damage_at, damage_of, entry_of, on_imag
 use Rattle.tree_volume.proofs.CountLemmas.{among_pushed, way_up}
 use Rattle.tree_volume.proofs.GatherLemmas.{absent, entry_under, on_ok, order_pushed, pushed_other, root_pushed, shown_true, taken, top_damage, top_entry, true_pushed, way_of}
 use Rattle.tree_volume.proofs.KeptLemmas.{found_top, under_as}
-use Rattle.tree_volume.proofs.ReadLemmas.{none_way, only_more, shows_end, shows_way}
+use Rattle.epoch.proofs.ReadLemmas.{only_more}
+use Rattle.tree_volume.proofs.ReadLemmas.{none_way, shows_end, shows_way}
 use Rattle.tree_volume.specs.Shapes.{is_shape}
 use Rattle.tree_volume.specs.Ways.{above, is_root}
 use Rattle.tree_volume.proofs.gathering.+hold.Goals as goal

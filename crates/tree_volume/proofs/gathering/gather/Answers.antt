@@ -17,7 +17,7 @@ use Rattle.tree_volume.specs.declared.touched.Touched.{Touched}
 use Rattle.tree_volume.proofs.CountLemmas.{count_of, on_way}
 use Rattle.tree_volume.proofs.GatherLemmas.{below_step, first_bytes, leaf_level, mismatch_shown, mismatch_told, named_step, new_number, none_left, nothing_true, rest_ascends, root_damages}
 use Rattle.tree_volume.proofs.KeptLemmas.{kept_as}
-use Rattle.tree_volume.proofs.ReadLemmas.{only_more}
+use Rattle.epoch.proofs.ReadLemmas.{only_more}
 use Rattle.tree_volume.specs.Shapes.{is_shape}
 use Rattle.tree_volume.proofs.gathering.gather.Goals as goal
 

@@ -7,7 +7,8 @@ use Rattle.tree_volume.specs.Shape.{shape}
 use Rattle.tree_volume.specs.Shapes.{is_shape}
 use Rattle.tree_volume.specs.Tree.{Look, damage_above, damage_at, damage_below, entry_below, on_image}
 use Rattle.tree_volume.proofs.KeptLemmas.{found_here, level_up, passed_more, under_read}
-use Rattle.tree_volume.proofs.ReadLemmas.{entry_found, entry_top, none_way, only_more, shows_rest, shows_way, way_above}
+use Rattle.epoch.proofs.ReadLemmas.{only_more}
+use Rattle.tree_volume.proofs.ReadLemmas.{entry_found, entry_top, none_way, shows_rest, shows_way, way_above}
 use Rattle.tree_volume.proofs.load_place.+find_entry.Goals as goal
 
 pub returns-then-level-eq0-clause-entry : goal.returns-then-level-eq0-clause-entry

@@ -7,7 +7,8 @@ use Rattle.tree_volume.specs.Kept.{ArePassed}
 use Rattle.tree_volume.specs.Shape.{shape}
 use Rattle.tree_volume.specs.Tree.{Look, damage_above, damage_at, damage_of, entry_below, on_image}
 use Rattle.tree_volume.proofs.IdentifyLemmas.{agrees}
-use Rattle.tree_volume.proofs.ReadLemmas.{none_way, only_more, shows_rest, shows_way, text_to, way_to}
+use Rattle.epoch.proofs.ReadLemmas.{only_more}
+use Rattle.tree_volume.proofs.ReadLemmas.{none_way, shows_rest, shows_way, text_to, way_to}
 use Rattle.tree_volume.proofs.load_place.find_leaf.Goals as goal
 
 pub returns-in_err-entry-clause-damage : goal.returns-in_err-entry-clause-damage

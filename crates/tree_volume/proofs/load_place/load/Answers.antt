@@ -2,7 +2,7 @@ use Rattle.std.proofs.Common.{sym, ap, refl, true, false}
 use Rattle.epoch.proofs.CallLemmas.{run_as, run_none, run_once}
 use Rattle.tree_volume.specs.Shape.{shape}
 use Rattle.tree_volume.specs.Tree.{Found}
-use Rattle.tree_volume.proofs.ReadLemmas.{only_itself, only_once}
+use Rattle.epoch.proofs.ReadLemmas.{only_itself, only_once}
 use Rattle.tree_volume.specs.Ways.{found_zero, zero_damage}
 use Rattle.tree_volume.proofs.load_place.load.Goals as goal
 

@@ -1,6 +1,6 @@
 use Rattle.std.proofs.Common.{sym}
 use Rattle.epoch.proofs.CallLemmas.{run_none}
-use Rattle.tree_volume.proofs.ReadLemmas.{only_itself}
+use Rattle.epoch.proofs.ReadLemmas.{only_itself}
 use Rattle.tree_volume.proofs.load_place.load_node.Goals as goal
 
 pub returns-in-Some-clause-text : goal.returns-in-Some-clause-text

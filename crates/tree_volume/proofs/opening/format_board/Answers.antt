@@ -5,26 +5,36 @@ use Rattle.epoch.specs.Commits.{IsBegun}
 use Rattle.epoch.specs.Mounts.{IsKeptFromOpening}
 use Rattle.tree_volume.specs.Change.{FitsTree}
 use Rattle.tree_volume.specs.Form.{form_root, tree_form}
-use Rattle.tree_volume.specs.declared.opening.TheConstants.{NO_ROOT}
-use Rattle.tree_volume.proofs.OpenLemmas.{blank_root, format_done, format_failed, opens_without}
+use Rattle.tree_volume.specs.Opens.{IsOpenAs, holding}
+use Rattle.tree_volume.specs.declared.places.TheConstants.{TREE}
+use Rattle.epoch.specs.declared.taking.TheConstants.{NO_ROOT}
+use Rattle.epoch.specs.Forms.{IsBlankRoot}
+use Rattle.tree_volume.specs.Frame.{form_framed, tree_format, tree_single}
+use Rattle.epoch.proofs.OpenLemmas.{blank_root, format_failed, opens_without}
+use Rattle.tree_volume.proofs.OpenLemmas.{format_done}
 use Rattle.tree_volume.proofs.VolumeLemmas.{blank_fits}
 use Rattle.tree_volume.proofs.opening.format_board.Goals as goal
+
+blank : IsBlankRoot tree_form (form_root NO_ROOT)
+blank = blank_root tree_form TREE tree_format tree_single
 
 pub returns-in_err-blank_node-clause-opens : goal.returns-in_err-blank_node-clause-opens
 returns-in_err-blank_node-clause-opens g c honest h mounts =
     let kept : IfErr c.from_residual.result (λ why. IsKeptFromOpening why) = search rules in
-    opens_without (g.B.Board.view c.args.board.now) _ c.from_residual.result h _ (mounts.1 (form_root NO_ROOT) blank_root) c.from_residual.ensures.0 kept
+    opens_without tree_form IsOpenAs holding form_framed (g.B.Board.view c.args.board.now) (form_root NO_ROOT) c.from_residual.result h _
+    (mounts.1 (form_root NO_ROOT) blank) c.from_residual.ensures.0 kept
 
 pub returns-in_err-root-clause-opens : goal.returns-in_err-root-clause-opens
 returns-in_err-root-clause-opens g c honest h mounts =
     let v = g.B.Board.view c.args.board.now in
     let keyed : AreKeysOf c.args.keys.now v.key = c.requires.keyed in
     let kept : IfErr c.from_residual-in_err-root.result (λ why. IsKeptFromOpening why) = search rules in
-    format_failed v (g.B.Board.view c.commit.new.board) c.from_residual-in_err-root.result h mounts.0 (mounts.1 (form_root NO_ROOT) blank_root).version
+    format_failed tree_form IsOpenAs holding v (g.B.Board.view c.commit.new.board) c.from_residual-in_err-root.result h
+    mounts.0 (mounts.1 (form_root NO_ROOT) blank).version
     c.from_residual-in_err-root.ensures.0 kept
     (c.in_err-root.ensures.crash honest h (record {
       last = mounts.0;
-      mounted = mounts.1 (form_root NO_ROOT) blank_root;
+      mounted = mounts.1 (form_root NO_ROOT) blank;
       fits = blank_fits c.args.keys.now c.in_ok-blank_node.field-0 v.key v.state.reads keyed c.in_ok-blank_node.ensures.node;
     }))
 
@@ -32,7 +42,7 @@ pub returns-clause-opens : goal.returns-clause-opens
 returns-clause-opens g c honest h mounts =
     let v = g.B.Board.view c.args.board.now in
     let keyed : AreKeysOf c.args.keys.now v.key = c.requires.keyed in
-    let mounted = mounts.1 (form_root NO_ROOT) blank_root in
+    let mounted = mounts.1 (form_root NO_ROOT) blank in
     let begun : IsBegun tree_form (λ key reads. FitsTree c.args.keys.now c.in_ok-blank_node.field-0 0 [] NO_ROOT key reads) v (form_root NO_ROOT) 0 h = record {
       last = mounts.0;
       mounted = mounted;

@@ -2,13 +2,19 @@ use Rattle.std.proofs.Common.{ℕ, Option, sym, subst}
 use Rattle.epoch.specs.Finding.{IsSettledAt, sequence_of}
 use Rattle.epoch.specs.declared.header.Header.{Header}
 use Rattle.epoch.proofs.CallLemmas.{run_none}
-use Rattle.tree_volume.proofs.OpenLemmas.{opens_found, opens_none, takes_header, takes_none}
+use Rattle.epoch.proofs.OpenLemmas.{opens_none, takes_header}
+use Rattle.tree_volume.proofs.OpenLemmas.{opens_found, takes_none}
 use Rattle.epoch.proofs.PastLemmas.{itself}
+use Rattle.tree_volume.specs.Form.{tree_form}
+use Rattle.tree_volume.specs.Frame.{tree_format, tree_single}
+use Rattle.tree_volume.specs.Opens.{IsOpenAs, holding}
+use Rattle.tree_volume.specs.declared.places.TheConstants.{TREE}
 use Rattle.tree_volume.proofs.opening.take_up.Goals as goal
 
 pub returns-in-Some-clause-taken : goal.returns-in-Some-clause-taken
 returns-in-Some-clause-taken g c =
-    takes_header c.args.found c.in-Some.field-0 c.opened_at.result 1 c.in-Some.is c.requires.accepted c.opened_at.ensures.root c.opened_at.ensures.sequence
+    takes_header tree_form TREE tree_format tree_single c.args.found c.in-Some.field-0 c.opened_at.result.root c.opened_at.result.sequence 1
+    c.in-Some.is c.requires.accepted c.opened_at.ensures.root c.opened_at.ensures.sequence
 
 pub returns-in-None-clause-taken : goal.returns-in-None-clause-taken
 returns-in-None-clause-taken g c = takes_none c.args.found c.format_board.result 1 c.in-None.is c.format_board.ensures.formatted
@@ -23,7 +29,8 @@ returns-in-Some-clause-opens g c honest h mounts =
 
 pub returns-in-None-clause-opens : goal.returns-in-None-clause-opens
 returns-in-None-clause-opens g c honest h mounts =
-    opens_none (g.B.Board.view c.args.board.now) (g.B.Board.view c.format_board.new.board) c.format_board.result c.args.found h c.in-None.is (c.format_board.ensures.opens honest h) mounts
+    opens_none tree_form IsOpenAs holding (g.B.Board.view c.args.board.now) (g.B.Board.view c.format_board.new.board) c.format_board.result c.args.found h
+    c.in-None.is (c.format_board.ensures.opens honest h) mounts
 
 pub returns-in-Some-clause-calls : goal.returns-in-Some-clause-calls
 returns-in-Some-clause-calls g c = run_none _

@@ -24,7 +24,7 @@ use Rattle.tree_volume.specs.declared.touched.Node.{Node}
 use Rattle.tree_volume.specs.declared.touched.Touched.{Touched}
 use Rattle.tree_volume.specs.declared.volume.Opened.{Opened}
 use Rattle.tree_volume.proofs.GatherLemmas.{gathered}
-use Rattle.tree_volume.proofs.KeptLemmas.{kept_now, nothing_kept}
+use Rattle.tree_volume.proofs.KeptLemmas.{kept_now}
 use Rattle.tree_volume.proofs.VolumeLemmas.{above_all, read_replaces, told_damage, true_as}
 use Rattle.tree_volume.proofs.volume.replace.Goals as goal
 
@@ -66,16 +66,6 @@ returns-in_err-touched-clause-cached g c tells =
     subst (λ (r : Result Opened LeafAnswer). AreKept shape (on_image shape mid.key mid.state.reads) (root_after r c.args.opened) c.args.nodes.now.kept) (sym is_err)
     (kept_now shape v mid c.args.opened.root c.args.nodes.now.kept told.calls.key (told.same tells) (c.requires.cached tells))
 
-pub returns-in-Ok-clause-cached : goal.returns-in-Ok-clause-cached
-returns-in-Ok-clause-cached g c tells =
-    let new = g.B.Board.view c.commit.new.board in
-    nothing_kept shape (on_image shape new.key new.state.reads) c.in-Ok.root c.clear.new.self.kept c.clear.ensures
-
-pub returns-clause-cached : goal.returns-clause-cached
-returns-clause-cached g c tells =
-    let new = g.B.Board.view c.commit.new.board in
-    nothing_kept shape (on_image shape new.key new.state.reads) c.args.opened.root c.clear.new.self.kept c.clear.ensures
-
 pub invariant_of-change : goal.invariant_of-change
 invariant_of-change g c = record {
   gathered = gathered shape c.in_ok-touched.touched c.in_ok-touched.ensures.ordered;
@@ -103,8 +93,7 @@ returns-in-Ok-clause-made g c =
     record {
       nodes = c.in_ok-touched.touched;
       few = omega (arith, few, long);
-      here = λ l below. told.leaves l below ∙ ap (λ (ls : List Leaf). named ls l) c.as_slice.ensures.leaves;
-      elsewhere = told.elsewhere;
+      named = record { here = λ l below. told.leaves l below ∙ ap (λ (ls : List Leaf). named ls l) c.as_slice.ensures.leaves; elsewhere = told.elsewhere };
       stood = λ tells. told.nodes tells v.key keyed (c.requires.cached tells);
       sealed = subst (AreSealed shape 4 v.key (c.args.opened.sequence + 1) c.in_ok-touched.touched) (ap (λ (r : Root). r.entry) c.in-Ok.ensures.root)
           (c.in-Ok.ensures.entries v.key keyed told.ordered);
@@ -126,8 +115,7 @@ returns-in-Ok-clause-replaced g c h is =
     let fits : FitsTree c.args.keys.now touched c.args.region leaves root mid.key mid.state.reads = record {
       keyed = subst (λ (k : List ℕ). AreKeysOf c.args.keys.now k) (sym told.calls.key) keyed;
       ordered = told.ordered;
-      here = λ l below. told.leaves l below ∙ ap (λ (ls : List Leaf). named ls l) (c.as_slice.ensures.leaves ∙ sym c.as_slice-2.ensures.leaves);
-      elsewhere = told.elsewhere;
+      named = record { here = λ l below. told.leaves l below ∙ ap (λ (ls : List Leaf). named ls l) (c.as_slice.ensures.leaves ∙ sym c.as_slice-2.ensures.leaves); elsewhere = told.elsewhere };
       stands = true_as v mid root touched told.calls.key read.1.state.reads (told.nodes tells v.key keyed (c.requires.cached tells));
     } in
     let is' : IsOpen mid root sequence = in_use_same tree_form form_framed v mid (form_root root) sequence told.calls.key read.1.state is in
@@ -164,8 +152,7 @@ returns-clause-replaced g c h is =
     let fits : FitsTree c.args.keys.now touched c.args.region leaves root mid.key mid.state.reads = record {
       keyed = subst (λ (k : List ℕ). AreKeysOf c.args.keys.now k) (sym told.calls.key) keyed;
       ordered = told.ordered;
-      here = λ l below. told.leaves l below ∙ ap (λ (ls : List Leaf). named ls l) (c.as_slice.ensures.leaves ∙ sym c.as_slice-2.ensures.leaves);
-      elsewhere = told.elsewhere;
+      named = record { here = λ l below. told.leaves l below ∙ ap (λ (ls : List Leaf). named ls l) (c.as_slice.ensures.leaves ∙ sym c.as_slice-2.ensures.leaves); elsewhere = told.elsewhere };
       stands = true_as v mid root touched told.calls.key read.1.state.reads (told.nodes tells v.key keyed (c.requires.cached tells));
     } in
     let is' : IsOpen mid root sequence = in_use_same tree_form form_framed v mid (form_root root) sequence told.calls.key read.1.state is in

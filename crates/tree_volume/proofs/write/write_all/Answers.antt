@@ -11,7 +11,7 @@ use Rattle.tree_volume.specs.Shapes.{at_most, is_shape}
 use Rattle.tree_volume.proofs.GatherLemmas.{gathered}
 use Rattle.tree_volume.proofs.SealedLemmas.{AreSealing, sealing_end, sealing_more, sealing_start}
 use Rattle.tree_volume.proofs.TouchedLemmas.{length_kept, spare_kept}
-use Rattle.tree_volume.proofs.WriteLemmas.{last_damage, last_is, last_text, more_damage, more_text, rest_ordered}
+use Rattle.tree_volume.proofs.WriteLemmas.{before_copies, last_damage, last_is, last_text, more_damage, more_text, rest_ordered}
 use Rattle.tree_volume.proofs.write.write_all.Goals as goal
 
 pub returns-in_err-entry-clause-past : goal.returns-in_err-entry-clause-past
@@ -35,6 +35,16 @@ returns-then-node-eq0-clause-run g c h open_at base low high first spare run =
     let inv = c.loop-node.invariant in
     let here : AreSpare shape open_at (c.in-Some.node ∷ c.pop.new.self) = subst (AreSpare shape open_at) c.in-Some.ensures.some (inv.spare open_at spare) in
     c.in_ok-entry.ensures.run (inv.honest h) open_at base low high first here.0 (inv.run h open_at base low high first spare run)
+
+pub returns-in_err-entry-clause-before : goal.returns-in_err-entry-clause-before
+returns-in_err-entry-clause-before g c h k low =
+    let inv = c.loop-node.invariant in
+    c.in_err-entry.ensures.elsewhere (inv.honest h) k (before_copies c.in-Some.node k low) ∙ inv.before h k low
+
+pub returns-then-node-eq0-clause-before : goal.returns-then-node-eq0-clause-before
+returns-then-node-eq0-clause-before g c h k low =
+    let inv = c.loop-node.invariant in
+    c.in_ok-entry.ensures.elsewhere (inv.honest h) k (before_copies c.in-Some.node k low) ∙ inv.before h k low
 
 pub returns-then-node-eq0-clause-damage : goal.returns-then-node-eq0-clause-damage
 returns-then-node-eq0-clause-damage g c h first key are root place inside =
@@ -83,6 +93,7 @@ loop-node-init g c = record {
   past = λ h. itself _;
   spare = λ open_at spare. spare;
   run = λ h open_at base low high first spare run. run;
+  before = λ h k low. refl;
   damage = λ h key are root place inside. refl;
   text = λ h key are root place inside at. refl;
 }
@@ -127,6 +138,7 @@ loop-node-preserved g c =
       run = λ h open_at base low high first spare run.
           (let here : AreSpare shape open_at (node ∷ rest) = subst (AreSpare shape open_at) split (inv.spare open_at spare) in
           w.run (inv.honest h) open_at base low high first here.0 (inv.run h open_at base low high first spare run));
+      before = λ h k low. w.elsewhere (inv.honest h) k (before_copies node k low) ∙ inv.before h k low;
       damage = λ h key are root place inside.
           ap (λ (nodes : List Node). damage_of shape (with_new (fresh_of nodes) (on_image shape key new)) root place) put
           ∙ more_damage shape is_shape key old new node e bytes (w.elsewhere (inv.honest h)) (w.found (inv.honest h) key are) c.entry_bytes.ensures copy sequence rest ordered ne root

@@ -26,6 +26,7 @@ invariant-loop-node g l = record {
   run : g.B.Board.honest l.fn.board → (open_at : ℕ → Bool) (base : ℕ → List ℕ) (low high : ℕ) (first : View)
       → AreSpare shape open_at l.fn.touched
       → RunsOver open_at base low high first (g.B.Board.view l.fn.board) → RunsOver open_at base low high first (g.B.Board.view l.board);
+  before : g.B.Board.honest l.fn.board → (k : ℕ) → k < 8742 → (g.B.Board.view l.board).state.reads k ≡ (g.B.Board.view l.fn.board).state.reads k;
   damage : g.B.Board.honest l.fn.board → (key : List ℕ) → AreKeysOf l.keys key → (root : TreeEntry) (place : ℕ) → place < 17489
       → damage_of shape (with_new (fresh_of l.touched) (on_image shape key (g.B.Board.view l.board).state.reads)) root place
       ≡ damage_of shape (with_new (fresh_of l.fn.touched) (on_image shape key (g.B.Board.view l.fn.board).state.reads)) root place;

@@ -7,7 +7,8 @@ use Rattle.epoch.proofs.MountLemmas.{leaves_opening, opened_to}
 use Rattle.epoch.proofs.PastLemmas.{itself}
 use Rattle.tree_volume.specs.Form.{tree_form}
 use Rattle.tree_volume.specs.Frame.{form_framed, tree_single}
-use Rattle.tree_volume.proofs.OpenLemmas.{blocks_none, leaves_resting}
+use Rattle.epoch.proofs.OpenLemmas.{blocks_none}
+use Rattle.tree_volume.proofs.OpenLemmas.{leaves_resting}
 use Rattle.tree_volume.proofs.opening.TreeVolumeBoardVolume.open.Goals as goal
 
 pub returns-in-Ok-open_board-clause-opened : goal.returns-in-Ok-open_board-clause-opened

@@ -16,7 +16,7 @@ use Rattle.epoch.specs.Finding.{IsSettledAt, sequence_of}
 use Rattle.tree_volume.specs.Form.{tree_form, form_root}
 use Rattle.tree_volume.specs.Frame.{tree_format, form_framed}
 use Rattle.tree_volume.specs.Keeping.{held_now}
-use Rattle.tree_volume.proofs.OpenLemmas.{not_ok, told_so}
+use Rattle.epoch.proofs.OpenLemmas.{not_ok, told_so}
 use Rattle.tree_volume.proofs.opening.TreeVolumeBoardVolume.power.Goals as goal
 
 pub returns-in_err-found-clause-exact : goal.returns-in_err-found-clause-exact

@@ -1,4 +1,8 @@
-use Rattle.tree_volume.proofs.OpenLemmas.{open_found, taken_up}
+use Rattle.epoch.proofs.OpenLemmas.{taken_up}
+use Rattle.tree_volume.proofs.OpenLemmas.{open_found}
+use Rattle.tree_volume.specs.Form.{tree_form}
+use Rattle.tree_volume.specs.Frame.{tree_format, tree_single}
+use Rattle.tree_volume.specs.declared.places.TheConstants.{TREE}
 use Rattle.tree_volume.proofs.volume.TreeVolume.resume.Goals as goal
 
 pub returns-clause-opened : goal.returns-clause-opened
@@ -7,4 +11,6 @@ returns-clause-opened g c h mounts =
     c.requires.accepted mounts
 
 pub returns-clause-found : goal.returns-clause-found
-returns-clause-found g c = taken_up c.args.found c.opened_at-sequence.result c.requires.accepted c.opened_at-sequence.ensures.root c.opened_at-sequence.ensures.sequence
+returns-clause-found g c =
+    taken_up tree_form TREE tree_format tree_single c.args.found c.opened_at-sequence.result.root c.opened_at-sequence.result.sequence
+    c.requires.accepted c.opened_at-sequence.ensures.root c.opened_at-sequence.ensures.sequence
