@@ -6,6 +6,7 @@ pub mod CheckLemmas
 pub mod CompleteLemmas
 pub mod ContentLemmas
 pub mod CostLemmas
+pub mod DirectoryLemmas
 pub mod EditLemmas
 pub mod EditedLemmas
 pub mod EntryLemmas

@@ -20,7 +20,7 @@ use Rattle.region_plan.proofs.RegionLemmas.{if_answered, never_told}
 use Rattle.region_plan.proofs.ReadLemmas.{leaves_stay, reads_joined, reads_no_memory, reads_not_found, reads_refused}
 use Rattle.region_plan.proofs.FormLemmas.{IsLaid}
 
-decided_told : (why : Option StoreAnswer) (P : ℕ → Type 0) → IsDecided why → IfGarbled why P
+pub decided_told : (why : Option StoreAnswer) (P : ℕ → Type 0) → IsDecided why → IfGarbled why P
 decided_told None P decided = tt
 decided_told (Some answers.NotFound) P decided = tt
 decided_told (Some answers.Exists) P decided = tt
@@ -31,20 +31,21 @@ decided_told (Some (answers.Corrupt tags)) P decided = tt
 decided_told (Some (answers.Garbled leaf)) P decided = absurd decided
 decided_told (Some answers.NoMemory) P decided = tt
 
+module _ {S : Type 0} (K : VolumeKeeper S) (region : S → ℕ) where
+  -- a run of reads behind which an answer is given without one
+  pub decided_reads : (why : Option StoreAnswer) (old new : S) → IsDecided why → ReadsOnly K region None old new → ReadsOnly K region why old new
+  decided_reads None old new decided run = run
+  decided_reads (Some answers.NotFound) old new decided run = reads_not_found K region old new run
+  decided_reads (Some answers.Exists) old new decided run = reads_refused K region (Some answers.Exists) old new (λ c. c) (λ P. tt) (λ P p. p) run
+  decided_reads (Some answers.NoSpace) old new decided run = reads_refused K region (Some answers.NoSpace) old new (λ c. c) (λ P. tt) (λ P p. p) run
+  decided_reads (Some answers.Lost) old new decided run = absurd decided
+  decided_reads (Some answers.Failed) old new decided run = absurd decided
+  decided_reads (Some (answers.Corrupt tags)) old new decided run = absurd decided
+  decided_reads (Some (answers.Garbled leaf)) old new decided run = absurd decided
+  decided_reads (Some answers.NoMemory) old new decided run = reads_no_memory K region old new run
+
 module _ (L : Layout) (laid : IsLaid L) where
   module _ {S : Type 0} (K : VolumeKeeper S) (region : S → ℕ) where
-    -- a run of reads behind which an answer is given without one
-    decided_reads : (why : Option StoreAnswer) (old new : S) → IsDecided why → ReadsOnly K region None old new → ReadsOnly K region why old new
-    decided_reads None old new decided run = run
-    decided_reads (Some answers.NotFound) old new decided run = reads_not_found K region old new run
-    decided_reads (Some answers.Exists) old new decided run = reads_refused K region (Some answers.Exists) old new (λ c. c) (λ P. tt) (λ P p. p) run
-    decided_reads (Some answers.NoSpace) old new decided run = reads_refused K region (Some answers.NoSpace) old new (λ c. c) (λ P. tt) (λ P p. p) run
-    decided_reads (Some answers.Lost) old new decided run = absurd decided
-    decided_reads (Some answers.Failed) old new decided run = absurd decided
-    decided_reads (Some (answers.Corrupt tags)) old new decided run = absurd decided
-    decided_reads (Some (answers.Garbled leaf)) old new decided run = absurd decided
-    decided_reads (Some answers.NoMemory) old new decided run = reads_no_memory K region old new run
-
     -- a plan that reads on
     pub read_plan : (c : Change) (result : Result (List Leaf) StoreAnswer) (old mid new : S) (map : List Entry) (inodes : List Inode) → ReadsOnly K region None old mid
         → (IsTrue K.tells_reads → IsMapOf L (leaves_of K region old) map) → (IsTrue K.tells_reads → inodes ≡ inodes_of L (leaves_of K region old))
@@ -73,5 +74,5 @@ module _ (L : Layout) (laid : IsLaid L) where
       plans = plans;
       named = named;
       garbled = decided_told (refusal_of result) _ decided;
-      reads = decided_reads (refusal_of result) old mid decided run;
+      reads = decided_reads K region (refusal_of result) old mid decided run;
     }

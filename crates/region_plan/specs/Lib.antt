@@ -1,4 +1,5 @@
 pub mod Checks
+pub mod Directories
 pub mod Edits
 pub mod Entries
 pub mod Inodes

@@ -5,6 +5,7 @@ mod bytes;
 mod calls;
 mod check;
 mod data;
+mod directory;
 mod edit;
 mod entry;
 mod form;
@@ -17,6 +18,7 @@ mod table;
 
 pub use calls::{facts, locate, next_after, secret};
 pub use data::content;
+pub use directory::Directory;
 pub use form::Form;
 pub use laws::region_laws;
 pub use planning::{cost, plan};

@@ -1,0 +1,34 @@
+-- What the map and the inode leaves of a region say, as one value.
+use Rattle.std.specs.Prelude.{ℕ, ◌≡◌, ◌<◌, true, List, Result, IfOk, IsTrue}
+use Rattle.std.specs.List.{All}
+use Rattle.store_api.specs.declared.answer.StoreAnswer.{StoreAnswer}
+use Rattle.store_api.specs.Keeping.{Answers}
+use Rattle.store_api.specs.Stores.{Store}
+use Rattle.store_api.specs.Volumes.{VolumeKeeper}
+use Rattle.region_plan.specs.Layout.{layout}
+use Rattle.region_plan.specs.Entries.{is_inode, is_well_formed}
+use Rattle.region_plan.specs.Places.{AreWritable, IsMapOf}
+use Rattle.region_plan.specs.Plans.{IsDecided}
+use Rattle.region_plan.specs.Reading.{IfGarbled, IsBroken, IsWhole, ReadsOnly, leaves_of, refusal_of}
+use Rattle.region_plan.specs.Regions.{inodes_of, store_of}
+use Rattle.region_plan.specs.Tables.{IsWithin}
+use Rattle.region_plan.specs.declared.directory.Directory.{Directory}
+
+-- whatever was read, a directory keeps to the limits of its form
+pub record IsBounded (d : Directory) : Type 0 where
+  pub inodes : All (IsWithin (layout d.form)) d.inodes.items
+  pub map : AreWritable (layout d.form) d.map.value
+
+-- a directory says what the map and the inodes of these leaves say, which keep the rules
+pub record IsDirectoryOf (leaves : ℕ → List ℕ) (d : Directory) : Type 0 where
+  pub map : IsMapOf (layout d.form) leaves d.map.value
+  pub inodes : d.inodes.items ≡ inodes_of (layout d.form) leaves
+  pub formed : (i : ℕ) → i < (layout d.form).leaves → is_well_formed (layout d.form) leaves i ≡ true
+  pub whole : (i : ℕ) → i < (layout d.form).leaves → is_inode (layout d.form) leaves i ≡ true → IsWhole (layout d.form) leaves i
+
+-- a look-up in a directory, without a read: this is stated of the store of the leaves that it is of, whichever they are, and the answer
+-- is within these bounds in any case
+pub record LooksUp {A : Type 0} (stated : Store → Result A StoreAnswer) (Bounds : A → Type 0) (d : Directory) (result : Result A StoreAnswer) : Type 0 where
+  pub answer : (leaves : ℕ → List ℕ) → IsDirectoryOf leaves d → Answers result (stated (store_of (layout d.form) leaves))
+  pub bounds : IfOk result (λ a. Bounds a)
+  pub decided : IsDecided (refusal_of result)
