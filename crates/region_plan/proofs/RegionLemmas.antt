@@ -18,7 +18,7 @@ use Rattle.region_plan.proofs.CompleteLemmas.{each_more}
 use Rattle.region_plan.proofs.ReadLemmas.{damage_stays, leaves_stay, reads_joined, reads_not_found, reads_no_memory}
 use Rattle.region_plan.proofs.FormLemmas.{IsLaid}
 
-unread_answers : {A : Type 0} (e : StoreAnswer) (stated : Result A StoreAnswer) → IsUnread (Some e) → Answers (Err e) stated
+pub unread_answers : {A : Type 0} (e : StoreAnswer) (stated : Result A StoreAnswer) → IsUnread (Some e) → Answers (Err e) stated
 unread_answers answers.NotFound stated h = absurd h
 unread_answers answers.Exists stated h = absurd h
 unread_answers answers.NoSpace stated h = absurd h

@@ -9,8 +9,8 @@ use Rattle.region_plan.specs.Layout.{layout}
 use Rattle.region_plan.specs.Entries.{is_inode, is_well_formed}
 use Rattle.region_plan.specs.Places.{AreWritable, IsMapOf}
 use Rattle.region_plan.specs.Plans.{IsDecided}
-use Rattle.region_plan.specs.Reading.{IfGarbled, IsBroken, IsWhole, ReadsOnly, leaves_of, refusal_of}
-use Rattle.region_plan.specs.Regions.{inodes_of, store_of}
+use Rattle.region_plan.specs.Reading.{IfGarbled, IsWhole, ReadsOnly, leaves_of, refusal_of}
+use Rattle.region_plan.specs.Regions.{breaks, inodes_of, store_of}
 use Rattle.region_plan.specs.Tables.{IsWithin}
 use Rattle.region_plan.specs.declared.directory.Directory.{Directory}
 
@@ -32,3 +32,14 @@ pub record LooksUp {A : Type 0} (stated : Store → Result A StoreAnswer) (Bound
   pub answer : (leaves : ℕ → List ℕ) → IsDirectoryOf leaves d → Answers result (stated (store_of (layout d.form) leaves))
   pub bounds : IfOk result (λ a. Bounds a)
   pub decided : IsDecided (refusal_of result)
+
+module _ {S : Type 0} (K : VolumeKeeper S) (region : S → ℕ) where
+  -- a call that reads leaves of data by a directory: this is stated of the store, where the directory is of the leaves as they are found
+  pub record ReadsFrom {A : Type 0} (d : Directory) (stated : Store → Result A StoreAnswer) (Bounds : A → Type 0) (result : Result A StoreAnswer) (old new : S) : Type 0 where
+    pub answer : IsTrue K.tells_reads → IsDirectoryOf (leaves_of K region old) d → Answers result (stated (store_of (layout d.form) (leaves_of K region old)))
+    pub bounds : IfOk result (λ a. Bounds a)
+    -- a leaf that is told is one of the region's, and breaks a rule
+    pub few : IfGarbled (refusal_of result) (λ leaf. leaf < (layout d.form).leaves)
+    pub garbled : IsTrue K.tells_reads → IsDirectoryOf (leaves_of K region old) d
+        → IfGarbled (refusal_of result) (λ leaf. IsTrue (breaks (layout d.form) (leaves_of K region old) leaf))
+    pub reads : ReadsOnly K region (refusal_of result) old new

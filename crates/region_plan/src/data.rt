@@ -6,6 +6,7 @@ ghost use Rattle.store_api.specs.Limits.{IsIdentifier, IsPart};
 ghost use Rattle.store_api.specs.Stores.{read_at};
 ghost use Rattle.tee_base.specs.declared.limits.TheConstants.{BLOCK_BYTES, MAX_ASK_BYTES};
 ghost use Rattle.region_plan.specs.Layout.{layout};
+ghost use Rattle.region_plan.specs.Directories.{IsBounded, IsDirectoryOf, ReadsFrom};
 ghost use Rattle.region_plan.specs.Entries.{is_inode};
 ghost use Rattle.region_plan.specs.Inodes.{length_in};
 ghost use Rattle.region_plan.specs.Parts.{are_zero};
@@ -15,10 +16,11 @@ ghost use Rattle.region_plan.specs.Regions.{breaks, byte_at, leaf_of};
 ghost use Rattle.region_plan.specs.Tables.{IsInode};
 
 use crate::bytes::all_zero;
-use crate::entry::{DATA, Entry, FREE_ENTRY, entry_in};
+use crate::directory::Directory;
+use crate::entry::{DATA, Entry, entry_in};
 use crate::form::{Form, MOST_LEAVES};
 use crate::source::{LeafSource, read};
-use crate::table::{find, load};
+use crate::table::find;
 use std::alloc::Global;
 use store_api::StoreAnswer;
 use tee_base::Bytes;
@@ -150,6 +152,45 @@ fn read_between<L: LeafSource>(
     Ok(Bytes::from_vec(bytes))
 }
 
+impl Directory {
+    /// At most so many bytes of an object's content, from a place on. `NotFound` exactly where there is no such object.
+    pub fn content<L: LeafSource>(
+        &self,
+        alloc: Global,
+        from: &mut L,
+        id: &[u8],
+        start: u32,
+        count: u32,
+    ) -> Result<Bytes, StoreAnswer>
+        requires fits { (layout self.now.form).leaves ≤ L.keeper.leaves }
+        requires works { (L.keeper.condition from.old).lost ≡ false }
+        requires bounded { IsBounded self.now }
+        requires count { count ≤ MAX_ASK_BYTES }
+        ensures reads { ReadsFrom L.keeper L.region self.now
+            (λ store. read_at store id.now start count) (IsPart count) result from.old from.new }
+        ensures found { IsTrue L.keeper.tells_reads
+            → IsDirectoryOf (leaves_of L.keeper L.region from.old) self.now
+            → IfOk result (λ bytes. IsReadPart L.keeper L.region (layout self.now.form) id.now start
+            count from.old) }
+    {
+        let Some(inode) = find(self.form, self.inodes.as_slice(), id) else {
+            return Err(StoreAnswer::NotFound);
+        };
+        let start = start.min(inode.length);
+        let end = start + count.min(inode.length - start);
+        read_between(
+            alloc,
+            from,
+            self.form,
+            &self.map,
+            inode.number,
+            inode.length,
+            start,
+            end,
+        )
+    }
+}
+
 /// At most so many bytes of an object's content, from a place on. `NotFound` exactly where there is no such object.
 pub fn content<L: LeafSource>(
     alloc: Global,
@@ -167,21 +208,6 @@ pub fn content<L: LeafSource>(
     ensures found { IsTrue L.keeper.tells_reads → IfOk result
         (λ bytes. IsReadPart L.keeper L.region (layout form) id.now start count from.old) }
 {
-    let mut map = [FREE_ENTRY; MOST_LEAVES];
-    let inodes = load(alloc, from, form, &mut map)?;
-    let Some(inode) = find(form, inodes.as_slice(), id) else {
-        return Err(StoreAnswer::NotFound);
-    };
-    let start = start.min(inode.length);
-    let end = start + count.min(inode.length - start);
-    read_between(
-        alloc,
-        from,
-        form,
-        &map,
-        inode.number,
-        inode.length,
-        start,
-        end,
-    )
+    let directory = Directory::read(alloc, from, form)?;
+    directory.content(alloc, from, id, start, count)
 }

@@ -3,6 +3,7 @@
 
 mod bytes;
 mod calls;
+mod change;
 mod check;
 mod data;
 mod directory;
@@ -17,9 +18,10 @@ mod source;
 mod table;
 
 pub use calls::{facts, locate, next_after, secret};
+pub use change::plan;
 pub use data::content;
 pub use directory::Directory;
 pub use form::Form;
 pub use laws::region_laws;
-pub use planning::{cost, plan};
+pub use planning::cost;
 pub use source::LeafSource;

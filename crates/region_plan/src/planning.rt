@@ -1,4 +1,4 @@
-//! A change of the objects as a change of leaves.
+//! Each kind of change of the objects as a change of leaves.
 
 ghost use Rattle.std.specs.Prelude.{◌≡◌, ◌≢◌, ◌≤◌, ◌<◌, ◌+◌, ◌*◌, ℕ, List, true, false, is_some, IfOk, IsTrue, Ok, Err, length as length_of};
 ghost use Rattle.std.specs.List.{All};
@@ -6,11 +6,11 @@ ghost use Rattle.tee_base.specs.declared.limits.TheConstants.{MAX_ASK_BYTES, MAX
 ghost use Rattle.store_api.specs.Ascending.{is_above_all};
 ghost use Rattle.store_api.specs.declared.answer.StoreAnswer.TheVariants.{NoSpace};
 ghost use Rattle.store_api.specs.declared.change.Change.TheVariants as changes;
-ghost use Rattle.store_api.specs.Limits.{IsChange, IsIdentifier, IsSecret};
+ghost use Rattle.store_api.specs.Limits.{IsIdentifier, IsSecret};
 ghost use Rattle.store_api.specs.Stores.{Store, blocks_for};
 ghost use Rattle.region_plan.specs.Layout.{layout};
 ghost use Rattle.region_plan.specs.Places.{AreWritable, IsMapOf, entries_in};
-ghost use Rattle.region_plan.specs.Planning.{Plans, PlansChange};
+ghost use Rattle.region_plan.specs.Planning.{Plans};
 ghost use Rattle.region_plan.specs.Plans.{ChangeMap, IsChangedLeaf, IsContentPlan, IsDecided, IsMapLeaf, IsNewPlan, IsPlanned, LacksNew, IsUnreadOrFull, LacksSpace, bytes_or, changing, may_change, same_entry, with_leaves};
 ghost use Rattle.region_plan.specs.Reading.{IfGarbled, IsUnread, ReadsOnly, leaves_of, refusal_of};
 ghost use Rattle.region_plan.specs.Regions.{inodes_of, region_of};
@@ -22,9 +22,9 @@ use crate::form::{Form, MOST_LEAVES};
 use crate::inode::{Head, Inode, inode_block};
 use crate::place::{first_free, is_data_of, with_data};
 use crate::source::LeafSource;
-use crate::table::{find, load};
+use crate::table::find;
 use std::alloc::Global;
-use store_api::{Change, Leaf, Leaves, StoreAnswer};
+use store_api::{Leaf, Leaves, StoreAnswer};
 use tee_base::NoMemory;
 use tee_base::limits::BLOCK_BYTES;
 
@@ -268,7 +268,7 @@ fn plan_new<L: LeafSource>(
 }
 
 /// The leaves that keep an object under an identifier.
-fn plan_put<L: LeafSource>(
+pub(crate) fn plan_put<L: LeafSource>(
     alloc: Global,
     from: &mut L,
     form: Form,
@@ -321,7 +321,7 @@ fn plan_put<L: LeafSource>(
 }
 
 /// The leaf that takes an object away.
-fn plan_delete(
+pub(crate) fn plan_delete(
     alloc: Global,
     form: Form,
     map: &[Entry; MOST_LEAVES],
@@ -348,7 +348,7 @@ fn plan_delete(
 }
 
 /// The leaf that moves an object to another identifier.
-fn plan_rename(
+pub(crate) fn plan_rename(
     alloc: Global,
     form: Form,
     inodes: &[Inode],
@@ -382,7 +382,7 @@ fn plan_rename(
 }
 
 /// The leaves that write bytes at a place of an object's content.
-fn plan_write<L: LeafSource>(
+pub(crate) fn plan_write<L: LeafSource>(
     alloc: Global,
     from: &mut L,
     form: Form,
@@ -425,7 +425,7 @@ fn plan_write<L: LeafSource>(
 }
 
 /// The leaves that give an object's content a length.
-fn plan_truncate<L: LeafSource>(
+pub(crate) fn plan_truncate<L: LeafSource>(
     alloc: Global,
     from: &mut L,
     form: Form,
@@ -460,64 +460,4 @@ fn plan_truncate<L: LeafSource>(
         length,
     };
     plan_content(alloc, from, form, map, inode, edit)
-}
-
-/// The leaves of a change, in ascending order, after which the region stands for the changed store. It writes nothing.
-pub fn plan<L: LeafSource>(
-    alloc: Global,
-    from: &mut L,
-    form: Form,
-    change: &Change,
-) -> Result<Leaves, StoreAnswer>
-    requires fits { (layout form).leaves ≤ L.keeper.leaves }
-    requires change { IsChange change.now }
-    ensures { PlansChange L.keeper L.region (layout form) change.now result from.old from.new }
-{
-    let mut map = [FREE_ENTRY; MOST_LEAVES];
-    let inodes = load(alloc, from, form, &mut map)?;
-    let inodes = inodes.as_slice();
-    match change {
-        Change::Put {
-            id,
-            kind,
-            usage,
-            secret,
-            content,
-            overwrite,
-        } => {
-            let head = Head {
-                kind: *kind,
-                usage: *usage,
-                id: id.as_slice(),
-                secret: secret.as_slice(),
-            };
-            plan_put(
-                alloc,
-                from,
-                form,
-                &map,
-                inodes,
-                head,
-                content.as_slice(),
-                *overwrite,
-            )
-        }
-        Change::Delete { id } => plan_delete(alloc, form, &map, inodes, id.as_slice()),
-        Change::Rename { id, to } => plan_rename(alloc, form, inodes, id.as_slice(), to.as_slice()),
-        Change::Write { id, at, bytes } => {
-            plan_write(
-                alloc,
-                from,
-                form,
-                &map,
-                inodes,
-                id.as_slice(),
-                *at,
-                bytes.as_slice(),
-            )
-        }
-        Change::Truncate { id, length } => {
-            plan_truncate(alloc, from, form, &map, inodes, id.as_slice(), *length)
-        }
-    }
 }

@@ -1,0 +1,84 @@
+use Rattle.std.proofs.Common.{◌≡◌, ◌∙◌, ◌+◌, ◌-◌, ◌≤◌, ℕ, List, Some, Ok, length, map, min, refl, sym, ap, subst, arith}
+use Rattle.std.specs.List.{range_with_len}
+use Rattle.region_plan.specs.Directories.{IsDirectoryOf}
+use Rattle.region_plan.specs.Inodes.{length_in}
+use Rattle.region_plan.specs.Layout.{layout}
+use Rattle.region_plan.specs.Places.{IsMapOf}
+use Rattle.region_plan.specs.Reading.{IsReadData, IsReadPart, leaves_of}
+use Rattle.region_plan.specs.Regions.{byte_at, inodes_of}
+use Rattle.region_plan.specs.Tables.{IsInode, inode_with}
+use Rattle.region_plan.specs.declared.entry.Entry.{Entry}
+use Rattle.region_plan.proofs.ContentLemmas.{content_answer, if_ok, part_inside}
+use Rattle.region_plan.proofs.DirectoryLemmas.{answers_read}
+use Rattle.region_plan.proofs.FormLemmas.{laid_by}
+use Rattle.region_plan.proofs.ReadLemmas.{reads_not_found, reads_started}
+use Rattle.region_plan.proofs.RegionLemmas.{less_read}
+use Rattle.region_plan.proofs.StoreLemmas.{located, looked_none, looked_up, absent_is, content_told, length_told, found_is_inode}
+use Rattle.region_plan.proofs.directory.Directory.content.Goals as goal
+
+pub returns-in_default-clause-reads : goal.returns-in_default-clause-reads
+returns-in_default-clause-reads g c = record {
+  answer = λ h is. absent_is (layout c.args.self.now.form) (leaves_of g.L.LeafSource.keeper g.L.LeafSource.region c.args.from.now) _ c.args.id.now
+      (looked_none (layout c.args.self.now.form) (leaves_of g.L.LeafSource.keeper g.L.LeafSource.region c.args.from.now) c.args.id.now c.find.result c.as_slice.result.now
+      c.args.self.now.inodes.items c.find.ensures.inode c.as_slice.ensures.value is.inodes c.in_default.is);
+  bounds = tt;
+  few = tt;
+  garbled = λ h is. tt;
+  reads = reads_not_found g.L.LeafSource.keeper g.L.LeafSource.region c.args.from.now c.args.from.now
+      (reads_started g.L.LeafSource.keeper g.L.LeafSource.region c.args.from.now c.requires.works (g.met.L.LeafSource.rests c.args.from.now));
+}
+
+pub returns-clause-reads : goal.returns-clause-reads
+returns-clause-reads g c =
+    let K = g.L.LeafSource.keeper in
+    let R = g.L.LeafSource.region in
+    let leaves = leaves_of K R c.args.from.now in
+    let d = c.args.self.now in
+    let L = layout d.form in
+    let inode = c.in-Some.inode.now in
+    let here : IsDirectoryOf leaves d → inode_with c.args.id.now (inodes_of L leaves) ≡ Some inode
+    = λ is. looked_up L leaves c.args.id.now c.find.result c.as_slice.result.now d.inodes.items c.in-Some.inode c.find.ensures.inode c.as_slice.ensures.value is.inodes c.in-Some.is in
+    let known : IsDirectoryOf leaves d → IsInode L leaves c.deref.result.now inode.number inode.length
+    = λ is. record { first = subst (λ (m : List Entry). IsMapOf L leaves m) (sym c.deref.ensures) is.map; inode = found_is_inode L leaves c.args.id.now inode (here is); long = length_told L leaves c.args.id.now inode (here is) } in
+    record {
+      answer = λ h is. answers_read c.read_between.result _
+          (if_ok c.read_between.result (λ a. a ≡ map (λ n. byte_at L leaves inode.number n) (range_with_len c.min-start.result ((c.min-start.result + c.min.result) - c.min-start.result))) _
+          (λ a bytes.
+          content_told L leaves c.args.id.now inode c.args.start c.args.count (here is)
+          ∙ ap (λ (b : List ℕ). Ok b) (content_answer L (laid_by d.form) leaves leaves inode.number c.args.start c.args.count inode.length c.min-start.result c.min.result a refl (known is).long
+          c.min-start.ensures c.min.ensures bytes))
+          (c.read_between.ensures.bytes h (known is)))
+          c.read_between.ensures.unread;
+      bounds = if_ok c.read_between.result (λ a. length a ≡ (c.min-start.result + c.min.result) - c.min-start.result) (λ a. length a ≤ c.args.count)
+          (λ a is. omega (arith, is, c.min.ensures)) c.read_between.ensures.count;
+      few = c.read_between.ensures.few;
+      garbled = λ h is. c.read_between.ensures.garbled h (known is);
+      reads = c.read_between.ensures.reads;
+    }
+
+pub returns-clause-found : goal.returns-clause-found
+returns-clause-found g c h is =
+    let K = g.L.LeafSource.keeper in
+    let R = g.L.LeafSource.region in
+    let leaves = leaves_of K R c.args.from.now in
+    let d = c.args.self.now in
+    let L = layout d.form in
+    let inode = c.in-Some.inode.now in
+    let here : inode_with c.args.id.now (inodes_of L leaves) ≡ Some inode
+    = looked_up L leaves c.args.id.now c.find.result c.as_slice.result.now d.inodes.items c.in-Some.inode c.find.ensures.inode c.as_slice.ensures.value is.inodes c.in-Some.is in
+    let place = located L leaves c.args.id.now inode c.in-Some.ensures.within.2 here in
+    let long = length_told L leaves c.args.id.now inode here in
+    let known : IsInode L leaves c.deref.result.now inode.number inode.length = record { first = subst (λ (m : List Entry). IsMapOf L leaves m) (sym c.deref.ensures) is.map; inode = place.1; long = long } in
+    if_ok c.read_between.result
+    (λ (bytes : List ℕ). IsReadData K R L inode.number c.min-start.result (c.min-start.result + c.min.result) c.args.from.now)
+    (λ (bytes : List ℕ). IsReadPart K R L c.args.id.now c.args.start c.args.count c.args.from.now)
+    (λ bytes read. record {
+      inode = inode.number;
+      is = place.1;
+      named = place.2;
+      found = less_read K R L c.args.from.now inode.number c.min-start.result (c.min-start.result + c.min.result) c.args.start
+          (min (c.args.start + c.args.count) (length_in (leaves inode.number)))
+          (λ place low high. part_inside c.args.start c.args.count inode.length (length_in (leaves inode.number)) c.min-start.result c.min.result place c.min-start.ensures c.min.ensures long low high)
+          read;
+    })
+    (c.read_between.ensures.found h known)

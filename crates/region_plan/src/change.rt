@@ -1,0 +1,81 @@
+//! A change of the objects as a change of leaves.
+
+ghost use Rattle.std.specs.Prelude.{◌≡◌, ◌≤◌, false};
+ghost use Rattle.store_api.specs.Limits.{IsChange};
+ghost use Rattle.region_plan.specs.Directories.{IsBounded};
+ghost use Rattle.region_plan.specs.Layout.{layout};
+ghost use Rattle.region_plan.specs.Planning.{PlansChange, PlansFrom};
+
+use crate::directory::Directory;
+use crate::form::Form;
+use crate::inode::Head;
+use crate::planning::{plan_delete, plan_put, plan_rename, plan_truncate, plan_write};
+use crate::source::LeafSource;
+use std::alloc::Global;
+use store_api::{Change, Leaves, StoreAnswer};
+
+impl Directory {
+    /// The leaves of a change, in ascending order, after which the region stands for the changed store. It writes nothing, and
+    /// reads only data of the object that changes.
+    pub fn plan<L: LeafSource>(
+        &self,
+        alloc: Global,
+        from: &mut L,
+        change: &Change,
+    ) -> Result<Leaves, StoreAnswer>
+        requires fits { (layout self.now.form).leaves ≤ L.keeper.leaves }
+        requires works { (L.keeper.condition from.old).lost ≡ false }
+        requires bounded { IsBounded self.now }
+        requires change { IsChange change.now }
+        ensures { PlansFrom L.keeper L.region self.now change.now result from.old from.new }
+    {
+        let form = self.form;
+        let map = &*self.map;
+        let inodes = self.inodes.as_slice();
+        match change {
+            Change::Put {
+                id,
+                kind,
+                usage,
+                secret,
+                content,
+                overwrite,
+            } => {
+                let head = Head {
+                    kind: *kind,
+                    usage: *usage,
+                    id: id.as_slice(),
+                    secret: secret.as_slice(),
+                };
+                let content = content.as_slice();
+                plan_put(alloc, from, form, map, inodes, head, content, *overwrite)
+            }
+            Change::Delete { id } => plan_delete(alloc, form, map, inodes, id.as_slice()),
+            Change::Rename { id, to } => {
+                plan_rename(alloc, form, inodes, id.as_slice(), to.as_slice())
+            }
+            Change::Write { id, at, bytes } => {
+                let bytes = bytes.as_slice();
+                plan_write(alloc, from, form, map, inodes, id.as_slice(), *at, bytes)
+            }
+            Change::Truncate { id, length } => {
+                plan_truncate(alloc, from, form, map, inodes, id.as_slice(), *length)
+            }
+        }
+    }
+}
+
+/// The leaves of a change, in ascending order, after which the region stands for the changed store. It writes nothing.
+pub fn plan<L: LeafSource>(
+    alloc: Global,
+    from: &mut L,
+    form: Form,
+    change: &Change,
+) -> Result<Leaves, StoreAnswer>
+    requires fits { (layout form).leaves ≤ L.keeper.leaves }
+    requires change { IsChange change.now }
+    ensures { PlansChange L.keeper L.region (layout form) change.now result from.old from.new }
+{
+    let directory = Directory::read(alloc, from, form)?;
+    directory.plan(alloc, from, change)
+}
