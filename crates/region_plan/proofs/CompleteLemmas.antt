@@ -50,7 +50,7 @@ all_of p zero a all = refl
 all_of p (suc n) a all = ap (λ b. b && list_all p (range_with_len (a + 1) n)) (all a (omega arith) (omega arith)) ∙ all_of p n (a + 1) (λ i low high. all i (omega arith) (omega arith))
 
 -- fewer places than things that have one each, and no place has two
-pigeons : (p : ℕ → ℕ → Bool) (m k : ℕ) → m < k → ((x : ℕ) → x < k → total (λ i. mark (p x i)) 0 m ≡ 1) → ((i x y : ℕ) → p x i ≡ true → p y i ≡ true → x ≡ y) → ⊥
+pub pigeons : (p : ℕ → ℕ → Bool) (m k : ℕ) → m < k → ((x : ℕ) → x < k → total (λ i. mark (p x i)) 0 m ≡ 1) → ((i x y : ℕ) → p x i ≡ true → p y i ≡ true → x ≡ y) → ⊥
 pigeons p m k more one same =
     let each = total_each (λ x. total (λ i. mark (p x i)) 0 m) 0 k (λ x low high. one x (omega arith)) in
     let turned = total_swap (λ x i. mark (p x i)) 0 k 0 m in

@@ -1,6 +1,7 @@
 pub mod AgreeLemmas
 pub mod BlankLemmas
 pub mod BlockLemmas
+pub mod ChainLemmas
 pub mod ChangedLemmas
 pub mod CheckLemmas
 pub mod CompleteLemmas
@@ -11,6 +12,7 @@ pub mod EditLemmas
 pub mod EditedLemmas
 pub mod EntryLemmas
 pub mod FewLemmas
+pub mod FirstLemmas
 pub mod FormLemmas
 pub mod FoundLemmas
 pub mod FrameLemmas

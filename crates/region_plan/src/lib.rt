@@ -3,6 +3,7 @@
 
 mod bytes;
 mod calls;
+mod chain;
 mod change;
 mod check;
 mod data;

@@ -3,6 +3,7 @@
 ghost use Rattle.std.specs.Prelude.{◌≡◌, ◌≤◌, ◌<◌, ◌*◌, ℕ, List, IfErr, IfOk, IfSome, OnOk, IsTrue, true, false, option_copied};
 ghost use Rattle.std.specs.List.{All};
 ghost use Rattle.store_api.specs.declared.answer.StoreAnswer.TheVariants.{Garbled};
+ghost use Rattle.region_plan.specs.Chains.{AreChains};
 ghost use Rattle.region_plan.specs.Layout.{layout};
 ghost use Rattle.region_plan.specs.Entries.{follows, is_inode};
 ghost use Rattle.region_plan.specs.Inodes.{inode_of};
@@ -12,6 +13,7 @@ ghost use Rattle.region_plan.specs.Reading.{AreWhole, IsBroken, IsSound, IsUndam
 ghost use Rattle.region_plan.specs.Regions.{breaks, inodes_of};
 ghost use Rattle.region_plan.specs.Tables.{IsWithin, inode_with, inodes_below};
 
+use crate::chain::{Chains, chains_of};
 use crate::check::{has_data, is_new};
 use crate::entry::{Entry, INODE, entry_in, is_well_formed, take_entries};
 use crate::form::{Form, MOST_LEAVES};
@@ -95,11 +97,14 @@ fn read_inode<L: LeafSource>(
     from: &mut L,
     form: Form,
     map: &[Entry; MOST_LEAVES],
+    chains: &Chains,
     before: &[Inode],
     leaf: u16,
 ) -> Result<Inode, StoreAnswer>
     requires fits { (layout form).leaves ≤ L.keeper.leaves }
     requires leaf { leaf < (layout form).leaves }
+    requires chains { AreChains (entries_in map.now) (layout form).leaves chains.now.last
+        chains.now.next }
     ensures inode { IsTrue L.keeper.tells_reads → IfOk result
         (λ inode. inode ≡ inode_of leaf (leaves_of L.keeper L.region from.old leaf)) }
     ensures undamaged { IsTrue L.keeper.tells_reads
@@ -128,7 +133,8 @@ fn read_inode<L: LeafSource>(
     if !is_new(before, inode.id.as_slice()) {
         return Err(StoreAnswer::Garbled(leaf));
     }
-    if !has_data(form, map, &inode) {
+    let placed = has_data(alloc, form, map, chains, &inode)?;
+    if !placed {
         return Err(StoreAnswer::Garbled(leaf));
     }
     Ok(inode)
@@ -160,10 +166,19 @@ fn read_inodes<L: LeafSource>(
     ensures unread { IsUnread (refusal_of result) }
     ensures reads { ReadsOnly L.keeper L.region (refusal_of result) from.old from.new }
 {
+    let chains = chains_of(form, map);
     let mut inodes = Vec::new(alloc);
     for leaf in 0..form.leaves() {
         if entry_in(map, leaf).kind == INODE {
-            let inode = read_inode(alloc, from, form, map, inodes.as_slice(), leaf as u16)?;
+            let inode = read_inode(
+                alloc,
+                from,
+                form,
+                map,
+                &chains,
+                inodes.as_slice(),
+                leaf as u16,
+            )?;
             inodes.push(inode)?;
         }
     }

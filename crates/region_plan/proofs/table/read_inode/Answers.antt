@@ -20,13 +20,13 @@ returns-then-not-is_new-clause-garbled g c h first inode before =
     c.as_slice.result.now c.args.before.now c.is_new.result
     (c.in_ok-read.ensures.leaf h) c.in_ok-inode.ensures.inode c.as_slice.ensures before c.is_new.ensures c.if-not-is_new.true)
 
-pub returns-then-not-has_data-clause-garbled : goal.returns-then-not-has_data-clause-garbled
-returns-then-not-has_data-clause-garbled g c h first inode before =
+pub returns-then-not-placed-clause-garbled : goal.returns-then-not-placed-clause-garbled
+returns-then-not-placed-clause-garbled g c h first inode before =
     let leaves = leaves_of g.L.LeafSource.keeper g.L.LeafSource.region c.args.from.now in
     let number = number_is leaves c.args.leaf c.read.new.into c.in_ok-inode.inode (c.in_ok-read.ensures.leaf h) c.in_ok-inode.ensures.inode in
     let long = length_is leaves c.args.leaf c.read.new.into c.in_ok-inode.inode (c.in_ok-read.ensures.leaf h) c.in_ok-inode.ensures.inode in
     index_breaks (layout c.args.form) leaves c.args.leaf inode
-    (subst (λ (n : ℕ). has_data (layout c.args.form) leaves n ≡ false) number (sym (c.has_data.ensures leaves first long) ∙ c.if-not-has_data.true))
+    (subst (λ (n : ℕ). has_data (layout c.args.form) leaves n ≡ false) number (sym (c.in_ok-placed.ensures leaves first long) ∙ c.if-not-placed.true))
 
 pub returns-clause-whole : goal.returns-clause-whole
 returns-clause-whole g c h first before =
@@ -37,5 +37,5 @@ returns-clause-whole g c h first before =
       bytes = ap is_inode_leaf (sym (c.in_ok-read.ensures.leaf h)) ∙ sym c.is_inode_leaf.ensures ∙ c.if-not-is_inode_leaf.false;
       new = single_from (layout c.args.form) (laid_by c.args.form) leaves c.args.leaf c.read.new.into c.in_ok-inode.inode c.as_slice.result.now c.args.before.now c.is_new.result
           (c.in_ok-read.ensures.leaf h) c.in_ok-inode.ensures.inode c.as_slice.ensures before c.is_new.ensures c.if-not-is_new.false;
-      placed = subst (λ (n : ℕ). has_data (layout c.args.form) leaves n ≡ true) number (sym (c.has_data.ensures leaves first long) ∙ c.if-not-has_data.false);
+      placed = subst (λ (n : ℕ). has_data (layout c.args.form) leaves n ≡ true) number (sym (c.in_ok-placed.ensures leaves first long) ∙ c.if-not-placed.false);
     }
