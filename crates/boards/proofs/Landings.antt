@@ -105,6 +105,7 @@ all_landed at digits old mid none below whole all is count empty durable =
         seen = below.row;
         pending = is;
         count = count ∙ ap (λ (p : Pending). p.listed.count) below.pending ∙ whole.count ∙ sym below.size;
+        as_read = λ k p. sym (ap (λ (l : List (List ℕ)). get_or l (place_in none.listed.blocks.items k) (reads_of mid k)) durable);
         offers = λ k p. absurd (let e : true ≡ false = sym p ∙ unlisted k in cc);
         counter = subst (λ n. n < 2 ^ 64) (sym below.counter) whole.counter;
         faults = subst (λ n. n < 2 ^ 64) (sym below.faults) whole.faults;

@@ -40,11 +40,12 @@ state_of d = record {
   orders = d.orders;
 }
 
--- each block has 1,024 bytes, and a pending one what was offered to it last
+-- each block has 1,024 bytes, a pending one what was offered to it last, and any other is read as it is on the disk
 pub record IsWhole (d : Disk) : Type 0 where
   pub seen : IsRow d.seen
   pub pending : IsPending d.pending
   pub count : d.pending.listed.count ≡ d.seen.written.count
+  pub as_read : (k : ℕ) → pending_of d k ≡ false → reads_of d k ≡ durable_of d k
   pub offers : (k : ℕ) → pending_of d k ≡ true → offered_in d.pending k ≡ offered_of d k
   pub counter : d.counter < 2 ^ 64
   pub faults : d.faults < 2 ^ 64

@@ -108,8 +108,7 @@ impl MemBoard {
 
 impl Board for MemBoard {
     ghost use Rattle.boards.specs.MemoryBoard.{view_of, memory_of, IsHonest};
-    ghost use Rattle.std.proofs.Common.{subst, sym};
-    ghost use Rattle.boards.specs.Disk.{reads_of};
+    ghost use Rattle.std.proofs.Common.{subst};
 
     ghost tells_reads = { true };
 
@@ -117,7 +116,7 @@ impl Board for MemBoard {
 
     ghost honest = { IsHonest };
 
-    ghost consistent = { λ b h. record { as_read = λ k p. sym (b.whole.pending.settled k p (reads_of b.disk k)); whole = λ k h. b.whole.seen.whole k; within = λ k p. subst (λ n. k < n) b.whole.count (b.whole.pending.within k p); counter = b.whole.counter } };
+    ghost consistent = { λ b h. record { as_read = b.whole.as_read; whole = λ k h. b.whole.seen.whole k; within = λ k p. subst (λ n. k < n) b.whole.count (b.whole.pending.within k p); counter = b.whole.counter } };
 
     ghost honest_reads = { λ b h. refl };
 
