@@ -5,8 +5,8 @@
 //! | `look` | tells the board's size and counter, and the rounds of its first two blocks |
 //! | `hold` | holds the files until the input ends |
 //! | `rounds N` | makes N rounds, and tells the number of each |
-//! | `commits N` | opens a flat volume, which formats a blank board, makes N commits of one leaf each, and tells how many blocks were written |
-//! | `syncs N` | writes a block that no flat volume uses and syncs, N times, and tells how many blocks were written |
+//! | `commits N` | opens a volume, which formats a blank board, makes N commits of one leaf each, and tells how many blocks were written |
+//! | `syncs N` | writes a block that no volume uses and syncs, N times, and tells how many blocks were written |
 //!
 //! A round of number n writes n into block 0, syncs, writes n into block 1, syncs, and raises the counter to n. So
 //! after every end of the program the counter is at most the round of block 1, that at most the round of block 0, and

@@ -117,23 +117,23 @@ const KEYS: &[u8] = &[
     2, 2, 2, 2, 2, 2, 2, 2, 2, 2, 2, 2, 2, 2, 2, 2, 2, 2, 2, 2, 2, 2, 2, 2, 2, 2, 2, 2, 2, 2, 2, 2,
 ];
 
-/// The length of a new image, of 8,742 blocks.
-const NEW_BYTES: u64 = 8_951_808;
+/// The length of a new image, of 43,720 blocks.
+const NEW_BYTES: u64 = 44_769_280;
 
 /// The last block of a fresh board gets fives, on the disk, and the counter goes to 1.
 const BEGUN: &[Row] = &[
     Row::Blocks(NEW_BLOCKS),
     Row::Key(1),
     Row::Counter(Some(0)),
-    Row::Filled(8741, 0),
-    Row::Fill(8741, 5, true),
+    Row::Filled(43_719, 0),
+    Row::Fill(43_719, 5, true),
     Row::Sync(true),
     Row::Advance(Some(1)),
 ];
 
 /// It is as it was left. A fuse of 0 lets no call pass until the power comes back.
 const GONE_ON: &[Row] = &[
-    Row::Filled(8741, 5),
+    Row::Filled(43_719, 5),
     Row::Counter(Some(1)),
     Row::Fuse(0),
     Row::Sync(false),
@@ -149,7 +149,7 @@ const LENGTHENED: &[Row] = &[
     Row::Blocks(NEW_BLOCKS),
     Row::Filled(1, 3),
     Row::Filled(2, 0),
-    Row::Filled(8741, 0),
+    Row::Filled(43_719, 0),
 ];
 
 #[test]
