@@ -121,8 +121,8 @@ fn a_write_that_is_stopped_at_once_is_absent(rt: HostRuntime) {
 /// Ever more calls are too few for the write, until they are enough.
 fn check_stops(rt: &impl Abort, alloc: Global, pick: u8) {
     let mut ending = Ending::Other;
-    for step in 1..64u32 {
-        ending = ending_of(rt, alloc, 16 * step, pick);
+    for calls in 1..256u32 {
+        ending = ending_of(rt, alloc, calls, pick);
         assert!(rt; !matches!(ending, Ending::Other));
         if matches!(ending, Ending::Done) {
             break;
@@ -145,9 +145,9 @@ fn with_counter(rt: &impl Abort, alloc: Global, board: &MemBoard, counter: u64) 
 }
 
 /// A board that is too small.
-fn check_small(rt: &impl Abort, alloc: Global) {
-    let small = MemBoard::blank(alloc, [0; 32], 8_741).expect(rt, "a board");
-    let refused = Status::StoreRefused(OpenAnswer::TooSmall(8_741));
+fn check_small(rt: &impl Abort, alloc: Global, blocks: u64) {
+    let small = MemBoard::blank(alloc, [0; 32], blocks).expect(rt, "a board");
+    let refused = Status::StoreRefused(OpenAnswer::TooSmall(blocks));
     check(rt, alloc, small, OPEN, "", refused);
 }
 
@@ -162,7 +162,9 @@ fn check_used(rt: &impl Abort, alloc: Global) {
 
 #[test]
 fn what_does_not_open_is_refused(rt: HostRuntime) {
-    check_small(&rt, rt.alloc());
+    for blocks in [8_742, 43_719] {
+        check_small(&rt, rt.alloc(), blocks);
+    }
     check_used(&rt, rt.alloc());
 }
 
@@ -220,7 +222,7 @@ fn lay_first(rt: &impl Abort, board: &mut MemBoard) {
         tag: [0; 32],
     };
     let header = Header {
-        version: 0,
+        version: 2,
         sequence: 0,
         root,
     };
