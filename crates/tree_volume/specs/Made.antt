@@ -8,6 +8,7 @@ use Rattle.tree_volume.specs.declared.touched.Node.{Node}
 use Rattle.tree_volume.specs.Gather.{AreOfLeaves, AreTrue}
 use Rattle.tree_volume.specs.Sealed.{AreSealed}
 use Rattle.tree_volume.specs.Shape.{shape}
+use Rattle.tree_volume.specs.Touched.{AreOrdered}
 use Rattle.tree_volume.specs.Tree.{on_image}
 
 -- the nodes on the ways to these leaves of a region were sealed for this sequence: each as it stood under the root before, but for the
@@ -15,6 +16,8 @@ use Rattle.tree_volume.specs.Tree.{on_image}
 pub record IsMade (tells : Bool) (old : View) (sequence region : ℕ) (leaves : List Leaf) (before after : TreeEntry) : Type 0 where
   pub nodes : List Node
   pub few : length nodes ≤ 2 * length leaves + 6
+  -- they end with the root, and each other one comes before the node that it is an entry of
+  pub ordered : AreOrdered shape nodes
   pub named : AreOfLeaves nodes region leaves
   -- where reads are told
   pub stood : IsTrue tells → AreTrue shape (on_image shape old.key old.state.reads) before DEPTH nodes

@@ -93,6 +93,7 @@ returns-in-Ok-clause-made g c =
     record {
       nodes = c.in_ok-touched.touched;
       few = omega (arith, few, long);
+      ordered = told.ordered;
       named = record { here = λ l below. told.leaves l below ∙ ap (λ (ls : List Leaf). named ls l) c.as_slice.ensures.leaves; elsewhere = told.elsewhere };
       stood = λ tells. told.nodes tells v.key keyed (c.requires.cached tells);
       sealed = subst (AreSealed shape 4 v.key (c.args.opened.sequence + 1) c.in_ok-touched.touched) (ap (λ (r : Root). r.entry) c.in-Ok.ensures.root)
