@@ -1,10 +1,12 @@
 -- Places of blocks in a list, and how many listed blocks are below one.
 use Rattle.std.proofs.Common.{◌≡◌, ◌≢◌, ◌≤◌, ◌<◌, ◌+◌, ◌/◌, ◌^◌, ◌||◌, ◌==◌, ℕ, zero, suc, Bool, true, false, not, cond, List, [], ◌∷◌, ◌++◌, length}
-use Rattle.std.proofs.Common.{get_or, refl, sym, ap, subst, ⊎_elim, ◌∙◌, arith, ltb}
-use Rattle.std.proofs.Math.Nat.{div-one, div-div-eq-div-mul, pow-suc}
+use Rattle.std.proofs.Common.{drop, get_or, refl, sym, ap, subst, take, ⊎_elim, ◌∙◌, arith, ltb}
+use Rattle.std.proofs.Math.Nat.{div-one, div-div-eq-div-mul, pow-suc, zero-div}
 use Rattle.std.proofs.lemmas.Bool.{cases_Bool, cases_eq, cases_lt, eqb-true, eqb-false, eq-eqb, ne_eqb, lt-ltb, le-ltb}
+use Rattle.std.proofs.lemmas.List.{take-append-drop}
 use Rattle.std.proofs.lemmas.List.Folds.{position_or_len_push}
 use Rattle.std.proofs.lemmas.List.Sums.{passes_at_first}
+use Rattle.std.proofs.lemmas.Nat.{pow-add}
 use Rattle.boards.specs.Landing.{count_below}
 use Rattle.boards.specs.Places.{is_listed, place_in}
 
@@ -187,3 +189,19 @@ rest_kept digits rest n k blocks h is =
 
 pub rest_start : (digits k : ℕ) → digits ≡ digits / 4 ^ smaller [] k
 rest_start digits k = sym (div-one digits)
+
+smaller-append : (xs ys : List ℕ) (k : ℕ) → smaller (xs ++ ys) k ≡ smaller xs k + smaller ys k
+smaller-append [] ys k = omega arith
+smaller-append (n ∷ xs) ys k = let rest = smaller-append xs ys k in omega (arith, rest)
+
+-- once no digit is left, none comes any more
+pub rest_gone : (digits n k : ℕ) (blocks : List ℕ) → digits / 4 ^ smaller (take n blocks) k ≡ 0 → digits / 4 ^ smaller blocks k ≡ 0
+rest_gone digits n k blocks gone =
+    let a = smaller (take n blocks) k in
+    let b = smaller (drop n blocks) k in
+    let both : smaller blocks k ≡ a + b = ap (λ (l : List ℕ). smaller l k) (sym (take-append-drop n blocks)) ∙ smaller-append (take n blocks) (drop n blocks) k in
+    ap (λ m. digits / 4 ^ m) both
+    ∙ ap (λ m. digits / m) (pow-add 4 a b)
+    ∙ sym (div-div-eq-div-mul digits (4 ^ a) (4 ^ b))
+    ∙ ap (λ m. m / 4 ^ b) gone
+    ∙ zero-div (4 ^ b)

@@ -121,6 +121,9 @@ impl BlockList {
     {
         let mut rest = digits;
         for listed in &self.blocks {
+            if rest == 0 {
+                return 0;
+            }
             if *listed < block {
                 rest /= 4;
             }
