@@ -39,7 +39,11 @@ returns-clause-reads g c =
     let here : IsDirectoryOf leaves d → inode_with c.args.id.now (inodes_of L leaves) ≡ Some inode
     = λ is. looked_up L leaves c.args.id.now c.find.result c.as_slice.result.now d.inodes.items c.in-Some.inode c.find.ensures.inode c.as_slice.ensures.value is.inodes c.in-Some.is in
     let known : IsDirectoryOf leaves d → IsInode L leaves c.deref.result.now inode.number inode.length
-    = λ is. record { first = subst (λ (m : List Entry). IsMapOf L leaves m) (sym c.deref.ensures) is.map; inode = found_is_inode L leaves c.args.id.now inode (here is); long = length_told L leaves c.args.id.now inode (here is) } in
+    = λ is. record {
+      first = subst (λ (m : List Entry). IsMapOf L leaves m) (sym c.deref.ensures) is.map;
+      inode = found_is_inode L leaves c.args.id.now inode (here is);
+      long = length_told L leaves c.args.id.now inode (here is);
+    } in
     record {
       answer = λ h is. answers_read c.read_between.result _
           (if_ok c.read_between.result (λ a. a ≡ map (λ n. byte_at L leaves inode.number n) (range_with_len c.min-start.result ((c.min-start.result + c.min.result) - c.min-start.result))) _
@@ -68,7 +72,8 @@ returns-clause-found g c h is =
     = looked_up L leaves c.args.id.now c.find.result c.as_slice.result.now d.inodes.items c.in-Some.inode c.find.ensures.inode c.as_slice.ensures.value is.inodes c.in-Some.is in
     let place = located L leaves c.args.id.now inode c.in-Some.ensures.within.2 here in
     let long = length_told L leaves c.args.id.now inode here in
-    let known : IsInode L leaves c.deref.result.now inode.number inode.length = record { first = subst (λ (m : List Entry). IsMapOf L leaves m) (sym c.deref.ensures) is.map; inode = place.1; long = long } in
+    let known : IsInode L leaves c.deref.result.now inode.number inode.length
+    = record { first = subst (λ (m : List Entry). IsMapOf L leaves m) (sym c.deref.ensures) is.map; inode = place.1; long = long } in
     if_ok c.read_between.result
     (λ (bytes : List ℕ). IsReadData K R L inode.number c.min-start.result (c.min-start.result + c.min.result) c.args.from.now)
     (λ (bytes : List ℕ). IsReadPart K R L c.args.id.now c.args.start c.args.count c.args.from.now)

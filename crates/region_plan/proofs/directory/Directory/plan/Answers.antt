@@ -19,7 +19,9 @@ returns-in-Put g c =
     (c.as_slice-content.ensures i) c.in-Put.overwrite) ∙ sym c.in-Put.is in
     subst (λ (change : Change). PlansFrom K R c.args.self.now change c.plan_put.result c.args.from.now c.plan_put.new.from) same
     (record {
-      plans = λ h is store stands. c.plan_put.ensures.plans h (subst (λ (m : List Entry). IsMapOf (layout c.args.self.now.form) (leaves_of K R c.args.from.now) m) (sym c.deref-map.ensures) is.map) (c.as_slice-inodes.ensures.value ∙ is.inodes) store stands;
+      plans = λ h is store stands. c.plan_put.ensures.plans h
+          (subst (λ (m : List Entry). IsMapOf (layout c.args.self.now.form) (leaves_of K R c.args.from.now) m) (sym c.deref-map.ensures) is.map)
+          (c.as_slice-inodes.ensures.value ∙ is.inodes) store stands;
       named = c.plan_put.ensures.named;
       garbled = c.plan_put.ensures.garbled;
       reads = c.plan_put.ensures.reads;
@@ -32,7 +34,9 @@ returns-in-Delete g c =
     subst (λ (change : Change). PlansFrom K R c.args.self.now change c.plan_delete.result c.args.from.now c.args.from.now)
     (ap (λ (id : List ℕ). Delete id) c.as_slice-in-Delete.ensures ∙ sym c.in-Delete.is)
     (record {
-      plans = λ h is store stands. c.plan_delete.ensures.plans (leaves_of K R c.args.from.now) (subst (λ (m : List Entry). IsMapOf (layout c.args.self.now.form) (leaves_of K R c.args.from.now) m) (sym c.deref-map.ensures) is.map) (c.as_slice-inodes.ensures.value ∙ is.inodes) store stands;
+      plans = λ h is store stands. c.plan_delete.ensures.plans (leaves_of K R c.args.from.now)
+          (subst (λ (m : List Entry). IsMapOf (layout c.args.self.now.form) (leaves_of K R c.args.from.now) m) (sym c.deref-map.ensures) is.map)
+          (c.as_slice-inodes.ensures.value ∙ is.inodes) store stands;
       named = c.plan_delete.ensures.named;
       garbled = decided_told _ _ c.plan_delete.ensures.decided;
       reads = decided_reads K R _ c.args.from.now c.args.from.now c.plan_delete.ensures.decided
@@ -62,7 +66,9 @@ returns-in-Write g c =
     (c.as_slice-bytes.ensures i)) ∙ sym c.in-Write.is in
     subst (λ (change : Change). PlansFrom K R c.args.self.now change c.plan_write.result c.args.from.now c.plan_write.new.from) same
     (record {
-      plans = λ h is store stands. c.plan_write.ensures.plans h (subst (λ (m : List Entry). IsMapOf (layout c.args.self.now.form) (leaves_of K R c.args.from.now) m) (sym c.deref-map.ensures) is.map) (c.as_slice-inodes.ensures.value ∙ is.inodes) store stands;
+      plans = λ h is store stands. c.plan_write.ensures.plans h
+          (subst (λ (m : List Entry). IsMapOf (layout c.args.self.now.form) (leaves_of K R c.args.from.now) m) (sym c.deref-map.ensures) is.map)
+          (c.as_slice-inodes.ensures.value ∙ is.inodes) store stands;
       named = c.plan_write.ensures.named;
       garbled = c.plan_write.ensures.garbled;
       reads = c.plan_write.ensures.reads;
