@@ -109,7 +109,9 @@ distinct_from : (blocks : List ℕ) → ((i j : ℕ) → i < length blocks → j
 distinct_from [] one = tt
 distinct_from (n ∷ blocks) one = (
   ⊎_elim
-      (λ listed. let below = listed_place blocks n listed in absurd (let same = one 0 (suc (place_in blocks n)) (omega arith) (omega (arith, below)) (sym (block_at_place blocks n below)) in omega (arith, same)))
+      (λ listed. let below = listed_place blocks n listed in
+      let same = one 0 (suc (place_in blocks n)) (omega arith) (omega (arith, below)) (sym (block_at_place blocks n below)) in
+      absurd (omega (arith, same)))
       (λ absent. absent)
       (cases_Bool (is_listed blocks n)),
   distinct_from blocks (λ i j h h' e. let same = one (suc i) (suc j) (omega (arith, h)) (omega (arith, h')) e in omega (arith, same)),
