@@ -5,10 +5,10 @@ ghost use Rattle.tee_base.specs.declared.limits.TheConstants.{MAX_HOSTS};
 ghost use Rattle.tee_core.specs.Sides.{AreBooted, AreBooted-prop, ServeAs, ServeAs-prop};
 
 use app_side::AppSide;
-use tree_volume::TreeVolume;
 use std::alloc::Global;
 use std::marker::PhantomData;
 use store_api::Volume;
+use tree_volume::TreeVolume;
 
 /// The kind of volume in use. Its form is `form_in_use` of this crate's definitions.
 pub type VolumeInUse<B> = TreeVolume<B>;
