@@ -41,31 +41,39 @@ pub enum Row {
 /// A volume over a board in memory.
 pub type OnBoard = TreeVolume<MemBoard>;
 
+/// Whether all leaves have numbers below this one.
+fn are_below(leaves: &Leaves, number: u16) -> bool
+    ensures { result ≡ is_above_all leaves.now number }
+{
+    leaves.as_slice().iter().all(|leaf| leaf.number < number)
+}
+
 /// So many leaves, each filled with a byte.
-fn leaves_of(alloc: Global, count: u16, byte: u8) -> Result<Leaves, NoMemory>
+fn leaves_of(rt: &impl Abort, alloc: Global, count: u16, byte: u8) -> Result<Leaves, NoMemory>
     requires { count ≤ MOST }
     ensures { IfOk result (λ leaves. IsTrue (is_above_all leaves LEAVES)) }
 {
     let mut leaves = Leaves::none(alloc);
     for index in 0..count {
+        let number = number_of(index);
+        assert!(rt; are_below(&leaves, number));
         let bytes = [byte; 1024];
-        leaves.push(Leaf {
-            number: number_of(index),
-            bytes,
-        })?;
+        leaves.push(Leaf { number, bytes })?;
     }
+    assert!(rt; are_below(&leaves, 1024));
     Ok(leaves)
 }
 
 /// Replaces so many leaves by such filled with a byte, and compares the answer.
 fn is_replaced(
+    rt: &impl Abort,
     alloc: Global,
     volume: &mut OnBoard,
     count: u16,
     byte: u8,
     want: &Result<u64, LeafAnswer>,
 ) -> Result<bool, NoMemory> {
-    let leaves = leaves_of(alloc, count.min(MOST), byte)?;
+    let leaves = leaves_of(rt, alloc, count.min(MOST), byte)?;
     let answer = volume.commit(2, &leaves);
     drop(leaves);
     Ok(answer == *want)
@@ -91,19 +99,29 @@ fn is_filled(volume: &mut OnBoard, count: u16, byte: u8) -> bool {
 }
 
 /// The leaves are the old or the new ones at the sequence, and the next commit is found.
-fn goes_on(alloc: Global, volume: &mut OnBoard, count: u16) -> Result<bool, NoMemory> {
+fn goes_on(
+    rt: &impl Abort,
+    alloc: Global,
+    volume: &mut OnBoard,
+    count: u16,
+) -> Result<bool, NoMemory> {
     let sequence = volume.sequence();
     let is_whole = is_filled(volume, count, byte_at(sequence));
     let next = sequence.wrapping_add(1);
-    let is_next = is_replaced(alloc, volume, count, 0x44, &Ok(next))?;
+    let is_next = is_replaced(rt, alloc, volume, count, 0x44, &Ok(next))?;
     Ok(is_whole && is_next && is_filled(volume, count, 0x44))
 }
 
 /// Makes the call of a row, and says whether that came of it which has to.
-fn is_met(alloc: Global, volume: &mut OnBoard, row: &Row) -> Result<bool, NoMemory> {
+fn is_met(
+    rt: &impl Abort,
+    alloc: Global,
+    volume: &mut OnBoard,
+    row: &Row,
+) -> Result<bool, NoMemory> {
     Ok(match row {
         Row::Filled(byte) => is_filled(volume, MOST, *byte),
-        Row::Replace(count, byte, want) => is_replaced(alloc, volume, *count, *byte, want)?,
+        Row::Replace(count, byte, want) => is_replaced(rt, alloc, volume, *count, *byte, want)?,
         Row::Sequence(sequence) => volume.sequence() == *sequence,
         Row::Lost => volume.is_lost(),
         Row::Fuse(calls) => {
@@ -113,7 +131,7 @@ fn is_met(alloc: Global, volume: &mut OnBoard, row: &Row) -> Result<bool, NoMemo
         Row::Reopen(sequence) => volume.reopen() == Ok(*sequence),
         Row::Power(pick, sequence) => volume.power(*pick) == Ok(*sequence),
         Row::AnyPower(pick) => volume.power(*pick) == Ok(volume.sequence()),
-        Row::GoOn(count) => goes_on(alloc, volume, *count)?,
+        Row::GoOn(count) => goes_on(rt, alloc, volume, *count)?,
     })
 }
 
@@ -125,7 +143,7 @@ fn go_through(
     rows: &[Row],
 ) -> Result<(), NoMemory> {
     for (place, row) in rows.iter().enumerate() {
-        assert!(rt; is_met(alloc, volume, row)?, "row {place}");
+        assert!(rt; is_met(rt, alloc, volume, row)?, "row {place}");
     }
     Ok(())
 }
