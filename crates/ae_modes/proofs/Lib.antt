@@ -1,0 +1,7 @@
+pub mod BlockLemmas
+pub mod CodeLemmas
+pub mod FieldLemmas
+pub mod GhashLemmas
+pub mod MessageLemmas
+pub mod SameLemmas
+pub mod TextLemmas

@@ -1,0 +1,11 @@
+pub mod Absorbs
+pub mod Cmac
+pub mod Code
+pub mod Field
+pub mod Gcm
+pub mod Ghash
+pub mod Laws
+pub mod Message
+pub mod Represents
+pub mod Tables
+pub mod Waiting

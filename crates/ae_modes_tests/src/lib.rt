@@ -1,0 +1,10 @@
+//! AES-GCM and AES-CMAC beside published vectors.
+#![tactic(auto)]
+
+pub mod beginning;
+#[cfg(test)]
+mod codes;
+#[cfg(test)]
+mod messages;
+#[cfg(test)]
+mod rows;
