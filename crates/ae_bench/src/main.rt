@@ -68,11 +68,7 @@ fn work_of(word: &str) -> Option<Work> {
 }
 
 /// The last block of the last message through a stream of `aes_modes`.
-fn through_stream(
-    mode: Mode,
-    message: &[u8; MESSAGE],
-    count: u64,
-) -> Result<[u8; 16], ModeAnswer> {
+fn through_stream(mode: Mode, message: &[u8; MESSAGE], count: u64) -> Result<[u8; 16], ModeAnswer> {
     let mut stream = start(expand(&KEY).unwrap(), mode, Way::Encrypt, [0; 16]);
     let mut output = [0; MESSAGE];
     for _ in 0..count {
