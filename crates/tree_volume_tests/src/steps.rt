@@ -1,6 +1,6 @@
 //! Rows of calls on a volume over a board in memory, and what has to come of each.
 
-ghost use Rattle.std.specs.Prelude.{◌<◌, ◌≤◌, IfOk, IsTrue};
+ghost use Rattle.std.specs.Prelude.{◌≡◌, ◌<◌, ◌≤◌, IfOk, IsTrue};
 ghost use Rattle.tee_base.specs.declared.limits.TheConstants.{LEAVES};
 ghost use Rattle.store_api.specs.Ascending.{is_above_all};
 ghost use Rattle.tree_volume_tests.specs.declared.filling.TheConstants.{MOST};
