@@ -42,7 +42,8 @@ pub line_ended : (text line : List ℕ) (old new : List (ℕ × ℕ)) (before be
     then ≡ text ++ 10 ∷ [] → empty ≡ [] → IsSummed then empty new after
 line_ended text line old new before between after then empty summed own counts first second is none = record {
   lines = summed.lines ++ line ∷ [];
-  has = subst (λ t. HasLines t (summed.lines ++ line ∷ []) empty) (sym is) (subst (λ e. HasLines (text ++ 10 ∷ []) (summed.lines ++ line ∷ []) e) (sym none) (has_ended text line summed.lines summed.has own));
+  has = subst (λ t. HasLines t (summed.lines ++ line ∷ []) empty) (sym is)
+      (subst (λ e. HasLines (text ++ 10 ∷ []) (summed.lines ++ line ∷ []) e) (sym none) (has_ended text line summed.lines summed.has own));
   tally = subst (λ found. IsTally found new) (sym (filter_map-append code_in summed.lines (line ∷ []))) (counts (codes_in summed.lines) summed.tally);
   hashed = subst (HoldsMessage after Sha256) (sym (fed_push summed.lines line)) (second (fed summed.lines ++ line) (first (fed summed.lines) summed.hashed));
 }

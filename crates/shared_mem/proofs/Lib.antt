@@ -1,0 +1,4 @@
+mod Changes
+mod Deliveries
+mod HistoryLemmas
+mod Keeps
