@@ -1,0 +1,227 @@
+//! Events of an application that leave the storage alone, each of them with its entry in the log.
+
+ghost use Rattle.std.specs.Prelude.{◌≡◌, ◌<◌, ◌≤◌, ◌-◌, ◌^◌, ◌++◌, ◌⊎◌, [], ◌∷◌, ℕ, IfErr, IfOk, OnErr, OnOk, false, true};
+ghost use Rattle.tee_base.specs.declared.limits.TheConstants.{MAX_LOG_BYTES};
+ghost use Rattle.alone.specs.KeptLogs.{event_by, logged};
+ghost use Rattle.alone.specs.Logs.{Adds, bytes_in, bytes_of_call, entry, is_full};
+ghost use Rattle.alone.specs.Machine.{Machine};
+ghost use Rattle.alone.specs.Step.{Called, Cancelled, Lost, needs_store};
+ghost use Rattle.app_side.specs.Represents.{Represents, event_of, is_lost, turns_of};
+ghost use Rattle.app_side.specs.Storeless.{wants_store};
+ghost use Rattle.shared_parts.specs.InStep.{GoesInStep, HasGrown, IsPosted, IsRefusal, IsReserved, KnowsLoss, StaysInStep};
+
+use crate::recorded::{Posted, Recorded, SharedAnswer};
+use alone::{AppLog, Call, LogEntry, LogEvent, REPLIES, Replies, Reply, TurnKind, call_bytes};
+use app_api::Application;
+use app_side::AppSide;
+use std::alloc::Global;
+use tee_base::NoMemory;
+
+/// More than ever lives in an application: its unanswered operations and its instances.
+const MOST_ALIVE: usize = 1 << 16;
+
+/// More turns than any application makes.
+const MOST_TURNS: u64 = 1 << 63;
+
+/// What the log tells of a turn of this kind.
+fn turn_event(kind: TurnKind, instance: u8) -> LogEvent
+    ensures { (client : ℕ) → event_by client result ≡ event_of kind instance }
+{
+    match kind {
+        TurnKind::Plain => LogEvent::Turn(instance),
+        TurnKind::Lost { .. } => LogEvent::TurnLost(instance),
+        TurnKind::Starved => LogEvent::Starve(instance),
+        TurnKind::Corrupted => LogEvent::Corrupted(instance),
+    }
+}
+
+impl<A: Application> Recorded<A> {
+    /// The application with a log that has no entry yet, and places for all that lives.
+    pub fn new(alloc: Global, side: AppSide<A>) -> Result<Recorded<A>, NoMemory>
+        ensures side { IfOk result (λ made. made.side ≡ side) }
+        ensures log { IfOk result (λ made. made.log.entries ≡ []) }
+        ensures reserved { IfOk result (λ made. IsReserved 4 made.side made.log) }
+    {
+        let log = AppLog::new(alloc);
+        let mut made = Recorded { side, log };
+        made.reserve()?;
+        Ok(made)
+    }
+
+    /// The entries of the log, and the list of all their replies, which belong to them in order.
+    pub fn log_parts(&self) -> (&[LogEntry], &[Reply])
+        ensures { logged result.0.now result.1.now ≡ self.now.log.entries }
+    {
+        self.log.parts()
+    }
+
+    /// Makes room for an event's entry, for that of a loss found before it, for its replies, and for all that may live then.
+    fn reserve(&mut self) -> Result<(), NoMemory>
+        ensures side { self.new.side ≡ self.old.side }
+        ensures log { HasGrown self.old.log self.new.log }
+        ensures reserved { OnOk result (IsReserved 4 self.new.side self.new.log) }
+    {
+        let live = self.side.live();
+        if live > MOST_ALIVE {
+            return Err(NoMemory);
+        }
+        self.log.reserve(live + 4, live + REPLIES + 2)
+    }
+
+    /// A client's call, with its entry. The copy goes into the log.
+    ///
+    /// # Errors
+    ///
+    /// `LogFull` where the log has no place for an entry or for the bytes that the call brings; `NoMemory`.
+    pub fn call(&mut self, client: u8, call: Call, copy: Call) -> Result<Posted, SharedAnswer>
+        requires { copy ≡ call }
+        ensures step { GoesInStep A.behaviour self.old.side self.old.log
+            self.new.side self.new.log }
+        ensures ok { OnOk result
+            (Adds client (Called client call) self.old.log.entries self.new.log.entries) }
+        ensures room { OnOk result (is_full self.old.log.entries (bytes_of_call call) ≡ false) }
+        ensures posted { IfOk result (λ posted. (m : Machine A) → Represents self.old.side m
+            → IsPosted m client call posted) }
+        ensures err { IfErr result (λ why. (self.new.log.entries ≡ self.old.log.entries)
+            × IsRefusal why self.old.log.entries (bytes_of_call call)) }
+    {
+        if self.log.is_full(call_bytes(&call)) {
+            return Err(SharedAnswer::LogFull);
+        }
+        match self.make_call(client, call, copy) {
+            Ok(posted) => Ok(posted),
+            Err(NoMemory) => Err(SharedAnswer::NoMemory),
+        }
+    }
+
+    /// The call in a log that has a place for it.
+    fn make_call(&mut self, client: u8, call: Call, copy: Call) -> Result<Posted, NoMemory>
+        requires same { copy ≡ call }
+        requires bytes { bytes_of_call call ≤ MAX_LOG_BYTES - bytes_in self.old.log.entries }
+        ensures step { GoesInStep A.behaviour self.old.side self.old.log
+            self.new.side self.new.log }
+        ensures ok { OnOk result
+            (Adds client (Called client call) self.old.log.entries self.new.log.entries) }
+        ensures posted { IfOk result (λ posted. (m : Machine A) → Represents self.old.side m
+            → IsPosted m client call posted) }
+        ensures err { OnErr result (self.new.log.entries ≡ self.old.log.entries) }
+    {
+        self.reserve()?;
+        let made = self.side.call(client, call)?;
+        made.replies.bounds();
+        self.log.push(client, LogEvent::Call(copy), made.replies);
+        Ok(Posted {
+            op: made.op,
+            instance: made.instance,
+        })
+    }
+
+    /// A client asks for the operation of this number to be cancelled, with its entry.
+    ///
+    /// # Errors
+    ///
+    /// `LogFull` where the log has no place for an entry; `NoMemory`.
+    pub fn cancel(&mut self, client: u8, op: u64) -> Result<(), SharedAnswer>
+        ensures step { GoesInStep A.behaviour self.old.side self.old.log
+            self.new.side self.new.log }
+        ensures ok { OnOk result
+            (Adds client (Cancelled op) self.old.log.entries self.new.log.entries) }
+        ensures room { OnOk result (is_full self.old.log.entries 0 ≡ false) }
+        ensures err { IfErr result (λ why. (self.new.log.entries ≡ self.old.log.entries)
+            × IsRefusal why self.old.log.entries 0) }
+    {
+        if self.log.is_full(0) {
+            return Err(SharedAnswer::LogFull);
+        }
+        match self.make_cancellation(client, op) {
+            Ok(()) => Ok(()),
+            Err(NoMemory) => Err(SharedAnswer::NoMemory),
+        }
+    }
+
+    /// The cancellation in a log that has a place for it.
+    fn make_cancellation(&mut self, client: u8, op: u64) -> Result<(), NoMemory>
+        ensures step { GoesInStep A.behaviour self.old.side self.old.log
+            self.new.side self.new.log }
+        ensures ok { OnOk result
+            (Adds client (Cancelled op) self.old.log.entries self.new.log.entries) }
+        ensures err { OnErr result (self.new.log.entries ≡ self.old.log.entries) }
+    {
+        self.reserve()?;
+        let replies = self.side.cancel(op);
+        replies.bounds();
+        self.log.push(client, LogEvent::Cancel(op), replies);
+        Ok(())
+    }
+
+    /// Makes room for a turn, and for the entry of a loss that it may find, before anything happens.
+    ///
+    /// # Errors
+    ///
+    /// `LogFull` where the log has no place for an entry; `NoMemory`.
+    pub fn begin_turn(&mut self) -> Result<(), SharedAnswer>
+        ensures side { self.new.side ≡ self.old.side }
+        ensures log { HasGrown self.old.log self.new.log }
+        ensures few { OnOk result (turns_of self.new.side < 2 ^ 63) }
+        ensures reserved { OnOk result (IsReserved 4 self.new.side self.new.log) }
+        ensures err { IfErr result (λ why. IsRefusal why self.old.log.entries 0) }
+    {
+        if self.log.is_full(0) {
+            return Err(SharedAnswer::LogFull);
+        }
+        if self.side.turns() >= MOST_TURNS {
+            return Err(SharedAnswer::NoMemory);
+        }
+        match self.reserve() {
+            Ok(()) => Ok(()),
+            Err(NoMemory) => Err(SharedAnswer::NoMemory),
+        }
+    }
+
+    /// Whether an ask waits in the instance that may need the store.
+    pub fn needs_store(&self, instance: u8) -> bool
+        ensures machine { (m : Machine A) → Represents self.now.side m
+            → result ≡ needs_store m instance }
+        ensures own { result ≡ wants_store self.now.side instance }
+    {
+        self.side.needs_store(instance)
+    }
+
+    /// A client's turn of an instance in which no ask waits that may need the store, with its entry.
+    pub fn turn_without_store(&mut self, client: u8, instance: u8) -> TurnKind
+        requires few { turns_of self.old.side < 2 ^ 63 }
+        requires storeless { wants_store self.old.side instance ≡ false }
+        requires reserved { IsReserved 4 self.old.side self.old.log }
+        ensures step { GoesInStep A.behaviour self.old.side self.old.log
+            self.new.side self.new.log }
+        ensures adds { Adds client (event_of result instance)
+            self.old.log.entries self.new.log.entries }
+    {
+        let made = self.side.turn_without_store(instance);
+        made.replies.bounds();
+        self.log
+            .push(client, turn_event(made.kind, instance), made.replies);
+        made.kind
+    }
+
+    /// Whether the storage is lost is told to the application. One that hasn't met the loss yet meets it now, with an entry.
+    pub fn know_loss(&mut self, client: u8, lost: bool)
+        requires known { is_lost self.old.side ≡ true → lost ≡ true }
+        requires reserved { IsReserved 4 self.old.side self.old.log }
+        ensures kept { StaysInStep A.behaviour self.old.side self.old.log
+            self.new.side self.new.log }
+        ensures found { (self.new.log.entries ≡ self.old.log.entries)
+            ⊎ (self.new.log.entries ≡ self.old.log.entries ++ entry client Lost [] ∷ []) }
+        ensures reserved { IsReserved 3 self.new.side self.new.log }
+        ensures state { KnowsLoss lost self.old.side self.new.side }
+    {
+        if !lost {
+            return;
+        }
+        if self.side.is_lost() {
+            return;
+        }
+        self.side.lose();
+        self.log.push(client, LogEvent::Lost, Replies::none());
+    }
+}
