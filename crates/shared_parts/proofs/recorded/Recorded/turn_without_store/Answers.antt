@@ -31,4 +31,5 @@ pub returns-clause-adds : goal.returns-clause-adds
 returns-clause-adds g c =
     let turned = c.turn_without_store-made.result in
     adds_entry c.args.client (event_of turned.kind c.args.instance) turned.replies c.args.self.now.log.entries c.args.self.now.log.entries c.push.new.self.entries refl
-    (entry_of_turn turned.kind c.args.instance c.args.client c.turn_event.result turned.replies c.args.self.now.log.entries c.push.new.self.entries (c.turn_event.ensures c.args.client) c.push.ensures.more)
+    (entry_of_turn turned.kind c.args.instance c.args.client c.turn_event.result turned.replies c.args.self.now.log.entries c.push.new.self.entries
+    (c.turn_event.ensures c.args.client) c.push.ensures.more)
