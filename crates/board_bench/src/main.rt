@@ -59,7 +59,8 @@ fn step<B: Board>(board: &mut B, work: Work, number: u64) -> Result<(), BoardFai
     if blocks == 0 {
         return Err(BoardFailed);
     }
-    board.write(number % blocks, &[number as u8; BLOCK])?;
+    let byte = (number % 256) as u8;
+    board.write(number % blocks, &[byte; BLOCK])?;
     match work {
         Work::Sync => board.sync(),
         Work::Power => {
