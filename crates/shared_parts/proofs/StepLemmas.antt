@@ -122,6 +122,27 @@ module _ {A : Type 0} (behaviour : Behaviour A) (client : ℕ) (event : Event) (
         places = made.places;
       }
 
+-- a value and a log without an entry are in step from whatever machine the value represents
+pub begun_kept : {A : Type 0} (behaviour : Behaviour A) (spare : ℕ) (first side : AppSide A) (log : KeptLog) (m : Machine A) → side ≡ first → log.entries ≡ [] → 1 ≤ spare
+    → IsReserved spare side log → Represents first m → IsKeptBy behaviour m side log (part_of m)
+begun_kept {A} behaviour spare first side log m same empty some reserved stands =
+    let own : Represents side m = subst (λ (s : AppSide A). Represents s m) (sym same) stands in
+    let here : machine_by behaviour m log.entries ≡ m = ap (λ (es : List Logged). machine_by behaviour m es) empty in
+    let alive = live_is side m own in
+    let places : HasPlaces m log =
+    record {
+      entries = let was = reserved.entries in omega (arith, alive, was, some);
+      replies = let was = reserved.replies in omega (arith, alive, was);
+    } in
+    record {
+      in_step = record {
+        legal = subst (λ (es : List Logged). IsLegal behaviour m es) (sym empty) tt;
+        stands = subst (λ (x : Machine A). Represents side x) (sym here) own;
+      };
+      part = ap (λ (x : Machine A). part_of x) (sym here);
+      places = subst (λ (x : Machine A). HasPlaces x log) (sym here) places;
+    }
+
 -- what is kept by a log is in particular a part that a machine has
 pub has_part : {A : Type 0} (behaviour : Behaviour A) (origin : Machine A) (side : AppSide A) (log : KeptLog) (own : StoragePart) → IsKeptBy behaviour origin side log own → HasPart side own
 has_part behaviour origin side log own kept = record { machine = machine_by behaviour origin log.entries; stands = kept.in_step.stands; part = kept.part }
@@ -137,9 +158,9 @@ live_lost {A} behaviour before after lost = sym (ap (λ (x : Machine A). live x)
 
 -- the log has the same entries and more room: what is in step stays so
 pub grown_goes : {A : Type 0} (behaviour : Behaviour A) (before after : AppSide A) (log more : KeptLog) → after ≡ before → HasGrown log more → GoesInStep behaviour before log after more
-grown_goes behaviour before after log more same grown = record {
-  kept = nothing_made behaviour before after log more grown (λ m stands. subst (λ (s : AppSide _). Represents s m) (sym same) stands);
-  lost = ap (λ s. is_lost s) same;
+grown_goes {A} behaviour before after log more same grown = record {
+  kept = nothing_made behaviour before after log more grown (λ m stands. subst (λ (s : AppSide A). Represents s m) (sym same) stands);
+  lost = ap (λ (s : AppSide A). is_lost s) same;
 }
 
 pub goes_further : {A : Type 0} (behaviour : Behaviour A) (before between after : AppSide A) (log middle more : KeptLog) → GoesInStep behaviour before log between middle
@@ -153,8 +174,8 @@ pub event_goes : {A : Type 0} (behaviour : Behaviour A) (client : ℕ) (event : 
     → more.entries ≡ middle.entries ++ entry client event replies ∷ [] → more.room ≡ middle.room → more.reply_room ≡ middle.reply_room
     → ((m : Machine A) → Represents before m → MakesStep behaviour m event replies after) → ((m : Machine A) → Represents before m → part_of (step behaviour m event).machine ≡ part_of m)
     → is_lost after ≡ is_lost before → GoesInStep behaviour first log after more
-event_goes behaviour client event replies spare first before after log middle more same grown reserved spares few count longer room reply_room makes leaves lost =
-    subst (λ s. GoesInStep behaviour s log after more) same (record {
+event_goes {A} behaviour client event replies spare first before after log middle more same grown reserved spares few count longer room reply_room makes leaves lost =
+    subst (λ (s : AppSide A). GoesInStep behaviour s log after more) same (record {
       kept = event_made behaviour client event replies spare before after middle more reserved spares few count longer room reply_room log grown.entries makes leaves;
       lost = lost;
     })

@@ -3,7 +3,6 @@
 use alone::AppLog;
 use app_side::AppSide;
 use thiserror::Error;
-use turn_cell::Busy;
 
 /// A running application, and the log of what happened to it. Each of its calls keeps them in step; whoever changes one of them
 /// by itself has to do the same.
@@ -23,9 +22,6 @@ pub struct Posted {
 /// Why a call isn't made. It changes no entry, no application and no store then.
 #[derive(Clone, Copy, Debug, PartialEq, Eq, Error)]
 pub enum SharedAnswer {
-    /// A cell's value was taken.
-    #[error("busy")]
-    Busy(Busy),
     /// The log holds as many entries or bytes as it may.
     #[error("the log is full")]
     LogFull,

@@ -8,7 +8,7 @@ ghost use Rattle.alone.specs.Machine.{Machine};
 ghost use Rattle.alone.specs.Step.{Called, Cancelled, Lost, needs_store};
 ghost use Rattle.app_side.specs.Represents.{Represents, event_of, is_lost, turns_of};
 ghost use Rattle.app_side.specs.Storeless.{wants_store};
-ghost use Rattle.shared_parts.specs.InStep.{GoesInStep, HasGrown, IsPosted, IsRefusal, IsReserved, KnowsLoss, StaysInStep};
+ghost use Rattle.shared_parts.specs.InStep.{GoesInStep, HasGrown, IsKeptBy, IsPosted, IsRefusal, IsReserved, KnowsLoss, StaysInStep, part_of};
 
 use crate::recorded::{Posted, Recorded, SharedAnswer};
 use alone::{AppLog, Call, LogEntry, LogEvent, REPLIES, Replies, Reply, TurnKind, call_bytes};
@@ -41,6 +41,8 @@ impl<A: Application> Recorded<A> {
         ensures side { IfOk result (λ made. made.side ≡ side) }
         ensures log { IfOk result (λ made. made.log.entries ≡ []) }
         ensures reserved { IfOk result (λ made. IsReserved 4 made.side made.log) }
+        ensures kept { IfOk result (λ made. (m : Machine A) → Represents side m
+            → IsKeptBy A.behaviour m made.side made.log (part_of m)) }
     {
         let log = AppLog::new(alloc);
         let mut made = Recorded { side, log };

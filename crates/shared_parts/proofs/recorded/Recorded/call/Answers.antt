@@ -1,4 +1,4 @@
-use Rattle.std.proofs.Common.{refl, tt}
+use Rattle.std.proofs.Common.{refl}
 use Rattle.alone.specs.Logs.{bytes_of_call}
 use Rattle.shared_parts.proofs.StepLemmas.{bytes_fit, full_of_call, grown_goes, same_log}
 use Rattle.shared_parts.proofs.recorded.Recorded.call.Goals as goal
