@@ -3,5 +3,4 @@ pub mod CodeLemmas
 pub mod FieldLemmas
 pub mod GhashLemmas
 pub mod MessageLemmas
-pub mod SameLemmas
 pub mod TextLemmas

@@ -3,10 +3,11 @@
 ghost use Rattle.std.specs.Prelude.{◌≡◌};
 ghost use Rattle.ae_modes.specs.Cmac.{doubled};
 
-use crate::blocks::{block_of_number, none_waiting, number_of_block, xor};
-use crate::same::is_same;
+use crate::blocks::{none_waiting, number_of_block};
 use crate::waiting::Waiting;
 use aes_core::{Key, encrypt_block};
+use aes_modes::{block_of_number, xor};
+use mac_digest::is_same;
 
 /// A message so far under a key, which starts anew after each code.
 #[derive(Clone, Copy)]

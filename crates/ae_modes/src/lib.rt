@@ -8,7 +8,6 @@ mod ghash;
 mod laws;
 mod message;
 mod operations;
-mod same;
 mod start;
 mod tables;
 mod text;

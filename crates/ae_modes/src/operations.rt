@@ -1,11 +1,11 @@
 // What a caller does with a message: give its associated data and its pieces, and end it with its tag.
 
 use crate::answers::{AeAnswer, AeWay};
-use crate::blocks::{block_of_number, xor};
 use crate::message::Gcm;
-use crate::same::is_same;
 use crate::start::two_lengths;
-use crate::text::{key_block, write_text};
+use crate::text::write_text;
+use aes_modes::{block_of_number, key_block, xor};
+use mac_digest::is_same;
 
 // The most bytes of associated data.
 const MAX_AAD: usize = 0x1_0000_0000;

@@ -7,7 +7,7 @@ ghost use Rattle.aes_modes.specs.Modes.{xor_bytes};
 
 /// The block at a place.
 #[inline(always)]
-pub(crate) fn block_from(bytes: &[u8], at: usize) -> [u8; 16]
+pub fn block_from(bytes: &[u8], at: usize) -> [u8; 16]
     requires fits { at + 16 < 2 ^ 64 }
     requires within { at + 16 ≤ length bytes.now }
     ensures { result ≡ take 16 (drop at bytes.now) }
@@ -19,7 +19,7 @@ pub(crate) fn block_from(bytes: &[u8], at: usize) -> [u8; 16]
 
 /// The bytes of a number, highest first, half by half.
 #[inline(always)]
-pub(crate) fn block_of_number(number: u128) -> [u8; 16]
+pub fn block_of_number(number: u128) -> [u8; 16]
     ensures { result ≡ to_be_bytes w128 number }
 {
     let high = ((number >> 64) as u64).to_be_bytes();
@@ -32,7 +32,7 @@ pub(crate) fn block_of_number(number: u128) -> [u8; 16]
 
 /// The sum of two blocks.
 #[inline(always)]
-pub(crate) fn xor(a: &[u8; 16], b: &[u8; 16]) -> [u8; 16]
+pub fn xor(a: &[u8; 16], b: &[u8; 16]) -> [u8; 16]
     ensures { result ≡ xor_bytes a.now b.now }
 {
     block_of_number(u128::from_be_bytes(*a) ^ u128::from_be_bytes(*b))

@@ -4,11 +4,14 @@
 mod blocks;
 mod by_block;
 mod by_byte;
+mod counter;
 mod laws;
 mod modes;
 mod operations;
 mod stream;
 
+pub use blocks::{block_from, block_of_number, xor};
+pub use counter::{key_block, start_at, write_piece};
 pub use laws::decryption_undoes_encryption;
 pub use modes::{Mode, ModeAnswer, Way};
 pub use operations::start;

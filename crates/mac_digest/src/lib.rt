@@ -18,4 +18,4 @@ mod digests;
 mod macs;
 
 pub use digests::{Digester, Hash, Tag, digest};
-pub use macs::{Mac, hmac};
+pub use macs::{Mac, hmac, is_same};

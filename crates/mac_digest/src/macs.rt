@@ -128,9 +128,9 @@ fn begin(hash: Hash, block: &[u8; MAX_BLOCK_LEN], pad: u8) -> Digester
     digester
 }
 
-// Looks at every byte before it answers, so that the time taken doesn't tell where the first
-// difference is.
-fn is_same(left: &[u8], right: &[u8]) -> bool
+/// Whether two lists of bytes are the same. It looks at every byte before it answers, so that the time taken doesn't
+/// tell where the first difference is.
+pub fn is_same(left: &[u8], right: &[u8]) -> bool
     ensures { IsTrue result ↔ (left.now ≡ right.now) }
 {
     let mut difference = 0;

@@ -2,7 +2,7 @@ use Rattle.std.proofs.Common.{◌∙◌, ap, arith, List, ℕ}
 use Rattle.aes_core.specs.Cipher.{cipher}
 use Rattle.aes_core.specs.Key.{key_bytes}
 use Rattle.aes_modes.proofs.CounterLemmas.{counter_block_below}
-use Rattle.ae_modes.proofs.text.key_block.Goals as goal
+use Rattle.aes_modes.proofs.counter.key_block.Goals as goal
 
 pub returns : goal.returns
 returns c =

@@ -3,7 +3,7 @@ use Rattle.aes_core.specs.Cipher.{cipher}
 use Rattle.aes_core.specs.Key.{key_bytes}
 use Rattle.aes_modes.specs.Modes.{counter_block, xor_bytes}
 use Rattle.aes_modes.proofs.CounterLemmas.{with_own_last}
-use Rattle.ae_modes.proofs.text.write_whole.Goals as goal
+use Rattle.aes_modes.proofs.counter.write_whole.Goals as goal
 
 pub returns : goal.returns
 returns c =

@@ -2,7 +2,7 @@ use Rattle.std.proofs.Common.{◌∙◌, ◌≡◌, ℕ, ap, drop, arith}
 use Rattle.aes_core.specs.Cipher.{cipher}
 use Rattle.aes_core.specs.Key.{key_bytes}
 use Rattle.aes_modes.specs.Modes.{xor_bytes, counter_block}
-use Rattle.ae_modes.proofs.text.write_piece.Goals as goal
+use Rattle.aes_modes.proofs.counter.write_piece.Goals as goal
 
 pub returns-then-input-eq16 : goal.returns-then-input-eq16
 returns-then-input-eq16 c =

@@ -1,6 +1,6 @@
 use Rattle.std.proofs.Common.{◌∙◌, refl, arith}
 use Rattle.aes_modes.proofs.CounterLemmas.{part_of_sum, length-cipher}
-use Rattle.aes_modes.proofs.stream.Stream.write_part.Goals as goal
+use Rattle.aes_modes.proofs.counter.write_part.Goals as goal
 
 pub returns : goal.returns
 returns c =
