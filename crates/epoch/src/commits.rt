@@ -5,6 +5,7 @@ ghost use Rattle.store_api.specs.Volumes.{Held};
 ghost use Rattle.board.specs.Moment.{View, moment, left_since};
 ghost use Rattle.board.specs.Runs.{RunsOver};
 ghost use Rattle.board.specs.Steps.{CallRun};
+ghost use Rattle.epoch.specs.Alone.{LeavesAlone};
 ghost use Rattle.epoch.specs.Commits.{BeforeOrAfter, IsBegun, IsMounted, IsSteady, IsWritten, next_held, spare};
 ghost use Rattle.epoch.specs.Finding.{IsSettledAt};
 ghost use Rattle.epoch.specs.Forms.{Form, IsFramed, Root, SameUsed, is_sealed, leaves_of, root_written};
@@ -41,6 +42,9 @@ pub trait Change {
 
     /// How many blocks it writes at most.
     ghost cost: { Self → ℕ };
+
+    /// Blocks that it never writes, whatever the root in use.
+    ghost untouched: { ℕ → Type 0 };
 
     /// The version of the form.
     fn version(&self) -> u32
@@ -85,7 +89,9 @@ pub trait Change {
         ensures keeps { B.honest board.old
             → fits self.old (B.view board.old).key (B.view board.old).state.reads
             → OnOk result (keeps self.new (B.view board.old).key
-            (B.view board.new).state.reads) };
+            (B.view board.new).state.reads) }
+        ensures alone { B.honest board.old
+            → LeavesAlone untouched (B.view board.old) (B.view board.new) };
 
     ghost framed: { IsFramed form };
 
@@ -126,6 +132,9 @@ pub fn commit<B: Board, C: Change>(
         → OnOk result (IsSettledAt (sequence + 1) (B.view board.new).state) }
     ensures honest { B.honest board.old → B.honest board.new }
     ensures past { B.honest board.old → KeepsPast (B.view board.old) (B.view board.new) }
+    // behind the slots what the change never writes stays, at every moment too
+    ensures alone { B.honest board.old
+        → LeavesAlone (λ k. (3 < k) × C.untouched k) (B.view board.old) (B.view board.new) }
     // at every moment since the start all that a crash leaves holds what was held before, or after
     ensures crash { B.honest board.old → (before : Held)
         → IsBegun C.form (C.fits change.old) (B.view board.old) (C.root change.old) sequence before

@@ -4,6 +4,7 @@ ghost use Rattle.tee_base.specs.Faults.{Rose};
 ghost use Rattle.store_api.specs.declared.leaves.LeafAnswer.TheVariants as answers;
 ghost use Rattle.board.specs.Fuse.{burnt};
 ghost use Rattle.board.specs.Steps.{CallRun};
+ghost use Rattle.epoch.specs.Alone.{LeavesAlone};
 ghost use Rattle.epoch.specs.Forms.{Form, IsFramed, Root};
 ghost use Rattle.epoch.specs.Keeping.{Exhausts, IsInUse};
 ghost use Rattle.epoch.specs.Past.{KeepsPast};
@@ -22,6 +23,9 @@ pub fn exhaust<B: Board>(board: &mut B) -> LeafAnswer
     ensures called { (B.view board.new).fuse ≡ burnt (B.view board.old).fuse }
     ensures honest { B.honest board.old → B.honest board.new }
     ensures past { B.honest board.old → KeepsPast (B.view board.old) (B.view board.new) }
+    // no block is written
+    ensures alone { B.honest board.old
+        → LeavesAlone (λ k. Unit {0}) (B.view board.old) (B.view board.new) }
     ensures failed { B.honest board.old → (f : Form) (root : Root) → IsFramed f
         → IsInUse f (B.view board.old) root (2 ^ 64 - 1)
         → Exhausts f root result (B.view board.old) (B.view board.new) }

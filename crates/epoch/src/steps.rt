@@ -5,6 +5,7 @@ ghost use Rattle.tee_base.specs.Crash.{LeavesOnly};
 ghost use Rattle.board.specs.Moment.{View, moment, left_since};
 ghost use Rattle.board.specs.Runs.{Rests, RunsOver};
 ghost use Rattle.board.specs.Steps.{capped, CallRun};
+ghost use Rattle.epoch.specs.Alone.{LeavesAlone};
 ghost use Rattle.epoch.specs.Gates.{gate_at, gate_open, shut_gate};
 ghost use Rattle.epoch.specs.Opening.{opening_of};
 ghost use Rattle.epoch.specs.Past.{KeepsPast};
@@ -82,6 +83,8 @@ pub fn flip<B: Board>(board: &mut B, slot: u8) -> Result<u64, BoardFailed>
     ensures pending { B.honest board.old → (k : ℕ) → k ≢ gate_at slot
         → (B.view board.old).state.pending k ≡ false
         → (B.view board.new).state.pending k ≡ false }
+    ensures alone { B.honest board.old
+        → LeavesAlone (λ k. k ≢ gate_at slot) (B.view board.old) (B.view board.new) }
     ensures flipped { B.honest board.old
         → IfOk result (λ m. IsFlipped slot m (B.view board.old).state (B.view board.new).state) }
     ensures run { B.honest board.old → (n : ℕ) → Rests n (B.view board.old).state

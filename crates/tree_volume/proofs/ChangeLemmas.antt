@@ -9,6 +9,7 @@ use Rattle.store_api.specs.Ascending.{is_above_all}
 use Rattle.store_api.specs.Volumes.{leaf_after, replaced}
 use Rattle.store_api.specs.declared.leaves.Leaf.{Leaf}
 use Rattle.seal.specs.declared.keys.Keys.{Keys}
+use Rattle.epoch.proofs.AloneLemmas.{all_but, but_other}
 use Rattle.epoch.specs.Commits.{IsWritten, spare}
 use Rattle.epoch.specs.Forms.{all_below, is_leaf, is_sealed, leaves_of}
 use Rattle.epoch.specs.Gates.{header_at}
@@ -26,6 +27,7 @@ use Rattle.epoch.specs.Copies.{copy_of}
 use Rattle.tree_volume.specs.Tree.{damage_of, entry_below, on_image, text_of, with_new}
 use Rattle.tree_volume.proofs.GatherLemmas.{leaf_level}
 use Rattle.tree_volume.proofs.StartLemmas.{damage_start, or_else, text_start}
+use Rattle.tree_volume.proofs.WriteLemmas.{before_copies}
 
 -- the other copy isn't the one that is named
 not_named : (copy : ℕ) → (copy_of (1 - copy_of copy) == copy_of copy) ≡ false
@@ -164,3 +166,8 @@ module _ (key : List ℕ) (old new : ℕ → List ℕ) (keys : Keys) (nodes : Li
 pub all_spare : (s : Shape) (nodes : List Node) → AreSpare s (λ k. true) nodes
 all_spare s [] = tt
 all_spare s (node ∷ nodes) = (refl, all_spare s nodes)
+
+-- where every block but one of those before the copies is open, too
+pub apart_spare : (k : ℕ) → k < 8742 → (nodes : List Node) → AreSpare shape (all_but k) nodes
+apart_spare k low [] = tt
+apart_spare k low (node ∷ nodes) = (but_other k (spare_block shape node) (before_copies node k low), apart_spare k low nodes)

@@ -9,7 +9,7 @@ ghost use Rattle.tree_volume.specs.Form.{tree, tree_root};
 ghost use Rattle.tree_volume.specs.Frame.{tree_framed};
 ghost use Rattle.tree_volume.specs.Gather.{AreGathered, AreGathered-prop};
 ghost use Rattle.tree_volume.specs.Sealed.{AreSealed};
-ghost use Rattle.tree_volume.specs.declared.places.TheConstants.{DEPTH, REGION_LEAVES};
+ghost use Rattle.tree_volume.specs.declared.places.TheConstants.{DEPTH, FIRST_BLOCK, REGION_LEAVES};
 ghost use Rattle.tree_volume.specs.Shape.{shape};
 ghost use Rattle.tree_volume.specs.Shapes.{is_shape};
 ghost use Rattle.tree_volume.specs.Touched.{AreOrdered};
@@ -52,6 +52,8 @@ impl Change for TreeChange<'_> {
     ghost seals = { λ old new key sequence. AreOrdered shape old.touched → AreSealed shape DEPTH key sequence old.touched new.root };
 
     ghost cost = { λ c. length c.touched };
+
+    ghost untouched = { λ k. k < FIRST_BLOCK };
 
     ghost framed = { tree_framed shape is_shape };
 

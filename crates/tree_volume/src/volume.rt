@@ -9,13 +9,14 @@ ghost use Rattle.store_api.specs.Ascending.{is_above_all};
 ghost use Rattle.store_api.specs.declared.leaves.LeafAnswer.TheVariants as answers;
 ghost use Rattle.board.specs.Fuse.{burnt};
 ghost use Rattle.board.specs.Steps.{CallRun};
+ghost use Rattle.epoch.specs.Alone.{LeavesAlone};
 ghost use Rattle.epoch.specs.Opening.{opening_of};
 ghost use Rattle.epoch.specs.Past.{KeepsPast};
 ghost use Rattle.epoch.specs.Reading.{no_fault};
 ghost use Rattle.epoch.specs.declared.answer.OpenAnswer.TheVariants.{Rollback};
 ghost use Rattle.epoch.proofs.LeftLemmas.{left_in_use, rests_in_use, since_earlier};
 ghost use Rattle.seal.specs.Keys.{AreKeysOf};
-ghost use Rattle.tree_volume.specs.declared.places.TheConstants.{REGION_LEAVES, TREE_BLOCKS};
+ghost use Rattle.tree_volume.specs.declared.places.TheConstants.{FIRST_BLOCK, REGION_LEAVES, TREE_BLOCKS};
 ghost use Rattle.tree_volume.specs.Keyed.{AreKeysOf-prop};
 ghost use Rattle.tree_volume.specs.Form.{form_root, tree_form};
 ghost use Rattle.tree_volume.specs.Frame.{form_framed};
@@ -106,6 +107,8 @@ fn replace<B: Board>(
         (root_after result opened) nodes.new.kept }
     ensures honest { B.honest board.old → B.honest board.new }
     ensures past { B.honest board.old → KeepsPast (B.view board.old) (B.view board.new) }
+    ensures alone { B.honest board.old → LeavesAlone (λ k. (3 < k) × (k < FIRST_BLOCK))
+        (B.view board.old) (B.view board.new) }
     ensures replaced { B.honest board.old
         → IsOpen (B.view board.old) opened.root opened.sequence
         → Replaces region leaves.now result opened (B.view board.old) (B.view board.new) }
@@ -198,6 +201,9 @@ impl<B: Board + Drop> Volume for TreeVolume<B> {
         ensures sealed_for { IfOk result (λ sequence. self.new.root.sequence ≡ sequence) }
         ensures made { IfOk result (λ sequence. IsMade B.tells_reads (B.view self.old.board)
             sequence region leaves.now self.old.root self.new.root) }
+        // the blocks of the first version stay, whatever the image, and a crash leaves them as they were
+        ensures alone { B.honest self.old.board → LeavesAlone (λ k. (3 < k) × (k < FIRST_BLOCK))
+            (B.view self.old.board) (B.view self.new.board) }
         // from then on the board is refused at every greater counter
         ensures rollback { tree_keeper.honest self.old → IfOk result (λ sequence.
             (counter : ℕ) → sequence < counter

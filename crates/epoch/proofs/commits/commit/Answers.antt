@@ -1,4 +1,5 @@
 use Rattle.std.proofs.Common.{◌∙◌, ◌+◌, ℕ, sym, ap, true, false}
+use Rattle.epoch.proofs.AloneLemmas.{flipped_alone, laid_alone, shut_alone, written_alone}
 use Rattle.epoch.proofs.CallLemmas.{run_more, run_stops}
 use Rattle.epoch.specs.Commits.{next_held}
 use Rattle.epoch.proofs.PastLemmas.{followed}
@@ -231,3 +232,53 @@ returns-clause-counter g c h settled =
     let wrote = c.in_ok-root.ensures.counter hon1 c.args.sequence shut in
     let laid = settled_synced c.args.sequence _ _ _ (c.in_ok-lay.ensures.laid hon2).0 wrote in
     settled_flipped c.args.sequence _ _ _ _ (c.in_ok-_counter.ensures.flipped hon3) laid
+
+pub returns-in_err-shut-clause-alone : goal.returns-in_err-shut-clause-alone
+returns-in_err-shut-clause-alone g c h =
+    let e = c.in_err-shut.ensures in
+    shut_alone g.C.Change.untouched c.slot_for-slot.result _ _ c.slot_for-slot.ensures.below (g.met.B.Board.consistent c.args.board.now h) (e.elsewhere h) (e.run h)
+
+pub returns-in_err-root-clause-alone : goal.returns-in_err-root-clause-alone
+returns-in_err-root-clause-alone g c h =
+    let e = c.in_ok-shut.ensures in
+    let hon1 = e.honest h in
+    written_alone g.C.Change.untouched _ _ _
+    (shut_alone g.C.Change.untouched c.slot_for-slot.result _ _ c.slot_for-slot.ensures.below (g.met.B.Board.consistent c.args.board.now h) (e.elsewhere h) (e.run h))
+    (c.in_err-root.ensures.alone hon1)
+
+pub returns-in_err-lay-clause-alone : goal.returns-in_err-lay-clause-alone
+returns-in_err-lay-clause-alone g c h =
+    let e = c.in_ok-shut.ensures in
+    let hon1 = e.honest h in
+    let hon2 = c.in_ok-root.ensures.honest hon1 in
+    laid_alone g.C.Change.untouched _ _ _ _
+    (written_alone g.C.Change.untouched _ _ _
+    (shut_alone g.C.Change.untouched c.slot_for-slot.result _ _ c.slot_for-slot.ensures.below (g.met.B.Board.consistent c.args.board.now h) (e.elsewhere h) (e.run h))
+    (c.in_ok-root.ensures.alone hon1))
+    (g.met.B.Board.consistent c.write.new.board hon2) (c.in_err-lay.ensures.elsewhere hon2) (c.in_err-lay.ensures.run hon2)
+
+pub returns-in_err-_counter-clause-alone : goal.returns-in_err-_counter-clause-alone
+returns-in_err-_counter-clause-alone g c h =
+    let e = c.in_ok-shut.ensures in
+    let hon1 = e.honest h in
+    let hon2 = c.in_ok-root.ensures.honest hon1 in
+    flipped_alone g.C.Change.untouched c.slot_for-slot.result _ _ _ c.slot_for-slot.ensures.below
+    (laid_alone g.C.Change.untouched _ _ _ _
+    (written_alone g.C.Change.untouched _ _ _
+    (shut_alone g.C.Change.untouched c.slot_for-slot.result _ _ c.slot_for-slot.ensures.below (g.met.B.Board.consistent c.args.board.now h) (e.elsewhere h) (e.run h))
+    (c.in_ok-root.ensures.alone hon1))
+    (g.met.B.Board.consistent c.write.new.board hon2) (c.in_ok-lay.ensures.elsewhere hon2) (c.in_ok-lay.ensures.run hon2))
+    (c.in_err-_counter.ensures.alone (c.in_ok-lay.ensures.honest hon2))
+
+pub returns-clause-alone : goal.returns-clause-alone
+returns-clause-alone g c h =
+    let e = c.in_ok-shut.ensures in
+    let hon1 = e.honest h in
+    let hon2 = c.in_ok-root.ensures.honest hon1 in
+    flipped_alone g.C.Change.untouched c.slot_for-slot.result _ _ _ c.slot_for-slot.ensures.below
+    (laid_alone g.C.Change.untouched _ _ _ _
+    (written_alone g.C.Change.untouched _ _ _
+    (shut_alone g.C.Change.untouched c.slot_for-slot.result _ _ c.slot_for-slot.ensures.below (g.met.B.Board.consistent c.args.board.now h) (e.elsewhere h) (e.run h))
+    (c.in_ok-root.ensures.alone hon1))
+    (g.met.B.Board.consistent c.write.new.board hon2) (c.in_ok-lay.ensures.elsewhere hon2) (c.in_ok-lay.ensures.run hon2))
+    (c.in_ok-_counter.ensures.alone (c.in_ok-lay.ensures.honest hon2))

@@ -1,8 +1,10 @@
-use Rattle.std.proofs.Common.{true, false}
+use Rattle.std.proofs.Common.{◌≢◌, ◌∙◌, ℕ, true, false}
+use Rattle.epoch.proofs.AloneLemmas.{alone_blocks, alone_more, alone_synced, alone_wrote}
 use Rattle.epoch.proofs.CallLemmas.{call_more, run_once, run_stops}
 use Rattle.epoch.proofs.PastLemmas.{once, followed}
 use Rattle.epoch.proofs.RunLemmas.{flip_wrote, flip_before, flip_advanced, flip_answers, opened_answers, flip_crash, over_sync}
 use Rattle.epoch.proofs.SettledLemmas.{settled_blocks, settled_sync, settled_wrote}
+use Rattle.epoch.specs.Gates.{gate_at}
 use Rattle.epoch.proofs.steps.flip.Goals as goal
 
 pub returns-in_err-write-clause-run : goal.returns-in_err-write-clause-run
@@ -88,3 +90,29 @@ returns-in_err-sync-clause-calls g c =
 
 pub returns-clause-calls : goal.returns-clause-calls
 returns-clause-calls g c = call_more _ _ _ _ (call_more true _ _ _ (run_once true _ _ c.in_ok-write.ensures.call) c.in_ok-sync.ensures.call) c.advance.ensures.call
+
+pub returns-in_err-write-clause-alone : goal.returns-in_err-write-clause-alone
+returns-in_err-write-clause-alone g c h =
+    let w = c.in_err-write.ensures.honest h in
+    alone_wrote (λ (k : ℕ). k ≢ gate_at c.args.slot) _ _ _ _ _ (g.met.B.Board.consistent c.args.board.now h) w.1 (λ k ne e. ne (e ∙ c.gate_block.ensures)) w.2
+
+pub returns-in_err-sync-clause-alone : goal.returns-in_err-sync-clause-alone
+returns-in_err-sync-clause-alone g c h =
+    let P = λ (k : ℕ). k ≢ gate_at c.args.slot in
+    let w = c.in_ok-write.ensures.honest h in
+    let s = c.in_err-sync.ensures.honest w.0 in
+    alone_more P _ _ _
+    (alone_wrote P _ _ _ _ _ (g.met.B.Board.consistent c.args.board.now h) w.1 (λ k ne e. ne (e ∙ c.gate_block.ensures)) w.2)
+    (alone_synced P _ _ _ (g.met.B.Board.consistent c.write.new.self w.0) s.1 s.2)
+
+pub returns-clause-alone : goal.returns-clause-alone
+returns-clause-alone g c h =
+    let P = λ (k : ℕ). k ≢ gate_at c.args.slot in
+    let w = c.in_ok-write.ensures.honest h in
+    let s = c.in_ok-sync.ensures.honest w.0 in
+    let a = c.advance.ensures.honest s.0 in
+    alone_more P _ _ _
+    (alone_more P _ _ _
+    (alone_wrote P _ _ _ _ _ (g.met.B.Board.consistent c.args.board.now h) w.1 (λ k ne e. ne (e ∙ c.gate_block.ensures)) w.2)
+    (alone_synced P _ _ _ (g.met.B.Board.consistent c.write.new.self w.0) s.1 s.2))
+    (alone_blocks P _ _ (g.met.B.Board.consistent c.sync.new.self s.0) a.1 a.2.blocks)

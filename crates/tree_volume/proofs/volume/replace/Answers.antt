@@ -5,6 +5,7 @@ use Rattle.store_api.specs.declared.leaves.LeafAnswer.{LeafAnswer}
 use Rattle.store_api.specs.declared.leaves.LeafAnswer.TheVariants as answers
 use Rattle.store_api.specs.Volumes.{Held, IfMismatch, after_commit}
 use Rattle.seal.specs.Keys.{AreKeysOf}
+use Rattle.epoch.proofs.AloneLemmas.{alone_more, alone_read}
 use Rattle.epoch.specs.Commits.{IsBegun, IsSteady}
 use Rattle.epoch.proofs.KeepLemmas.{commit_crash, held_same, in_use_same, leaves_held, mounted_held, mounted_in_use}
 use Rattle.epoch.proofs.PastLemmas.{followed}
@@ -169,3 +170,19 @@ returns-clause-replaced g c h is =
       commits = leaves_held tree_form form_framed new mid.key (form_root root) before c.in-Err.ensures.calls.key (c.in-Err.ensures.kept read.0 before begins) refl ∙ held;
       crash = commit_crash tree_form form_framed v mid new (form_root root) sequence c.args.region leaves is told.calls.key read.1 (c.in-Err.ensures.crash read.0 before begins);
     })
+
+pub returns-in_err-touched-clause-alone : goal.returns-in_err-touched-clause-alone
+returns-in_err-touched-clause-alone g c h =
+    alone_read (λ (k : ℕ). (3 < k) × (k < 8742)) _ _ (g.met.B.Board.consistent c.args.board.now h) (c.in_err-touched.ensures.honest h).1
+
+pub returns-in-Ok-clause-alone : goal.returns-in-Ok-clause-alone
+returns-in-Ok-clause-alone g c h =
+    let read = c.in_ok-touched.ensures.honest h in
+    alone_more (λ (k : ℕ). (3 < k) × (k < 8742)) _ _ _
+    (alone_read (λ (k : ℕ). (3 < k) × (k < 8742)) _ _ (g.met.B.Board.consistent c.args.board.now h) read.1) (c.in-Ok.ensures.alone read.0)
+
+pub returns-clause-alone : goal.returns-clause-alone
+returns-clause-alone g c h =
+    let read = c.in_ok-touched.ensures.honest h in
+    alone_more (λ (k : ℕ). (3 < k) × (k < 8742)) _ _ _
+    (alone_read (λ (k : ℕ). (3 < k) × (k < 8742)) _ _ (g.met.B.Board.consistent c.args.board.now h) read.1) (c.in-Err.ensures.alone read.0)

@@ -1,10 +1,12 @@
-use Rattle.std.proofs.Common.{true}
+use Rattle.std.proofs.Common.{◌<◌, ℕ, true}
+use Rattle.epoch.proofs.AloneLemmas.{alone_run}
 use Rattle.epoch.specs.Commits.{spare}
 use Rattle.epoch.proofs.SettledLemmas.{settled_run, settled_starts}
 use Rattle.tree_volume.specs.Form.{form_root, tree_form}
 use Rattle.tree_volume.specs.Shape.{shape}
+use Rattle.tree_volume.specs.Touched.{AreSpare}
 use Rattle.tree_volume.specs.Shapes.{is_shape}
-use Rattle.tree_volume.proofs.ChangeLemmas.{all_spare, nodes_spare, tree_written}
+use Rattle.tree_volume.proofs.ChangeLemmas.{all_spare, apart_spare, nodes_spare, tree_written}
 use Rattle.tree_volume.proofs.change.TreeChangeChange.write.Goals as goal
 
 pub returns-clause-written : goal.returns-clause-written
@@ -33,3 +35,15 @@ returns-clause-counter g c h n settled =
     let v = g.B.Board.view c.args.board.now in
     settled_run n v.state.reads v (g.B.Board.view c.write_all.new.board)
     (c.in_ok-self.ensures.run h (λ k. true) v.state.reads n n v (all_spare shape c.args.self.now.touched) (settled_starts n v settled))
+
+pub returns-in_err-self-clause-alone : goal.returns-in_err-self-clause-alone
+returns-in_err-self-clause-alone g c h =
+    let touched = c.args.self.now.touched in
+    alone_run (λ (k : ℕ). k < 8742) (λ open_at. AreSpare shape open_at touched) _ _ (g.met.B.Board.consistent c.args.board.now h)
+    (λ k low. apart_spare k low touched) (c.in_err-self.ensures.before h) (c.in_err-self.ensures.run h)
+
+pub returns-clause-alone : goal.returns-clause-alone
+returns-clause-alone g c h =
+    let touched = c.args.self.now.touched in
+    alone_run (λ (k : ℕ). k < 8742) (λ open_at. AreSpare shape open_at touched) _ _ (g.met.B.Board.consistent c.args.board.now h)
+    (λ k low. apart_spare k low touched) (c.in_ok-self.ensures.before h) (c.in_ok-self.ensures.run h)

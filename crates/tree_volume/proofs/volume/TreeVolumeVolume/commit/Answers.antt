@@ -1,8 +1,9 @@
-use Rattle.std.proofs.Common.{◌≡◌, ◌≢◌, ◌∙◌, ℕ, true, false, List, Some, Err, refl, sym, ap, subst, arith}
+use Rattle.std.proofs.Common.{◌≡◌, ◌≢◌, ◌<◌, ◌∙◌, ℕ, true, false, List, Some, Err, refl, sym, ap, subst, arith}
 use Rattle.tee_base.specs.Crash.{LeavesOnly}
 use Rattle.tee_base.proofs.Crash.{mapped, weaker}
 use Rattle.store_api.specs.Volumes.{Held, LeftByCommit, after_commit}
 use Rattle.board.specs.Moment.{moment, left_since}
+use Rattle.epoch.proofs.AloneLemmas.{alone_fewer, alone_none}
 use Rattle.epoch.proofs.KeepLemmas.{err_cause, exhausts_at, foundation_same, if_unwritten, left_before, no_mismatch, not_lost, past_read, still_failed, still_tags, unless_failed}
 use Rattle.epoch.proofs.MountLemmas.{mounted_refuses}
 use Rattle.epoch.specs.Forms.{held_of}
@@ -123,3 +124,16 @@ returns-then-self-2-clause-commits g c =
           (λ o same. left_before (Err e) before after (held_of tree_form w.key o) (ap (λ (k : List ℕ). held_of tree_form k o) told.calls.key ∙ same))
           (does h.0 (h.1 live)).crash);
     }
+
+pub returns-then-self-clause-alone : goal.returns-then-self-clause-alone
+returns-then-self-clause-alone g c h = alone_none (λ (k : ℕ). (3 < k) × (k < 8742)) _ (g.met.B.Board.consistent c.args.self.now.board h)
+
+pub returns-then-self-2-clause-alone : goal.returns-then-self-2-clause-alone
+returns-then-self-2-clause-alone g c h =
+    alone_fewer (λ (k : ℕ). Unit {0}) (λ (k : ℕ). (3 < k) × (k < 8742)) _ _ (λ k is. tt) (c.exhaust-answer.ensures.alone h)
+
+pub returns-in-Ok-clause-alone : goal.returns-in-Ok-clause-alone
+returns-in-Ok-clause-alone g c h = c.in-Ok.ensures.alone h
+
+pub returns-in-Err-clause-alone : goal.returns-in-Err-clause-alone
+returns-in-Err-clause-alone g c h = c.in-Err.ensures.alone h
