@@ -15,9 +15,11 @@ use Rattle.app_api.specs.declared.param.Params.{Params}
 use Rattle.app_api.specs.Outs.{no_outs}
 use Rattle.sample_apps.specs.declared.reaction.Reaction.{Reaction}
 use Rattle.sample_apps.specs.declared.rogue.Rogue.{Rogue}
-use Rattle.sample_apps.specs.declared.rogue.Rogue.TheVariants.{Idle, ClosingUnknown, Looping, Creating, Closing, Replacing}
+use Rattle.sample_apps.specs.declared.rogue.Rogue.TheVariants.{Idle, ClosingUnknown, Looping, Creating, Closing, Replacing, MakingKeys}
 use Rattle.sample_apps.specs.declared.rogue.commands.Command.{Command}
-use Rattle.sample_apps.specs.declared.rogue.commands.Command.TheVariants.{Panic, CloseUnknown, Loop, Fill, TellSize, Replace}
+use Rattle.sample_apps.specs.declared.rogue.commands.Command.TheVariants.{Panic, CloseUnknown, Loop, Fill, TellSize, Replace, MakeKeys}
+use Rattle.tee_base.specs.declared.keys.TheConstants.{KIND_AES}
+use Rattle.tee_base.specs.declared.limits.TheConstants.{MAX_ASKS}
 use Rattle.tee_base.specs.declared.codes.TheConstants.Code.{GENERIC, BAD_PARAMETERS, SHORT_BUFFER, STORAGE_NO_SPACE}
 use Rattle.sample_apps.specs.Reactions.{ask_for, return_with, succeed_with, fail_with, at_p0}
 
@@ -47,6 +49,10 @@ exclusive_overwrite = 0x407
 abbrev pub replaced_identifier : ℕ
 replaced_identifier = 0x68
 
+-- the greatest size of a key that is made, in bits
+abbrev pub key_bits : ℕ
+key_bits = 256
+
 -- ---- the commands, by their numbers and the kinds of their parameters
 
 -- 1: a panic with a code
@@ -59,10 +65,10 @@ unfoldable pub without_parameters : Command → Param → Param → Param → Pa
 without_parameters command Nothing Nothing Nothing Nothing = Some command
 without_parameters command p0 p1 p2 p3 = None
 
--- 4: an output for the number of objects
-unfoldable pub fill_of : Param → Param → Param → Param → Option Command
-fill_of ValueOut Nothing Nothing Nothing = Some Fill
-fill_of p0 p1 p2 p3 = None
+-- 4 and 7: an output for how many were made
+unfoldable pub with_number : Command → Param → Param → Param → Param → Option Command
+with_number command ValueOut Nothing Nothing Nothing = Some command
+with_number command p0 p1 p2 p3 = None
 
 -- 5: an output of memory
 unfoldable pub tell_size_of : Param → Param → Param → Param → Option Command
@@ -75,9 +81,10 @@ command_of n ps =
     if n == 1 then panic_of ps.p0 ps.p1 ps.p2 ps.p3
     else if n == 2 then without_parameters CloseUnknown ps.p0 ps.p1 ps.p2 ps.p3
     else if n == 3 then without_parameters Loop ps.p0 ps.p1 ps.p2 ps.p3
-    else if n == 4 then fill_of ps.p0 ps.p1 ps.p2 ps.p3
+    else if n == 4 then with_number Fill ps.p0 ps.p1 ps.p2 ps.p3
     else if n == 5 then tell_size_of ps.p0 ps.p1 ps.p2 ps.p3
     else if n == 6 then without_parameters Replace ps.p0 ps.p1 ps.p2 ps.p3
+    else if n == 7 then with_number MakeKeys ps.p0 ps.p1 ps.p2 ps.p3
     else None
 
 -- ---- what a command asks for
@@ -94,6 +101,10 @@ creation_at identifier = ask_for (Creating identifier) (creation_of identifier r
 abbrev pub count_shown : ℕ → Reaction Rogue
 count_shown count = succeed_with Idle (at_p0 (Value count 0))
 
+-- 7: one key more than so many
+abbrev pub key_wanted : ℕ → Reaction Rogue
+key_wanted made = ask_for (MakingKeys made) (asked.KeyNew KIND_AES key_bits)
+
 -- what a command asks for first
 unfoldable pub reaction_to_command : Command → Reaction Rogue
 reaction_to_command (Panic code) = ask_for Idle (asked.Panic (record { 0 = code }))
@@ -102,6 +113,7 @@ reaction_to_command Loop = ask_for Looping asked.CancelFlag
 reaction_to_command Fill = creation_at 0
 reaction_to_command TellSize = return_with Idle SHORT_BUFFER (at_p0 (Size size_told))
 reaction_to_command Replace = ask_for Replacing (creation_of replaced_identifier exclusive_overwrite)
+reaction_to_command MakeKeys = key_wanted 0
 
 -- an unknown command, or one with parameters of other kinds, is refused
 unfoldable pub reaction_to_invocation : Option Command → Reaction Rogue
@@ -149,6 +161,12 @@ unfoldable pub after_replacement : Answer → Reaction Rogue
 after_replacement (Number object) = succeed_with Idle no_outs
 after_replacement answer = refusal_of answer
 
+-- 7: keys are asked for until one is refused: shown are how many were made, and the refusal's code. An entry has no more asks than MAX_ASKS
+unfoldable pub after_key : ℕ → Answer → Reaction Rogue
+after_key made (Number object) = if nat_lt made MAX_ASKS then key_wanted (made + 1) else fail_with Idle GENERIC
+after_key made (Refused code) = succeed_with Idle (at_p0 (Value made code.0))
+after_key made answer = fail_with Idle GENERIC
+
 -- an answer comes to the command that waits; where none waits, none can come
 unfoldable pub reaction_to_answer : Rogue → Answer → Reaction Rogue
 reaction_to_answer Idle answer = fail_with Idle GENERIC
@@ -157,6 +175,7 @@ reaction_to_answer Looping answer = after_flag answer
 reaction_to_answer (Creating identifier) answer = after_creation identifier answer
 reaction_to_answer (Closing identifier) answer = after_close identifier answer
 reaction_to_answer Replacing answer = after_replacement answer
+reaction_to_answer (MakingKeys made) answer = after_key made answer
 
 -- what Rogue does with what it is given
 unfoldable pub reaction : Rogue → Given → Reaction Rogue

@@ -1,4 +1,5 @@
-//! The sample application Rogue, which misbehaves: it panics, misuses asks, never returns, and uses up its space.
+//! The sample application Rogue, which misbehaves: it panics, misuses asks, never returns, and uses up its space and its
+//! handles.
 
 mod commands;
 
@@ -6,7 +7,7 @@ use crate::reaction::{Reaction, at_p0};
 use app_api::{Answer, Application, Ask, Entry, Given, Out, Outs};
 use commands::{Command, command_of};
 use std::alloc::Global;
-use tee_base::{Bytes, Code, NoMemory};
+use tee_base::{Bytes, Code, NoMemory, keys, limits};
 
 /// A handle that no instance has, since it has at most 16.
 const UNKNOWN_HANDLE: u32 = 99;
@@ -20,6 +21,8 @@ const READ_WRITE: u32 = 0x3;
 const EXCLUSIVE_OVERWRITE: u32 = 0x407;
 /// The identifier of the object that is made anew.
 const REPLACED_IDENTIFIER: u8 = 0x68;
+/// The greatest size of a key that is made, in bits.
+const KEY_BITS: u32 = 256;
 
 /// The ask whose answer a command waits for, with what the command keeps meanwhile.
 #[derive(Clone, Copy, Debug)]
@@ -36,6 +39,8 @@ pub enum Rogue {
     Closing { identifier: u8 },
     /// 6: the object that is made anew.
     Replacing,
+    /// 7: one key more than so many.
+    MakingKeys { made: u32 },
 }
 
 impl Rogue {
@@ -80,6 +85,19 @@ impl Rogue {
         Reaction::succeed_with(Rogue::Idle, at_p0(Out::Value(count, 0)))
     }
 
+    /// One key more than so many.
+    fn make_key(made: u32) -> Reaction<Rogue>
+        ensures { result ≡ rows.key_wanted made }
+    {
+        Reaction::ask_for(
+            Rogue::MakingKeys { made },
+            Ask::KeyNew {
+                kind: keys::KIND_AES,
+                max_bits: KEY_BITS,
+            },
+        )
+    }
+
     #[tactic(auto, unfolding(crate::specs::Rogue::reaction_to_command))]
     fn begin(alloc: Global, command: Command) -> Result<Reaction<Rogue>, NoMemory>
         ensures { IfOk result (λ reaction. reaction ≡ rows.reaction_to_command command) }
@@ -105,6 +123,7 @@ impl Rogue {
                 let ask = Rogue::creation(alloc, REPLACED_IDENTIFIER, EXCLUSIVE_OVERWRITE)?;
                 Reaction::ask_for(Rogue::Replacing, ask)
             }
+            Command::MakeKeys => Rogue::make_key(0),
         })
     }
 
@@ -209,6 +228,26 @@ impl Rogue {
         }
     }
 
+    /// A key that is made is kept, and the next is asked for.
+    #[tactic(auto, unfolding(crate::specs::Rogue::after_key))]
+    fn after_key(made: u32, answer: Answer) -> Reaction<Rogue>
+        ensures { result ≡ rows.after_key made answer }
+    {
+        match answer {
+            Answer::Number(_) => {
+                if made < limits::MAX_ASKS {
+                    Rogue::make_key(made + 1)
+                } else {
+                    Reaction::fail_with(Rogue::Idle, Code::GENERIC)
+                }
+            }
+            Answer::Refused(code) => {
+                Reaction::succeed_with(Rogue::Idle, at_p0(Out::Value(made, code.0)))
+            }
+            _ => Reaction::fail_with(Rogue::Idle, Code::GENERIC),
+        }
+    }
+
     /// An answer comes to the command that waits.
     #[tactic(auto, unfolding(crate::specs::Rogue::reaction_to_answer))]
     fn go_on(self, alloc: Global, answer: Answer) -> Result<Reaction<Rogue>, NoMemory>
@@ -221,6 +260,7 @@ impl Rogue {
             Rogue::Creating { identifier } => Ok(Rogue::after_creation(identifier, answer)),
             Rogue::Closing { identifier } => Rogue::after_close(alloc, identifier, answer),
             Rogue::Replacing => Ok(Rogue::after_replacement(answer)),
+            Rogue::MakingKeys { made } => Ok(Rogue::after_key(made, answer)),
         }
     }
 }

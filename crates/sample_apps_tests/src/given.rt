@@ -225,7 +225,16 @@ refused ffff0003 > ffff0003
 number 5 > 00000000
 6 > create 1 1031 0 h 
 refused ffff0003 > ffff0003
+7 vo > KeyNew 2684354576 256
+number 5 > KeyNew 2684354576 256
+number 6 > KeyNew 2684354576 256
+refused ffff000d > 00000000 p0=2,4294901773
+7 vo > KeyNew 2684354576 256
+refused ffff000d > 00000000 p0=0,4294901773
+7 vo > KeyNew 2684354576 256
+done > ffff0000
 7 > ffff0006
+8 vo > ffff0006
 done > ffff0000
 stop > 00000000
 destroy > 00000000

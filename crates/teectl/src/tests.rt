@@ -227,9 +227,28 @@ rogue 6 00000000 4
 rogue 7 00000000 4
 ";
 
-const TURNED: [Row; 8] = [
+const KEYS_MADE: &str = "\
+rogue open 1
+rogue invoke 1 7 vo
+rogue invoke 1 7 vo
+rogue invoke 1 2
+rogue open 2
+rogue invoke 2 7 vo
+";
+
+const KEYS_MADE_LINES: &str = "\
+rogue 1 00000000 4
+rogue 2 00000000 4 p0=16,4294901773
+rogue 3 00000000 4 p0=0,4294901773
+rogue 4 ffff3024 3
+rogue 5 00000000 4
+rogue 6 00000000 4 p0=16,4294901773
+";
+
+const TURNED: [Row; 9] = [
     (CANCELLED, CANCELLED_LINES, Status::Done),
     (PANICKED, PANICKED_LINES, Status::Done),
+    (KEYS_MADE, KEYS_MADE_LINES, Status::Done),
     (
         "keep post open 1\nkeep turn 1 4\nkeep turn 2 1\n",
         "",

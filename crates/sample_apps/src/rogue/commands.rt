@@ -20,6 +20,8 @@ pub enum Command {
     TellSize,
     /// 6: makes an object anew.
     Replace,
+    /// 7: makes keys until it is refused one.
+    MakeKeys,
 }
 
 #[tactic(auto, unfolding(crate::specs::Rogue::panic_of))]
@@ -46,12 +48,14 @@ fn without_parameters(command: Command, params: &Params) -> Option<Command>
     }
 }
 
-#[tactic(auto, unfolding(crate::specs::Rogue::fill_of))]
-fn fill_of(params: &Params) -> Option<Command>
-    ensures { result ≡ rows.fill_of params.now.p0 params.now.p1 params.now.p2 params.now.p3 }
+/// A command that has an output for a number.
+#[tactic(auto, unfolding(crate::specs::Rogue::with_number))]
+fn with_number(command: Command, params: &Params) -> Option<Command>
+    ensures { result ≡ rows.with_number command params.now.p0 params.now.p1 params.now.p2
+        params.now.p3 }
 {
     match (&params.p0, &params.p1, &params.p2, &params.p3) {
-        (Param::ValueOut, Param::Nothing, Param::Nothing, Param::Nothing) => Some(Command::Fill),
+        (Param::ValueOut, Param::Nothing, Param::Nothing, Param::Nothing) => Some(command),
         _ => None,
     }
 }
@@ -77,9 +81,10 @@ pub fn command_of(number: u32, params: &Params) -> Option<Command>
         1 => panic_of(params),
         2 => without_parameters(Command::CloseUnknown, params),
         3 => without_parameters(Command::Loop, params),
-        4 => fill_of(params),
+        4 => with_number(Command::Fill, params),
         5 => tell_size_of(params),
         6 => without_parameters(Command::Replace, params),
+        7 => with_number(Command::MakeKeys, params),
         _ => None,
     }
 }
