@@ -1,7 +1,7 @@
 -- The content of an object, piece by piece.
 use Rattle.std.proofs.Common.{◌≡◌, ℕ, zero, suc, ◌+◌, ◌-◌, ◌*◌, ◌/◌, ◌%◌, ◌<◌, ◌≤◌, min, Bool, true, false, cond, List, [], ◌∷◌, ◌++◌, map, length}
-use Rattle.std.proofs.Common.{get_or, take, drop, None, Some, Result, Ok, Err, find, refl, sym, ◌∙◌, ap, subst, arith, nat_le}
-use Rattle.std.specs.Prelude.{IsTrue, IfOk, OnOk, ◌&&◌, ◌||◌, ◌==◌}
+use Rattle.std.proofs.Common.{get_or, take, drop, Option, None, Some, Result, Ok, Err, find, refl, sym, ◌∙◌, ap, subst, arith, nat_le}
+use Rattle.std.specs.Prelude.{IsTrue, IfOk, IfSome, OnOk, ◌&&◌, ◌||◌, ◌==◌}
 use Rattle.std.specs.List.{range_with_len, count_by}
 use Rattle.std.proofs.Math.Seq.{drop-cons}
 use Rattle.std.proofs.lemmas.List.Sums.{sum_by-cons}
@@ -210,6 +210,10 @@ part_inside start count long long' s k place is_s is_k is low high = (omega (ari
 pub if_ok : {A : Type 0} (r : Result A StoreAnswer) (P Q : A → Type 0) → ((a : A) → P a → Q a) → IfOk r (λ a. P a) → IfOk r (λ a. Q a)
 if_ok (Ok a) P Q implies is = implies a is
 if_ok (Err e) P Q implies is = tt
+
+-- what holds of an answer, where there is one
+pub some_is : {A : Type 0} (r : Option A) (a : A) (P : A → Type 0) → r ≡ Some a → IfSome r (λ a. P a) → P a
+some_is {A = A} r a P is holds = subst (λ (s : Option A). IfSome s (λ a. P a)) is holds
 
 pub if_ok_three : {A : Type 0} (r : Result A StoreAnswer) (P Q R T : A → Type 0) → ((a : A) → P a → Q a → R a → T a) → IfOk r (λ a. P a) → IfOk r (λ a. Q a) → IfOk r (λ a. R a)
     → IfOk r (λ a. T a)

@@ -1,10 +1,11 @@
 -- Entries of the map.
-use Rattle.std.proofs.Common.{◌≡◌, ℕ, zero, suc, ◌+◌, ◌<◌, ◌≤◌, ◌/◌, ◌%◌, ◌∙◌, Bool, true, false, List, [], ◌∷◌, length, replicate, nat_le, refl, sym, ap, subst, arith, nat_lt}
-use Rattle.std.specs.Prelude.{◌==◌, ◌&&◌, if◌then◌else◌}
+use Rattle.std.proofs.Common.{◌≡◌, ℕ, zero, suc, ◌+◌, ◌<◌, ◌≤◌, ◌/◌, ◌%◌, ◌∙◌, Bool, true, false, List, [], ◌∷◌, length, get_or, replicate, Option, Some, nat_le, refl, sym, ap, subst, arith, nat_lt}
+use Rattle.std.specs.Prelude.{◌==◌, ◌&&◌, if◌then◌else◌, IfSome}
 use Rattle.std.proofs.lemmas.Bool.{eqb-true, ltb-true}
+use Rattle.std.proofs.lemmas.List.{get_or_default}
 use Rattle.region_plan.specs.Layout.{Layout}
 use Rattle.region_plan.specs.Entries.{entry_at, number_in, form_of, follows, is_zero, is_well_formed}
-use Rattle.region_plan.specs.Places.{IsMapOf, IsWritable, AreWritable, data_at, entries_in, free_before, free_entry, is_free, is_of, placed, with_entry}
+use Rattle.region_plan.specs.Places.{IsPlaced, IsMapOf, IsWritable, AreWritable, data_at, entries_in, free_before, free_entry, is_free, is_of, placed, with_entry}
 use Rattle.region_plan.specs.declared.entry.Entry.{Entry}
 use Rattle.region_plan.specs.declared.entry.TheConstants.{FREE, INODE}
 use Rattle.region_plan.proofs.FormLemmas.{IsLaid}
@@ -16,6 +17,11 @@ unfolding entries_in
 beyond [] i le = refl
 beyond (e ∷ map) zero le = absurd (omega arith)
 beyond (e ∷ map) (suc i) le = beyond map i (omega arith)
+
+-- an entry of a map is the one that was read
+pub read_is : (items map : List Entry) (i : ℕ) (e : Entry) → items ≡ map → i < length items → e ≡ get_or items i e → e ≡ entries_in map i
+unfolding entries_in
+read_is items map i e same low is = is ∙ get_or_default items i e free_entry low ∙ ap (λ (m : List Entry). get_or m i free_entry) same
 
 -- the rules on an entry, of the region and of its map
 module _ (L : Layout) (laid : IsLaid L) (leaves : ℕ → List ℕ) (map : List Entry) (is : IsMapOf L leaves map) where
@@ -68,8 +74,8 @@ all_free zero i = refl
 all_free (suc n) zero = refl
 all_free (suc n) (suc i) = all_free n i
 
-pub free_named : (L : Layout) (laid : IsLaid L) (n i : ℕ) → (entries_in (replicate n free_entry) i).inode < L.leaves
-free_named L laid n i = subst (λ (e : Entry). e.inode < L.leaves) (sym (all_free n i)) (let more = laid.more in omega (arith, more))
+pub free_named : (L : Layout) (laid : IsLaid L) (map : List Entry) → ((i : ℕ) → entries_in map i ≡ free_entry) → (i : ℕ) → (entries_in map i).inode < L.leaves
+free_named L laid map free i = subst (λ (e : Entry). e.inode < L.leaves) (sym (free i)) (let more = laid.more in omega (arith, more))
 
 pub free_writable : (L : Layout) → IsLaid L → IsWritable L free_entry
 free_writable L laid = (let more = laid.more in let wide = laid.indexes in record { kind = omega arith; inode = omega (arith, more); index = omega (arith, more, wide) })
@@ -98,3 +104,8 @@ placed_writable L laid map next inode kept blocks all owner few is i below =
             | false ↦ all i below
           ]
     ] refl)
+
+-- a map that was placed, where one was
+pub placed_some : (L : Layout) (r : Option (List Entry)) (map after : List Entry) (inode kept blocks : ℕ) → r ≡ Some after
+    → IfSome r (λ next. IsPlaced L (entries_in map) next inode kept blocks) → IsPlaced L (entries_in map) after inode kept blocks
+placed_some L r map after inode kept blocks is holds = subst (λ (s : Option (List Entry)). IfSome s (λ next. IsPlaced L (entries_in map) next inode kept blocks)) is holds

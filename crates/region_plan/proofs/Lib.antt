@@ -25,6 +25,8 @@ pub mod MapLemmas
 pub mod MoveLemmas
 pub mod NamedLemmas
 pub mod NextLemmas
+pub mod OrderLemmas
+pub mod OrderedLemmas
 pub mod PlaceLemmas
 pub mod PlanLemmas
 pub mod ReadLemmas

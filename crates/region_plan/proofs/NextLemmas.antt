@@ -26,7 +26,7 @@ merged false k v best = best
 merged true k v None = Some (k, v)
 merged true k v (Some e) = cond (is_lt (by_bytes e.0 k)) (Some e) (Some (k, v))
 
-turned : (x y : List ℕ) (r : Ordering) → by_bytes x y ≡ r → by_bytes y x ≡ ordering_reverse r
+pub turned : (x y : List ℕ) (r : Ordering) → by_bytes x y ≡ r → by_bytes y x ≡ ordering_reverse r
 turned x y r is = nat_list_cmp_total.antisymm y x ∙ ap ordering_reverse is
 
 -- what is met among entries above a key is above it

@@ -98,6 +98,27 @@ module _ {S : Type 0} (K : VolumeKeeper S) (region : S → ℕ) where
     crash = λ h w. started K.moment K.left_since s (λ o. o ≡ Some (K.held s)) (rests h w).only;
   }
 
+  -- no read of what is lost already
+  pub reads_lost : (s : S) → (K.condition s).lost ≡ true → ReadsOnly K region (Some answers.Lost) s s
+  reads_lost s lost = record {
+    cause = (lost, lost);
+    later = omega arith;
+    unfailed = refl;
+    writes = refl;
+    foundation = refl;
+    same_region = refl;
+    sequence = refl;
+    same = λ h. refl;
+    below = λ b. b;
+    honest = λ h. (h, tt);
+    text = λ t. refl;
+    damage = λ t. refl;
+    shows = λ t. tt;
+    quiet = λ l. record { same = refl; none = λ t o left. left };
+    past = λ h t o le left. left;
+    crash = λ h works. not_both (K.condition s).lost lost works;
+  }
+
   -- a run whose end has another reason, of the caller's own
   pub reads_refused : (why : Option StoreAnswer) (old new : S) → (ReadCause None (K.condition old) (K.condition new) → ReadCause why (K.condition old) (K.condition new))
       → ((P : Mismatch → Type 0) → IfCorrupt why P) → ((P : Type 0) → P → UnlessFailed why P) → ReadsOnly K region None old new → ReadsOnly K region why old new

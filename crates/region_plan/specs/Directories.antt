@@ -16,13 +16,13 @@ use Rattle.region_plan.specs.declared.directory.Directory.{Directory}
 
 -- whatever was read, a directory keeps to the limits of its form
 pub record IsBounded (d : Directory) : Type 0 where
-  pub inodes : All (IsWithin (layout d.form)) d.inodes.items
-  pub map : AreWritable (layout d.form) d.map.value
+  pub inodes : All (IsWithin (layout d.form)) d.inodes
+  pub map : AreWritable (layout d.form) d.map
 
 -- a directory says what the map and the inodes of these leaves say, which keep the rules
 pub record IsDirectoryOf (leaves : ℕ → List ℕ) (d : Directory) : Type 0 where
-  pub map : IsMapOf (layout d.form) leaves d.map.value
-  pub inodes : d.inodes.items ≡ inodes_of (layout d.form) leaves
+  pub map : IsMapOf (layout d.form) leaves d.map
+  pub inodes : d.inodes ≡ inodes_of (layout d.form) leaves
   pub formed : (i : ℕ) → i < (layout d.form).leaves → is_well_formed (layout d.form) leaves i ≡ true
   pub whole : (i : ℕ) → i < (layout d.form).leaves → is_inode (layout d.form) leaves i ≡ true → IsWhole (layout d.form) leaves i
 

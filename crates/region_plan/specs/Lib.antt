@@ -7,6 +7,7 @@ pub mod Inodes
 pub mod Laws
 pub mod Layout
 pub mod Locating
+pub mod Orders
 pub mod Parts
 pub mod Planning
 pub mod Plans

@@ -59,3 +59,7 @@ module _ (L : Layout) where
   -- takes free ones in ascending order for what it lacks
   abbrev pub placed : (ℕ → Entry) → ℕ → ℕ → ℕ → ℕ → Entry
   placed entries inode kept blocks i = placed_entry (is_free entries i) (entries i) inode (kept + free_before entries i) blocks
+
+  -- a map has the entries after an inode's data got so many leaves
+  abbrev pub IsPlaced : (ℕ → Entry) → List Entry → ℕ → ℕ → ℕ → Type 0
+  IsPlaced entries after inode kept blocks = (i : ℕ) → i < L.leaves → entries_in after i ≡ placed entries inode kept blocks i

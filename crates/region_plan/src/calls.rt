@@ -2,21 +2,20 @@
 
 ghost use Rattle.std.specs.Prelude.{◌≡◌, ◌≤◌, ℕ, List, length, IfSome, option_copied};
 ghost use Rattle.std.specs.List.{All};
-ghost use Rattle.std.specs.Ordering.{nat_cmp, is_lt};
-ghost use Rattle.std.specs.Cmp.Lexicographic.{slice_cmp};
 ghost use Rattle.store_api.specs.Limits.{AreFacts, IsIdentifier, IsListed, IsSecret};
-ghost use Rattle.store_api.specs.Stores.{found, secret_at, next_after as next_of, is_after as is_after_of};
+ghost use Rattle.store_api.specs.Stores.{found, secret_at, next_after as next_of};
 ghost use Rattle.region_plan.specs.Directories.{IsBounded, IsDirectoryOf, LooksUp};
 ghost use Rattle.region_plan.specs.Layout.{layout};
 ghost use Rattle.region_plan.specs.Locating.{Locates, LocatesInode};
 ghost use Rattle.region_plan.specs.Plans.{IsDecided};
 ghost use Rattle.region_plan.specs.Reading.{ReadsRegion, refusal_of};
 ghost use Rattle.region_plan.specs.Regions.{store_of};
-ghost use Rattle.region_plan.specs.Tables.{IsWithin, best_after, inode_facts, is_better as is_better_of};
+ghost use Rattle.region_plan.specs.Tables.{IsWithin, best_after, inode_facts};
 
 use crate::directory::Directory;
 use crate::form::Form;
 use crate::inode::Inode;
+use crate::inodes::Inodes;
 use crate::source::LeafSource;
 use crate::table::find;
 use std::alloc::Global;
@@ -36,49 +35,13 @@ fn facts_of(form: Form, inode: &Inode) -> Facts
     }
 }
 
-/// Whether an identifier is less than another one.
-fn is_less(id: &[u8], other: &[u8]) -> bool
-    ensures { result ≡ is_lt (slice_cmp nat_cmp id.now other.now) }
-{
-    id.cmp(&other).is_lt()
-}
-
-/// Whether an identifier is greater than the last one.
-fn is_after(last: Option<&[u8]>, id: &[u8]) -> bool
-    ensures { result ≡ is_after_of (option_copied last.entry) id.now }
-{
-    match last {
-        Some(last) => is_less(last, id),
-        None => true,
-    }
-}
-
-/// Whether there is no better inode so far, or one whose identifier isn't less.
-fn is_better(best: Option<&Inode>, inode: &Inode) -> bool
-    ensures { result ≡ is_better_of (option_copied best.entry) inode.now }
-{
-    match best {
-        Some(best) => !is_less(best.id.as_slice(), inode.id.as_slice()),
-        None => true,
-    }
-}
-
 /// The inode of the least identifier greater than the last one.
-fn least_after<'i>(form: Form, inodes: &'i [Inode], last: Option<&[u8]>) -> Option<&'i Inode>
+fn least_after<'i>(form: Form, inodes: &'i Inodes, last: Option<&[u8]>) -> Option<&'i Inode>
     requires { All (IsWithin (layout form)) inodes.now }
     ensures inode { option_copied result ≡ best_after (option_copied last.entry) inodes.now }
     ensures within { IfSome result (λ inode. IsWithin (layout form) inode.now) }
 {
-    let mut best = None;
-    let mut place = inodes.len();
-    while place > 0 {
-        place -= 1;
-        let inode = &inodes[place];
-        if is_after(last, inode.id.as_slice()) && is_better(best, inode) {
-            best = Some(inode);
-        }
-    }
-    best
+    inodes.next_after(last)
 }
 
 impl Directory {
@@ -90,7 +53,7 @@ impl Directory {
             result }
         ensures decided { IsDecided (refusal_of result) }
     {
-        let Some(inode) = find(self.form, self.inodes.as_slice(), id) else {
+        let Some(inode) = find(self.form, &self.inodes, id) else {
             return Err(StoreAnswer::NotFound);
         };
         Ok(inode.number)
@@ -101,7 +64,7 @@ impl Directory {
         requires { IsBounded self.now }
         ensures { LooksUp (λ store. found store id.now) AreFacts self.now result }
     {
-        let Some(inode) = find(self.form, self.inodes.as_slice(), id) else {
+        let Some(inode) = find(self.form, &self.inodes, id) else {
             return Err(StoreAnswer::NotFound);
         };
         Ok(facts_of(self.form, inode))
@@ -112,7 +75,7 @@ impl Directory {
         requires { IsBounded self.now }
         ensures { LooksUp (λ store. secret_at store id.now) IsSecret self.now result }
     {
-        let Some(inode) = find(self.form, self.inodes.as_slice(), id) else {
+        let Some(inode) = find(self.form, &self.inodes, id) else {
             return Err(StoreAnswer::NotFound);
         };
         Ok(inode.secret.copy(alloc)?)
@@ -125,7 +88,7 @@ impl Directory {
         ensures { LooksUp (λ store. next_of store (option_copied last.entry)) IsListed self.now
             result }
     {
-        let Some(inode) = least_after(self.form, self.inodes.as_slice(), last) else {
+        let Some(inode) = least_after(self.form, &self.inodes, last) else {
             return Err(StoreAnswer::NotFound);
         };
         Ok(Listed {

@@ -6,7 +6,7 @@ ghost use Rattle.region_plan.specs.Chains.{AreChains, is_first as leads_back, le
 ghost use Rattle.region_plan.specs.Layout.{layout};
 ghost use Rattle.region_plan.specs.Places.{entries_in, is_of};
 
-use crate::entry::{DATA, Entry, entry_in};
+use crate::entry::{DATA, Entry, Map, entry_in};
 use crate::form::{Form, MOST_LEAVES};
 use std::alloc::Global;
 use tee_base::NoMemory;
@@ -47,7 +47,7 @@ fn add(chains: &mut Chains, inode: usize, leaf: usize)
 }
 
 /// The chains of all inodes.
-pub(crate) fn chains_of(form: Form, map: &[Entry; MOST_LEAVES]) -> Chains
+pub(crate) fn chains_of(form: Form, map: &Map) -> Chains
     ensures { AreChains (entries_in map.now) (layout form).leaves result.last result.next }
 {
     let mut chains = Chains {
@@ -78,7 +78,7 @@ fn put_link(links: &mut Vec<u16>, index: usize, link: u16)
 pub(crate) fn first_links(
     alloc: Global,
     form: Form,
-    map: &[Entry; MOST_LEAVES],
+    map: &Map,
     chains: &Chains,
     inode: u16,
     count: usize,
@@ -110,13 +110,7 @@ fn is_first(firsts: &[u16], entry: Entry, link: u16) -> bool
 }
 
 /// Whether each data leaf of an inode is the one that these links lead to at its index.
-pub(crate) fn are_first(
-    form: Form,
-    map: &[Entry; MOST_LEAVES],
-    chains: &Chains,
-    inode: u16,
-    firsts: &[u16],
-) -> bool
+pub(crate) fn are_first(form: Form, map: &Map, chains: &Chains, inode: u16, firsts: &[u16]) -> bool
     requires inode { inode < (layout form).leaves }
     requires chains { AreChains (entries_in map.now) (layout form).leaves chains.now.last
         chains.now.next }

@@ -30,8 +30,8 @@ impl Directory {
         ensures { PlansFrom L.keeper L.region self.now change.now result from.old from.new }
     {
         let form = self.form;
-        let map = &*self.map;
-        let inodes = self.inodes.as_slice();
+        let map = &self.map;
+        let inodes = &self.inodes;
         match change {
             Change::Put {
                 id,

@@ -11,9 +11,10 @@ ghost use Rattle.region_plan.specs.Regions.{has_data as holds_data};
 
 use crate::chain::{Chains, are_first, first_links, have_leaves};
 use crate::edit::blocks;
-use crate::entry::Entry;
-use crate::form::{Form, MOST_LEAVES};
+use crate::entry::Map;
+use crate::form::Form;
 use crate::inode::Inode;
+use crate::inodes::Inodes;
 use std::alloc::Global;
 use tee_base::NoMemory;
 
@@ -21,7 +22,7 @@ use tee_base::NoMemory;
 pub(crate) fn has_data(
     alloc: Global,
     form: Form,
-    map: &[Entry; MOST_LEAVES],
+    map: &Map,
     chains: &Chains,
     inode: &Inode,
 ) -> Result<bool, NoMemory>
@@ -45,13 +46,8 @@ pub(crate) fn has_data(
 }
 
 /// Whether no inode has an identifier.
-pub(crate) fn is_new(inodes: &[Inode], id: &[u8]) -> bool
+pub(crate) fn is_new(inodes: &Inodes, id: &[u8]) -> bool
     ensures { result ≡ not (list_any (λ inode. bytes_eq inode.id id.now) inodes.now) }
 {
-    for inode in inodes {
-        if inode.id.as_slice() == id {
-            return false;
-        }
-    }
-    true
+    inodes.find(id).is_none()
 }

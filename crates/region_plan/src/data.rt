@@ -17,8 +17,8 @@ ghost use Rattle.region_plan.specs.Tables.{IsInode};
 
 use crate::bytes::all_zero;
 use crate::directory::Directory;
-use crate::entry::{DATA, Entry, entry_in};
-use crate::form::{Form, MOST_LEAVES};
+use crate::entry::{DATA, Entry, Map, entry_in};
+use crate::form::Form;
 use crate::source::{LeafSource, read};
 use crate::table::find;
 use std::alloc::Global;
@@ -34,12 +34,7 @@ fn is_data_at(entry: Entry, inode: u16, index: u32) -> bool
 }
 
 /// The leaf that holds the data of an inode at an index.
-pub(crate) fn data_leaf(
-    form: Form,
-    map: &[Entry; MOST_LEAVES],
-    inode: u16,
-    index: u32,
-) -> Option<u16>
+pub(crate) fn data_leaf(form: Form, map: &Map, inode: u16, index: u32) -> Option<u16>
     ensures leaf { (leaves : ℕ → List ℕ) → IsMapOf (layout form) leaves map.now
         → result ≡ leaf_of (layout form) leaves inode index }
     ensures below { IfSome result (λ leaf. leaf < (layout form).leaves) }
@@ -64,7 +59,7 @@ fn is_zero_behind(block: &[u8; BLOCK_BYTES], used: usize) -> bool
 fn read_part<L: LeafSource>(
     from: &mut L,
     form: Form,
-    map: &[Entry; MOST_LEAVES],
+    map: &Map,
     inode: u16,
     length: u32,
     at: u32,
@@ -112,7 +107,7 @@ fn read_between<L: LeafSource>(
     alloc: Global,
     from: &mut L,
     form: Form,
-    map: &[Entry; MOST_LEAVES],
+    map: &Map,
     inode: u16,
     length: u32,
     start: u32,
@@ -173,7 +168,7 @@ impl Directory {
             → IfOk result (λ bytes. IsReadPart L.keeper L.region (layout self.now.form) id.now start
             count from.old) }
     {
-        let Some(inode) = find(self.form, self.inodes.as_slice(), id) else {
+        let Some(inode) = find(self.form, &self.inodes, id) else {
             return Err(StoreAnswer::NotFound);
         };
         let start = start.min(inode.length);

@@ -5,9 +5,9 @@ ghost use Rattle.region_plan.specs.Directories.{IsBounded, IsDirectoryOf};
 ghost use Rattle.region_plan.specs.Layout.{layout};
 ghost use Rattle.region_plan.specs.Reading.{IfGarbled, IsBroken, IsSound, IsUnread, ReadsOnly, leaves_of, refusal_of};
 
-use crate::entry::{Entry, FREE_ENTRY};
-use crate::form::{Form, MOST_LEAVES};
-use crate::inode::Inode;
+use crate::entry::Map;
+use crate::form::Form;
+use crate::inodes::Inodes;
 use crate::source::LeafSource;
 use crate::table::load;
 use std::alloc::Global;
@@ -18,8 +18,8 @@ use store_api::StoreAnswer;
 #[derive(Drop)]
 pub struct Directory {
     pub(crate) form: Form,
-    pub(crate) map: Box<[Entry; MOST_LEAVES]>,
-    pub(crate) inodes: Vec<Inode>,
+    pub(crate) map: Map,
+    pub(crate) inodes: Inodes,
 }
 
 impl Directory {
@@ -45,9 +45,11 @@ impl Directory {
         ensures unread { IsUnread (refusal_of result) }
         ensures reads { ReadsOnly L.keeper L.region (refusal_of result) from.old from.new }
     {
-        let mut map = [FREE_ENTRY; MOST_LEAVES];
+        if from.is_lost() {
+            return Err(StoreAnswer::Lost);
+        }
+        let mut map = Map::free(alloc)?;
         let inodes = load(alloc, from, form, &mut map)?;
-        let map = Box::new(alloc, map)?;
         Ok(Directory { form, map, inodes })
     }
 }

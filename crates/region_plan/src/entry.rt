@@ -1,13 +1,16 @@
 //! The map of a region: what each leaf is.
 
-ghost use Rattle.std.specs.Prelude.{◌≡◌, ◌≤◌, ◌<◌, ◌+◌, ◌*◌, ◌==◌, ◌&&◌, ℕ};
+ghost use Rattle.std.specs.Prelude.{◌≡◌, ◌≤◌, ◌<◌, ◌+◌, ◌*◌, ◌==◌, ◌&&◌, ℕ, IfOk};
 ghost use Rattle.region_plan.specs.Layout.{layout};
 ghost use Rattle.region_plan.specs.Entries.{follows, form_of, is_zero as has_zeros, number_in};
-ghost use Rattle.region_plan.specs.Places.{AreWritable, entries_in, with_entry};
+ghost use Rattle.region_plan.specs.Places.{AreWritable, entries_in, free_entry, with_entry};
 ghost use Rattle.region_plan.specs.Plans.{IsMapLeaf};
 
 use crate::bytes::{number_at, put};
 use crate::form::{Form, MOST_LEAVES};
+use std::alloc::Global;
+use std::marker::Model;
+use tee_base::NoMemory;
 use tee_base::limits::BLOCK_BYTES;
 
 /// The kind of a free leaf.
@@ -36,23 +39,60 @@ pub(crate) const FREE_ENTRY: Entry = Entry {
     index: 0,
 };
 
+/// The map of a region: an entry for each leaf that a region may have.
+#[derive(Drop)]
+pub(crate) struct Map {
+    entries: Vec<Entry>,
+}
+
+impl Model for Map {
+    ghost use Rattle.std.specs.Prelude.{◌≡◌, List, length};
+    ghost use Rattle.region_plan.specs.declared.entry.Entry.{Entry};
+
+    ghost Value = { List Entry };
+
+    ghost view = { λ m. m.entries.items };
+
+    ghost invariant = { λ m. length m.entries.items ≡ 1024 };
+}
+
+impl Map {
+    /// A map of free leaves.
+    pub fn free(alloc: Global) -> Result<Map, NoMemory>
+        ensures { IfOk result (λ map. (i : ℕ) → entries_in map i ≡ free_entry) }
+    {
+        Ok(Map {
+            entries: Vec::from_elem(alloc, FREE_ENTRY, MOST_LEAVES)?,
+        })
+    }
+
+    /// Another map of the same entries.
+    pub fn copy(&self, alloc: Global) -> Result<Map, NoMemory>
+        ensures { IfOk result (λ map. map ≡ self.now) }
+    {
+        Ok(Map {
+            entries: Vec::from_slice(alloc, &self.entries)?,
+        })
+    }
+}
+
 /// The entry of a leaf, free where there is none.
-pub(crate) fn entry_in(map: &[Entry; MOST_LEAVES], leaf: usize) -> Entry
+pub(crate) fn entry_in(map: &Map, leaf: usize) -> Entry
     ensures { result ≡ entries_in map.now leaf }
 {
     if leaf < MOST_LEAVES {
-        map[leaf]
+        map.entries[leaf]
     } else {
         FREE_ENTRY
     }
 }
 
 /// Sets the entry of a leaf.
-pub(crate) fn set_entry(map: &mut [Entry; MOST_LEAVES], leaf: usize, entry: Entry)
+pub(crate) fn set_entry(map: &mut Map, leaf: usize, entry: Entry)
     requires { leaf < 1024 }
     ensures { (i : ℕ) → entries_in map.new i ≡ with_entry leaf entry (entries_in map.old) i }
 {
-    map[leaf] = entry;
+    map.entries[leaf] = entry;
 }
 
 /// Whether an entry is zero.
@@ -76,7 +116,7 @@ fn has_form(leaf: usize, entry: Entry, named: bool) -> bool
 }
 
 /// Whether the entry of a leaf follows the rules.
-pub(crate) fn is_well_formed(form: Form, map: &[Entry; MOST_LEAVES], leaf: usize) -> bool
+pub(crate) fn is_well_formed(form: Form, map: &Map, leaf: usize) -> bool
     ensures { result ≡ follows (layout form) (entries_in map.now) leaf }
 {
     let entry = entry_in(map, leaf);
@@ -92,12 +132,7 @@ pub(crate) fn is_well_formed(form: Form, map: &[Entry; MOST_LEAVES], leaf: usize
 }
 
 /// Takes the entries of a leaf of the map.
-pub(crate) fn take_entries(
-    form: Form,
-    leaf: usize,
-    block: &[u8; BLOCK_BYTES],
-    map: &mut [Entry; MOST_LEAVES],
-)
+pub(crate) fn take_entries(form: Form, leaf: usize, block: &[u8; BLOCK_BYTES], map: &mut Map)
     requires { leaf < 4 }
     ensures taken { IsMapLeaf (layout form) map.new leaf block.now }
     ensures before { (i : ℕ) → i < 256 * leaf → entries_in map.new i ≡ entries_in map.old i }
@@ -111,7 +146,7 @@ pub(crate) fn take_entries(
 }
 
 /// The bytes of a leaf of the map.
-pub(crate) fn map_leaf(form: Form, map: &[Entry; MOST_LEAVES], leaf: usize) -> [u8; BLOCK_BYTES]
+pub(crate) fn map_leaf(form: Form, map: &Map, leaf: usize) -> [u8; BLOCK_BYTES]
     requires leaf { leaf < (layout form).map_leaves }
     requires few { leaf < 4 }
     requires writable { AreWritable (layout form) map.now }

@@ -12,6 +12,7 @@ mod edit;
 mod entry;
 mod form;
 mod inode;
+mod inodes;
 mod laws;
 mod place;
 mod planning;

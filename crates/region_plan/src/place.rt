@@ -1,11 +1,13 @@
 //! Where the data of an object is placed: which leaves it gives up, and which free ones it takes.
 
-ghost use Rattle.std.specs.Prelude.{◌≡◌, ◌≤◌, ◌<◌, ◌+◌, ◌==◌, ◌&&◌, nat_le, ℕ, true, None, IfSome};
+ghost use Rattle.std.specs.Prelude.{◌≡◌, ◌≤◌, ◌<◌, ◌+◌, ◌==◌, ◌&&◌, nat_le, ℕ, true, None, Ok, IfOk, IfSome};
 ghost use Rattle.region_plan.specs.Layout.{layout, quota_of};
-ghost use Rattle.region_plan.specs.Places.{entries_in, free_before, is_free as may_be_taken, is_of, placed as placed_at, placed_entry as placed_by};
+ghost use Rattle.region_plan.specs.Places.{IsPlaced, entries_in, free_before, is_free as may_be_taken, is_of, placed_entry as placed_by};
 
-use crate::entry::{DATA, Entry, FREE, FREE_ENTRY, entry_in, set_entry};
-use crate::form::{Form, MOST_LEAVES};
+use crate::entry::{DATA, Entry, FREE, FREE_ENTRY, Map, entry_in, set_entry};
+use crate::form::Form;
+use std::alloc::Global;
+use tee_base::NoMemory;
 
 /// Whether a leaf may be taken: it is free, and not of the map.
 fn is_free(form: Form, entry: Entry, leaf: usize) -> bool
@@ -40,22 +42,23 @@ fn placed_entry(free: bool, entry: Entry, inode: u16, index: u32, blocks: u32) -
 
 /// The map after an inode's data got so many leaves, of which it has the first ones. None where there are too few free leaves.
 pub(crate) fn with_data(
+    alloc: Global,
     form: Form,
-    map: &[Entry; MOST_LEAVES],
+    map: &Map,
     inode: u16,
     kept: u32,
     blocks: u32,
-) -> Option<[Entry; MOST_LEAVES]>
+) -> Result<Option<Map>, NoMemory>
     requires kept { kept ≤ blocks }
     requires blocks { blocks ≤ quota_of (layout form) }
-    ensures map { IfSome result (λ after. (i : ℕ) → i < (layout form).leaves → entries_in after i
-        ≡ placed_at (layout form) (entries_in map.now) inode kept blocks i) }
-    ensures enough { IfSome result (λ after. blocks
-        ≤ kept + free_before (layout form) (entries_in map.now) (layout form).leaves) }
-    ensures lacks { result ≡ None
+    ensures map { IfOk result (λ placed. IfSome placed (λ after.
+        IsPlaced (layout form) (entries_in map.now) after inode kept blocks)) }
+    ensures enough { IfOk result (λ placed. IfSome placed (λ after. blocks
+        ≤ kept + free_before (layout form) (entries_in map.now) (layout form).leaves)) }
+    ensures lacks { result ≡ Ok None
         → kept + free_before (layout form) (entries_in map.now) (layout form).leaves < blocks }
 {
-    let mut after = *map;
+    let mut after = map.copy(alloc)?;
     let mut index = kept;
     for leaf in 0..form.leaves() {
         let entry = entry_in(map, leaf);
@@ -67,11 +70,14 @@ pub(crate) fn with_data(
         );
         index += u32::from(free);
     }
-    if index < blocks { None } else { Some(after) }
+    if index < blocks {
+        return Ok(None);
+    }
+    Ok(Some(after))
 }
 
 /// The first leaf that may be taken.
-pub(crate) fn first_free(form: Form, map: &[Entry; MOST_LEAVES]) -> Option<u16>
+pub(crate) fn first_free(form: Form, map: &Map) -> Option<u16>
     ensures free { IfSome result (λ leaf. (leaf < (layout form).leaves)
         × (may_be_taken (layout form) (entries_in map.now) leaf ≡ true)) }
     ensures none { result ≡ None

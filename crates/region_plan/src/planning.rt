@@ -17,9 +17,10 @@ ghost use Rattle.region_plan.specs.Regions.{inodes_of, region_of};
 ghost use Rattle.region_plan.specs.Tables.{IsWithin};
 
 use crate::edit::{Edit, blocks, edited_leaf};
-use crate::entry::{Entry, FREE_ENTRY, INODE, MAP_ENTRIES, entry_in, map_leaf, set_entry};
-use crate::form::{Form, MOST_LEAVES};
+use crate::entry::{Entry, FREE_ENTRY, INODE, MAP_ENTRIES, Map, entry_in, map_leaf, set_entry};
+use crate::form::Form;
 use crate::inode::{Head, Inode, inode_block};
+use crate::inodes::Inodes;
 use crate::place::{first_free, is_data_of, with_data};
 use crate::source::LeafSource;
 use crate::table::find;
@@ -43,7 +44,7 @@ fn is_same(entry: Entry, other: Entry) -> bool
 }
 
 /// Whether a leaf of the map has the same entries in two maps.
-fn is_unchanged(old: &[Entry; MOST_LEAVES], map: &[Entry; MOST_LEAVES], leaf: usize) -> bool
+fn is_unchanged(old: &Map, map: &Map, leaf: usize) -> bool
     requires { leaf < 4 }
     ensures same { result ≡ true → (place : ℕ) → place < MAP_ENTRIES
         → entries_in map.now (MAP_ENTRIES * leaf + place)
@@ -62,12 +63,7 @@ fn is_unchanged(old: &[Entry; MOST_LEAVES], map: &[Entry; MOST_LEAVES], leaf: us
 }
 
 /// The leaves of the map that change where the old map becomes this one, in ascending order.
-fn changed_map(
-    alloc: Global,
-    form: Form,
-    old: &[Entry; MOST_LEAVES],
-    map: &[Entry; MOST_LEAVES],
-) -> Result<Leaves, NoMemory>
+fn changed_map(alloc: Global, form: Form, old: &Map, map: &Map) -> Result<Leaves, NoMemory>
     requires { AreWritable (layout form) map.now }
     ensures each { (leaves : ℕ → List ℕ) → IsMapOf (layout form) leaves old.now → IfOk result
         (λ named. (i : ℕ) → i < (layout form).map_leaves
@@ -93,7 +89,7 @@ fn changed_map(
 fn changed_leaf<L: LeafSource>(
     from: &mut L,
     form: Form,
-    map: &[Entry; MOST_LEAVES],
+    map: &Map,
     inode: u16,
     head: &Option<[u8; BLOCK_BYTES]>,
     edit: Edit<'_>,
@@ -127,8 +123,8 @@ fn changed_leaves<L: LeafSource>(
     alloc: Global,
     from: &mut L,
     form: Form,
-    old: &[Entry; MOST_LEAVES],
-    map: &[Entry; MOST_LEAVES],
+    old: &Map,
+    map: &Map,
     inode: u16,
     head: &Option<[u8; BLOCK_BYTES]>,
     edit: Edit<'_>,
@@ -167,8 +163,8 @@ fn plan_edit<L: LeafSource>(
     alloc: Global,
     from: &mut L,
     form: Form,
-    map: &[Entry; MOST_LEAVES],
-    base: &[Entry; MOST_LEAVES],
+    map: &Map,
+    base: &Map,
     inode: u16,
     head: &Option<[u8; BLOCK_BYTES]>,
     edit: Edit<'_>,
@@ -192,7 +188,7 @@ fn plan_edit<L: LeafSource>(
         return Err(StoreAnswer::NoSpace);
     }
     let kept = blocks(edit.had).min(wanted);
-    let Some(after) = with_data(form, base, inode, kept, wanted) else {
+    let Some(after) = with_data(alloc, form, base, inode, kept, wanted)? else {
         return Err(StoreAnswer::NoSpace);
     };
     changed_leaves(alloc, from, form, map, &after, inode, head, edit)
@@ -203,7 +199,7 @@ fn plan_content<L: LeafSource>(
     alloc: Global,
     from: &mut L,
     form: Form,
-    map: &[Entry; MOST_LEAVES],
+    map: &Map,
     inode: &Inode,
     edit: Edit<'_>,
 ) -> Result<Leaves, StoreAnswer>
@@ -234,7 +230,7 @@ fn plan_new<L: LeafSource>(
     alloc: Global,
     from: &mut L,
     form: Form,
-    map: &[Entry; MOST_LEAVES],
+    map: &Map,
     head: Head<'_>,
     edit: Edit<'_>,
 ) -> Result<Leaves, StoreAnswer>
@@ -256,7 +252,7 @@ fn plan_new<L: LeafSource>(
     let Some(leaf) = first_free(form, map) else {
         return Err(StoreAnswer::NoSpace);
     };
-    let mut base = *map;
+    let mut base = map.copy(alloc)?;
     let entry = Entry {
         kind: INODE,
         inode: u32::from(leaf),
@@ -272,8 +268,8 @@ pub(crate) fn plan_put<L: LeafSource>(
     alloc: Global,
     from: &mut L,
     form: Form,
-    map: &[Entry; MOST_LEAVES],
-    inodes: &[Inode],
+    map: &Map,
+    inodes: &Inodes,
     head: Head<'_>,
     content: &[u8],
     overwrite: bool,
@@ -324,8 +320,8 @@ pub(crate) fn plan_put<L: LeafSource>(
 pub(crate) fn plan_delete(
     alloc: Global,
     form: Form,
-    map: &[Entry; MOST_LEAVES],
-    inodes: &[Inode],
+    map: &Map,
+    inodes: &Inodes,
     id: &[u8],
 ) -> Result<Leaves, StoreAnswer>
     requires within { All (IsWithin (layout form)) inodes.now }
@@ -340,7 +336,7 @@ pub(crate) fn plan_delete(
     let Some(inode) = find(form, inodes, id) else {
         return Err(StoreAnswer::NotFound);
     };
-    let Some(mut after) = with_data(form, map, inode.number, 0, 0) else {
+    let Some(mut after) = with_data(alloc, form, map, inode.number, 0, 0)? else {
         return Err(StoreAnswer::NotFound);
     };
     set_entry(&mut after, inode.number as usize, FREE_ENTRY);
@@ -351,7 +347,7 @@ pub(crate) fn plan_delete(
 pub(crate) fn plan_rename(
     alloc: Global,
     form: Form,
-    inodes: &[Inode],
+    inodes: &Inodes,
     id: &[u8],
     to: &[u8],
 ) -> Result<Leaves, StoreAnswer>
@@ -386,8 +382,8 @@ pub(crate) fn plan_write<L: LeafSource>(
     alloc: Global,
     from: &mut L,
     form: Form,
-    map: &[Entry; MOST_LEAVES],
-    inodes: &[Inode],
+    map: &Map,
+    inodes: &Inodes,
     id: &[u8],
     at: u32,
     bytes: &[u8],
@@ -429,8 +425,8 @@ pub(crate) fn plan_truncate<L: LeafSource>(
     alloc: Global,
     from: &mut L,
     form: Form,
-    map: &[Entry; MOST_LEAVES],
-    inodes: &[Inode],
+    map: &Map,
+    inodes: &Inodes,
     id: &[u8],
     length: u32,
 ) -> Result<Leaves, StoreAnswer>

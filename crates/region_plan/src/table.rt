@@ -1,6 +1,6 @@
 //! The map and the inodes of a region, read in one pass.
 
-ghost use Rattle.std.specs.Prelude.{◌≡◌, ◌≤◌, ◌<◌, ◌*◌, ℕ, List, IfErr, IfOk, IfSome, OnOk, IsTrue, true, false, option_copied};
+ghost use Rattle.std.specs.Prelude.{◌≡◌, ◌≤◌, ◌<◌, ◌*◌, ℕ, List, IfErr, IfOk, IfSome, OnOk, IsTrue, true, false, None, option_copied};
 ghost use Rattle.std.specs.List.{All};
 ghost use Rattle.store_api.specs.declared.answer.StoreAnswer.TheVariants.{Garbled};
 ghost use Rattle.region_plan.specs.Chains.{AreChains};
@@ -15,9 +15,10 @@ ghost use Rattle.region_plan.specs.Tables.{IsWithin, inode_with, inodes_below};
 
 use crate::chain::{Chains, chains_of};
 use crate::check::{has_data, is_new};
-use crate::entry::{Entry, INODE, entry_in, is_well_formed, take_entries};
-use crate::form::{Form, MOST_LEAVES};
+use crate::entry::{INODE, Map, entry_in, is_well_formed, take_entries};
+use crate::form::Form;
 use crate::inode::{Inode, inode_in, is_inode_leaf};
+use crate::inodes::Inodes;
 use crate::source::{LeafSource, read};
 use std::alloc::Global;
 use store_api::StoreAnswer;
@@ -28,7 +29,7 @@ fn read_map_leaf<L: LeafSource>(
     from: &mut L,
     form: Form,
     leaf: usize,
-    map: &mut [Entry; MOST_LEAVES],
+    map: &mut Map,
 ) -> Result<(), StoreAnswer>
     requires fits { (layout form).leaves ≤ L.keeper.leaves }
     requires leaf { leaf < (layout form).map_leaves }
@@ -51,11 +52,7 @@ fn read_map_leaf<L: LeafSource>(
 }
 
 /// Reads the map.
-fn read_map<L: LeafSource>(
-    from: &mut L,
-    form: Form,
-    map: &mut [Entry; MOST_LEAVES],
-) -> Result<(), StoreAnswer>
+fn read_map<L: LeafSource>(from: &mut L, form: Form, map: &mut Map) -> Result<(), StoreAnswer>
     requires fits { (layout form).leaves ≤ L.keeper.leaves }
     requires free { (i : ℕ) → (entries_in map.old i).inode < (layout form).leaves }
     ensures map { IsTrue L.keeper.tells_reads → OnOk result
@@ -75,7 +72,7 @@ fn read_map<L: LeafSource>(
 }
 
 /// Whether each entry of the map follows the rules.
-fn check_map(form: Form, map: &[Entry; MOST_LEAVES]) -> Result<(), StoreAnswer>
+fn check_map(form: Form, map: &Map) -> Result<(), StoreAnswer>
     ensures garbled { (leaves : ℕ → List ℕ) → IsMapOf (layout form) leaves map.now
         → IfGarbled (refusal_of result) (λ leaf. IsTrue (breaks (layout form) leaves leaf)) }
     ensures formed { OnOk result ((i : ℕ) → i < (layout form).leaves
@@ -96,9 +93,9 @@ fn read_inode<L: LeafSource>(
     alloc: Global,
     from: &mut L,
     form: Form,
-    map: &[Entry; MOST_LEAVES],
+    map: &Map,
     chains: &Chains,
-    before: &[Inode],
+    before: &Inodes,
     leaf: u16,
 ) -> Result<Inode, StoreAnswer>
     requires fits { (layout form).leaves ≤ L.keeper.leaves }
@@ -114,6 +111,7 @@ fn read_inode<L: LeafSource>(
         → before.now ≡ inodes_below (layout form) (leaves_of L.keeper L.region from.old) leaf
         → IfOk result (λ inode. IsWhole (layout form) (leaves_of L.keeper L.region from.old) leaf) }
     ensures within { IfOk result (λ inode. IsWithin (layout form) inode) }
+    ensures new { IfOk result (λ inode. inode_with inode.id before.now ≡ None) }
     ensures few { IfGarbled (refusal_of result) (λ n. n < (layout form).leaves) }
     ensures garbled { IsTrue L.keeper.tells_reads
         → IsMapOf (layout form) (leaves_of L.keeper L.region from.old) map.now
@@ -145,15 +143,15 @@ fn read_inodes<L: LeafSource>(
     alloc: Global,
     from: &mut L,
     form: Form,
-    map: &[Entry; MOST_LEAVES],
-) -> Result<Vec<Inode>, StoreAnswer>
+    map: &Map,
+) -> Result<Inodes, StoreAnswer>
     requires fits { (layout form).leaves ≤ L.keeper.leaves }
     requires works { (L.keeper.condition from.old).lost ≡ false }
     ensures inodes { IsTrue L.keeper.tells_reads
         → IsMapOf (layout form) (leaves_of L.keeper L.region from.old) map.now
         → IfOk result
-        (λ inodes. inodes.items ≡ inodes_of (layout form) (leaves_of L.keeper L.region from.old)) }
-    ensures within { IfOk result (λ inodes. All (IsWithin (layout form)) inodes.items) }
+        (λ inodes. inodes ≡ inodes_of (layout form) (leaves_of L.keeper L.region from.old)) }
+    ensures within { IfOk result (λ inodes. All (IsWithin (layout form)) inodes) }
     ensures sound { IsTrue L.keeper.tells_reads
         → IsMapOf (layout form) (leaves_of L.keeper L.region from.old) map.now
         → IfOk result
@@ -167,19 +165,11 @@ fn read_inodes<L: LeafSource>(
     ensures reads { ReadsOnly L.keeper L.region (refusal_of result) from.old from.new }
 {
     let chains = chains_of(form, map);
-    let mut inodes = Vec::new(alloc);
+    let mut inodes = Inodes::none(alloc);
     for leaf in 0..form.leaves() {
         if entry_in(map, leaf).kind == INODE {
-            let inode = read_inode(
-                alloc,
-                from,
-                form,
-                map,
-                &chains,
-                inodes.as_slice(),
-                leaf as u16,
-            )?;
-            inodes.push(inode)?;
+            let inode = read_inode(alloc, from, form, map, &chains, &inodes, leaf as u16)?;
+            inodes = inodes.with(inode)?;
         }
     }
     Ok(inodes)
@@ -190,16 +180,16 @@ pub(crate) fn load<L: LeafSource>(
     alloc: Global,
     from: &mut L,
     form: Form,
-    map: &mut [Entry; MOST_LEAVES],
-) -> Result<Vec<Inode>, StoreAnswer>
+    map: &mut Map,
+) -> Result<Inodes, StoreAnswer>
     requires fits { (layout form).leaves ≤ L.keeper.leaves }
     requires free { (i : ℕ) → (entries_in map.old i).inode < (layout form).leaves }
     ensures map { IsTrue L.keeper.tells_reads → OnOk result
         (IsMapOf (layout form) (leaves_of L.keeper L.region from.old) map.new) }
     ensures writable { OnOk result (AreWritable (layout form) map.new) }
     ensures inodes { IsTrue L.keeper.tells_reads → IfOk result
-        (λ inodes. inodes.items ≡ inodes_of (layout form) (leaves_of L.keeper L.region from.old)) }
-    ensures within { IfOk result (λ inodes. All (IsWithin (layout form)) inodes.items) }
+        (λ inodes. inodes ≡ inodes_of (layout form) (leaves_of L.keeper L.region from.old)) }
+    ensures within { IfOk result (λ inodes. All (IsWithin (layout form)) inodes) }
     ensures sound { IsTrue L.keeper.tells_reads
         → IfOk result (λ inodes. IsSound L.keeper L.region (layout form) from.old) }
     ensures garbled { IfGarbled (refusal_of result)
@@ -213,15 +203,10 @@ pub(crate) fn load<L: LeafSource>(
 }
 
 /// The inode of an identifier.
-pub(crate) fn find<'i>(form: Form, inodes: &'i [Inode], id: &[u8]) -> Option<&'i Inode>
+pub(crate) fn find<'i>(form: Form, inodes: &'i Inodes, id: &[u8]) -> Option<&'i Inode>
     requires { All (IsWithin (layout form)) inodes.now }
     ensures inode { option_copied result ≡ inode_with id.now inodes.now }
     ensures within { IfSome result (λ inode. IsWithin (layout form) inode.now) }
 {
-    for inode in inodes {
-        if inode.id.as_slice() == id {
-            return Some(inode);
-        }
-    }
-    None
+    inodes.find(id)
 }

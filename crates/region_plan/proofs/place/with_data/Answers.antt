@@ -1,5 +1,6 @@
-use Rattle.std.proofs.Common.{◌<◌, ◌∙◌, ℕ, subst, arith}
-use Rattle.region_plan.proofs.StepLemmas.{started, stepped, marked, byte_mark}
+use Rattle.std.proofs.Common.{◌<◌, ◌∙◌, ℕ, List, subst, sym, arith}
+use Rattle.region_plan.specs.declared.entry.Entry.{Entry}
+use Rattle.region_plan.proofs.StepLemmas.{SoFar, started, stepped, marked, byte_mark}
 use Rattle.region_plan.proofs.place.with_data.Goals as goal
 use Rattle.region_plan.specs.Layout.{layout}
 use Rattle.region_plan.proofs.FormLemmas.{laid_by}
@@ -10,7 +11,9 @@ overflow_add-index c = (let was = c.loop-leaf.invariant.counted in let few = c.l
     omega (arith, was, few, one, byte, most, c.from-index.ensures, c.requires.kept, c.requires.blocks, c.loop-leaf-test.true, c.leaves-leaf-end.ensures.is))
 
 pub loop-leaf-init : goal.loop-leaf-init
-loop-leaf-init c = started (layout c.args.form) (laid_by c.args.form) c.args.map.now c.args.inode c.args.kept c.args.blocks
+loop-leaf-init c =
+    subst (λ (m : List Entry). SoFar (layout c.args.form) (laid_by c.args.form) c.args.map.now m c.args.inode c.args.kept c.args.blocks c.args.kept 0) (sym c.in_ok-after.ensures)
+    (started (layout c.args.form) (laid_by c.args.form) c.args.map.now c.args.inode c.args.kept c.args.blocks)
 
 pub loop-leaf-preserved : goal.loop-leaf-preserved
 loop-leaf-preserved c =

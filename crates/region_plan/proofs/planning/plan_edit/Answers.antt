@@ -2,11 +2,12 @@ use Rattle.std.proofs.Common.{◌≡◌, ◌≤◌, ◌<◌, ◌+◌, ◌∙◌,
 use Rattle.store_api.specs.declared.leaves.Leaf.{Leaf}
 use Rattle.region_plan.specs.Layout.{layout}
 use Rattle.region_plan.specs.Places.{entries_in, free_before, placed}
+use Rattle.region_plan.specs.declared.entry.Entry.{Entry}
 use Rattle.region_plan.specs.Plans.{ChangeMap, IsChangedLeaf, IsPlanned, changing, kept_leaves, with_leaves}
 use Rattle.region_plan.specs.Reading.{leaves_of}
 use Rattle.region_plan.specs.Regions.{data_leaves}
-use Rattle.region_plan.proofs.ContentLemmas.{if_ok_three}
-use Rattle.region_plan.proofs.EntryLemmas.{placed_writable}
+use Rattle.region_plan.proofs.ContentLemmas.{if_ok_three, some_is}
+use Rattle.region_plan.proofs.EntryLemmas.{placed_some, placed_writable}
 use Rattle.region_plan.proofs.FormLemmas.{laid_by}
 use Rattle.region_plan.proofs.planning.plan_edit.Goals as goal
 
@@ -14,7 +15,8 @@ pub changed_leaves-requires-clause-writable : goal.changed_leaves-requires-claus
 changed_leaves-requires-clause-writable g c =
     let wide = (laid_by c.args.form).indexes in
     placed_writable (layout c.args.form) (laid_by c.args.form) c.args.base.now c.in-Some.after c.args.inode c.min-kept.result c.blocks-wanted.result c.requires.writable c.requires.inode
-    (omega (arith, wide, c.if-wanted-quota.false, c.quota.ensures)) c.in-Some.ensures.map
+    (omega (arith, wide, c.if-wanted-quota.false, c.quota.ensures))
+    (placed_some (layout c.args.form) c.in_ok-after.field-0 c.args.base.now c.in-Some.after c.args.inode c.min-kept.result c.blocks-wanted.result c.in-Some.is c.in_ok-after.ensures.map)
 
 pub returns-clause-planned : goal.returns-clause-planned
 returns-clause-planned g c h first =
@@ -22,6 +24,10 @@ returns-clause-planned g c h first =
     let wide = (laid_by c.args.form).indexes in
     let wanted : c.blocks-wanted.result ≡ data_leaves c.args.edit.length = c.blocks-wanted.ensures in
     let kept : c.min-kept.result ≡ kept_leaves c.args.edit.had c.args.edit = c.min-kept.ensures ∙ (λ i. min (c.blocks-2.ensures i) (c.blocks-wanted.ensures i)) in
+    let placed' = placed_some (layout c.args.form) c.in_ok-after.field-0 c.args.base.now c.in-Some.after c.args.inode c.min-kept.result c.blocks-wanted.result c.in-Some.is c.in_ok-after.ensures.map in
+    let enough = some_is c.in_ok-after.field-0 c.in-Some.after
+    (λ (after : List Entry). c.blocks-wanted.result ≤ c.min-kept.result + free_before (layout c.args.form) (entries_in c.args.base.now) (layout c.args.form).leaves)
+    c.in-Some.is c.in_ok-after.ensures.enough in
     if_ok_three c.changed_leaves.result
     (λ (named : List Leaf). (i : ℕ) → i < (layout c.args.form).leaves → IsChangedLeaf (layout c.args.form) (leaves_of g.L.LeafSource.keeper g.L.LeafSource.region c.args.from.now)
     c.in-Some.after c.args.inode c.args.head.now c.args.edit i (with_leaves named (leaves_of g.L.LeafSource.keeper g.L.LeafSource.region c.args.from.now) i))
@@ -31,11 +37,11 @@ returns-clause-planned g c h first =
     (λ named each few changed. record {
       map = c.in-Some.after;
       edited = record {
-        map_is = λ i below. c.in-Some.ensures.map i below ∙ (λ j. placed (layout c.args.form) (entries_in c.args.base.now) c.args.inode (kept j) (wanted j) i);
+        map_is = λ i below. placed' i below ∙ (λ j. placed (layout c.args.form) (entries_in c.args.base.now) c.args.inode (kept j) (wanted j) i);
         short = omega (arith, wide, wanted, c.if-wanted-quota.false, c.quota.ensures);
         enough =
             subst (λ (n : ℕ). n ≤ kept_leaves c.args.edit.had c.args.edit + free_before (layout c.args.form) (entries_in c.args.base.now) (layout c.args.form).leaves) wanted
-            (subst (λ (k : ℕ). c.blocks-wanted.result ≤ k + free_before (layout c.args.form) (entries_in c.args.base.now) (layout c.args.form).leaves) kept c.in-Some.ensures.enough);
+            (subst (λ (k : ℕ). c.blocks-wanted.result ≤ k + free_before (layout c.args.form) (entries_in c.args.base.now) (layout c.args.form).leaves) kept enough);
         each = each;
       };
       few = few;

@@ -1,4 +1,4 @@
-use Rattle.std.proofs.Common.{◌∙◌, ℕ, List, Vec, Global, Some, rules, sym, subst}
+use Rattle.std.proofs.Common.{◌∙◌, ℕ, List, Some, rules, sym, subst}
 use Rattle.std.specs.Prelude.{IsTrue}
 use Rattle.region_plan.specs.Layout.{layout}
 use Rattle.region_plan.specs.Places.{AreWritable, IsMapOf, entries_in}
@@ -41,8 +41,8 @@ returns-clause-sound g c h =
     let R = g.L.LeafSource.region in
     let same = leaves_stay K R c.args.from.now c.read_map.new.from c.in_ok-read_map.ensures.reads h in
     let first = subst (λ (l : ℕ → List ℕ). IsMapOf (layout c.args.form) l c.read_map.new.map) (sym same) (c.in_ok-read_map.ensures.map h) in
-    if_ok c.read_inodes.result (λ (inodes : Vec Inode Global). AreWhole K R (layout c.args.form) c.read_map.new.from (layout c.args.form).leaves)
-    (λ (inodes : Vec Inode Global). IsSound K R (layout c.args.form) c.args.from.now)
+    if_ok c.read_inodes.result (λ (inodes : List Inode). AreWhole K R (layout c.args.form) c.read_map.new.from (layout c.args.form).leaves)
+    (λ (inodes : List Inode). IsSound K R (layout c.args.form) c.args.from.now)
     (λ inodes whole. sound_from (layout c.args.form) (laid_by c.args.form) K R c.args.from.now c.read_map.new.from c.in_ok-read_map.ensures.reads h (c.in_ok-read_map.ensures.undamaged h)
     (λ i below. sym (follows_is (layout c.args.form) (laid_by c.args.form) (leaves_of K R c.args.from.now) c.read_map.new.map (c.in_ok-read_map.ensures.map h) i below)
     ∙ c.in_ok-check_map.ensures.formed i below) whole)

@@ -1,7 +1,9 @@
-use Rattle.std.proofs.Common.{◌≡◌, ◌∙◌, ℕ, true, false, sym, ap, subst}
+use Rattle.std.proofs.Common.{◌≡◌, ◌∙◌, ℕ, List, None, true, false, sym, ap, subst}
 use Rattle.region_plan.specs.Inodes.{is_inode_leaf}
 use Rattle.region_plan.specs.Reading.{leaves_of}
 use Rattle.region_plan.specs.Regions.{has_data}
+use Rattle.region_plan.specs.Tables.{inode_with}
+use Rattle.region_plan.proofs.OrderLemmas.{new_with}
 use Rattle.region_plan.proofs.CheckLemmas.{doubled_from, single_from, number_is, length_is}
 use Rattle.region_plan.proofs.RuleLemmas.{inode_breaks, doubled_breaks, index_breaks}
 use Rattle.region_plan.proofs.table.read_inode.Goals as goal
@@ -39,3 +41,8 @@ returns-clause-whole g c h first before =
           (c.in_ok-read.ensures.leaf h) c.in_ok-inode.ensures.inode c.as_slice.ensures before c.is_new.ensures c.if-not-is_new.false;
       placed = subst (λ (n : ℕ). has_data (layout c.args.form) leaves n ≡ true) number (sym (c.in_ok-placed.ensures leaves first long) ∙ c.if-not-placed.false);
     }
+
+pub returns-clause-new : goal.returns-clause-new
+returns-clause-new g c =
+    subst (λ (id : List ℕ). inode_with id c.args.before.now ≡ None) c.as_slice.ensures
+    (new_with c.as_slice.result.now c.args.before.now (sym c.is_new.ensures ∙ c.if-not-is_new.false))

@@ -1,4 +1,4 @@
-use Rattle.std.proofs.Common.{◌≡◌, ◌<◌, ◌∙◌, ◌+◌, ℕ, false, None, Vec, Global, List, sym, ap, subst, refl, arith}
+use Rattle.std.proofs.Common.{◌≡◌, ◌<◌, ◌∙◌, ◌+◌, ℕ, false, None, List, length, ◌≤◌, sym, ap, subst, refl, arith}
 use Rattle.std.specs.List.{All}
 use Rattle.std.proofs.lemmas.List.Elements.{All-nil, All-push}
 use Rattle.region_plan.specs.Reading.{ReadsOnly, leaves_of}
@@ -13,9 +13,10 @@ use Rattle.region_plan.specs.declared.entry.Entry.{Entry}
 use Rattle.region_plan.specs.declared.entry.TheConstants.{INODE}
 use Rattle.region_plan.proofs.ReadLemmas.{reads_started, reads_joined, leaves_stay}
 use Rattle.region_plan.proofs.RegionLemmas.{more_whole, none_whole, undamaged_before}
+use Rattle.region_plan.proofs.OrderedLemmas.{length_more}
 use Rattle.region_plan.proofs.TableLemmas.{inodes_none, inodes_all, inodes_pushed, inodes_passed}
 use Rattle.region_plan.proofs.table.read_inodes.Goals as goal
-use Rattle.region_plan.proofs.table.read_inodes.Goals.{then-entry_in-eq-INODE+in_ok-inode+in_ok-push, else-entry_in-eq-INODE}
+use Rattle.region_plan.proofs.table.read_inodes.Goals.{then-entry_in-eq-INODE+in_ok-inode+in_ok-inodes, else-entry_in-eq-INODE}
 use Rattle.region_plan.specs.Layout.{layout}
 use Rattle.region_plan.specs.Places.{IsMapOf}
 use Rattle.region_plan.proofs.FormLemmas.{laid_by}
@@ -23,8 +24,9 @@ use Rattle.region_plan.proofs.FormLemmas.{laid_by}
 pub loop-leaf-init : goal.loop-leaf-init
 loop-leaf-init g c = record {
   reads = reads_started g.L.LeafSource.keeper g.L.LeafSource.region c.args.from.now c.requires.works (g.met.L.LeafSource.rests c.args.from.now);
-  inodes = λ h first. c.new-inodes.ensures.items ∙ sym (inodes_none (layout c.args.form) (leaves_of g.L.LeafSource.keeper g.L.LeafSource.region c.args.from.now));
-  within = subst (λ (l : List Inode). All (IsWithin (layout c.args.form)) l) (sym c.new-inodes.ensures.items) (All-nil (IsWithin (layout c.args.form)));
+  inodes = λ h first. c.none-inodes.ensures ∙ sym (inodes_none (layout c.args.form) (leaves_of g.L.LeafSource.keeper g.L.LeafSource.region c.args.from.now));
+  within = subst (λ (l : List Inode). All (IsWithin (layout c.args.form)) l) (sym c.none-inodes.ensures) (All-nil (IsWithin (layout c.args.form)));
+  few = subst (λ (l : List Inode). length l ≤ 0) (sym c.none-inodes.ensures) (omega arith);
   sound = λ h first. none_whole g.L.LeafSource.keeper g.L.LeafSource.region (layout c.args.form) c.args.from.now;
 }
 
@@ -35,32 +37,34 @@ loop-leaf-preserved g c =
     let kept = c.loop-leaf.invariant in
     let below : c.loop-leaf.leaf < (layout c.args.form).leaves = subst (λ (n : ℕ). c.loop-leaf.leaf < n) c.leaves-leaf-end.ensures.is c.loop-leaf-test.true in
     elim c.if-entry_in-eq-INODE.branch [
-      | then-entry_in-eq-INODE+in_ok-inode+in_ok-push w ↦ record {
+      | then-entry_in-eq-INODE+in_ok-inode+in_ok-inodes w ↦ record {
         reads = subst (λ s. ReadsOnly K R None c.args.from.now s) (sym w.from-is) (reads_joined K R None c.args.from.now c.loop-leaf.from w.read_inode.new.from kept.reads w.in_ok-inode.ensures.reads);
         inodes = λ h first.
             let same = leaves_stay K R c.args.from.now c.loop-leaf.from kept.reads h in
             inodes_pushed (layout c.args.form) (laid_by c.args.form) (leaves_of K R c.args.from.now) (leaves_of K R c.loop-leaf.from) c.loop-leaf.leaf (c.loop-leaf.leaf + 1) c.entry_in.result
-            c.loop-leaf.inodes.items _
+            c.loop-leaf.inodes _
             w.in_ok-inode.inode same refl
             (c.entry_in.ensures ∙ first c.loop-leaf.leaf below) w.if-entry_in-eq-INODE.true (kept.inodes h first) (w.in_ok-inode.ensures.inode h)
-            (ap (λ (v : Vec Inode Global). v.items) w.inodes-is ∙ w.in_ok-push.ensures.items);
+            (w.inodes-is ∙ w.in_ok-inodes.ensures);
+        few = (let size = ap length (w.inodes-is ∙ w.in_ok-inodes.ensures) ∙ length_more c.loop-leaf.inodes w.in_ok-inode.inode in let few = kept.few in omega (arith, size, few));
         within =
-            subst (λ (l : List Inode). All (IsWithin (layout c.args.form)) l) (sym (ap (λ (v : Vec Inode Global). v.items) w.inodes-is ∙ w.in_ok-push.ensures.items))
-            (All-push (IsWithin (layout c.args.form)) c.loop-leaf.inodes.items w.in_ok-inode.inode kept.within w.in_ok-inode.ensures.within);
+            subst (λ (l : List Inode). All (IsWithin (layout c.args.form)) l) (sym (w.inodes-is ∙ w.in_ok-inodes.ensures))
+            (All-push (IsWithin (layout c.args.form)) c.loop-leaf.inodes w.in_ok-inode.inode kept.within w.in_ok-inode.ensures.within);
         sound = λ h first.
             let same = leaves_stay K R c.args.from.now c.loop-leaf.from kept.reads h in
             let before = kept.inodes h first ∙ ap (λ (l : ℕ → List ℕ). inodes_below (layout c.args.form) l c.loop-leaf.leaf) (sym same) in
             more_whole K R (layout c.args.form) c.args.from.now c.loop-leaf.leaf _ refl (kept.sound h first)
             (λ is. undamaged_before K R (layout c.args.form) c.args.from.now c.loop-leaf.from kept.reads h c.loop-leaf.leaf (w.in_ok-inode.ensures.undamaged h))
             (λ is. subst (λ (l : ℕ → List ℕ). IsWhole (layout c.args.form) l c.loop-leaf.leaf) same
-            (w.in_ok-inode.ensures.whole h (subst (λ (l : ℕ → List ℕ). IsMapOf (layout c.args.form) l c.args.map.now) (sym same) first) (w.as_slice.ensures.value ∙ before)));
+            (w.in_ok-inode.ensures.whole h (subst (λ (l : ℕ → List ℕ). IsMapOf (layout c.args.form) l c.args.map.now) (sym same) first) before));
       }
       | else-entry_in-eq-INODE w ↦ record {
         reads = subst (λ s. ReadsOnly K R None c.args.from.now s) (sym w.from-is) kept.reads;
         inodes = λ h first.
-            inodes_passed (layout c.args.form) (laid_by c.args.form) (leaves_of K R c.args.from.now) c.loop-leaf.leaf (c.loop-leaf.leaf + 1) c.entry_in.result c.loop-leaf.inodes.items _ refl
-            (c.entry_in.ensures ∙ first c.loop-leaf.leaf below) w.if-entry_in-eq-INODE.false (kept.inodes h first) (ap (λ (v : Vec Inode Global). v.items) w.inodes-is);
-        within = subst (λ (l : List Inode). All (IsWithin (layout c.args.form)) l) (sym (ap (λ (v : Vec Inode Global). v.items) w.inodes-is)) kept.within;
+            inodes_passed (layout c.args.form) (laid_by c.args.form) (leaves_of K R c.args.from.now) c.loop-leaf.leaf (c.loop-leaf.leaf + 1) c.entry_in.result c.loop-leaf.inodes _ refl
+            (c.entry_in.ensures ∙ first c.loop-leaf.leaf below) w.if-entry_in-eq-INODE.false (kept.inodes h first) w.inodes-is;
+        few = (let size = ap length w.inodes-is in let few = kept.few in omega (arith, size, few));
+        within = subst (λ (l : List Inode). All (IsWithin (layout c.args.form)) l) (sym w.inodes-is) kept.within;
         sound = λ h first.
             let other : is_inode (layout c.args.form) (leaves_of K R c.args.from.now) c.loop-leaf.leaf ≡ false =
             ap (λ (e : Entry). e.kind == INODE) (sym (c.entry_in.ensures ∙ first c.loop-leaf.leaf below)) ∙ ne_eqb _ _ w.if-entry_in-eq-INODE.false in

@@ -1,13 +1,11 @@
-use Rattle.std.proofs.Common.{◌≡◌, ◌∙◌, ◌+◌, ◌-◌, ◌≤◌, ℕ, List, Some, Ok, length, map, min, refl, sym, ap, subst, arith}
+use Rattle.std.proofs.Common.{◌≡◌, ◌∙◌, ◌+◌, ◌-◌, ◌≤◌, ℕ, List, Some, Ok, length, map, min, refl, ap, arith}
 use Rattle.std.specs.List.{range_with_len}
 use Rattle.region_plan.specs.Directories.{IsDirectoryOf}
 use Rattle.region_plan.specs.Inodes.{length_in}
 use Rattle.region_plan.specs.Layout.{layout}
-use Rattle.region_plan.specs.Places.{IsMapOf}
 use Rattle.region_plan.specs.Reading.{IsReadData, IsReadPart, leaves_of}
 use Rattle.region_plan.specs.Regions.{byte_at, inodes_of}
 use Rattle.region_plan.specs.Tables.{IsInode, inode_with}
-use Rattle.region_plan.specs.declared.entry.Entry.{Entry}
 use Rattle.region_plan.proofs.ContentLemmas.{content_answer, if_ok, part_inside}
 use Rattle.region_plan.proofs.DirectoryLemmas.{answers_read}
 use Rattle.region_plan.proofs.FormLemmas.{laid_by}
@@ -19,8 +17,8 @@ use Rattle.region_plan.proofs.directory.Directory.content.Goals as goal
 pub returns-in_default-clause-reads : goal.returns-in_default-clause-reads
 returns-in_default-clause-reads g c = record {
   answer = λ h is. absent_is (layout c.args.self.now.form) (leaves_of g.L.LeafSource.keeper g.L.LeafSource.region c.args.from.now) _ c.args.id.now
-      (looked_none (layout c.args.self.now.form) (leaves_of g.L.LeafSource.keeper g.L.LeafSource.region c.args.from.now) c.args.id.now c.find.result c.as_slice.result.now
-      c.args.self.now.inodes.items c.find.ensures.inode c.as_slice.ensures.value is.inodes c.in_default.is);
+      (looked_none (layout c.args.self.now.form) (leaves_of g.L.LeafSource.keeper g.L.LeafSource.region c.args.from.now) c.args.id.now c.find.result c.args.self.now.inodes
+      c.args.self.now.inodes c.find.ensures.inode refl is.inodes c.in_default.is);
   bounds = tt;
   few = tt;
   garbled = λ h is. tt;
@@ -37,10 +35,10 @@ returns-clause-reads g c =
     let L = layout d.form in
     let inode = c.in-Some.inode.now in
     let here : IsDirectoryOf leaves d → inode_with c.args.id.now (inodes_of L leaves) ≡ Some inode
-    = λ is. looked_up L leaves c.args.id.now c.find.result c.as_slice.result.now d.inodes.items c.in-Some.inode c.find.ensures.inode c.as_slice.ensures.value is.inodes c.in-Some.is in
-    let known : IsDirectoryOf leaves d → IsInode L leaves c.deref.result.now inode.number inode.length
+    = λ is. looked_up L leaves c.args.id.now c.find.result d.inodes d.inodes c.in-Some.inode c.find.ensures.inode refl is.inodes c.in-Some.is in
+    let known : IsDirectoryOf leaves d → IsInode L leaves c.args.self.now.map inode.number inode.length
     = λ is. record {
-      first = subst (λ (m : List Entry). IsMapOf L leaves m) (sym c.deref.ensures) is.map;
+      first = is.map;
       inode = found_is_inode L leaves c.args.id.now inode (here is);
       long = length_told L leaves c.args.id.now inode (here is);
     } in
@@ -69,11 +67,11 @@ returns-clause-found g c h is =
     let L = layout d.form in
     let inode = c.in-Some.inode.now in
     let here : inode_with c.args.id.now (inodes_of L leaves) ≡ Some inode
-    = looked_up L leaves c.args.id.now c.find.result c.as_slice.result.now d.inodes.items c.in-Some.inode c.find.ensures.inode c.as_slice.ensures.value is.inodes c.in-Some.is in
+    = looked_up L leaves c.args.id.now c.find.result d.inodes d.inodes c.in-Some.inode c.find.ensures.inode refl is.inodes c.in-Some.is in
     let place = located L leaves c.args.id.now inode c.in-Some.ensures.within.2 here in
     let long = length_told L leaves c.args.id.now inode here in
-    let known : IsInode L leaves c.deref.result.now inode.number inode.length
-    = record { first = subst (λ (m : List Entry). IsMapOf L leaves m) (sym c.deref.ensures) is.map; inode = place.1; long = long } in
+    let known : IsInode L leaves c.args.self.now.map inode.number inode.length
+    = record { first = is.map; inode = place.1; long = long } in
     if_ok c.read_between.result
     (λ (bytes : List ℕ). IsReadData K R L inode.number c.min-start.result (c.min-start.result + c.min.result) c.args.from.now)
     (λ (bytes : List ℕ). IsReadPart K R L c.args.id.now c.args.start c.args.count c.args.from.now)

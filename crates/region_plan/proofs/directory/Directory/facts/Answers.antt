@@ -1,4 +1,4 @@
-use Rattle.std.proofs.Common.{◌∙◌, sym, ap, subst, Ok}
+use Rattle.std.proofs.Common.{refl, ◌∙◌, sym, ap, subst, Ok}
 use Rattle.store_api.specs.Limits.{AreFacts}
 use Rattle.region_plan.specs.Layout.{layout}
 use Rattle.region_plan.proofs.StoreLemmas.{looked_none, looked_up, absent_is, facts_told}
@@ -7,7 +7,7 @@ use Rattle.region_plan.proofs.directory.Directory.facts.Goals as goal
 pub returns-in_default : goal.returns-in_default
 returns-in_default c = record {
   answer = λ leaves is. absent_is (layout c.args.self.now.form) leaves _ c.args.id.now
-      (looked_none (layout c.args.self.now.form) leaves c.args.id.now c.find.result c.as_slice.result.now c.args.self.now.inodes.items c.find.ensures.inode c.as_slice.ensures.value is.inodes
+      (looked_none (layout c.args.self.now.form) leaves c.args.id.now c.find.result c.args.self.now.inodes c.args.self.now.inodes c.find.ensures.inode refl is.inodes
       c.in_default.is);
   bounds = tt;
   decided = tt;
@@ -16,7 +16,7 @@ returns-in_default c = record {
 pub returns : goal.returns
 returns c = record {
   answer = λ leaves is. facts_told (layout c.args.self.now.form) leaves c.args.id.now c.in-Some.inode.now
-      (looked_up (layout c.args.self.now.form) leaves c.args.id.now c.find.result c.as_slice.result.now c.args.self.now.inodes.items c.in-Some.inode c.find.ensures.inode c.as_slice.ensures.value
+      (looked_up (layout c.args.self.now.form) leaves c.args.id.now c.find.result c.args.self.now.inodes c.args.self.now.inodes c.in-Some.inode c.find.ensures.inode refl
       is.inodes c.in-Some.is) ∙ ap (λ f. Ok f) (sym c.facts_of.ensures);
   bounds = subst AreFacts (sym c.facts_of.ensures) c.in-Some.ensures.within.1;
   decided = tt;

@@ -1,11 +1,8 @@
 use Rattle.std.proofs.Common.{◌≡◌, ◌∙◌, ℕ, List, sym, ap, subst}
 use Rattle.store_api.specs.declared.change.Change.{Change}
 use Rattle.store_api.specs.declared.change.Change.TheVariants.{Put, Delete, Rename, Write}
-use Rattle.region_plan.specs.Layout.{layout}
-use Rattle.region_plan.specs.Places.{IsMapOf}
 use Rattle.region_plan.specs.Planning.{PlansFrom}
 use Rattle.region_plan.specs.Reading.{leaves_of}
-use Rattle.region_plan.specs.declared.entry.Entry.{Entry}
 use Rattle.region_plan.proofs.MadeLemmas.{decided_reads, decided_told}
 use Rattle.region_plan.proofs.ReadLemmas.{reads_started}
 use Rattle.region_plan.proofs.directory.Directory.plan.Goals as goal
@@ -20,8 +17,8 @@ returns-in-Put g c =
     subst (λ (change : Change). PlansFrom K R c.args.self.now change c.plan_put.result c.args.from.now c.plan_put.new.from) same
     (record {
       plans = λ h is store stands. c.plan_put.ensures.plans h
-          (subst (λ (m : List Entry). IsMapOf (layout c.args.self.now.form) (leaves_of K R c.args.from.now) m) (sym c.deref-map.ensures) is.map)
-          (c.as_slice-inodes.ensures.value ∙ is.inodes) store stands;
+          is.map
+          is.inodes store stands;
       named = c.plan_put.ensures.named;
       garbled = c.plan_put.ensures.garbled;
       reads = c.plan_put.ensures.reads;
@@ -35,8 +32,8 @@ returns-in-Delete g c =
     (ap (λ (id : List ℕ). Delete id) c.as_slice-in-Delete.ensures ∙ sym c.in-Delete.is)
     (record {
       plans = λ h is store stands. c.plan_delete.ensures.plans (leaves_of K R c.args.from.now)
-          (subst (λ (m : List Entry). IsMapOf (layout c.args.self.now.form) (leaves_of K R c.args.from.now) m) (sym c.deref-map.ensures) is.map)
-          (c.as_slice-inodes.ensures.value ∙ is.inodes) store stands;
+          is.map
+          is.inodes store stands;
       named = c.plan_delete.ensures.named;
       garbled = decided_told _ _ c.plan_delete.ensures.decided;
       reads = decided_reads K R _ c.args.from.now c.args.from.now c.plan_delete.ensures.decided
@@ -51,7 +48,7 @@ returns-in-Rename g c =
     (λ i. Rename (c.as_slice-in-Rename.ensures i) (c.as_slice-in-Rename-2.ensures i)) ∙ sym c.in-Rename.is in
     subst (λ (change : Change). PlansFrom K R c.args.self.now change c.plan_rename.result c.args.from.now c.args.from.now) same
     (record {
-      plans = λ h is store stands. c.plan_rename.ensures.plans (leaves_of K R c.args.from.now) (c.as_slice-inodes.ensures.value ∙ is.inodes) store stands;
+      plans = λ h is store stands. c.plan_rename.ensures.plans (leaves_of K R c.args.from.now) is.inodes store stands;
       named = c.plan_rename.ensures.named;
       garbled = decided_told _ _ c.plan_rename.ensures.decided;
       reads = decided_reads K R _ c.args.from.now c.args.from.now c.plan_rename.ensures.decided
@@ -67,8 +64,8 @@ returns-in-Write g c =
     subst (λ (change : Change). PlansFrom K R c.args.self.now change c.plan_write.result c.args.from.now c.plan_write.new.from) same
     (record {
       plans = λ h is store stands. c.plan_write.ensures.plans h
-          (subst (λ (m : List Entry). IsMapOf (layout c.args.self.now.form) (leaves_of K R c.args.from.now) m) (sym c.deref-map.ensures) is.map)
-          (c.as_slice-inodes.ensures.value ∙ is.inodes) store stands;
+          is.map
+          is.inodes store stands;
       named = c.plan_write.ensures.named;
       garbled = c.plan_write.ensures.garbled;
       reads = c.plan_write.ensures.reads;
