@@ -40,13 +40,14 @@ fn host(alloc: Global, name: &[u8], id: u128) -> Result<Host<Idle>, Fail> {
     })
 }
 
-/// Two hosts, with the identifiers 1 and 2.
-fn two(rt: &impl Abort, alloc: Global) -> Result<Vec<Host<Idle>>, Fail>
+/// Three hosts, with the identifiers 1, 2 and 4.
+fn three(rt: &impl Abort, alloc: Global) -> Result<Vec<Host<Idle>>, Fail>
     ensures { IfOk result (λ hosts. HostsFit hosts.items) }
 {
     let mut hosts = Vec::new(alloc);
     hosts.push(host(alloc, b"one", 1)?)?;
     hosts.push(host(alloc, b"two", 2)?)?;
+    hosts.push(host(alloc, b"vault", 4)?)?;
     assert!(rt; hosts_fit(hosts.as_slice()));
     Ok(hosts)
 }
@@ -117,7 +118,7 @@ const PRINTED: [(&[u8], &[u8]); 8] = [
 #[test]
 fn each_spelling_has_its_canonical_text(rt: HostRuntime) -> Result<(), Fail> {
     let alloc = rt.alloc();
-    let hosts = two(&rt, alloc)?;
+    let hosts = three(&rt, alloc)?;
     for (text, canonical) in PRINTED {
         assert_printed(&rt, alloc, hosts.as_slice(), text, canonical)?;
     }
@@ -152,7 +153,7 @@ const BAD: [(&[u8], u64); 22] = [
 #[test]
 fn the_first_line_outside_is_named(rt: HostRuntime) -> Result<(), Fail> {
     let alloc = rt.alloc();
-    let hosts = two(&rt, alloc)?;
+    let hosts = three(&rt, alloc)?;
     for (text, number) in BAD {
         let bad = first_bad(alloc, hosts.as_slice(), text, Dialect::Whole)?;
         assert!(rt; bad == Some(number));
@@ -163,17 +164,36 @@ fn the_first_line_outside_is_named(rt: HostRuntime) -> Result<(), Fail> {
     Ok(())
 }
 
+/// One with each kind of line end, and one whose calls are cancelled.
+const CUT: [&[u8]; 2] = [
+    b"one open 1\r\none post invoke 1 14 vi:100:1\none cancel 2\none turn 1 300\n# end\nboard fuse 3\n",
+    b"vault open 1\nvault post invoke 1 14 vi:100:1\nvault cancel 2\nvault post invoke 1 14 vi:100:0\nvault turn 1 3\nvault cancel 3\nvault turn 1 300\nvault post invoke 1 14 vi:100:1\nvault turn 1 5\nvault cancel 4\nvault turn 1 300\nvault cancel 4\n",
+];
+
+/// Whether the text reads, or its last line alone is outside the grammar.
+fn reads_up_to_its_last_line(
+    alloc: Global,
+    hosts: &[Host<Idle>],
+    text: &[u8],
+) -> Result<bool, Fail>
+    requires { HostsFit hosts.now }
+{
+    match parse(alloc, text, hosts) {
+        Ok(_script) => Ok(true),
+        Err(ScriptAnswer::BadLine(number)) => Ok(number == count_of_lines(text) as u64),
+        Err(ScriptAnswer::NoMemory) => Err(Fail::from(NoMemory)),
+    }
+}
+
 #[test]
 fn a_script_that_is_cut_is_read_up_to_its_last_line(rt: HostRuntime) -> Result<(), Fail> {
     let alloc = rt.alloc();
-    let hosts = two(&rt, alloc)?;
-    let text =
-        b"one open 1\r\none post invoke 1 14 vi:100:1\none cancel 2\none turn 1 300\n# end\nboard fuse 3\n".as_slice();
-    for cut in 0..text.len() {
-        let front = &text[..cut];
-        if let Some(number) = first_bad(alloc, hosts.as_slice(), front, Dialect::Whole)? {
-            assert!(rt; number == count_of_lines(front) as u64);
+    let hosts = three(&rt, alloc)?;
+    for text in CUT {
+        for cut in 0..text.len() {
+            assert!(rt; reads_up_to_its_last_line(alloc, hosts.as_slice(), &text[..cut])?);
         }
+        assert!(rt; first_bad(alloc, hosts.as_slice(), text, Dialect::Whole)? == None);
     }
     Ok(())
 }
