@@ -10,5 +10,6 @@ pub mod StartLemmas
 pub mod StepLemmas
 pub mod TouchedLemmas
 pub mod VolumeLemmas
+pub mod VerifyLemmas
 pub mod WalkLemmas
 pub mod WriteLemmas

@@ -83,7 +83,7 @@ part_zeros : (at n total : ℕ) → at + n ≤ total → part at n (replicate to
 part_zeros at n total fits = ap (take n) (drop-replicate at total 0) ∙ take-replicate n (total - at) 0 (omega arith)
 
 -- an entry of a node of zeros has the sequence 0
-zero_entry : (n : ℕ) → n < 16 → (entry_at (64 * n) (replicate BLOCK_BYTES 0)).sequence ≡ 0
+pub zero_entry : (n : ℕ) → n < 16 → (entry_at (64 * n) (replicate BLOCK_BYTES 0)).sequence ≡ 0
 zero_entry n below = ap (from_le_bytes w64) (part_zeros (64 * n + 8) 8 BLOCK_BYTES (omega arith))
 
 module _ (s : Shape) (is : IsShape s) (key : List ℕ) where

@@ -1,17 +1,31 @@
 -- Laws of the ways from a root down.
-use Rattle.std.specs.Prelude.{◌≡◌, ◌≤◌, ◌<◌, ℕ, List, None}
+use Rattle.std.specs.Prelude.{◌≡◌, ◌<◌, ℕ, List, None, replicate}
+use Rattle.tee_base.specs.declared.limits.TheConstants.{BLOCK_BYTES, MAX_HOSTS}
 use Rattle.epoch.specs.declared.header.TreeEntry.{TreeEntry}
 use Rattle.tree_volume.specs.Identify.{TagsIdentify, message_on}
 use Rattle.tree_volume.specs.Shape.{IsShape, Shape}
-use Rattle.tree_volume.specs.Tree.{Look, damage_below, damage_of, entry_below, on_image}
-use Rattle.tree_volume.specs.Walk.{AreChildren, Children, walk}
+use Rattle.tree_volume.specs.Tree.{Look, damage_below, damage_of, entry_below, known, on_image}
+use Rattle.tree_volume.specs.Walk.{AreChildren, Children, first_wrong, visits}
 
--- where a walk from the root down finds nothing wrong, no place that it comes to has a damage on its way
+-- nothing is looked up for an entry of sequence 0, which names zeros
+abbrev pub SkipsZeros : Look → Type 0
+SkipsZeros look = (place : ℕ) (entry : TreeEntry) → entry.sequence ≡ 0
+    → look place entry ≡ known (replicate BLOCK_BYTES 0) entry
+
+-- where a walk from the root down finds nothing wrong, no place has a damage on its way
 abbrev pub WalkFindsAll : Type 0
 WalkFindsAll =
-    (s : Shape) → IsShape s → (c : Children) → AreChildren s c → (look : Look) (root : TreeEntry) (depth : ℕ)
-    → walk c look depth 0 root ≡ None
-    → (place : ℕ) → place < s.places → s.level place ≤ depth → damage_of s look root place ≡ None
+    (s : Shape) → IsShape s → (c : Children) (depth : ℕ) → AreChildren s c depth → (look : Look) → SkipsZeros look
+    → (root : TreeEntry) → first_wrong look (visits c look depth 0 root) ≡ None
+    → (place : ℕ) → place < s.places → damage_of s look root place ≡ None
+
+-- where no leaf has a damage on its way, a walk from the root down finds nothing wrong
+abbrev pub WalkIsExact : Type 0
+WalkIsExact =
+    (s : Shape) → IsShape s → (c : Children) (depth : ℕ) → AreChildren s c depth → (look : Look) → SkipsZeros look
+    → (root : TreeEntry) → 0 < s.places
+    → ((r l : ℕ) → r < MAX_HOSTS → l < s.leaves → damage_of s look root (s.leaf_place r l) ≡ None)
+    → first_wrong look (visits c look depth 0 root) ≡ None
 
 -- two images without a damage on the way from one root to a place, and equal tags there from equal messages: the same entry
 -- names the same bytes

@@ -16,5 +16,6 @@ pub mod Shapes
 pub mod Soundness
 pub mod Touched
 pub mod Tree
+pub mod Verify
 pub mod Walk
 pub mod Ways

@@ -1,6 +1,6 @@
 -- Both shapes keep to what a shape keeps to, and the children of each are its places.
-use Rattle.std.proofs.Common.{◌≡◌, ◌≤◌, ◌<◌, ◌+◌, ◌-◌, ◌*◌, ◌/◌, ◌%◌, ◌==◌, ◌∙◌, if◌then◌else◌, nat_lt, ℕ, suc, true, false, refl, sym, ap, subst, ⊎_elim, arith}
-use Rattle.std.proofs.lemmas.Bool.{cases_lt}
+use Rattle.std.proofs.Common.{◌≡◌, ◌≢◌, ◌≤◌, ◌<◌, ◌+◌, ◌-◌, ◌*◌, ◌/◌, ◌%◌, ◌==◌, ◌∙◌, if◌then◌else◌, nat_lt, ℕ, suc, true, false, refl, sym, ap, subst, ⊎_elim, arith}
+use Rattle.std.proofs.lemmas.Bool.{cases_eq, cases_lt}
 use Rattle.std.proofs.lemmas.Bool.Decides.{nat_tests}
 use Rattle.tree_volume.specs.Shape.{IsShape, first_shape, shape}
 use Rattle.tree_volume.specs.Walk.{AreChildren, children, first_children}
@@ -218,9 +218,82 @@ lower_child q i p from fits is =
     let one : nat_lt q 17 ≡ false = grind (arith, nat_tests) in
     rw (zero, one) (fits, is)
 
+-- what a node names is a place, as the entry that it is
+module _ (p i : ℕ) (inside : p < 17489) (above : shape.level p < 4) (below : i < children.fan p) where
+  is_node : p < 1105
+  is_node =
+      ⊎_elim (λ (h : p < 1105). h) (λ (h : 1105 ≤ p). absurd (let four : shape.level p ≡ 4 = level_four p h in omega (arith, above, four))) (cases_lt p 1105)
+
+  names_region : p ≡ 0 → (0 < children.child p i) × (children.child p i < 17489) × (shape.parent (children.child p i) ≡ p) × (shape.slot (children.child p i) ≡ i)
+  names_region top =
+      let zero : (p == 0) ≡ true = grind arith in
+      let few : i < 16 = subst (λ (n : ℕ). i < n) (rw zero refl) below in
+      let is : children.child p i ≡ 1 + i = rw zero refl in
+      subst (λ (q : ℕ). (0 < q) × (q < 17489) × (shape.parent q ≡ p) × (shape.slot q ≡ i)) (sym is)
+      (omega arith, omega arith, parent_one (1 + i) (omega arith) ∙ sym top, slot_one (1 + i) (omega arith) ∙ (let e : (1 + i - 1) % 16 ≡ i = omega arith in e))
+
+  names_band : 0 < p → p < 17 → (0 < children.child p i) × (children.child p i < 17489) × (shape.parent (children.child p i) ≡ p) × (shape.slot (children.child p i) ≡ i)
+  names_band positive region =
+      let zero : (p == 0) ≡ false = grind arith in
+      let one : nat_lt p 17 ≡ true = grind (arith, nat_tests) in
+      let few : i < 4 = subst (λ (n : ℕ). i < n) (rw (zero, one) refl) below in
+      let is : children.child p i ≡ 17 + 4 * (p - 1) + i = rw (zero, one) refl in
+      subst (λ (q : ℕ). (0 < q) × (q < 17489) × (shape.parent q ≡ p) × (shape.slot q ≡ i)) (sym is) (
+        omega arith,
+        omega arith,
+        parent_two (17 + 4 * (p - 1) + i) (omega arith) (omega arith) ∙ (let e : 1 + (17 + 4 * (p - 1) + i - 17) / 4 ≡ p = omega arith in e),
+        slot_two (17 + 4 * (p - 1) + i) (omega arith) (omega arith) ∙ (let e : (17 + 4 * (p - 1) + i - 17) % 4 ≡ i = omega arith in e),
+      )
+
+  names_lower : 17 ≤ p → (0 < children.child p i) × (children.child p i < 17489) × (shape.parent (children.child p i) ≡ p) × (shape.slot (children.child p i) ≡ i)
+  names_lower lower =
+      let zero : (p == 0) ≡ false = grind arith in
+      let one : nat_lt p 17 ≡ false = grind (arith, nat_tests) in
+      let few : i < 16 = subst (λ (n : ℕ). i < n) (rw (zero, one) refl) below in
+      let node : p < 1105 = is_node in
+      let is : children.child p i ≡ 81 + 16 * (p - 17) + i = rw (zero, one) refl in
+      subst (λ (q : ℕ). (0 < q) × (q < 17489) × (shape.parent q ≡ p) × (shape.slot q ≡ i)) (sym is) (
+        omega arith,
+        omega arith,
+        parent_three (81 + 16 * (p - 17) + i) (omega arith) ∙ (let e : 17 + (81 + 16 * (p - 17) + i - 81) / 16 ≡ p = omega arith in e),
+        slot_three (81 + 16 * (p - 17) + i) (omega arith) ∙ (let e : (81 + 16 * (p - 17) + i - 81) % 16 ≡ i = omega arith in e),
+      )
+
+  names : (0 < children.child p i) × (children.child p i < 17489) × (shape.parent (children.child p i) ≡ p) × (shape.slot (children.child p i) ≡ i)
+  names =
+      ⊎_elim (λ (h : p < 17). ⊎_elim names_region (λ (ne : p ≢ 0). names_band (omega arith) h) (cases_eq p 0)) names_lower (cases_lt p 17)
+
+fan_some : (p : ℕ) → (0 < children.fan p) × (children.fan p ≤ 16)
+fan_some p =
+    elim (p == 0) as (λ a. (0 < (if a then 16 else if nat_lt p 17 then 4 else 16)) × ((if a then 16 else if nat_lt p 17 then 4 else 16) ≤ 16)) [
+      | true ↦ (omega arith, omega arith)
+      | false ↦ elim (nat_lt p 17) as (λ b. (0 < (if b then 4 else 16)) × ((if b then 4 else 16) ≤ 16)) [ true ↦ (omega arith, omega arith) | false ↦ (omega arith, omega arith) ]
+    ]
+
+-- what lies as deep as the leaves is one
+leaf_there : (p : ℕ) → p < 17489 → shape.level p ≡ 4 → (r l : ℕ) × (r < 16) × (l < 1024) × (1105 + 1024 * r + l ≡ p)
+leaf_there p inside deep =
+    let from : 1105 ≤ p = ⊎_elim (λ (h : p < 1105). absurd (not_leaf p h deep)) (λ (h : 1105 ≤ p). h) (cases_lt p 1105) in
+    ((p - 1105) / 1024, (p - 1105) % 1024, omega arith, omega arith, omega arith)
+  where
+    not_leaf : (p : ℕ) → p < 1105 → shape.level p ≡ 4 → ⊥
+    not_leaf p h deep =
+        by_level ⊥ p
+        (λ (k : p < 17). ⊎_elim
+        (λ (top : p ≡ 0). absurd (let z : shape.level p ≡ 0 = ap shape.level top in omega (arith, z, deep)))
+        (λ (ne : p ≢ 0). absurd (let one : shape.level p ≡ 1 = level_one p (omega arith) k in omega (arith, one, deep)))
+        (cases_eq p 0))
+        (λ (k : 17 ≤ p) (l : p < 81). absurd (let two : shape.level p ≡ 2 = level_two p k l in omega (arith, two, deep)))
+        (λ (k : 81 ≤ p). absurd (let three : shape.level p ≡ 3 = level_three p k h in omega (arith, three, deep)))
+
 -- each place is the child of its parent
-pub are_children : AreChildren shape children
+pub are_children : AreChildren shape children 4
 are_children = record {
+  named = λ p i inside above below. names p i inside above below;
+  some = λ p. (fan_some p).0;
+  fits = λ p. (fan_some p).1;
+  deepest = λ p inside. at_most p;
+  leaf = leaf_there;
   among = λ p positive inside.
       by_level ((shape.slot p < children.fan (shape.parent p)) × (children.child (shape.parent p) (shape.slot p) ≡ p)) p
       (λ (h : p < 17). as_child p 0 ((p - 1) % 16) (parent_one p h) (slot_one p h) (let b : (p - 1) % 16 < 16 = omega arith in b, let e : 1 + (p - 1) % 16 ≡ p = omega arith in e))
@@ -232,7 +305,45 @@ are_children = record {
       (lower_child (17 + (p - 81) / 16) ((p - 81) % 16) p (omega arith) (omega arith) (omega arith)));
 }
 
-pub are_first_children : AreChildren first_shape first_children
+first_at_most : (p : ℕ) → first_shape.level p ≤ 3
+first_at_most p =
+    elim (p == 0) as (λ a. (if a then 0 else if nat_lt p 17 then 1 else if nat_lt p 273 then 2 else 3) ≤ 3) [
+      | true ↦ omega arith
+      | false ↦ elim (nat_lt p 17) as (λ b. (if b then 1 else if nat_lt p 273 then 2 else 3) ≤ 3) [
+        | true ↦ omega arith
+        | false ↦ elim (nat_lt p 273) as (λ d. (if d then 2 else 3) ≤ 3) [ true ↦ omega arith | false ↦ omega arith ]
+      ]
+    ]
+
+first_not_leaf : (p : ℕ) → p < 273 → first_shape.level p ≡ 3 → ⊥
+first_not_leaf p h deep =
+    ⊎_elim
+    (λ (top : p ≡ 0). absurd (let z : first_shape.level p ≡ 0 = ap first_shape.level top in omega (arith, z, deep)))
+    (λ (ne : p ≢ 0). ⊎_elim
+    (λ (k : p < 17). absurd (let one : first_shape.level p ≡ 1 = first_one p (omega arith) k in omega (arith, one, deep)))
+    (λ (k : 17 ≤ p). absurd (let two : first_shape.level p ≡ 2 = first_two p k h in omega (arith, two, deep)))
+    (cases_lt p 17))
+    (cases_eq p 0)
+
+first_leaf_there : (p : ℕ) → p < 4369 → first_shape.level p ≡ 3 → (r l : ℕ) × (r < 16) × (l < 256) × (273 + 256 * r + l ≡ p)
+first_leaf_there p inside deep =
+    let from : 273 ≤ p = ⊎_elim (λ (h : p < 273). absurd (first_not_leaf p h deep)) (λ (h : 273 ≤ p). h) (cases_lt p 273) in
+    ((p - 273) / 256, (p - 273) % 256, omega arith, omega arith, omega arith)
+
+first_node : (p : ℕ) → first_shape.level p < 3 → p < 273
+first_node p above =
+    ⊎_elim (λ (h : p < 273). h) (λ (h : 273 ≤ p). absurd (let three : first_shape.level p ≡ 3 = first_three p h in omega (arith, above, three))) (cases_lt p 273)
+
+pub are_first_children : AreChildren first_shape first_children 3
 are_first_children = record {
+  named = λ p i inside above below.
+      (let node : p < 273 = first_node p above in
+      let up : (16 * p + 1 + i - 1) / 16 ≡ p = omega arith in
+      let at : (16 * p + 1 + i - 1) % 16 ≡ i = omega arith in
+      (omega arith, omega arith, up, at));
+  some = λ p. (let b : 0 < 16 = omega arith in b);
+  fits = λ p. (let b : 16 ≤ 16 = omega arith in b);
+  deepest = λ p inside. first_at_most p;
+  leaf = first_leaf_there;
   among = λ p positive inside. (let b : (p - 1) % 16 < 16 = omega arith in b, let e : 16 * ((p - 1) / 16) + 1 + (p - 1) % 16 ≡ p = omega arith in e);
 }

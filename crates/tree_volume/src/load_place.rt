@@ -1,5 +1,5 @@
 //! How what an entry names is read, and verified, and how a leaf is found from the root down.
-ghost use Rattle.std.specs.Prelude.{◌≡◌, ◌≢◌, ◌≤◌, ◌<◌, ℕ, true, List, None, Ok, Err, IsTrue, IfOk, OnOk, OnErr};
+ghost use Rattle.std.specs.Prelude.{◌≡◌, ◌≢◌, ◌≤◌, ◌<◌, ◌+◌, ◌*◌, ℕ, true, List, None, Ok, Err, IsTrue, IfOk, OnOk, OnErr};
 ghost use Rattle.tee_base.specs.Faults.{Rose};
 ghost use Rattle.tee_base.specs.declared.limits.TheConstants.{MAX_HOSTS};
 ghost use Rattle.store_api.specs.Volumes.{IfMismatch, ShowsLeaf};
@@ -12,9 +12,10 @@ ghost use Rattle.tree_volume.specs.Identify.{ImagesIdentify};
 ghost use Rattle.tree_volume.specs.Shape.{shape};
 ghost use Rattle.tree_volume.specs.Tree.{block_at as block_of_copy, damage_above, damage_at, damage_of, entry_below, on_image, text_of};
 
+use crate::layout::{Layout, Written};
 use crate::nodes::Nodes;
 use crate::places::{
-    DEPTH, ENTRY_BYTES, PLACES, REGION_LEAVES, TREE_BLOCKS, block_at, leaf_place, parent, slot,
+    DEPTH, ENTRY_BYTES, PLACES, REGION_LEAVES, TREE_BLOCKS, leaf_place, parent, slot,
 };
 use crate::way::Way;
 use board::Board;
@@ -28,15 +29,15 @@ use store_api::LeafAnswer;
 /// # Errors
 ///
 /// `Mismatch` where its tag differs. `Failed` where a call of the board failed.
-pub fn load<B: Board>(
+pub fn load<B: Board, L: Layout>(
     board: &mut B,
     keys: &Keys,
     place: u64,
     entry: &TreeEntry,
     into: &mut [u8; 1024],
 ) -> Result<(), LeafAnswer>
-    requires size { TREE_BLOCKS ≤ (B.view board.old).size }
-    requires place { place < PLACES }
+    requires size { L.shape.first_block + 2 * L.shape.places ≤ (B.view board.old).size }
+    requires place { place < L.shape.places }
     ensures calls { CallRun (no_fault result) (B.view board.old) (B.view board.new) }
     ensures writes { (B.view board.new).writes ≡ (B.view board.old).writes }
     ensures cause { result ≡ Err answers.Failed
@@ -48,10 +49,10 @@ pub fn load<B: Board>(
         → (B.view board.new).state.reads ≡ (B.view board.old).state.reads }
     ensures text { IsTrue B.tells_reads → (key : List ℕ) → AreKeysOf keys.now key
         → OnOk result (into.new
-        ≡ (on_image shape key (B.view board.old).state.reads place entry.now).text) }
+        ≡ (on_image L.shape key (B.view board.old).state.reads place entry.now).text) }
     ensures damage { IsTrue B.tells_reads → (key : List ℕ) → AreKeysOf keys.now key
         → ShowsLeaf result
-        (damage_at (on_image shape key (B.view board.old).state.reads) place entry.now) }
+        (damage_at (on_image L.shape key (B.view board.old).state.reads) place entry.now) }
     ensures honest { B.honest board.old
         → B.honest board.new × OnlyReads (B.view board.old) (B.view board.new) }
 {
@@ -60,14 +61,14 @@ pub fn load<B: Board>(
         return Ok(());
     }
     let mut cipher = [0; 1024];
-    match board.read(block_at(place, entry.copy), &mut cipher) {
-        Ok(()) => opened(keys, place, entry, &cipher, into),
+    match board.read(L::block(place, entry.copy), &mut cipher) {
+        Ok(()) => opened::<L>(keys, place, entry, &cipher, into),
         Err(_) => Err(LeafAnswer::Failed),
     }
 }
 
 /// Opens the block of an entry.
-fn opened(
+fn opened<L: Layout>(
     keys: &Keys,
     place: u64,
     entry: &TreeEntry,
@@ -81,11 +82,11 @@ fn opened(
     ensures tags { (key : List ℕ) → AreKeysOf keys.now key
         → IfMismatch result (λ tags. tags.found ≢ tags.kept) }
     ensures text { (key : List ℕ) (image : ℕ → List ℕ) → AreKeysOf keys.now key
-        → cipher.now ≡ image (block_of_copy shape place entry.now.copy)
-        → OnOk result (into.new ≡ (on_image shape key image place entry.now).text) }
+        → cipher.now ≡ image (block_of_copy L.shape place entry.now.copy)
+        → OnOk result (into.new ≡ (on_image L.shape key image place entry.now).text) }
     ensures damage { (key : List ℕ) (image : ℕ → List ℕ) → AreKeysOf keys.now key
-        → cipher.now ≡ image (block_of_copy shape place entry.now.copy)
-        → ShowsLeaf result (damage_at (on_image shape key image) place entry.now) }
+        → cipher.now ≡ image (block_of_copy L.shape place entry.now.copy)
+        → ShowsLeaf result (damage_at (on_image L.shape key image) place entry.now) }
 {
     let tags = Tags {
         iv: entry.iv,
@@ -137,7 +138,7 @@ pub fn load_node<B: Board>(
             *into = *node;
             Ok(())
         }
-        None => load(board, keys, place, entry, into),
+        None => load::<B, Written>(board, keys, place, entry, into),
     }
 }
 
@@ -250,7 +251,7 @@ pub fn find_leaf<B: Board>(
     let place = leaf_place(region, leaf);
     nodes.way.clear();
     let entry = find_entry(board, keys, &nodes.kept, &mut nodes.way, root, DEPTH, place)?;
-    load(board, keys, place, &entry, into)?;
+    load::<B, Written>(board, keys, place, &entry, into)?;
     nodes.keep();
     Ok(())
 }

@@ -1,6 +1,5 @@
 use Rattle.std.proofs.Common.{sym, ap, refl, true, false}
 use Rattle.epoch.proofs.CallLemmas.{run_as, run_none, run_once}
-use Rattle.tree_volume.specs.Shape.{shape}
 use Rattle.tree_volume.specs.Tree.{Found}
 use Rattle.epoch.proofs.ReadLemmas.{only_itself, only_once}
 use Rattle.tree_volume.specs.Ways.{found_zero, zero_damage}
@@ -8,10 +7,10 @@ use Rattle.tree_volume.proofs.load_place.load.Goals as goal
 
 pub returns-then-entry-eq0-clause-text : goal.returns-then-entry-eq0-clause-text
 returns-then-entry-eq0-clause-text g c tells key keyed = sym (ap
-    (λ (f : Found). f.text) (found_zero shape key (g.B.Board.view c.args.board.now).state.reads c.args.place c.args.entry.now c.if-entry-eq0.true))
+    (λ (f : Found). f.text) (found_zero g.L.Layout.shape key (g.B.Board.view c.args.board.now).state.reads c.args.place c.args.entry.now c.if-entry-eq0.true))
 
 pub returns-then-entry-eq0-clause-damage : goal.returns-then-entry-eq0-clause-damage
-returns-then-entry-eq0-clause-damage g c tells key keyed = zero_damage shape key (g.B.Board.view c.args.board.now).state.reads c.args.place c.args.entry.now c.if-entry-eq0.true
+returns-then-entry-eq0-clause-damage g c tells key keyed = zero_damage g.L.Layout.shape key (g.B.Board.view c.args.board.now).state.reads c.args.place c.args.entry.now c.if-entry-eq0.true
 
 pub returns-then-entry-eq0-clause-calls : goal.returns-then-entry-eq0-clause-calls
 returns-then-entry-eq0-clause-calls g c = run_none _
