@@ -1,5 +1,5 @@
 //! A volume on boards in memory: formatting, commits of one leaf and of twenty, each call of a commit stopped and failed,
-//! a header of sequence 0, and older images.
+//! a header of sequence 0, older images, and verifications.
 #![tactic(auto)]
 
 pub mod filling;
@@ -7,5 +7,7 @@ pub mod filling;
 mod steps;
 #[cfg(test)]
 mod stops;
+#[cfg(test)]
+mod verified;
 #[cfg(test)]
 mod volumes;

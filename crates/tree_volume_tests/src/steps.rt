@@ -13,15 +13,20 @@ use std::process::Abort;
 use std::test::Fail;
 use store_api::{Leaf, LeafAnswer, Leaves, Volume};
 use tee_base::NoMemory;
-use tree_volume::TreeVolume;
+use tree_volume::{TreeVolume, VerifyAnswer};
 
-/// A call, and what has to come of it. The leaves are those of region 2 that `number_of` numbers.
+/// A call, and what has to come of it. The leaves are those of region 2 that `number_of` numbers, but where a row names
+/// another.
 #[derive(Clone, Copy)]
 pub enum Row {
     /// All leaves are filled with this byte, and a neighbour with zeros.
     Filled(u8),
     /// So many leaves are replaced by such filled with this byte, which is answered so.
     Replace(u16, u8, Result<u64, LeafAnswer>),
+    /// Leaf 5 of region 0 is replaced by one filled with this byte, to this sequence.
+    ReplaceOne(u8, u64),
+    /// All places are verified, which is answered so.
+    Verify(Result<u32, VerifyAnswer>),
     /// The volume is at this sequence.
     Sequence(u64),
     /// The volume is lost.
@@ -79,6 +84,20 @@ fn is_replaced(
     Ok(answer == *want)
 }
 
+/// Replaces leaf 5 of region 0 by one filled with a byte, and compares the sequence.
+fn is_one_replaced(
+    rt: &impl Abort,
+    alloc: Global,
+    volume: &mut OnBoard,
+    byte: u8,
+    sequence: u64,
+) -> Result<bool, NoMemory> {
+    let leaves = leaves_of(rt, alloc, 1, byte)?;
+    let answer = volume.commit(0, &leaves);
+    drop(leaves);
+    Ok(answer == Ok(sequence))
+}
+
 /// Whether a leaf of region 2 is filled with a byte.
 fn is_leaf(volume: &mut OnBoard, leaf: u16, byte: u8) -> bool
     requires { leaf < LEAVES }
@@ -122,6 +141,8 @@ fn is_met(
     Ok(match row {
         Row::Filled(byte) => is_filled(volume, MOST, *byte),
         Row::Replace(count, byte, want) => is_replaced(rt, alloc, volume, *count, *byte, want)?,
+        Row::ReplaceOne(byte, sequence) => is_one_replaced(rt, alloc, volume, *byte, *sequence)?,
+        Row::Verify(want) => volume.verify() == *want,
         Row::Sequence(sequence) => volume.sequence() == *sequence,
         Row::Lost => volume.is_lost(),
         Row::Fuse(calls) => {

@@ -10,9 +10,11 @@ use std::process::Abort;
 use std::test::Fail;
 use tee_base::{Bytes, NoMemory};
 
-const KEY: [u8; 32] = [7; 32];
+/// The key of each board.
+pub const KEY: [u8; 32] = [7; 32];
 
-const BLOCKS: u64 = 43_720;
+/// How many blocks it has.
+pub const BLOCKS: u64 = 43_720;
 
 /// A blank board.
 const FIRST: &[Row] = &[
@@ -134,23 +136,47 @@ fn a_header_of_sequence_0_is_opened(rt: HostRuntime) -> Result<(), Fail> {
     Ok(())
 }
 
-const REFUSED: OpenAnswer = OpenAnswer::Rollback {
-    sequence: 2,
-    counter: 3,
-};
-
-/// Whether the board isn't opened, since its image is older than its counter.
-fn is_refused(alloc: Global, board: MemBoard) -> bool {
+/// Whether the board isn't opened, since its image, of this sequence, is older than its counter.
+fn is_refused(alloc: Global, board: MemBoard, sequence: u64, counter: u64) -> bool {
     match opened(alloc, board) {
         Ok(_) => false,
-        Err(why) => why == REFUSED,
+        Err(why) => why == OpenAnswer::Rollback { sequence, counter },
     }
 }
 
+/// The image of the next sequence: the leaves are replaced once more.
+fn image_after(
+    rt: &impl Abort,
+    alloc: Global,
+    image: &Bytes,
+    sequence: u64,
+) -> Result<Bytes, Fail> {
+    let next = Row::Replace(1, NEW, Ok(sequence.wrapping_add(1)));
+    let board = board_of(rt, alloc, image, sequence, &[])?;
+    let board = run(rt, alloc, board, &[Row::Sequence(sequence), next])?;
+    let after = board.image(alloc);
+    drop(board);
+    Ok(after?)
+}
+
+/// The counter behind which four older images are left.
+const COUNTER: u64 = 6;
+
 #[test]
-fn an_older_image_is_refused(rt: HostRuntime) -> Result<(), Fail> {
-    let image = image_of_two(&rt, rt.alloc())?;
-    let board = board_of(&rt, rt.alloc(), &image, 3, &[])?;
-    assert!(rt; is_refused(rt.alloc(), board));
+fn four_older_images_are_refused(rt: HostRuntime) -> Result<(), Fail> {
+    let mut image = image_of_two(&rt, rt.alloc())?;
+    for sequence in 2..COUNTER {
+        let board = board_of(&rt, rt.alloc(), &image, COUNTER, &[])?;
+        assert!(rt; is_refused(rt.alloc(), board, sequence, COUNTER));
+        image = image_after(&rt, rt.alloc(), &image, sequence)?;
+    }
+    run_over(
+        &rt,
+        rt.alloc(),
+        &image,
+        COUNTER,
+        &[],
+        &[Row::Sequence(COUNTER)],
+    )?;
     Ok(())
 }
