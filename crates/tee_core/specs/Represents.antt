@@ -77,6 +77,10 @@ Represents {B} {V} {A} {G} tee world = StandFor G.keeper tee.sides.items tee.vol
 abbrev pub volume_of : {B V A : Type 0} {G : Ghosts V} → TeeOver B V A G → V
 volume_of tee = tee.volume
 
+-- each application represents the machines that it did, whatever volume keeps the objects
+abbrev pub KeepsMachines : {B V A : Type 0} {G : Ghosts V} → TeeOver B V A G → TeeOver B V A G → Type 0
+KeepsMachines {B} {V} {A} {G} old new = (world : World A) → AreSides old.sides.items world → AreSides new.sides.items world
+
 -- how often the power was lost
 abbrev pub boots_of : {B V A : Type 0} {G : Ghosts V} → TeeOver B V A G → ℕ
 boots_of tee = tee.boots

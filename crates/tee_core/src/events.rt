@@ -7,7 +7,7 @@ ghost use Rattle.alone.specs.Step.{is_answered, is_changing, step, Called, Cance
 ghost use Rattle.app_side.specs.Represents.{event_of as turn_of, store_kind};
 ghost use Rattle.object_asks.specs.Serving.{SaysChange};
 ghost use Rattle.tee_core.specs.Happenings.{happening};
-ghost use Rattle.tee_core.specs.Represents.{app_count, app_of, event_of, machine_event, turns_made, volume_of, IsCall, Represents};
+ghost use Rattle.tee_core.specs.Represents.{app_count, app_of, event_of, machine_event, turns_made, volume_of, IsCall, KeepsMachines, Represents};
 ghost use Rattle.tee_core.specs.Stepping.{KeepsOthers, MakesEvent};
 ghost use Rattle.tee_core.specs.World.{World};
 
@@ -54,6 +54,8 @@ impl<B, V: Volume, A: Application> TeeOver<B, V, A> {
             → told ≡ happening A.behaviour m (machine_event event told.kind)) }
         ensures err { OnErr result (IsCall event × (volume_of self.new ≡ volume_of self.old)
             × ((world : World A) → Represents self.old world → Represents self.new world)) }
+        // whatever the board
+        ensures same { OnErr result (KeepsMachines self.old self.new) }
         ensures kept { KeepsOthers (app_of event) self.old self.new }
         ensures turns { turns_made self.new (app_of event)
             ≤ turns_made self.old (app_of event) + 1 }
@@ -77,6 +79,7 @@ impl<B, V: Volume, A: Application> TeeOver<B, V, A> {
         ensures kind { IfOk result (λ told. told.kind ≡ Plain) }
         ensures err { OnErr result ((world : World A) → Represents self.old world
             → Represents self.new world) }
+        ensures same { OnErr result (KeepsMachines self.old self.new) }
         ensures volume { volume_of self.new ≡ volume_of self.old }
         ensures kept { KeepsOthers app self.old self.new }
         ensures turns { turns_made self.new app ≡ turns_made self.old app }

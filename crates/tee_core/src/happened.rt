@@ -71,7 +71,7 @@ impl RunReplies {
     }
 
     /// Tells of a turn, unless it is plain and has no reply, and takes its replies. Want of memory changes nothing that is
-    /// told.
+    /// told, and drops the replies.
     pub fn push_turn_if_told(
         &mut self,
         kind: TurnKind,
@@ -81,7 +81,7 @@ impl RunReplies {
     ) -> Result<(), NoMemory>
         ensures ok { OnOk result (self.new
             ≡ append_if_told self.old (turn_happened kind turn instance replies.old)) }
-        ensures taken { OnOk result (replies.new ≡ []) }
+        ensures taken { replies.new ≡ [] }
         ensures err { OnErr result (self.new ≡ self.old) }
     {
         if matches!(kind, TurnKind::Plain) && replies.is_empty() {

@@ -1,7 +1,7 @@
 use Rattle.std.proofs.Common.{refl, arith}
 use Rattle.tee_core.proofs.Counts.{booted_kept, called_boot, called_turns, lost_kept, same_boot, same_turns, set_length, turns_kept}
 use Rattle.tee_core.proofs.EventLemmas.{stand_called, stand_kept}
-use Rattle.tee_core.proofs.SideLemmas.{side_here}
+use Rattle.tee_core.proofs.SideLemmas.{side_here, sides_kept}
 use Rattle.tee_core.proofs.Still.{counts_still, moments_still}
 use Rattle.tee_core.proofs.Steps.{happened_is, on_err_known}
 use Rattle.tee_core.proofs.tee.TeeOver.call.Goals as goal
@@ -25,6 +25,11 @@ returns-in_err-made-clause-err g c =
     on_err_known c.from_residual.result _ (λ world whole.
     stand_kept g.V.Volume.keeper g.A.Application.behaviour tee.sides.items tee.volume world c.args.app c.index_mut-side.result.now _ c.call.new.self c.requires.known c.index_mut-side.ensures.value
     c.in_err-made.ensures.err whole)
+
+pub returns-in_err-made-clause-same : goal.returns-in_err-made-clause-same
+returns-in_err-made-clause-same g c =
+    on_err_known c.from_residual.result _ (λ world are.
+    sides_kept c.args.self.now.sides.items world c.args.app c.index_mut-side.result.now c.call.new.self _ are c.requires.known c.index_mut-side.ensures.value c.in_err-made.ensures.err)
 
 pub returns-in_err-made-clause-kept : goal.returns-in_err-made-clause-kept
 returns-in_err-made-clause-kept g c = record {
