@@ -112,6 +112,13 @@ module _ (P : ℕ → Type 0) where
           greatest = omega arith;
         }))
 
+  -- calls that write no block
+  pub alone_still : (old new : View) → IsConsistent old → SameBlocks old.state new.state
+      → ((open_at : ℕ → Bool) (base : ℕ → List ℕ) (low high : ℕ) (first : View) → RunsOver open_at base low high first old → RunsOver open_at base low high first new)
+      → LeavesAlone P old new
+  alone_still old new whole same goes =
+      alone_run (λ open_at. Unit {0}) old new whole (λ k is. tt) (λ k is. at same.reads k) (λ open_at base low high first opens run. goes open_at base low high first run)
+
   -- calls that only read
   pub alone_read : (old new : View) → IsConsistent old → OnlyReads old new → LeavesAlone P old new
   alone_read old new whole only =

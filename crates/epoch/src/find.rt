@@ -5,6 +5,7 @@ ghost use Rattle.tee_base.specs.Faults.{Rose};
 ghost use Rattle.board.specs.Moment.{View, IsCounter, moment, left_since};
 ghost use Rattle.board.specs.Runs.{Rests, RunsOver};
 ghost use Rattle.board.specs.Steps.{CallRun, SameBlocks};
+ghost use Rattle.epoch.specs.Alone.{LeavesAlone};
 ghost use Rattle.epoch.specs.Formats.{IsAccepted, accepts};
 ghost use Rattle.epoch.specs.Finding.{Finds, OpensBelow, IsSettledAt, RefusesOlder, sequence_of};
 ghost use Rattle.epoch.specs.Opening.{IsRuled, no_failure, opening_of, opens_as};
@@ -41,6 +42,8 @@ pub fn find_header<B: Board>(board: &mut B, format: Format) -> Result<Option<Hea
     ensures past { B.honest board.old → KeepsPast (B.view board.old) (B.view board.new) }
     ensures blocks { B.honest board.old
         → SameBlocks (B.view board.old).state (B.view board.new).state }
+    ensures alone { B.honest board.old
+        → LeavesAlone (λ k. Unit {0}) (B.view board.old) (B.view board.new) }
     // whatever the board: by the rule over what it tells, at some counter
     ensures rule { IsTrue B.tells_reads → (counter : ℕ) × IsRuled result
         (opens_as (accepts format) format.blocks (B.view board.old).size (B.view board.old).key
@@ -94,6 +97,8 @@ fn raise<B: Board>(
     ensures past { B.honest board.old → KeepsPast (B.view board.old) (B.view board.new) }
     ensures blocks { B.honest board.old
         → SameBlocks (B.view board.old).state (B.view board.new).state }
+    ensures alone { B.honest board.old
+        → LeavesAlone (λ k. Unit {0}) (B.view board.old) (B.view board.new) }
     ensures counter { B.honest board.old → IsSettledAt counter (B.view board.old).state
         → counter ≤ header.sequence → header.sequence ≤ counter + 1
         → IfOk result (λ h. IsSettledAt header.sequence (B.view board.new).state) }

@@ -5,6 +5,7 @@ ghost use Rattle.store_api.specs.Volumes.{Held};
 ghost use Rattle.board.specs.Moment.{IsCounter, IsLeft, Outcome};
 ghost use Rattle.board.specs.Steps.{CallRun, SameBlocks};
 ghost use Rattle.board.specs.declared.fuse.Fuse.TheVariants.{Unset};
+ghost use Rattle.epoch.specs.Alone.{LeavesAlone};
 ghost use Rattle.epoch.specs.Commits.{StaysSettled};
 ghost use Rattle.epoch.specs.Finding.{IsSettledAt, sequence_of};
 ghost use Rattle.epoch.specs.Formats.{IsAccepted, IsFormatOf};
@@ -37,6 +38,8 @@ pub fn mount<B: Board>(board: &mut B, format: Format) -> Result<Option<Header>, 
     ensures writes { (B.view board.new).writes ≡ (B.view board.old).writes }
     ensures blocks { B.honest board.old
         → SameBlocks (B.view board.old).state (B.view board.new).state }
+    ensures alone { B.honest board.old
+        → LeavesAlone (λ k. Unit {0}) (B.view board.old) (B.view board.new) }
     // at Ok the counter is the sequence, and no other is left open
     ensures counter { B.honest board.old
         → IfOk result (λ header. IsSettledAt (sequence_of header) (B.view board.new).state) }

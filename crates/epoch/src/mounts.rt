@@ -1,5 +1,5 @@
 //! A volume on a board: how it is opened, and what happens to its board beside the leaves.
-ghost use Rattle.std.specs.Prelude.{◌≡◌, ◌≢◌, ◌≤◌, ◌↔◌, ◌⊎◌, ℕ, List, true, false, Some, Err, IsTrue, IfOk, IfErr, OnOk, OnErr};
+ghost use Rattle.std.specs.Prelude.{◌≡◌, ◌≢◌, ◌≤◌, ◌<◌, ◌↔◌, ◌⊎◌, ℕ, List, true, false, Some, Err, IsTrue, IfOk, IfErr, OnOk, OnErr};
 ghost use Rattle.tee_base.specs.Faults.{Rose};
 ghost use Rattle.store_api.specs.Volumes.{Held};
 ghost use Rattle.board.specs.Moment.{IsCounter, IsLeft, Outcome};
@@ -7,6 +7,7 @@ ghost use Rattle.board.specs.Runs.{Rests};
 ghost use Rattle.board.specs.Fuse.{refitted};
 ghost use Rattle.board.specs.Steps.{CallRun, Passes, SameBlocks, Unchanged};
 ghost use Rattle.board.specs.declared.fuse.Fuse.TheVariants.{Unset};
+ghost use Rattle.epoch.specs.Alone.{LeavesAlone};
 ghost use Rattle.epoch.specs.Finding.{IsSettledAt};
 ghost use Rattle.epoch.specs.Forms.{Form, Root, held};
 ghost use Rattle.epoch.specs.Mounts.{IsAdmitted, IsAlwaysSound, IsBack, IsFormed, IsKeptFromOpening, IsOpenedTo, IsOrdered, IsRefusal, IsRefusedNow, IsSeenOn, LeavesOpening, OpensAfterPower, OpensAgain, OrderRun, PowerFirst};
@@ -39,6 +40,9 @@ pub trait BoardVolume<B: Board>: Volume + Sized {
     /// What it keeps of the blocks on the ways to its leaves is what an image has.
     ghost keeps: { Self → (ℕ → List ℕ) → Type 0 };
 
+    /// Blocks that it never writes.
+    ghost untouched: { ℕ → Type 0 };
+
     /// Opens a board; one that is blank is formatted.
     ///
     /// # Errors
@@ -60,6 +64,11 @@ pub trait BoardVolume<B: Board>: Volume + Sized {
             → (B.view u.board).writes ≡ (B.view board).writes) }
         ensures unchanged { B.honest board → IfErr result (λ u. u.why ≢ answers.Failed
             → SameBlocks (B.view board).state (B.view u.board).state) }
+        // behind the slots what it never writes stays, at every moment too
+        ensures alone { B.honest board → IfOk result (λ v.
+            LeavesAlone (λ k. (3 < k) × untouched k) (B.view board) (B.view (board_of v))) }
+        ensures alone_back { B.honest board → IfErr result (λ u.
+            LeavesAlone (λ k. (3 < k) × untouched k) (B.view board) (B.view u.board)) }
         // whatever the board: by the rule over what it tells, at some counter
         ensures rule { IsTrue B.tells_reads → (counter : ℕ)
             × IfErr result (λ u. IsRefusal form (B.view board)

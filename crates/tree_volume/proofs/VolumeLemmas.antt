@@ -46,12 +46,16 @@ damage_is view root region leaf r l =
     rw there refl
 
 -- and its bytes
-pub text_is : (view : View) (root : TreeEntry) (region leaf : ℕ) → region < MAX_HOSTS → leaf < 1024
-    → text_of shape (on_image shape view.key view.state.reads) root (shape.leaf_place region leaf) ≡ text_now view root region leaf
+pub leaf_text_is : (key : List ℕ) (image : ℕ → List ℕ) (root : TreeEntry) (region leaf : ℕ) → region < MAX_HOSTS → leaf < 1024
+    → text_of shape (on_image shape key image) root (shape.leaf_place region leaf) ≡ leaves_of tree_form key image (form_root root) region leaf
 unfolding leaves_of
-text_is view root region leaf r l =
+leaf_text_is key image root region leaf r l =
     let there : is_leaf 1024 region leaf ≡ true = leaf_is 1024 region leaf r l in
     rw there refl
+
+pub text_is : (view : View) (root : TreeEntry) (region leaf : ℕ) → region < MAX_HOSTS → leaf < 1024
+    → text_of shape (on_image shape view.key view.state.reads) root (shape.leaf_place region leaf) ≡ text_now view root region leaf
+text_is view root region leaf r l = leaf_text_is view.key view.state.reads root region leaf r l
 
 -- the same key and the same reads show the same damage
 pub damage_same : (old new : View) (root : TreeEntry) → new.key ≡ old.key → new.state.reads ≡ old.state.reads → damage_now new root ≡ damage_now old root

@@ -70,7 +70,7 @@ fn take_in<B: Board>(
 ///
 /// `Mismatch` with the first two tags that differ on the way from the root to the place. `Failed` where a call of the board
 /// failed. `NoMemory`.
-pub fn hold<B: Board>(
+fn hold<B: Board>(
     board: &mut B,
     keys: &Keys,
     kept: &NodeCache,

@@ -17,7 +17,7 @@ mod way;
 mod write;
 
 pub use change::TreeChange;
-pub use gathering::{gather, hold};
+pub use gathering::gather;
 pub use layout::{First, Layout, Written};
 pub use load_place::{find_entry, find_leaf, load, load_node};
 pub use nodes::Nodes;

@@ -5,6 +5,7 @@ ghost use Rattle.store_api.specs.Volumes.{Held};
 ghost use Rattle.board.specs.Moment.{IsCounter};
 ghost use Rattle.board.specs.Runs.{Rests};
 ghost use Rattle.board.specs.Steps.{CallRun, SameBlocks};
+ghost use Rattle.epoch.specs.Alone.{LeavesAlone};
 ghost use Rattle.epoch.specs.Finding.{IsSettledAt, sequence_of};
 ghost use Rattle.epoch.specs.Formats.{IsAccepted};
 ghost use Rattle.epoch.specs.Forms.{held};
@@ -17,6 +18,7 @@ ghost use Rattle.epoch.specs.declared.answer.OpenAnswer.TheVariants as refusals;
 ghost use Rattle.epoch.specs.declared.header.Header.{Header as Kept};
 ghost use Rattle.node_cache.specs.Kept.{HoldsNothing};
 ghost use Rattle.seal.specs.Keys.{AreKeysOf};
+ghost use Rattle.tree_volume.specs.declared.places.TheConstants.{FIRST_BLOCK};
 ghost use Rattle.tree_volume.specs.Form.{form_root, tree_form};
 ghost use Rattle.tree_volume.specs.Keeping.{IsOpen, held_now};
 ghost use Rattle.tree_volume.specs.Soundness.{damage_formed, text_formed};
@@ -52,6 +54,8 @@ fn open_board<B: Board>(alloc: Global, board: &mut B, keys: &Keys) -> Result<Ope
         → IfOk result (λ o. IsSettledAt o.sequence (B.view board.new).state) }
     ensures honest { B.honest board.old → B.honest board.new }
     ensures past { B.honest board.old → KeepsPast (B.view board.old) (B.view board.new) }
+    ensures alone { B.honest board.old → LeavesAlone (λ k. (3 < k) × (k < FIRST_BLOCK))
+        (B.view board.old) (B.view board.new) }
     ensures rule { IsTrue B.tells_reads → (counter : ℕ)
         × IfErr result (λ why. IsRefusal tree_form (B.view board.old)
         (B.view board.old).state.reads counter why)
@@ -95,6 +99,8 @@ fn take_up<B: Board>(
         → SameBlocks (B.view board.old).state (B.view board.new).state) }
     ensures honest { B.honest board.old → B.honest board.new }
     ensures past { B.honest board.old → KeepsPast (B.view board.old) (B.view board.new) }
+    ensures alone { B.honest board.old → LeavesAlone (λ k. (3 < k) × (k < FIRST_BLOCK))
+        (B.view board.old) (B.view board.new) }
     ensures counter { B.honest board.old
         → IsSettledAt (sequence_of found) (B.view board.old).state
         → IfOk result (λ o. IsSettledAt o.sequence (B.view board.new).state) }
@@ -140,6 +146,8 @@ fn format_board<B: Board>(alloc: Global, board: &mut B, keys: &Keys) -> Result<O
         → SameBlocks (B.view board.old).state (B.view board.new).state) }
     ensures honest { B.honest board.old → B.honest board.new }
     ensures past { B.honest board.old → KeepsPast (B.view board.old) (B.view board.new) }
+    ensures alone { B.honest board.old → LeavesAlone (λ k. (3 < k) × (k < FIRST_BLOCK))
+        (B.view board.old) (B.view board.new) }
     ensures opens { B.honest board.old → (h : Held)
         → MountsTo tree_form (B.view board.old).key h (B.view board.old).state None
         → Opens h (after_found None h) result (B.view board.old) (B.view board.new) }
@@ -203,6 +211,8 @@ impl<B: Board + Drop> BoardVolume<B> for TreeVolume<B> {
     ghost root = { λ v. form_root v.root };
 
     ghost keeps = { λ v image. Unit {0} };
+
+    ghost untouched = { λ k. k < FIRST_BLOCK };
 
     ghost formed = { λ v keeps. record {
       damage = λ region leaf r l. damage_formed (B.view v.board) v.root region leaf r l;

@@ -45,7 +45,9 @@ fn is_failed(answer: &Result<u32, VerifyAnswer>) -> bool
     matches!(answer, Err(VerifyAnswer::Failed))
 }
 
-/// Reads what an entry of another sequence than 0 names at a place, verified.
+/// Reads what an entry of another sequence than 0 names at a place, verified. It stands apart, so that the walk holds one
+/// node a level and no more.
+#[inline(never)]
 fn load_right<B: Board, L: Layout>(
     board: &mut B,
     keys: &Keys,

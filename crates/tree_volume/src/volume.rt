@@ -1,5 +1,5 @@
 //! A volume whose entries stand in a tree, on a board.
-ghost use Rattle.std.specs.Prelude.{◌≡◌, ◌≢◌, ◌≤◌, ◌<◌, ◌+◌, ◌-◌, ◌*◌, ◌^◌, true, false, ◌∷◌, ℕ, List, Some, Err, IsTrue, IfOk, OnErr, length, refl};
+ghost use Rattle.std.specs.Prelude.{◌≡◌, ◌≢◌, ◌≤◌, ◌<◌, ◌+◌, ◌-◌, ◌*◌, ◌^◌, true, false, ◌∷◌, ℕ, List, Some, Err, IsTrue, IfOk, OnErr, OnOk, length, refl};
 ghost use Rattle.std.proofs.Common.{arith};
 ghost use Rattle.std.proofs.Props.{props};
 ghost use Rattle.tee_base.specs.Faults.{Rose};
@@ -10,6 +10,7 @@ ghost use Rattle.store_api.specs.declared.leaves.LeafAnswer.TheVariants as answe
 ghost use Rattle.board.specs.Fuse.{burnt};
 ghost use Rattle.board.specs.Steps.{CallRun};
 ghost use Rattle.epoch.specs.Alone.{LeavesAlone};
+ghost use Rattle.epoch.specs.Forms.{is_sealed, leaves_of};
 ghost use Rattle.epoch.specs.Opening.{opening_of};
 ghost use Rattle.epoch.specs.Past.{KeepsPast};
 ghost use Rattle.epoch.specs.Reading.{no_fault};
@@ -20,6 +21,7 @@ ghost use Rattle.tree_volume.specs.declared.places.TheConstants.{FIRST_BLOCK, RE
 ghost use Rattle.tree_volume.specs.Keyed.{AreKeysOf-prop};
 ghost use Rattle.tree_volume.specs.Form.{form_root, tree_form};
 ghost use Rattle.tree_volume.specs.Frame.{form_framed};
+ghost use Rattle.tree_volume.specs.Identify.{ImagesIdentify};
 ghost use Rattle.tree_volume.specs.Kept.{AreKept};
 ghost use Rattle.tree_volume.specs.Shape.{shape};
 ghost use Rattle.tree_volume.specs.Tree.{on_image};
@@ -169,6 +171,14 @@ impl<B: Board + Drop> Volume for TreeVolume<B> {
         requires leaf { leaf < REGION_LEAVES }
         ensures reads { ReadsLeaf tree_keeper region leaf into.new result self.old self.new }
         ensures root { self.new.root ≡ self.old.root }
+        // an Ok is the leaf of each image that the kept root seals, where equal tags come from equal messages
+        ensures identified { IsTrue B.tells_reads → (image : ℕ → List ℕ)
+            → let key = (B.view self.old.board).key in
+            is_sealed tree_form key image (form_root self.old.root) ≡ true
+            → ImagesIdentify shape key (B.view self.old.board).state.reads image self.old.root
+            (shape.leaf_place region leaf)
+            → OnOk result (into.new
+            ≡ leaves_of tree_form key image (form_root self.old.root) region leaf) }
     {
         if self.lost {
             return Err(LeafAnswer::Lost);

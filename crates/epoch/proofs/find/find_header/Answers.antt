@@ -1,3 +1,4 @@
+use Rattle.epoch.proofs.AloneLemmas.{alone_more, alone_none, alone_still}
 use Rattle.epoch.proofs.CallLemmas.{run_as, run_failed, run_more, run_none}
 use Rattle.epoch.proofs.PastLemmas.{itself, followed}
 use Rattle.std.proofs.Common.{◌≡◌, ◌≢◌, ◌≤◌, ◌∙◌, ℕ, List, false, Some, None, Ok, Err, refl, sym, subst, arith, rules}
@@ -144,4 +145,22 @@ returns-clause-accepted g c =
       | in-Ok-Some w ↦
           let e : c.judge.result ≡ Ok (Some w.in-Ok-Some.found) = cc in
           rw w.result-is (accepted_answer c.args.format seen.first seen.second seen.counter w.in-Ok-Some.found w.raise.result (sym c.judge.ensures ∙ e) w.raise.ensures.answer)
+    ]
+
+pub returns-then-blocks-format-clause-alone : goal.returns-then-blocks-format-clause-alone
+returns-then-blocks-format-clause-alone g c h = alone_none _ _ (g.met.B.Board.consistent c.args.board.now h)
+
+pub returns-in_err-seen-clause-alone : goal.returns-in_err-seen-clause-alone
+returns-in_err-seen-clause-alone g c h =
+    alone_still _ _ _ (g.met.B.Board.consistent c.args.board.now h) (c.in_err-seen.ensures.blocks h) (c.in_err-seen.ensures.run h)
+
+pub returns-clause-alone : goal.returns-clause-alone
+returns-clause-alone g c h =
+    let P = λ (k : ℕ). Unit {0} in
+    let one = alone_still P (g.B.Board.view c.args.board.now) (g.B.Board.view c.gather.new.board) (g.met.B.Board.consistent c.args.board.now h) (c.in_ok-seen.ensures.blocks h)
+    (c.in_ok-seen.ensures.run h) in
+    elim c.match-judge.branch [
+      | in-Err w ↦ rw w.board-is one
+      | in-Ok-None w ↦ rw w.board-is one
+      | in-Ok-Some w ↦ rw w.board-is (alone_more P _ _ _ one (w.raise.ensures.alone (c.in_ok-seen.ensures.honest h)))
     ]

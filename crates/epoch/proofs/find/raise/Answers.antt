@@ -1,4 +1,5 @@
 use Rattle.std.proofs.Common.{refl, rules, true, false}
+use Rattle.epoch.proofs.AloneLemmas.{alone_blocks, alone_none}
 use Rattle.epoch.proofs.CallLemmas.{run_failed, run_none, run_once}
 use Rattle.epoch.proofs.PastLemmas.{itself, once}
 use Rattle.epoch.proofs.find.raise.Goals as goal
@@ -26,3 +27,16 @@ returns-then-counter-header-clause-calls g c = run_once true _ _ c.in_ok-_raised
 
 pub returns-clause-calls : goal.returns-clause-calls
 returns-clause-calls g c = run_none _
+
+pub returns-in_err-_raised-clause-alone : goal.returns-in_err-_raised-clause-alone
+returns-in_err-_raised-clause-alone g c h =
+    let told = c.in_err-_raised.ensures.honest h in
+    alone_blocks _ _ _ (g.met.B.Board.consistent c.args.board.now h) told.1 told.2.blocks
+
+pub returns-then-counter-header-clause-alone : goal.returns-then-counter-header-clause-alone
+returns-then-counter-header-clause-alone g c h =
+    let told = c.in_ok-_raised.ensures.honest h in
+    alone_blocks _ _ _ (g.met.B.Board.consistent c.args.board.now h) told.1 told.2.blocks
+
+pub returns-clause-alone : goal.returns-clause-alone
+returns-clause-alone g c h = alone_none _ _ (g.met.B.Board.consistent c.args.board.now h)

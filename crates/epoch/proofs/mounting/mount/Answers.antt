@@ -28,3 +28,6 @@ returns-clause-refusal g c honest =
 pub returns-clause-settled : goal.returns-clause-settled
 returns-clause-settled g c honest =
     settled_blocks (g.B.Board.view c.args.board.now).state (g.B.Board.view c.find_header.new.board).state (c.find_header.ensures.blocks honest)
+
+pub returns-clause-alone : goal.returns-clause-alone
+returns-clause-alone g c honest = c.find_header.ensures.alone honest

@@ -1,5 +1,6 @@
-use Rattle.std.proofs.Common.{[], IfErr, refl, rules, true}
+use Rattle.std.proofs.Common.{◌<◌, ℕ, [], IfErr, refl, rules, true}
 use Rattle.seal.specs.Keys.{AreKeysOf}
+use Rattle.epoch.proofs.AloneLemmas.{alone_none}
 use Rattle.epoch.proofs.CallLemmas.{run_as, run_failed, run_none}
 use Rattle.epoch.specs.Commits.{IsBegun}
 use Rattle.epoch.specs.Mounts.{IsKeptFromOpening}
@@ -65,3 +66,12 @@ returns-clause-calls g c = c.in_ok-root.ensures.calls
 
 pub returns-clause-counter : goal.returns-clause-counter
 returns-clause-counter g c honest settled = c.in_ok-root.ensures.counter honest settled
+
+pub returns-in_err-blank_node-clause-alone : goal.returns-in_err-blank_node-clause-alone
+returns-in_err-blank_node-clause-alone g c h = alone_none (λ (k : ℕ). (3 < k) × (k < 8742)) _ (g.met.B.Board.consistent c.args.board.now h)
+
+pub returns-in_err-root-clause-alone : goal.returns-in_err-root-clause-alone
+returns-in_err-root-clause-alone g c h = c.in_err-root.ensures.alone h
+
+pub returns-clause-alone : goal.returns-clause-alone
+returns-clause-alone g c h = c.in_ok-root.ensures.alone h

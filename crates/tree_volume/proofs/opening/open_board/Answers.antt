@@ -1,4 +1,5 @@
-use Rattle.std.proofs.Common.{◌≡◌, ◌∙◌, ap, Err, rules}
+use Rattle.std.proofs.Common.{◌<◌, ℕ, ◌≡◌, ◌∙◌, ap, Err, rules}
+use Rattle.epoch.proofs.AloneLemmas.{alone_fewer, alone_more}
 use Rattle.epoch.proofs.CallLemmas.{rose_later, run_as, run_more}
 use Rattle.epoch.specs.Opening.{no_failure}
 use Rattle.epoch.proofs.PastLemmas.{followed}
@@ -109,3 +110,12 @@ returns-in_err-found-clause-counter g c honest = not_ok c.from_residual.result _
 
 pub returns-clause-counter : goal.returns-clause-counter
 returns-clause-counter g c honest = c.take_up.ensures.counter (c.in_ok-found.ensures.honest honest) (c.in_ok-found.ensures.counter honest)
+
+pub returns-in_err-found-clause-alone : goal.returns-in_err-found-clause-alone
+returns-in_err-found-clause-alone g c h = alone_fewer (λ (k : ℕ). Unit {0}) (λ (k : ℕ). (3 < k) × (k < 8742)) _ _ (λ k is. tt) (c.in_err-found.ensures.alone h)
+
+pub returns-clause-alone : goal.returns-clause-alone
+returns-clause-alone g c h =
+    alone_more (λ (k : ℕ). (3 < k) × (k < 8742)) _ _ _
+    (alone_fewer (λ (k : ℕ). Unit {0}) (λ (k : ℕ). (3 < k) × (k < 8742)) _ _ (λ k is. tt) (c.in_ok-found.ensures.alone h))
+    (c.take_up.ensures.alone (c.in_ok-found.ensures.honest h))

@@ -1,4 +1,5 @@
-use Rattle.std.proofs.Common.{ℕ, Option, sym, subst}
+use Rattle.std.proofs.Common.{◌<◌, ℕ, Option, sym, subst}
+use Rattle.epoch.proofs.AloneLemmas.{alone_none}
 use Rattle.epoch.specs.Finding.{IsSettledAt, sequence_of}
 use Rattle.epoch.specs.declared.header.Header.{Header}
 use Rattle.epoch.proofs.CallLemmas.{run_none}
@@ -48,3 +49,9 @@ returns-in-Some-clause-counter g c honest settled =
 pub returns-in-None-clause-counter : goal.returns-in-None-clause-counter
 returns-in-None-clause-counter g c honest settled =
     c.format_board.ensures.counter honest (subst (λ (f : Option Header). IsSettledAt (sequence_of f) (g.B.Board.view c.args.board.now).state) c.in-None.is settled)
+
+pub returns-in-Some-clause-alone : goal.returns-in-Some-clause-alone
+returns-in-Some-clause-alone g c h = alone_none (λ (k : ℕ). (3 < k) × (k < 8742)) _ (g.met.B.Board.consistent c.args.board.now h)
+
+pub returns-in-None-clause-alone : goal.returns-in-None-clause-alone
+returns-in-None-clause-alone g c h = c.format_board.ensures.alone h

@@ -1,4 +1,5 @@
-use Rattle.std.proofs.Common.{inl, inr, refl, sym, subst, arith}
+use Rattle.std.proofs.Common.{◌<◌, ℕ, inl, inr, refl, sym, subst, arith}
+use Rattle.epoch.proofs.AloneLemmas.{alone_none}
 use Rattle.epoch.specs.Mounting.{after_opening}
 use Rattle.epoch.specs.Mounts.{IsOpenedTo}
 use Rattle.epoch.proofs.CallLemmas.{run_none}
@@ -52,3 +53,12 @@ returns-in_default-clause-exact g c honest =
 
 pub returns-in_default-clause-unopened : goal.returns-in_default-clause-unopened
 returns-in_default-clause-unopened g c honest n h rests large is = (inr refl, leaves_resting tree_form (g.B.Board.view c.args.board) n h rests is)
+
+pub returns-in_default-clause-alone_back : goal.returns-in_default-clause-alone_back
+returns-in_default-clause-alone_back g c honest = alone_none (λ (k : ℕ). (3 < k) × (k < 8742)) _ (g.met.B.Board.consistent c.args.board honest)
+
+pub returns-in-Ok-open_board-clause-alone : goal.returns-in-Ok-open_board-clause-alone
+returns-in-Ok-open_board-clause-alone g c honest = c.in-Ok-open_board.ensures.alone honest
+
+pub returns-in-Err-clause-alone_back : goal.returns-in-Err-clause-alone_back
+returns-in-Err-clause-alone_back g c honest = c.in-Err.ensures.alone honest

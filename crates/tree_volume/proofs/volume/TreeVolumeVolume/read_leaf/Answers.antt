@@ -9,7 +9,8 @@ use Rattle.tree_volume.specs.Form.{form_root, tree_form}
 use Rattle.tree_volume.specs.Frame.{form_framed}
 use Rattle.tree_volume.specs.Keeping.{held_now}
 use Rattle.tree_volume.specs.Soundness.{sound_open}
-use Rattle.tree_volume.proofs.VolumeLemmas.{damage_is, damage_same, text_is, text_same}
+use Rattle.epoch.proofs.CommitLemmas.{sealed_each}
+use Rattle.tree_volume.proofs.VolumeLemmas.{damage_is, damage_same, leaf_text_is, text_is, text_same}
 use Rattle.tree_volume.proofs.volume.TreeVolumeVolume.read_leaf.Goals as goal
 
 pub returns-in-Ok-clause-reads : goal.returns-in-Ok-clause-reads
@@ -89,3 +90,12 @@ returns-in-Err-clause-reads g c =
           (λ o. ap (λ (k : List ℕ). held_of tree_form k o) told.calls.key)
           (crash_read tree_form form_framed v w (form_root old.root) old.sequence (h.1 live) told.calls.key (told.honest h.0).1);
     }
+
+pub returns-in-Ok-clause-identified : goal.returns-in-Ok-clause-identified
+returns-in-Ok-clause-identified g c tells image sealed identify =
+    let old = c.args.self.now in
+    let v = g.B.Board.view old.board in
+    let keyed : AreKeysOf old.keys v.key = old.keyed in
+    let small : c.args.leaf < 1024 = c.requires.leaf in
+    c.in-Ok.ensures.kept tells v.key keyed (old.cached tells) image (sealed_each tree_form v.key (form_root old.root) image sealed c.args.region c.args.leaf c.requires.region small) identify
+    ∙ leaf_text_is v.key image old.root c.args.region c.args.leaf c.requires.region small
