@@ -15,11 +15,15 @@ pub(crate) fn number_at(bytes: &[u8], at: usize) -> u32
     u32::from_le_bytes(piece)
 }
 
-/// Whether all bytes are zero.
+/// Whether all bytes are zero. It goes on behind one that isn't, since many are looked at at a time so.
 pub(crate) fn all_zero(bytes: &[u8]) -> bool
     ensures { result ≡ are_zero bytes.now }
 {
-    bytes.iter().all(|byte| *byte == 0)
+    let mut zero = true;
+    for byte in bytes {
+        zero &= *byte == 0;
+    }
+    zero
 }
 
 /// Puts bytes into a leaf at a place.

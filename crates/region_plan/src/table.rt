@@ -54,6 +54,7 @@ fn read_map_leaf<L: LeafSource>(
 /// Reads the map.
 fn read_map<L: LeafSource>(from: &mut L, form: Form, map: &mut Map) -> Result<(), StoreAnswer>
     requires fits { (layout form).leaves ≤ L.keeper.leaves }
+    requires works { (L.keeper.condition from.old).lost ≡ false }
     requires free { (i : ℕ) → (entries_in map.old i).inode < (layout form).leaves }
     ensures map { IsTrue L.keeper.tells_reads → OnOk result
         (IsMapOf (layout form) (leaves_of L.keeper L.region from.old) map.new) }
@@ -64,8 +65,7 @@ fn read_map<L: LeafSource>(from: &mut L, form: Form, map: &mut Map) -> Result<()
     ensures unread { IsUnread (refusal_of result) }
     ensures reads { ReadsOnly L.keeper L.region (refusal_of result) from.old from.new }
 {
-    read_map_leaf(from, form, 0, map)?;
-    for leaf in 1..form.map_leaves() {
+    for leaf in 0..form.map_leaves() {
         read_map_leaf(from, form, leaf, map)?;
     }
     Ok(())
@@ -183,6 +183,7 @@ pub(crate) fn load<L: LeafSource>(
     map: &mut Map,
 ) -> Result<Inodes, StoreAnswer>
     requires fits { (layout form).leaves ≤ L.keeper.leaves }
+    requires works { (L.keeper.condition from.old).lost ≡ false }
     requires free { (i : ℕ) → (entries_in map.old i).inode < (layout form).leaves }
     ensures map { IsTrue L.keeper.tells_reads → OnOk result
         (IsMapOf (layout form) (leaves_of L.keeper L.region from.old) map.new) }
