@@ -1,8 +1,11 @@
 -- The bytes of a leaf, as the code takes them.
 use Rattle.std.proofs.Common.{◌≡◌, ℕ, zero, suc, ◌+◌, ◌-◌, ◌*◌, ◌<◌, ◌≤◌, min, Bool, true, false, List, [], ◌∷◌, length, get_or, take, drop, length-drop, refl, sym, ◌∙◌, ap, subst, arith, nat_le}
-use Rattle.std.specs.Prelude.{◌&&◌}
+use Rattle.std.specs.Prelude.{◌&&◌, ◌==◌}
+use Rattle.std.specs.Cmp.{both_ways}
+use Rattle.std.specs.Int.Bits.{bit_or}
+use Rattle.std.proofs.lemmas.Nat.{le_or_l, le_or_r}
 use Rattle.std.proofs.lemmas.List.{drop_all}
-use Rattle.std.proofs.lemmas.Bool.{leb-false, leb-true, le-leb, lt-leb, and_left, and_right}
+use Rattle.std.proofs.lemmas.Bool.{eqb-true, leb-false, leb-true, le-leb, lt-leb, and_left, and_right}
 use Rattle.region_plan.specs.Parts.{part, are_zero}
 use Rattle.region_plan.specs.Inodes.{is_inode_leaf}
 
@@ -68,3 +71,24 @@ leaf_rules bytes id secret result a b c d long is_id is_secret short_id short_se
   where
     both_pass : (x y z : Bool) → x ≡ true → y ≡ true → (x && (y && z)) ≡ z
     both_pass x y z p q = ap (λ u. u && (y && z)) p ∙ ap (λ u. u && z) q
+
+-- no bit of either number
+pub or_zero : (a b : ℕ) → (bit_or a b == 0) ≡ ((a == 0) && (b == 0))
+or_zero a b =
+    both_ways (bit_or a b == 0) ((a == 0) && (b == 0))
+    (λ none.
+    let e : bit_or a b ≡ 0 = eqb-true (bit_or a b) 0 none in
+    let left = le_or_l a b in
+    let right = le_or_r a b in
+    let first : a ≡ 0 = omega (arith, e, left) in
+    let second : b ≡ 0 = omega (arith, e, right) in
+    ap (λ (n : ℕ). (n == 0) && (b == 0)) first ∙ ap (λ (n : ℕ). n == 0) second)
+    (λ both.
+    let parts = and_two (a == 0) (b == 0) both in
+    let first : a ≡ 0 = eqb-true a 0 parts.0 in
+    let second : b ≡ 0 = eqb-true b 0 parts.1 in
+    ap (λ (n : ℕ). bit_or n b == 0) first ∙ ap (λ (n : ℕ). bit_or 0 n == 0) second)
+  where
+    and_two : (x y : Bool) → (x && y) ≡ true → (x ≡ true) × (y ≡ true)
+    and_two true y e = (refl, e)
+    and_two false y e = absurd (let f : false ≡ true = e in cc)

@@ -19,11 +19,11 @@ pub(crate) fn number_at(bytes: &[u8], at: usize) -> u32
 pub(crate) fn all_zero(bytes: &[u8]) -> bool
     ensures { result ≡ are_zero bytes.now }
 {
-    let mut zero = true;
+    let mut bits = 0;
     for byte in bytes {
-        zero &= *byte == 0;
+        bits |= *byte;
     }
-    zero
+    bits == 0
 }
 
 /// Puts bytes into a leaf at a place.

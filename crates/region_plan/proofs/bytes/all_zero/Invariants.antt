@@ -1,7 +1,8 @@
 use Rattle.std.proofs.Common.{◌≡◌, take}
+use Rattle.std.specs.Prelude.{◌==◌}
 use Rattle.region_plan.specs.Parts.{are_zero}
 use Rattle.region_plan.proofs.bytes.all_zero.Given as goal
 
--- whether the bytes so far are zero
+-- the bits of the bytes so far
 abbrev pub invariant-loop-byte : goal.invariant-loop-byte
-invariant-loop-byte l = l.zero ≡ are_zero (take l.byte-index l.bytes)
+invariant-loop-byte l = (l.bits == 0) ≡ are_zero (take l.byte-index l.bytes)
