@@ -1,6 +1,7 @@
 -- The printed lines.
 use Rattle.std.specs.Prelude.{ℕ, List, [], ◌++◌, codes}
 use Rattle.std.specs.Fmt.{decimal}
+use Rattle.std.specs.List.{flat_map}
 use Rattle.std.specs.Int.{w32, to_be_bytes}
 use Rattle.hex.specs.Hex.{encode_lower}
 use Rattle.tee_base.specs.Codes.{number_of}
@@ -55,3 +56,13 @@ abbrev pub power_text : List ℕ → Power → List ℕ
 power_text name Clean = codes "board power clean\n"
 power_text name (Kept app) = codes "board power kept " ++ name ++ codes "\n"
 power_text name (Absent app) = codes "board power absent " ++ name ++ codes "\n"
+
+-- how often a code comes
+abbrev pub count_text : ℕ × ℕ → List ℕ
+count_text counted = codes "code " ++ code_text (record { 0 = counted.0 }) ++ codes " " ++ decimal counted.1 ++ codes "\n"
+
+-- the summary of a run of so many lines: the hash of the script, that of what was written, and how often each code comes
+abbrev pub summary_text : ℕ → List ℕ → List ℕ → List (ℕ × ℕ) → List ℕ
+summary_text lines script replies counts =
+    codes "lines " ++ decimal lines ++ codes "\nscript " ++ encode_lower script ++ codes "\nreplies " ++ encode_lower replies ++ codes "\n"
+    ++ flat_map count_text counts

@@ -6,10 +6,12 @@ ghost use Rattle.std.specs.Fmt.{decimal};
 ghost use Rattle.report.specs.Texts.{happened_text, power_text, reply_text};
 
 mod line;
+mod summary;
 
 use alone::{Outputs, Power, Reply, Shown, TurnKind};
 pub use line::LineBuffer;
 use std::alloc::Global;
+pub use summary::summary_lines;
 use tee_base::{Bytes, NoMemory};
 
 impl LineBuffer {

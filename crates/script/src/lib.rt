@@ -19,4 +19,5 @@ pub use dialect::Dialect;
 pub use generated::workload;
 pub use laws::{fronts_are_read, one_reading, print_reads_back, workloads_are_read};
 pub use line::Line;
+pub use number::read_number;
 pub use script::{Script, ScriptAnswer, parse, parse_in};

@@ -1,10 +1,19 @@
 //! Numbers in decimal digits.
 
-ghost use Rattle.std.specs.Prelude.{◌≡◌, ◌≤◌, IfOk};
+ghost use Rattle.std.specs.Prelude.{◌≡◌, ◌<◌, ◌≤◌, ◌^◌, ◌↔◌, ℕ, IfOk};
 ghost use Rattle.script.specs.Numbers.{digits_on, fitting, number_of, number32_of, within};
 ghost use Rattle.script.specs.Parameters.{Gives};
+ghost use Rattle.script.specs.Words.{IsNumber};
 
 use crate::words::LineError;
+
+/// The number below 2^64 that a word is, as a line of a script has one: in decimal digits without a sign. There may be zeros before
+/// it.
+pub fn read_number(word: &[u8]) -> Option<u64>
+    ensures { (n : ℕ) → (result ≡ Some n) ↔ (IsNumber word.now n × (n < 2 ^ 64)) }
+{
+    number(word)
+}
 
 /// The value of decimal digits without a sign, below 2^64. There may be zeros before it.
 #[tactic(auto, unfolding(crate::specs::Numbers::number_of))]
