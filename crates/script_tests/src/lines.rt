@@ -171,11 +171,7 @@ const CUT: [&[u8]; 2] = [
 ];
 
 /// Whether the text reads, or its last line alone is outside the grammar.
-fn reads_up_to_its_last_line(
-    alloc: Global,
-    hosts: &[Host<Idle>],
-    text: &[u8],
-) -> Result<bool, Fail>
+fn reads_up_to_its_last_line(alloc: Global, hosts: &[Host<Idle>], text: &[u8]) -> Result<bool, Fail>
     requires { HostsFit hosts.now }
 {
     match parse(alloc, text, hosts) {
