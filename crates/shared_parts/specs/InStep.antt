@@ -78,7 +78,8 @@ pub record IsPosted {A : Type 0} (m : Machine A) (client : ℕ) (call : Call) (p
   pub op : posted.op ≡ m.queue.next
   pub instance : posted.instance ≡ (called m client call).instance
 
--- why a call is refused that brings so many bytes: the log has no place for them, or there is no memory
+-- why a log refuses a call that brings so many bytes: it has no place for them, or there is no memory
 abbrev pub IsRefusal : SharedAnswer → List Logged → ℕ → Type 0
+IsRefusal (answers.Busy busy) log bytes = ⊥
 IsRefusal answers.LogFull log bytes = is_full log bytes ≡ true
 IsRefusal answers.NoMemory log bytes = Unit {0}

@@ -1,1 +1,3 @@
 pub mod InStep
+pub mod StorageParts
+pub mod StorageTurns

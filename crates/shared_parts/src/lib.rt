@@ -1,5 +1,4 @@
-//! What the cells of a runtime with threads hold. So far: an application beside its log, and the events that leave the storage
-//! alone, each of them with its entry.
+//! What the cells of a runtime with threads hold: an application beside its log, and the storage that applications share.
 //!
 //! The log of such an application is legal, the application represents the machine that the log leads to, and all that lives in
 //! it has its place in the log.
@@ -7,5 +6,8 @@
 
 mod recorded;
 mod recording;
+mod storage;
+mod storing;
 
 pub use recorded::{Posted, Recorded, SharedAnswer};
+pub use storage::{Loss, SeenEntry, SeenPart, Storage};

@@ -3,6 +3,7 @@
 use alone::AppLog;
 use app_side::AppSide;
 use thiserror::Error;
+use turn_cell::Busy;
 
 /// A running application, and the log of what happened to it. Each of its calls keeps them in step; whoever changes one of them
 /// by itself has to do the same.
@@ -22,6 +23,9 @@ pub struct Posted {
 /// Why a call isn't made. It changes no entry, no application and no store then.
 #[derive(Clone, Copy, Debug, PartialEq, Eq, Error)]
 pub enum SharedAnswer {
+    /// The application's cell or the storage's was taken, as one try found.
+    #[error("cell {} is taken", .0.cell)]
+    Busy(Busy),
     /// The log holds as many entries or bytes as it may.
     #[error("the log is full")]
     LogFull,

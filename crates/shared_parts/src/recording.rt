@@ -7,8 +7,8 @@ ghost use Rattle.alone.specs.Logs.{Adds, bytes_in, bytes_of_call, entry, is_full
 ghost use Rattle.alone.specs.Machine.{Machine};
 ghost use Rattle.alone.specs.Step.{Called, Cancelled, Lost, needs_store};
 ghost use Rattle.app_side.specs.Represents.{Represents, event_of, is_lost, turns_of};
-ghost use Rattle.app_side.specs.Storeless.{wants_store};
-ghost use Rattle.shared_parts.specs.InStep.{GoesInStep, HasGrown, IsKeptBy, IsPosted, IsRefusal, IsReserved, KnowsLoss, StaysInStep, part_of};
+ghost use Rattle.app_side.specs.Storeless.{IsStoreless, wants_store};
+ghost use Rattle.shared_parts.specs.InStep.{GoesInStep, HasGrown, HasPart, IsKeptBy, IsPosted, IsRefusal, IsReserved, KnowsLoss, StaysInStep, StoragePart, part_of};
 
 use crate::recorded::{Posted, Recorded, SharedAnswer};
 use alone::{AppLog, Call, LogEntry, LogEvent, REPLIES, Replies, Reply, TurnKind, call_bytes};
@@ -24,7 +24,7 @@ const MOST_ALIVE: usize = 1 << 16;
 const MOST_TURNS: u64 = 1 << 63;
 
 /// What the log tells of a turn of this kind.
-fn turn_event(kind: TurnKind, instance: u8) -> LogEvent
+pub(crate) fn turn_event(kind: TurnKind, instance: u8) -> LogEvent
     ensures { (client : ℕ) → event_by client result ≡ event_of kind instance }
 {
     match kind {
@@ -166,6 +166,7 @@ impl<A: Application> Recorded<A> {
         ensures log { HasGrown self.old.log self.new.log }
         ensures few { OnOk result (turns_of self.new.side < 2 ^ 63) }
         ensures reserved { OnOk result (IsReserved 4 self.new.side self.new.log) }
+        ensures room { OnOk result (is_full self.old.log.entries 0 ≡ false) }
         ensures err { IfErr result (λ why. IsRefusal why self.old.log.entries 0) }
     {
         if self.log.is_full(0) {
@@ -198,6 +199,7 @@ impl<A: Application> Recorded<A> {
             self.new.side self.new.log }
         ensures adds { Adds client (event_of result instance)
             self.old.log.entries self.new.log.entries }
+        ensures kind { IsStoreless result }
     {
         let made = self.side.turn_without_store(instance);
         made.replies.bounds();
@@ -213,9 +215,12 @@ impl<A: Application> Recorded<A> {
         ensures kept { StaysInStep A.behaviour self.old.side self.old.log
             self.new.side self.new.log }
         ensures found { (self.new.log.entries ≡ self.old.log.entries)
-            ⊎ (self.new.log.entries ≡ self.old.log.entries ++ entry client Lost [] ∷ []) }
+            ⊎ ((lost ≡ true)
+            × (self.new.log.entries ≡ self.old.log.entries ++ entry client Lost [] ∷ [])) }
         ensures reserved { IsReserved 3 self.new.side self.new.log }
         ensures state { KnowsLoss lost self.old.side self.new.side }
+        ensures part { (own : StoragePart) → HasPart self.old.side own
+            → HasPart self.new.side own }
     {
         if !lost {
             return;
