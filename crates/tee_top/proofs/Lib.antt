@@ -3,6 +3,7 @@ pub mod Alike
 pub mod Along
 pub mod Apart
 pub mod Calls
+pub mod Calm
 pub mod Ended
 pub mod Known
 pub mod Layers
@@ -19,6 +20,7 @@ pub mod Powers
 pub mod Refusals
 pub mod Served
 pub mod Single
+pub mod Summed
 pub mod Texts
 pub mod Turns
 pub mod Under

@@ -43,7 +43,7 @@ lacks_at front body line none =
     let begins : begins_with front line ≡ true = (starts_is Decides-eqb line front (begins_with front line) refl).1 body same in
     let e : false ≡ true = sym none ∙ begins in cc)
 
-lacks_line : (front body : List ℕ) (text : List (List ℕ)) → AllByRecursion (λ line. begins_with front line ≡ false) text
+pub lacks_line : (front body : List ℕ) (text : List (List ℕ)) → AllByRecursion (λ line. begins_with front line ≡ false) text
     → list_any (λ whole. bytes_eq (whole ++ codes "\n") (front ++ body ++ codes "\n")) text ≡ false
 lacks_line front body [] none = refl
 lacks_line front body (line ∷ text) none =

@@ -1,5 +1,6 @@
 pub mod BoardLines
 pub mod Boards
+pub mod Generated
 pub mod Isolation
 pub mod Layers
 pub mod Logs

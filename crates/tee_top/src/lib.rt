@@ -2,6 +2,7 @@
 #![tactic(auto)]
 
 mod blank;
+mod generated;
 mod isolation;
 mod lines;
 mod output;

@@ -14,8 +14,11 @@ ghost use Rattle.tee_core.specs.InUse.{form_in_use};
 ghost use Rattle.tee_core.specs.World.{world_of};
 ghost use Rattle.tee_top.specs.Boards.{BeginsWith, FailsAtFirst, FailsAtPower, HasFirstOrders, HasOpened, HasOrders, HasPower, IsRefusedAt, IsRefusedByRule, IsRuleAnswer, LeavesStores, WritesLosses, orders_of};
 ghost use Rattle.epoch.specs.declared.answer.OpenAnswer.{OpenAnswer as OpenRefusal};
+ghost use Rattle.tee_top.specs.Generated.{AreCommandWords, AreGenWords, RunsGenerated};
+ghost use Rattle.script.specs.Workload.{workload_of};
 ghost use Rattle.tee_top.specs.Runs.{AreRunWords, IsKnown, IsServed, IsStopped, IsUnopened, IsUnrun, IsReadStatus, ReadsTo, IsBadAt, IsOfScript, IsReadable, IsText, IsBadText, IsTooMuch, IsWithin, ended_as, refusal_of, stopped_as, RunsFront, RunsToPower, RunsWhole};
 
+use crate::generated::{gen_number, run_generated};
 use crate::lines::{Stop, run_lines};
 use crate::status::Status;
 use app_api::{Application, Host};
@@ -119,7 +122,7 @@ fn run_status(run: Result<(), Stop>) -> Status
 }
 
 /// Runs the lines for these hosts over the objects of a board, and hands it back.
-fn serve<B: Board, V: BoardVolume<B>, W: Sink, A: Application>(
+pub fn serve<B: Board, V: BoardVolume<B>, W: Sink, A: Application>(
     alloc: Global,
     lines: Vec<Line>,
     sink: &mut W,
@@ -199,34 +202,38 @@ pub fn run_tee<S: Source, W: Sink, B: Board + Drop, A: Application>(
 ) -> (Status, B)
     requires { HostsFit hosts.items }
     // what is written: on a sound board the text of the script, or of its first events, and on each board of lost turns
-    ensures written { result.0 ≡ Status.Done → B.honest board → (stores : ℕ → Store)
+    ensures written { AreRunWords words.now → result.0 ≡ Status.Done
+        → B.honest board → (stores : ℕ → Store)
         → BeginsWith form_in_use (B.view board) (length hosts.items) stores
         → IsOfScript hosts.items (S.left source.old) (λ script.
         RunsWhole A.behaviour form_in_use hosts.items seed stores script
         (B.view board) (B.view result.1) (W.written sink.old) (W.written sink.new)) }
-    ensures cut_short { result.0 ≡ Status.WriteFault → B.honest board → (stores : ℕ → Store)
+    ensures cut_short { AreRunWords words.now → result.0 ≡ Status.WriteFault
+        → B.honest board → (stores : ℕ → Store)
         → BeginsWith form_in_use (B.view board) (length hosts.items) stores
         → IsOfScript hosts.items (S.left source.old) (λ script.
         RunsFront A.behaviour form_in_use hosts.items seed stores script (B.view result.1)
         (W.written sink.old) (W.written sink.new)) }
-    ensures no_memory { result.0 ≡ Status.NoMemory → B.honest board → (stores : ℕ → Store)
+    ensures no_memory { AreRunWords words.now → result.0 ≡ Status.NoMemory
+        → B.honest board → (stores : ℕ → Store)
         → BeginsWith form_in_use (B.view board) (length hosts.items) stores
         → ((sink.new ≡ sink.old) × (result.1 ≡ board))
         ⊎ IsOfScript hosts.items (S.left source.old) (λ script.
         RunsFront A.behaviour form_in_use hosts.items seed stores script (B.view result.1)
         (W.written sink.old) (W.written sink.new)) }
-    ensures losses { result.0 ≡ Status.Done
+    ensures losses { AreRunWords words.now → result.0 ≡ Status.Done
         → WritesLosses (W.written sink.old) (W.written sink.new) (B.view board) (B.view result.1) }
     // how the board ends: which opening failed, and which refusal is the rule's, on a sound board, an honest one, one that tells its
     // reads, and on each; and which orders were made
-    ensures board_fault { result.0 ≡ Status.BoardFault → B.honest board → (stores : ℕ → Store)
+    ensures board_fault { AreRunWords words.now → result.0 ≡ Status.BoardFault
+        → B.honest board → (stores : ℕ → Store)
         → BeginsWith form_in_use (B.view board) (length hosts.items) stores
         → ((sink.new ≡ sink.old) × LeavesStores form_in_use (B.view result.1)
         (world_of hosts.items seed stores))
         ⊎ IsOfScript hosts.items (S.left source.old) (λ script.
         RunsToPower A.behaviour form_in_use hosts.items seed stores script
         (B.view board) (B.view result.1) (W.written sink.old) (W.written sink.new)) }
-    ensures cause { result.0 ≡ Status.BoardFault
+    ensures cause { AreRunWords words.now → result.0 ≡ Status.BoardFault
         → ((sink.new ≡ sink.old) × FailsAtFirst (B.view board) (B.view result.1))
         ⊎ IsOfScript hosts.items (S.left source.old) (λ script.
         FailsAtPower script (B.view board) (B.view result.1)) }
@@ -235,21 +242,30 @@ pub fn run_tee<S: Source, W: Sink, B: Board + Drop, A: Application>(
         → BeginsWith form_in_use (B.view board) (length hosts.items) stores → ⊥ }
     ensures refusal { (why : OpenRefusal) → result.0 ≡ Status.StoreRefused why → B.honest board
         → IsRefusedByRule form_in_use (B.view result.1) why }
-    ensures refused { (why : OpenRefusal) → result.0 ≡ Status.StoreRefused why → B.honest board
+    ensures refused { AreRunWords words.now
+        → (why : OpenRefusal) → result.0 ≡ Status.StoreRefused why → B.honest board
         → ((sink.new ≡ sink.old) × IsRefusedByRule form_in_use (B.view board) why)
         ⊎ IsOfScript hosts.items (S.left source.old) (λ script. HasPower script) }
-    ensures rule { (why : OpenRefusal) → result.0 ≡ Status.StoreRefused why → IsTrue B.tells_reads
+    ensures rule { AreRunWords words.now
+        → (why : OpenRefusal) → result.0 ≡ Status.StoreRefused why → IsTrue B.tells_reads
         → ((sink.new ≡ sink.old)
         × (counter : ℕ) × IsRefusedAt form_in_use (B.view board) counter why)
         ⊎ IsOfScript hosts.items (S.left source.old) (λ script. HasPower script) }
     ensures answer { (why : OpenRefusal) → result.0 ≡ Status.StoreRefused why → IsRuleAnswer why }
     ensures opened { B.honest board → ((sink.new ≡ sink.old) × IsUnopened result.0)
         ⊎ HasOpened form_in_use (B.view board) }
-    ensures orders { result.0 ≡ Status.Done → IsOfScript hosts.items (S.left source.old) (λ script.
+    ensures orders { AreRunWords words.now → result.0 ≡ Status.Done
+        → IsOfScript hosts.items (S.left source.old) (λ script.
         HasOrders (orders_of script) (B.view board) (B.view result.1)) }
-    ensures first_orders { (result.1 ≡ board)
+    ensures first_orders { AreRunWords words.now → (result.1 ≡ board)
         ⊎ IsOfScript hosts.items (S.left source.old) (λ script.
         HasFirstOrders script (B.view board) (B.view result.1)) }
+    // the words of a workload: its summary in place of the replies, where the summary isn't written why, and no order
+    ensures generated { (number : ℕ) → AreGenWords words.now number
+        → RunsGenerated A.behaviour form_in_use hosts.items seed
+        (workload_of number (length hosts.items)) result.0 (sink.new ≡ sink.old) (B.honest board)
+        B.tells_reads (B.view board) (B.view result.1) (W.written sink.old) (W.written sink.new)
+        (W.failures sink.old) (W.failures sink.new) }
     // when each status comes
     ensures complete { (text : List ℕ) (script : List Line) (stores : ℕ → Store)
         → IsReadable words.now (S.left source.old) text (S.failures source.old)
@@ -259,7 +275,7 @@ pub fn run_tee<S: Source, W: Sink, B: Board + Drop, A: Application>(
         → ¬ Rose (B.view board).state.faults (B.view result.1).state.faults
         → IsText hosts.items text script
         → (result.0 ≡ Status.Done) ⊎ (result.0 ≡ Status.NoMemory) }
-    ensures bad_words { (result.0 ≡ Status.BadWords) ↔ ¬ AreRunWords words.now }
+    ensures bad_words { (result.0 ≡ Status.BadWords) ↔ ¬ AreCommandWords words.now }
     ensures bad_line { (n : ℕ) → result.0 ≡ Status.BadLine n
         → IsBadAt hosts.items (S.left source.old) n × IsAtEnd (S.left source.new) }
     ensures each_bad_line { (text : List ℕ) (n : ℕ)
@@ -278,16 +294,20 @@ pub fn run_tee<S: Source, W: Sink, B: Board + Drop, A: Application>(
     ensures write_fault { result.0 ≡ Status.WriteFault
         → Rose (W.failures sink.old) (W.failures sink.new) }
     // what is read, and what is left alone
-    ensures done { result.0 ≡ Status.Done → IsAtEnd (S.left source.new) }
+    ensures done { AreRunWords words.now → result.0 ≡ Status.Done
+        → IsAtEnd (S.left source.new) }
     ensures consumed { ConsumesWithin (MAX_SCRIPT_BYTES + 1)
         (S.left source.old) (S.left source.new) }
     ensures unfailed { result.0 ≡ Status.TooLong → S.failures source.new ≡ S.failures source.old }
-    ensures unread { result.0 ≡ Status.BadWords → source.new ≡ source.old }
+    ensures unread { ¬ AreRunWords words.now → source.new ≡ source.old }
     ensures unwritten { IsUnrun result.0 → sink.new ≡ sink.old }
     ensures unused { IsUnrun result.0 → result.1 ≡ board }
 {
     if !are_run_words(words) {
-        return (Status::BadWords, board);
+        let Some(number) = gen_number(words) else {
+            return (Status::BadWords, board);
+        };
+        return run_generated::<B, VolumeInUse<B>, W, A>(alloc, number, sink, board, hosts, seed);
     }
     let lines = match read_lines(alloc, source, hosts.as_slice()) {
         Ok(lines) => lines,

@@ -24,6 +24,8 @@ usage: teectl run       run the script on standard input over an empty board in 
                         replies to standard output
        teectl run IMAGE run it over the board of the files IMAGE, IMAGE.ctr and IMAGE.key, which keeps
                         the applications' objects
+       teectl gen N     run the workload of number N, 2,000 generated lines, over an empty board in memory,
+                        and write a summary
        teectl --help    print this text
        teectl --version print the version
 

@@ -1,5 +1,6 @@
 //! Whole scripts, from bytes to bytes.
 
+mod generated;
 mod over_boards;
 
 ghost use Rattle.app_api.specs.Hosts.{HostsFit};
