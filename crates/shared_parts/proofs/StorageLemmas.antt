@@ -78,7 +78,7 @@ exact : {A : Type 0} (side : AppSide A) (m : Machine A) (store : Store) → Repr
 exact {A} side m store stands same none =
     let doubt = ap (λ (x : Machine A). x.in_doubt) stands.parts in
     stands.parts ∙ ap (λ (s : Store). over s (if side.in_doubt then Some stands.doubt else None) (machine_of side)) same
-        ∙ ap (λ (d : Option Store). over store d (machine_of side)) (sym doubt ∙ none)
+    ∙ ap (λ (d : Option Store). over store d (machine_of side)) (sym doubt ∙ none)
 
 -- a turn that didn't lose the storage leaves the change in doubt
 doubt_stays : {A : Type 0} (behaviour : Behaviour A) (kind : TurnKind) (m : Machine A) (i : ℕ) → ((changes : Bool) → kind ≢ kinds.Lost changes) →
@@ -117,7 +117,7 @@ module _ {V A : Type 0} (K : VolumeKeeper V) (behaviour : Behaviour A) where
   parts_lost_behind loss k [] behind = refl
   parts_lost_behind loss k (s ∷ seen) behind =
       ap (λ (d : Option Store). (let p : StoragePart = record { store = store_in k (K.held s); in_doubt = d } in p) ∷ parts_from K behaviour (Some loss) (k + 1) seen)
-          (none_beside loss k (ne_eqb loss.app k (λ same. absurd (omega (arith, behind, same)))))
+      (none_beside loss k (ne_eqb loss.app k (λ same. absurd (omega (arith, behind, same)))))
       ∙ ap (λ ps. part_by K behaviour None k s ∷ ps) (parts_lost_behind loss (k + 1) seen (omega (arith, behind)))
 
   pub parts_lost_set : (loss : Loss V A) (k i : ℕ) (seen : List V) (v : V) → k + i ≡ loss.app
@@ -129,7 +129,7 @@ module _ {V A : Type 0} (K : VolumeKeeper V) (behaviour : Behaviour A) where
       ∙ ap (λ ps. part_by K behaviour (Some loss) loss.app v ∷ ps) (parts_lost_behind loss (k + 1) seen (omega (arith, at)))
   parts_lost_set loss k (suc i) (s ∷ seen) v same =
       ap (λ (d : Option Store). (let p : StoragePart = record { store = store_in k (K.held s); in_doubt = d } in p) ∷ parts_from K behaviour (Some loss) (k + 1) (set seen i v))
-          (none_beside loss k (ne_eqb loss.app k (λ e. absurd (omega (arith, same, e)))))
+      (none_beside loss k (ne_eqb loss.app k (λ e. absurd (omega (arith, same, e)))))
       ∙ ap (λ ps. part_by K behaviour None k s ∷ ps) (parts_lost_set loss (k + 1) i seen v (omega (arith, same)))
 
 -- a turn of one application
@@ -237,8 +237,8 @@ module _ {V A : Type 0} (K : VolumeKeeper V)
               ∙ sym (parts_lost_set K behaviour loss 0 app seen new (let e = named in omega (arith, e))))));
           stands = subst (λ (x : World A). StandFor K left new x)
               (stepped_lost K rests since behaviour (set was.sides app before) w app i kind replies before after old new m (here None v there own was) stands
-                  (whole None v there own was) t changes is)
+              (whole None v there own was) t changes is)
               (stand_lost K rests since behaviour (set was.sides app before) w app i kind replies before after old new m (here None v there own was) stands
-                  (whole None v there own was) t changes is left
+              (whole None v there own was) t changes is left
               (sides_lost sides (set w app made) are));
         }

@@ -56,7 +56,7 @@ impl<V: Volume, A: Application> Model for Storage<V, A> {
     } };
 
     ghost invariant = { λ s. IsStorage V.keeper (length s.seen.items) s.volume s.opened.value
-      s.loss (parts_by V.keeper A.behaviour s.loss s.seen.items) };
+        s.loss (parts_by V.keeper A.behaviour s.loss s.seen.items) };
 }
 
 /// A part as seats see it. No value of it is made: it stands in contracts alone.

@@ -134,7 +134,14 @@ impl<V: Volume, A: Application> Storage<V, A> {
     {
         let side = Snapshot::of(&recorded.side);
         let volume = Snapshot::of(&self.volume);
-        let kind = turn_over(self.alloc, recorded, &mut self.volume, app, client, instance);
+        let kind = turn_over(
+            self.alloc,
+            recorded,
+            &mut self.volume,
+            app,
+            client,
+            instance,
+        );
         self.seen[app as usize] = Snapshot::of(&self.volume);
         let found = Loss {
             app,

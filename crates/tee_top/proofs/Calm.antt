@@ -83,7 +83,7 @@ calm_weather names text none = λ i. record {
 
 -- a line that is drawn is a call or one of turns, whatever its kind
 by_kind : (kind app label command first second : ℕ)
-    → order_of (line_of (record { app = app; kind = kind; label = label; command = command; first = first; second = second; })) ≡ []
+    → order_of (line_of (record { app = app; kind = kind; label = label; command = command; first = first; second = second })) ≡ []
 by_kind zero app label command first second = refl
 by_kind (suc zero) app label command first second = refl
 by_kind (suc (suc zero)) app label command first second = refl

@@ -199,8 +199,8 @@ returns-in_default-clause-generated g c = λ number words. absurd (c.in_default.
 pub returns-in_default-clause-bad_words : goal.returns-in_default-clause-bad_words
 returns-in_default-clause-bad_words g c = (
   (λ same are.
-  ⊎_elim (λ run. let yes = c.are_run_words.ensures.1 run in let e : false ≡ true = sym c.if-not-are_run_words.true ∙ yes in absurd (cc))
-  (λ gen. c.in_default.not-Some gen.0 ((c.gen_number.ensures gen.0).1 gen.1)) are),
+      ⊎_elim (λ run. let yes = c.are_run_words.ensures.1 run in let e : false ≡ true = sym c.if-not-are_run_words.true ∙ yes in absurd (cc))
+      (λ gen. c.in_default.not-Some gen.0 ((c.gen_number.ensures gen.0).1 gen.1)) are),
   (λ none. refl),
 )
 

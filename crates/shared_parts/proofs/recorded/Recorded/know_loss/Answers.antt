@@ -11,8 +11,11 @@ returns-clause-kept g c =
 pub returns-clause-found : goal.returns-clause-found
 returns-clause-found g c =
     let is : c.args.lost ≡ true = search rules in
-    inr (is, loss_entry g.A.Application.behaviour c.args.client c.none.result c.args.self.now.side c.lose.new.self c.args.self.now.log c.push.new.self
-    (sym c.is_lost.ensures ∙ c.if-is_lost.false) c.lose.ensures.step c.requires.reserved c.none.ensures c.push.ensures.more c.push.ensures.room c.push.ensures.reply_room)
+    inr (
+      is,
+      loss_entry g.A.Application.behaviour c.args.client c.none.result c.args.self.now.side c.lose.new.self c.args.self.now.log c.push.new.self
+          (sym c.is_lost.ensures ∙ c.if-is_lost.false) c.lose.ensures.step c.requires.reserved c.none.ensures c.push.ensures.more c.push.ensures.room c.push.ensures.reply_room,
+    )
 
 pub returns-clause-part : goal.returns-clause-part
 returns-clause-part g c = λ own has. record {
