@@ -1,5 +1,5 @@
 -- The weather of a text without a line of the board, and a workload, which has no orders.
-use Rattle.std.proofs.Common.{◌≡◌, ◌==◌, ◌*◌, ◌+◌, ◌%◌, ℕ, zero, suc, Bool, true, false, cond, eqb, nat_lt, List, [], ◌∷◌, ◌++◌, length, drop, map, refl, sym, ap, subst, ◌∙◌, append_assoc, arith}
+use Rattle.std.proofs.Common.{◌≡◌, ◌<◌, ◌==◌, ◌*◌, ◌+◌, ◌%◌, ℕ, zero, suc, Bool, true, false, cond, eqb, nat_lt, List, [], ◌∷◌, ◌++◌, length, drop, map, refl, sym, ap, subst, ◌∙◌, append_assoc, arith}
 use Rattle.std.specs.Prelude.{codes, filter, slice_index_or}
 use Rattle.std.specs.List.{AllByRecursion, range_with_len}
 use Rattle.std.specs.Fmt.{decimal}
@@ -82,21 +82,22 @@ calm_weather names text none = λ i. record {
 -- ---- a workload
 
 -- a line that is drawn is a call or one of turns, whatever its kind
-by_kind : (kind app label command first second : ℕ)
+by_kind : (kind app label command first second : ℕ) → kind < 8
     → order_of (line_of (record { app = app; kind = kind; label = label; command = command; first = first; second = second })) ≡ []
-by_kind zero app label command first second = refl
-by_kind (suc zero) app label command first second = refl
-by_kind (suc (suc zero)) app label command first second = refl
-by_kind (suc (suc (suc zero))) app label command first second = refl
-by_kind (suc (suc (suc (suc zero)))) app label command first second = refl
-by_kind (suc (suc (suc (suc (suc zero))))) app label command first second = refl
-by_kind (suc (suc (suc (suc (suc (suc zero)))))) app label command first second = refl
-by_kind (suc (suc (suc (suc (suc (suc (suc kind))))))) app label command first second = refl
+by_kind zero app label command first second few = refl
+by_kind (suc zero) app label command first second few = refl
+by_kind (suc (suc zero)) app label command first second few = refl
+by_kind (suc (suc (suc zero))) app label command first second few = refl
+by_kind (suc (suc (suc (suc zero)))) app label command first second few = refl
+by_kind (suc (suc (suc (suc (suc zero))))) app label command first second few = refl
+by_kind (suc (suc (suc (suc (suc (suc zero)))))) app label command first second few = refl
+by_kind (suc (suc (suc (suc (suc (suc (suc zero))))))) app label command first second few = refl
+by_kind (suc (suc (suc (suc (suc (suc (suc (suc kind)))))))) app label command first second few = absurd (omega (arith, few))
 
 no_order : (number hosts index : ℕ) → order_of (line_at number hosts index) ≡ []
 no_order number hosts index =
     let state : ℕ = state_after number (6 * index) in
-    by_kind (drawn state 2 % 8) (drawn state 1 % hosts) (1 + drawn state 3 % 3) (1 + drawn state 4 % 15) (drawn state 5) (drawn state 6)
+    by_kind (drawn state 2 % 8) (drawn state 1 % hosts) (1 + drawn state 3 % 3) (1 + drawn state 4 % 15) (drawn state 5) (drawn state 6) (omega arith)
 
 no_orders : (number hosts start count : ℕ) → orders_of (map (line_at number hosts) (range_with_len start count)) ≡ []
 no_orders number hosts start zero = refl

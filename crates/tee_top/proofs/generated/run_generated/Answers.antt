@@ -46,7 +46,7 @@ returns-in-Done-clause-generated g c =
     c.in-Ok.ensures.hash ∙ ap (λ hs. digest_of Sha256 (canonical hs (workload_of c.args.number (length hs)))) c.as_slice.ensures.value
     ∙ ap (λ (ls : List Line). digest_of Sha256 (canonical hosts ls)) (sym are) in
     let writes : WritesAs status (summary_text (length lines) (digest_of Sha256 (canonical hosts lines)) told.0 told.1) before after Same =
-    subst (λ n. WritesAs status (summary_text n (digest_of Sha256 (canonical hosts lines)) told.0 told.1) before after Same) c.len-count.ensures
+    subst (λ n. WritesAs status (summary_text n (digest_of Sha256 (canonical hosts lines)) told.0 told.1) before after Same) (c.len-count.ensures ∙ c.in-Ok.made.lines.ok.0)
     (subst (λ h. WritesAs status (summary_text c.len-count.result h told.0 told.1) before after Same) hash told.3) in
     subst (λ (ls : List Line). RunsGenerated behaviour form hosts seed ls status Same (g.B.Board.honest c.args.board) g.B.Board.tells_reads old new before after
     (g.W.Sink.failures c.args.sink.now) (g.W.Sink.failures c.write_summary.new.sink)) are
