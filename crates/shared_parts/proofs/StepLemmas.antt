@@ -1,7 +1,7 @@
 -- One event more in the log, and one step of the machine: what stays in step.
 use Rattle.app_api.specs.Behaviours.{Behaviour}
 use Rattle.std.proofs.Common.{ℕ, ◌≡◌, ◌+◌, ◌-◌, ◌≤◌, ◌<◌, Bool, true, false, not, ◌||◌, leb, ltb, Option, List, [], ◌∷◌, ◌++◌, Result, Ok, Err, length, refl, sym, ap, subst, ◌∙◌, arith, length-append}
-use Rattle.std.specs.Prelude.{OnOk}
+use Rattle.std.specs.Prelude.{OnErr, OnOk}
 use Rattle.store_api.specs.Stores.{Store, empty_store}
 use Rattle.alone.specs.declared.reply.Reply.{Reply}
 use Rattle.alone.specs.declared.reply.TheConstants.{REPLIES}
@@ -21,6 +21,11 @@ use Rattle.alone.specs.Step.{Event, Called, Lost, is_enabled, step}
 use Rattle.app_side.specs.Represents.{Represents, event_of, is_lost, machine_of, machine_over, turns_of}
 use Rattle.app_side.specs.declared.side.AppSide.{AppSide}
 use Rattle.shared_parts.specs.InStep.{GoesInStep, HasGrown, HasPart, HasPlaces, IsInStep, IsKeptBy, IsReserved, StaysInStep, StoragePart, part_of}
+
+-- what is known holds at an error too
+pub on_err_known : {X E : Type 0} (r : Result X E) (P : Type 0) → P → OnErr r P
+on_err_known (Ok x) P p = tt
+on_err_known (Err e) P p = p
 
 -- a machine that a value represents: each value has one
 pub some_machine : {A : Type 0} (side : AppSide A) → Represents side (machine_over side empty_store empty_store)

@@ -84,8 +84,10 @@ impl<A: Application> Recorded<A> {
         ensures room { OnOk result (is_full self.old.log.entries (bytes_of_call call) ≡ false) }
         ensures posted { IfOk result (λ posted. (m : Machine A) → Represents self.old.side m
             → IsPosted m client call posted) }
-        ensures err { IfErr result (λ why. (self.new.log.entries ≡ self.old.log.entries)
+        ensures err { IfErr result (λ why. HasGrown self.old.log self.new.log
             × IsRefusal why self.old.log.entries (bytes_of_call call)) }
+        ensures same { OnErr result ((m : Machine A) → Represents self.old.side m
+            → Represents self.new.side m) }
     {
         if self.log.is_full(call_bytes(&call)) {
             return Err(SharedAnswer::LogFull);
@@ -106,7 +108,9 @@ impl<A: Application> Recorded<A> {
             (Adds client (Called client call) self.old.log.entries self.new.log.entries) }
         ensures posted { IfOk result (λ posted. (m : Machine A) → Represents self.old.side m
             → IsPosted m client call posted) }
-        ensures err { OnErr result (self.new.log.entries ≡ self.old.log.entries) }
+        ensures err { OnErr result (HasGrown self.old.log self.new.log) }
+        ensures same { OnErr result ((m : Machine A) → Represents self.old.side m
+            → Represents self.new.side m) }
     {
         self.reserve()?;
         let made = self.side.call(client, call)?;
@@ -129,8 +133,9 @@ impl<A: Application> Recorded<A> {
         ensures ok { OnOk result
             (Adds client (Cancelled op) self.old.log.entries self.new.log.entries) }
         ensures room { OnOk result (is_full self.old.log.entries 0 ≡ false) }
-        ensures err { IfErr result (λ why. (self.new.log.entries ≡ self.old.log.entries)
+        ensures err { IfErr result (λ why. HasGrown self.old.log self.new.log
             × IsRefusal why self.old.log.entries 0) }
+        ensures same { OnErr result (self.new.side ≡ self.old.side) }
     {
         if self.log.is_full(0) {
             return Err(SharedAnswer::LogFull);
@@ -147,7 +152,8 @@ impl<A: Application> Recorded<A> {
             self.new.side self.new.log }
         ensures ok { OnOk result
             (Adds client (Cancelled op) self.old.log.entries self.new.log.entries) }
-        ensures err { OnErr result (self.new.log.entries ≡ self.old.log.entries) }
+        ensures err { OnErr result (HasGrown self.old.log self.new.log) }
+        ensures same { OnErr result (self.new.side ≡ self.old.side) }
     {
         self.reserve()?;
         let replies = self.side.cancel(op);

@@ -16,7 +16,7 @@ returns-then-is_full-clause-step g c =
 pub returns-then-is_full-clause-err : goal.returns-then-is_full-clause-err
 returns-then-is_full-clause-err g c =
     let log = c.args.self.now.log.entries in
-    (refl, full_of_call log (bytes_of_call c.args.call) c.call_bytes.result c.is_full.result _ c.call_bytes.ensures.value c.is_full.ensures c.if-is_full.true)
+    (same_log c.args.self.now.log, full_of_call log (bytes_of_call c.args.call) c.call_bytes.result c.is_full.result _ c.call_bytes.ensures.value c.is_full.ensures c.if-is_full.true)
 
 pub returns-in-Ok-clause-room : goal.returns-in-Ok-clause-room
 returns-in-Ok-clause-room g c =

@@ -1,7 +1,7 @@
 use Rattle.std.proofs.Common.{arith, refl}
 use Rattle.alone.proofs.Storage.{call_leaves_storage}
 use Rattle.alone.specs.Step.{Called}
-use Rattle.shared_parts.proofs.StepLemmas.{adds_entry, bytes_of_copy, bytes_still, entry_of_call, event_goes, goes_further, grown_goes, nothing_made, part_stays, replies_for, room_for}
+use Rattle.shared_parts.proofs.StepLemmas.{adds_entry, bytes_of_copy, bytes_still, entry_of_call, event_goes, goes_further, grown_goes, nothing_made, on_err_known, part_stays, replies_for, room_for}
 use Rattle.shared_parts.proofs.StepLemmas.{same_log, same_represents}
 use Rattle.shared_parts.proofs.recorded.Recorded.make_call.Goals as goal
 
@@ -19,6 +19,11 @@ returns-in_err-made-clause-step g c =
       kept = nothing_made g.A.Application.behaviour now.side c.call.new.self now.log now.log (same_log now.log) c.in_err-made.ensures.err;
       lost = c.in_err-made.ensures.lost;
     })
+
+pub returns-in_err-made-clause-same : goal.returns-in_err-made-clause-same
+returns-in_err-made-clause-same g c =
+    on_err_known c.from_residual.result _ (λ m stands.
+    c.in_err-made.ensures.err m (same_represents c.args.self.now.side c.reserve.new.self.side m c.in_ok-reserve.ensures.side stands))
 
 pub push-requires-clause-room : goal.push-requires-clause-room
 push-requires-clause-room g c = room_for 4 c.reserve.new.self.side c.reserve.new.self.log c.in_ok-reserve.ensures.reserved (omega arith)
