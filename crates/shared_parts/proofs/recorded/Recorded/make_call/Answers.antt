@@ -22,7 +22,7 @@ returns-in_err-made-clause-step g c =
 
 pub returns-in_err-made-clause-same : goal.returns-in_err-made-clause-same
 returns-in_err-made-clause-same g c =
-    on_err_known c.from_residual.result _ (λ m stands.
+    on_err_known c.from_residual-in_err-made.result _ (λ m stands.
     c.in_err-made.ensures.err m (same_represents c.args.self.now.side c.reserve.new.self.side m c.in_ok-reserve.ensures.side stands))
 
 pub push-requires-clause-room : goal.push-requires-clause-room
