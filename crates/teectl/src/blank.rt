@@ -1,10 +1,11 @@
 //! Runs over a blank board in memory.
 
-ghost use Rattle.std.specs.Prelude.{◌≡◌, ◌≤◌, ℕ, IfOk, length};
-ghost use Rattle.tee_base.specs.declared.limits.TheConstants.{MAX_HOSTS};
+ghost use Rattle.std.specs.Prelude.{◌≡◌, ◌≤◌, ℕ, IfOk, length, replicate};
+ghost use Rattle.tee_base.specs.declared.limits.TheConstants.{BOARD_BLOCKS, MAX_HOSTS};
 ghost use Rattle.app_api.specs.Hosts.{HostsFit};
 ghost use Rattle.board.specs.Moment.{View};
-ghost use Rattle.boards.specs.MemoryBoard.{view_of};
+ghost use Rattle.boards.specs.Memory.{IsNew};
+ghost use Rattle.boards.specs.MemoryBoard.{memory_of, view_of};
 ghost use Rattle.epoch.specs.declared.answer.OpenAnswer.{OpenAnswer};
 ghost use Rattle.script.specs.Workload.{workload_of};
 ghost use Rattle.store_api.specs.Stores.{empty_store};
@@ -19,13 +20,20 @@ use std::alloc::Global;
 use tee_base::{NoMemory, Sink, Source, limits};
 use tee_top::{Status, blank_boards_begin, run_tee};
 
+/// The key of a blank board.
+const BLANK_KEY: [u8; 32] = [0; 32];
+
+/// The seed of random bytes over a blank board.
+pub const BLANK_SEED: [u8; 32] = [0; 32];
+
 /// A blank board in memory, of the size of a volume.
-fn blank_board(alloc: Global, key: [u8; 32]) -> Result<MemBoard, NoMemory>
-    ensures { IfOk result (λ board. (hosts : ℕ) → hosts ≤ MAX_HOSTS
+pub fn blank_board(alloc: Global) -> Result<MemBoard, NoMemory>
+    ensures begins { IfOk result (λ board. (hosts : ℕ) → hosts ≤ MAX_HOSTS
         → BeginsWith form_in_use (view_of board) hosts (λ app. empty_store)) }
+    ensures zeros { IfOk result (λ board. IsNew (replicate 32 0) BOARD_BLOCKS 0 (memory_of board)) }
 {
     blank_boards_begin();
-    MemBoard::blank(alloc, key, limits::BOARD_BLOCKS)
+    MemBoard::blank(alloc, BLANK_KEY, limits::BOARD_BLOCKS)
 }
 
 /// Runs the words over a blank board in memory: what is written is the transcript of the script over empty stores, or the summary
@@ -48,7 +56,7 @@ pub fn run_blank<S: Source, W: Sink, A: Application>(
         (workload_of number (length hosts.items)) new (W.written sink.old) (W.written sink.new) }
     ensures accepted { (why : OpenAnswer) → result ≡ Status.StoreRefused why → ⊥ }
 {
-    let Ok(board) = blank_board(alloc, [0; 32]) else {
+    let Ok(board) = blank_board(alloc) else {
         return Status::NoMemory;
     };
     let (status, _board) = run_tee(alloc, words, source, sink, board, hosts, seed);

@@ -2,124 +2,166 @@
 #![tactic(auto)]
 
 mod blank;
+mod check;
+mod command;
+#[cfg(test)]
+mod handed_in;
+mod kept;
+mod listing;
 #[cfg(test)]
 mod tests;
+mod texts;
+mod why;
 mod words;
 
-use crate::blank::run_blank;
+use crate::blank::{BLANK_SEED, run_blank};
+use crate::check::check_script;
+use crate::command::{Asked, asked_for, without_explain};
+use crate::kept::KeptSource;
+use crate::listing::host_lines;
+use crate::why::{Ended, with_file_reason, with_reason};
 use board::Board;
 use boards::{FileBoard, FileBoardFailed};
 use sample_apps::sample_hosts;
 use std::alloc::Global;
 use std::io;
+use std::io::IsTerminal;
 use std::process::ExitCode;
 use std::string::String;
 use tee_base::{StdSink, StdSource};
 use tee_top::{Status, run_tee, status_line};
 
-const HELP: &str = "\
-teectl runs a script of client calls for the trusted applications that it hosts.
-
-usage: teectl run       run the script on standard input over an empty board in memory, and write the
-                        replies to standard output
-       teectl run IMAGE run it over the board of the files IMAGE, IMAGE.ctr and IMAGE.key, which keeps
-                        the applications' objects
-       teectl gen N     run the workload of number N, 2,000 generated lines, over an empty board in memory,
-                        and write a summary
-       teectl --help    print this text
-       teectl --version print the version
-
-IMAGE.key has 64 bytes, the key of the board and the seed of random bytes. IMAGE and IMAGE.ctr are made
-where they are missing.
-
-exit statuses: 0 done, 64 faulty command line, 65 a line is no script line, 66 script too long,
-67 the board holds no volume that fits, 71 out of memory, 73 cannot read, 74 cannot write,
-75 the board failed
-
-docs/SCRIPT.md describes the script language and the printed lines.
-";
-
-const VERSION: &str = "teectl 0.1.0\n";
+/// The status, with why a run ended so where that is asked for. The text is what was read, as far as it is known.
+fn ended(alloc: Global, status: Status, text: Option<&[u8]>, explains: bool) -> Ended {
+    if !explains {
+        return Ended::plain(status);
+    }
+    match sample_hosts(alloc) {
+        Ok(hosts) => with_reason(alloc, status, text, hosts.as_slice()),
+        Err(_) => Ended::plain(status),
+    }
+}
 
 /// Runs the words over a board, and says how it ended.
 fn run_over<R: Input + Print, B: Board + Drop>(
     rt: &R,
     alloc: Global,
     words: &[String],
-    board: B,
-    seed: [u8; 32],
-) -> Status {
+    (board, seed): (B, [u8; 32]),
+    explains: bool,
+) -> Ended {
     let Ok(hosts) = sample_hosts(alloc) else {
-        return Status::NoMemory;
+        return Ended::plain(Status::NoMemory);
     };
-    let mut source = StdSource::new(rt.reader());
+    let mut source = KeptSource::new(alloc, StdSource::new(rt.reader()), explains);
     let mut sink = StdSink::new(io::writer(rt));
     let (status, _board) = run_tee(alloc, words, &mut source, &mut sink, board, hosts, seed);
-    status
+    ended(alloc, status, source.kept(), explains)
 }
 
 /// Runs the words over a blank board in memory.
-fn run_in_memory<R: Input + Print>(rt: &R, alloc: Global, words: &[String]) -> Status {
+fn run_in_memory<R: Input + Print>(
+    rt: &R,
+    alloc: Global,
+    words: &[String],
+    explains: bool,
+) -> Ended {
     let Ok(hosts) = sample_hosts(alloc) else {
-        return Status::NoMemory;
+        return Ended::plain(Status::NoMemory);
     };
-    let mut source = StdSource::new(rt.reader());
+    let mut source = KeptSource::new(alloc, StdSource::new(rt.reader()), explains);
     let mut sink = StdSink::new(io::writer(rt));
-    run_blank(alloc, words, &mut source, &mut sink, hosts, [0; 32])
+    let status = run_blank(alloc, words, &mut source, &mut sink, hosts, BLANK_SEED);
+    ended(alloc, status, source.kept(), explains)
 }
 
 /// Runs the words over the board of these files.
-fn run_over_files(rt: &HostRuntime, alloc: Global, words: &[String], image: &str) -> Status {
+fn run_over_files(
+    rt: &HostRuntime,
+    alloc: Global,
+    words: &[String],
+    image: &str,
+    explains: bool,
+) -> Ended {
     match FileBoard::open(rt, alloc, image) {
         Ok(board) => {
             let seed = board.random_seed();
-            run_over(rt, alloc, words, board, seed)
+            run_over(rt, alloc, words, (board, seed), explains)
         }
-        Err(FileBoardFailed::Failed(_)) => Status::BoardFault,
-        Err(FileBoardFailed::NoMemory) => Status::NoMemory,
+        Err(FileBoardFailed::Failed(failure)) if explains => {
+            with_file_reason(rt, alloc, image, &failure)
+        }
+        Err(FileBoardFailed::Failed(_)) => Ended::plain(Status::BoardFault),
+        Err(FileBoardFailed::NoMemory) => Ended::plain(Status::NoMemory),
     }
 }
 
-/// Tells standard error of a status that isn't Done. Where there is no memory for it, or it can't be written, the exit
-/// status alone tells.
-fn tell<R: Eprint>(rt: &R, alloc: Global, status: &Status) {
+/// Checks the script on standard input. A check is asked for its reasons.
+fn check_input<R: Input>(rt: &R, alloc: Global) -> Ended {
+    let Ok(hosts) = sample_hosts(alloc) else {
+        return Ended::plain(Status::NoMemory);
+    };
+    let mut source = KeptSource::new(alloc, StdSource::new(rt.reader()), true);
+    let status = check_script(alloc, &mut source, hosts.as_slice());
+    ended(alloc, status, source.kept(), true)
+}
+
+/// Tells standard error of a status that isn't Done, and why it is so. Where there is no memory for it, or it can't be
+/// written, the exit status alone tells.
+fn tell<R: Eprint>(rt: &R, alloc: Global, Ended { status, why }: &Ended) {
     let Ok(line) = status_line(alloc, status, &[]) else {
         return;
     };
     if let Ok(text) = str::from_utf8(line.as_slice()) {
         let _ = eprint!(rt; "{text}");
     }
+    if let Some(why) = why {
+        let why = why.as_str();
+        let _ = eprint!(rt; "teectl: {why}\n");
+    }
 }
 
-fn print<R: Print>(rt: &R, text: &str) -> ExitCode {
-    match print!(rt; "{text}") {
-        Ok(()) => ExitCode::SUCCESS,
-        Err(_) => ExitCode::from(Status::WriteFault.number()),
+/// Prints a text that `main` answers with.
+fn print<R: Print>(rt: &R, text: &str) -> Ended {
+    Ended::plain(match print!(rt; "{text}") {
+        Ok(()) => Status::Done,
+        Err(_) => Status::WriteFault,
+    })
+}
+
+/// Prints the hosts and the commands of their applications.
+fn print_hosts<R: Print>(rt: &R, alloc: Global) -> Ended {
+    let Ok(hosts) = sample_hosts(alloc) else {
+        return Ended::plain(Status::NoMemory);
+    };
+    match host_lines(alloc, hosts.as_slice()) {
+        Ok(text) => print(rt, text.as_str()),
+        Err(_) => Ended::plain(Status::NoMemory),
+    }
+}
+
+/// Does what the words ask for.
+fn answer(rt: &HostRuntime, alloc: Global, words: &[String], explains: bool) -> Ended {
+    match asked_for(words) {
+        Asked::Help => print(rt, texts::HELP),
+        Asked::Version => print(rt, texts::VERSION),
+        Asked::Hosts => print_hosts(rt, alloc),
+        Asked::Check => check_input(rt, alloc),
+        Asked::RunOver(image) => run_over_files(rt, alloc, words, image, explains),
+        Asked::Run => run_in_memory(rt, alloc, words, explains),
     }
 }
 
 fn main(rt: HostRuntime) -> ExitCode {
     let alloc = rt.alloc();
-    let words = match words::words(&rt, alloc) {
-        Ok(words) => words,
-        Err(status) => {
-            tell(&rt, alloc, &status);
-            return ExitCode::from(status.number());
+    let ended = match words::words(&rt, alloc) {
+        Ok(words) => {
+            let (words, is_asked) = without_explain(words.as_slice());
+            let explains = is_asked || rt.stderr().is_terminal();
+            answer(&rt, alloc, words, explains)
         }
+        Err(status) => Ended::plain(status),
     };
-    if words.len() == 1 {
-        if words[0].as_str() == "--help" {
-            return print(&rt, HELP);
-        }
-        if words[0].as_str() == "--version" {
-            return print(&rt, VERSION);
-        }
-    }
-    let status = if words.len() == 2 && words[0].as_str() == "run" {
-        run_over_files(&rt, alloc, words.as_slice(), words[1].as_str())
-    } else {
-        run_in_memory(&rt, alloc, words.as_slice())
-    };
-    tell(&rt, alloc, &status);
-    ExitCode::from(status.number())
+    tell(&rt, alloc, &ended);
+    ExitCode::from(ended.status.number())
 }

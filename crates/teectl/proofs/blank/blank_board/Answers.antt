@@ -24,5 +24,5 @@ blank_begins (Ok b) key law new zero = λ hosts few.
     (omega (arith, new.its_size)) zero few
 blank_begins (Err e) key law new zero = tt
 
-pub returns : goal.returns
-returns c = blank_begins c.blank.result c.args.key c.blank_boards_begin.ensures c.blank.ensures.new c.blank.ensures.zero
+pub returns-clause-begins : goal.returns-clause-begins
+returns-clause-begins c = blank_begins c.blank.result _ c.blank_boards_begin.ensures c.blank.ensures.new c.blank.ensures.zero
