@@ -5,16 +5,16 @@ use Rattle.aes_core.specs.Cipher.{cipher}
 use Rattle.aes_modes.specs.Modes.{xor_bytes, number_of, cbc_block}
 
 -- a block as a number, shifted left by one bit, and 0x87 where a one was shifted out
-unfoldable pub doubled : ℕ → ℕ
-doubled v = bit_xor (v * 2 % 2 ^ 128) (v / 2 ^ 127 * 0x87)
+unfoldable pub double_of : ℕ → ℕ
+double_of v = bit_xor (v * 2 % 2 ^ 128) (v / 2 ^ 127 * 0x87)
 
 -- K1, of the block of zeros, enciphered
 unfoldable pub first_subkey : List ℕ → ℕ
-first_subkey key = doubled (number_of (cipher key (replicate 16 0)))
+first_subkey key = double_of (number_of (cipher key (replicate 16 0)))
 
 -- K2
 abbrev pub second_subkey : List ℕ → ℕ
-second_subkey key = doubled (first_subkey key)
+second_subkey key = double_of (first_subkey key)
 
 -- how many blocks stand before the last one
 abbrev pub blocks_before : List ℕ → ℕ

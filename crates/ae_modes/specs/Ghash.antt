@@ -13,5 +13,5 @@ abbrev pub ghash : ℕ → List ℕ → ℕ
 ghash h x = ghash_blocks h x (length x / 16)
 
 -- bytes filled by zeros to whole blocks
-abbrev pub filled : List ℕ → List ℕ
-filled x = x ++ replicate ((16 - length x % 16) % 16) 0
+abbrev pub whole_blocks : List ℕ → List ℕ
+whole_blocks x = x ++ replicate ((16 - length x % 16) % 16) 0

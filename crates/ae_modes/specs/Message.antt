@@ -25,12 +25,12 @@ abbrev pub with_aad : Message → List ℕ → Message
 with_aad m bytes = record m { aad = m.aad ++ bytes }
 
 -- with more bytes of the message
-abbrev pub extended : Message → List ℕ → Message
-extended m bytes = record m { message = m.message ++ bytes }
+abbrev pub with_more : Message → List ℕ → Message
+with_more m bytes = record m { message = m.message ++ bytes }
 
 -- as at its start
-abbrev pub restarted : Message → Message
-restarted m = record m { aad = []; message = [] }
+abbrev pub at_start : Message → Message
+at_start m = record m { aad = []; message = [] }
 
 -- what becomes of the message so far
 abbrev pub text_of : Message → List ℕ

@@ -1,7 +1,7 @@
 // CMAC (SP 800-38B) of a message that comes in pieces.
 
 ghost use Rattle.std.specs.Prelude.{◌≡◌};
-ghost use Rattle.ae_modes.specs.Cmac.{doubled};
+ghost use Rattle.ae_modes.specs.Cmac.{double_of};
 
 use crate::blocks::{none_waiting, number_of_block};
 use crate::waiting::Waiting;
@@ -25,7 +25,7 @@ impl Cmac {
     ghost use Rattle.std.specs.Prelude.{◌≡◌, ◌+◌, ◌*◌, ◌≤◌, ◌↔◌, ℕ, List, [], ◌++◌, length, drop, IsTrue};
     ghost use Rattle.aes_core.specs.Key.{key_bytes};
     ghost use Rattle.ae_modes.specs.Cmac.{blocks_before, last_block, cmac};
-    ghost use Rattle.ae_modes.specs.Code.{chained, HoldsMessage};
+    ghost use Rattle.ae_modes.specs.Code.{chain_value, HoldsMessage};
 
     /// The empty message under a key. It takes no memory.
     pub fn new(key: Key) -> Cmac
@@ -81,7 +81,7 @@ impl Cmac {
     fn vector_after(&self, bytes: &[u8], blocks: usize) -> [u8; 16]
         requires { 16 * blocks ≤ self.now.waiting.count + length bytes.now }
         ensures { (key m : List ℕ) → HoldsMessage self.now key m
-            → result ≡ chained key (m ++ bytes.now) (blocks_before m + blocks) }
+            → result ≡ chain_value key (m ++ bytes.now) (blocks_before m + blocks) }
     {
         let mut vector = self.vector;
         for i in 0..blocks {
@@ -108,9 +108,9 @@ impl Cmac {
 }
 
 // The block shifted left by one bit, and 0x87 where a one was shifted out.
-#[tactic(auto, unfolding(crate::specs::Cmac::doubled))]
+#[tactic(auto, unfolding(crate::specs::Cmac::double_of))]
 fn doubled(v: u128) -> u128
-    ensures { result ≡ doubled v }
+    ensures { result ≡ double_of v }
 {
     (v << 1) ^ (v >> 127) * 0x87
 }

@@ -28,7 +28,7 @@ pub(crate) fn start(subkey: u128) -> Ghash
 
 impl Ghash {
     ghost use Rattle.std.specs.Prelude.{◌≡◌, ◌≤◌, ◌+◌, ◌*◌, ◌/◌, ℕ, List, [], ◌++◌, length, if◌then◌else◌};
-    ghost use Rattle.ae_modes.specs.Ghash.{ghash_blocks, filled};
+    ghost use Rattle.ae_modes.specs.Ghash.{ghash_blocks, whole_blocks};
     ghost use Rattle.ae_modes.specs.Absorbs.{Absorbs};
 
     /// Adds bytes.
@@ -57,7 +57,8 @@ impl Ghash {
 
     /// Fills the last block with zeros.
     pub(crate) fn fill(&mut self)
-        ensures { (h : ℕ) (x : List ℕ) → Absorbs self.old h x → Absorbs self.new h (filled x) }
+        ensures { (h : ℕ) (x : List ℕ) → Absorbs self.old h x
+            → Absorbs self.new h (whole_blocks x) }
     {
         let zeros = [0; 16];
         let count = self.waiting.count % 16;
@@ -67,7 +68,7 @@ impl Ghash {
     /// Fills the last block with zeros where this is asked.
     pub(crate) fn fill_if(&mut self, asked: bool)
         ensures { (h : ℕ) (x : List ℕ) → Absorbs self.old h x
-            → Absorbs self.new h (if asked then filled x else x) }
+            → Absorbs self.new h (if asked then whole_blocks x else x) }
     {
         if asked {
             self.fill();

@@ -16,7 +16,7 @@ const MAX_TEXT: usize = 0xf_ffff_ffe0;
 impl Gcm {
     ghost use Rattle.std.specs.Prelude.{◌≡◌, ◌+◌, ◌-◌, ◌^◌, ◌<◌, ◌≤◌, ◌↔◌, ◌&&◌, ◌==◌, nat_lt, ℕ, Bool, false, List, ◌++◌, length, take, drop, IsTrue, OnOk, OnErr, IfOk};
     ghost use Rattle.ae_modes.specs.Gcm.{whole_tag};
-    ghost use Rattle.ae_modes.specs.Message.{Message, with_aad, extended, restarted, text_of, cipher_of, tag_of, tag_len, aad_answer, update_answer, seal_answer, open_answer, ends_message};
+    ghost use Rattle.ae_modes.specs.Message.{Message, with_aad, with_more, at_start, text_of, cipher_of, tag_of, tag_len, aad_answer, update_answer, seal_answer, open_answer, ends_message};
     ghost use Rattle.ae_modes.specs.Represents.{Represents};
 
     /// Takes more associated data. It takes no memory.
@@ -54,9 +54,9 @@ impl Gcm {
         ensures answer { (m : Message) → Represents self.old m
             → result ≡ update_answer m (length input.now) (length output.old) }
         ensures text { (m : Message) → Represents self.old m
-            → IfOk result (λ n. text_of (extended m input.now) ≡ text_of m ++ take n output.new) }
+            → IfOk result (λ n. text_of (with_more m input.now) ≡ text_of m ++ take n output.new) }
         ensures taken { (m : Message) → Represents self.old m
-            → OnOk result (Represents self.new (extended m input.now)) }
+            → OnOk result (Represents self.new (with_more m input.now)) }
         ensures way_kept { self.new.way ≡ self.old.way }
         ensures rest { IfOk result (λ n. drop n output.new ≡ drop n output.old) }
         ensures unchanged { OnErr result ((self.new ≡ self.old) × (output.new ≡ output.old)) }
@@ -83,11 +83,11 @@ impl Gcm {
         ensures answer { (m : Message) → Represents self.old m
             → result ≡ seal_answer m (length input.now) (length output.old) (length tag.old) }
         ensures text { (m : Message) → Represents self.old m
-            → IfOk result (λ n. text_of (extended m input.now) ≡ text_of m ++ take n output.new) }
+            → IfOk result (λ n. text_of (with_more m input.now) ≡ text_of m ++ take n output.new) }
         ensures tag { (m : Message) → Represents self.old m
-            → OnOk result (take (tag_len m) tag.new ≡ tag_of (extended m input.now)) }
+            → OnOk result (take (tag_len m) tag.new ≡ tag_of (with_more m input.now)) }
         ensures restarted { (m : Message) → Represents self.old m
-            → OnOk result (Represents self.new (restarted m)) }
+            → OnOk result (Represents self.new (at_start m)) }
         ensures rest { IfOk result (λ n. drop n output.new ≡ drop n output.old) }
         ensures tag_rest { (m : Message) → Represents self.old m
             → OnOk result (drop (tag_len m) tag.new ≡ drop (tag_len m) tag.old) }
@@ -115,12 +115,12 @@ impl Gcm {
     pub fn open(&mut self, input: &[u8], output: &mut [u8], tag: &[u8]) -> Result<usize, AeAnswer>
         requires { self.old.way ≡ AeWay.Decrypt }
         ensures answer { (m : Message) (same : Bool) → Represents self.old m
-            → (IsTrue same ↔ (tag.now ≡ tag_of (extended m input.now)))
+            → (IsTrue same ↔ (tag.now ≡ tag_of (with_more m input.now)))
             → result ≡ open_answer m (length input.now) (length output.old) same }
         ensures text { (m : Message) → Represents self.old m
-            → IfOk result (λ n. text_of (extended m input.now) ≡ text_of m ++ take n output.new) }
+            → IfOk result (λ n. text_of (with_more m input.now) ≡ text_of m ++ take n output.new) }
         ensures restarted { (m : Message) → Represents self.old m
-            → IsTrue (ends_message result) → Represents self.new (restarted m) }
+            → IsTrue (ends_message result) → Represents self.new (at_start m) }
         ensures rest { IfOk result (λ n. drop n output.new ≡ drop n output.old) }
         ensures unwritten { OnErr result (output.new ≡ output.old) }
         ensures unchanged { ends_message result ≡ false → self.new ≡ self.old }
@@ -170,9 +170,9 @@ impl Gcm {
         requires fits { self.old.text_len + length input.now ≤ 2 ^ 36 - 32 }
         requires room { length input.now ≤ length output.old }
         ensures text { (m : Message) → Represents self.old m
-            → text_of (extended m input.now) ≡ text_of m ++ take (length input.now) output.new }
+            → text_of (with_more m input.now) ≡ text_of m ++ take (length input.now) output.new }
         ensures taken { (m : Message) → Represents self.old m
-            → Represents self.new (extended m input.now) }
+            → Represents self.new (with_more m input.now) }
         ensures way_kept { self.new.way ≡ self.old.way }
         ensures rest { drop (length input.now) output.new ≡ drop (length input.now) output.old }
     {
@@ -188,8 +188,8 @@ impl Gcm {
         requires fits { self.old.text_len + length cipher.now ≤ 2 ^ 36 - 32 }
         ensures taken { (m : Message) (piece : List ℕ) → Represents self.old m
             → length piece ≡ length cipher.now
-            → cipher_of (extended m piece) ≡ cipher_of m ++ cipher.now
-            → Represents self.new (extended m piece) }
+            → cipher_of (with_more m piece) ≡ cipher_of m ++ cipher.now
+            → Represents self.new (with_more m piece) }
         ensures way_kept { self.new.way ≡ self.old.way }
     {
         let begins = self.begins_with(cipher.len());
@@ -210,7 +210,7 @@ impl Gcm {
         ensures tag { (m : Message) → Represents self.old m
             → result ≡ whole_tag m.key m.nonce m.aad (cipher_of m) }
         ensures restarted { (m : Message) → Represents self.old m
-            → Represents self.new (restarted m) }
+            → Represents self.new (at_start m) }
     {
         let lengths = two_lengths(self.aad_len, self.text_len);
         self.hash.fill();

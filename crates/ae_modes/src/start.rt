@@ -6,7 +6,7 @@ ghost use Rattle.aes_core.specs.Key.{key_bytes};
 ghost use Rattle.ae_modes.specs.Absorbs.{Absorbs};
 ghost use Rattle.aes_modes.specs.Modes.{number_of};
 ghost use Rattle.ae_modes.specs.Gcm.{hash_subkey, first_counter, bit_length};
-ghost use Rattle.ae_modes.specs.Ghash.{ghash, filled};
+ghost use Rattle.ae_modes.specs.Ghash.{ghash, whole_blocks};
 ghost use Rattle.ae_modes.specs.Message.{begun, is_tag_bits, may_begin, no_beginning};
 ghost use Rattle.ae_modes.specs.Represents.{Represents};
 
@@ -100,7 +100,7 @@ fn short_counter(nonce: &[u8]) -> u128
 fn hashed_counter(hash: &Ghash, nonce: &[u8]) -> u128
     requires { length nonce.now ≤ 524288 }
     ensures { (h : ℕ) → Absorbs hash.now h []
-        → result ≡ ghash h (filled nonce.now ++ (replicate 8 0 ++ bit_length nonce.now)) }
+        → result ≡ ghash h (whole_blocks nonce.now ++ (replicate 8 0 ++ bit_length nonce.now)) }
 {
     let mut hash = *hash;
     hash.absorb(nonce);

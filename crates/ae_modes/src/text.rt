@@ -4,7 +4,7 @@ ghost use Rattle.std.specs.Prelude.{◌≡◌, ◌+◌, ◌*◌, ◌^◌, ◌<�
 ghost use Rattle.aes_core.specs.Key.{key_bytes};
 ghost use Rattle.aes_core.specs.Shared.{IsSharedStart};
 ghost use Rattle.aes_modes.specs.Modes.{counter_block};
-ghost use Rattle.ae_modes.specs.Gcm.{raised, text_from};
+ghost use Rattle.ae_modes.specs.Gcm.{counter_after, text_from};
 
 use aes_core::{Key, SharedStart};
 use aes_modes::{start_at, write_piece};
@@ -43,7 +43,7 @@ pub(crate) fn write_text(key: &Key, counter: u128, place: usize, input: &[u8], o
 #[inline(always)]
 fn raised(counter: u128, n: usize) -> u128
     requires { n < 2 ^ 36 }
-    ensures { result ≡ raised counter n }
+    ensures { result ≡ counter_after counter n }
 {
     let low = counter & 0xffff_ffff;
     (counter - low) + ((low + n as u128) & 0xffff_ffff)
@@ -54,8 +54,8 @@ fn raised(counter: u128, n: usize) -> u128
 #[inline(always)]
 fn go_on(key: &Key, start: &mut SharedStart, counter: u128, n: usize)
     requires small { n + 1 < 2 ^ 36 }
-    requires shared { IsSharedStart key.now (counter_block (raised counter n)) start.old }
-    ensures { IsSharedStart key.now (counter_block (raised counter (n + 1))) start.new }
+    requires shared { IsSharedStart key.now (counter_block (counter_after counter n)) start.old }
+    ensures { IsSharedStart key.now (counter_block (counter_after counter (n + 1))) start.new }
 {
     let next = raised(counter, n + 1);
     if next & 0xff == 0 {

@@ -7,7 +7,7 @@ use Rattle.std.proofs.lemmas.List.{get_or_past}
 use lib.Bits.{xor_zero_r}
 use Rattle.aes_core.specs.Cipher.{cipher_rounds, cipher_from, cipher, inv_cipher_rounds, inv_cipher_from, inv_cipher}
 use Rattle.aes_core.specs.Field.{xtimes, multiply_powers, multiply, substitute, inverse_substitute}
-use Rattle.aes_core.specs.KeyExpansion.{round_key, expanded, round_count}
+use Rattle.aes_core.specs.KeyExpansion.{round_key, round_key_words, round_count}
 use Rattle.aes_core.specs.Transformations.{state_of, sum_of, sub_bytes, shift_rows, mix_column, mix_columns, add_round_key, inv_sub_bytes, inv_shift_rows, inv_mix_column, inv_mix_columns}
 use Rattle.aes_core.proofs.FieldLemmas.{four_columns, four, four_sums}
 use Rattle.aes_core.proofs.KeyLemmas.{four_fit}
@@ -203,7 +203,7 @@ rounds_again w b r (suc n) below h =
 cipher-inv_cipher : (key b : List ℕ) → IsState b → cipher key (inv_cipher key b) ≡ b
 unfolding cipher cipher_from inv_cipher inv_cipher_rounds
 cipher-inv_cipher key b h =
-    let w : List ℕ = expanded key in
+    let w : List ℕ = round_key_words key in
     let r : ℕ = round_count key in
     let first : r - 1 - (r - 1) ≡ 0 = omega arith in
     ap (λ (z : List ℕ). add_round_key (shift_rows (sub_bytes z)) (round_key w r)) (rounds_again w b r (r - 1) (omega arith) h)

@@ -6,7 +6,7 @@ use Rattle.std.proofs.lemmas.List.{take_more_set, take_more, get_or-take, length
 use Rattle.std.proofs.lemmas.Nat.{be_bytes_4}
 use Rattle.std.specs.Int.{w32, rotate_left}
 use Rattle.std.specs.List.{flat_map}
-use Rattle.aes_core.specs.KeyExpansion.{is_key_length, sub_word, round_constant, key_step, first_words, key_words, expanded, key_of_words}
+use Rattle.aes_core.specs.KeyExpansion.{is_key_length, sub_word, round_constant, key_step, first_words, key_words, round_key_words, key_of_words}
 use Rattle.aes_core.specs.Words.{word_bytes, word_at}
 
 -- the lengths of keys, as bounds
@@ -132,8 +132,8 @@ bytes-first_words key (suc n) fits long =
 
 -- the words of a key's expansion have that key
 pub key_of_words-expanded : (key words : List ℕ) → ((k : ℕ) → get_or key k 0 < 256) → length key % 4 ≡ 0
-    → take (4 * (length key / 4 + 7)) words ≡ expanded key → key_of_words (length key / 4 + 6) words ≡ key
-unfolding key_of_words expanded
+    → take (4 * (length key / 4 + 7)) words ≡ round_key_words key → key_of_words (length key / 4 + 6) words ≡ key
+unfolding key_of_words round_key_words
 key_of_words-expanded key words fits whole e =
     let nk : ℕ = length key / 4 in
     let count : nk + 6 - 6 ≡ nk = omega arith in

@@ -10,7 +10,7 @@ use Rattle.std.proofs.lemmas.List.{get_or_past}
 use lib.Bits.{xor_assoc, xor_self, xor_zero_r}
 use Rattle.aes_core.specs.Cipher.{cipher_rounds, cipher_from, cipher, inv_cipher_rounds, inv_cipher_from, inv_cipher}
 use Rattle.aes_core.specs.Field.{xtimes, multiply_powers, multiply, substitute, inverse_substitute}
-use Rattle.aes_core.specs.KeyExpansion.{round_key, expanded, round_count}
+use Rattle.aes_core.specs.KeyExpansion.{round_key, round_key_words, round_count}
 use Rattle.aes_core.specs.Transformations.{state_of, sum_of, sub_bytes, shift_rows, mix_column, mix_columns, add_round_key, inv_sub_bytes, inv_shift_rows, inv_mix_column, inv_mix_columns}
 use Rattle.aes_core.specs.Words.{word_bytes}
 use Rattle.aes_core.proofs.FieldLemmas.{multiply-xor, sum_of-xor, four_columns, four, four_sums}
@@ -242,7 +242,7 @@ one_round_back w b m long = added_twice (mix_columns (shift_rows (sub_bytes (cip
 pub IsState-cipher : (key b : List ℕ) → IsState b → IsState (cipher key b)
 unfolding cipher cipher_from
 IsState-cipher key b h =
-    let w : List ℕ = expanded key in
+    let w : List ℕ = round_key_words key in
     let r : ℕ = round_count key in
     let s : List ℕ = shift_rows (sub_bytes (cipher_rounds w b (r - 1))) in
     IsState-add_round_key s (round_key w r)
@@ -272,7 +272,7 @@ rounds_back w b r (suc n) h hb =
 pub inv_cipher-cipher : (key b : List ℕ) → IsState b → inv_cipher key (cipher key b) ≡ b
 unfolding cipher inv_cipher inv_cipher_from cipher_rounds
 inv_cipher-cipher key b h =
-    let w : List ℕ = expanded key in
+    let w : List ℕ = round_key_words key in
     let r : ℕ = round_count key in
     let first : r - 1 - (r - 1) ≡ 0 = omega arith in
     ap (λ (z : List ℕ). add_round_key (inv_sub_bytes (inv_shift_rows z)) (round_key w 0)) (rounds_back w b r (r - 1) (omega arith) h)

@@ -7,7 +7,7 @@ use Rattle.std.proofs.lemmas.List.FromFn.{get_or-map-range_with_len}
 use Rattle.aes_core.specs.declared.tables.TheConstants.{SUBSTITUTE}
 use Rattle.aes_core.specs.Field.{xtimes, multiply_powers, multiply, power, inverse, byte_of_bits, affine, inverse_affine, substitute, inverse_substitute}
 use Rattle.aes_core.specs.Transformations.{state_of, sub_bytes, shift_rows, mix_column, mix_columns, add_round_key}
-use Rattle.aes_core.specs.KeyExpansion.{round_count, sub_word, round_constant, key_step, first_words, key_words, expanded, round_key}
+use Rattle.aes_core.specs.KeyExpansion.{round_count, sub_word, round_constant, key_step, first_words, key_words, round_key_words, round_key}
 use Rattle.aes_core.specs.Words.{word_bytes, word_at}
 use Rattle.aes_core.specs.Cipher.{cipher_rounds, cipher_from, cipher}
 use Rattle.aes_core.proofs.FieldLemmas.{four}
@@ -108,12 +108,12 @@ table_cipher key b =
     table_from (table_words nk key (4 * (round_count key + 1) - nk)) (round_count key) b
 
 table_cipher-cipher : (key b : List ℕ) → length b ≡ 16 → map (λ (x : ℕ). x % 256) b ≡ b → table_cipher key b ≡ cipher key b
-unfolding table_cipher cipher expanded
+unfolding table_cipher cipher round_key_words
 table_cipher-cipher key b long same =
     let nk : ℕ = length key / 4 in
     let state : IsState b = record { long = long; bytes = λ i. subst (λ (l : List ℕ). get_or l i 0 < 256) same (bytes-map (λ (x : ℕ). x % 256) (λ x. omega arith) b i) } in
     ap (λ (w : List ℕ). table_from w (round_count key) b) (table_words-key_words nk key (4 * (round_count key + 1) - nk))
-    ∙ table_from-cipher_from (expanded key) (round_count key) b state
+    ∙ table_from-cipher_from (round_key_words key) (round_count key) b state
 
 -- appendix C, with 128 bits
 table_128 : table_cipher

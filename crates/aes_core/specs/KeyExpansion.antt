@@ -38,8 +38,8 @@ key_words nk key (suc n) =
     w ++ bit_xor (slice_index w n) (key_step nk (nk + n) (slice_index w (nk + n - 1))) ∷ []
 
 -- all words of a key's round keys: four before the first round, and four for each round
-unfoldable pub expanded : List ℕ → List ℕ
-expanded key =
+unfoldable pub round_key_words : List ℕ → List ℕ
+round_key_words key =
     let nk = length key / 4 in
     key_words nk key (4 * (round_count key + 1) - nk)
 
@@ -65,5 +65,5 @@ inv_mixed_word x =
 -- the words begin with a key's expansion, and the inverse words are these through InvMixColumns
 pub record IsExpansion (rounds : ℕ) (words inverse_words : List ℕ) : Type 0 where
   pub length_is : IsTrue (is_key_length (4 * (rounds - 6)))
-  pub words_are : take (4 * (rounds + 1)) words ≡ expanded (key_of_words rounds words)
+  pub words_are : take (4 * (rounds + 1)) words ≡ round_key_words (key_of_words rounds words)
   pub inverse_are : (i : ℕ) → i < 60 → word_bytes (slice_index inverse_words i) ≡ inv_mixed_word (slice_index words i)

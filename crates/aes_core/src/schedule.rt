@@ -2,7 +2,7 @@
 
 ghost use Rattle.std.specs.Prelude.{◌≡◌, ◌<◌, ◌≤◌, ◌+◌, ◌*◌, ◌/◌, ℕ, length, take, slice_index, IsTrue, IsOk, IfOk, IfErr, ◌↔◌};
 ghost use Rattle.aes_core.specs.Key.{key_bytes};
-ghost use Rattle.aes_core.specs.KeyExpansion.{is_key_length, first_words, expanded, inv_mixed_word, key_step, sub_word, round_constant};
+ghost use Rattle.aes_core.specs.KeyExpansion.{is_key_length, first_words, round_key_words, inv_mixed_word, key_step, sub_word, round_constant};
 ghost use Rattle.aes_core.specs.Words.{word_bytes, word_at};
 
 use crate::columns::{inverse_mixed_word, substitute};
@@ -98,7 +98,7 @@ fn first_words(key: &[u8]) -> [u32; 60]
 /// The words of the round keys, and zeros behind them.
 fn schedule(key: &[u8]) -> [u32; 60]
     requires { IsTrue (is_key_length (length key.now)) }
-    ensures { take (4 * (length key.now / 4 + 7)) result ≡ expanded key.now }
+    ensures { take (4 * (length key.now / 4 + 7)) result ≡ round_key_words key.now }
 {
     let nk = key.len() / 4;
     let mut words = first_words(key);

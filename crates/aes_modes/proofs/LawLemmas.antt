@@ -12,36 +12,36 @@ use Rattle.aes_core.proofs.LawLemmas.{IsState, IsState-cipher, inv_cipher-cipher
 use Rattle.aes_modes.proofs.CounterLemmas.{length-cipher}
 use Rattle.aes_modes.proofs.TextLemmas.{block_at-append}
 use Rattle.aes_modes.specs.Conversion.{ends_within}
-use Rattle.aes_modes.specs.Modes.{block_at, xor_bytes, joined, cbc_block, block_before, number_of, counter_block, ctr_from, mode_text}
+use Rattle.aes_modes.specs.Modes.{block_at, xor_bytes, join_blocks, cbc_block, block_before, number_of, counter_block, ctr_from, mode_text}
 use Rattle.aes_modes.specs.declared.modes.Mode.{Mode}
 use Rattle.aes_modes.specs.declared.modes.Mode.TheVariants.{Ecb, Cbc, Ctr}
 use Rattle.aes_modes.specs.declared.modes.Way.TheVariants.{Encrypt, Decrypt}
 
 -- ---- blocks that are joined
-length-joined : (f : ℕ → List ℕ) → ((n : ℕ) → length (f n) ≡ 16) → (k : ℕ) → length (joined f k) ≡ 16 * k
-unfolding joined
+length-joined : (f : ℕ → List ℕ) → ((n : ℕ) → length (f n) ≡ 16) → (k : ℕ) → length (join_blocks f k) ≡ 16 * k
+unfolding join_blocks
 length-joined f h zero = refl
-length-joined f h (suc k) = omega (arith, length-append (joined f k) (f k), length-joined f h k, h k)
+length-joined f h (suc k) = omega (arith, length-append (join_blocks f k) (f k), length-joined f h k, h k)
 
-block_at-joined : (f : ℕ → List ℕ) → ((n : ℕ) → length (f n) ≡ 16) → (k n : ℕ) → n < k → block_at (joined f k) n ≡ f n
-unfolding joined
+block_at-joined : (f : ℕ → List ℕ) → ((n : ℕ) → length (f n) ≡ 16) → (k n : ℕ) → n < k → block_at (join_blocks f k) n ≡ f n
+unfolding join_blocks
 block_at-joined f h zero n lt = absurd (omega arith)
 block_at-joined f h (suc k) n lt =
-    let long : length (joined f k) ≡ 16 * k = length-joined f h k in
+    let long : length (join_blocks f k) ≡ 16 * k = length-joined f h k in
     elim (cases_lt n k) [
-      | inl below ↦ block_at-append (joined f k) (f k) n (omega arith) ∙ block_at-joined f h k n below
+      | inl below ↦ block_at-append (join_blocks f k) (f k) n (omega arith) ∙ block_at-joined f h k n below
       | inr above ↦
           let e : n ≡ k = omega arith in
-          rw e (ap (take 16) (drop_at (joined f k) (f k) (16 * k) long) ∙ take_all 16 (f k) (omega (arith, h k)))
+          rw e (ap (take 16) (drop_at (join_blocks f k) (f k) (16 * k) long) ∙ take_all 16 (f k) (omega (arith, h k)))
     ]
 
-joined-same : (f g : ℕ → List ℕ) (k : ℕ) → ((n : ℕ) → n < k → f n ≡ g n) → joined f k ≡ joined g k
-unfolding joined
+joined-same : (f g : ℕ → List ℕ) (k : ℕ) → ((n : ℕ) → n < k → f n ≡ g n) → join_blocks f k ≡ join_blocks g k
+unfolding join_blocks
 joined-same f g zero e = refl
 joined-same f g (suc k) e = rw (joined-same f g k (λ n h. e n (omega arith)), e k (omega arith)) refl
 
-joined-block_at : (m : List ℕ) (k : ℕ) → joined (block_at m) k ≡ take (16 * k) m
-unfolding joined
+joined-block_at : (m : List ℕ) (k : ℕ) → join_blocks (block_at m) k ≡ take (16 * k) m
+unfolding join_blocks
 joined-block_at m zero = refl
 joined-block_at m (suc k) =
     let at : 16 * k + 16 ≡ 16 * suc k = omega arith in
@@ -102,9 +102,9 @@ whole_blocks n h =
 
 -- ---- the laws, mode by mode
 ecb_undone : (key m : List ℕ) → ((i : ℕ) → get_or m i 0 < 256) → 16 * (length m / 16) ≡ length m
-    → joined (λ n. inv_cipher key (block_at (joined (λ k. cipher key (block_at m k)) (length m / 16)) n)) (length m / 16) ≡ m
+    → join_blocks (λ n. inv_cipher key (block_at (join_blocks (λ k. cipher key (block_at m k)) (length m / 16)) n)) (length m / 16) ≡ m
 ecb_undone key m bytes e =
-    let text : List ℕ = joined (λ k. cipher key (block_at m k)) (length m / 16) in
+    let text : List ℕ = join_blocks (λ k. cipher key (block_at m k)) (length m / 16) in
     joined-same (λ n. inv_cipher key (block_at text n)) (block_at m) (length m / 16)
     (λ n h. ap (inv_cipher key) (block_at-joined (λ k. cipher key (block_at m k)) (λ k. length-cipher key (block_at m k)) (length m / 16) n h)
     ∙ inv_cipher-cipher key (block_at m n) (block_state m n bytes (omega arith)))
@@ -131,16 +131,17 @@ cbc_state key iv m hv bytes (suc n) h =
     rw (cbc_block_from key iv m n)
     (IsState-cipher key (xor_bytes (added key iv m n) (block_at m n)) (xor_state (added key iv m n) (block_at m n) before (block_state m n bytes (omega arith))))
 
-before_is : (key iv m : List ℕ) (k n : ℕ) → n < k → block_before iv (joined (cbc_block key iv m) k) n ≡ added key iv m n
+before_is : (key iv m : List ℕ) (k n : ℕ) → n < k → block_before iv (join_blocks (cbc_block key iv m) k) n ≡ added key iv m n
 unfolding block_before added
 before_is key iv m k zero h = refl
 before_is key iv m k (suc n) h = block_at-joined (cbc_block key iv m) (length-cbc_block key iv m) k n (omega arith)
 
 cbc_undone : (key iv m : List ℕ) → IsState iv → ((i : ℕ) → get_or m i 0 < 256) → 16 * (length m / 16) ≡ length m
-    → joined (λ n. xor_bytes (inv_cipher key (block_at (joined (cbc_block key iv m) (length m / 16)) n)) (block_before iv (joined (cbc_block key iv m) (length m / 16)) n)) (length m / 16) ≡ m
+    → join_blocks (λ n. xor_bytes (inv_cipher key (block_at (join_blocks (cbc_block key iv m) (length m / 16)) n)) (block_before iv (join_blocks (cbc_block key iv m) (length m / 16)) n))
+    (length m / 16) ≡ m
 cbc_undone key iv m hv bytes e =
     let k : ℕ = length m / 16 in
-    let text : List ℕ = joined (cbc_block key iv m) k in
+    let text : List ℕ = join_blocks (cbc_block key iv m) k in
     joined-same (λ n. xor_bytes (inv_cipher key (block_at text n)) (block_before iv text n)) (block_at m) k
     (λ n h.
     let before : IsState (added key iv m n) = cbc_state key iv m hv bytes n (omega arith) in
@@ -164,10 +165,10 @@ pub undone : (mode : Mode) (key iv m : List ℕ) → length iv ≡ 16 → All (�
 unfolding mode_text
 undone Ecb key iv m long hv hm e =
     let k : ℕ = length m / 16 in
-    let count : length (joined (λ n. cipher key (block_at m n)) k) / 16 ≡ k = omega (arith, length-joined (λ n. cipher key (block_at m n)) (λ n. length-cipher key (block_at m n)) k) in
+    let count : length (join_blocks (λ n. cipher key (block_at m n)) k) / 16 ≡ k = omega (arith, length-joined (λ n. cipher key (block_at m n)) (λ n. length-cipher key (block_at m n)) k) in
     rw count (ecb_undone key m (bytes_of m hm) (whole_blocks (length m) e))
 undone Cbc key iv m long hv hm e =
     let k : ℕ = length m / 16 in
-    let count : length (joined (cbc_block key iv m) k) / 16 ≡ k = omega (arith, length-joined (cbc_block key iv m) (length-cbc_block key iv m) k) in
+    let count : length (join_blocks (cbc_block key iv m) k) / 16 ≡ k = omega (arith, length-joined (cbc_block key iv m) (length-cbc_block key iv m) k) in
     rw count (cbc_undone key iv m (record { long = long; bytes = bytes_of iv hv }) (bytes_of m hm) (whole_blocks (length m) e))
 undone Ctr key iv m long hv hm e = ctr_undone key iv 0 m

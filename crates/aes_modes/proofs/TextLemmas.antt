@@ -4,8 +4,8 @@ use Rattle.std.proofs.lemmas.List.{take-append-le, drop-append-le, drop-drop, le
 use Rattle.aes_core.specs.Cipher.{cipher, inv_cipher}
 use Rattle.aes_core.specs.Key.{key_bytes}
 use Rattle.aes_modes.proofs.CounterLemmas.{ctr_from-append}
-use Rattle.aes_modes.specs.Conversion.{Conversion, text_of, extended, begun}
-use Rattle.aes_modes.specs.Modes.{block_at, xor_bytes, joined, cbc_block, block_before, number_of, ctr_from, mode_text}
+use Rattle.aes_modes.specs.Conversion.{Conversion, text_of, with_more, begun}
+use Rattle.aes_modes.specs.Modes.{block_at, xor_bytes, join_blocks, cbc_block, block_before, number_of, ctr_from, mode_text}
 use Rattle.aes_modes.specs.Stream.{step_text, step_vector, vector_after, blocks_text, Keeps, Represents}
 use Rattle.aes_modes.specs.declared.modes.Mode.{Mode}
 use Rattle.aes_modes.specs.declared.modes.Mode.TheVariants.{Ecb, Cbc, Ctr}
@@ -25,8 +25,8 @@ block_before_is key iv m zero = refl
 block_before_is key iv m (suc n) = refl
 
 joined_is : (mode : Mode) (way : Way) (key iv m : List ℕ) (block : ℕ → List ℕ)
-    → ((n : ℕ) → block n ≡ step_text mode way key (vector_after mode way key iv m n) (block_at m n)) → (n : ℕ) → joined block n ≡ blocks_text mode way key iv m n
-unfolding joined blocks_text
+    → ((n : ℕ) → block n ≡ step_text mode way key (vector_after mode way key iv m n) (block_at m n)) → (n : ℕ) → join_blocks block n ≡ blocks_text mode way key iv m n
+unfolding join_blocks blocks_text
 joined_is mode way key iv m block e zero = refl
 joined_is mode way key iv m block e (suc n) = rw (joined_is mode way key iv m block e n, e n) refl
 
@@ -123,7 +123,7 @@ vector_so_far s c x h r =
 -- the text of more bytes, by the blocks that they fill
 pub blocks_text_more : (s : Stream) (c : Conversion) (x out : List ℕ) → s.mode ≢ Ctr → Represents s c
     → out ≡ blocks_text s.mode s.way (key_bytes s.key) s.vector (take s.count s.held ++ x) ((s.count + length x) / 16)
-    → text_of (extended c x) ≡ text_of c ++ out
+    → text_of (with_more c x) ≡ text_of c ++ out
 blocks_text_more s c x out hs r e =
     let h : c.mode ≢ Ctr = not_ctr s c r hs in
     let m : List ℕ = c.message in
@@ -140,7 +140,7 @@ pub represents_blocks : (s t : Stream) (c : Conversion) (x : List ℕ) → s.mod
     → t.key ≡ s.key → t.mode ≡ s.mode → t.way ≡ s.way → t.iv ≡ s.iv → t.count ≡ (s.count + length x) % 16
     → take t.count t.held ≡ drop (16 * ((s.count + length x) / 16)) (take s.count s.held ++ x)
     → t.vector ≡ vector_after s.mode s.way (key_bytes s.key) s.vector (take s.count s.held ++ x) ((s.count + length x) / 16)
-    → Represents t (extended c x)
+    → Represents t (with_more c x)
 represents_blocks s t c x hs r ek em ew ei ec eh ev =
     let h : c.mode ≢ Ctr = not_ctr s c r hs in
     let m : List ℕ = c.message in
@@ -157,7 +157,7 @@ represents_blocks s t c x hs r ek em ew ei ec eh ev =
       way_is = ew ∙ r.way_is;
       iv_is = ei ∙ r.iv_is;
       count_is = ec ∙ omega (arith, length-append m x, r.count_is);
-      keeps = keeps_from_blocks c.mode t (extended c x) h (held, vector);
+      keeps = keeps_from_blocks c.mode t (with_more c x) h (held, vector);
     }
 
 -- ---- counter mode
@@ -167,7 +167,7 @@ ctr_text mode way key iv m e = rw e refl
 
 pub bytes_text_more : (s : Stream) (c : Conversion) (x out : List ℕ) → s.mode ≡ Ctr → Represents s c
     → ((j : ℕ) → s.counter ≡ (number_of s.iv + j) % 2 ^ 128 → out ≡ ctr_from (key_bytes s.key) s.iv (16 * j + s.count) x)
-    → text_of (extended c x) ≡ text_of c ++ out
+    → text_of (with_more c x) ≡ text_of c ++ out
 bytes_text_more s c x out es r e =
     let em : c.mode ≡ Ctr = sym r.mode_is ∙ es in
     let m : List ℕ = c.message in
@@ -180,7 +180,7 @@ bytes_text_more s c x out es r e =
 pub represents_bytes : (s t : Stream) (c : Conversion) (x : List ℕ) → s.mode ≡ Ctr → Represents s c
     → t.key ≡ s.key → t.mode ≡ s.mode → t.way ≡ s.way → t.iv ≡ s.iv → t.count ≡ (s.count + length x) % 16
     → t.counter ≡ (s.counter + (s.count + length x) / 16) % 2 ^ 128
-    → Represents t (extended c x)
+    → Represents t (with_more c x)
 represents_bytes s t c x es r ek em ew ei ec et =
     let m : List ℕ = c.message in
     let mode : c.mode ≡ Ctr = sym r.mode_is ∙ es in
@@ -193,7 +193,7 @@ represents_bytes s t c x es r ek em ew ei ec et =
       way_is = ew ∙ r.way_is;
       iv_is = ei ∙ r.iv_is;
       count_is = ec ∙ omega (arith, length-append m x, r.count_is);
-      keeps = keeps_from_bytes c.mode t (extended c x) mode after;
+      keeps = keeps_from_bytes c.mode t (with_more c x) mode after;
     }
 
 -- ---- the start

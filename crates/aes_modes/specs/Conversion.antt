@@ -20,12 +20,12 @@ abbrev pub text_of : Conversion → List ℕ
 text_of c = mode_text c.mode c.way c.key c.iv c.message
 
 -- with more bytes of the message
-abbrev pub extended : Conversion → List ℕ → Conversion
-extended c bytes = record c { message = c.message ++ bytes }
+abbrev pub with_more : Conversion → List ℕ → Conversion
+with_more c bytes = record c { message = c.message ++ bytes }
 
 -- as at its start
-abbrev pub restarted : Conversion → Conversion
-restarted c = record c { message = [] }
+abbrev pub at_start : Conversion → Conversion
+at_start c = record c { message = [] }
 
 -- the start of a message
 abbrev pub begun : List ℕ → Mode → Way → List ℕ → Conversion

@@ -18,9 +18,9 @@ xor_bytes (x ∷ xs) [] = []
 xor_bytes (x ∷ xs) (k ∷ ks) = bit_xor x k ∷ xor_bytes xs ks
 
 -- the first n of a sequence of blocks, one after the other
-unfoldable pub joined : (ℕ → List ℕ) → ℕ → List ℕ
-joined block zero = []
-joined block (suc n) = joined block n ++ block n
+unfoldable pub join_blocks : (ℕ → List ℕ) → ℕ → List ℕ
+join_blocks block zero = []
+join_blocks block (suc n) = join_blocks block n ++ block n
 
 -- output block n of CBC encryption (6.2)
 unfoldable pub cbc_block : List ℕ → List ℕ → List ℕ → ℕ → List ℕ
@@ -48,9 +48,9 @@ ctr_from key iv i (x ∷ xs) =
 
 -- what a mode makes of a message: of its whole blocks, or in counter mode of each byte
 unfoldable pub mode_text : Mode → Way → List ℕ → List ℕ → List ℕ → List ℕ
-mode_text Ecb Encrypt key iv m = joined (λ n. cipher key (block_at m n)) (length m / 16)
-mode_text Ecb Decrypt key iv m = joined (λ n. inv_cipher key (block_at m n)) (length m / 16)
-mode_text Cbc Encrypt key iv m = joined (cbc_block key iv m) (length m / 16)
+mode_text Ecb Encrypt key iv m = join_blocks (λ n. cipher key (block_at m n)) (length m / 16)
+mode_text Ecb Decrypt key iv m = join_blocks (λ n. inv_cipher key (block_at m n)) (length m / 16)
+mode_text Cbc Encrypt key iv m = join_blocks (cbc_block key iv m) (length m / 16)
 mode_text Cbc Decrypt key iv m =
-    joined (λ n. xor_bytes (inv_cipher key (block_at m n)) (block_before iv m n)) (length m / 16)
+    join_blocks (λ n. xor_bytes (inv_cipher key (block_at m n)) (block_before iv m n)) (length m / 16)
 mode_text Ctr way key iv m = ctr_from key iv 0 m

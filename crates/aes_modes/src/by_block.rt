@@ -9,7 +9,7 @@ impl Stream {
     ghost use Rattle.std.specs.Prelude.{◌≡◌, ◌≢◌, ◌+◌, ◌-◌, ◌*◌, ◌/◌, ◌<◌, ◌≤◌, ◌++◌, length, take, drop};
     ghost use Rattle.aes_core.specs.Key.{key_bytes};
     ghost use Rattle.aes_modes.specs.Modes.{block_at};
-    ghost use Rattle.aes_modes.specs.Conversion.{Conversion, text_of, extended};
+    ghost use Rattle.aes_modes.specs.Conversion.{Conversion, text_of, with_more};
     ghost use Rattle.aes_modes.specs.Stream.{step_text, step_vector, vector_after, blocks_text, Represents};
 
     // One block in place, after `vector`, which goes on to the next block.
@@ -101,10 +101,10 @@ impl Stream {
         requires small { length input.now ≤ 524288 }
         requires room { (self.old.count + length input.now) / 16 * 16 ≤ length output.old }
         ensures text { (c : Conversion) → Represents self.old c
-            → text_of (extended c input.now)
+            → text_of (with_more c input.now)
             ≡ text_of c ++ take ((self.old.count + length input.now) / 16 * 16) output.new }
         ensures taken { (c : Conversion) → Represents self.old c
-            → Represents self.new (extended c input.now) }
+            → Represents self.new (with_more c input.now) }
         ensures rest { drop ((self.old.count + length input.now) / 16 * 16) output.new
             ≡ drop ((self.old.count + length input.now) / 16 * 16) output.old }
     {

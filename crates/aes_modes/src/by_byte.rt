@@ -9,7 +9,7 @@ impl Stream {
     ghost use Rattle.aes_core.specs.Key.{key_bytes};
     ghost use Rattle.aes_core.specs.Shared.{IsSharedStart};
     ghost use Rattle.aes_modes.specs.declared.modes.Mode.{Mode};
-    ghost use Rattle.aes_modes.specs.Conversion.{Conversion, text_of, extended};
+    ghost use Rattle.aes_modes.specs.Conversion.{Conversion, text_of, with_more};
     ghost use Rattle.aes_modes.specs.Stream.{Represents};
     ghost use Rattle.aes_modes.specs.Modes.{number_of, counter_block, ctr_from};
 
@@ -62,9 +62,9 @@ impl Stream {
         requires small { length input.now ≤ 524288 }
         requires room { length input.now ≤ length output.old }
         ensures text { (c : Conversion) → Represents self.old c
-            → text_of (extended c input.now) ≡ text_of c ++ take (length input.now) output.new }
+            → text_of (with_more c input.now) ≡ text_of c ++ take (length input.now) output.new }
         ensures taken { (c : Conversion) → Represents self.old c
-            → Represents self.new (extended c input.now) }
+            → Represents self.new (with_more c input.now) }
         ensures rest { drop (length input.now) output.new ≡ drop (length input.now) output.old }
     {
         self.write_bytes(input, output);

@@ -26,7 +26,7 @@ pub fn start(key: Key, mode: Mode, way: Way, iv: [u8; 16]) -> Stream
 
 impl Stream {
     ghost use Rattle.std.specs.Prelude.{◌≡◌, ◌≤◌, ◌++◌, length, take, drop, OnOk, OnErr, IfOk};
-    ghost use Rattle.aes_modes.specs.Conversion.{Conversion, text_of, extended, restarted, needed_by, needed_of, update_answer, finish_answer};
+    ghost use Rattle.aes_modes.specs.Conversion.{Conversion, text_of, with_more, at_start, needed_by, needed_of, update_answer, finish_answer};
     ghost use Rattle.aes_modes.specs.Stream.{Represents};
 
     /// How many bytes `count` more bytes of the message give.
@@ -48,9 +48,9 @@ impl Stream {
         ensures answer { (c : Conversion) → Represents self.old c
             → result ≡ update_answer c (length input.now) (length output.old) }
         ensures text { (c : Conversion) → Represents self.old c
-            → IfOk result (λ n. text_of (extended c input.now) ≡ text_of c ++ take n output.new) }
+            → IfOk result (λ n. text_of (with_more c input.now) ≡ text_of c ++ take n output.new) }
         ensures taken { (c : Conversion) → Represents self.old c
-            → OnOk result (Represents self.new (extended c input.now)) }
+            → OnOk result (Represents self.new (with_more c input.now)) }
         ensures rest { IfOk result (λ n. drop n output.new ≡ drop n output.old) }
         ensures unchanged { OnErr result ((self.new ≡ self.old) × (output.new ≡ output.old)) }
     {
@@ -74,9 +74,9 @@ impl Stream {
         ensures answer { (c : Conversion) → Represents self.old c
             → result ≡ finish_answer c (length input.now) (length output.old) }
         ensures text { (c : Conversion) → Represents self.old c
-            → IfOk result (λ n. text_of (extended c input.now) ≡ text_of c ++ take n output.new) }
+            → IfOk result (λ n. text_of (with_more c input.now) ≡ text_of c ++ take n output.new) }
         ensures restarted { (c : Conversion) → Represents self.old c
-            → OnOk result (Represents self.new (restarted c)) }
+            → OnOk result (Represents self.new (at_start c)) }
         ensures rest { IfOk result (λ n. drop n output.new ≡ drop n output.old) }
         ensures unchanged { OnErr result ((self.new ≡ self.old) × (output.new ≡ output.old)) }
     {
@@ -104,11 +104,11 @@ impl Stream {
         requires room { needed_by self.old.mode self.old.count (length input.now)
             ≤ length output.old }
         ensures text { (c : Conversion) → Represents self.old c
-            → text_of (extended c input.now)
+            → text_of (with_more c input.now)
             ≡ text_of c
             ++ take (needed_by self.old.mode self.old.count (length input.now)) output.new }
         ensures taken { (c : Conversion) → Represents self.old c
-            → Represents self.new (extended c input.now) }
+            → Represents self.new (with_more c input.now) }
         ensures rest { drop (needed_by self.old.mode self.old.count (length input.now)) output.new
             ≡ drop (needed_by self.old.mode self.old.count (length input.now)) output.old }
     {

@@ -11,10 +11,10 @@ use Rattle.store_api.specs.Stores.{Store}
 use Rattle.object_asks.specs.Asks.{Serves, Fails, Damaged}
 use Rattle.op_queue.specs.declared.operation.Operation.{Operation}
 use Rattle.op_queue.proofs.Keeps.{forgotten_IsQueue}
-use Rattle.op_queue.specs.Queue.{forgotten, is_close, waits_for, facts_of as operation_facts}
+use Rattle.op_queue.specs.Queue.{without_operations, is_close, waits_for, facts_of as operation_facts}
 use Rattle.alone.specs.Machine.{Machine, start}
 use Rattle.alone.specs.Marks.{Marks, event_at}
-use Rattle.alone.specs.Step.{Event, Called, Cancelled, Turned, TurnLost, Corrupted, Lost, Starved, Restarted, step, belongs_to, called, is_enabled, turn_counted, is_answered}
+use Rattle.alone.specs.Step.{Event, Called, Cancelled, Turned, TurnLost, Corrupted, Lost, Starved, Restarted, step, belongs_to, after_call, is_enabled, turn_counted, is_answered}
 use Rattle.alone.specs.Runs.{most_turns, machine_after, turns_until}
 use Rattle.alone.specs.Answering.{CallIsAnswered, OperationsAreFew}
 use Rattle.alone.proofs.Totals.{bit, total_both, total_count, total_le, total_ones}
@@ -117,7 +117,7 @@ module _ {A : Type 0} (behaviour : Behaviour A) where
 
   call_is_answered : (marks : Marks) (m : Machine A) (client : ℕ) (call : Call) → IsSoundMachine m → CallIsAnswered behaviour marks m client call
   call_is_answered marks m client call h =
-      let s = called m client call in
+      let s = after_call m client call in
       let now = takes m client call h in
       within marks most_turns s.machine m.queue.next s.instance now.sound (omega (arith, h.queue.first)) now.below now.owner (omega (arith, enough, measure_few s.machine s.instance now.sound))
 
@@ -131,7 +131,7 @@ module _ {A : Type 0} (behaviour : Behaviour A) where
   step_sound m Lost h = h
   step_sound m (Cancelled op) h = cancels m op h
   step_sound m (Starved i) h = (fails (turn_counted m) i h).sound
-  step_sound m (Restarted took) h = nothing_sound (forgotten m.queue) m.table.properties (forgotten_IsQueue m.queue h.queue) refl
+  step_sound m (Restarted took) h = nothing_sound (without_operations m.queue) m.table.properties (forgotten_IsQueue m.queue h.queue) refl
 
   events_sound : (m : Machine A) (events : List Event) → IsSoundMachine m → IsSoundMachine (machine_after behaviour m events)
   events_sound m [] h = h

@@ -9,7 +9,7 @@ use Rattle.op_queue.specs.declared.operation.Progress.TheVariants.{Waiting}
 use Rattle.op_queue.specs.declared.operation.Operation.{Operation}
 use Rattle.op_queue.specs.declared.operation.Cancelled.{Cancelled as Cancellation}
 use Rattle.op_queue.specs.declared.operation.Cancelled.TheVariants.{Dropped, Flagged, Nothing}
-use Rattle.op_queue.specs.Queue.{Queue, after_begin, after_cancel, masked_as, requested, started, submitted}
+use Rattle.op_queue.specs.Queue.{Queue, after_begin, after_cancel, masked_as, as_requested, as_running, with_operation}
 use Rattle.object_asks.specs.Asks.{Serves, Fails, Damaged, Outcome, Answered, Returned, Panicked, Resolution, Settled, ComesToStore, Objects, object_resolution}
 use Rattle.object_asks.specs.Keys.{generate_resolution}
 use Rattle.object_asks.proofs.SoundAsks.{Goes, Leaves}
@@ -41,14 +41,14 @@ length_put new (x ∷ xs) =
 
 begun_length : (q : Queue) (o : Option Operation) → length (after_begin q o).operations ≡ length q.operations
 begun_length q None = refl
-begun_length q (Some o) = length-map q.operations (started o.number)
+begun_length q (Some o) = length-map q.operations (as_running o.number)
 
 cancel_length : (q : Queue) (op : ℕ) (c : Cancellation) → length (after_cancel q op c).operations ≤ length q.operations
 cancel_length q op Dropped = fewer (λ o. not (o.number == op)) q.operations
-cancel_length q op Flagged = omega (arith, length-map q.operations (requested op))
+cancel_length q op Flagged = omega (arith, length-map q.operations (as_requested op))
 cancel_length q op Nothing = omega arith
 
-submitted_length : (q : Queue) (client i session : ℕ) (call : Call) → length (submitted q client i session call).operations ≡ length q.operations + 1
+submitted_length : (q : Queue) (client i session : ℕ) (call : Call) → length (with_operation q client i session call).operations ≡ length q.operations + 1
 submitted_length q client i session call = length_push q.operations (record { number = q.next; client = client; session = session; instance = i; progress = Waiting call })
 
 entered_length : {A : Type 0} (b : Bool) (xs : List (Instance A)) (new : Instance A) → length (cond b (xs ++ new ∷ []) xs) ≤ length xs + 1

@@ -17,10 +17,10 @@ use Rattle.instances.specs.declared.session.SessionState.TheVariants.{Opening, O
 use Rattle.instances.specs.Instances.{Table, session_of, facts_of, is_dead, is_known_as, admission_of, state_set, session_removed}
 use Rattle.op_queue.specs.declared.operation.Operation.{Operation}
 use Rattle.op_queue.specs.declared.operation.Progress.TheVariants.{Waiting}
-use Rattle.op_queue.specs.Queue.{Queue, IsQueue, is_full, submitted}
+use Rattle.op_queue.specs.Queue.{Queue, IsQueue, is_full, with_operation}
 use Rattle.alone.specs.declared.active_entry.Instance.{Instance}
 use Rattle.alone.specs.Machine.{Machine}
-use Rattle.alone.specs.Step.{Stepped, called, called_open, opened_as, invoked_in, invoked_at, closed_in, closed_at, known, admitted, queued, answered_at_once}
+use Rattle.alone.specs.Step.{Stepped, after_call, called_open, opened_as, invoked_in, invoked_at, closed_in, closed_at, facts_of_label, after_admission, after_queueing, answered_at_once}
 use Rattle.tee_base.specs.declared.codes.TheConstants.Code.{SUCCESS, BAD_PARAMETERS, BAD_STATE, BUSY, TARGET_DEAD}
 use Rattle.alone.proofs.Totals.{each_from_index, found_has}
 use Rattle.alone.proofs.Each.{each_more}
@@ -51,7 +51,7 @@ module _ {A : Type 0} where
 
   -- a call waits
   waits : (m : Machine A) (t : Table) (xs : List (Instance A)) (client i session : ℕ) (call : Call) → IsQueue m.queue
-      → IsSound (submitted m.queue client i session call) t xs → IsCalled m.queue.next (queued (record m { table = t; instances = xs }) client i session call)
+      → IsSound (with_operation m.queue client i session call) t xs → IsCalled m.queue.next (after_queueing (record m { table = t; instances = xs }) client i session call)
   waits m t xs client i session call old h =
       let o : Operation = record { number = m.queue.next; client = client; session = session; instance = i; progress = Waiting call } in
       record {
@@ -64,7 +64,7 @@ module _ {A : Type 0} where
       → admission_of m.table client label ≡ r → IsCalled m.queue.next (opened_as m client label ps r)
   opens m client label ps h free (Err refusal) e = at_once m m.table refusal.code refusal.origin h
   opens m client label ps h free (Ok a) e =
-      let after = admitted m client label a in
+      let after = after_admission m client label a in
       waits m after.table after.instances client a.instance a.session (calls.Open label ps) h.queue (sound_open m.template m.queue m.table m.instances client label ps a h free e)
 
   takes_open : (m : Machine A) (client label : ℕ) (ps : Params) → IsSoundMachine m → IsCalled m.queue.next (called_open m client label ps)
@@ -72,10 +72,10 @@ module _ {A : Type 0} where
       let P : Stepped A → Type 0 = IsCalled m.queue.next in
       let last = opened_as m client label ps (admission_of m.table client label) in
       let third = cond (is_full m.queue) (answered_at_once m BUSY Tee) last in
-      let second = cond (is_some (known m client label)) (answered_at_once m BAD_STATE Api) third in
+      let second = cond (is_some (facts_of_label m client label)) (answered_at_once m BAD_STATE Api) third in
       cond_both (is_some (first_oversized ps)) (answered_at_once m BAD_PARAMETERS Api) second P
       (λ _. at_once m m.table BAD_PARAMETERS Api h)
-      (λ _. cond_both (is_some (known m client label)) (answered_at_once m BAD_STATE Api) third P
+      (λ _. cond_both (is_some (facts_of_label m client label)) (answered_at_once m BAD_STATE Api) third P
       (λ _. at_once m m.table BAD_STATE Api h)
       (λ _. cond_both (is_full m.queue) (answered_at_once m BUSY Tee) last P
       (λ _. at_once m m.table BUSY Tee h)
@@ -88,7 +88,7 @@ module _ {A : Type 0} where
   invokes m client label command ps s h e Dead same = at_once m m.table TARGET_DEAD Tee h
   invokes m client label command ps s h e Open same =
       let there : HasSlot m.table s.instance = found_has (λ x. is_dead x.state ≡ false → HasSlot m.table x.instance) (is_known_as client label) m.table.sessions s h.sessions e (ap is_dead same) in
-      cond_both (is_full m.queue) (answered_at_once m BUSY Tee) (queued m client s.instance s.number (calls.Invoke label command ps)) (IsCalled m.queue.next)
+      cond_both (is_full m.queue) (answered_at_once m BUSY Tee) (after_queueing m client s.instance s.number (calls.Invoke label command ps)) (IsCalled m.queue.next)
       (λ _. at_once m m.table BUSY Tee h)
       (λ free. waits m m.table m.instances client s.instance s.number (calls.Invoke label command ps) h.queue
       (sound_invoke m.queue m.table m.instances client s.instance s.number label command ps h free there))
@@ -112,11 +112,11 @@ module _ {A : Type 0} where
   closes_in m client label h None e = at_once m m.table BAD_STATE Api h
   closes_in m client label h (Some s) e = closes m client label s h e s.state refl
 
-  pub takes : (m : Machine A) (client : ℕ) (call : Call) → IsSoundMachine m → IsCalled m.queue.next (called m client call)
-  unfolding called
+  pub takes : (m : Machine A) (client : ℕ) (call : Call) → IsSoundMachine m → IsCalled m.queue.next (after_call m client call)
+  unfolding after_call
   takes m client (calls.Open label ps) h = takes_open m client label ps h
   takes m client (calls.Invoke label command ps) h =
-      cond_both (is_some (first_oversized ps)) (answered_at_once m BAD_PARAMETERS Api) (invoked_in m client (calls.Invoke label command ps) (known m client label)) (IsCalled m.queue.next)
+      cond_both (is_some (first_oversized ps)) (answered_at_once m BAD_PARAMETERS Api) (invoked_in m client (calls.Invoke label command ps) (facts_of_label m client label)) (IsCalled m.queue.next)
       (λ _. at_once m m.table BAD_PARAMETERS Api h)
       (λ _. invokes_in m client label command ps h (session_of m.table client label) refl)
   takes m client (calls.Close label) h = closes_in m client label h (session_of m.table client label) refl

@@ -7,7 +7,7 @@ use Rattle.instances.specs.declared.session.Session.{Session}
 use Rattle.instances.specs.declared.session.Slot.{Slot}
 use Rattle.instances.specs.declared.session.SessionFacts.{SessionFacts}
 use Rattle.instances.specs.declared.session.SessionState.TheVariants.{Opening, Dead}
-use Rattle.instances.specs.Instances.{Table, destroy_begun, ended, entered, facts_of, instance_numbers, is_dead, killed, stays_after_end, with_ending}
+use Rattle.instances.specs.Instances.{Table, destroy_begun, without_instance, with_session, facts_of, instance_numbers, is_dead, dead_if_of, stays_after_end, with_ending}
 use Rattle.alone.specs.declared.active_entry.Instance.{Instance}
 use Rattle.alone.specs.declared.active_entry.ActiveEntry.{ActiveEntry}
 use Rattle.alone.specs.declared.active_entry.EntryPoint.{EntryPoint}
@@ -177,11 +177,11 @@ calm_begun {A} t ss xs new old h numbers once found counts none =
 
 -- ---- an instance is gone
 
-counting_ended : (i j : ℕ) (ss : List Session) → counting j (map (killed i) (filter (stays_after_end i) ss)) ≤ counting j ss
+counting_ended : (i j : ℕ) (ss : List Session) → counting j (map (dead_if_of i) (filter (stays_after_end i) ss)) ≤ counting j ss
 counting_ended i j ss =
     let f : Session → ℕ = λ s. bit (counts_in j (facts_of s)) in
-    let mapped = total_map f (killed i) (filter (stays_after_end i) ss) in
-    let le = total_le (λ s. f (killed i s)) f (filter (stays_after_end i) ss)
+    let mapped = total_map f (dead_if_of i) (filter (stays_after_end i) ss) in
+    let le = total_le (λ s. f (dead_if_of i s)) f (filter (stays_after_end i) ss)
     (λ s. cond_both (s.instance == i) (record s { state = Dead }) s (λ (o : Session). bit (counts_in j (facts_of o)) ≤ bit (counts_in j (facts_of s)))
     (λ _. omega (arith, dead (s.instance == j)))
     (λ _. omega arith)) in
@@ -195,7 +195,7 @@ none_left : (a b : Bool) → cond (not a) (bit (a && b)) 0 ≤ 0
 none_left true b = omega arith
 none_left false b = omega arith
 
-pub calm_ended : {A : Type 0} (t : Table) (xs : List (Instance A)) (i : ℕ) → IsCalm t xs → IsCalm (ended t i) (filter (λ other. not (is_number i other)) xs)
+pub calm_ended : {A : Type 0} (t : Table) (xs : List (Instance A)) (i : ℕ) → IsCalm t xs → IsCalm (without_instance t i) (filter (λ other. not (is_number i other)) xs)
 calm_ended {A} t xs i h =
     let q : Instance A → Bool = λ other. not (is_number i other) in
     let fewer : (j : ℕ) → destroyers j (filter q xs) ≤ destroyers j xs = λ j. filter_le (λ (x : Instance A). bit (destroys_at j x)) q xs in
@@ -237,7 +237,7 @@ endings_entered true slots slot i = omega (arith, total_push (λ (s : Slot). bit
 endings_entered false slots slot i = omega arith
 
 pub calm_entered : {A : Type 0} (template : A) (t : Table) (xs : List (Instance A)) (client label : ℕ) (a : Admission) → IsCalm t xs → length t.sessions < 8 → endings a.instance t.slots ≡ 0
-    → (t.properties.single ≡ false → counting a.instance t.sessions ≡ 0) → IsCalm (entered t client label a) (cond a.new_instance (xs ++ new_instance template a.instance ∷ []) xs)
+    → (t.properties.single ≡ false → counting a.instance t.sessions ≡ 0) → IsCalm (with_session t client label a) (cond a.new_instance (xs ++ new_instance template a.instance ∷ []) xs)
 calm_entered {A} template t xs client label a h room free lone =
     let n = a.instance in
     let session : Session = record { client = client; label = label; number = a.session; instance = n; state = Opening } in

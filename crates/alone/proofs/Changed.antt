@@ -11,7 +11,7 @@ use Rattle.instances.specs.Instances.{Table, IsTable, destroy_begun, is_dead}
 use Rattle.instances.proofs.Changes.{destroy_begun_IsTable}
 use Rattle.op_queue.specs.declared.operation.Operation.{Operation}
 use Rattle.op_queue.specs.declared.operation.Progress.TheVariants.{Waiting, Running as Runs}
-use Rattle.op_queue.specs.Queue.{Queue, IsQueue, ComesBefore, is_close, is_close_call, is_running, waits_for, first_waiting, started, after_begin, without}
+use Rattle.op_queue.specs.Queue.{Queue, IsQueue, ComesBefore, is_close, is_close_call, is_running, waits_for, first_waiting, as_running, after_begin, without}
 use Rattle.op_queue.proofs.Keeps.{started_IsQueue, without_IsQueue}
 use Rattle.alone.specs.declared.active_entry.Instance.{Instance}
 use Rattle.alone.specs.declared.active_entry.ActiveEntry.{ActiveEntry}
@@ -61,13 +61,13 @@ begun_from o = record o { progress = Runs (is_close o.progress) false true }
 
 -- a measure of operations that wait falls by that of one that begins
 pub started_less : (f : Operation → ℕ) (q : Operation → Bool) (os : List Operation) (o : Operation) → find q os ≡ Some o
-    → ((x : Operation) → f (begun_from x) ≡ 0) → total f (map (started o.number) os) + f o ≤ total f os
+    → ((x : Operation) → f (begun_from x) ≡ 0) → total f (map (as_running o.number) os) + f o ≤ total f os
 started_less f q os o e none =
-    let mapped = total_map f (started o.number) os in
-    let here : f (started o.number o) ≡ 0 = ap f (cond-true (o.number == o.number) (begun_from o) o (eq-eqb o.number o.number refl)) ∙ none o in
-    omega (arith, mapped, found_grows (λ x. f (started o.number x)) f (f o) q os o e (all os) (omega (arith, here)))
+    let mapped = total_map f (as_running o.number) os in
+    let here : f (as_running o.number o) ≡ 0 = ap f (cond-true (o.number == o.number) (begun_from o) o (eq-eqb o.number o.number refl)) ∙ none o in
+    omega (arith, mapped, found_grows (λ x. f (as_running o.number x)) f (f o) q os o e (all os) (omega (arith, here)))
   where
-    all : (xs : List Operation) → AllByRecursion (λ x. f (started o.number x) ≤ f x) xs
+    all : (xs : List Operation) → AllByRecursion (λ x. f (as_running o.number x) ≤ f x) xs
     all [] = tt
     all (x ∷ xs) = (
       cond_both (x.number == o.number) (begun_from x) x (λ y. f y ≤ f x) (λ _. omega (arith, none x)) (λ _. omega arith),
@@ -76,21 +76,21 @@ started_less f q os o e none =
 
 -- and one of operations grows by that of the one at most
 started_more : (f : Operation → ℕ) (q : Operation → Bool) (os : List Operation) (o : Operation) → find q os ≡ Some o → having operation_number o.number os ≤ 1
-    → total f (map (started o.number) os) ≤ total f os + f (begun_from o)
+    → total f (map (as_running o.number) os) ≤ total f os + f (begun_from o)
 started_more f q os o e once =
     let n = o.number in
     let c = f (begun_from o) in
-    let mapped = total_map f (started n) os in
+    let mapped = total_map f (as_running n) os in
     let parts = total_both f (λ (x : Operation). cond (x.number == n) c 0) os in
-    let each : AllByRecursion (λ x. f (started n x) ≤ f x + cond (x.number == n) c 0) os =
-    each_weaker (λ (x : Operation). x.number ≡ n → x ≡ o) (λ x. f (started n x) ≤ f x + cond (x.number == n) c 0) os
+    let each : AllByRecursion (λ x. f (as_running n x) ≤ f x + cond (x.number == n) c 0) os =
+    each_weaker (λ (x : Operation). x.number ≡ n → x ≡ o) (λ x. f (as_running n x) ≤ f x + cond (x.number == n) c 0) os
     (λ x same. ⊎_elim
     (λ (yes : (x.number == n) ≡ true).
     omega (arith, ap f (cond-true (x.number == n) (begun_from x) x yes), cond-true (x.number == n) c 0 yes, ap (λ y. f (begun_from y)) (same (eqb-true x.number n yes))))
     (λ (no : (x.number == n) ≡ false). omega (arith, ap f (cond-false (x.number == n) (begun_from x) x no), cond-false (x.number == n) c 0 no))
     (cases_Bool (x.number == n)))
     (alike operation_number n q os o once e refl) in
-    omega (arith, mapped, parts, total_le_each (λ x. f (started n x)) (λ x. f x + cond (x.number == n) c 0) os each, total_once operation_number n c os once)
+    omega (arith, mapped, parts, total_le_each (λ x. f (as_running n x)) (λ x. f x + cond (x.number == n) c 0) os each, total_once operation_number n c os once)
 
 first_claim : (created : Bool) (i op session : ℕ) (call : Call) → claim_of_entry i (Some (first_entry created op session call)) ≡ claim_of_call session i call
 first_claim false i op session (calls.Open label ps) = refl
@@ -139,7 +139,7 @@ sound_begun {A} q t xs inst o call h found idle first waits =
       table = h.table;
       numbers = numbers_put new xs ∙ h.numbers;
       sessions = h.sessions;
-      operations = each_map (λ x. HasSlot t x.instance) (λ x. HasSlot t x.instance) (started o.number) q.operations
+      operations = each_map (λ x. HasSlot t x.instance) (λ x. HasSlot t x.instance) (as_running o.number) q.operations
           (λ x here. cond_both (x.number == o.number) (begun_from x) x (λ y. HasSlot t y.instance) (λ _. here) (λ _. here)) h.operations;
       held = λ p. omega (
         arith,

@@ -5,7 +5,7 @@ use Rattle.app_api.specs.declared.call.Call.{Call}
 use Rattle.object_asks.specs.Asks.{Serving, Serves, Fails, Damaged}
 use Rattle.store_api.specs.Stores.{Store}
 use Rattle.alone.specs.Machine.{Machine}
-use Rattle.alone.specs.Step.{called, cancelled, turned_as}
+use Rattle.alone.specs.Step.{after_call, after_cancellation, turned_as}
 use Rattle.alone.proofs.Aside.{Rests, rests_by_calls, rests_kept}
 use Rattle.alone.proofs.Kept.{IsKeptAs, cancelled_kept, turned_kept}
 use Rattle.alone.proofs.KeptByCalls.{called_kept}
@@ -26,8 +26,8 @@ module _ {A : Type 0} where
       let P = HasMade (m.turns + 1) in
       turned_kept (Rests P) (rests_kept P) behaviour serving (made_kept_as A serving (m.turns + 1)) m i refl
 
-  pub call_counts_none : (m : Machine A) (client : ℕ) (call : Call) → (called m client call).machine.turns ≡ m.turns
+  pub call_counts_none : (m : Machine A) (client : ℕ) (call : Call) → (after_call m client call).machine.turns ≡ m.turns
   call_counts_none m client call = let P = HasMade m.turns in called_kept (Rests P) (Rests P) (rests_by_calls P) m client call refl
 
-  pub cancellation_counts_none : (m : Machine A) (op : ℕ) → (cancelled m op).machine.turns ≡ m.turns
+  pub cancellation_counts_none : (m : Machine A) (op : ℕ) → (after_cancellation m op).machine.turns ≡ m.turns
   cancellation_counts_none m op = let P = HasMade m.turns in cancelled_kept (Rests P) (rests_kept P) m op refl

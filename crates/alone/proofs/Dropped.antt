@@ -15,7 +15,7 @@ use Rattle.op_queue.specs.declared.operation.Cancelled.TheVariants.{Dropped, Fla
 use Rattle.op_queue.specs.Queue.{Queue, after_cancel, cancel_of, operation_of, without}
 use Rattle.alone.specs.declared.active_entry.Instance.{Instance}
 use Rattle.alone.specs.Machine.{Machine, instance_at}
-use Rattle.alone.specs.Step.{cancelled, cancelled_by, dropped, instance_gone, is_unused, open_of_call, open_of_progress, unless_unused, waiting_open}
+use Rattle.alone.specs.Step.{after_cancellation, cancelled_by, after_dropped_open, instance_gone, is_unused, open_of_call, open_of_progress, unless_unused, waiting_open}
 use Rattle.alone.proofs.Totals.{bit, found_grows, found_passes, nothing_found, total, total_filter}
 use Rattle.alone.proofs.Each.{each_filter}
 use Rattle.alone.proofs.Calm.{calm_le}
@@ -89,13 +89,14 @@ module _ {A : Type 0} where
   unused_goes m i h = cond_both (is_unused m i (instance_at m i)) (instance_gone m i) m IsSoundMachine (λ _. sound_failed m.queue m.table m.instances i h) (λ _. h)
 
   drops_open : (m : Machine A) (op : ℕ) (o : Operation) → IsSoundMachine m → operation_of m.queue op ≡ Some o → (w : Option (ℕ × ℕ))
-      → open_of_progress o.session o.instance o.progress ≡ w → IsSoundMachine (dropped (record m { queue = without m.queue op }) w)
+      → open_of_progress o.session o.instance o.progress ≡ w → IsSoundMachine (after_dropped_open (record m { queue = without m.queue op }) w)
   drops_open m op o h e None is_open = sound_within m.queue (without m.queue op) m.table m.instances (within_filter m.queue (λ x. not (x.number == op))) h
   drops_open m op o h e (Some w) is_open =
       unused_goes (record m { queue = without m.queue op; table = session_removed m.table w.0 }) w.1
       (sound_dropped m.queue m.table m.instances op w.0 w.1 o h e (progress_claims o.session o.instance o.progress w.0 w.1 is_open))
 
-  drops : (m : Machine A) (op : ℕ) → IsSoundMachine m → (o : Option Operation) → operation_of m.queue op ≡ o → IsSoundMachine (dropped (record m { queue = without m.queue op }) (waiting_open o))
+  drops : (m : Machine A) (op : ℕ) → IsSoundMachine m → (o : Option Operation) → operation_of m.queue op ≡ o
+      → IsSoundMachine (after_dropped_open (record m { queue = without m.queue op }) (waiting_open o))
   drops m op h None e = sound_within m.queue (without m.queue op) m.table m.instances (within_filter m.queue (λ x. not (x.number == op))) h
   drops m op h (Some o) e = drops_open m op o h e (open_of_progress o.session o.instance o.progress) refl
 
@@ -105,6 +106,6 @@ module _ {A : Type 0} where
   cancels_by m op h Flagged = sound_within m.queue (after_cancel m.queue op Flagged) m.table m.instances (within_requested m.queue op) h
   cancels_by m op h Nothing = h
 
-  pub cancels : (m : Machine A) (op : ℕ) → IsSoundMachine m → IsSoundMachine (cancelled m op).machine
-  unfolding cancelled
+  pub cancels : (m : Machine A) (op : ℕ) → IsSoundMachine m → IsSoundMachine (after_cancellation m op).machine
+  unfolding after_cancellation
   cancels m op h = cancels_by m op h (cancel_of (operation_of m.queue op))

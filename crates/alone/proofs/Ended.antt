@@ -17,7 +17,7 @@ use Rattle.alone.specs.declared.active_entry.ActiveEntry.{ActiveEntry}
 use Rattle.alone.specs.declared.active_entry.EntryPoint.{EntryPoint}
 use Rattle.alone.specs.declared.active_entry.EntryPoint.TheVariants as stages
 use Rattle.alone.specs.Machine.{Machine, is_number, put_instance}
-use Rattle.alone.specs.Step.{Stepped, after_session, answered, belongs_to, destroy_begins, destroying, instance_gone, masked_again, no_replies}
+use Rattle.alone.specs.Step.{Stepped, after_session, after_answer, belongs_to, destroy_begins, after_destroy_begins, instance_gone, masked_again, no_replies}
 use Rattle.alone.proofs.Totals.{bit, total_filter, total_le, total_zero}
 use Rattle.alone.proofs.Each.{each_both, each_filter}
 use Rattle.alone.proofs.Lists.{find_put, found_none, total_put}
@@ -112,7 +112,7 @@ module _ {A : Type 0} where
 
   answers : (m : Machine A) (inst : Instance A) (r : ActiveEntry) (op : Option ℕ) (code : Code) (outputs : Outputs) (ss : List Session) → IsSoundMachine m
       → find (is_number inst.number) m.instances ≡ Some inst → inst.running ≡ Some r → r.op ≡ op
-      → IsLeft m.queue m.table ss (put_instance (idle inst) m.instances) → IsTurned inst.number m (answered (record m { table = record m.table { sessions = ss } }) inst op code outputs)
+      → IsLeft m.queue m.table ss (put_instance (idle inst) m.instances) → IsTurned inst.number m (after_answer (record m { table = record m.table { sessions = ss } }) inst op code outputs)
   answers m inst r None code outputs ss h found running serves left = answers_none m inst r ss h found running serves left
   answers m inst r (Some op) code outputs ss h found running serves left = answers_some m inst r op ss h found running serves left
 
@@ -145,7 +145,7 @@ module _ {A : Type 0} where
   -- with its session open
   pub ends_open : (m : Machine A) (inst : Instance A) (r : ActiveEntry) (op : Option ℕ) (code : Code) (outputs : Outputs) (c : SessionFacts) → IsSoundMachine m
       → find (is_number inst.number) m.instances ≡ Some inst → inst.running ≡ Some r → r.op ≡ op → claim_of_stage inst.number r.stage ≡ Some c
-      → IsTurned inst.number m (answered (record m { table = state_set m.table c.session Open }) inst op code outputs)
+      → IsTurned inst.number m (after_answer (record m { table = state_set m.table c.session Open }) inst op code outputs)
   ends_open m inst r op code outputs c h found running serves claim =
       let alive = held_alive m.queue.operations m.instances m.table.sessions (is_number inst.number) inst c h.held
       (sessions_once m.table h.table c.session) found (ap (claim_of_entry inst.number) running ∙ claim) in
@@ -160,7 +160,7 @@ module _ {A : Type 0} where
   -- with the sessions as they were
   pub ends_invoke : (m : Machine A) (inst : Instance A) (r : ActiveEntry) (op : Option ℕ) (code : Code) (outputs : Outputs) → IsSoundMachine m
       → find (is_number inst.number) m.instances ≡ Some inst → inst.running ≡ Some r → r.op ≡ op → claim_of_stage inst.number r.stage ≡ None
-      → IsTurned inst.number m (answered m inst op code outputs)
+      → IsTurned inst.number m (after_answer m inst op code outputs)
   ends_invoke m inst r op code outputs h found running serves claim =
       let none : claim_in inst ≡ None = ap (claim_of_entry inst.number) running ∙ claim in
       answers m inst r op code outputs m.table.sessions h found running serves
@@ -176,7 +176,7 @@ module _ {A : Type 0} where
   destroys_next : (m : Machine A) (inst : Instance A) (r : ActiveEntry) (c : SessionFacts) (op : Option ℕ) (reply : Option Reply) → IsSoundMachine m
       → find (is_number inst.number) m.instances ≡ Some inst → inst.running ≡ Some r → r.op ≡ op → claim_of_stage inst.number r.stage ≡ Some c
       → turns_behind r.stage ≡ 131074 → is_left (session_removed m.table c.session) inst.number ≡ true
-      → IsTurned inst.number m (no_replies (destroying (record m { table = session_removed m.table c.session }) inst op reply))
+      → IsTurned inst.number m (no_replies (after_destroy_begins (record m { table = session_removed m.table c.session }) inst op reply))
   destroys_next m inst r c op reply h found running serves claim behind left =
       let i = inst.number in
       let new : Instance A = destroyed inst op reply in
@@ -217,7 +217,7 @@ module _ {A : Type 0} where
   -- where nothing waits
   pub begins_destroy : (m : Machine A) (inst : Instance A) → IsSoundMachine m → find (is_number inst.number) m.instances ≡ Some inst → inst.running ≡ None
       → is_left m.table inst.number ≡ true → (1 ≤ measure inst.number m.queue m.instances → ⊥)
-      → IsTurned inst.number m (no_replies (destroying m inst None None))
+      → IsTurned inst.number m (no_replies (after_destroy_begins m inst None None))
   begins_destroy m inst h found rests left none =
       let i = inst.number in
       let new : Instance A = destroyed inst None None in

@@ -5,7 +5,7 @@ use Rattle.std.proofs.lemmas.Bool.{cond_both, not-true, both_ways}
 use Rattle.instances.specs.declared.session.Session.{Session}
 use Rattle.instances.specs.declared.session.Slot.{Slot}
 use Rattle.instances.specs.declared.session.SessionState.TheVariants.{Dead}
-use Rattle.instances.specs.Instances.{Table, instance_numbers, is_dead, ended, stays_after_end, killed}
+use Rattle.instances.specs.Instances.{Table, instance_numbers, is_dead, without_instance, stays_after_end, dead_if_of}
 use Rattle.instances.proofs.Changes.{ended_IsTable}
 use Rattle.op_queue.specs.Queue.{Queue}
 use Rattle.op_queue.proofs.Keeps.{filter_IsQueue}
@@ -54,21 +54,22 @@ runs_gone {A} p i xs =
     never false b h = omega arith
 
 pub sound_failed : {A : Type 0} (q : Queue) (t : Table) (xs : List (Instance A)) (i : ℕ) → IsSound q t xs
-    → IsSound (record q { operations = filter (λ o. not (belongs_to i o)) q.operations }) (ended t i) (filter (λ other. not (is_number i other)) xs)
+    → IsSound (record q { operations = filter (λ o. not (belongs_to i o)) q.operations }) (without_instance t i) (filter (λ other. not (is_number i other)) xs)
 sound_failed {A} q t xs i h =
     let slots = numbers_filter (λ (s : Slot). s.number) i t.slots in
-    let stays : (k : ℕ) → (k == i) ≡ false → HasSlot t k → HasSlot (ended t i) k = λ k apart here. ap (list_any (nat_eq k)) slots ∙ stays_there k i (instance_numbers t) apart here in
+    let stays : (k : ℕ) → (k == i) ≡ false → HasSlot t k → HasSlot (without_instance t i) k = λ k apart here. ap (list_any (nat_eq k)) slots ∙ stays_there k i (instance_numbers t) apart here in
     record {
       queue = filter_IsQueue q (λ o. not (belongs_to i o)) h.queue;
       table = ended_IsTable t i h.table;
       numbers = numbers_filter (λ (x : Instance A). x.number) i xs ∙ ap (filter (λ n. not (n == i))) h.numbers ∙ sym slots;
       sessions =
-          each_map (λ s. is_dead s.state ≡ false → HasSlot t s.instance) (λ s. is_dead s.state ≡ false → HasSlot (ended t i) s.instance) (killed i) (filter (stays_after_end i) t.sessions)
-          (λ s there. cond_both (s.instance == i) (record s { state = Dead }) s (λ (o : Session). is_dead o.state ≡ false → HasSlot (ended t i) o.instance)
+          each_map (λ s. is_dead s.state ≡ false → HasSlot t s.instance) (λ s. is_dead s.state ≡ false
+          → HasSlot (without_instance t i) s.instance) (dead_if_of i) (filter (stays_after_end i) t.sessions)
+          (λ s there. cond_both (s.instance == i) (record s { state = Dead }) s (λ (o : Session). is_dead o.state ≡ false → HasSlot (without_instance t i) o.instance)
           (λ _ alive. absurd (both_ways _ alive refl))
           (λ apart alive. stays s.instance apart (there alive)))
           (each_filter (λ s. is_dead s.state ≡ false → HasSlot t s.instance) (stays_after_end i) t.sessions h.sessions);
-      operations = each_passed (λ o. HasSlot t o.instance) (λ o. HasSlot (ended t i) o.instance) (λ o. not (belongs_to i o)) q.operations
+      operations = each_passed (λ o. HasSlot t o.instance) (λ o. HasSlot (without_instance t i) o.instance) (λ o. not (belongs_to i o)) q.operations
           (λ o there other. stays o.instance (not-true (o.instance == i) other) there) h.operations;
       held = λ p.
           let os = gone_none claim_of (λ o. o.instance) (λ c. c.instance) i p q.operations

@@ -15,7 +15,7 @@ use Rattle.op_queue.specs.declared.operation.Cancelled.{Cancelled as Cancellatio
 use Rattle.op_queue.specs.declared.operation.Cancelled.TheVariants.{Dropped, Flagged, Nothing}
 use Rattle.op_queue.specs.Queue.{after_begin, after_cancel, begun_at, cancel_of, first_waiting, mask_set, operation_of, without}
 use Rattle.object_asks.specs.Asks.{Outcome, Answered, Returned, Panicked, Resolution, Settled, ComesToStore, Objects, Serving, Serves}
-use Rattle.object_asks.specs.Asks.{Fails, Damaged, changes_store, resolution_in, object_resolution, outcome_in, refused}
+use Rattle.object_asks.specs.Asks.{Fails, Damaged, changes_store, resolution_in, object_resolution, outcome_in, refusal_with}
 use Rattle.tee_base.specs.declared.codes.TheConstants.Code.{STORAGE_NOT_AVAILABLE}
 use Rattle.crypto_ops.specs.Random.{random_from}
 use Rattle.object_asks.specs.KeyOf.{KeyResolution, KeySettled, KeyComesToStore, key_resolution}
@@ -39,12 +39,12 @@ use Rattle.alone.specs.declared.active_entry.EntryPoint.TheVariants as stages
 use Rattle.alone.specs.declared.active_entry.Waits.{Waits}
 use Rattle.alone.specs.declared.active_entry.Waits.TheVariants as waits
 use Rattle.alone.specs.Asks.{resolution_after, resolution_in_family, entry_resolution, mask_resolution, mask_noted, mask_set_for, objects_of, with_objects}
-use Rattle.alone.specs.Crypto.{drawn_for, effected, generated, generation_resolution, given_by, keyed_by, operated_by, outcome_by, with_crypto}
+use Rattle.alone.specs.Crypto.{drawn_for, outcome_of_effect, key_generate_resolution, generation_resolution, keyed_by, operated_by, outcome_by, with_crypto}
 use Rattle.alone.specs.Families.{family_of}
 use Rattle.alone.specs.Machine.{Machine, instance_at, with_instance}
 use Rattle.alone.specs.Places.{is_misuse, places_at}
-use Rattle.alone.specs.Step.{Stepped, after_ask, after_session, answered, begun_with, cancelled, cancelled_by, destroy_begins, destroying}
-use Rattle.alone.specs.Step.{dropped, instance_gone, is_success, is_unused, masked_again, returned, served, start_begun, store_left}
+use Rattle.alone.specs.Step.{Stepped, after_ask, after_session, after_answer, begun_with, after_cancellation, cancelled_by, destroy_begins, after_destroy_begins}
+use Rattle.alone.specs.Step.{after_dropped_open, instance_gone, is_success, is_unused, masked_again, after_return, serve_outcome, start_begun, store_left}
 use Rattle.alone.specs.Step.{turn_counted, turned_as, turned_at, turned_by, unless_unused, waiting_open, went_on}
 use Rattle.alone.proofs.Streams.{IsOfStream, LeavesStream, resolution_stream, drawn_stream}
 
@@ -84,7 +84,7 @@ module _ {A : Type 0} (P : Machine A → Type 0) (k : IsKept P) where
   masked_kept m None h = h
   masked_kept m (Some op) h = k.masked m op true h
 
-  destroying_kept : (m : Machine A) (inst : Instance A) (op : Option ℕ) (reply : Option Reply) → P m → P (destroying m inst op reply)
+  destroying_kept : (m : Machine A) (inst : Instance A) (op : Option ℕ) (reply : Option Reply) → P m → P (after_destroy_begins m inst op reply)
   destroying_kept m inst op reply h =
       let ends : Machine A = record m { table = destroy_begun m.table inst.number } in
       let masked : Machine A = record ends { queue = masked_again m.queue op } in
@@ -95,7 +95,7 @@ module _ {A : Type 0} (P : Machine A → Type 0) (k : IsKept P) where
   unless_kept : (m : Machine A) (i : ℕ) → P m → P (unless_unused m i)
   unless_kept m i h = cond_both (is_unused m i (instance_at m i)) (instance_gone m i) m P (λ _. k.gone m i h) (λ _. h)
 
-  dropped_kept : (m : Machine A) (o : Option (ℕ × ℕ)) → P m → P (dropped m o)
+  dropped_kept : (m : Machine A) (o : Option (ℕ × ℕ)) → P m → P (after_dropped_open m o)
   dropped_kept m None h = h
   dropped_kept m (Some o) h = unless_kept (record m { table = session_removed m.table o.0 }) o.1 (k.removed m o.0 h)
 
@@ -104,8 +104,8 @@ module _ {A : Type 0} (P : Machine A → Type 0) (k : IsKept P) where
   cancelled_by_kept m op o Flagged h = h
   cancelled_by_kept m op o Nothing h = h
 
-  pub cancelled_kept : (m : Machine A) (op : ℕ) → P m → Ends (cancelled m op)
-  unfolding cancelled
+  pub cancelled_kept : (m : Machine A) (op : ℕ) → P m → Ends (after_cancellation m op)
+  unfolding after_cancellation
   cancelled_kept m op h =
       let o = operation_of m.queue op in
       let c = cancel_of o in
@@ -142,18 +142,18 @@ module _ {A : Type 0} (P : Machine A → Type 0) (k : IsKept P) where
   told_kept m (told.Answered answer) h = h
   told_kept m told.Panicked h = tt
 
-  effected_kept : (m : Machine A) (e : Effect CryptoState) → IsOfStream m.crypto.random e.after.random → P m → Leaves P (effected m e)
+  effected_kept : (m : Machine A) (e : Effect CryptoState) → IsOfStream m.crypto.random e.after.random → P m → Leaves P (outcome_of_effect m e)
   effected_kept m e stream h = told_kept (with_crypto m e.after) e.told (k.crypto m e.after stream h)
 
   keyed_kept : (m : Machine A) (i op : ℕ) (c : KeyResolution) → P m → Goes P (keyed_by m i op c)
-  keyed_kept m i op (KeySettled found) h = effected_kept m (key_effect m.crypto i op (given_by found)) (inl refl) h
-  keyed_kept m i op (KeyComesToStore if_served) h = (h, effected_kept m (key_effect m.crypto i op (given_by if_served)) (inl refl) h)
+  keyed_kept m i op (KeySettled found) h = effected_kept m (key_effect m.crypto i op found) (inl refl) h
+  keyed_kept m i op (KeyComesToStore if_served) h = (h, effected_kept m (key_effect m.crypto i op if_served) (inl refl) h)
 
   operated_kept : (m : Machine A) (i : ℕ) (c : operations.Resolution CryptoState) → LeavesStream m.crypto.random c → P m → Goes P (operated_by m i c)
   operated_kept m i (operations.Settled effect) stream h = effected_kept m effect stream h
   operated_kept m i (operations.WantsKey op object) stream h = keyed_kept m i op (key_resolution (objects_of m) i object) h
 
-  generated_kept : (m : Machine A) (i object bits : ℕ) → P m → Goes P (generated m i object bits)
+  generated_kept : (m : Machine A) (i object bits : ℕ) → P m → Goes P (key_generate_resolution m i object bits)
   generated_kept m i object bits h =
       let wanted = random_wanted m.held i object bits in
       let drew = with_crypto m (drawn_for m.crypto wanted) in
@@ -173,24 +173,24 @@ module _ {A : Type 0} (P : Machine A → Type 0) (k : IsKept P) where
   after_kept : (m : Machine A) (i : ℕ) (r : ActiveEntry) (ask : Ask) → P m → Goes P (resolution_after m i r ask)
   after_kept m i r ask h = either_resolution (nat_le MAX_ASKS r.asks) _ _ tt (family_kept m i r ask (family_of ask) h)
 
-  served_kept : (serving : Serving) → IsKeptAs serving P → (m : Machine A) (ask : Ask) (c : Resolution (Machine A)) → Goes P c → Leaves P (served serving m ask c)
+  served_kept : (serving : Serving) → IsKeptAs serving P → (m : Machine A) (ask : Ask) (c : Resolution (Machine A)) → Goes P c → Leaves P (serve_outcome serving m ask c)
   served_kept Serves loses m ask (Settled outcome) goes = goes
   served_kept Fails loses m ask (Settled outcome) goes = goes
   served_kept Damaged loses m ask (Settled outcome) goes = goes
-  served_kept Serves loses m ask (ComesToStore kept if_served) goes = cond_both m.lost (refused kept STORAGE_NOT_AVAILABLE) if_served (Leaves P) (λ _. goes.0) (λ _. goes.1)
+  served_kept Serves loses m ask (ComesToStore kept if_served) goes = cond_both m.lost (refusal_with kept STORAGE_NOT_AVAILABLE) if_served (Leaves P) (λ _. goes.0) (λ _. goes.1)
   served_kept Fails loses m ask (ComesToStore kept if_served) goes = loses kept (cond (changes_store ask) (Some (store_left kept if_served)) kept.in_doubt) goes.0
   served_kept Damaged loses m ask (ComesToStore kept if_served) goes = goes.0
 
   -- ---- what a turn does
 
-  answered_kept : (m : Machine A) (inst : Instance A) (op : Option ℕ) (code : Code) (outputs : Outputs) → P m → Ends (answered m inst op code outputs)
+  answered_kept : (m : Machine A) (inst : Instance A) (op : Option ℕ) (code : Code) (outputs : Outputs) → P m → Ends (after_answer m inst op code outputs)
   answered_kept m inst None code outputs h = k.put m (record inst { running = None }) h
   answered_kept m inst (Some op) code outputs h = k.put (record m { queue = without m.queue op }) (record inst { running = None }) (k.answered m op h)
 
   after_session_kept : (m : Machine A) (inst : Instance A) (op : Option ℕ) (code : Code) (outputs : Outputs) → P m → Ends (after_session m inst op code outputs)
   after_session_kept m inst op code outputs h = either (is_left m.table inst.number) _ _ (destroying_kept m inst op _ h) (answered_kept m inst op code outputs h)
 
-  returned_kept : (m : Machine A) (inst : Instance A) (op : Option ℕ) (stage : EntryPoint) (code : Code) (outs : Outs) → P m → Ends (returned m inst op stage code outs)
+  returned_kept : (m : Machine A) (inst : Instance A) (op : Option ℕ) (stage : EntryPoint) (code : Code) (outs : Outs) → P m → Ends (after_return m inst op stage code outs)
   returned_kept m inst op (stages.Create session ps places) code outs h =
       either (is_success code) _ _
       (k.put (record m { queue = masked_again m.queue op }) (record inst { created = true; running = Some (start_begun op session ps places) }) (masked_kept m op h))
@@ -209,7 +209,7 @@ module _ {A : Type 0} (P : Machine A → Type 0) (k : IsKept P) where
   acted_kept m inst r Panicked h left = k.gone m inst.number h
 
   begun_kept : (m : Machine A) (inst : Instance A) (b : Option Begun) → P m → P (begun_with m inst b)
-  begun_kept m inst None h = cond_both (inst.created && is_left m.table inst.number) (destroying m inst None None) m P (λ _. destroying_kept m inst None None h) (λ _. h)
+  begun_kept m inst None h = cond_both (inst.created && is_left m.table inst.number) (after_destroy_begins m inst None None) m P (λ _. destroying_kept m inst None None h) (λ _. h)
   begun_kept m inst (Some b) h = k.put m _ h
 
   module _ (behaviour : Behaviour A) (serving : Serving) (loses : IsKeptAs serving P) where
@@ -217,7 +217,7 @@ module _ {A : Type 0} (P : Machine A → Type 0) (k : IsKept P) where
     went_kept m inst r (waits.Given given) h = k.put m _ h
     went_kept m inst r (waits.Ask ask) h =
         let c = resolution_after m inst.number r ask in
-        acted_kept m inst (mask_noted r ask) (served serving m ask c) h (served_kept serving loses m ask c (after_kept m inst.number r ask h))
+        acted_kept m inst (mask_noted r ask) (serve_outcome serving m ask c) h (served_kept serving loses m ask c (after_kept m inst.number r ask h))
 
     turned_by_kept : (m : Machine A) (inst : Instance A) (r : Option ActiveEntry) → P m → Ends (turned_by behaviour serving m inst r)
     turned_by_kept m inst None h =

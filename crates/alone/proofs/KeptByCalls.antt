@@ -11,17 +11,17 @@ use Rattle.instances.specs.declared.session.SessionFacts.{SessionFacts}
 use Rattle.instances.specs.declared.session.SessionState.{SessionState}
 use Rattle.instances.specs.declared.session.SessionState.TheVariants.{Opening, Open, Closing, Dead}
 use Rattle.instances.specs.Instances.{admission_of, session_removed, state_set}
-use Rattle.op_queue.specs.Queue.{is_full, skipped, submitted}
+use Rattle.op_queue.specs.Queue.{is_full, with_number_used, with_operation}
 use Rattle.alone.specs.Machine.{Machine}
-use Rattle.alone.specs.Step.{Stepped, admitted, called, closed_at, closed_in, invoked_at, invoked_in, known, opened_as}
+use Rattle.alone.specs.Step.{Stepped, after_admission, after_call, closed_at, closed_in, invoked_at, invoked_in, facts_of_label, opened_as}
 
 -- where this holds before a call, each change that it may make leaves that; sessions are changed alone
 pub record IsKeptByCalls {A : Type 0} (P Q : Machine A → Type 0) : Type 0 where
-  pub at_once : (m : Machine A) → P m → Q (record m { queue = skipped m.queue })
-  pub dead_gone : (m : Machine A) (session : ℕ) → P m → Q (record m { queue = skipped m.queue; table = session_removed m.table session })
-  pub waits : (m : Machine A) (client i session : ℕ) (call : Call) → P m → Q (record m { queue = submitted m.queue client i session call })
-  pub closes : (m : Machine A) (client i session : ℕ) (call : Call) → P m → Q (record m { queue = submitted m.queue client i session call; table = state_set m.table session Closing })
-  pub opens : (m : Machine A) (client label : ℕ) (a : Admission) (call : Call) → P m → Q (record (admitted m client label a) { queue = submitted m.queue client a.instance a.session call })
+  pub at_once : (m : Machine A) → P m → Q (record m { queue = with_number_used m.queue })
+  pub dead_gone : (m : Machine A) (session : ℕ) → P m → Q (record m { queue = with_number_used m.queue; table = session_removed m.table session })
+  pub waits : (m : Machine A) (client i session : ℕ) (call : Call) → P m → Q (record m { queue = with_operation m.queue client i session call })
+  pub closes : (m : Machine A) (client i session : ℕ) (call : Call) → P m → Q (record m { queue = with_operation m.queue client i session call; table = state_set m.table session Closing })
+  pub opens : (m : Machine A) (client label : ℕ) (a : Admission) (call : Call) → P m → Q (record (after_admission m client label a) { queue = with_operation m.queue client a.instance a.session call })
 
 module _ {A : Type 0} (P Q : Machine A → Type 0) (k : IsKeptByCalls P Q) where
   abbrev Ends : Stepped A → Type 0
@@ -54,11 +54,11 @@ module _ {A : Type 0} (P Q : Machine A → Type 0) (k : IsKeptByCalls P Q) where
   closed_kept m client label None h = k.at_once m h
   closed_kept m client label (Some s) h = closed_at_kept m client label s s.state h
 
-  pub called_kept : (m : Machine A) (client : ℕ) (call : Call) → P m → Ends (called m client call)
-  unfolding called
+  pub called_kept : (m : Machine A) (client : ℕ) (call : Call) → P m → Ends (after_call m client call)
+  unfolding after_call
   called_kept m client (calls.Open label ps) h =
       either (is_some (first_oversized ps)) _ _ (k.at_once m h)
-      (either (is_some (known m client label)) _ _ (k.at_once m h) (either (is_full m.queue) _ _ (k.at_once m h) (opened_kept m client label ps (admission_of m.table client label) h)))
+      (either (is_some (facts_of_label m client label)) _ _ (k.at_once m h) (either (is_full m.queue) _ _ (k.at_once m h) (opened_kept m client label ps (admission_of m.table client label) h)))
   called_kept m client (calls.Invoke label command ps) h =
-      either (is_some (first_oversized ps)) _ _ (k.at_once m h) (invoked_kept m client (calls.Invoke label command ps) (known m client label) h)
-  called_kept m client (calls.Close label) h = closed_kept m client label (known m client label) h
+      either (is_some (first_oversized ps)) _ _ (k.at_once m h) (invoked_kept m client (calls.Invoke label command ps) (facts_of_label m client label) h)
+  called_kept m client (calls.Close label) h = closed_kept m client label (facts_of_label m client label) h

@@ -9,14 +9,14 @@ use Rattle.std.proofs.lemmas.List.{take-append-drop, take-append-le, drop-append
 use Rattle.alone.specs.declared.log_entry.LogEntry.{LogEntry}
 use Rattle.alone.specs.declared.reply.Reply.{Reply}
 use Rattle.tee_base.specs.declared.limits.TheConstants.{MAX_LOG_BYTES}
-use Rattle.alone.specs.KeptLogs.{IsKept, event_by, logged, reply_count}
+use Rattle.alone.specs.KeptLogs.{IsKept, event_by, log_with_replies, reply_count}
 use Rattle.alone.specs.Logs.{IsLegal, Logged, bytes_in, bytes_of_event, entry, machine_by, replies_in}
 use Rattle.alone.specs.Machine.{Machine}
 use Rattle.alone.specs.Step.{Event, is_enabled, step}
 
 -- ---- the log of what is kept
 
-pub length_logged : (es : List LogEntry) (rs : List Reply) → length (logged es rs) ≡ length es
+pub length_logged : (es : List LogEntry) (rs : List Reply) → length (log_with_replies es rs) ≡ length es
 length_logged [] rs = refl
 length_logged (e ∷ es) rs = ap suc (length_logged es (drop e.replies rs))
 
@@ -28,7 +28,7 @@ none_left (r ∷ rs) none = absurd (omega (arith, none))
 left_count : (n count : ℕ) (rs : List Reply) → n + count ≡ length rs → count ≡ length (drop n rs)
 left_count n count rs counted = let left = length-drop n rs in omega (arith, left, counted)
 
-pub replies_logged : (es : List LogEntry) (rs : List Reply) → reply_count es ≡ length rs → replies_in (logged es rs) ≡ rs
+pub replies_logged : (es : List LogEntry) (rs : List Reply) → reply_count es ≡ length rs → replies_in (log_with_replies es rs) ≡ rs
 replies_logged [] rs counted = none_left rs counted
 replies_logged (e ∷ es) rs counted =
     ap (λ (more : List Reply). take e.replies rs ++ more) (replies_logged es (drop e.replies rs) (left_count e.replies (reply_count es) rs counted)) ∙ take-append-drop e.replies rs
@@ -37,19 +37,19 @@ pub count_push : (es : List LogEntry) (e : LogEntry) → reply_count (es ++ e �
 count_push [] e = omega arith
 count_push (x ∷ es) e = let more = count_push es e in omega (arith, more)
 
-last_logged : (rs more : List Reply) (e : LogEntry) → 0 ≡ length rs → e.replies ≡ length more → logged (e ∷ []) (rs ++ more) ≡ entry e.client (event_by e.client e.event) more ∷ []
+last_logged : (rs more : List Reply) (e : LogEntry) → 0 ≡ length rs → e.replies ≡ length more → log_with_replies (e ∷ []) (rs ++ more) ≡ entry e.client (event_by e.client e.event) more ∷ []
 last_logged rs more e none is =
     ap (λ (all : List Reply). entry e.client (event_by e.client e.event) (take e.replies (all ++ more)) ∷ []) (sym (none_left rs none))
     ∙ ap (λ (n : ℕ). entry e.client (event_by e.client e.event) (take n more) ∷ []) is
     ∙ ap (λ (all : List Reply). entry e.client (event_by e.client e.event) all ∷ []) (take-length more)
 
 pub logged_push : (es : List LogEntry) (rs more : List Reply) (e : LogEntry) → reply_count es ≡ length rs → e.replies ≡ length more →
-    logged (es ++ e ∷ []) (rs ++ more) ≡ logged es rs ++ entry e.client (event_by e.client e.event) more ∷ []
+    log_with_replies (es ++ e ∷ []) (rs ++ more) ≡ log_with_replies es rs ++ entry e.client (event_by e.client e.event) more ∷ []
 logged_push [] rs more e counted is = last_logged rs more e counted is
 logged_push (x ∷ es) rs more e counted is =
     let within : x.replies ≤ length rs = omega (arith, counted) in
-    ap (λ (own : List Reply). entry x.client (event_by x.client x.event) own ∷ logged (es ++ e ∷ []) (drop x.replies (rs ++ more))) (take-append-le x.replies rs more within)
-    ∙ ap (λ (left : List Reply). entry x.client (event_by x.client x.event) (take x.replies rs) ∷ logged (es ++ e ∷ []) left) (drop-append-le x.replies rs more within)
+    ap (λ (own : List Reply). entry x.client (event_by x.client x.event) own ∷ log_with_replies (es ++ e ∷ []) (drop x.replies (rs ++ more))) (take-append-le x.replies rs more within)
+    ∙ ap (λ (left : List Reply). entry x.client (event_by x.client x.event) (take x.replies rs) ∷ log_with_replies (es ++ e ∷ []) left) (drop-append-le x.replies rs more within)
     ∙ ap (λ (log : List Logged). entry x.client (event_by x.client x.event) (take x.replies rs) ∷ log)
     (logged_push es (drop x.replies rs) more e (left_count x.replies (reply_count es) rs counted) is)
 
@@ -73,12 +73,12 @@ pub kept_push : (es : List LogEntry) (rs more : List Reply) (e : LogEntry) (byte
 kept_push es rs more e bytes added kept is own few =
     let last : Logged = entry e.client (event_by e.client e.event) more in
     let counted : reply_count es ≡ length rs = kept.counted in
-    let summed : bytes ≡ bytes_in (logged es rs) = kept.summed in
+    let summed : bytes ≡ bytes_in (log_with_replies es rs) = kept.summed in
     let longer = ap (λ (log : List Logged). bytes_in log) (logged_push es rs more e counted is) in
-    let sum = bytes_push (logged es rs) last in
+    let sum = bytes_push (log_with_replies es rs) last in
     record {
       counted = let count = count_push es e in let all = length-append rs more in omega (arith, count, all, counted, is);
-      summed = ap (λ n. n + added) summed ∙ ap (λ n. bytes_in (logged es rs) + n) own ∙ sym (longer ∙ sum);
+      summed = ap (λ n. n + added) summed ∙ ap (λ n. bytes_in (log_with_replies es rs) + n) own ∙ sym (longer ∙ sum);
       few = few;
     }
 

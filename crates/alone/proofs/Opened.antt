@@ -18,11 +18,11 @@ use Rattle.instances.specs.declared.session.SessionState.TheVariants.{Opening, O
 use Rattle.instances.specs.declared.instances.Admission.{Admission}
 use Rattle.instances.specs.declared.instances.Refusal.{Refusal}
 use Rattle.instances.specs.Instances.{Table, IsTable, instance_numbers, session_numbers, session_of, is_dead, facts_of, admission_of, own_instance}
-use Rattle.instances.specs.Instances.{shared_instance, has_session, busy, bad_state, entered, with_state, state_set, session_removed}
+use Rattle.instances.specs.Instances.{shared_instance, has_session, busy, bad_state, with_session, with_state, state_set, session_removed}
 use Rattle.instances.proofs.Changes.{admission_IsAdmitted, entered_IsTable, state_set_IsTable, removed_IsTable}
 use Rattle.op_queue.specs.declared.operation.Operation.{Operation}
 use Rattle.op_queue.specs.declared.operation.Progress.TheVariants.{Waiting}
-use Rattle.op_queue.specs.Queue.{Queue, is_close, is_full, is_close_call, submitted, skipped}
+use Rattle.op_queue.specs.Queue.{Queue, is_close, is_full, is_close_call, with_operation, with_number_used}
 use Rattle.op_queue.proofs.Keeps.{submitted_IsQueue, skipped_IsQueue}
 use Rattle.alone.specs.declared.active_entry.Instance.{Instance}
 use Rattle.alone.specs.Step.{new_instance}
@@ -49,7 +49,7 @@ home_set t n state h =
 
 module _ {A : Type 0} where
   -- a number is used up
-  pub sound_skipped : (q : Queue) (t : Table) (xs : List (Instance A)) → IsSound q t xs → IsSound (skipped q) t xs
+  pub sound_skipped : (q : Queue) (t : Table) (xs : List (Instance A)) → IsSound q t xs → IsSound (with_number_used q) t xs
   sound_skipped q t xs h = record {
     queue = skipped_IsQueue q h.queue;
     table = h.table;
@@ -82,7 +82,7 @@ module _ {A : Type 0} where
       → ((k : ℕ) → HasSlot t k → HasSlot after k) → HasSlot after i
       → ((p : SessionFacts → Bool) → held_by p q.operations + held_in p ys + weigh p (claim_of_call session i call) ≤ sessions_of p after.sessions) → ((p : Run → Bool) → runs_in p xs ≤ runs_in p ys)
       → IsCalm after ys
-      → IsSound (submitted q client i session call) after ys
+      → IsSound (with_operation q client i session call) after ys
   sound_queued q t after xs ys client i session call h free few table numbers sessions stay there held_after runs_after calm =
       let o : Operation = record { number = q.next; client = client; session = session; instance = i; progress = Waiting call } in
       record {
@@ -99,7 +99,7 @@ module _ {A : Type 0} where
 
   -- an invoke waits
   pub sound_invoke : (q : Queue) (t : Table) (xs : List (Instance A)) (client i session label command : ℕ) (ps : Params) → IsSound q t xs → is_full q ≡ false
-      → HasSlot t i → IsSound (submitted q client i session (calls.Invoke label command ps)) t xs
+      → HasSlot t i → IsSound (with_operation q client i session (calls.Invoke label command ps)) t xs
   sound_invoke q t xs client i session label command ps h free there =
       sound_queued q t t xs xs client i session (calls.Invoke label command ps) h (ap (λ b. b && true) free)
       (λ never. absurd (both_ways _ refl never)) h.table h.numbers h.sessions (λ k here. here) there
@@ -107,7 +107,7 @@ module _ {A : Type 0} where
 
   -- a close waits, and its session is closing
   pub sound_close : (q : Queue) (t : Table) (xs : List (Instance A)) (p : Session → Bool) (s : Session) (client label : ℕ) → IsSound q t xs
-      → find p t.sessions ≡ Some s → s.state ≡ Open → IsSound (submitted q client s.instance s.number (calls.Close label)) (state_set t s.number Closing) xs
+      → find p t.sessions ≡ Some s → s.state ≡ Open → IsSound (with_operation q client s.instance s.number (calls.Close label)) (state_set t s.number Closing) xs
   sound_close q t xs p s client label h e was =
       let there : HasSlot t s.instance = found_has (λ x. is_dead x.state ≡ false → HasSlot t x.instance) p t.sessions s h.sessions e (ap is_dead was) in
       sound_queued q t (state_set t s.number Closing) xs xs client s.instance s.number (calls.Close label) h (never_full (is_full q)) (λ _. closes_few q t xs p s h e was)
@@ -225,14 +225,14 @@ slot_entered false slots slot h = ⊎_elim (λ (never : false ≡ true). absurd 
 -- an open waits, where it was admitted
 pub sound_open : {A : Type 0} (template : A) (q : Queue) (t : Table) (xs : List (Instance A)) (client label : ℕ) (ps : Params) (a : Admission) → IsSound q t xs
     → is_full q ≡ false → admission_of t client label ≡ Ok a
-    → IsSound (submitted q client a.instance a.session (calls.Open label ps)) (entered t client label a) (cond a.new_instance (xs ++ new_instance template a.instance ∷ []) xs)
+    → IsSound (with_operation q client a.instance a.session (calls.Open label ps)) (with_session t client label a) (cond a.new_instance (xs ++ new_instance template a.instance ∷ []) xs)
 sound_open {A} template q t xs client label ps a h free e =
     let to : IsTo t a = subst (λ (r : Result Admission Refusal). IfOk r (IsTo t)) e (some_IsTo t client label h.table) in
     let slot : Slot = record { number = a.instance; ending = false } in
     let new : Instance A = new_instance template a.instance in
     let session : Session = record { client = client; label = label; number = a.session; instance = a.instance; state = Opening } in
     let ys : List (Instance A) = cond a.new_instance (xs ++ new ∷ []) xs in
-    let after : Table = entered t client label a in
+    let after : Table = with_session t client label a in
     let stay : (k : ℕ) → HasSlot t k → HasSlot after k = λ k here. slots_entered a.new_instance k t.slots slot here in
     let there : HasSlot after a.instance = slot_entered a.new_instance t.slots slot to.place in
     let admitted = admission_IsAdmitted t client label a e in

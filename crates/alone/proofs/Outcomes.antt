@@ -8,7 +8,7 @@ use Rattle.app_api.specs.declared.ask.Ask.{Ask}
 use Rattle.app_api.specs.declared.ask.Ask.TheVariants as asked
 use Rattle.app_api.specs.declared.out.Outs.{Outs}
 use Rattle.object_asks.specs.Asks.{Outcome, Answered, Returned, Panicked, Resolution, Settled, ComesToStore, Serving, Serves, Fails, Damaged, Objects, resolution_in}
-use Rattle.object_asks.specs.Asks.{object_resolution, outcome_in, refused}
+use Rattle.object_asks.specs.Asks.{object_resolution, outcome_in, refusal_with}
 use Rattle.tee_base.specs.declared.codes.TheConstants.Code.{STORAGE_NOT_AVAILABLE}
 use Rattle.crypto_ops.specs.Random.{random_from}
 use Rattle.object_asks.specs.KeyOf.{KeyResolution, KeySettled, KeyComesToStore, key_resolution}
@@ -18,7 +18,7 @@ use Rattle.operation_asks.specs.Asks as operations
 use Rattle.operation_asks.specs.Past.{key_effect}
 use Rattle.operation_asks.specs.declared.outcome.Outcome.{Outcome as Told}
 use Rattle.operation_asks.specs.declared.outcome.Outcome.TheVariants as told
-use Rattle.alone.specs.Crypto.{drawn_for, generation_resolution, given_by, keyed_by, operated_by, outcome_by, with_crypto}
+use Rattle.alone.specs.Crypto.{drawn_for, generation_resolution, keyed_by, operated_by, outcome_by, with_crypto}
 use Rattle.alone.specs.declared.family.Family.{Family}
 use Rattle.alone.specs.declared.family.Family.TheVariants as families
 use Rattle.alone.specs.declared.active_entry.ActiveEntry.{ActiveEntry}
@@ -27,7 +27,7 @@ use Rattle.alone.specs.Asks.{resolution, resolution_after, resolution_in_family,
 use Rattle.alone.specs.Families.{family_of}
 use Rattle.alone.specs.Machine.{Machine}
 use Rattle.alone.specs.Places.{is_misuse, places_at}
-use Rattle.alone.specs.Step.{served}
+use Rattle.alone.specs.Step.{serve_outcome}
 use Rattle.alone.proofs.Within.{IsWithin, within_mask_for, within_same}
 
 -- a machine that an answer leaves
@@ -67,8 +67,8 @@ module _ {A : Type 0} (m : Machine A) (made : ℕ) where
   told_like s told.Panicked few = tt
 
   keyed_like : (i op : ℕ) (c : KeyResolution) → made < MAX_ASKS → ResolutionLike m made (keyed_by m i op c)
-  keyed_like i op (KeySettled found) few = let e = key_effect m.crypto i op (given_by found) in told_like e.after e.told few
-  keyed_like i op (KeyComesToStore if_served) few = let e = key_effect m.crypto i op (given_by if_served) in (crypto_like m.crypto few, told_like e.after e.told few)
+  keyed_like i op (KeySettled found) few = let e = key_effect m.crypto i op found in told_like e.after e.told few
+  keyed_like i op (KeyComesToStore if_served) few = let e = key_effect m.crypto i op if_served in (crypto_like m.crypto few, told_like e.after e.told few)
 
   operated_like : (i : ℕ) (c : operations.Resolution CryptoState) → made < MAX_ASKS → ResolutionLike m made (operated_by m i c)
   operated_like i (operations.Settled effect) few = told_like effect.after effect.told few
@@ -98,9 +98,9 @@ module _ {A : Type 0} (m : Machine A) (made : ℕ) where
   family_like i r ask families.Operations few = operated_like i (operation_resolution m.crypto i ask) few
   family_like i r ask families.Generation few = generation_like i ask few
 
-  served_like : (serving : Serving) (ask : Ask) (c : Resolution (Machine A)) → ResolutionLike m made c → OutcomeLike m made (served serving m ask c)
+  served_like : (serving : Serving) (ask : Ask) (c : Resolution (Machine A)) → ResolutionLike m made c → OutcomeLike m made (serve_outcome serving m ask c)
   served_like serving ask (Settled outcome) h = h
-  served_like Serves ask (ComesToStore kept if_served) h = cond_both m.lost (refused kept STORAGE_NOT_AVAILABLE) if_served (OutcomeLike m made) (λ _. h.0) (λ _. h.1)
+  served_like Serves ask (ComesToStore kept if_served) h = cond_both m.lost (refusal_with kept STORAGE_NOT_AVAILABLE) if_served (OutcomeLike m made) (λ _. h.0) (λ _. h.1)
   served_like Fails ask (ComesToStore kept if_served) h = record { few = h.0.few; queue = h.0.queue; table = h.0.table; instances = h.0.instances }
   served_like Damaged ask (ComesToStore kept if_served) h = h.0
 
@@ -109,5 +109,5 @@ module _ {A : Type 0} (m : Machine A) where
   after_like i r ask = cond_both (nat_le MAX_ASKS r.asks) (Settled Panicked) (resolution m i r ask) (ResolutionLike m r.asks) (λ _. tt)
       (λ few. family_like m r.asks i r ask (family_of ask) (leb-false MAX_ASKS r.asks few))
 
-  pub ask_like : (serving : Serving) (i : ℕ) (r : ActiveEntry) (ask : Ask) → OutcomeLike m r.asks (served serving m ask (resolution_after m i r ask))
+  pub ask_like : (serving : Serving) (i : ℕ) (r : ActiveEntry) (ask : Ask) → OutcomeLike m r.asks (serve_outcome serving m ask (resolution_after m i r ask))
   ask_like serving i r ask = served_like m r.asks serving ask (resolution_after m i r ask) (after_like i r ask)

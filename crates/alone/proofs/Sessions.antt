@@ -7,7 +7,7 @@ use Rattle.instances.specs.declared.session.Session.{Session}
 use Rattle.instances.specs.declared.session.SessionFacts.{SessionFacts}
 use Rattle.instances.specs.declared.session.SessionState.{SessionState}
 use Rattle.instances.specs.declared.session.SessionState.TheVariants.{Opening, Open, Closing, Dead}
-use Rattle.instances.specs.Instances.{Table, IsTable, facts_of, is_dead, with_state, stays_after_end, killed, state_after_end}
+use Rattle.instances.specs.Instances.{Table, IsTable, facts_of, is_dead, with_state, stays_after_end, dead_if_of, state_after_end}
 use Rattle.op_queue.specs.declared.operation.Operation.{Operation}
 use Rattle.alone.specs.declared.active_entry.Instance.{Instance}
 use Rattle.alone.specs.Machine.{is_number, put_instance}
@@ -94,11 +94,11 @@ removed_others p n ss =
     when false b = omega arith
 
 -- where an instance ends
-pub ended_others : (p : SessionFacts → Bool) (i : ℕ) (ss : List Session) → sessions_of (both (not_in i) p) ss ≤ sessions_of p (map (killed i) (filter (stays_after_end i) ss))
+pub ended_others : (p : SessionFacts → Bool) (i : ℕ) (ss : List Session) → sessions_of (both (not_in i) p) ss ≤ sessions_of p (map (dead_if_of i) (filter (stays_after_end i) ss))
 ended_others p i ss =
-    let mapped = total_map (λ (s : Session). bit (p (facts_of s))) (killed i) (filter (stays_after_end i) ss) in
-    let after = total_filter (λ (s : Session). bit (p (facts_of (killed i s)))) (stays_after_end i) ss in
-    let le = total_le (λ (s : Session). bit (both (not_in i) p (facts_of s))) (λ (s : Session). cond (stays_after_end i s) (bit (p (facts_of (killed i s)))) 0) ss
+    let mapped = total_map (λ (s : Session). bit (p (facts_of s))) (dead_if_of i) (filter (stays_after_end i) ss) in
+    let after = total_filter (λ (s : Session). bit (p (facts_of (dead_if_of i s)))) (stays_after_end i) ss in
+    let le = total_le (λ (s : Session). bit (both (not_in i) p (facts_of s))) (λ (s : Session). cond (stays_after_end i s) (bit (p (facts_of (dead_if_of i s)))) 0) ss
     (λ s. when (s.instance == i) (is_some (state_after_end s.state)) s (record s { state = Dead })) in
     omega (arith, mapped, after, le)
   where

@@ -11,7 +11,7 @@ use Rattle.object_asks.specs.Asks.{Serves, Damaged}
 use Rattle.store_api.specs.Stores.{Store}
 use Rattle.alone.specs.Laws.{StorageStays}
 use Rattle.alone.specs.Machine.{Machine, instance_at}
-use Rattle.alone.specs.Step.{called, cancelled, cancelled_by, dropped, instance_gone, is_unused, turned_as, unless_unused, waiting_open}
+use Rattle.alone.specs.Step.{after_call, after_cancellation, cancelled_by, after_dropped_open, instance_gone, is_unused, turned_as, unless_unused, waiting_open}
 use Rattle.alone.proofs.Aside.{Rests, rests_kept}
 use Rattle.alone.proofs.Kept.{turned_kept}
 use Rattle.alone.proofs.KeptByCalls.{IsKeptByCalls, called_kept}
@@ -42,7 +42,7 @@ module _ {A : Type 0} where
     opens = λ m client label a call same. same;
   }
 
-  pub call_leaves_storage : (m : Machine A) (client : ℕ) (call : Call) → StorageStays m (called m client call).machine
+  pub call_leaves_storage : (m : Machine A) (client : ℕ) (call : Call) → StorageStays m (after_call m client call).machine
   call_leaves_storage m client call =
       let same = called_kept (IsSame m.store m.in_doubt m.lost) (IsSame m.store m.in_doubt m.lost) (calls_same m.store m.in_doubt m.lost) m client call (refl, refl, refl) in
       record { store = same.0; in_doubt = same.1; lost = same.2 }
@@ -52,7 +52,7 @@ module _ {A : Type 0} where
   unless_same : (store : Store) (doubt : Option Store) (lost : Bool) (m : Machine A) (i : ℕ) → IsSame store doubt lost m → IsSame store doubt lost (unless_unused m i)
   unless_same store doubt lost m i same = cond_both (is_unused m i (instance_at m i)) (instance_gone m i) m (IsSame store doubt lost) (λ _. same) (λ _. same)
 
-  dropped_same : (store : Store) (doubt : Option Store) (lost : Bool) (m : Machine A) (o : Option (ℕ × ℕ)) → IsSame store doubt lost m → IsSame store doubt lost (dropped m o)
+  dropped_same : (store : Store) (doubt : Option Store) (lost : Bool) (m : Machine A) (o : Option (ℕ × ℕ)) → IsSame store doubt lost m → IsSame store doubt lost (after_dropped_open m o)
   dropped_same store doubt lost m None same = same
   dropped_same store doubt lost m (Some o) same = unless_same store doubt lost (record m { table = session_removed m.table o.0 }) o.1 same
 
@@ -62,8 +62,8 @@ module _ {A : Type 0} where
   cancelled_same store doubt lost m op o Flagged same = same
   cancelled_same store doubt lost m op o Nothing same = same
 
-  pub cancellation_leaves_storage : (m : Machine A) (op : ℕ) → StorageStays m (cancelled m op).machine
-  unfolding cancelled
+  pub cancellation_leaves_storage : (m : Machine A) (op : ℕ) → StorageStays m (after_cancellation m op).machine
+  unfolding after_cancellation
   cancellation_leaves_storage m op =
       let o = operation_of m.queue op in
       let c = cancel_of o in

@@ -6,15 +6,15 @@ use Rattle.app_api.specs.declared.ask.Ask.TheVariants as asked
 use Rattle.app_api.specs.declared.ask.Answer.TheVariants as answers
 use Rattle.rand_chacha.specs.ChaCha.{ChaCha}
 use Rattle.crypto_ops.specs.Operations.{is_too_much}
-use Rattle.crypto_ops.specs.Random.{moved, random_from}
+use Rattle.crypto_ops.specs.Random.{stream_after, random_from}
 use Rattle.operation_asks.specs.Asks.{CryptoState, Resolution, Settled, WantsKey, resolution_in, operation_resolution, set_key_resolution, with_operations}
-use Rattle.operation_asks.specs.Effects.{Effect, answered, panicked}
+use Rattle.operation_asks.specs.Effects.{Effect, answer_effect, panic_effect}
 use Rattle.operation_asks.specs.Table.{NumberedOperation}
 use Rattle.alone.specs.Crypto.{drawn_for}
 
 -- it is the old stream, or that one moved
 abbrev pub IsOfStream : ChaCha → ChaCha → Type 0
-IsOfStream old new = (new ≡ old) ⊎ ((count : ℕ) × (new ≡ moved old count))
+IsOfStream old new = (new ≡ old) ⊎ ((count : ℕ) × (new ≡ stream_after old count))
 
 -- where the resolution is settled
 abbrev pub LeavesStream : ChaCha → Resolution CryptoState → Type 0
@@ -30,7 +30,7 @@ of_key s (WantsKey op object) = tt
 of_random : (s : CryptoState) (count : ℕ) → LeavesStream s.random (operation_resolution s 0 (asked.Random count))
 unfolding operation_resolution
 of_random s count =
-    cond_both (is_too_much count) (panicked s.random) (answered (moved s.random count) (answers.Content (random_from s.random count)))
+    cond_both (is_too_much count) (panic_effect s.random) (answer_effect (stream_after s.random count) (answers.Content (random_from s.random count)))
     (λ (e : Effect ChaCha). IsOfStream s.random e.after) (λ _. inl refl) (λ _. inr (count, refl))
 
 pub resolution_stream : (s : CryptoState) (i : ℕ) (ask : Ask) → LeavesStream s.random (operation_resolution s i ask)

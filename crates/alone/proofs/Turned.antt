@@ -12,7 +12,7 @@ use Rattle.instances.specs.Instances.{Table, is_left}
 use Rattle.op_queue.specs.declared.operation.Operation.{Operation}
 use Rattle.op_queue.specs.declared.operation.Progress.{Progress}
 use Rattle.op_queue.specs.declared.operation.Progress.TheVariants.{Waiting, Running as Runs}
-use Rattle.op_queue.specs.Queue.{is_close, is_running, waits_for, first_waiting, started, begun_at, begun_of, after_begin}
+use Rattle.op_queue.specs.Queue.{is_close, is_running, waits_for, first_waiting, as_running, begun_at, begun_of, after_begin}
 use Rattle.object_asks.specs.Asks.{Outcome, Answered, Returned, Panicked, Serving}
 use Rattle.alone.specs.declared.active_entry.Instance.{Instance}
 use Rattle.alone.specs.declared.active_entry.ActiveEntry.{ActiveEntry}
@@ -22,7 +22,7 @@ use Rattle.alone.specs.declared.active_entry.Waits.{Waits}
 use Rattle.alone.specs.declared.active_entry.Waits.TheVariants as waits
 use Rattle.alone.specs.Asks.{resolution_after, mask_after, mask_noted}
 use Rattle.alone.specs.Machine.{Machine, is_number, instance_at, put_instance, with_instance}
-use Rattle.alone.specs.Step.{after_ask, begun_with, destroying, first_entry, is_success, masked_again, no_replies, returned, served, start_begun, turn_counted, turned_as}
+use Rattle.alone.specs.Step.{after_ask, begun_with, after_destroy_begins, first_entry, is_success, masked_again, no_replies, after_return, serve_outcome, start_begun, turn_counted, turned_as}
 use Rattle.alone.specs.Step.{turned_at, turned_by, went_on}
 use Rattle.alone.proofs.Totals.{bit, found_passes}
 use Rattle.alone.proofs.Each.{each_map}
@@ -39,7 +39,7 @@ use Rattle.alone.proofs.Ended.{IsNearer, IsTurned, begins_destroy, ends_closed, 
 first_left : (created : Bool) (op session : ℕ) (call : Call) → turns_for (first_entry created op session call) ≤ 393222
 first_left created op session call = turns_most (first_entry created op session call)
 
-waits_no_more : (i : ℕ) (os : List Operation) (o : Operation) → find (waits_for i) os ≡ Some o → waiting i (map (started o.number) os) + 1 ≤ waiting i os
+waits_no_more : (i : ℕ) (os : List Operation) (o : Operation) → find (waits_for i) os ≡ Some o → waiting i (map (as_running o.number) os) + 1 ≤ waiting i os
 waits_no_more i os o e =
     omega (arith, started_less (λ x. bit (waits_for i x)) (waits_for i) os o e (λ x. never (x.instance == i)), ap bit (found_passes (waits_for i) os o e))
   where
@@ -101,7 +101,7 @@ module _ {A : Type 0} where
       record {
         sound = sound_begun m.queue m.table m.instances inst o call h found idle first waits_so;
         next = refl;
-        owner = λ op j owned. each_map (IsOf op j) (IsOf op j) (started o.number) m.queue.operations
+        owner = λ op j owned. each_map (IsOf op j) (IsOf op j) (as_running o.number) m.queue.operations
             (λ x here. cond_both (x.number == o.number) (record x { progress = Runs (is_close x.progress) false true }) x (IsOf op j) (λ _. here) (λ _. here)) owned;
         less = λ _. omega (arith, before, after, ap left_of idle, first_left inst.created o.number o.session call, waits_no_more i m.queue.operations o first);
       }
@@ -118,7 +118,7 @@ module _ {A : Type 0} where
   begins m inst h found idle None e =
       let i = inst.number in
       let none : 1 ≤ measure i m.queue m.instances → ⊥ = λ some. omega (arith, some, none_first i m.queue.operations e, ap left_in found, ap left_of idle) in
-      cond_both (inst.created && is_left m.table i) (destroying m inst None None) m (λ (after : Machine A). IsTurned i m (no_replies after))
+      cond_both (inst.created && is_left m.table i) (after_destroy_begins m inst None None) m (λ (after : Machine A). IsTurned i m (no_replies after))
       (λ begins_so. begins_destroy m inst h found idle ((and_parts inst.created (is_left m.table i) begins_so).1) none)
       (λ _. record {
         sound = h;
@@ -150,7 +150,7 @@ module _ {A : Type 0} where
 
   returns : (m : Machine A) (inst : Instance A) (r : ActiveEntry) (ask : Ask) → IsSoundMachine m → find (is_number inst.number) m.instances ≡ Some inst → inst.running ≡ Some r
       → r.waits ≡ waits.Ask ask
-      → (op : Option ℕ) (stage : EntryPoint) (code : Code) (outs : Outs) → r.op ≡ op → r.stage ≡ stage → IsTurned inst.number m (returned m inst op stage code outs)
+      → (op : Option ℕ) (stage : EntryPoint) (code : Code) (outs : Outs) → r.op ≡ op → r.stage ≡ stage → IsTurned inst.number m (after_return m inst op stage code outs)
   returns m inst r ask h found running w op (stages.Create session ps places) code outs serves e =
       cond_both (is_success code) _ _ (IsTurned inst.number m)
       (λ _. creates m inst r ask h found running w op session ps places serves e)
@@ -190,7 +190,7 @@ module _ {A : Type 0} (behaviour : Behaviour A) (serving : Serving) where
       let new : Instance A = record inst { state = behaviour.next inst.state given; running = Some s } in
       let before : turns_left r.waits (2 * (65536 - r.asks)) ≡ 2 * (65536 - r.asks) + 2 = ap (λ v. turns_left v (2 * (65536 - r.asks))) e in
       stays_in m inst new r s h found refl running refl refl refl (omega (arith, before))
-  runs_on m inst r h found running (waits.Ask ask) e = acts m inst r ask h found running e (served serving m ask (resolution_after m inst.number r ask)) (ask_like m serving inst.number r ask)
+  runs_on m inst r h found running (waits.Ask ask) e = acts m inst r ask h found running e (serve_outcome serving m ask (resolution_after m inst.number r ask)) (ask_like m serving inst.number r ask)
 
   turns_by : (m : Machine A) (inst : Instance A) → IsSoundMachine m → find (is_number inst.number) m.instances ≡ Some inst → (running : Option ActiveEntry)
       → inst.running ≡ running → IsTurned inst.number m (turned_by behaviour serving m inst running)

@@ -4,7 +4,7 @@ use Rattle.std.proofs.Common.{ℕ, ◌+◌, ◌%◌, ◌≡◌, ◌<◌, ◌^◌
 use Rattle.std.proofs.Math.Nat.{mod-lt}
 use Rattle.app_api.specs.declared.host.Host.{Host}
 use Rattle.rand_chacha.specs.ChaCha.{ChaCha}
-use Rattle.crypto_ops.specs.Random.{moved, stream_at, words_for}
+use Rattle.crypto_ops.specs.Random.{stream_after, stream_at, words_for}
 use Rattle.instances.specs.declared.session.Slot.{Slot}
 use Rattle.instances.specs.Instances.{instance_numbers}
 use Rattle.object_asks.specs.Asks.{Serves, Fails, Damaged, Outcome, Answered, Returned, Panicked, Resolution, Settled, ComesToStore, Objects, object_resolution}
@@ -68,7 +68,7 @@ over_crypto m s fine (inr (count, on)) = record {
   instances = fine.instances;
   place = (fine.place + words_for count) % 2 ^ 68;
   within = mod-lt (fine.place + words_for count) (lit< tt);
-  stream = on ∙ ap (λ (r : ChaCha). moved r count) fine.stream;
+  stream = on ∙ ap (λ (r : ChaCha). stream_after r count) fine.stream;
 }
 
 gone_fine : {A : Type 0} (m : Machine A) (i : ℕ) → IsFine m → IsFine (instance_gone m i)

@@ -7,7 +7,7 @@ use Rattle.instances.specs.Instances.{Table}
 use Rattle.op_queue.specs.declared.operation.Operation.{Operation}
 use Rattle.op_queue.specs.declared.operation.Progress.{Progress}
 use Rattle.op_queue.specs.declared.operation.Progress.TheVariants.{Waiting, Running as Runs}
-use Rattle.op_queue.specs.Queue.{Queue, IsQueue, is_close, is_running, mask_set, masked_as, requested, waits_for, with_mask, with_request}
+use Rattle.op_queue.specs.Queue.{Queue, IsQueue, is_close, is_running, mask_set, masked_as, as_requested, waits_for, with_mask, with_request}
 use Rattle.op_queue.proofs.Keeps.{filter_IsQueue, map_IsQueue}
 use Rattle.alone.specs.declared.active_entry.Instance.{Instance}
 use Rattle.alone.specs.Asks.{mask_set_for}
@@ -132,9 +132,9 @@ all_same : (o : Operation) → IsSame o o
 all_same o = record { number = refl; instance = refl; close = refl; claim = refl; run = refl; waits = refl }
 
 -- one that runs is flagged
-pub within_requested : (q : Queue) (op : ℕ) → IsWithin q (record q { operations = map (requested op) q.operations })
+pub within_requested : (q : Queue) (op : ℕ) → IsWithin q (record q { operations = map (as_requested op) q.operations })
 within_requested q op =
-    within_map q (requested op) (λ o. cond_both (o.number == op) (record o { progress = with_request o.progress }) o (IsSame o)
+    within_map q (as_requested op) (λ o. cond_both (o.number == op) (record o { progress = with_request o.progress }) o (IsSame o)
     (λ _. same_progress o (with_request o.progress) (request_as o.progress)) (λ _. all_same o))
 
 -- a mask is set

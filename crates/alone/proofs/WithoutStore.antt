@@ -33,12 +33,12 @@ use Rattle.alone.specs.declared.active_entry.EntryPoint.TheVariants as stages
 use Rattle.alone.specs.declared.active_entry.Waits.{Waits}
 use Rattle.alone.specs.declared.active_entry.Waits.TheVariants as waits
 use Rattle.alone.specs.Asks.{resolution, resolution_after, mask_noted, objects_of, return_resolution, with_objects}
-use Rattle.alone.specs.Crypto.{drawn_for, generated, operated_by, outcome_by, with_crypto}
+use Rattle.alone.specs.Crypto.{drawn_for, key_generate_resolution, operated_by, outcome_by, with_crypto}
 use Rattle.alone.specs.Laws.{step_with_store, with_store}
 use Rattle.alone.specs.Machine.{Machine, instance_at}
-use Rattle.alone.specs.Places.{delivered, is_misuse, places_at}
-use Rattle.alone.specs.Step.{Stepped, after_ask, after_session, answered, begun_with, destroying, is_success, needs_store, of_instance, of_running, of_waits}
-use Rattle.alone.specs.Step.{no_replies, reaches, returned, served, turn_counted, turned, turned_as, turned_at, turned_by, went_on}
+use Rattle.alone.specs.Places.{shown_outputs, is_misuse, places_at}
+use Rattle.alone.specs.Step.{Stepped, after_ask, after_session, after_answer, begun_with, after_destroy_begins, is_success, needs_store, of_instance, of_running, of_waits}
+use Rattle.alone.specs.Step.{no_replies, reaches, after_return, serve_outcome, turn_counted, after_turn, turned_as, turned_at, turned_by, went_on}
 
 -- the same objects over the other store
 abbrev restored : Store → Objects → Objects
@@ -78,8 +78,8 @@ module _ {A : Type 0} (store : Store) where
 
   -- ---- returns and begins
 
-  answered_over : (m : Machine A) (inst : Instance A) (op : Option ℕ) (code : Code) (outputs : Outputs) → answered (with_store store m) inst op code outputs ≡ step_with_store store
-      (answered m inst op code outputs)
+  answered_over : (m : Machine A) (inst : Instance A) (op : Option ℕ) (code : Code) (outputs : Outputs) → after_answer (with_store store m) inst op code outputs ≡ step_with_store store
+      (after_answer m inst op code outputs)
   answered_over m inst None code outputs = refl
   answered_over m inst (Some op) code outputs = refl
 
@@ -88,20 +88,20 @@ module _ {A : Type 0} (store : Store) where
   after_session_over m inst op code outputs = either (is_left m.table inst.number) _ _ _ _ refl (answered_over m inst op code outputs)
 
   returned_over : (m : Machine A) (inst : Instance A) (op : Option ℕ) (stage : EntryPoint) (code : Code) (outs : Outs) →
-      returned (with_store store m) inst op stage code outs ≡ step_with_store store (returned m inst op stage code outs)
+      after_return (with_store store m) inst op stage code outs ≡ step_with_store store (after_return m inst op stage code outs)
   returned_over m inst op (stages.Create session ps places) code outs = either (is_success code) _ _ _ _ refl refl
   returned_over m inst op (stages.Start session places) code outs =
       either (is_success code) _ _ _ _
-      (answered_over (record m { table = state_set m.table session Open }) inst op code (delivered places outs))
-      (after_session_over (record m { table = session_removed m.table session }) inst op code (delivered places outs))
-  returned_over m inst op (stages.Invoke session places) code outs = answered_over m inst op code (delivered places outs)
+      (answered_over (record m { table = state_set m.table session Open }) inst op code (shown_outputs places outs))
+      (after_session_over (record m { table = session_removed m.table session }) inst op code (shown_outputs places outs))
+  returned_over m inst op (stages.Invoke session places) code outs = answered_over m inst op code (shown_outputs places outs)
   returned_over m inst op (stages.Stop session) code outs = after_session_over (record m { table = session_removed m.table session }) inst op _ _
   returned_over m inst op (stages.Destroy reply) code outs = refl
 
   begun_over : (m : Machine A) (inst : Instance A) (b : Option Begun) → no_replies (begun_with (with_store store m) inst b) ≡ step_with_store store (no_replies (begun_with m inst b))
   begun_over m inst None =
-      elim (inst.created && is_left m.table inst.number) as (λ b. no_replies (cond b (destroying (with_store store m) inst None None) (with_store store m)) ≡ step_with_store store
-      (no_replies (cond b (destroying m inst None None) m))) [
+      elim (inst.created && is_left m.table inst.number) as (λ b. no_replies (cond b (after_destroy_begins (with_store store m) inst None None) (with_store store m)) ≡ step_with_store store
+      (no_replies (cond b (after_destroy_begins m inst None None) m))) [
         | true ↦ refl
         | false ↦ refl
       ]
@@ -142,7 +142,7 @@ module _ {A : Type 0} (store : Store) where
       (operated_by m i (operations.Settled effect))
   operated_alike m i effect = record { same = ap (λ (o : Outcome (Machine A)). Settled o) (told_over (with_crypto m effect.after) effect.told); settles = refl }
 
-  generated_alike : (m : Machine A) (i object bits : ℕ) → IsAlike (with_store store) (generated (with_store store m) i object bits) (generated m i object bits)
+  generated_alike : (m : Machine A) (i object bits : ℕ) → IsAlike (with_store store) (key_generate_resolution (with_store store m) i object bits) (key_generate_resolution m i object bits)
   generated_alike m i object bits =
       objects_alike (with_crypto m (drawn_for m.crypto (random_wanted m.held i object bits))) _ _
       (made_alike store (objects_of m) i object (random_from m.crypto.random) (random_wanted m.held i object bits))
@@ -194,8 +194,8 @@ module _ {A : Type 0} (store : Store) where
       (resolution_after m i r ask)
   after_alike m i r ask e = either_alike (with_store store) (nat_le MAX_ASKS r.asks) _ _ _ _ (record { same = refl; settles = refl }) (resolution_alike m i r ask e)
 
-  served_over : (m : Machine A) (ask : Ask) (c : Resolution (Machine A)) → comes_to_store c ≡ false → served Serves (with_store store m) ask
-      (resolution_in (with_store store) c) ≡ outcome_in (with_store store) (served Serves m ask c)
+  served_over : (m : Machine A) (ask : Ask) (c : Resolution (Machine A)) → comes_to_store c ≡ false → serve_outcome Serves (with_store store m) ask
+      (resolution_in (with_store store) c) ≡ outcome_in (with_store store) (serve_outcome Serves m ask c)
   served_over m ask (Settled outcome) e = refl
   served_over m ask (ComesToStore kept if_served) e = absurd (both_ways _ e refl)
 
@@ -215,9 +215,9 @@ module _ {A : Type 0} (store : Store) where
         let noted = mask_noted r ask in
         let c = resolution_after m inst.number r ask in
         let alike = after_alike m inst.number r ask e in
-        ap (λ (d : Resolution (Machine A)). after_ask (with_store store m) inst noted (served Serves (with_store store m) ask d)) alike.same
+        ap (λ (d : Resolution (Machine A)). after_ask (with_store store m) inst noted (serve_outcome Serves (with_store store m) ask d)) alike.same
         ∙ ap (λ (o : Outcome (Machine A)). after_ask (with_store store m) inst noted o) (served_over m ask c alike.settles)
-        ∙ acted_over m inst noted (served Serves m ask c)
+        ∙ acted_over m inst noted (serve_outcome Serves m ask c)
 
     turned_by_over : (m : Machine A) (inst : Instance A) (r : Option ActiveEntry) → of_running (λ r ask. may_need_store ask) r ≡ false →
         turned_by behaviour Serves (with_store store m) inst r ≡ step_with_store store (turned_by behaviour Serves m inst r)
@@ -230,7 +230,7 @@ module _ {A : Type 0} (store : Store) where
     turned_at_over m None e = refl
     turned_at_over m (Some inst) e = turned_by_over m inst inst.running e
 
-    pub turned_over : (m : Machine A) (i : ℕ) → needs_store m i ≡ false → turned behaviour (with_store store m) i ≡ step_with_store store (turned behaviour m i)
+    pub turned_over : (m : Machine A) (i : ℕ) → needs_store m i ≡ false → after_turn behaviour (with_store store m) i ≡ step_with_store store (after_turn behaviour m i)
     unfolding turned_as
     turned_over m i e = turned_at_over (turn_counted m) (instance_at m i) e
 

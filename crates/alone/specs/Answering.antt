@@ -9,6 +9,7 @@ use Rattle.alone.specs.Machine.{Machine}
 use Rattle.alone.specs.Marks.{Marks}
 use Rattle.alone.specs.Step.{belongs_to, is_answered}
 use Rattle.alone.specs.Runs.{events_of_call, machine_after}
+use Rattle.tee_base.specs.Words.{InstanceNumber}
 
 -- a client's call is answered within the turns that it has, where these go as the marks say
 abbrev pub CallIsAnswered : {A : Type 0} → Behaviour A → Marks → Machine A → ℕ → Call → Type 0
@@ -19,4 +20,4 @@ pub record OperationsAreFew {A : Type 0} (m : Machine A) : Type 0 where
   pub others : count_by (λ o. not (is_close o.progress)) m.queue.operations ≤ MAX_OPERATIONS
   pub closes : count_by (λ o. is_close o.progress) m.queue.operations ≤ MAX_SESSIONS
   pub all : length m.queue.operations ≤ MAX_OPERATIONS + MAX_SESSIONS
-  pub of_instance : (i : ℕ) → count_by (belongs_to i) m.queue.operations ≤ MAX_OPERATIONS + MAX_SESSIONS
+  pub of_instance : (i : InstanceNumber) → count_by (belongs_to i) m.queue.operations ≤ MAX_OPERATIONS + MAX_SESSIONS

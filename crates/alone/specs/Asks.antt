@@ -20,9 +20,10 @@ use Rattle.alone.specs.declared.active_entry.ActiveEntry.{ActiveEntry}
 use Rattle.alone.specs.declared.active_entry.EntryPoint.{EntryPoint}
 use Rattle.alone.specs.Families.{family_of}
 pub use Rattle.alone.specs.Machine.{objects_of, with_objects}
-use Rattle.alone.specs.Crypto.{operated, generation_resolution}
+use Rattle.alone.specs.Crypto.{crypto_resolution, generation_resolution}
 use Rattle.alone.specs.Machine.{Machine}
 use Rattle.alone.specs.Places.{is_misuse, places_at}
+use Rattle.tee_base.specs.Words.{InstanceNumber}
 
 -- an operation that was cancelled before it began is answered with this
 abbrev pub cancel : Code
@@ -76,18 +77,18 @@ entry_resolution m r asked.CancelUnmask = mask_resolution m r false
 entry_resolution m r ask = Settled Panicked
 
 -- how an ask of a family goes
-abbrev pub resolution_in_family : {A : Type 0} → Family → Machine A → ℕ → ActiveEntry → Ask → Resolution (Machine A)
+abbrev pub resolution_in_family : {A : Type 0} → Family → Machine A → InstanceNumber → ActiveEntry → Ask → Resolution (Machine A)
 resolution_in_family Entry m i r ask = entry_resolution m r ask
 resolution_in_family families.Objects m i r ask = resolution_in (with_objects m) (object_resolution (objects_of m) i ask)
-resolution_in_family families.Operations m i r ask = operated m i ask
+resolution_in_family families.Operations m i r ask = crypto_resolution m i ask
 resolution_in_family families.Generation m i r ask = generation_resolution m i ask
 
 -- how the ask goes that an instance makes in this entry
-abbrev pub resolution : {A : Type 0} → Machine A → ℕ → ActiveEntry → Ask → Resolution (Machine A)
+abbrev pub resolution : {A : Type 0} → Machine A → InstanceNumber → ActiveEntry → Ask → Resolution (Machine A)
 resolution m i r ask = resolution_in_family (family_of ask) m i r ask
 
 -- the same where an entry that has made all its asks panics, whatever it asks
-abbrev pub resolution_after : {A : Type 0} → Machine A → ℕ → ActiveEntry → Ask → Resolution (Machine A)
+abbrev pub resolution_after : {A : Type 0} → Machine A → InstanceNumber → ActiveEntry → Ask → Resolution (Machine A)
 resolution_after m i r ask = if nat_le MAX_ASKS r.asks then Settled Panicked else resolution m i r ask
 
 -- what comes of the return of an entry of this stage

@@ -24,12 +24,12 @@ reply_count [] = 0
 reply_count (e ∷ entries) = e.replies + reply_count entries
 
 -- the log of these entries, to which these replies belong in order
-abbrev pub logged : List LogEntry → List Reply → List Logged
-logged [] replies = []
-logged (e ∷ entries) replies = entry e.client (event_by e.client e.event) (take e.replies replies) ∷ logged entries (drop e.replies replies)
+abbrev pub log_with_replies : List LogEntry → List Reply → List Logged
+log_with_replies [] replies = []
+log_with_replies (e ∷ entries) replies = entry e.client (event_by e.client e.event) (take e.replies replies) ∷ log_with_replies entries (drop e.replies replies)
 
 -- each reply belongs to an entry; the bytes are counted, and are no more than a log may hold
 pub record IsKept (entries : List LogEntry) (replies : List Reply) (bytes : ℕ) : Type 0 where
   pub counted : reply_count entries ≡ length replies
-  pub summed : bytes ≡ bytes_in (logged entries replies)
+  pub summed : bytes ≡ bytes_in (log_with_replies entries replies)
   pub few : bytes ≤ MAX_LOG_BYTES

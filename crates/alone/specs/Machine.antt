@@ -8,6 +8,7 @@ use Rattle.object_asks.specs.Asks.{Objects}
 use Rattle.object_asks.specs.Held.{Held, nothing_held}
 use Rattle.operation_asks.specs.Asks.{CryptoState, no_operations}
 use Rattle.alone.specs.declared.active_entry.Instance.{Instance}
+use Rattle.tee_base.specs.Words.{InstanceNumber}
 
 -- one application's machine
 pub record Machine (A : Type 0) : Type 0 where
@@ -52,11 +53,11 @@ start host index seed store = record {
 }
 
 -- the instance has this number
-abbrev pub is_number : {A : Type 0} → ℕ → Instance A → Bool
+abbrev pub is_number : {A : Type 0} → InstanceNumber → Instance A → Bool
 is_number i inst = inst.number == i
 
 -- the machine's instance of this number, if there is one
-abbrev pub instance_at : {A : Type 0} → Machine A → ℕ → Option (Instance A)
+abbrev pub instance_at : {A : Type 0} → Machine A → InstanceNumber → Option (Instance A)
 instance_at m i = find (is_number i) m.instances
 
 -- the list with the first instance of the same number replaced

@@ -2,6 +2,7 @@
 use Rattle.std.specs.Prelude.{ℕ, ◌≡◌, ◌+◌, ◌≤◌, ◌<◌, Bool, false, ◌&&◌, if◌then◌else◌}
 use Rattle.alone.specs.Machine.{Machine}
 use Rattle.alone.specs.Step.{Event, Turned, TurnLost, Corrupted, Starved, is_enabled}
+use Rattle.tee_base.specs.Words.{InstanceNumber}
 
 -- by its number, whether a turn is marked as lost, as damaged, or as starved
 pub record Marks : Type 0 where
@@ -15,7 +16,7 @@ no_marks = record { lost = λ turn. false; corrupt = λ turn. false; starved = �
 
 -- the event that the machine's next turn is, one of this instance: lost, damaged or starved where the turn is marked so and that event
 -- may stand, tried in this order, and else a turn in which the store serves
-unfoldable pub event_at : {A : Type 0} → Marks → Machine A → ℕ → Event
+unfoldable pub event_at : {A : Type 0} → Marks → Machine A → InstanceNumber → Event
 event_at marks m i =
     let turn = m.turns + 1 in
     if marks.lost turn && is_enabled m (TurnLost i) then TurnLost i

@@ -61,8 +61,8 @@ shown_at (places.Mem room) out = memory_shown [] room out
 shown_at (places.MemInOut bytes) out = memory_shown bytes (length bytes) out
 
 -- what is shown of the four outputs
-abbrev pub delivered : Places → Outs → Outputs
-delivered ps os = record { p0 = shown_at ps.p0 os.p0; p1 = shown_at ps.p1 os.p1; p2 = shown_at ps.p2 os.p2; p3 = shown_at ps.p3 os.p3 }
+abbrev pub shown_outputs : Places → Outs → Outputs
+shown_outputs ps os = record { p0 = shown_at ps.p0 os.p0; p1 = shown_at ps.p1 os.p1; p2 = shown_at ps.p2 os.p2; p3 = shown_at ps.p3 os.p3 }
 
 -- a size that isn't above the room of its memory output
 abbrev pub is_small_size : ℕ → Out → Bool

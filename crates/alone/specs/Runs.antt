@@ -7,7 +7,8 @@ use Rattle.app_api.specs.declared.call.Call.{Call}
 use Rattle.alone.specs.declared.reply.Reply.{Reply}
 use Rattle.alone.specs.Machine.{Machine}
 use Rattle.alone.specs.Marks.{Marks, event_at}
-use Rattle.alone.specs.Step.{Event, Called, step, called, is_answered}
+use Rattle.alone.specs.Step.{Event, Called, step, after_call, is_answered}
+use Rattle.tee_base.specs.Words.{InstanceNumber}
 
 -- how many turns a call line has at most
 unfoldable pub most_turns : ℕ
@@ -28,12 +29,12 @@ module _ {A : Type 0} (behaviour : Behaviour A) where
 -- marks say how its turns go
 module _ {A : Type 0} (behaviour : Behaviour A) (marks : Marks) where
   -- so many turns of the instance
-  abbrev pub turns_of : ℕ → Machine A → ℕ → List Event
+  abbrev pub turns_of : ℕ → Machine A → InstanceNumber → List Event
   turns_of zero m instance = []
   turns_of (suc more) m instance = let event = event_at marks m instance in event ∷ turns_of more (step behaviour m event).machine instance
 
   -- turns of the instance until the operation is answered, at most so many
-  abbrev pub turns_until : ℕ → Machine A → ℕ → ℕ → List Event
+  abbrev pub turns_until : ℕ → Machine A → InstanceNumber → ℕ → List Event
   turns_until zero m instance op = []
   turns_until (suc more) m instance op =
       let event = event_at marks m instance in
@@ -41,7 +42,7 @@ module _ {A : Type 0} (behaviour : Behaviour A) (marks : Marks) where
 
   -- turns of the call's instance until the call is answered
   abbrev pub turns_of_call : Machine A → ℕ → Call → List Event
-  turns_of_call m client call = let s = called m client call in turns_until most_turns s.machine s.instance m.queue.next
+  turns_of_call m client call = let s = after_call m client call in turns_until most_turns s.machine s.instance m.queue.next
 
   -- a call, and then turns until it is answered
   abbrev pub events_of_call : Machine A → ℕ → Call → List Event

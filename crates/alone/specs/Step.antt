@@ -22,15 +22,15 @@ use Rattle.instances.specs.declared.instances.Refusal.{Refusal}
 use Rattle.instances.specs.declared.session.SessionFacts.{SessionFacts}
 use Rattle.instances.specs.declared.session.SessionState.{SessionState}
 use Rattle.instances.specs.declared.session.SessionState.TheVariants.{Opening, Open, Closing, Dead}
-use Rattle.instances.specs.Instances.{session_of, facts_of, admission_of, entered, state_set, session_removed, ended, has_session, is_left, destroy_begun, no_instances}
+use Rattle.instances.specs.Instances.{session_of, facts_of, admission_of, with_session, state_set, session_removed, without_instance, has_session, is_left, destroy_begun, no_instances}
 use Rattle.op_queue.specs.declared.operation.Operation.{Operation}
 use Rattle.op_queue.specs.declared.operation.Begun.{Begun}
 use Rattle.op_queue.specs.declared.operation.Cancelled.{Cancelled as Cancellation}
 use Rattle.op_queue.specs.declared.operation.Cancelled.TheVariants.{Dropped, Flagged, Nothing}
 use Rattle.op_queue.specs.declared.operation.Progress.{Progress}
 use Rattle.op_queue.specs.declared.operation.Progress.TheVariants as progress
-use Rattle.op_queue.specs.Queue.{Queue, is_full, submitted, skipped, first_waiting, begun_at, after_begin, without, operation_of}
-use Rattle.op_queue.specs.Queue.{facts_of as operation_facts, cancel_of, after_cancel, mask_set, cleared, forgotten}
+use Rattle.op_queue.specs.Queue.{Queue, is_full, with_operation, with_number_used, first_waiting, begun_at, after_begin, without, operation_of}
+use Rattle.op_queue.specs.Queue.{facts_of as operation_facts, cancel_of, after_cancel, mask_set, without_operations_of, without_operations}
 use Rattle.operation_asks.specs.Asks.{instance_ended, no_operations}
 use Rattle.alone.specs.declared.reply.Outputs.{Outputs}
 use Rattle.alone.specs.declared.reply.Reply.{Reply}
@@ -43,20 +43,21 @@ use Rattle.alone.specs.declared.active_entry.Waits.{Waits}
 use Rattle.alone.specs.declared.active_entry.Waits.TheVariants as waits
 use Rattle.store_api.specs.Stores.{Store}
 use Rattle.object_asks.specs.Asks.{Outcome, Answered, Returned, Panicked, Resolution, Settled, ComesToStore, Serving, Serves, Fails}
-use Rattle.object_asks.specs.Asks.{Damaged, came_of, changes_store, comes_to_store, may_need_store, refused}
+use Rattle.object_asks.specs.Asks.{Damaged, came_of, changes_store, comes_to_store, may_need_store, refusal_with}
 use Rattle.tee_base.specs.declared.codes.TheConstants.Code.{SUCCESS, BAD_PARAMETERS, BAD_STATE, BUSY, OUT_OF_MEMORY, STORAGE_NOT_AVAILABLE, TARGET_DEAD}
 use Rattle.object_asks.specs.Held.{nothing_held, instance_closed}
 use Rattle.alone.specs.Asks.{cancel, resolution_after, mask_noted}
 use Rattle.alone.specs.Machine.{Machine, is_number, instance_at, with_instance}
-use Rattle.alone.specs.Places.{places_of, delivered}
+use Rattle.alone.specs.Places.{places_of, shown_outputs}
 use Rattle.alone.specs.Replies.{no_outputs}
+use Rattle.tee_base.specs.Words.{InstanceNumber}
 
 -- the machine after an event, and the replies to the client operations that it answered, in ascending order
 pub record Stepped (A : Type 0) : Type 0 where
   pub machine : Machine A
   pub replies : List Reply
   -- the instance for which a call waits, 0 where none does
-  pub instance : ℕ
+  pub instance : InstanceNumber
 
 -- this machine, without a reply and without a call that waits
 abbrev pub no_replies : {A : Type 0} → Machine A → Stepped A
@@ -69,21 +70,21 @@ reply_of op code origin outputs = record { op = op; code = code; origin = origin
 -- ---- an instance ends
 
 -- the operation is one of this instance
-abbrev pub belongs_to : ℕ → Operation → Bool
+abbrev pub belongs_to : InstanceNumber → Operation → Bool
 belongs_to i o = o.instance == i
 
 -- the instance is gone: its open sessions are dead, its opening and closing ones go, and so do its operations and all that it holds
-abbrev pub instance_gone : {A : Type 0} → Machine A → ℕ → Machine A
+abbrev pub instance_gone : {A : Type 0} → Machine A → InstanceNumber → Machine A
 instance_gone m i = record m {
-  table = ended m.table i;
+  table = without_instance m.table i;
   instances = filter (λ other. not (is_number i other)) m.instances;
-  queue = cleared m.queue i;
+  queue = without_operations_of m.queue i;
   held = instance_closed m.held i;
   crypto = instance_ended m.crypto i;
 }
 
 -- teardown: each unanswered operation of the instance is answered with the code, without outputs, and the instance is gone
-abbrev pub torn_down : {A : Type 0} → Machine A → ℕ → Code → Origin → Stepped A
+abbrev pub torn_down : {A : Type 0} → Machine A → InstanceNumber → Code → Origin → Stepped A
 torn_down m i code origin = record {
   machine = instance_gone m i;
   replies = map (λ o. reply_of o.number code origin no_outputs) (filter (belongs_to i) m.queue.operations);
@@ -93,21 +94,21 @@ torn_down m i code origin = record {
 -- ---- calls
 
 -- what the client's label stands for
-abbrev pub known : {A : Type 0} → Machine A → ℕ → ℕ → Option SessionFacts
-known m client label = option_map facts_of (session_of m.table client label)
+abbrev pub facts_of_label : {A : Type 0} → Machine A → ℕ → ℕ → Option SessionFacts
+facts_of_label m client label = option_map facts_of (session_of m.table client label)
 
 -- a call that is answered at once: it uses a number, and nothing else changes
 abbrev pub answered_at_once : {A : Type 0} → Machine A → Code → Origin → Stepped A
 answered_at_once m code origin = record {
-  machine = record m { queue = skipped m.queue };
+  machine = record m { queue = with_number_used m.queue };
   replies = reply_of m.queue.next code origin no_outputs ∷ [];
   instance = 0;
 }
 
 -- a call that waits for the instance
-abbrev pub queued : {A : Type 0} → Machine A → ℕ → ℕ → ℕ → Call → Stepped A
-queued m client instance session call = record {
-  machine = record m { queue = submitted m.queue client instance session call };
+abbrev pub after_queueing : {A : Type 0} → Machine A → ℕ → InstanceNumber → ℕ → Call → Stepped A
+after_queueing m client instance session call = record {
+  machine = record m { queue = with_operation m.queue client instance session call };
   replies = [];
   instance = instance;
 }
@@ -117,22 +118,22 @@ abbrev pub new_instance : {A : Type 0} → A → ℕ → Instance A
 new_instance template number = record { number = number; state = template; created = false; running = None }
 
 -- the machine with the session that an open was admitted to, and with its instance where that is new
-abbrev pub admitted : {A : Type 0} → Machine A → ℕ → ℕ → Admission → Machine A
-admitted m client label a = record m {
-  table = entered m.table client label a;
+abbrev pub after_admission : {A : Type 0} → Machine A → ℕ → ℕ → Admission → Machine A
+after_admission m client label a = record m {
+  table = with_session m.table client label a;
   instances = if a.new_instance then m.instances ++ new_instance m.template a.instance ∷ [] else m.instances;
 }
 
 -- an open, by whether it is admitted: it waits, or is refused at once
 abbrev pub opened_as : {A : Type 0} → Machine A → ℕ → ℕ → Params → Result Admission Refusal → Stepped A
 opened_as m client label ps (Err refusal) = answered_at_once m refusal.code refusal.origin
-opened_as m client label ps (Ok a) = queued (admitted m client label a) client a.instance a.session (calls.Open label ps)
+opened_as m client label ps (Ok a) = after_queueing (after_admission m client label a) client a.instance a.session (calls.Open label ps)
 
 -- an open: too large a parameter, a label in use, a full queue, no admission, or it waits
 abbrev pub called_open : {A : Type 0} → Machine A → ℕ → ℕ → Params → Stepped A
 called_open m client label ps =
     if is_some (first_oversized ps) then answered_at_once m BAD_PARAMETERS Api
-    else if is_some (known m client label) then answered_at_once m BAD_STATE Api
+    else if is_some (facts_of_label m client label) then answered_at_once m BAD_STATE Api
     else if is_full m.queue then answered_at_once m BUSY Tee
     else opened_as m client label ps (admission_of m.table client label)
 
@@ -141,7 +142,7 @@ abbrev pub invoked_at : {A : Type 0} → Machine A → ℕ → Call → SessionF
 invoked_at m client call s Opening = answered_at_once m BAD_STATE Api
 invoked_at m client call s Closing = answered_at_once m BAD_STATE Api
 invoked_at m client call s Dead = answered_at_once m TARGET_DEAD Tee
-invoked_at m client call s Open = if is_full m.queue then answered_at_once m BUSY Tee else queued m client s.instance s.session call
+invoked_at m client call s Open = if is_full m.queue then answered_at_once m BUSY Tee else after_queueing m client s.instance s.session call
 
 -- an invoke in the session that the label stands for, refused where it stands for none
 abbrev pub invoked_in : {A : Type 0} → Machine A → ℕ → Call → Option SessionFacts → Stepped A
@@ -152,14 +153,14 @@ invoked_in m client call (Some s) = invoked_at m client call s s.state
 abbrev pub called_invoke : {A : Type 0} → Machine A → ℕ → ℕ → ℕ → Params → Stepped A
 called_invoke m client label command ps =
     if is_some (first_oversized ps) then answered_at_once m BAD_PARAMETERS Api
-    else invoked_in m client (calls.Invoke label command ps) (known m client label)
+    else invoked_in m client (calls.Invoke label command ps) (facts_of_label m client label)
 
 -- a close of a session of this state: an open one's waits, a dead one goes at once, and any other is refused at once
 abbrev pub closed_at : {A : Type 0} → Machine A → ℕ → ℕ → SessionFacts → SessionState → Stepped A
 closed_at m client label s Opening = answered_at_once m BAD_STATE Api
 closed_at m client label s Closing = answered_at_once m BAD_STATE Api
 closed_at m client label s Dead = answered_at_once (record m { table = session_removed m.table s.session }) SUCCESS Tee
-closed_at m client label s Open = queued (record m { table = state_set m.table s.session Closing }) client s.instance s.session (calls.Close label)
+closed_at m client label s Open = after_queueing (record m { table = state_set m.table s.session Closing }) client s.instance s.session (calls.Close label)
 
 -- a close: no open or dead session, a dead one, which goes, or it waits
 abbrev pub closed_in : {A : Type 0} → Machine A → ℕ → ℕ → Option SessionFacts → Stepped A
@@ -167,30 +168,30 @@ closed_in m client label None = answered_at_once m BAD_STATE Api
 closed_in m client label (Some s) = closed_at m client label s s.state
 
 -- what a client's call does
-unfoldable pub called : {A : Type 0} → Machine A → ℕ → Call → Stepped A
-called m client (calls.Open label ps) = called_open m client label ps
-called m client (calls.Invoke label command ps) = called_invoke m client label command ps
-called m client (calls.Close label) = closed_in m client label (known m client label)
+unfoldable pub after_call : {A : Type 0} → Machine A → ℕ → Call → Stepped A
+after_call m client (calls.Open label ps) = called_open m client label ps
+after_call m client (calls.Invoke label command ps) = called_invoke m client label command ps
+after_call m client (calls.Close label) = closed_in m client label (facts_of_label m client label)
 
 -- ---- cancellation
 
 -- it never ran its create entry, and has no session left
-abbrev pub is_unused : {A : Type 0} → Machine A → ℕ → Option (Instance A) → Bool
+abbrev pub is_unused : {A : Type 0} → Machine A → InstanceNumber → Option (Instance A) → Bool
 is_unused m i None = false
 is_unused m i (Some inst) = not inst.created && not (has_session m.table i)
 
 -- such an instance is gone at once
-abbrev pub unless_unused : {A : Type 0} → Machine A → ℕ → Machine A
+abbrev pub unless_unused : {A : Type 0} → Machine A → InstanceNumber → Machine A
 unless_unused m i = if is_unused m i (instance_at m i) then instance_gone m i else m
 
 -- session and instance of an open that waits
-abbrev pub open_of_call : ℕ → ℕ → Call → Option (ℕ × ℕ)
+abbrev pub open_of_call : ℕ → InstanceNumber → Call → Option (ℕ × ℕ)
 open_of_call session i (calls.Open label ps) = Some (session, i)
 open_of_call session i (calls.Invoke label command ps) = None
 open_of_call session i (calls.Close label) = None
 
 -- the same of an operation, by how far it is: none where it runs
-abbrev pub open_of_progress : ℕ → ℕ → Progress → Option (ℕ × ℕ)
+abbrev pub open_of_progress : ℕ → InstanceNumber → Progress → Option (ℕ × ℕ)
 open_of_progress session i (progress.Waiting call) = open_of_call session i call
 open_of_progress session i (progress.Running close cancelled masked) = None
 
@@ -200,19 +201,19 @@ waiting_open None = None
 waiting_open (Some o) = open_of_progress o.session o.instance o.progress
 
 -- an open that never begins loses its session
-abbrev pub dropped : {A : Type 0} → Machine A → Option (ℕ × ℕ) → Machine A
-dropped m None = m
-dropped m (Some o) = unless_unused (record m { table = session_removed m.table o.0 }) o.1
+abbrev pub after_dropped_open : {A : Type 0} → Machine A → Option (ℕ × ℕ) → Machine A
+after_dropped_open m None = m
+after_dropped_open m (Some o) = unless_unused (record m { table = session_removed m.table o.0 }) o.1
 
 -- an operation that has not begun is answered, and never begins; one that runs is flagged; all else is ignored
 abbrev pub cancelled_by : {A : Type 0} → Machine A → ℕ → Option (ℕ × ℕ) → Cancellation → Stepped A
-cancelled_by m op o Dropped = record { machine = dropped m o; replies = reply_of op cancel Tee no_outputs ∷ []; instance = 0 }
+cancelled_by m op o Dropped = record { machine = after_dropped_open m o; replies = reply_of op cancel Tee no_outputs ∷ []; instance = 0 }
 cancelled_by m op o Flagged = no_replies m
 cancelled_by m op o Nothing = no_replies m
 
 -- a client's request to cancel the operation
-unfoldable pub cancelled : {A : Type 0} → Machine A → ℕ → Stepped A
-cancelled m op =
+unfoldable pub after_cancellation : {A : Type 0} → Machine A → ℕ → Stepped A
+after_cancellation m op =
     let o = operation_of m.queue op in let c = cancel_of o
     in cancelled_by (record m { queue = after_cancel m.queue op c }) op (waiting_open o) c
 
@@ -243,14 +244,14 @@ masked_again q None = q
 masked_again q (Some op) = mask_set q op true
 
 -- the destroy entry of the instance begins; from now on its application, where it is single, admits no open
-abbrev pub destroying : {A : Type 0} → Machine A → Instance A → Option ℕ → Option Reply → Machine A
-destroying m inst op reply =
+abbrev pub after_destroy_begins : {A : Type 0} → Machine A → Instance A → Option ℕ → Option Reply → Machine A
+after_destroy_begins m inst op reply =
     with_instance (record m { table = destroy_begun m.table inst.number; queue = masked_again m.queue op })
     (record inst { running = Some (destroy_begins op reply) })
 
 -- where no operation waits: an instance that is left without a session and isn't kept alive begins its destroy entry
 abbrev pub idle : {A : Type 0} → Machine A → Instance A → Machine A
-idle m inst = if inst.created && is_left m.table inst.number then destroying m inst None None else m
+idle m inst = if inst.created && is_left m.table inst.number then after_destroy_begins m inst None None else m
 
 -- the instance begins this operation, and is idle where there is none
 abbrev pub begun_with : {A : Type 0} → Machine A → Instance A → Option Begun → Machine A
@@ -274,9 +275,9 @@ after_app_step behaviour m inst r given = with_instance m (record inst {
 -- ---- turns: act
 
 -- the entry ends, its operation is answered where it has one, and its instance runs nothing
-abbrev pub answered : {A : Type 0} → Machine A → Instance A → Option ℕ → Code → Outputs → Stepped A
-answered m inst None code outputs = no_replies (with_instance m (record inst { running = None }))
-answered m inst (Some op) code outputs = record {
+abbrev pub after_answer : {A : Type 0} → Machine A → Instance A → Option ℕ → Code → Outputs → Stepped A
+after_answer m inst None code outputs = no_replies (with_instance m (record inst { running = None }))
+after_answer m inst (Some op) code outputs = record {
   machine = with_instance (record m { queue = without m.queue op }) (record inst { running = None });
   replies = reply_of op code App outputs ∷ [];
   instance = 0;
@@ -290,22 +291,22 @@ is_success code = code.0 == 0
 abbrev pub after_session : {A : Type 0} → Machine A → Instance A → Option ℕ → Code → Outputs → Stepped A
 after_session m inst op code outputs =
     if is_left m.table inst.number
-    then no_replies (destroying m inst op (option_map (λ n. reply_of n code App outputs) op))
-    else answered m inst op code outputs
+    then no_replies (after_destroy_begins m inst op (option_map (λ n. reply_of n code App outputs) op))
+    else after_answer m inst op code outputs
 
 -- what a return does, by the entry that returns
-abbrev pub returned : {A : Type 0} → Machine A → Instance A → Option ℕ → EntryPoint → Code → Outs → Stepped A
-returned m inst op (stages.Create session ps places) code outs =
+abbrev pub after_return : {A : Type 0} → Machine A → Instance A → Option ℕ → EntryPoint → Code → Outs → Stepped A
+after_return m inst op (stages.Create session ps places) code outs =
     if is_success code
     then no_replies (with_instance (record m { queue = masked_again m.queue op }) (record inst { created = true; running = Some (start_begun op session ps places) }))
     else torn_down m inst.number code App
-returned m inst op (stages.Start session places) code outs =
+after_return m inst op (stages.Start session places) code outs =
     if is_success code
-    then answered (record m { table = state_set m.table session Open }) inst op code (delivered places outs)
-    else after_session (record m { table = session_removed m.table session }) inst op code (delivered places outs)
-returned m inst op (stages.Invoke session places) code outs = answered m inst op code (delivered places outs)
-returned m inst op (stages.Stop session) code outs = after_session (record m { table = session_removed m.table session }) inst op SUCCESS no_outputs
-returned m inst op (stages.Destroy reply) code outs = record { machine = instance_gone m inst.number; replies = option_to_list reply; instance = 0 }
+    then after_answer (record m { table = state_set m.table session Open }) inst op code (shown_outputs places outs)
+    else after_session (record m { table = session_removed m.table session }) inst op code (shown_outputs places outs)
+after_return m inst op (stages.Invoke session places) code outs = after_answer m inst op code (shown_outputs places outs)
+after_return m inst op (stages.Stop session) code outs = after_session (record m { table = session_removed m.table session }) inst op SUCCESS no_outputs
+after_return m inst op (stages.Destroy reply) code outs = record { machine = instance_gone m inst.number; replies = option_to_list reply; instance = 0 }
 
 -- the machine after the ask of the entry that runs: an answer is given next, and the ask is counted; a panic tears the instance down
 abbrev pub after_ask : {A : Type 0} → Machine A → Instance A → ActiveEntry → Outcome (Machine A) → Stepped A
@@ -319,7 +320,7 @@ after_ask m inst r (Answered after answer) = no_replies (with_instance after (re
     masked = r.masked;
   });
 }))
-after_ask m inst r (Returned code outs) = returned m inst r.op r.stage code outs
+after_ask m inst r (Returned code outs) = after_return m inst r.op r.stage code outs
 after_ask m inst r Panicked = torn_down m inst.number TARGET_DEAD Tee
 
 -- the store that the ask would have left
@@ -333,18 +334,18 @@ abbrev pub lost_at : {A : Type 0} → Machine A → Bool → Outcome (Machine A)
 lost_at m changes if_served = record m { lost = true; in_doubt = if changes then Some (store_left m if_served) else m.in_doubt }
 
 -- what comes of the ask in a turn in which the store does so
-abbrev pub served : {A : Type 0} → Serving → Machine A → Ask → Resolution (Machine A) → Outcome (Machine A)
-served serving m ask (Settled outcome) = outcome
-served Serves m ask (ComesToStore kept if_served) = came_of Serves m.lost (ComesToStore kept if_served)
-served Fails m ask (ComesToStore kept if_served) = refused (lost_at kept (changes_store ask) if_served) STORAGE_NOT_AVAILABLE
-served Damaged m ask (ComesToStore kept if_served) = came_of Damaged m.lost (ComesToStore kept if_served)
+abbrev pub serve_outcome : {A : Type 0} → Serving → Machine A → Ask → Resolution (Machine A) → Outcome (Machine A)
+serve_outcome serving m ask (Settled outcome) = outcome
+serve_outcome Serves m ask (ComesToStore kept if_served) = came_of Serves m.lost (ComesToStore kept if_served)
+serve_outcome Fails m ask (ComesToStore kept if_served) = refusal_with (lost_at kept (changes_store ask) if_served) STORAGE_NOT_AVAILABLE
+serve_outcome Damaged m ask (ComesToStore kept if_served) = came_of Damaged m.lost (ComesToStore kept if_served)
 
 -- ---- a turn
 
 -- the entry goes on: the application is given what waits for it, or its ask is served
 abbrev pub went_on : {A : Type 0} → Behaviour A → Serving → Machine A → Instance A → ActiveEntry → Waits → Stepped A
 went_on behaviour serving m inst r (waits.Given given) = no_replies (after_app_step behaviour m inst r given)
-went_on behaviour serving m inst r (waits.Ask ask) = after_ask m inst (mask_noted r ask) (served serving m ask (resolution_after m inst.number r ask))
+went_on behaviour serving m inst r (waits.Ask ask) = after_ask m inst (mask_noted r ask) (serve_outcome serving m ask (resolution_after m inst.number r ask))
 
 -- a turn of the instance: the entry that runs goes on, or the next operation begins where none runs
 abbrev pub turned_by : {A : Type 0} → Behaviour A → Serving → Machine A → Instance A → Option ActiveEntry → Stepped A
@@ -362,16 +363,16 @@ turn_counted m = record m { turns = m.turns + 1 }
 
 -- a turn of an instance in which the store does so: the entry that runs goes on, or the next operation begins, or nothing
 -- happens. Each turn counts
-unfoldable pub turned_as : {A : Type 0} → Behaviour A → Serving → Machine A → ℕ → Stepped A
+unfoldable pub turned_as : {A : Type 0} → Behaviour A → Serving → Machine A → InstanceNumber → Stepped A
 turned_as behaviour serving m i = let now = turn_counted m in turned_at behaviour serving now (instance_at now i)
 
 -- a turn in which the store serves
-abbrev pub turned : {A : Type 0} → Behaviour A → Machine A → ℕ → Stepped A
-turned behaviour m i = turned_as behaviour Serves m i
+abbrev pub after_turn : {A : Type 0} → Behaviour A → Machine A → InstanceNumber → Stepped A
+after_turn behaviour m i = turned_as behaviour Serves m i
 
 -- a turn that finds no memory
-abbrev pub starved : {A : Type 0} → Machine A → ℕ → Stepped A
-starved m i = torn_down (turn_counted m) i OUT_OF_MEMORY Tee
+abbrev pub after_starved_turn : {A : Type 0} → Machine A → InstanceNumber → Stepped A
+after_starved_turn m i = torn_down (turn_counted m) i OUT_OF_MEMORY Tee
 
 -- the operation was called, and is no longer unanswered. Numbers begin at 1
 abbrev pub is_answered : {A : Type 0} → Machine A → ℕ → Bool
@@ -395,16 +396,16 @@ of_instance test None = false
 of_instance test (Some inst) = of_running test inst.running
 
 -- an ask waits in the instance that may need the store
-abbrev pub needs_store : {A : Type 0} → Machine A → ℕ → Bool
+abbrev pub needs_store : {A : Type 0} → Machine A → InstanceNumber → Bool
 needs_store m i = of_instance (λ r ask. may_need_store ask) (instance_at m i)
 
 -- an ask waits in the instance that is to change the store
-abbrev pub is_changing : {A : Type 0} → Machine A → ℕ → Bool
+abbrev pub is_changing : {A : Type 0} → Machine A → InstanceNumber → Bool
 is_changing m i = of_instance (λ r ask. changes_store ask) (instance_at m i)
 
 -- an ask waits in the instance, the entry has not made all its asks, neither misuse nor a refusal stands before the store, and it
 -- comes to the store
-abbrev pub reaches : {A : Type 0} → Machine A → ℕ → Bool
+abbrev pub reaches : {A : Type 0} → Machine A → InstanceNumber → Bool
 reaches m i = of_instance (λ r ask. comes_to_store (resolution_after m i r ask)) (instance_at m i)
 
 -- ---- the loss of the power
@@ -415,12 +416,12 @@ store_found took store None = store
 store_found took store (Some doubt) = if took then doubt else store
 
 -- the machine after the power came back: its objects, and the numbers of operations and turns go on
-abbrev pub restarted : {A : Type 0} → Machine A → Bool → Machine A
-restarted m took = record m {
+abbrev pub after_restart : {A : Type 0} → Machine A → Bool → Machine A
+after_restart m took = record m {
   boot = m.boot + 1;
   table = no_instances m.table.properties;
   instances = [];
-  queue = forgotten m.queue;
+  queue = without_operations m.queue;
   store = store_found took m.store m.in_doubt;
   lost = false;
   in_doubt = None;
@@ -436,11 +437,11 @@ restarted m took = record m {
 pub data Event : Type 0 where
   Called : (client : ℕ) (call : Call) → Event
   Cancelled : (op : ℕ) → Event
-  Turned : (instance : ℕ) → Event
-  TurnLost : (instance : ℕ) → Event
-  Corrupted : (instance : ℕ) → Event
+  Turned : (instance : InstanceNumber) → Event
+  TurnLost : (instance : InstanceNumber) → Event
+  Corrupted : (instance : InstanceNumber) → Event
   Lost : Event
-  Starved : (instance : ℕ) → Event
+  Starved : (instance : InstanceNumber) → Event
   Restarted : (took : Bool) → Event
 
 -- in which machines each event is enabled
@@ -456,11 +457,11 @@ is_enabled m (Restarted took) = true
 
 -- one step; next and asks are the application's two functions
 abbrev pub step : {A : Type 0} → Behaviour A → Machine A → Event → Stepped A
-step behaviour m (Called client call) = called m client call
-step behaviour m (Cancelled op) = cancelled m op
-step behaviour m (Turned instance) = turned behaviour m instance
+step behaviour m (Called client call) = after_call m client call
+step behaviour m (Cancelled op) = after_cancellation m op
+step behaviour m (Turned instance) = after_turn behaviour m instance
 step behaviour m (TurnLost instance) = turned_as behaviour Fails m instance
 step behaviour m (Corrupted instance) = turned_as behaviour Damaged m instance
 step behaviour m Lost = no_replies (record m { lost = true })
-step behaviour m (Starved instance) = starved m instance
-step behaviour m (Restarted took) = no_replies (restarted m took)
+step behaviour m (Starved instance) = after_starved_turn m instance
+step behaviour m (Restarted took) = no_replies (after_restart m took)

@@ -1,7 +1,7 @@
 //! Delivery of outputs.
 
 ghost use Rattle.std.specs.Prelude.{◌≡◌, IfOk};
-ghost use Rattle.alone.specs.Places.{place_of, places_of, shown_at, delivered, is_misuse, is_misused_at, is_too_long, value_shown, memory_shown, size_of_bytes, is_small_size};
+ghost use Rattle.alone.specs.Places.{place_of, places_of, shown_at, shown_outputs, is_misuse, is_misused_at, is_too_long, value_shown, memory_shown, size_of_bytes, is_small_size};
 
 use crate::places::{OutputSlot, Places};
 use crate::reply::{Outputs, Shown};
@@ -132,7 +132,7 @@ fn shown(alloc: Global, place: OutputSlot, out: Out) -> Shown
 
 /// What a client is shown of the outputs of an entry.
 pub fn deliver(alloc: Global, places: Places, outs: Outs) -> Outputs
-    ensures { result ≡ delivered places outs }
+    ensures { result ≡ shown_outputs places outs }
 {
     Outputs {
         p0: shown(alloc, places.p0, outs.p0),

@@ -6,7 +6,7 @@ ghost use Rattle.object_asks.specs.Asks.{Serving, Serves, Damaged};
 ghost use Rattle.store_api.specs.Stores.{Store};
 ghost use Rattle.alone.specs.Laws.{StorageStays, born_of, live, step_with_store, with_store};
 ghost use Rattle.alone.specs.Machine.{Machine};
-ghost use Rattle.alone.specs.Step.{Event, called, cancelled, needs_store, reaches, starved, step, turned, turned_as};
+ghost use Rattle.alone.specs.Step.{Event, after_call, after_cancellation, needs_store, reaches, after_starved_turn, step, after_turn, turned_as};
 
 use app_api::Application;
 
@@ -14,19 +14,20 @@ use app_api::Application;
 pub fn turns_are_counted<A: Application>()
     ensures made { (serving : Serving) (m : Machine A) (i : ℕ)
         → (turned_as A.behaviour serving m i).machine.turns ≡ m.turns + 1 }
-    ensures starved { (m : Machine A) (i : ℕ) → (starved m i).machine.turns ≡ m.turns + 1 }
+    ensures starved { (m : Machine A) (i : ℕ)
+        → (after_starved_turn m i).machine.turns ≡ m.turns + 1 }
     ensures called { (m : Machine A) (client : ℕ) (call : Call)
-        → (called m client call).machine.turns ≡ m.turns }
+        → (after_call m client call).machine.turns ≡ m.turns }
 {}
 
 /// Only the power's return is a restart: it alone counts as one.
 pub fn boots_stay<A: Application>()
     ensures made { (serving : Serving) (m : Machine A) (i : ℕ)
         → (turned_as A.behaviour serving m i).machine.boot ≡ m.boot }
-    ensures starved { (m : Machine A) (i : ℕ) → (starved m i).machine.boot ≡ m.boot }
+    ensures starved { (m : Machine A) (i : ℕ) → (after_starved_turn m i).machine.boot ≡ m.boot }
     ensures called { (m : Machine A) (client : ℕ) (call : Call)
-        → (called m client call).machine.boot ≡ m.boot }
-    ensures cancelled { (m : Machine A) (op : ℕ) → (cancelled m op).machine.boot ≡ m.boot }
+        → (after_call m client call).machine.boot ≡ m.boot }
+    ensures cancelled { (m : Machine A) (op : ℕ) → (after_cancellation m op).machine.boot ≡ m.boot }
 {}
 
 /// Only a call brings operations and instances to life: an operation, and an instance for it.
@@ -41,21 +42,23 @@ pub fn turns_leave_the_doubt<A: Application>()
         → (turned_as A.behaviour Serves m i).machine.in_doubt ≡ m.in_doubt }
     ensures damaged { (m : Machine A) (i : ℕ)
         → (turned_as A.behaviour Damaged m i).machine.in_doubt ≡ m.in_doubt }
-    ensures starved { (m : Machine A) (i : ℕ) → (starved m i).machine.in_doubt ≡ m.in_doubt }
+    ensures starved { (m : Machine A) (i : ℕ)
+        → (after_starved_turn m i).machine.in_doubt ≡ m.in_doubt }
 {}
 
 /// Neither a call nor its cancellation touches the storage.
 pub fn calls_leave_the_storage<A: Application>()
     ensures called { (m : Machine A) (client : ℕ) (call : Call)
-        → StorageStays m (called m client call).machine }
-    ensures cancelled { (m : Machine A) (op : ℕ) → StorageStays m (cancelled m op).machine }
+        → StorageStays m (after_call m client call).machine }
+    ensures cancelled { (m : Machine A) (op : ℕ)
+        → StorageStays m (after_cancellation m op).machine }
 {}
 
 /// A turn of an instance in which no ask waits that may need the store goes alike over every store; and only such an
 /// ask comes to it.
 pub fn turns_without_the_store<A: Application>()
     ensures alike { (m : Machine A) (i : ℕ) (store : Store) → needs_store m i ≡ false
-        → turned A.behaviour (with_store store m) i
-        ≡ step_with_store store (turned A.behaviour m i) }
+        → after_turn A.behaviour (with_store store m) i
+        ≡ step_with_store store (after_turn A.behaviour m i) }
     ensures reaches { (m : Machine A) (i : ℕ) → reaches m i ≡ true → needs_store m i ≡ true }
 {}

@@ -2,7 +2,7 @@
 
 ghost use Rattle.std.specs.Prelude.{◌≡◌, ◌+◌, ◌-◌, ◌≤◌, ◌<◌, ◌^◌, ◌==◌, ◌++◌, [], ◌∷◌, OnOk, length};
 ghost use Rattle.tee_base.specs.declared.limits.TheConstants.{MAX_LOG_BYTES};
-ghost use Rattle.alone.specs.KeptLogs.{event_by, logged};
+ghost use Rattle.alone.specs.KeptLogs.{event_by, log_with_replies};
 ghost use Rattle.alone.specs.Logs.{bytes_in, bytes_of_event, entry, is_full, replies_in};
 
 use crate::log_entry::{LogEntry, LogEvent};
@@ -22,13 +22,13 @@ pub struct AppLog {
 
 impl Model for AppLog {
     ghost use Rattle.std.specs.Prelude.{vec_capacity};
-    ghost use Rattle.alone.specs.KeptLogs.{IsKept, logged};
+    ghost use Rattle.alone.specs.KeptLogs.{IsKept, log_with_replies};
     ghost use Rattle.alone.specs.Logs.{KeptLog};
 
     ghost Value = { KeptLog };
 
     ghost view = { λ log. record {
-      entries = logged log.entries.items log.replies.items;
+      entries = log_with_replies log.entries.items log.replies.items;
       room = vec_capacity log.entries;
       reply_room = vec_capacity log.replies;
     } };
@@ -50,7 +50,7 @@ impl AppLog {
 
     /// The entries, and the list of all their replies, which belong to them in order.
     pub fn parts(&self) -> (&[LogEntry], &[Reply])
-        ensures { logged result.0.now result.1.now ≡ self.now.entries }
+        ensures { log_with_replies result.0.now result.1.now ≡ self.now.entries }
     {
         (self.entries.as_slice(), self.replies.as_slice())
     }

@@ -12,7 +12,7 @@ use Rattle.store_api.specs.Keeping.{Keeper, Status}
 use Rattle.object_asks.specs.Asks.{changes_store, object_resolution}
 use Rattle.tee_base.specs.declared.codes.TheConstants.Code.{STORAGE_NOT_AVAILABLE}
 use Rattle.object_asks.specs.Resolutions.{Outcome, Answered, Returned, Panicked, Resolution, Settled, ComesToStore, Objects, Serving, Serves, Damaged, came_of, comes_to_store}
-use Rattle.object_asks.specs.Resolutions.{resolution_in, outcome_in, refused}
+use Rattle.object_asks.specs.Resolutions.{resolution_in, outcome_in, refusal_with}
 use Rattle.object_asks.specs.Held.{Held}
 use Rattle.object_asks.specs.Serving.{HasStatus, IsOutcome, Meets, SaysChange, TriesOnce, serving_of}
 use Rattle.object_asks.specs.declared.outcome.Outcome.{Outcome as Result_of}
@@ -34,22 +34,22 @@ use Rattle.alone.specs.Asks.{resolution, resolution_after, resolution_in_family,
 use Rattle.alone.specs.Families.{family_of}
 use Rattle.alone.specs.Machine.{Machine}
 use Rattle.alone.specs.Places.{is_misuse, places_at}
-use Rattle.alone.specs.Step.{lost_at, served, store_left}
+use Rattle.alone.specs.Step.{lost_at, serve_outcome, store_left}
 use Rattle.app_side.specs.declared.side.AppSide.{AppSide}
-use Rattle.app_side.specs.Asking.{reaching, reaching_in_family}
-use Rattle.app_side.specs.Represents.{IsLeft, doubtful, machine_of, machine_over, noted, over}
+use Rattle.app_side.specs.Asking.{reaches_store, reaching_in_family}
+use Rattle.app_side.specs.Represents.{IsLeft, doubtful, machine_of, machine_over, after_store_kind, over}
 use Rattle.app_side.specs.Serving.{IsEntryOutcome, IsEntryServed, IsTurnOf}
 
 -- ---- asks about objects: no more of the machine is looked at than its objects and whether the storage is lost
 
 -- what comes of a resolution in which the store serves, or is damaged, is what comes of the objects' resolution
-serves_in : {A : Type 0} (m : Machine A) (ask : Ask) (c : Resolution Objects) → served Serves m ask (resolution_in (with_objects m) c) ≡ outcome_in (with_objects m) (came_of Serves m.lost c)
+serves_in : {A : Type 0} (m : Machine A) (ask : Ask) (c : Resolution Objects) → serve_outcome Serves m ask (resolution_in (with_objects m) c) ≡ outcome_in (with_objects m) (came_of Serves m.lost c)
 serves_in m ask (Settled outcome) = refl
 serves_in m ask (ComesToStore kept if_served) =
-    elim m.lost as (λ b. cond b (refused (with_objects m kept) STORAGE_NOT_AVAILABLE) (outcome_in (with_objects m) if_served) ≡ outcome_in (with_objects m)
-    (cond b (refused kept STORAGE_NOT_AVAILABLE) if_served)) [ true ↦ refl | false ↦ refl ]
+    elim m.lost as (λ b. cond b (refusal_with (with_objects m kept) STORAGE_NOT_AVAILABLE) (outcome_in (with_objects m) if_served) ≡ outcome_in (with_objects m)
+    (cond b (refusal_with kept STORAGE_NOT_AVAILABLE) if_served)) [ true ↦ refl | false ↦ refl ]
 
-damaged_in : {A : Type 0} (m : Machine A) (ask : Ask) (c : Resolution Objects) → served Damaged m ask (resolution_in (with_objects m) c) ≡ outcome_in (with_objects m) (came_of Damaged m.lost c)
+damaged_in : {A : Type 0} (m : Machine A) (ask : Ask) (c : Resolution Objects) → serve_outcome Damaged m ask (resolution_in (with_objects m) c) ≡ outcome_in (with_objects m) (came_of Damaged m.lost c)
 damaged_in m ask (Settled outcome) = refl
 damaged_in m ask (ComesToStore kept if_served) = refl
 
@@ -77,8 +77,9 @@ in_doubt_is true there left doubt = refl
 in_doubt_is false there left doubt = refl
 
 lost_in : {A : Type 0} (old new : AppSide A) (ko kn doubt : Store) (left : Held) (outcome : Result_of) (changes b : Bool) (kept : Objects) (if_served : Outcome (Machine A))
-    → IsOutcome outcome (refused kept STORAGE_NOT_AVAILABLE) (objects ko old.held) (objects kn left) → changes ≡ b → new ≡ record old { held = left; lost = true; in_doubt = changes || old.in_doubt }
-    → IsLeft outcome (refused (lost_at (with_objects (machine_over old ko doubt) kept) b if_served) STORAGE_NOT_AVAILABLE) new kn doubt (machine_over old ko doubt)
+    → IsOutcome outcome (refusal_with kept STORAGE_NOT_AVAILABLE) (objects ko old.held) (objects kn left) → changes ≡ b
+    → new ≡ record old { held = left; lost = true; in_doubt = changes || old.in_doubt }
+    → IsLeft outcome (refusal_with (lost_at (with_objects (machine_over old ko doubt) kept) b if_served) STORAGE_NOT_AVAILABLE) new kn doubt (machine_over old ko doubt)
 lost_in {A} old new ko kn doubt left (outcomes.Answered answer) changes b kept if_served is same noted =
     let m : Machine A = machine_over old ko doubt in
     let told : Refused STORAGE_NOT_AVAILABLE ≡ answer = cc in
@@ -97,8 +98,8 @@ lost_in old new ko kn doubt left outcomes.Panicked changes b kept if_served is s
 
 carried_in : {A : Type 0} (old new : AppSide A) (ko kn doubt : Store) (left : Held) (ask : Ask) (kind : TurnKind) (outcome : Result_of) (c : Resolution Objects)
     → IsOutcome outcome (came_of (serving_of kind) old.lost c) (objects ko old.held) (objects kn left) → Meets kind (comes_to_store c) → SaysChange kind (changes_store ask) →
-    new ≡ noted (record old { held = left }) kind
-    → IsLeft outcome (served (serving_of kind) (machine_over old ko doubt) ask (resolution_in (with_objects (machine_over old ko doubt)) c)) new kn doubt (machine_over old ko doubt)
+    new ≡ after_store_kind (record old { held = left }) kind
+    → IsLeft outcome (serve_outcome (serving_of kind) (machine_over old ko doubt) ask (resolution_in (with_objects (machine_over old ko doubt)) c)) new kn doubt (machine_over old ko doubt)
 carried_in old new ko kn doubt left ask Plain outcome c is reaches says notes = left_in old new ko kn doubt left outcome _ _ is (serves_in (machine_over old ko doubt) ask c) notes
 carried_in old new ko kn doubt left ask Corrupted outcome c is reaches says notes = left_in old new ko kn doubt left outcome _ _ is (damaged_in (machine_over old ko doubt) ask c) notes
 carried_in old new ko kn doubt left ask (Lost changes) outcome (Settled o) is reaches says notes = absurd (let e : false ≡ true = reaches in cc)
@@ -108,10 +109,10 @@ carried_in old new ko kn doubt left ask (Lost changes) outcome (ComesToStore kep
 pub carried : {A : Type 0} (old new : AppSide A) (ko kn doubt : Store) (left : Held) (i : ℕ) (r : ActiveEntry) (ask : Ask) (kind : TurnKind) (outcome : Result_of)
     → family_of ask ≡ families.Objects
     → IsOutcome outcome (came_of (serving_of kind) old.lost (object_resolution (objects ko old.held) i ask)) (objects ko old.held) (objects kn left) →
-    Meets kind (comes_to_store (object_resolution (objects ko old.held) i ask)) → SaysChange kind (changes_store ask) → new ≡ noted (record old { held = left }) kind
-    → IsLeft outcome (served (serving_of kind) (machine_over old ko doubt) ask (resolution (machine_over old ko doubt) i r ask)) new kn doubt (machine_over old ko doubt)
+    Meets kind (comes_to_store (object_resolution (objects ko old.held) i ask)) → SaysChange kind (changes_store ask) → new ≡ after_store_kind (record old { held = left }) kind
+    → IsLeft outcome (serve_outcome (serving_of kind) (machine_over old ko doubt) ask (resolution (machine_over old ko doubt) i r ask)) new kn doubt (machine_over old ko doubt)
 carried {A} old new ko kn doubt left i r ask kind outcome family is reaches says notes =
-    subst (λ (c : Resolution (Machine A)). IsLeft outcome (served (serving_of kind) (machine_over old ko doubt) ask c) new kn doubt (machine_over old ko doubt))
+    subst (λ (c : Resolution (Machine A)). IsLeft outcome (serve_outcome (serving_of kind) (machine_over old ko doubt) ask c) new kn doubt (machine_over old ko doubt))
     (sym (of_family families.Objects (machine_over old ko doubt) i r ask family))
     (carried_in old new ko kn doubt left ask kind outcome (object_resolution (objects ko old.held) i ask) is reaches says notes)
 
@@ -156,7 +157,7 @@ family_comes families.Operations m i r ask = operation_comes m i (operation_reso
 family_comes families.Generation m i r ask = generation_settled m i ask
 
 -- an ask comes to the store where it is said to
-pub reaching_is : {A : Type 0} (m : Machine A) (i : ℕ) (r : ActiveEntry) (ask : Ask) → reaching (objects_of m) m.crypto i r ask ≡ comes_to_store (resolution_after m i r ask)
+pub reaching_is : {A : Type 0} (m : Machine A) (i : ℕ) (r : ActiveEntry) (ask : Ask) → reaches_store (objects_of m) m.crypto i r ask ≡ comes_to_store (resolution_after m i r ask)
 reaching_is {A} m i r ask =
     elim (nat_le MAX_ASKS r.asks) as (λ b. (not b && reaching_in_family (family_of ask) (objects_of m) m.crypto i ask) ≡ comes_to_store (cond b (Settled Panicked) (resolution m i r ask)))
     [ true ↦ refl | false ↦ family_comes (family_of ask) m i r ask ]
@@ -175,37 +176,37 @@ entry_over store doubt m r ask = refl
 
 entry_in : {A : Type 0} (old new : AppSide A) (store doubt : Store) (serving : Serving) (ask : Ask) (c : Resolution (Machine A)) (o : Result_of) → IsEntryOutcome o c old new
     → new.in_doubt ≡ old.in_doubt
-    → IsLeft o (served serving (machine_over old store doubt) ask (resolution_in (over store (doubtful old.in_doubt doubt)) c)) new store doubt (machine_over old store doubt)
+    → IsLeft o (serve_outcome serving (machine_over old store doubt) ask (resolution_in (over store (doubtful old.in_doubt doubt)) c)) new store doubt (machine_over old store doubt)
 entry_in {A} old new store doubt serving ask c (outcomes.Answered answer) e same = (
   doubt,
-  ap (λ (c : Resolution (Machine A)). served serving (machine_over old store doubt) ask (resolution_in (over store (doubtful old.in_doubt doubt)) c)) e
+  ap (λ (c : Resolution (Machine A)). serve_outcome serving (machine_over old store doubt) ask (resolution_in (over store (doubtful old.in_doubt doubt)) c)) e
       ∙ ap (λ (b : Bool). Answered (over store (doubtful b doubt) (machine_of new)) answer) (sym same),
 )
 entry_in {A} old new store doubt serving ask c (outcomes.Returned ending) e same = (
-  ap (λ (c : Resolution (Machine A)). served serving (machine_over old store doubt) ask (resolution_in (over store (doubtful old.in_doubt doubt)) c)) e.0,
+  ap (λ (c : Resolution (Machine A)). serve_outcome serving (machine_over old store doubt) ask (resolution_in (over store (doubtful old.in_doubt doubt)) c)) e.0,
   ap (λ (s : AppSide A). machine_over s store doubt) e.1,
 )
 entry_in {A} old new store doubt serving ask c outcomes.Panicked e same = (
-  ap (λ (c : Resolution (Machine A)). served serving (machine_over old store doubt) ask (resolution_in (over store (doubtful old.in_doubt doubt)) c)) e.0,
+  ap (λ (c : Resolution (Machine A)). serve_outcome serving (machine_over old store doubt) ask (resolution_in (over store (doubtful old.in_doubt doubt)) c)) e.0,
   ap (λ (s : AppSide A). machine_over s store doubt) e.1,
 )
 
 pub entry_left : {A : Type 0} (old new : AppSide A) (store doubt : Store) (i : ℕ) (r : ActiveEntry) (ask : Ask) (done : Served) → family_of ask ≡ families.Entry →
     IsEntryServed done (entry_resolution (machine_of old) r ask) old new
-    → IsLeft done.outcome (served (serving_of done.kind) (machine_over old store doubt) ask (resolution (machine_over old store doubt) i r ask)) new store doubt (machine_over old store doubt)
+    → IsLeft done.outcome (serve_outcome (serving_of done.kind) (machine_over old store doubt) ask (resolution (machine_over old store doubt) i r ask)) new store doubt (machine_over old store doubt)
 entry_left {A} old new store doubt i r ask done family is =
-    subst (λ (c : Resolution (Machine A)). IsLeft done.outcome (served (serving_of done.kind) (machine_over old store doubt) ask c) new store doubt (machine_over old store doubt))
+    subst (λ (c : Resolution (Machine A)). IsLeft done.outcome (serve_outcome (serving_of done.kind) (machine_over old store doubt) ask c) new store doubt (machine_over old store doubt))
     (sym (of_family families.Entry (machine_over old store doubt) i r ask family ∙ entry_over store (doubtful old.in_doubt doubt) (machine_of old) r ask))
     (entry_in old new store doubt (serving_of done.kind) ask (entry_resolution (machine_of old) r ask) done.outcome is.outcome (ap (λ (s : AppSide A). s.in_doubt) is.rest))
 
 -- ---- what is noted
 
-pub noted_instances : {A : Type 0} (side : AppSide A) (kind : TurnKind) → (noted side kind).instances ≡ side.instances
+pub noted_instances : {A : Type 0} (side : AppSide A) (kind : TurnKind) → (after_store_kind side kind).instances ≡ side.instances
 noted_instances side Plain = refl
 noted_instances side (Lost changes) = refl
 noted_instances side Corrupted = refl
 
-pub noted_lost : {A : Type 0} (side : AppSide A) (kind : TurnKind) (before after : Status) → HasStatus kind before after → side.lost ≡ before.lost → (noted side kind).lost ≡ after.lost
+pub noted_lost : {A : Type 0} (side : AppSide A) (kind : TurnKind) (before after : Status) → HasStatus kind before after → side.lost ≡ before.lost → (after_store_kind side kind).lost ≡ after.lost
 noted_lost side Plain before after stands same = same ∙ sym stands.cause
 noted_lost side (Lost changes) before after stands same = sym stands.cause.1
 noted_lost side Corrupted before after stands same = same ∙ stands.cause.0 ∙ sym stands.cause.1

@@ -15,7 +15,7 @@ use Rattle.alone.specs.declared.family.Family.TheVariants as families
 use Rattle.alone.specs.Families.{family_of}
 use Rattle.alone.specs.Asks.{resolution, objects_of, with_objects}
 use Rattle.alone.specs.Machine.{Machine}
-use Rattle.alone.specs.Step.{after_ask, served, store_left}
+use Rattle.alone.specs.Step.{after_ask, serve_outcome, store_left}
 use Rattle.app_side.proofs.Carried.{of_family}
 use Rattle.app_side.specs.Serving.{in_doubt_by}
 
@@ -30,14 +30,14 @@ module _ {D : Type 0} (K : Keeper D) (old new : D) where
 
   -- a change's call failed: what the ask would leave is in doubt
   lost_in : {A : Type 0} (m : Machine A) (ask : Ask) (kept : Objects) (if_served : Outcome Objects) → true ≡ changes_store ask → Crash (Lost true) (would_leave (ComesToStore kept if_served))
-      → Crash (Lost true) (in_doubt_by (served (serving_of (Lost true)) m ask (resolution_in (with_objects m) (ComesToStore kept if_served))))
+      → Crash (Lost true) (in_doubt_by (serve_outcome (serving_of (Lost true)) m ask (resolution_in (with_objects m) (ComesToStore kept if_served))))
   lost_in m ask kept (Answered after answer) says crash = subst (Crash (Lost true)) (sym (doubt_left m (with_objects m kept) (changes_store ask)
       (outcome_in (with_objects m) (Answered after answer)) says)) crash
   lost_in m ask kept (Returned code outs) says crash = in_any K (Lost true) _ old new crash
   lost_in m ask kept Panicked says crash = in_any K (Lost true) _ old new crash
 
   carried_in : {A : Type 0} (m : Machine A) (ask : Ask) (kind : TurnKind) (c : Resolution Objects) → SaysChange kind (changes_store ask) → Crash kind (would_leave c) →
-      Crash kind (in_doubt_by (served (serving_of kind) m ask (resolution_in (with_objects m) c)))
+      Crash kind (in_doubt_by (serve_outcome (serving_of kind) m ask (resolution_in (with_objects m) c)))
   carried_in m ask Plain c says crash = record { any_moment = crash.any_moment; afterwards = crash.afterwards }
   carried_in m ask Corrupted c says crash = record { any_moment = crash.any_moment; afterwards = crash.afterwards }
   carried_in m ask (Lost false) c says crash = record { any_moment = crash.any_moment; afterwards = crash.afterwards }
@@ -45,9 +45,9 @@ module _ {D : Type 0} (K : Keeper D) (old new : D) where
   carried_in m ask (Lost true) (ComesToStore kept if_served) says crash = lost_in m ask kept if_served says crash
 
   pub carried_crash : {A : Type 0} (m : Machine A) (i : ℕ) (r : ActiveEntry) (ask : Ask) (kind : TurnKind) → family_of ask ≡ families.Objects → SaysChange kind (changes_store ask)
-      → Crash kind (would_leave (object_resolution (objects_of m) i ask)) → Crash kind (in_doubt_by (served (serving_of kind) m ask (resolution m i r ask)))
+      → Crash kind (would_leave (object_resolution (objects_of m) i ask)) → Crash kind (in_doubt_by (serve_outcome (serving_of kind) m ask (resolution m i r ask)))
   carried_crash {A} m i r ask kind family says crash =
-      subst (λ (c : Resolution (Machine A)). Crash kind (in_doubt_by (served (serving_of kind) m ask c))) (sym (of_family families.Objects m i r ask family))
+      subst (λ (c : Resolution (Machine A)). Crash kind (in_doubt_by (serve_outcome (serving_of kind) m ask c))) (sym (of_family families.Objects m i r ask family))
       (carried_in m ask kind (object_resolution (objects_of m) i ask) says crash)
 
   -- the machine behind the ask has that store in doubt

@@ -12,7 +12,7 @@ use Rattle.store_api.specs.Stores.{Store}
 use Rattle.instances.specs.declared.session.SessionState.TheVariants.{Open}
 use Rattle.instances.specs.Instances.{is_left, session_removed, state_set}
 use Rattle.object_asks.specs.Asks.{Outcome, Answered, Returned, Panicked, Resolution, Settled, ComesToStore, Objects, Serving, Serves}
-use Rattle.object_asks.specs.Asks.{Fails, Damaged, changes_store, resolution_in, object_resolution, outcome_in, refused}
+use Rattle.object_asks.specs.Asks.{Fails, Damaged, changes_store, resolution_in, object_resolution, outcome_in, refusal_with}
 use Rattle.tee_base.specs.declared.codes.TheConstants.Code.{STORAGE_NOT_AVAILABLE, SUCCESS, TARGET_DEAD}
 use Rattle.crypto_ops.specs.Random.{random_from}
 use Rattle.object_asks.specs.KeyOf.{KeyResolution, KeySettled, KeyComesToStore, key_resolution}
@@ -23,7 +23,7 @@ use Rattle.operation_asks.specs.Effects.{Effect}
 use Rattle.operation_asks.specs.Past.{key_effect}
 use Rattle.operation_asks.specs.declared.outcome.Outcome.{Outcome as Told}
 use Rattle.operation_asks.specs.declared.outcome.Outcome.TheVariants as told
-use Rattle.alone.specs.Crypto.{drawn_for, effected, generation_resolution, given_by, keyed_by, operated_by, outcome_by, with_crypto}
+use Rattle.alone.specs.Crypto.{drawn_for, outcome_of_effect, generation_resolution, keyed_by, operated_by, outcome_by, with_crypto}
 use Rattle.alone.specs.declared.family.Family.{Family}
 use Rattle.alone.specs.declared.family.Family.TheVariants as families
 use Rattle.alone.specs.declared.reply.Outputs.{Outputs}
@@ -36,9 +36,10 @@ use Rattle.alone.specs.declared.active_entry.Waits.TheVariants as waits
 use Rattle.alone.specs.Asks.{resolution, resolution_after, resolution_in_family, entry_resolution, mask_noted, objects_of, with_objects}
 use Rattle.alone.specs.Families.{family_of}
 use Rattle.alone.specs.Machine.{Machine, put_instance, with_instance}
-use Rattle.alone.specs.Places.{delivered, is_misuse, places_at}
+use Rattle.alone.specs.Places.{shown_outputs, is_misuse, places_at}
 use Rattle.alone.specs.Replies.{no_outputs}
-use Rattle.alone.specs.Step.{Stepped, after_ask, after_session, answered, destroying, is_success, masked_again, no_replies, reply_of, returned, served, start_begun, store_left, torn_down, went_on}
+use Rattle.alone.specs.Step.{Stepped, after_ask, after_session, after_answer, after_destroy_begins, is_success, masked_again}
+use Rattle.alone.specs.Step.{no_replies, reply_of, after_return, serve_outcome, start_begun, store_left, torn_down, went_on}
 use Rattle.alone.proofs.Lists.{put_put, filter_put}
 
 -- the instance without its running entry
@@ -62,14 +63,15 @@ torn_taken : {A : Type 0} (m : Machine A) (inst : Instance A) (code : Code) → 
 torn_taken m inst code = ap (left_with (torn_down m inst.number code App)) (filter_put inst.number (emptied inst) m.instances refl)
 
 answered_taken : {A : Type 0} (m : Machine A) (inst : Instance A) (op : Option ℕ) (code : Code) (outputs : Outputs) →
-    answered (taken m inst) (emptied inst) op code outputs ≡ answered m inst op code outputs
-answered_taken m inst None code outputs = ap (left_with (answered m inst None code outputs)) (put_put (emptied inst) (emptied inst) m.instances refl)
-answered_taken m inst (Some op) code outputs = ap (left_with (answered m inst (Some op) code outputs)) (put_put (emptied inst) (emptied inst) m.instances refl)
+    after_answer (taken m inst) (emptied inst) op code outputs ≡ after_answer m inst op code outputs
+answered_taken m inst None code outputs = ap (left_with (after_answer m inst None code outputs)) (put_put (emptied inst) (emptied inst) m.instances refl)
+answered_taken m inst (Some op) code outputs = ap (left_with (after_answer m inst (Some op) code outputs)) (put_put (emptied inst) (emptied inst) m.instances refl)
 
 destroying_taken : {A : Type 0} (m : Machine A) (inst : Instance A) (op : Option ℕ) (code : Code) (outputs : Outputs)
-    → no_replies (destroying (taken m inst) (emptied inst) op (option_map (λ n. reply_of n code App outputs) op)) ≡ no_replies (destroying m inst op (option_map (λ n. reply_of n code App outputs) op))
+    → no_replies (after_destroy_begins (taken m inst) (emptied inst) op (option_map (λ n. reply_of n code App outputs) op))
+    ≡ no_replies (after_destroy_begins m inst op (option_map (λ n. reply_of n code App outputs) op))
 destroying_taken {A} m inst op code outputs =
-    let s : Stepped A = no_replies (destroying m inst op (option_map (λ n. reply_of n code App outputs) op)) in
+    let s : Stepped A = no_replies (after_destroy_begins m inst op (option_map (λ n. reply_of n code App outputs) op)) in
     ap (left_with s) (put_put _ (emptied inst) m.instances refl)
 
 -- one of two steps
@@ -82,18 +84,18 @@ after_session_taken : {A : Type 0} (m : Machine A) (inst : Instance A) (op : Opt
 after_session_taken m inst op code outputs = same_choice (is_left m.table inst.number) _ _ _ _ (destroying_taken m inst op code outputs) (answered_taken m inst op code outputs)
 
 pub returned_taken : {A : Type 0} (m : Machine A) (inst : Instance A) (op : Option ℕ) (stage : EntryPoint) (code : Code) (outs : Outs) →
-    returned (taken m inst) (emptied inst) op stage code outs ≡ returned m inst op stage code outs
+    after_return (taken m inst) (emptied inst) op stage code outs ≡ after_return m inst op stage code outs
 returned_taken {A} m inst op (stages.Create session ps places) code outs =
     let s : Stepped A = no_replies (with_instance (record m { queue = masked_again m.queue op }) (record inst { created = true; running = Some (start_begun op session ps places) })) in
     same_choice (is_success code) _ _ _ _ (ap (left_with s) (put_put _ (emptied inst) m.instances refl)) (torn_taken m inst code)
 returned_taken m inst op (stages.Start session places) code outs =
     same_choice (is_success code) _ _ _ _
-    (answered_taken (record m { table = state_set m.table session Open }) inst op code (delivered places outs))
-    (after_session_taken (record m { table = session_removed m.table session }) inst op code (delivered places outs))
-returned_taken m inst op (stages.Invoke session places) code outs = answered_taken m inst op code (delivered places outs)
+    (answered_taken (record m { table = state_set m.table session Open }) inst op code (shown_outputs places outs))
+    (after_session_taken (record m { table = session_removed m.table session }) inst op code (shown_outputs places outs))
+returned_taken m inst op (stages.Invoke session places) code outs = answered_taken m inst op code (shown_outputs places outs)
 returned_taken m inst op (stages.Stop session) code outs = after_session_taken (record m { table = session_removed m.table session }) inst op SUCCESS no_outputs
 returned_taken {A} m inst op (stages.Destroy reply) code outs =
-    ap (left_with (returned m inst op (stages.Destroy reply) code outs)) (filter_put inst.number (emptied inst) m.instances refl)
+    ap (left_with (after_return m inst op (stages.Destroy reply) code outs)) (filter_put inst.number (emptied inst) m.instances refl)
 
 -- ---- an ask's resolution doesn't look at the instances, and leaves them
 
@@ -120,12 +122,12 @@ told_placed : {A : Type 0} (xs : List (Instance A)) (m : Machine A) (t : Told) �
 told_placed xs m (told.Answered answer) = refl
 told_placed xs m told.Panicked = refl
 
-effected_placed : {A : Type 0} (xs : List (Instance A)) (m : Machine A) (e : Effect CryptoState) → effected (placed xs m) e ≡ outcome_in (placed xs) (effected m e)
+effected_placed : {A : Type 0} (xs : List (Instance A)) (m : Machine A) (e : Effect CryptoState) → outcome_of_effect (placed xs m) e ≡ outcome_in (placed xs) (outcome_of_effect m e)
 effected_placed xs m e = told_placed xs (with_crypto m e.after) e.told
 
 keyed_placed : {A : Type 0} (xs : List (Instance A)) (m : Machine A) (i op : ℕ) (c : KeyResolution) → keyed_by (placed xs m) i op c ≡ resolution_in (placed xs) (keyed_by m i op c)
-keyed_placed {A} xs m i op (KeySettled found) = ap (λ (o : Outcome (Machine A)). Settled o) (effected_placed xs m (key_effect m.crypto i op (given_by found)))
-keyed_placed {A} xs m i op (KeyComesToStore if_served) = ap (λ (o : Outcome (Machine A)). ComesToStore (placed xs m) o) (effected_placed xs m (key_effect m.crypto i op (given_by if_served)))
+keyed_placed {A} xs m i op (KeySettled found) = ap (λ (o : Outcome (Machine A)). Settled o) (effected_placed xs m (key_effect m.crypto i op found))
+keyed_placed {A} xs m i op (KeyComesToStore if_served) = ap (λ (o : Outcome (Machine A)). ComesToStore (placed xs m) o) (effected_placed xs m (key_effect m.crypto i op if_served))
 
 operated_placed : {A : Type 0} (xs : List (Instance A)) (m : Machine A) (i : ℕ) (c : operations.Resolution CryptoState) → operated_by (placed xs m) i c ≡ resolution_in (placed xs) (operated_by m i c)
 operated_placed {A} xs m i (operations.Settled effect) = ap (λ (o : Outcome (Machine A)). Settled o) (effected_placed xs m effect)
@@ -155,13 +157,13 @@ left_placed xs m (Returned code outs) = refl
 left_placed xs m Panicked = refl
 
 pub served_placed : {A : Type 0} (serving : Serving) (xs : List (Instance A)) (m : Machine A) (ask : Ask) (c : Resolution (Machine A)) →
-    served serving (placed xs m) ask (resolution_in (placed xs) c) ≡ outcome_in (placed xs) (served serving m ask c)
+    serve_outcome serving (placed xs m) ask (resolution_in (placed xs) c) ≡ outcome_in (placed xs) (serve_outcome serving m ask c)
 served_placed serving xs m ask (Settled outcome) = refl
 served_placed {A} Serves xs m ask (ComesToStore kept if_served) =
-    elim m.lost as (λ b. cond b (refused (placed xs kept) STORAGE_NOT_AVAILABLE) (outcome_in (placed xs) if_served) ≡ outcome_in (placed xs)
-    (cond b (refused kept STORAGE_NOT_AVAILABLE) if_served)) [ true ↦ refl | false ↦ refl ]
+    elim m.lost as (λ b. cond b (refusal_with (placed xs kept) STORAGE_NOT_AVAILABLE) (outcome_in (placed xs) if_served) ≡ outcome_in (placed xs)
+    (cond b (refusal_with kept STORAGE_NOT_AVAILABLE) if_served)) [ true ↦ refl | false ↦ refl ]
 served_placed {A} Fails xs m ask (ComesToStore kept if_served) =
-    ap (λ (s : Store). refused (record kept { instances = xs; lost = true; in_doubt = cond (changes_store ask) (Some s) kept.in_doubt }) STORAGE_NOT_AVAILABLE) (left_placed xs kept if_served)
+    ap (λ (s : Store). refusal_with (record kept { instances = xs; lost = true; in_doubt = cond (changes_store ask) (Some s) kept.in_doubt }) STORAGE_NOT_AVAILABLE) (left_placed xs kept if_served)
 served_placed Damaged xs m ask (ComesToStore kept if_served) = refl
 
 -- an outcome leaves the instances
@@ -175,16 +177,17 @@ plain_leaves m (Answered after answer) = refl
 plain_leaves m (Returned code outs) = tt
 plain_leaves m Panicked = tt
 
-objects_leave : {A : Type 0} (serving : Serving) (m : Machine A) (ask : Ask) (c : Resolution Objects) → Leaves m.instances (served serving m ask (resolution_in (with_objects m) c))
+objects_leave : {A : Type 0} (serving : Serving) (m : Machine A) (ask : Ask) (c : Resolution Objects) → Leaves m.instances (serve_outcome serving m ask (resolution_in (with_objects m) c))
 objects_leave serving m ask (Settled outcome) = plain_leaves m outcome
 objects_leave Serves m ask (ComesToStore kept if_served) =
-    elim m.lost as (λ b. Leaves m.instances (cond b (refused (with_objects m kept) STORAGE_NOT_AVAILABLE) (outcome_in (with_objects m) if_served))) [ true ↦ refl | false ↦ plain_leaves m if_served ]
+    elim m.lost as (λ b. Leaves m.instances (cond b (refusal_with (with_objects m kept) STORAGE_NOT_AVAILABLE) (outcome_in
+    (with_objects m) if_served))) [ true ↦ refl | false ↦ plain_leaves m if_served ]
 objects_leave Fails m ask (ComesToStore kept if_served) = refl
 objects_leave Damaged m ask (ComesToStore kept if_served) = refl
 
-entry_leaves : {A : Type 0} (serving : Serving) (m : Machine A) (r : ActiveEntry) (ask : Ask) → Leaves m.instances (served serving m ask (entry_resolution m r ask))
+entry_leaves : {A : Type 0} (serving : Serving) (m : Machine A) (r : ActiveEntry) (ask : Ask) → Leaves m.instances (serve_outcome serving m ask (entry_resolution m r ask))
 entry_leaves {A} serving m r (asked.Return code outs) =
-    elim (is_misuse (places_at r.stage) outs) as (λ b. Leaves m.instances (served serving m (asked.Return code outs) (cond b (Settled Panicked) (Settled (Returned code outs)))))
+    elim (is_misuse (places_at r.stage) outs) as (λ b. Leaves m.instances (serve_outcome serving m (asked.Return code outs) (cond b (Settled Panicked) (Settled (Returned code outs)))))
     [ true ↦ tt | false ↦ tt ]
 entry_leaves serving m r asked.CancelFlag = refl
 entry_leaves serving m r asked.CancelMask = refl
@@ -195,39 +198,39 @@ told_leaves : {A : Type 0} (m : Machine A) (s : CryptoState) (t : Told) → Leav
 told_leaves m s (told.Answered answer) = refl
 told_leaves m s told.Panicked = tt
 
-keyed_leaves : {A : Type 0} (serving : Serving) (m : Machine A) (ask : Ask) (i op : ℕ) (c : KeyResolution) → Leaves m.instances (served serving m ask (keyed_by m i op c))
-keyed_leaves serving m ask i op (KeySettled found) = let e = key_effect m.crypto i op (given_by found) in told_leaves m e.after e.told
+keyed_leaves : {A : Type 0} (serving : Serving) (m : Machine A) (ask : Ask) (i op : ℕ) (c : KeyResolution) → Leaves m.instances (serve_outcome serving m ask (keyed_by m i op c))
+keyed_leaves serving m ask i op (KeySettled found) = let e = key_effect m.crypto i op found in told_leaves m e.after e.told
 keyed_leaves Serves m ask i op (KeyComesToStore if_served) =
-    let e = key_effect m.crypto i op (given_by if_served) in
-    elim m.lost as (λ b. Leaves m.instances (cond b (refused m STORAGE_NOT_AVAILABLE) (effected m e))) [ true ↦ refl | false ↦ told_leaves m e.after e.told ]
+    let e = key_effect m.crypto i op if_served in
+    elim m.lost as (λ b. Leaves m.instances (cond b (refusal_with m STORAGE_NOT_AVAILABLE) (outcome_of_effect m e))) [ true ↦ refl | false ↦ told_leaves m e.after e.told ]
 keyed_leaves Fails m ask i op (KeyComesToStore if_served) = refl
 keyed_leaves Damaged m ask i op (KeyComesToStore if_served) = refl
 
-operated_leaves : {A : Type 0} (serving : Serving) (m : Machine A) (ask : Ask) (i : ℕ) (c : operations.Resolution CryptoState) → Leaves m.instances (served serving m ask (operated_by m i c))
+operated_leaves : {A : Type 0} (serving : Serving) (m : Machine A) (ask : Ask) (i : ℕ) (c : operations.Resolution CryptoState) → Leaves m.instances (serve_outcome serving m ask (operated_by m i c))
 operated_leaves serving m ask i (operations.Settled effect) = told_leaves m effect.after effect.told
 operated_leaves serving m ask i (operations.WantsKey op object) = keyed_leaves serving m ask i op (key_resolution (objects_of m) i object)
 
 made_leaves : {A : Type 0} (serving : Serving) (m : Machine A) (ask : Ask) (s : CryptoState) (o : Objects) (i object : ℕ) (random : ℕ → List ℕ) (wanted : Option ℕ)
-    → Leaves m.instances (served serving m ask (resolution_in (with_objects (with_crypto m s)) (generated_of o i object random wanted)))
+    → Leaves m.instances (serve_outcome serving m ask (resolution_in (with_objects (with_crypto m s)) (generated_of o i object random wanted)))
 made_leaves serving m ask s o i object random None = tt
 made_leaves serving m ask s o i object random (Some count) = refl
 
-generation_leaves : {A : Type 0} (serving : Serving) (m : Machine A) (i : ℕ) (ask : Ask) → Leaves m.instances (served serving m ask (generation_resolution m i ask))
+generation_leaves : {A : Type 0} (serving : Serving) (m : Machine A) (i : ℕ) (ask : Ask) → Leaves m.instances (serve_outcome serving m ask (generation_resolution m i ask))
 generation_leaves serving m i (asked.KeyGenerate object bits) =
     let wanted = random_wanted m.held i object bits in
     made_leaves serving m (asked.KeyGenerate object bits) (drawn_for m.crypto wanted) (objects_of m) i object (random_from m.crypto.random) wanted
 generation_leaves serving m i ask = tt
 
 family_leaves : {A : Type 0} (serving : Serving) (family : Family) (m : Machine A) (i : ℕ) (r : ActiveEntry) (ask : Ask)
-    → Leaves m.instances (served serving m ask (resolution_in_family family m i r ask))
+    → Leaves m.instances (serve_outcome serving m ask (resolution_in_family family m i r ask))
 family_leaves serving families.Entry m i r ask = entry_leaves serving m r ask
 family_leaves serving families.Objects m i r ask = objects_leave serving m ask (object_resolution (objects_of m) i ask)
 family_leaves serving families.Operations m i r ask = operated_leaves serving m ask i (operation_resolution m.crypto i ask)
 family_leaves serving families.Generation m i r ask = generation_leaves serving m i ask
 
-pub ask_leaves : {A : Type 0} (serving : Serving) (m : Machine A) (i : ℕ) (r : ActiveEntry) (ask : Ask) → Leaves m.instances (served serving m ask (resolution_after m i r ask))
+pub ask_leaves : {A : Type 0} (serving : Serving) (m : Machine A) (i : ℕ) (r : ActiveEntry) (ask : Ask) → Leaves m.instances (serve_outcome serving m ask (resolution_after m i r ask))
 ask_leaves {A} serving m i r ask =
-    elim (nat_le MAX_ASKS r.asks) as (λ b. Leaves m.instances (served serving m ask (cond b (Settled Panicked) (resolution m i r ask))))
+    elim (nat_le MAX_ASKS r.asks) as (λ b. Leaves m.instances (serve_outcome serving m ask (cond b (Settled Panicked) (resolution m i r ask))))
     [ true ↦ tt | false ↦ family_leaves serving (family_of ask) m i r ask ]
 
 -- ---- the entry goes on
@@ -247,6 +250,6 @@ went_on_taken {A} behaviour serving m inst r (waits.Given given) =
     ap (left_with s) (put_put _ (emptied inst) m.instances refl)
 went_on_taken {A} behaviour serving m inst r (waits.Ask ask) =
     let xs = put_instance (emptied inst) m.instances in
-    ap (λ (c : Resolution (Machine A)). after_ask (taken m inst) (emptied inst) (mask_noted r ask) (served serving (placed xs m) ask c)) (resolution_after_placed xs m inst.number r ask)
+    ap (λ (c : Resolution (Machine A)). after_ask (taken m inst) (emptied inst) (mask_noted r ask) (serve_outcome serving (placed xs m) ask c)) (resolution_after_placed xs m inst.number r ask)
     ∙ ap (λ (o : Outcome (Machine A)). after_ask (taken m inst) (emptied inst) (mask_noted r ask) o) (served_placed serving xs m ask (resolution_after m inst.number r ask))
-    ∙ acted_taken m inst (mask_noted r ask) (served serving m ask (resolution_after m inst.number r ask)) (ask_leaves serving m inst.number r ask)
+    ∙ acted_taken m inst (mask_noted r ask) (serve_outcome serving m ask (resolution_after m inst.number r ask)) (ask_leaves serving m inst.number r ask)

@@ -21,14 +21,15 @@ use Rattle.alone.specs.declared.active_entry.EntryPoint.TheVariants as stages
 use Rattle.alone.specs.Machine.{Machine}
 use Rattle.alone.specs.Asks.{cancel}
 use Rattle.alone.specs.Machine.{instance_at}
-use Rattle.alone.specs.Places.{delivered}
+use Rattle.alone.specs.Places.{shown_outputs}
 use Rattle.alone.specs.Replies.{no_outputs}
 use Rattle.alone.specs.declared.reply.Outputs.{Outputs}
 use Rattle.tee_base.specs.declared.codes.Origin.{Origin}
 use Rattle.tee_base.specs.declared.codes.Origin.TheVariants.{Tee}
 use Rattle.tee_base.specs.declared.codes.TheConstants.Code.{SUCCESS}
-use Rattle.alone.specs.Step.{Stepped, after_session, answered, with_next_begun, begun_with, called, called_open, cancelled, cancelled_by, closed_at, closed_in, dropped, idle}
-use Rattle.alone.specs.Step.{invoked_at, invoked_in, is_success, is_unused, known, opened_as, no_replies, reply_of, returned, torn_down, waiting_open}
+use Rattle.alone.specs.Step.{Stepped, after_session, after_answer, with_next_begun, begun_with, after_call}
+use Rattle.alone.specs.Step.{called_open, after_cancellation, cancelled_by, closed_at, closed_in, after_dropped_open, idle}
+use Rattle.alone.specs.Step.{invoked_at, invoked_in, is_success, is_unused, facts_of_label, opened_as, no_replies, reply_of, after_return, torn_down, waiting_open}
 use Rattle.op_queue.specs.declared.operation.Cancelled.{Cancelled as Cancellation}
 use Rattle.op_queue.specs.declared.operation.Cancelled.TheVariants.{Dropped, Flagged, Nothing}
 use Rattle.app_side.specs.declared.side.AppSide.{AppSide}
@@ -53,7 +54,7 @@ open_over : {A : Type 0} (store : Store) (doubt : Option Store) (m : Machine A) 
     called_open (over store doubt m) client label ps ≡ step_over store doubt (called_open m client label ps)
 open_over store doubt m client label ps =
     chosen store doubt (is_some (first_oversized ps)) _ _ _ _ refl
-    (chosen store doubt (is_some (known m client label)) _ _ _ _ refl
+    (chosen store doubt (is_some (facts_of_label m client label)) _ _ _ _ refl
     (chosen store doubt (is_full m.queue) _ _ _ _ refl
     (opened_over store doubt m client label ps (admission_of m.table client label))))
 
@@ -81,13 +82,13 @@ close_in_over : {A : Type 0} (store : Store) (doubt : Option Store) (m : Machine
 close_in_over store doubt m client label None = refl
 close_in_over store doubt m client label (Some s) = close_at_over store doubt m client label s s.state
 
-pub called_over : {A : Type 0} (store : Store) (doubt : Option Store) (m : Machine A) (client : ℕ) (call : Call) → called (over store doubt m) client call ≡ step_over store doubt
-    (called m client call)
-unfolding called
+pub called_over : {A : Type 0} (store : Store) (doubt : Option Store) (m : Machine A) (client : ℕ) (call : Call) → after_call (over store doubt m) client call ≡ step_over store doubt
+    (after_call m client call)
+unfolding after_call
 called_over store doubt m client (calls.Open label ps) = open_over store doubt m client label ps
 called_over store doubt m client (calls.Invoke label command ps) =
-    chosen store doubt (is_some (first_oversized ps)) _ _ _ _ refl (invoke_in_over store doubt m client (calls.Invoke label command ps) (known m client label))
-called_over store doubt m client (calls.Close label) = close_in_over store doubt m client label (known m client label)
+    chosen store doubt (is_some (first_oversized ps)) _ _ _ _ refl (invoke_in_over store doubt m client (calls.Invoke label command ps) (facts_of_label m client label))
+called_over store doubt m client (calls.Close label) = close_in_over store doubt m client label (facts_of_label m client label)
 
 -- a choice of machines is the same on both sides
 chosen_machine : {A : Type 0} (store : Store) (doubt : Option Store) (b : Bool) (x y x2 y2 : Machine A) → x2 ≡ over store doubt x → y2 ≡ over store doubt y →
@@ -107,7 +108,7 @@ pub begun_over : {A : Type 0} (store : Store) (doubt : Option Store) (m : Machin
 begun_over store doubt m inst = begun_with_over store doubt (record m { queue = after_begin m.queue (first_waiting m.queue inst.number) }) inst (begun_at (first_waiting m.queue inst.number))
 
 answered_over : {A : Type 0} (store : Store) (doubt : Option Store) (m : Machine A) (inst : Instance A) (op : Option ℕ) (code : Code) (outputs : Outputs) →
-    answered (over store doubt m) inst op code outputs ≡ step_over store doubt (answered m inst op code outputs)
+    after_answer (over store doubt m) inst op code outputs ≡ step_over store doubt (after_answer m inst op code outputs)
 answered_over store doubt m inst None code outputs = refl
 answered_over store doubt m inst (Some op) code outputs = refl
 
@@ -116,13 +117,13 @@ after_session_over : {A : Type 0} (store : Store) (doubt : Option Store) (m : Ma
 after_session_over store doubt m inst op code outputs = chosen store doubt (is_left m.table inst.number) _ _ _ _ refl (answered_over store doubt m inst op code outputs)
 
 pub returned_over : {A : Type 0} (store : Store) (doubt : Option Store) (m : Machine A) (inst : Instance A) (op : Option ℕ) (stage : EntryPoint) (code : Code) (outs : Outs) →
-    returned (over store doubt m) inst op stage code outs ≡ step_over store doubt (returned m inst op stage code outs)
+    after_return (over store doubt m) inst op stage code outs ≡ step_over store doubt (after_return m inst op stage code outs)
 returned_over store doubt m inst op (stages.Create session ps places) code outs = chosen store doubt (is_success code) _ _ _ _ refl refl
 returned_over store doubt m inst op (stages.Start session places) code outs =
     chosen store doubt (is_success code) _ _ _ _
-    (answered_over store doubt (record m { table = state_set m.table session Open }) inst op code (delivered places outs))
-    (after_session_over store doubt (record m { table = session_removed m.table session }) inst op code (delivered places outs))
-returned_over store doubt m inst op (stages.Invoke session places) code outs = answered_over store doubt m inst op code (delivered places outs)
+    (answered_over store doubt (record m { table = state_set m.table session Open }) inst op code (shown_outputs places outs))
+    (after_session_over store doubt (record m { table = session_removed m.table session }) inst op code (shown_outputs places outs))
+returned_over store doubt m inst op (stages.Invoke session places) code outs = answered_over store doubt m inst op code (shown_outputs places outs)
 returned_over store doubt m inst op (stages.Stop session) code outs = after_session_over store doubt (record m { table = session_removed m.table session }) inst op SUCCESS no_outputs
 returned_over store doubt m inst op (stages.Destroy reply) code outs = refl
 
@@ -130,7 +131,7 @@ pub torn_over : {A : Type 0} (store : Store) (doubt : Option Store) (m : Machine
     torn_down (over store doubt m) i code origin ≡ step_over store doubt (torn_down m i code origin)
 torn_over store doubt m i code origin = refl
 
-dropped_over : {A : Type 0} (store : Store) (doubt : Option Store) (m : Machine A) (o : Option (ℕ × ℕ)) → dropped (over store doubt m) o ≡ over store doubt (dropped m o)
+dropped_over : {A : Type 0} (store : Store) (doubt : Option Store) (m : Machine A) (o : Option (ℕ × ℕ)) → after_dropped_open (over store doubt m) o ≡ over store doubt (after_dropped_open m o)
 dropped_over store doubt m None = refl
 dropped_over {A} store doubt m (Some o) =
     let left : Machine A = record m { table = session_removed m.table o.0 } in
@@ -147,8 +148,8 @@ cancelled_by_over {A} store doubt m op o Dropped = ap (λ (x : Machine A). (let 
 cancelled_by_over store doubt m op o Flagged = refl
 cancelled_by_over store doubt m op o Nothing = refl
 
-pub cancelled_over : {A : Type 0} (store : Store) (doubt : Option Store) (m : Machine A) (op : ℕ) → cancelled (over store doubt m) op ≡ step_over store doubt (cancelled m op)
-unfolding cancelled
+pub cancelled_over : {A : Type 0} (store : Store) (doubt : Option Store) (m : Machine A) (op : ℕ) → after_cancellation (over store doubt m) op ≡ step_over store doubt (after_cancellation m op)
+unfolding after_cancellation
 cancelled_over store doubt m op =
     let o = operation_of m.queue op in
     cancelled_by_over store doubt (record m { queue = after_cancel m.queue op (cancel_of o) }) op (waiting_open o) (cancel_of o)
@@ -235,13 +236,14 @@ closed_in_lost : {A : Type 0} (m : Machine A) (client label : ℕ) (o : Option S
 closed_in_lost m client label None = refl
 closed_in_lost m client label (Some s) = closed_lost m client label s s.state
 
-pub called_lost : {A : Type 0} (m : Machine A) (client : ℕ) (call : Call) → (called m client call).machine.lost ≡ m.lost
-unfolding called
+pub called_lost : {A : Type 0} (m : Machine A) (client : ℕ) (call : Call) → (after_call m client call).machine.lost ≡ m.lost
+unfolding after_call
 called_lost m client (calls.Open label ps) =
-    stays_lost m.lost (is_some (first_oversized ps)) _ _ refl (stays_lost m.lost (is_some (known m client label)) _ _ refl
+    stays_lost m.lost (is_some (first_oversized ps)) _ _ refl (stays_lost m.lost (is_some (facts_of_label m client label)) _ _ refl
     (stays_lost m.lost (is_full m.queue) _ _ refl (opened_lost m client label ps (admission_of m.table client label))))
-called_lost m client (calls.Invoke label command ps) = stays_lost m.lost (is_some (first_oversized ps)) _ _ refl (invoked_in_lost m client (calls.Invoke label command ps) (known m client label))
-called_lost m client (calls.Close label) = closed_in_lost m client label (known m client label)
+called_lost m client (calls.Invoke label command ps) = stays_lost m.lost (is_some (first_oversized ps)) _ _ refl (invoked_in_lost m client (calls.Invoke label command ps)
+    (facts_of_label m client label))
+called_lost m client (calls.Close label) = closed_in_lost m client label (facts_of_label m client label)
 
 -- the machine is as it was
 pub same_stands : {A : Type 0} (old new : AppSide A) → machine_of new ≡ machine_of old → (m : Machine A) → Represents old m → Represents new m

@@ -3,7 +3,7 @@ use Rattle.std.proofs.Common.{ℕ, ◌≡◌, ◌==◌, List, [], ◌∷◌, Opt
 use Rattle.tee_base.specs.declared.codes.Code.{Code}
 use Rattle.tee_base.specs.declared.codes.Origin.{Origin}
 use Rattle.op_queue.specs.declared.operation.Operation.{Operation}
-use Rattle.op_queue.specs.Queue.{Queue, IsQueue, after_begin, cleared, first_waiting}
+use Rattle.op_queue.specs.Queue.{Queue, IsQueue, after_begin, without_operations_of, first_waiting}
 use Rattle.op_queue.proofs.Started.{started_numbers, started_of_instance}
 use Rattle.alone.specs.declared.reply.Reply.{Reply}
 use Rattle.alone.specs.declared.active_entry.Instance.{Instance}
@@ -27,7 +27,7 @@ replies_by code origin [] = refl
 replies_by code origin (o ∷ os) = ap (λ (rs : List Reply). reply_of o.number code origin no_outputs ∷ rs) (replies_by code origin os)
 
 -- an operation of the instance that has begun
-begun_cleared : (q : Queue) (i : ℕ) (o : Option Operation) → IsQueue q → first_waiting q i ≡ o → cleared (after_begin q o) i ≡ cleared q i
+begun_cleared : (q : Queue) (i : ℕ) (o : Option Operation) → IsQueue q → first_waiting q i ≡ o → without_operations_of (after_begin q o) i ≡ without_operations_of q i
 begun_cleared q i None h e = refl
 begun_cleared q i (Some o) h e = started_of_instance q i o h e
 
@@ -46,7 +46,7 @@ begun_torn m i code origin h =
     let o = first_waiting q i in
     let mine : Queue → List Operation = λ q. filter (belongs_to i) q.operations in
     ap (λ (x : Queue). left_with m i code origin x (map (λ o. reply_of o.number code origin no_outputs) (mine (after_begin q o)))) (begun_cleared q i o h refl)
-    ∙ ap (left_with m i code origin (cleared q i))
+    ∙ ap (left_with m i code origin (without_operations_of q i))
     (replies_by code origin (mine (after_begin q o))
     ∙ ap (map (λ n. reply_of n code origin no_outputs)) (begun_numbers q i o)
     ∙ sym (replies_by code origin (mine q)))

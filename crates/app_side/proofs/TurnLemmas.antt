@@ -25,16 +25,16 @@ use Rattle.tee_base.specs.declared.codes.TheConstants.Code.{SUCCESS}
 use Rattle.tee_base.specs.declared.codes.Origin.{Origin}
 use Rattle.instances.specs.declared.session.SessionState.TheVariants.{Open}
 use Rattle.instances.specs.Instances.{is_left, session_removed, state_set}
-use Rattle.alone.specs.Places.{delivered}
+use Rattle.alone.specs.Places.{shown_outputs}
 use Rattle.alone.specs.Replies.{no_outputs}
 use Rattle.alone.specs.declared.reply.Outputs.{Outputs}
 use Rattle.alone.specs.Asks.{resolution_after, objects_of}
 use Rattle.alone.specs.Kinds.{kind_by}
 use Rattle.alone.specs.Machine.{Machine, is_number, with_instance}
-use Rattle.alone.specs.Step.{Stepped, after_ask, after_session, answered, with_next_begun, begun_with, destroying, idle, is_success, is_changing, is_enabled}
-use Rattle.alone.specs.Step.{of_instance, of_running, of_waits, reaches, no_replies, returned, step, after_app_step, torn_down, turned_as}
+use Rattle.alone.specs.Step.{Stepped, after_ask, after_session, after_answer, with_next_begun, begun_with, after_destroy_begins, idle, is_success, is_changing, is_enabled}
+use Rattle.alone.specs.Step.{of_instance, of_running, of_waits, reaches, no_replies, after_return, step, after_app_step, torn_down, turned_as}
 use Rattle.app_side.specs.declared.side.AppSide.{AppSide}
-use Rattle.app_side.specs.Asking.{changing, reaching}
+use Rattle.app_side.specs.Asking.{is_to_change, reaches_store}
 use Rattle.operation_asks.specs.Kept.{state_of}
 use Rattle.app_side.specs.Represents.{IsStep, IsTurned, Represents, event_of, machine_of, machine_over, store_kind}
 use Rattle.object_asks.specs.Serving.{HasStatus, Meets, SaysChange, TriesOnce, serving_of}
@@ -62,12 +62,12 @@ thinks {A} behaviour old new given inst r g store doubt is none = record {
 }
 
 pub returns : {A : Type 0} (old new : AppSide A) (given : List Reply) (inst : Instance A) (op : Option ℕ) (stage : EntryPoint) (ending : Ending) (m : Machine A) (store doubt : Store) →
-    IsTurned new given (returned (machine_of old) inst op stage ending.code ending.outs) → machine_over old store doubt ≡ m →
-    IsStep new store given (returned m inst op stage ending.code ending.outs)
-returns {A} old new given inst op stage ending m store doubt is same = subst (λ (x : Machine A). IsStep new store given (returned x inst op stage ending.code ending.outs)) same (record {
+    IsTurned new given (after_return (machine_of old) inst op stage ending.code ending.outs) → machine_over old store doubt ≡ m →
+    IsStep new store given (after_return m inst op stage ending.code ending.outs)
+returns {A} old new given inst op stage ending m store doubt is same = subst (λ (x : Machine A). IsStep new store given (after_return x inst op stage ending.code ending.outs)) same (record {
   doubt = doubt;
-  machine = stands_over old new (λ (x : Machine A). returned x inst op stage ending.code ending.outs) (λ s d x. returned_over s d x inst op stage ending.code ending.outs) is.machine store doubt;
-  replies = is.replies ∙ replies_over old (λ (x : Machine A). returned x inst op stage ending.code ending.outs) (λ s d x. returned_over s d x inst op stage ending.code ending.outs) store doubt;
+  machine = stands_over old new (λ (x : Machine A). after_return x inst op stage ending.code ending.outs) (λ s d x. returned_over s d x inst op stage ending.code ending.outs) is.machine store doubt;
+  replies = is.replies ∙ replies_over old (λ (x : Machine A). after_return x inst op stage ending.code ending.outs) (λ s d x. returned_over s d x inst op stage ending.code ending.outs) store doubt;
 })
 
 -- an instance that is torn down
@@ -132,7 +132,7 @@ none_of None e = refl
 none_of (Some r) e = absurd (let f : true ≡ false = e in cc)
 
 idle_lost : {A : Type 0} (m : Machine A) (inst : Instance A) → (idle m inst).lost ≡ m.lost
-idle_lost {A} m inst = choice (inst.created && is_left m.table inst.number) (destroying m inst None None) refl
+idle_lost {A} m inst = choice (inst.created && is_left m.table inst.number) (after_destroy_begins m inst None None) refl
   where
     choice : (b : Bool) (x : Machine A) → x.lost ≡ m.lost → (cond b x m).lost ≡ m.lost
     choice true x e = e
@@ -150,27 +150,27 @@ either_lost : {A : Type 0} (lost b : Bool) (x y : Stepped A) → x.machine.lost 
 either_lost lost true x y ex ey = ex
 either_lost lost false x y ex ey = ey
 
-answered_lost : {A : Type 0} (m : Machine A) (inst : Instance A) (op : Option ℕ) (code : Code) (outputs : Outputs) → (answered m inst op code outputs).machine.lost ≡ m.lost
+answered_lost : {A : Type 0} (m : Machine A) (inst : Instance A) (op : Option ℕ) (code : Code) (outputs : Outputs) → (after_answer m inst op code outputs).machine.lost ≡ m.lost
 answered_lost m inst None code outputs = refl
 answered_lost m inst (Some op) code outputs = refl
 
 after_session_lost : {A : Type 0} (m : Machine A) (inst : Instance A) (op : Option ℕ) (code : Code) (outputs : Outputs) → (after_session m inst op code outputs).machine.lost ≡ m.lost
 after_session_lost m inst op code outputs = either_lost m.lost (is_left m.table inst.number) _ _ refl (answered_lost m inst op code outputs)
 
-pub returned_lost : {A : Type 0} (m : Machine A) (inst : Instance A) (op : Option ℕ) (stage : EntryPoint) (code : Code) (outs : Outs) → (returned m inst op stage code outs).machine.lost ≡ m.lost
+pub returned_lost : {A : Type 0} (m : Machine A) (inst : Instance A) (op : Option ℕ) (stage : EntryPoint) (code : Code) (outs : Outs) → (after_return m inst op stage code outs).machine.lost ≡ m.lost
 returned_lost m inst op (stages.Create session ps places) code outs = either_lost m.lost (is_success code) _ _ refl refl
 returned_lost m inst op (stages.Start session places) code outs =
     either_lost m.lost (is_success code)
-    (answered (record m { table = state_set m.table session Open }) inst op code (delivered places outs))
-    (after_session (record m { table = session_removed m.table session }) inst op code (delivered places outs))
-    (answered_lost (record m { table = state_set m.table session Open }) inst op code (delivered places outs))
-    (after_session_lost (record m { table = session_removed m.table session }) inst op code (delivered places outs))
-returned_lost m inst op (stages.Invoke session places) code outs = answered_lost m inst op code (delivered places outs)
+    (after_answer (record m { table = state_set m.table session Open }) inst op code (shown_outputs places outs))
+    (after_session (record m { table = session_removed m.table session }) inst op code (shown_outputs places outs))
+    (answered_lost (record m { table = state_set m.table session Open }) inst op code (shown_outputs places outs))
+    (after_session_lost (record m { table = session_removed m.table session }) inst op code (shown_outputs places outs))
+returned_lost m inst op (stages.Invoke session places) code outs = answered_lost m inst op code (shown_outputs places outs)
 returned_lost m inst op (stages.Stop session) code outs = after_session_lost (record m { table = session_removed m.table session }) inst op SUCCESS no_outputs
 returned_lost m inst op (stages.Destroy reply) code outs = refl
 
 pub turned_lost : {A : Type 0} (old new : AppSide A) (given : List Reply) (inst : Instance A) (op : Option ℕ) (stage : EntryPoint) (code : Code) (outs : Outs) →
-    IsTurned new given (returned (machine_of old) inst op stage code outs) → old.lost ≡ new.lost
+    IsTurned new given (after_return (machine_of old) inst op stage code outs) → old.lost ≡ new.lost
 turned_lost {A} old new given inst op stage code outs is = sym (ap (λ (m : Machine A). m.lost) is.machine ∙ returned_lost (machine_of old) inst op stage code outs)
 
 pub torn_lost : {A : Type 0} (old new : AppSide A) (given : List Reply) (i : ℕ) (code : Code) (origin : Origin) → IsTurned new given (torn_down (machine_of old) i code origin) → old.lost ≡ new.lost
@@ -191,14 +191,14 @@ of_instance_same one other (Some inst) same = of_running_same one other inst.run
 both_true : (a b : Bool) → a ≡ true → b ≡ false → (a && not b) ≡ true
 both_true a b ha hb = rw (ha, hb) refl
 
-reaches_is : {A : Type 0} (old : AppSide A) (store doubt : Store) (i : ℕ) → of_instance (reaching (objects_of (machine_over old store doubt)) (state_of old.operations) i)
+reaches_is : {A : Type 0} (old : AppSide A) (store doubt : Store) (i : ℕ) → of_instance (reaches_store (objects_of (machine_over old store doubt)) (state_of old.operations) i)
     (find (is_number i) old.instances.items) ≡ reaches (machine_over old store doubt) i
 reaches_is old store doubt i = of_instance_same _ (λ r ask. comes_to_store (resolution_after (machine_over old store doubt) i r ask)) (find (is_number i) old.instances.items)
     (λ r ask. reaching_is (machine_over old store doubt) i r ask)
 
 -- the event of a turn may stand
 pub turn_may_stand : {A : Type 0} (old : AppSide A) (store : Store) (kind : TurnKind) (i : ℕ) (before after : Status) → old.lost ≡ before.lost → HasStatus kind before after
-    → Meets kind (of_instance (reaching (record { store = store; held = old.held }) (state_of old.operations) i) (find (is_number i) old.instances.items)) → (m : Machine A) →
+    → Meets kind (of_instance (reaches_store (record { store = store; held = old.held }) (state_of old.operations) i) (find (is_number i) old.instances.items)) → (m : Machine A) →
     Represents old m → m.store ≡ store → is_enabled m (event_of (kind_by kind) i) ≡ true
 turn_may_stand old store Plain i before after same stands meets m of_m kept = refl
 turn_may_stand {A} old store (Lost changes) i before after same stands meets m of_m kept =
@@ -208,11 +208,11 @@ turn_may_stand {A} old store Corrupted i before after same stands meets m of_m k
     subst (λ (x : Machine A). (reaches x i && not x.lost) ≡ true) (sym (of_m.parts ∙ ap (λ (s : Store). machine_over old s of_m.doubt) kept))
     (both_true _ _ (sym (reaches_is old store of_m.doubt i) ∙ meets) (same ∙ stands.cause.0))
 
-pub turn_change : {A : Type 0} (old : AppSide A) (kind : TurnKind) (i : ℕ) → SaysChange kind (of_instance changing (find (is_number i) old.instances.items)) → (m : Machine A) →
+pub turn_change : {A : Type 0} (old : AppSide A) (kind : TurnKind) (i : ℕ) → SaysChange kind (of_instance is_to_change (find (is_number i) old.instances.items)) → (m : Machine A) →
     Represents old m → SaysChange kind (is_changing m i)
 turn_change {A} old kind i says m of_m = subst (λ (x : Machine A). SaysChange kind (is_changing x i)) (sym of_m.parts) says
 
-pub turn_tried : {A : Type 0} (old : AppSide A) (i : ℕ) (before after : Status) → TriesOnce (of_instance changing (find (is_number i) old.instances.items)) before after →
+pub turn_tried : {A : Type 0} (old : AppSide A) (i : ℕ) (before after : Status) → TriesOnce (of_instance is_to_change (find (is_number i) old.instances.items)) before after →
     (m : Machine A) → Represents old m → TriesOnce (is_changing m i) before after
 turn_tried {A} old i before after tried m of_m = subst (λ (x : Machine A). TriesOnce (is_changing x i) before after) (sym of_m.parts) tried
 

@@ -21,10 +21,11 @@ use Rattle.alone.specs.Machine.{Machine}
 use Rattle.alone.specs.Step.{Stepped, went_on}
 use Rattle.app_side.specs.declared.side.AppSide.{AppSide}
 use Rattle.app_side.specs.declared.turns.Entered.{Entered}
+use Rattle.tee_base.specs.Words.{InstanceNumber}
 
 -- the running entry that waits with this ask
-abbrev pub asking : Entered → Ask → ActiveEntry
-asking e ask = record { op = e.op; stage = e.stage; waits = waits.Ask ask; asks = e.asks; masked = e.masked }
+abbrev pub entry_with_ask : Entered → Ask → ActiveEntry
+entry_with_ask e ask = record { op = e.op; stage = e.stage; waits = waits.Ask ask; asks = e.asks; masked = e.masked }
 
 -- the running entry that is given this answer next, masked so
 abbrev pub given_next : Entered → Bool → Answer → ActiveEntry
@@ -32,23 +33,23 @@ given_next e masked answer = record { op = e.op; stage = e.stage; waits = waits.
 
 -- a turn in which the instance's ask is carried out
 abbrev pub asked_turn : {A : Type 0} → Behaviour A → Serving → Machine A → Instance A → Entered → Ask → Stepped A
-asked_turn behaviour serving m inst e ask = went_on behaviour serving m inst (asking e ask) (waits.Ask ask)
+asked_turn behaviour serving m inst e ask = went_on behaviour serving m inst (entry_with_ask e ask) (waits.Ask ask)
 
 -- an ask of this family comes to the store: one about objects, or one for a key that an object gives
-abbrev pub reaching_in_family : Family → Objects → CryptoState → ℕ → Ask → Bool
+abbrev pub reaching_in_family : Family → Objects → CryptoState → InstanceNumber → Ask → Bool
 reaching_in_family families.Entry o s i ask = false
 reaching_in_family families.Objects o s i ask = comes_to_store (object_resolution o i ask)
 reaching_in_family families.Operations o s i ask = key_reaches o i (operation_resolution s i ask)
 reaching_in_family families.Generation o s i ask = false
 
 -- the ask that an instance makes in this entry comes to the store
-abbrev pub reaching : Objects → CryptoState → ℕ → ActiveEntry → Ask → Bool
-reaching o s i r ask = not (nat_le MAX_ASKS r.asks) && reaching_in_family (family_of ask) o s i ask
+abbrev pub reaches_store : Objects → CryptoState → InstanceNumber → ActiveEntry → Ask → Bool
+reaches_store o s i r ask = not (nat_le MAX_ASKS r.asks) && reaching_in_family (family_of ask) o s i ask
 
 -- the same of an entry taken apart
-abbrev pub comes : {A : Type 0} → AppSide A → ℕ → Contents → Entered → Ask → Bool
-comes side i contents e ask = reaching (objects_in side.held contents) (state_of side.operations) i (asking e ask) ask
+abbrev pub comes : {A : Type 0} → AppSide A → InstanceNumber → Contents → Entered → Ask → Bool
+comes side i contents e ask = reaches_store (objects_in side.held contents) (state_of side.operations) i (entry_with_ask e ask) ask
 
 -- the ask is to change the store
-abbrev pub changing : ActiveEntry → Ask → Bool
-changing r ask = changes_store ask
+abbrev pub is_to_change : ActiveEntry → Ask → Bool
+is_to_change r ask = changes_store ask

@@ -7,7 +7,7 @@ use Rattle.app_api.specs.declared.ask.Answer.TheVariants as answers
 use Rattle.rand_chacha.specs.ChaCha.{ChaCha}
 use Rattle.crypto_ops.specs.Random.{random_from}
 use Rattle.object_asks.specs.Held.{Held}
-use Rattle.object_asks.specs.Keys.{generated, random_wanted}
+use Rattle.object_asks.specs.Keys.{with_secret, random_wanted}
 use Rattle.object_asks.specs.Serving.{plainly}
 use Rattle.object_asks.specs.declared.outcome.Outcome.{Outcome}
 use Rattle.object_asks.specs.declared.outcome.Outcome.TheVariants as outcomes
@@ -17,6 +17,7 @@ use Rattle.operation_asks.specs.declared.outcome.Outcome.{Outcome as Told}
 use Rattle.operation_asks.specs.declared.outcome.Outcome.TheVariants as told
 use Rattle.alone.specs.Crypto.{drawn_for}
 use Rattle.app_side.specs.declared.side.AppSide.{AppSide}
+use Rattle.tee_base.specs.Words.{HandleNumber, InstanceNumber}
 
 -- what comes of an ask, as its family tells it
 abbrev pub outcome_of : Told → Outcome
@@ -34,9 +35,9 @@ told_of_key None = plainly outcomes.Panicked
 told_of_key (Some count) = plainly (outcomes.Answered answers.Done)
 
 -- what is held then
-abbrev pub held_by : Held → ℕ → ℕ → ChaCha → Option ℕ → Held
+abbrev pub held_by : Held → InstanceNumber → HandleNumber → ChaCha → Option ℕ → Held
 held_by h i object random None = h
-held_by h i object random (Some count) = generated h i object (random_from random count)
+held_by h i object random (Some count) = with_secret h i object (random_from random count)
 
 -- it was made as stated
 pub record IsMade {A : Type 0} (i object bits : ℕ) (done : Served) (before after : AppSide A) : Type 0 where
@@ -48,11 +49,11 @@ pub record IsMade {A : Type 0} (i object bits : ℕ) (done : Served) (before aft
   }
 
 -- so was what an ask for a key wants; any other panics
-abbrev pub IsGenerated : {A : Type 0} → ℕ → Ask → Served → AppSide A → AppSide A → Type 0
+abbrev pub IsGenerated : {A : Type 0} → InstanceNumber → Ask → Served → AppSide A → AppSide A → Type 0
 IsGenerated i (asked.KeyGenerate object bits) done before after = IsMade i object bits done before after
 IsGenerated i ask done before after = (done ≡ plainly outcomes.Panicked) × (after ≡ before)
 
 -- it was, or there was no memory for it
-pub record Generates {A : Type 0} (i : ℕ) (ask : Ask) (result : Result Served NoMemory) (before after : AppSide A) : Type 0 where
+pub record Generates {A : Type 0} (i : InstanceNumber) (ask : Ask) (result : Result Served NoMemory) (before after : AppSide A) : Type 0 where
   pub made : IfOk result (λ done. IsGenerated i ask done before after)
   pub want : OnErr result (IsAsBefore before after)

@@ -16,6 +16,7 @@ use Rattle.object_asks.specs.declared.outcome.Outcome.{Outcome as Result_of}
 use Rattle.object_asks.specs.declared.outcome.Outcome.TheVariants as outcomes
 use Rattle.app_side.specs.declared.side.AppSide.{AppSide}
 use Rattle.app_side.specs.declared.side.Called.{Called}
+use Rattle.tee_base.specs.Words.{InstanceNumber}
 
 -- a store in doubt, where there is one
 abbrev pub doubtful : Bool → Store → Option Store
@@ -70,7 +71,7 @@ abbrev pub has_doubt : {A : Type 0} → AppSide A → Bool
 has_doubt side = side.in_doubt
 
 -- the event that a turn of this kind is
-abbrev pub event_of : TurnKind → ℕ → Event
+abbrev pub event_of : TurnKind → InstanceNumber → Event
 event_of kinds.Plain instance = Turned instance
 event_of (kinds.Lost changes) instance = TurnLost instance
 event_of kinds.Starved instance = Starved instance
@@ -96,11 +97,11 @@ pub record IsTurned {A : Type 0} (side : AppSide A) (given : List Reply) (s : St
   pub replies : given ≡ s.replies
 
 -- whatever tears the instance down finds the same as in this machine
-abbrev pub IsTornAlike : {A : Type 0} → ℕ → AppSide A → Machine A → Type 0
+abbrev pub IsTornAlike : {A : Type 0} → InstanceNumber → AppSide A → Machine A → Type 0
 IsTornAlike instance side m = (code : Code) (origin : Origin) → torn_down (machine_of side) instance code origin ≡ torn_down m instance code origin
 
 -- the same, and there is no reply yet
-pub record StarvesAlike {A : Type 0} (instance : ℕ) (side : AppSide A) (given : List Reply) (m : Machine A) : Type 0 where
+pub record StarvesAlike {A : Type 0} (instance : InstanceNumber) (side : AppSide A) (given : List Reply) (m : Machine A) : Type 0 where
   pub alike : IsTornAlike instance side m
   pub none : given ≡ []
 
@@ -111,10 +112,10 @@ pub record IsStep {A : Type 0} (side : AppSide A) (store : Store) (given : List 
   pub replies : given ≡ s.replies
 
 -- the value with what a turn of this kind leaves of the storage
-abbrev pub noted : {A : Type 0} → AppSide A → StoreKind → AppSide A
-noted side store_kinds.Plain = side
-noted side (store_kinds.Lost changes) = record side { lost = true; in_doubt = changes || side.in_doubt }
-noted side store_kinds.Corrupted = side
+abbrev pub after_store_kind : {A : Type 0} → AppSide A → StoreKind → AppSide A
+after_store_kind side store_kinds.Plain = side
+after_store_kind side (store_kinds.Lost changes) = record side { lost = true; in_doubt = changes || side.in_doubt }
+after_store_kind side store_kinds.Corrupted = side
 
 -- the value stands for what the stated outcome leaves, with this store; where the entry ends, that is the machine before it
 abbrev pub IsLeft : {A : Type 0} → Result_of → Outcome (Machine A) → AppSide A → Store → Store → Machine A → Type 0

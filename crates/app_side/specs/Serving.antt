@@ -18,6 +18,7 @@ use Rattle.alone.specs.Machine.{Machine, is_number}
 use Rattle.alone.specs.Step.{Stepped, is_changing, is_enabled, step as step_of, turn_counted}
 use Rattle.app_side.specs.declared.side.AppSide.{AppSide}
 use Rattle.app_side.specs.Represents.{IsLeft, IsStep, IsTornAlike, Represents, StarvesAlike, event_of, is_lost, machine_of, machine_over, store_kind}
+use Rattle.tee_base.specs.Words.{InstanceNumber}
 
 -- a fact that holds of a turn that found no memory
 abbrev pub IfStarved : TurnKind → Type 0 → Type 0
@@ -58,7 +59,7 @@ module _ {D : Type 0} (K : Keeper D) where
 
   -- an ask that was carried out, where stated says what comes of it for a machine when the store does so: what it leaves, or that
   -- there was no memory, and the value is as it was
-  pub record CarriesOut {A : Type 0} (stated : Serving → Machine A → Outcome (Machine A)) (comes changes : Bool) (instance : ℕ) (result : Result Served NoMemory)
+  pub record CarriesOut {A : Type 0} (stated : Serving → Machine A → Outcome (Machine A)) (comes changes : Bool) (instance : InstanceNumber) (result : Result Served NoMemory)
       (before after : AppSide A) (old new : D) : Type 0 where
     pub left : IfOk result (λ done. K.has_model old → is_lost before ≡ (K.status old).lost → (doubt : Store)
         → IsLeft done.outcome (stated (serving_of done.kind) (machine_over before (K.contents old).store doubt)) after (K.contents new).store doubt (machine_over before (K.contents old).store doubt))
@@ -73,7 +74,7 @@ module _ {D : Type 0} (K : Keeper D) where
 
   -- a turn, or a part of one, where stated is its step for a machine when the store does so: the step and its replies, how the
   -- store did, or that there was no memory; then tearing the instance down gives the same as before
-  pub record TakesTurn {A : Type 0} (stated : Serving → Machine A → Stepped A) (comes changes : Bool) (instance : ℕ) (result : Result StoreKind NoMemory) (before after : AppSide A)
+  pub record TakesTurn {A : Type 0} (stated : Serving → Machine A → Stepped A) (comes changes : Bool) (instance : InstanceNumber) (result : Result StoreKind NoMemory) (before after : AppSide A)
       (replies : List Reply) (old new : D) : Type 0 where
     pub step : IfOk result (λ kind. K.has_model old → is_lost before ≡ (K.status old).lost → (doubt : Store)
         → IsStep after (K.contents new).store replies (stated (serving_of kind) (machine_over before (K.contents old).store doubt)))
@@ -85,7 +86,7 @@ module _ {D : Type 0} (K : Keeper D) where
     pub starves : OnErr result (StarvesAlike instance after replies (machine_of before))
 
   -- a turn as a whole: it is counted also where there was no memory, which an instance alone wants that is there
-  pub record AdvancesTurn {A : Type 0} (stated : Serving → Machine A → Stepped A) (comes changes : Bool) (instance : ℕ) (result : Result StoreKind NoMemory)
+  pub record AdvancesTurn {A : Type 0} (stated : Serving → Machine A → Stepped A) (comes changes : Bool) (instance : InstanceNumber) (result : Result StoreKind NoMemory)
       (before after : AppSide A) (replies : List Reply) (old new : D) : Type 0 where
     pub step : IfOk result (λ kind. K.has_model old → is_lost before ≡ (K.status old).lost → (doubt : Store)
         → IsStep after (K.contents new).store replies (stated (serving_of kind) (machine_over before (K.contents old).store doubt)))
@@ -98,7 +99,7 @@ module _ {D : Type 0} (K : Keeper D) where
     pub there : OnErr result (is_some (find (is_number instance) before.instances.items) ≡ true)
 
   -- what a turn of an instance promises of a value that represents machines, of this kind and with these replies
-  pub record IsTurn {A : Type 0} (behaviour : Behaviour A) (instance : ℕ) (kind : TurnKind) (replies : List Reply) (before after : AppSide A) (old new : D) : Type 0 where
+  pub record IsTurn {A : Type 0} (behaviour : Behaviour A) (instance : InstanceNumber) (kind : TurnKind) (replies : List Reply) (before after : AppSide A) (old new : D) : Type 0 where
     -- it is one step of every machine over the keeper's store, by the event of its kind, which may stand there
     pub step : K.has_model old → (m : Machine A) → Represents before m → m.store ≡ (K.contents old).store
         → Represents after (step_of behaviour m (event_of kind instance)).machine

@@ -8,6 +8,7 @@ use Rattle.alone.specs.declared.turn.TurnKind.TheVariants.{Plain, Lost, Starved,
 use Rattle.alone.specs.Machine.{is_number}
 use Rattle.alone.specs.Step.{of_instance}
 use Rattle.app_side.specs.declared.side.AppSide.{AppSide}
+use Rattle.tee_base.specs.Words.{InstanceNumber}
 
 -- the answer of a store that serves nothing
 abbrev pub IsRefusalOf : {A : Type 0} → Bool → Result A StoreAnswer → Type 0
@@ -15,7 +16,7 @@ IsRefusalOf true result = result ≡ Err LostStore
 IsRefusalOf false result = result ≡ Err NoMemory
 
 -- an ask waits in the instance that may need the store
-abbrev pub wants_store : {A : Type 0} → AppSide A → ℕ → Bool
+abbrev pub wants_store : {A : Type 0} → AppSide A → InstanceNumber → Bool
 wants_store side i = of_instance (λ r ask. may_need_store ask) (find (is_number i) side.instances.items)
 
 -- the store had no part in a turn of this kind

@@ -1,9 +1,10 @@
 //! Clients' calls.
 
+ghost use Rattle.tee_base.specs.declared.limits.TheConstants.{MAX_NUMBER};
 ghost use Rattle.std.specs.Prelude.{◌≡◌, ◌<◌, ◌^◌, ◌++◌, [], ◌∷◌, IfOk, OnOk, OnErr, Ok, true, false, not, ◌&&◌};
 ghost use Rattle.instances.specs.Instances.{admission_of};
 ghost use Rattle.op_queue.specs.Queue.{is_full, is_close_call};
-ghost use Rattle.alone.specs.Step.{answered_at_once, called, called_open, called_invoke, closed_in, known, new_instance, opened_as, queued};
+ghost use Rattle.alone.specs.Step.{answered_at_once, after_call, called_open, called_invoke, closed_in, facts_of_label, new_instance, opened_as, after_queueing};
 ghost use Rattle.app_side.specs.Represents.{machine_of, IsCalled};
 
 use crate::side::{AppSide, Called};
@@ -38,7 +39,7 @@ fn add_instance<A: Application>(
 impl<A: Application> AppSide<A> {
     /// A call that is answered at once.
     fn refuse(&mut self, code: Code, origin: Origin) -> Called
-        requires { self.old.queue.next < 2 ^ 63 }
+        requires { self.old.queue.next < MAX_NUMBER }
         ensures { IsCalled self.new result self.old.queue.next
             (answered_at_once (machine_of self.old) code origin) }
     {
@@ -63,11 +64,11 @@ impl<A: Application> AppSide<A> {
         session: u8,
         call: Call,
     ) -> Result<Called, NoMemory>
-        requires room { self.old.queue.next < 2 ^ 63 }
+        requires room { self.old.queue.next < MAX_NUMBER }
         requires accepted { (is_full self.old.queue && not (is_close_call call)) ≡ false }
         ensures ok { IfOk result (λ waiting.
             IsCalled self.new waiting self.old.queue.next
-            (queued (machine_of self.old) client instance session call)) }
+            (after_queueing (machine_of self.old) client instance session call)) }
         ensures err { OnErr result (self.new ≡ self.old) }
     {
         match self.queue.submit(client, instance, session, call) {
@@ -89,7 +90,7 @@ impl<A: Application> AppSide<A> {
         params: Params,
         admission: Admission,
     ) -> Result<Called, NoMemory>
-        requires room { self.old.queue.next < 2 ^ 63 }
+        requires room { self.old.queue.next < MAX_NUMBER }
         requires accepted { is_full self.old.queue ≡ false }
         requires admitted { admission_of self.old.sessions client label ≡ Ok admission }
         requires shared { admission.new_instance ≡ false }
@@ -112,7 +113,7 @@ impl<A: Application> AppSide<A> {
         params: Params,
         admission: Admission,
     ) -> Result<Called, NoMemory>
-        requires room { self.old.queue.next < 2 ^ 63 }
+        requires room { self.old.queue.next < MAX_NUMBER }
         requires accepted { is_full self.old.queue ≡ false }
         requires admitted { admission_of self.old.sessions client label ≡ Ok admission }
         requires own { admission.new_instance ≡ true }
@@ -141,7 +142,7 @@ impl<A: Application> AppSide<A> {
 
     /// An open that is refused for want of a session or an instance, or that is admitted.
     fn enter(&mut self, client: u8, label: u32, params: Params) -> Result<Called, NoMemory>
-        requires room { self.old.queue.next < 2 ^ 63 }
+        requires room { self.old.queue.next < MAX_NUMBER }
         requires accepted { is_full self.old.queue ≡ false }
         ensures ok { IfOk result (λ waiting.
             IsCalled self.new waiting self.old.queue.next
@@ -162,7 +163,7 @@ impl<A: Application> AppSide<A> {
     }
 
     fn open(&mut self, client: u8, label: u32, params: Params) -> Result<Called, NoMemory>
-        requires { self.old.queue.next < 2 ^ 63 }
+        requires { self.old.queue.next < MAX_NUMBER }
         ensures ok { IfOk result (λ waiting.
             IsCalled self.new waiting self.old.queue.next
             (called_open (machine_of self.old) client label params)) }
@@ -190,7 +191,7 @@ impl<A: Application> AppSide<A> {
         command: u32,
         params: Params,
     ) -> Result<Called, NoMemory>
-        requires { self.old.queue.next < 2 ^ 63 }
+        requires { self.old.queue.next < MAX_NUMBER }
         ensures ok { IfOk result (λ waiting.
             IsCalled self.new waiting self.old.queue.next
             (called_invoke (machine_of self.old) client label command params)) }
@@ -229,10 +230,10 @@ impl<A: Application> AppSide<A> {
     }
 
     fn close(&mut self, client: u8, label: u32) -> Result<Called, NoMemory>
-        requires { self.old.queue.next < 2 ^ 63 }
+        requires { self.old.queue.next < MAX_NUMBER }
         ensures ok { IfOk result (λ waiting.
             IsCalled self.new waiting self.old.queue.next (closed_in (machine_of self.old)
-            client label (known (machine_of self.old) client label))) }
+            client label (facts_of_label (machine_of self.old) client label))) }
         ensures err { OnErr result (machine_of self.new ≡ machine_of self.old) }
     {
         let Some(known) = self.sessions.find(client, label) else {
@@ -261,12 +262,12 @@ impl<A: Application> AppSide<A> {
     }
 
     /// A client's call.
-    #[tactic(auto, unfolding(alone::specs::Step::called))]
+    #[tactic(auto, unfolding(alone::specs::Step::after_call))]
     pub(crate) fn serve(&mut self, client: u8, call: Call) -> Result<Called, NoMemory>
-        requires { self.old.queue.next < 2 ^ 63 }
+        requires { self.old.queue.next < MAX_NUMBER }
         ensures ok { IfOk result (λ waiting.
             IsCalled self.new waiting self.old.queue.next
-            (called (machine_of self.old) client call)) }
+            (after_call (machine_of self.old) client call)) }
         ensures err { OnErr result (machine_of self.new ≡ machine_of self.old) }
     {
         match call {

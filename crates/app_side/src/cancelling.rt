@@ -2,7 +2,7 @@
 
 ghost use Rattle.std.specs.Prelude.{◌≡◌, ◌==◌, find, option_map};
 ghost use Rattle.alone.specs.Machine.{instance_at};
-ghost use Rattle.alone.specs.Step.{cancelled, dropped, is_unused, open_of_progress, unless_unused, waiting_open};
+ghost use Rattle.alone.specs.Step.{after_cancellation, after_dropped_open, is_unused, open_of_progress, unless_unused, waiting_open};
 ghost use Rattle.app_side.specs.Represents.{machine_of, IsTurned};
 
 use crate::side::AppSide;
@@ -53,7 +53,7 @@ impl<A: Application> AppSide<A> {
 
     /// An open that never begins loses its session, and an instance that nothing needs any more is gone.
     fn drop_open(&mut self, waiting: Option<(u8, u8)>)
-        ensures { machine_of self.new ≡ dropped (machine_of self.old) waiting }
+        ensures { machine_of self.new ≡ after_dropped_open (machine_of self.old) waiting }
     {
         let Some((session, instance)) = waiting else {
             return;
@@ -65,9 +65,9 @@ impl<A: Application> AppSide<A> {
     }
 
     /// A client asks for the operation to be cancelled.
-    #[tactic(auto, unfolding(alone::specs::Step::cancelled))]
+    #[tactic(auto, unfolding(alone::specs::Step::after_cancellation))]
     pub(crate) fn request(&mut self, op: u64) -> Replies
-        ensures { IsTurned self.new result (cancelled (machine_of self.old) op) }
+        ensures { IsTurned self.new result (after_cancellation (machine_of self.old) op) }
     {
         let waiting = waiting_open(self.queue.operations(), op);
         match self.queue.cancel(op) {

@@ -6,18 +6,18 @@ ghost use Rattle.object_asks.specs.KeyOf.{key_comes_to_store, key_resolution};
 ghost use Rattle.object_asks.specs.Serving.{objects_in};
 ghost use Rattle.operation_asks.specs.Asks.{operation_resolution};
 ghost use Rattle.operation_asks.specs.Kept.{state_of};
-ghost use Rattle.alone.specs.Crypto.{given_by, key_reaches, keyed_by, operated};
+ghost use Rattle.alone.specs.Crypto.{key_reaches, keyed_by, crypto_resolution};
 ghost use Rattle.alone.specs.Families.{family_of};
 ghost use Rattle.alone.specs.Machine.{objects_of};
-ghost use Rattle.alone.specs.Step.{served};
+ghost use Rattle.alone.specs.Step.{serve_outcome};
 ghost use Rattle.alone.specs.declared.family.Family.TheVariants.{Operations as OfOperations};
 ghost use Rattle.app_side.specs.Crypto.{outcome_of, Generates, IsAsBefore, IsMade};
 ghost use Rattle.app_side.specs.Serving.{CarriesOut};
 
 use crate::side::AppSide;
 use app_api::{Answer, Application, Ask};
-use object_asks::{KeyFound, Outcome, Served, answered, generate, key_of, panicked, random_wanted};
-use operation_asks::{CryptoOutcome, KeyGiven, Outcome as Told};
+use object_asks::{Outcome, Served, answered, generate, key_of, panicked, random_wanted};
+use operation_asks::{CryptoOutcome, Outcome as Told};
 use store_api::AppStore;
 use tee_base::NoMemory;
 
@@ -31,17 +31,6 @@ fn outcome_of(told: Told) -> Outcome
     }
 }
 
-/// What an operation is given by what an object gives.
-fn given_by(found: KeyFound) -> KeyGiven
-    ensures { result ≡ given_by found }
-{
-    match found {
-        KeyFound::Key(key) => KeyGiven::Key(key),
-        KeyFound::NoKey => KeyGiven::NoKey,
-        KeyFound::Refused(code) => KeyGiven::Refused(code),
-    }
-}
-
 impl<A: Application> AppSide<A> {
     /// Gives the operation the key of the object.
     fn give_key<T: AppStore>(
@@ -52,7 +41,7 @@ impl<A: Application> AppSide<A> {
         object: u32,
     ) -> Result<Served, NoMemory>
         ensures { CarriesOut T.keeper
-            (λ serving m. served serving m (OpSetKey op object)
+            (λ serving m. serve_outcome serving m (OpSetKey op object)
             (keyed_by m instance op (key_resolution (objects_of m) instance object)))
             (key_comes_to_store
             (key_resolution (objects_in self.old.held (T.keeper.contents store.old))
@@ -61,9 +50,7 @@ impl<A: Application> AppSide<A> {
     {
         let looked = key_of(self.alloc, &self.held, store, instance, object)?;
         self.note(looked.kind);
-        let told = self
-            .operations
-            .set_key(instance, op, given_by(looked.found));
+        let told = self.operations.set_key(instance, op, looked.found);
         Ok(Served {
             kind: looked.kind,
             outcome: outcome_of(told),
@@ -79,7 +66,7 @@ impl<A: Application> AppSide<A> {
     ) -> Result<Served, NoMemory>
         requires { family_of ask ≡ OfOperations }
         ensures { CarriesOut T.keeper
-            (λ serving m. served serving m ask (operated m instance ask))
+            (λ serving m. serve_outcome serving m ask (crypto_resolution m instance ask))
             (key_reaches (objects_in self.old.held (T.keeper.contents store.old)) instance
             (operation_resolution (state_of self.old.operations) instance ask))
             false instance result self.old self.new store.old store.new }

@@ -1,11 +1,12 @@
 //! The calls of a running application, each of them a step of every machine that the value represents.
 
+ghost use Rattle.tee_base.specs.declared.limits.TheConstants.{MAX_NUMBER};
 ghost use Rattle.std.specs.Prelude.{◌≡◌, ◌<◌, ◌^◌, ◌+◌, ◌-◌, [], IfOk, OnErr, false, is_some, true};
 ghost use Rattle.store_api.specs.Stores.{Store};
 ghost use Rattle.object_asks.specs.Serving.{TriesOnce};
 ghost use Rattle.alone.specs.Laws.{StorageStays, live};
 ghost use Rattle.alone.specs.Machine.{Machine, start};
-ghost use Rattle.alone.specs.Step.{called, cancelled, is_answered, is_changing, is_enabled, step, torn_down, Cancelled, Lost, Restarted, Starved};
+ghost use Rattle.alone.specs.Step.{after_call, after_cancellation, is_answered, is_changing, is_enabled, step, torn_down, Cancelled, Lost, Restarted, Starved};
 ghost use Rattle.app_side.specs.Represents.{boot_of, event_of, has_doubt, is_lost, turns_of, Represents};
 ghost use Rattle.app_side.specs.Serving.{IsTurn};
 ghost use Rattle.app_side.specs.Storeless.{IsStoreless, wants_store};
@@ -20,10 +21,7 @@ use op_queue::OpQueue;
 use operation_asks::Operations;
 use std::alloc::Global;
 use store_api::AppStore;
-use tee_base::{Code, NoMemory, Origin};
-
-/// How many calls are numbered: more than any script makes.
-const MOST: u64 = 1 << 63;
+use tee_base::{Code, NoMemory, Origin, limits};
 
 impl<A: Application> AppSide<A> {
     /// An application that has run nothing, the one of this index among the hosts.
@@ -61,20 +59,20 @@ impl<A: Application> AppSide<A> {
     pub fn call(&mut self, client: u8, call: Call) -> Result<Called, NoMemory>
         ensures ok { IfOk result (λ made.
             (m : Machine A) → Represents self.old m
-            → Represents self.new (called m client call).machine) }
+            → Represents self.new (after_call m client call).machine) }
         ensures replies { IfOk result (λ made.
             (m : Machine A) → Represents self.old m
-            → made.replies ≡ (called m client call).replies) }
+            → made.replies ≡ (after_call m client call).replies) }
         ensures instance { IfOk result (λ made.
             (m : Machine A) → Represents self.old m
-            → made.instance ≡ (called m client call).instance) }
+            → made.instance ≡ (after_call m client call).instance) }
         ensures number { IfOk result (λ made.
             (m : Machine A) → Represents self.old m → made.op ≡ m.queue.next) }
         ensures lost { is_lost self.new ≡ is_lost self.old }
         ensures err { OnErr result
             ((m : Machine A) → Represents self.old m → Represents self.new m) }
     {
-        if self.queue.next_number() >= MOST {
+        if self.queue.next_number() >= limits::MAX_NUMBER {
             drop(call);
             return Err(NoMemory);
         }
@@ -100,7 +98,7 @@ impl<A: Application> AppSide<A> {
     /// change. A crash within the turn leaves what was kept before it or after it; where the turn is lost, what was kept before
     /// it or the store that is then in doubt.
     pub fn turn<T: AppStore>(&mut self, instance: u8, store: &mut T) -> Turned
-        requires few { turns_of self.old < 2 ^ 63 }
+        requires few { turns_of self.old < MAX_NUMBER }
         requires loss { is_lost self.old ≡ (T.keeper.status store.old).lost }
         ensures turn { IsTurn T.keeper A.behaviour instance result.kind result.replies
             self.old self.new store.old store.new }
@@ -120,7 +118,7 @@ impl<A: Application> AppSide<A> {
         store: &mut T,
         replies: &mut Replies,
     ) -> TurnKind
-        requires few { turns_of self.old < 2 ^ 63 }
+        requires few { turns_of self.old < MAX_NUMBER }
         requires loss { is_lost self.old ≡ (T.keeper.status store.old).lost }
         requires none { replies.old ≡ [] }
         ensures turn { IsTurn T.keeper A.behaviour instance result replies.new
@@ -146,7 +144,7 @@ impl<A: Application> AppSide<A> {
         store: &mut T,
         replies: &mut Replies,
     ) -> TurnKind
-        requires few { turns_of self.old < 2 ^ 63 }
+        requires few { turns_of self.old < MAX_NUMBER }
         requires loss { is_lost self.old ≡ (T.keeper.status store.old).lost }
         requires none { replies.old ≡ [] }
         ensures turn { IsTurn T.keeper A.behaviour instance result replies.new
@@ -167,7 +165,7 @@ impl<A: Application> AppSide<A> {
     /// A turn of an instance in which no ask waits that may need the store. It is the same turn over whatever store the
     /// application has.
     pub fn turn_without_store(&mut self, instance: u8) -> Turned
-        requires few { turns_of self.old < 2 ^ 63 }
+        requires few { turns_of self.old < MAX_NUMBER }
         requires storeless { wants_store self.old instance ≡ false }
         ensures kind { IsStoreless result.kind }
         ensures stands { (m : Machine A) → Represents self.old m
@@ -188,7 +186,7 @@ impl<A: Application> AppSide<A> {
 
     /// A turn of the instance for which there is no memory: the instance is torn down. It takes no memory itself.
     pub fn starve(&mut self, instance: u8) -> Replies
-        requires { turns_of self.old < 2 ^ 63 }
+        requires { turns_of self.old < MAX_NUMBER }
         ensures step { (m : Machine A) → Represents self.old m
             → Represents self.new (step A.behaviour m (Starved instance)).machine }
         ensures replies { (m : Machine A) → Represents self.old m

@@ -4,7 +4,7 @@ ghost use Rattle.std.specs.Prelude.{◌≡◌, ℕ, ◌<◌, [], true, if◌then
 ghost use Rattle.instances.specs.Instances.{state_set, session_removed};
 ghost use Rattle.alone.specs.declared.active_entry.Instance.{Instance};
 ghost use Rattle.alone.specs.Machine.{is_number, with_instance};
-ghost use Rattle.alone.specs.Step.{after_session, answered, destroying, is_success, masked_again, reply_of, returned, start_begun};
+ghost use Rattle.alone.specs.Step.{after_session, after_answer, after_destroy_begins, is_success, masked_again, reply_of, after_return, start_begun};
 ghost use Rattle.alone.specs.InList.{IsPlace};
 ghost use Rattle.app_side.specs.Represents.{machine_of, IsTurned};
 
@@ -72,7 +72,7 @@ impl<A: Application> AppSide<A> {
         requires none { replies.old ≡ [] }
         ensures { (inst : Instance A) → find (is_number number) self.old.instances.items ≡ Some inst
             → IsTurned self.new replies.new
-            (answered (machine_of self.old) inst op code outputs) }
+            (after_answer (machine_of self.old) inst op code outputs) }
     {
         set_running(&mut self.instances[place], None);
         match op {
@@ -103,7 +103,7 @@ impl<A: Application> AppSide<A> {
     )
         requires { IsPlace number self.old.instances.items place }
         ensures { (inst : Instance A) → find (is_number number) self.old.instances.items ≡ Some inst
-            → machine_of self.new ≡ destroying (machine_of self.old) inst op reply }
+            → machine_of self.new ≡ after_destroy_begins (machine_of self.old) inst op reply }
     {
         self.mask_again(op);
         self.sessions.begin_destroy(number);
@@ -174,7 +174,7 @@ impl<A: Application> AppSide<A> {
         requires none { replies.old ≡ [] }
         ensures { (inst : Instance A) → find (is_number number) self.old.instances.items ≡ Some inst
             → IsTurned self.new replies.new (if is_success code
-            then answered (record (machine_of self.old)
+            then after_answer (record (machine_of self.old)
             { table = state_set self.old.sessions session SessionState.Open })
             inst op code outputs
             else after_session (record (machine_of self.old)
@@ -205,7 +205,7 @@ impl<A: Application> AppSide<A> {
         ensures { (inst : Instance A) → find (is_number number) self.old.instances.items ≡ Some inst
             → inst.number ≡ number
             → IsTurned self.new replies.new
-            (returned (machine_of self.old) inst op stage ending.code ending.outs) }
+            (after_return (machine_of self.old) inst op stage ending.code ending.outs) }
     {
         let Ending { code, outs } = ending;
         match stage {

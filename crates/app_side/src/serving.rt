@@ -6,9 +6,9 @@ ghost use Rattle.object_asks.specs.Serving.{objects_in};
 ghost use Rattle.operation_asks.specs.Kept.{state_of};
 ghost use Rattle.alone.specs.Families.{family_of};
 ghost use Rattle.alone.specs.Asks.{resolution, entry_resolution, flag_for, mask_for, mask_set_for};
-ghost use Rattle.alone.specs.Step.{served};
-ghost use Rattle.app_side.specs.Asking.{asking, reaching_in_family};
-ghost use Rattle.app_side.specs.Represents.{machine_of, noted};
+ghost use Rattle.alone.specs.Step.{serve_outcome};
+ghost use Rattle.app_side.specs.Asking.{entry_with_ask, reaching_in_family};
+ghost use Rattle.app_side.specs.Represents.{machine_of, after_store_kind};
 ghost use Rattle.app_side.specs.Serving.{CarriesOut, IsEntryServed};
 
 use crate::side::AppSide;
@@ -22,7 +22,7 @@ use tee_base::NoMemory;
 impl<A: Application> AppSide<A> {
     /// Notes how the store did.
     pub(crate) fn note(&mut self, kind: TurnKind)
-        ensures { self.new ≡ noted self.old kind }
+        ensures { self.new ≡ after_store_kind self.old kind }
     {
         if let TurnKind::Lost { change } = kind {
             self.lost = true;
@@ -57,7 +57,8 @@ impl<A: Application> AppSide<A> {
     /// Serves an ask about the entry itself. One of another family doesn't come here.
     fn serve_entry(&mut self, entry: &Entered, ask: Ask) -> Served
         ensures { IsEntryServed result
-            (entry_resolution (machine_of self.old) (asking entry.now ask) ask) self.old self.new }
+            (entry_resolution (machine_of self.old)
+            (entry_with_ask entry.now ask) ask) self.old self.new }
     {
         match ask {
             Ask::Return { code, outs } => returned(&entry.stage, code, outs),
@@ -84,7 +85,8 @@ impl<A: Application> AppSide<A> {
         ask: Ask,
     ) -> Result<Served, NoMemory>
         ensures { CarriesOut T.keeper
-            (λ serving m. served serving m ask (resolution m instance (asking entry.now ask) ask))
+            (λ serving m. serve_outcome serving m ask (resolution m instance
+            (entry_with_ask entry.now ask) ask))
             (reaching_in_family (family_of ask)
             (objects_in self.old.held (T.keeper.contents store.old))
             (state_of self.old.operations) instance ask)

@@ -1,5 +1,6 @@
 //! Turns of an instance.
 
+ghost use Rattle.tee_base.specs.declared.limits.TheConstants.{MAX_NUMBER};
 ghost use Rattle.std.specs.Prelude.{◌≡◌, ℕ, ◌<◌, ◌^◌, ◌+◌, [], OnOk, OnErr, Some, find, length};
 ghost use Rattle.object_asks.specs.Asks.{changes_store};
 ghost use Rattle.object_asks.specs.Serving.{objects_in};
@@ -12,7 +13,7 @@ ghost use Rattle.alone.specs.Step.{with_next_begun, idle, of_instance, of_waits,
 ghost use Rattle.alone.specs.InList.{IsPlace};
 ghost use Rattle.app_side.specs.Represents.{machine_of, IsTornAlike};
 ghost use Rattle.app_side.specs.Serving.{AdvancesTurn, TakesTurn};
-ghost use Rattle.app_side.specs.Asking.{asked_turn, changing, comes, given_next, reaching};
+ghost use Rattle.app_side.specs.Asking.{asked_turn, is_to_change, comes, given_next, reaches_store};
 
 use crate::returns::set_running;
 use crate::side::AppSide;
@@ -204,10 +205,10 @@ impl<A: Application> AppSide<A> {
             → TakesTurn T.keeper
             (λ serving m. went_on A.behaviour serving m inst running running.waits)
             (of_waits
-            (reaching (objects_in self.old.held (T.keeper.contents store.old))
+            (reaches_store (objects_in self.old.held (T.keeper.contents store.old))
             (state_of self.old.operations) number)
             running running.waits)
-            (of_waits changing running running.waits)
+            (of_waits is_to_change running running.waits)
             number result self.old self.new replies.new store.old store.new }
     {
         let ActiveEntry {
@@ -247,10 +248,10 @@ impl<A: Application> AppSide<A> {
             → TakesTurn T.keeper
             (λ serving m. turned_by A.behaviour serving m inst inst.running)
             (of_instance
-            (reaching (objects_in self.old.held (T.keeper.contents store.old))
+            (reaches_store (objects_in self.old.held (T.keeper.contents store.old))
             (state_of self.old.operations) number)
             found)
-            (of_instance changing found)
+            (of_instance is_to_change found)
             number result self.old self.new replies.new store.old store.new }
     {
         if self.instances[place].running.is_none() {
@@ -271,16 +272,16 @@ impl<A: Application> AppSide<A> {
         instance: u8,
         replies: &mut Replies,
     ) -> Result<TurnKind, NoMemory>
-        requires few { self.old.turns < 2 ^ 63 }
+        requires few { self.old.turns < MAX_NUMBER }
         requires none { replies.old ≡ [] }
         ensures { let found = find (is_number instance) self.old.instances.items
             in AdvancesTurn T.keeper
             (λ serving m. turned_as A.behaviour serving m instance)
             (of_instance
-            (reaching (objects_in self.old.held (T.keeper.contents store.old))
+            (reaches_store (objects_in self.old.held (T.keeper.contents store.old))
             (state_of self.old.operations) instance)
             found)
-            (of_instance changing found)
+            (of_instance is_to_change found)
             instance result self.old self.new replies.new store.old store.new }
     {
         self.turns += 1;

@@ -20,8 +20,8 @@ abbrev pub returns : Code → Out → Ask
 returns code out = asked.Return code (record { p0 = outs.Nothing; p1 = outs.Nothing; p2 = outs.Nothing; p3 = out })
 
 -- the return of success, with this as the last output
-abbrev pub fine : Out → Ask
-fine out = returns (record { 0 = 0 }) out
+abbrev pub success_with : Out → Ask
+success_with out = returns (record { 0 = 0 }) out
 
 -- the first number of a value, 0 of any other parameter
 abbrev pub first_of : Param → ℕ
@@ -36,17 +36,17 @@ second_of p = 0
 -- ObjOpen of the identifier that the parameter has; without one it returns
 abbrev pub open_of : ℕ → ℕ → Param → Ask
 open_of flags storage (params.MemIn id) = asked.ObjOpen storage id flags
-open_of flags storage p = fine outs.Nothing
+open_of flags storage p = success_with outs.Nothing
 
 -- ObjCreate of the identifier and the content that the parameters have; without them it returns
 abbrev pub create_of : ℕ → ℕ → Param → Param → Ask
 create_of flags attr (params.MemIn id) (params.MemIn content) = asked.ObjCreate 1 id flags attr content
-create_of flags attr p q = fine outs.Nothing
+create_of flags attr p q = success_with outs.Nothing
 
 -- ObjWrite of the bytes that the parameter has; without them it returns
 abbrev pub write_of : ℕ → Param → Ask
 write_of object (params.MemIn bytes) = asked.ObjWrite object bytes
-write_of object p = fine outs.Nothing
+write_of object p = success_with outs.Nothing
 
 -- what a command about two numbers asks for: 3 closes, 6 describes and 7 reads an object; any other returns
 abbrev pub ask_without_bytes : (command a b : ℕ) → Ask
@@ -54,7 +54,7 @@ ask_without_bytes command a b =
     if command == 3 then asked.ObjClose a
     else if command == 6 then asked.ObjInfo a
     else if command == 7 then asked.ObjRead a b
-    else fine outs.Nothing
+    else success_with outs.Nothing
 
 -- what a command asks for: 1 opens, 2 creates and 8 writes an object, and the others need two numbers alone
 abbrev pub ask_with_bytes : (command a b : ℕ) → Param → Param → Ask
@@ -71,14 +71,14 @@ ask_of command ps = ask_with_bytes command (first_of ps.p0) (second_of ps.p0) ps
 -- the return of what was answered
 abbrev pub told_by : Answer → Ask
 told_by (answers.Refused code) = returns code outs.Nothing
-told_by (answers.Number n) = fine (outs.Value n 0)
-told_by (answers.Content bytes) = fine (outs.Mem bytes)
-told_by answer = fine outs.Nothing
+told_by (answers.Number n) = success_with (outs.Value n 0)
+told_by (answers.Content bytes) = success_with (outs.Mem bytes)
+told_by answer = success_with outs.Nothing
 
 -- what an entry asks for: a command's ask, or a return
 abbrev pub at_entry : Entry → Ask
 at_entry (entries.Invoke session command ps) = ask_of command ps
-at_entry entry = fine outs.Nothing
+at_entry entry = success_with outs.Nothing
 
 -- what is asked for
 unfoldable pub next_ask : Given → Ask

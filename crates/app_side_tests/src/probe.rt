@@ -1,7 +1,7 @@
 //! The application of the tests: a command names the ask that it makes, and it returns what it is answered.
 
 ghost use Rattle.std.specs.Prelude.{◌≡◌};
-ghost use Rattle.app_side_tests.specs.Probe.{ask_of, ask_with_bytes, ask_without_bytes, at_entry, create_of, fine, first_of, next_ask, open_of, returns, second_of, told_by, write_of};
+ghost use Rattle.app_side_tests.specs.Probe.{ask_of, ask_with_bytes, ask_without_bytes, at_entry, create_of, success_with, first_of, next_ask, open_of, returns, second_of, told_by, write_of};
 
 use app_api::{Answer, Application, Ask, Entry, Given, Out, Outs, Param, Params};
 use std::alloc::Global;
@@ -21,7 +21,7 @@ fn returns(code: Code, out: Out) -> Ask
 }
 
 fn fine(out: Out) -> Ask
-    ensures { result ≡ fine out }
+    ensures { result ≡ success_with out }
 {
     returns(Code::SUCCESS, out)
 }

@@ -2,7 +2,7 @@
 use Rattle.std.proofs.Common.{◌≡◌, ◌≢◌, ◌≤◌, ◌+◌, ◌⊎◌, ℕ, Bool, true, false, List, [], ◌∷◌, length, Result, Ok, Err, refl, sym, ◌∙◌, ap, subst, inl, inr, ⊎_elim, arith}
 use Rattle.tee_base.specs.Crash.{LeavesOnly}
 use Rattle.board.specs.declared.BoardFailed.{BoardFailed}
-use Rattle.board.specs.Moment.{Outcome, Moment, View, IsLeft, WasLeft, moment, left_since}
+use Rattle.board.specs.Moment.{CrashImage, Moment, View, IsLeft, WasLeft, moment, left_since}
 use Rattle.board.specs.Steps.{Passes, Unchanged, Wrote, Synced, SameBlocks, Counted, Advanced}
 use Rattle.board.specs.Runs.{IsBase, LeavesBase, RunsOver, Rests}
 
@@ -10,13 +10,13 @@ at : {A : Type 0} {f g : ℕ → A} → f ≡ g → (k : ℕ) → f k ≡ g k
 at {A} same k = ap (λ (h : ℕ → A). h k) same
 
 -- no moment was at or after the number of moments
-none_left : (past : List Moment) (t : ℕ) (c : Outcome) → length past ≤ t → WasLeft past t c → ⊥
+none_left : (past : List Moment) (t : ℕ) (c : CrashImage) → length past ≤ t → WasLeft past t c → ⊥
 none_left [] t c late was = was
 none_left (m ∷ past) t c late was =
     ⊎_elim (λ (here : (t ≤ length past) × IsLeft m c). absurd (let le = here.0 in omega arith)) (none_left past t c (omega arith)) was
 
 -- before the first call
-pub starts : (v : View) (P : Outcome → Type 0) → ((c : Outcome) → IsLeft v.state c → P c) → LeavesOnly moment left_since v v P
+pub starts : (v : View) (P : CrashImage → Type 0) → ((c : CrashImage) → IsLeft v.state c → P c) → LeavesOnly moment left_since v v P
 starts v P now = record {
   later = omega arith;
   each = λ c left. ⊎_elim (now c) (λ was. absurd (none_left v.past (length v.past) c (omega arith) was)) left;
@@ -24,11 +24,11 @@ starts v P now = record {
 }
 
 -- one call more
-pub goes_on : (first old new : View) (P : Outcome → Type 0) → LeavesOnly moment left_since first old P → Passes old new → ((c : Outcome) → IsLeft new.state c → P c) →
+pub goes_on : (first old new : View) (P : CrashImage → Type 0) → LeavesOnly moment left_since first old P → Passes old new → ((c : CrashImage) → IsLeft new.state c → P c) →
     LeavesOnly moment left_since first new P
 goes_on first old new P run time now =
     let count : moment new ≡ moment old + 1 = ap length time.past ∙ omega arith in
-    let back : (t : ℕ) (c : Outcome) → left_since new t c → left_since old t c ⊎ P c =
+    let back : (t : ℕ) (c : CrashImage) → left_since new t c → left_since old t c ⊎ P c =
     λ t c left. ⊎_elim (λ (l : IsLeft new.state c). inr (now c l)) (λ (w : WasLeft new.past t c). inl
     (⊎_elim (λ (h : (t ≤ length old.past) × IsLeft old.state c). inl h.1) (λ (w' : WasLeft old.past t c). inr w')
     (subst (λ (past : List Moment). WasLeft past t c) time.past w))) left in
@@ -40,7 +40,7 @@ goes_on first old new P run time now =
 
 module _ (open_at : ℕ → Bool) (base : ℕ → List ℕ) (low high : ℕ) where
   -- what a crash leaves then
-  pub leaves_base : (m : Moment) (c : Outcome) → IsBase open_at base low high m → IsLeft m c → LeavesBase open_at base low high c
+  pub leaves_base : (m : Moment) (c : CrashImage) → IsBase open_at base low high m → IsLeft m c → LeavesBase open_at base low high c
   leaves_base m c is left = record {
     image = λ k shut. left.kept k (is.pending k shut) ∙ is.durable k shut;
     least = omega (arith, is.least, left.counter.least);

@@ -12,16 +12,16 @@ fate_by (Passing calls) = if calls == 0 then Interrupt else Pass
 fate_by Blown = Refuse
 
 -- the fuse after that call
-abbrev pub burnt : Fuse → Fuse
-burnt Unset = Unset
-burnt (Passing calls) = if calls == 0 then Blown else Passing (calls - 1)
-burnt Blown = Blown
+abbrev pub fuse_after_call : Fuse → Fuse
+fuse_after_call Unset = Unset
+fuse_after_call (Passing calls) = if calls == 0 then Blown else Passing (calls - 1)
+fuse_after_call Blown = Blown
 
 -- the fuse after it was set: the later number counts in place of the earlier, but what has blown stays so
-abbrev pub refitted : Fuse → ℕ → Fuse
-refitted Unset calls = Passing calls
-refitted (Passing _) calls = Passing calls
-refitted Blown _ = Blown
+abbrev pub fuse_after_set : Fuse → ℕ → Fuse
+fuse_after_set Unset calls = Passing calls
+fuse_after_set (Passing _) calls = Passing calls
+fuse_after_set Blown _ = Blown
 
 -- the call passes
 abbrev pub passes : Fate → Bool

@@ -2,11 +2,12 @@
 use Rattle.std.specs.Prelude.{◌≡◌, ◌≤◌, ◌<◌, ◌⊎◌, ◌+◌, ◌^◌, ℕ, Bool, true, false, List, [], ◌∷◌, ◌++◌, length}
 use Rattle.tee_base.specs.declared.limits.TheConstants.{BLOCK_BYTES}
 use Rattle.board.specs.declared.fuse.Fuse.{Fuse}
+use Rattle.tee_base.specs.Words.{Counter, Image, Key}
 
 -- what a crash leaves, and how far the counts of faults and orders were
-pub record Outcome : Type 0 where
-  pub image : ℕ → List ℕ
-  pub counter : ℕ
+pub record CrashImage : Type 0 where
+  pub image : Image
+  pub counter : Counter
   pub faults : ℕ
   pub orders : ℕ
 
@@ -15,11 +16,11 @@ pub record Moment : Type 0 where
   -- what a read of each block gives
   pub reads : ℕ → List ℕ
   -- what each block holds on the disk
-  pub durable : ℕ → List ℕ
+  pub durable : Image
   -- the blocks that a crash may change: written, or their write failed, since the last Ok of a sync
   pub pending : ℕ → Bool
   -- the least counter that a crash may leave, and how far above it another may be
-  pub counter : ℕ
+  pub counter : Counter
   pub slack : ℕ
   pub faults : ℕ
   pub orders : ℕ
@@ -27,7 +28,7 @@ pub record Moment : Type 0 where
 -- a board as its contracts see it
 pub record View : Type 0 where
   pub size : ℕ
-  pub key : List ℕ
+  pub key : Key
   pub writes : ℕ
   pub ordered : ℕ
   pub fuse : Fuse
@@ -42,7 +43,7 @@ pub record IsCounter (m : Moment) (n : ℕ) : Type 0 where
   pub fits : n < 2 ^ 64
 
 -- what a crash at this moment may leave: any 1,024 bytes in each pending block, and all others as they are on the disk
-pub record IsLeft (m : Moment) (c : Outcome) : Type 0 where
+pub record IsLeft (m : Moment) (c : CrashImage) : Type 0 where
   pub kept : (k : ℕ) → m.pending k ≡ false → c.image k ≡ m.durable k
   pub any : (k : ℕ) → m.pending k ≡ true → length (c.image k) ≡ BLOCK_BYTES
   pub counter : IsCounter m c.counter
@@ -50,7 +51,7 @@ pub record IsLeft (m : Moment) (c : Outcome) : Type 0 where
   pub orders : c.orders ≡ m.orders
 
 -- what a crash at one of these moments, from the t-th on, may have left
-abbrev pub WasLeft : List Moment → ℕ → Outcome → Type 0
+abbrev pub WasLeft : List Moment → ℕ → CrashImage → Type 0
 WasLeft [] t c = ⊥
 WasLeft (m ∷ past) t c = ((t ≤ length past) × IsLeft m c) ⊎ WasLeft past t c
 
@@ -59,7 +60,7 @@ abbrev pub moment : View → ℕ
 moment v = length v.past
 
 -- what a crash at some moment from t on, or now, may have left
-abbrev pub left_since : View → ℕ → Outcome → Type 0
+abbrev pub left_since : View → ℕ → CrashImage → Type 0
 left_since v t c = IsLeft v.state c ⊎ WasLeft v.past t c
 
 -- the one view is the other, or was before it: its state is then among the moments before the other

@@ -3,12 +3,12 @@ use Rattle.std.specs.Prelude.{◌≡◌, ◌≢◌, ◌≤◌, ◌<◌, ◌+◌,
 use Rattle.tee_base.specs.Faults.{Rose}
 use Rattle.board.specs.declared.BoardFailed.{BoardFailed}
 use Rattle.board.specs.declared.fuse.Fuse.TheVariants.{Unset}
-use Rattle.board.specs.Fuse.{fate_by, burnt, passes, is_refused}
-use Rattle.board.specs.Moment.{Outcome, Moment, View, IsCounter, IsLeft}
+use Rattle.board.specs.Fuse.{fate_by, fuse_after_call, passes, is_refused}
+use Rattle.board.specs.Moment.{CrashImage, Moment, View, IsCounter, IsLeft}
 
 -- a count that stays at its type's end
-abbrev pub capped : ℕ → ℕ
-capped n = min n (2 ^ 64 - 1)
+abbrev pub up_to_limit : ℕ → ℕ
+up_to_limit n = min n (2 ^ 64 - 1)
 
 -- a call of the device: it fails where the count of faults rises, which stays where the call is Ok; and it fails where the fuse
 -- stops it
@@ -20,7 +20,7 @@ pub record Called (ok : Bool) (old new : View) : Type 0 where
   pub faults : old.state.faults ≤ new.state.faults
   pub cause : ok ≡ false → Rose old.state.faults new.state.faults
   pub steady : ok ≡ true → new.state.faults ≡ old.state.faults
-  pub fuse : new.fuse ≡ burnt old.fuse
+  pub fuse : new.fuse ≡ fuse_after_call old.fuse
   pub stopped : passes (fate_by old.fuse) ≡ false → ok ≡ false
 
 -- a run of calls, one after another: it fails where the count of faults rose, and is Ok where none of them failed; no call of it
@@ -121,7 +121,7 @@ pub record Advanced (result : Result ℕ BoardFailed) (old new : Moment) : Type 
 
 -- a power leaves one of the images and counters that a crash may leave, all of it durable
 pub record Powered (old new : Moment) : Type 0 where
-  pub left : Outcome
+  pub left : CrashImage
   pub may : IsLeft old left
   pub reads : (k : ℕ) → new.reads k ≡ left.image k
   pub durable : (k : ℕ) → new.durable k ≡ left.image k

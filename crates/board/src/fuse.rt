@@ -1,6 +1,6 @@
 //! A fuse, which stops the calls of a device after a number of them.
 ghost use Rattle.std.specs.Prelude.{◌≡◌};
-ghost use Rattle.board.specs.Fuse.{fate_by, burnt, refitted};
+ghost use Rattle.board.specs.Fuse.{fate_by, fuse_after_call, fuse_after_set};
 ghost use Rattle.board.specs.declared.fuse.Fuse.TheVariants.{Unset};
 
 /// How many calls still pass before one is interrupted.
@@ -29,7 +29,7 @@ impl Fuse {
     /// Takes a call from the fuse, and says what becomes of it.
     pub fn next(&mut self) -> Fate
         ensures fate { result ≡ fate_by self.old }
-        ensures burnt { self.new ≡ burnt self.old }
+        ensures burnt { self.new ≡ fuse_after_call self.old }
     {
         match *self {
             Fuse::Unset => Fate::Pass,
@@ -47,7 +47,7 @@ impl Fuse {
 
     /// Lets so many calls pass. What has blown stays so.
     pub fn refit(&mut self, calls: u32)
-        ensures { self.new ≡ refitted self.old calls }
+        ensures { self.new ≡ fuse_after_set self.old calls }
     {
         if *self != Fuse::Blown {
             *self = Fuse::Passing(calls);

@@ -2,9 +2,9 @@
 #![tactic(auto)]
 
 ghost use Rattle.std.specs.Prelude.{◌≡◌, ◌<◌, ◌+◌, Bool, IsTrue, OnOk, is_ok};
-ghost use Rattle.board.specs.Fuse.{refitted};
+ghost use Rattle.board.specs.Fuse.{fuse_after_set};
 ghost use Rattle.board.specs.Moment.{View, IsConsistent};
-ghost use Rattle.board.specs.Steps.{capped, Called, Ordered, Answered, Passes, Unchanged, Wrote, Synced, Counted, Advanced, Powered};
+ghost use Rattle.board.specs.Steps.{up_to_limit, Called, Ordered, Answered, Passes, Unchanged, Wrote, Synced, Counted, Advanced, Powered};
 ghost use Rattle.board.specs.declared.fuse.Fuse.TheVariants.{Unset};
 
 pub mod fuse;
@@ -56,7 +56,7 @@ pub trait Board {
     fn write(&mut self, block: u64, from: &[u8; 1024]) -> Result<(), BoardFailed>
         requires { block < (view self.old).size }
         ensures call { Called (is_ok result) (view self.old) (view self.new) }
-        ensures writes { (view self.new).writes ≡ capped ((view self.old).writes + 1) }
+        ensures writes { (view self.new).writes ≡ up_to_limit ((view self.old).writes + 1) }
         ensures honest { honest self.old
             → honest self.new × Answered (view self.old) (view self.new)
             × Wrote block from.now (is_ok result) (view self.old).state (view self.new).state };
@@ -89,7 +89,7 @@ pub trait Board {
     /// interrupted and fails, and every later one fails and does nothing, until `power`.
     fn fuse(&mut self, calls: u32)
         ensures ordered { Ordered calls (view self.old) (view self.new) }
-        ensures fuse { (view self.new).fuse ≡ refitted (view self.old).fuse calls }
+        ensures fuse { (view self.new).fuse ≡ fuse_after_set (view self.old).fuse calls }
         ensures honest { honest self.old → honest self.new × Passes (view self.old) (view self.new)
             × Unchanged (view self.old).state (view self.new).state };
 

@@ -6,9 +6,9 @@ use Rattle.tee_base.specs.Faults.{Rose}
 use Rattle.board.specs.declared.BoardFailed.{BoardFailed}
 use Rattle.board.specs.declared.fuse.Fate.{Fate}
 use Rattle.board.specs.declared.fuse.Fate.TheVariants.{Pass, Interrupt, Refuse}
-use Rattle.board.specs.Fuse.{burnt, fate_by, passes, is_refused}
+use Rattle.board.specs.Fuse.{fuse_after_call, fate_by, passes, is_refused}
 use Rattle.board.specs.Moment.{Moment, View}
-use Rattle.board.specs.Steps.{capped, Called, Answered, Unchanged, Counted, Synced, Powered}
+use Rattle.board.specs.Steps.{up_to_limit, Called, Answered, Unchanged, Counted, Synced, Powered}
 use Rattle.boards.specs.Disk.{state_of}
 use Rattle.boards.specs.Memory.{Memory, IsExact, fate_of, next_fate}
 use Rattle.boards.specs.declared.disk.Disk.{Disk}
@@ -31,11 +31,11 @@ refused_stops Interrupt e = absurd (cc)
 refused_stops Refuse e = refl
 
 -- the count of faults after a call
-later : (ok : Bool) (n m : ℕ) → n < 2 ^ 64 → m ≡ cond ok n (capped (n + 1)) → n ≤ m
+later : (ok : Bool) (n m : ℕ) → n < 2 ^ 64 → m ≡ cond ok n (up_to_limit (n + 1)) → n ≤ m
 later true n m small is = omega arith
 later false n m small is = omega arith
 
-rose : (n m : ℕ) → m ≡ capped (n + 1) → Rose n m
+rose : (n m : ℕ) → m ≡ up_to_limit (n + 1) → Rose n m
 rose n m is = ⊎_elim (λ (h : n < 2 ^ 64 - 1). inl (omega arith)) (λ (h : 2 ^ 64 - 1 ≤ n). inr (omega arith)) (cases_lt n (2 ^ 64 - 1))
 
 -- the same count, where the call is Ok exactly where it passes
@@ -44,15 +44,15 @@ counted_so ok passed n m k same is = is ∙ ap (λ b. cond b n k) (sym same)
 
 pub called : (ok named : Bool) (fate : Fate) (old new : View) → fate ≡ fate_of named (fate_by old.fuse) → (passes fate ≡ false → ok ≡ false) → old.state.faults < 2 ^ 64
     → new.size ≡ old.size → new.key ≡ old.key → new.state.orders ≡ old.state.orders → new.ordered ≡ old.ordered
-    → new.state.faults ≡ cond ok old.state.faults (capped (old.state.faults + 1)) → new.fuse ≡ burnt old.fuse → Called ok old new
+    → new.state.faults ≡ cond ok old.state.faults (up_to_limit (old.state.faults + 1)) → new.fuse ≡ fuse_after_call old.fuse → Called ok old new
 called ok named fate old new decided stops small size key orders ordered faults fuse = record {
   size = size;
   key = key;
   orders = orders;
   ordered = ordered;
   faults = later ok old.state.faults new.state.faults small faults;
-  cause = λ failed. rose old.state.faults new.state.faults (faults ∙ ap (λ b. cond b old.state.faults (capped (old.state.faults + 1))) failed);
-  steady = λ made. faults ∙ ap (λ b. cond b old.state.faults (capped (old.state.faults + 1))) made;
+  cause = λ failed. rose old.state.faults new.state.faults (faults ∙ ap (λ b. cond b old.state.faults (up_to_limit (old.state.faults + 1))) failed);
+  steady = λ made. faults ∙ ap (λ b. cond b old.state.faults (up_to_limit (old.state.faults + 1))) made;
   fuse = fuse;
   stopped = λ blown. stops (ap passes decided ∙ stays_stopped named (fate_by old.fuse) blown);
 }
@@ -93,7 +93,7 @@ and_true true = refl
 and_true false = refl
 
 pub exact : (possible ok : Bool) (fate : Fate) (old new : Memory) → fate ≡ next_fate old → ok ≡ (passes fate && possible)
-    → new.view.state.faults ≡ cond ok old.view.state.faults (capped (old.view.state.faults + 1)) → new.calls ≡ capped (old.calls + 1)
+    → new.view.state.faults ≡ cond ok old.view.state.faults (up_to_limit (old.view.state.faults + 1)) → new.calls ≡ up_to_limit (old.calls + 1)
     → new.failing ≡ old.failing → IsExact possible ok old new
 exact possible ok fate old new decided told faults calls failing = record {
   passed = told ∙ ap (λ (f : Fate). passes f && possible) decided;
@@ -104,7 +104,7 @@ exact possible ok fate old new decided told faults calls failing = record {
 
 -- the same where each call is possible
 pub exact_always : (ok : Bool) (fate : Fate) (old new : Memory) → fate ≡ next_fate old → ok ≡ passes fate
-    → new.view.state.faults ≡ cond ok old.view.state.faults (capped (old.view.state.faults + 1)) → new.calls ≡ capped (old.calls + 1)
+    → new.view.state.faults ≡ cond ok old.view.state.faults (up_to_limit (old.view.state.faults + 1)) → new.calls ≡ up_to_limit (old.calls + 1)
     → new.failing ≡ old.failing → IsExact true ok old new
 exact_always ok fate old new decided told = exact true ok fate old new decided (told ∙ and_true (passes fate))
 

@@ -3,9 +3,9 @@ use Rattle.std.proofs.Common.{◌≡◌, ◌≤◌, ◌+◌, ℕ, Bool, true, fa
 use Rattle.std.specs.Prelude.{IsErr}
 use Rattle.std.proofs.lemmas.Bool.{false≢true}
 use Rattle.tee_base.specs.Faults.{Rose}
-use Rattle.board.specs.Fuse.{burnt, fate_by, passes}
+use Rattle.board.specs.Fuse.{fuse_after_call, fate_by, passes}
 use Rattle.board.specs.Moment.{View}
-use Rattle.board.specs.Steps.{capped, Called}
+use Rattle.board.specs.Steps.{up_to_limit, Called}
 use Rattle.boards.specs.declared.counts.Counts.{Counts}
 
 -- a board of this size and this key with these counts
@@ -30,7 +30,7 @@ seen size key counts = record {
 
 module _ (size : ℕ) (key : List ℕ) (writes : ℕ) (old mid : Counts) where
   -- the fuse stops the call
-  pub stopped : mid ≡ record old { writes = writes; fuse = burnt old.fuse; faults = capped (old.faults + 1) } → old.faults ≤ mid.faults → Rose old.faults mid.faults
+  pub stopped : mid ≡ record old { writes = writes; fuse = fuse_after_call old.fuse; faults = up_to_limit (old.faults + 1) } → old.faults ≤ mid.faults → Rose old.faults mid.faults
       → Called false (seen size key old) (seen size key mid)
   stopped is later rose = record {
     size = refl;
@@ -45,8 +45,8 @@ module _ (size : ℕ) (key : List ℕ) (writes : ℕ) (old mid : Counts) where
   }
 
   -- it passes, and ends as the files answer
-  pub ended : (ok : Bool) (new : Counts) → true ≡ passes (fate_by old.fuse) → mid ≡ record old { writes = writes; fuse = burnt old.fuse }
-      → new ≡ record mid { faults = cond ok mid.faults (capped (mid.faults + 1)) } → mid.faults ≤ new.faults → (ok ≡ false → Rose mid.faults new.faults)
+  pub ended : (ok : Bool) (new : Counts) → true ≡ passes (fate_by old.fuse) → mid ≡ record old { writes = writes; fuse = fuse_after_call old.fuse }
+      → new ≡ record mid { faults = cond ok mid.faults (up_to_limit (mid.faults + 1)) } → mid.faults ≤ new.faults → (ok ≡ false → Rose mid.faults new.faults)
       → Called ok (seen size key old) (seen size key new)
   ended ok new passed begun is later rose =
       let same : mid.faults ≡ old.faults = ap (λ (x : Counts). x.faults) begun in
@@ -57,7 +57,7 @@ module _ (size : ℕ) (key : List ℕ) (writes : ℕ) (old mid : Counts) where
         ordered = ap (λ (x : Counts). x.ordered) is ∙ ap (λ (x : Counts). x.ordered) begun;
         faults = omega (arith, same, later);
         cause = λ failed. subst (λ n. Rose n new.faults) same (rose failed);
-        steady = λ made. ap (λ (x : Counts). x.faults) is ∙ ap (λ b. cond b mid.faults (capped (mid.faults + 1))) made ∙ same;
+        steady = λ made. ap (λ (x : Counts). x.faults) is ∙ ap (λ b. cond b mid.faults (up_to_limit (mid.faults + 1))) made ∙ same;
         fuse = ap (λ (x : Counts). x.fuse) is ∙ ap (λ (x : Counts). x.fuse) begun;
         stopped = λ blown. absurd (let e : true ≡ false = passed ∙ blown in cc);
       }
@@ -68,5 +68,5 @@ called_err (Ok x) old new fails called = absurd (false≢true fails)
 called_err (Err e) old new fails called = called
 
 -- the writes are counted as before the call was begun
-pub writes_same : (writes : ℕ) (old mid new : Counts) (faults : ℕ) → mid ≡ record old { writes = writes; fuse = burnt old.fuse } → new ≡ record mid { faults = faults } → new.writes ≡ writes
+pub writes_same : (writes : ℕ) (old mid new : Counts) (faults : ℕ) → mid ≡ record old { writes = writes; fuse = fuse_after_call old.fuse } → new ≡ record mid { faults = faults } → new.writes ≡ writes
 writes_same writes old mid new faults begun is = ap (λ (x : Counts). x.writes) is ∙ ap (λ (x : Counts). x.writes) begun

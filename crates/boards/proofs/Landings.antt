@@ -4,7 +4,7 @@ use Rattle.std.proofs.Common.{get_or, sym, ap, subst, ⊎_elim, ◌∙◌, refl,
 use Rattle.std.proofs.lemmas.Bool.{cases_Bool, cases_lt}
 use Rattle.std.proofs.lemmas.List.{get_or_default}
 use Rattle.boards.specs.Disk.{HasLanded, IsWhole, durable_of, offered_of, pending_of, reads_of, size_of}
-use Rattle.boards.specs.Landing.{digit_at, landed}
+use Rattle.boards.specs.Landing.{digit_at, block_after_crash}
 use Rattle.boards.specs.Pending.{IsPending, offered_in}
 use Rattle.boards.specs.Places.{is_listed, place_in}
 use Rattle.boards.specs.Row.{IsRow, Sets, block_of}
@@ -22,7 +22,7 @@ place_of d k = place_in d.pending.listed.blocks.items k
 pub record LandedBelow (at digits : ℕ) (old new : Disk) : Type 0 where
   pub row : IsRow new.seen
   pub size : size_of new ≡ size_of old
-  pub done : (k : ℕ) → place_of old k < at → reads_of new k ≡ landed (digit_at digits (pending_of old) k) (durable_of old k) (offered_in old.pending k)
+  pub done : (k : ℕ) → place_of old k < at → reads_of new k ≡ block_after_crash (digit_at digits (pending_of old) k) (durable_of old k) (offered_in old.pending k)
   pub rest : (k : ℕ) → at ≤ place_of old k → reads_of new k ≡ reads_of old k
   pub pending : new.pending ≡ old.pending
   pub offers : new.offers ≡ old.offers
@@ -46,8 +46,8 @@ landed_none digits old whole = record {
   orders = refl;
 }
 
-landed_same : (x y : ℕ) (a b c d : List ℕ) → x ≡ y → a ≡ b → c ≡ d → landed x a c ≡ landed y b d
-landed_same x y a b c d p q r = ap (λ n. landed n a c) p ∙ ap (λ (e : List ℕ). landed y e c) q ∙ ap (λ (e : List ℕ). landed y b e) r
+landed_same : (x y : ℕ) (a b c d : List ℕ) → x ≡ y → a ≡ b → c ≡ d → block_after_crash x a c ≡ block_after_crash y b d
+landed_same x y a b c d p q r = ap (λ n. block_after_crash n a c) p ∙ ap (λ (e : List ℕ). block_after_crash y e c) q ∙ ap (λ (e : List ℕ). block_after_crash y b e) r
 
 -- the block at a place has this place
 place_at : (p : Pending) → IsPending p → (at : ℕ) → at < length p.listed.blocks.items → place_in p.listed.blocks.items (get_or p.listed.blocks.items at 0) ≡ at
@@ -55,7 +55,7 @@ place_at p is at below = found_place p.listed.blocks.items p.listed.places.items
 
 module _ (at digits : ℕ) (old mid : Disk) (below : LandedBelow at digits old mid) (whole : IsWhole old) (within : at < length old.pending.listed.blocks.items) (block : ℕ)
     (here : block ≡ get_or mid.pending.listed.blocks.items at 0) (bytes : List ℕ)
-    (picked : bytes ≡ landed (digit_at digits (is_listed mid.pending.listed.blocks.items) (get_or mid.pending.listed.blocks.items at 0)) (get_or mid.pending.durable.items at [])
+    (picked : bytes ≡ block_after_crash (digit_at digits (is_listed mid.pending.listed.blocks.items) (get_or mid.pending.listed.blocks.items at 0)) (get_or mid.pending.durable.items at [])
     (get_or mid.pending.offered.items at []))
     (seen : Row) (sets : Sets block bytes mid.seen seen) where
   its_block : block ≡ get_or old.pending.listed.blocks.items at 0
@@ -64,11 +64,12 @@ module _ (at digits : ℕ) (old mid : Disk) (below : LandedBelow at digits old m
   its_place : place_of old block ≡ at
   its_place = ap (λ n. place_of old n) its_block ∙ place_at old.pending whole.pending at within
 
-  its_bytes : bytes ≡ landed (digit_at digits (pending_of old) block) (durable_of old block) (offered_in old.pending block)
+  its_bytes : bytes ≡ block_after_crash (digit_at digits (pending_of old) block) (durable_of old block) (offered_in old.pending block)
   its_bytes =
       let durable : at < length old.pending.durable.items = omega (arith, within, whole.pending.durable, old.pending.durable.ok, old.pending.listed.blocks.ok) in
       picked
-      ∙ ap (λ (p : Pending). landed (digit_at digits (is_listed p.listed.blocks.items) (get_or p.listed.blocks.items at 0)) (get_or p.durable.items at []) (get_or p.offered.items at [])) below.pending
+      ∙ ap (λ (p : Pending). block_after_crash (digit_at digits (is_listed p.listed.blocks.items) (get_or p.listed.blocks.items at 0)) (get_or p.durable.items at [])
+      (get_or p.offered.items at [])) below.pending
       ∙ landed_same _ _ _ _ _ _ (ap (λ n. digit_at digits (pending_of old) n) (sym its_block))
       (get_or_default old.pending.durable.items at [] (reads_of old block) durable ∙ ap (λ n. get_or old.pending.durable.items n (reads_of old block)) (sym its_place))
       (ap (λ n. get_or old.pending.offered.items n []) (sym its_place))
@@ -83,7 +84,7 @@ module _ (at digits : ℕ) (old mid : Disk) (below : LandedBelow at digits old m
         (λ (high : at ≤ place_of old k). let inside : place_of old k < length old.pending.listed.blocks.items = omega (arith, h, within) in
         let last : place_of old k ≡ at = omega (arith, h, high) in
         let same : k ≡ block = sym (block_at_place old.pending.listed.blocks.items k inside) ∙ ap (λ n. get_or old.pending.listed.blocks.items n 0) last ∙ sym its_block in
-        subst (λ n. block_of seen n ≡ landed (digit_at digits (pending_of old) n) (durable_of old n) (offered_in old.pending n)) (sym same) (sets.here ∙ its_bytes))
+        subst (λ n. block_of seen n ≡ block_after_crash (digit_at digits (pending_of old) n) (durable_of old n) (offered_in old.pending n)) (sym same) (sets.here ∙ its_bytes))
         (cases_lt (place_of old k) at);
     rest = λ k h. sets.elsewhere k (λ e. let same = ap (λ n. place_of old n) e in absurd (omega (arith, h, same, its_place))) ∙ below.rest k (omega (arith, h));
     pending = below.pending;
@@ -115,12 +116,12 @@ all_landed at digits old mid none below whole all is count empty durable =
       image = λ k. ⊎_elim
           (λ (p : pending_of old k ≡ true). let place = listed_place old.pending.listed.blocks.items k p in
           below.done k (omega (arith, place, all))
-          ∙ ap (λ (b : List ℕ). landed (digit_at digits (pending_of old) k) (durable_of old k) b) (whole.offers k p)
-          ∙ sym (ap (λ b. cond b (landed (digit_at digits (pending_of old) k) (durable_of old k) (offered_of old k)) (durable_of old k)) p))
+          ∙ ap (λ (b : List ℕ). block_after_crash (digit_at digits (pending_of old) k) (durable_of old k) b) (whole.offers k p)
+          ∙ sym (ap (λ b. cond b (block_after_crash (digit_at digits (pending_of old) k) (durable_of old k) (offered_of old k)) (durable_of old k)) p))
           (λ (p : pending_of old k ≡ false). let place = unlisted_place old.pending.listed.blocks.items k p in
           below.rest k (omega (arith, place, all))
           ∙ sym (whole.pending.settled k p (reads_of old k))
-          ∙ sym (ap (λ b. cond b (landed (digit_at digits (pending_of old) k) (durable_of old k) (offered_of old k)) (durable_of old k)) p))
+          ∙ sym (ap (λ b. cond b (block_after_crash (digit_at digits (pending_of old) k) (durable_of old k) (offered_of old k)) (durable_of old k)) p))
           (cases_Bool (pending_of old k));
       durable = λ k. ap (λ (l : List (List ℕ)). get_or l (place_in none.listed.blocks.items k) (reads_of mid k)) durable;
       pending = unlisted;

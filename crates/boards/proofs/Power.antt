@@ -2,7 +2,7 @@
 use Rattle.std.proofs.Common.{◌≡◌, ◌≤◌, ◌+◌, ℕ, Bool, true, false, cond, ap, subst, ◌∙◌, refl, arith}
 use Rattle.board.specs.Steps.{Powered}
 use Rattle.boards.specs.Disk.{HasLanded, state_of, reads_of, durable_of, pending_of, offered_of}
-use Rattle.boards.specs.Landing.{digits_of, digit_at, landed, landed_counter}
+use Rattle.boards.specs.Landing.{digits_of, digit_at, block_after_crash, landed_counter}
 use Rattle.boards.specs.declared.disk.Disk.{Disk}
 
 least : (raises : Bool) (n : ℕ) → n ≤ cond raises (n + 1) n
@@ -34,7 +34,7 @@ pub powered : (pick : ℕ) (old new : Disk) → HasLanded (digits_of old.unsettl
 powered pick old new l = record {
   left = record { image = reads_of new; counter = new.counter; faults = new.faults; orders = new.orders };
   may = record {
-    kept = λ k p. l.image k ∙ ap (λ b. cond b (landed (digit_at (digits_of old.unsettled pick) (pending_of old) k) (durable_of old k) (offered_of old k)) (durable_of old k)) p;
+    kept = λ k p. l.image k ∙ ap (λ b. cond b (block_after_crash (digit_at (digits_of old.unsettled pick) (pending_of old) k) (durable_of old k) (offered_of old k)) (durable_of old k)) p;
     any = λ k p. l.whole.seen.whole k;
     counter = record {
       least = rw l.counter (landed_counter-least old.unsettled pick old.counter);

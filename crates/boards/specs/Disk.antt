@@ -7,6 +7,7 @@ use Rattle.boards.specs.Pending.{IsPending, durable_or, is_pending, offered_in}
 use Rattle.boards.specs.Row.{IsRow, block_of}
 use Rattle.boards.specs.declared.disk.Disk.{Disk}
 use Rattle.boards.specs.declared.row.Row.{Row}
+use Rattle.tee_base.specs.Words.{Image}
 
 -- how many blocks it has
 abbrev pub size_of : Disk → ℕ
@@ -52,7 +53,7 @@ pub record IsWhole (d : Disk) : Type 0 where
   pub orders : d.orders < 2 ^ 64
 
 -- a write that isn't refused offers its bytes, and a crash may leave some of them
-pub record Offers (block : ℕ) (bytes : List ℕ) (refused : Bool) (pending : ℕ → Bool) (old new : ℕ → List ℕ) : Type 0 where
+pub record Offers (block : ℕ) (bytes : List ℕ) (refused : Bool) (pending : ℕ → Bool) (old new : Image) : Type 0 where
   pub here : refused ≡ false → new block ≡ bytes
   pub pending_here : refused ≡ false → pending block ≡ true
   pub elsewhere : (k : ℕ) → k ≢ block → new k ≡ old k

@@ -6,8 +6,9 @@ use Rattle.board.specs.declared.fuse.Fate.TheVariants.{Pass, Interrupt, Refuse}
 use Rattle.board.specs.declared.fuse.Fuse.TheVariants.{Unset}
 use Rattle.board.specs.Fuse.{fate_by, passes}
 use Rattle.board.specs.Moment.{View, IsSettled}
-use Rattle.board.specs.Steps.{capped}
+use Rattle.board.specs.Steps.{up_to_limit}
 use Rattle.boards.specs.Landing.{digits_of, landed_counter, landed_image}
+use Rattle.tee_base.specs.Words.{Key}
 
 -- the board in memory: what contracts see of every board, and what decides which of its calls fail and what a crash leaves
 pub record Memory : Type 0 where
@@ -38,8 +39,8 @@ next_fate m = fate_of (is_named m.calls m.failing) (fate_by m.view.fuse)
 -- a call passes exactly where it is possible, isn't named as failing, and the fuse lets it pass
 pub record IsExact (possible ok : Bool) (old new : Memory) : Type 0 where
   pub passed : ok ≡ (passes (next_fate old) && possible)
-  pub faults : new.view.state.faults ≡ (if ok then old.view.state.faults else capped (old.view.state.faults + 1))
-  pub calls : new.calls ≡ capped (old.calls + 1)
+  pub faults : new.view.state.faults ≡ (if ok then old.view.state.faults else up_to_limit (old.view.state.faults + 1))
+  pub calls : new.calls ≡ up_to_limit (old.calls + 1)
   pub failing : new.failing ≡ old.failing
 
 -- an order is no call of the device, and it can't fail
@@ -58,7 +59,7 @@ abbrev pub counter_after : ℕ → Memory → ℕ
 counter_after pick m = landed_counter m.unsettled pick m.view.state.counter
 
 -- a board that was just made: nothing is pending, and no call was made
-pub record IsNew (key : List ℕ) (size counter : ℕ) (m : Memory) : Type 0 where
+pub record IsNew (key : Key) (size counter : ℕ) (m : Memory) : Type 0 where
   pub its_key : m.view.key ≡ key
   pub its_size : m.view.size ≡ size
   pub its_counter : m.view.state.counter ≡ counter

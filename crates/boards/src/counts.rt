@@ -1,7 +1,7 @@
 //! The counts of a board over files, and its fuse.
 ghost use Rattle.std.specs.Prelude.{◌≡◌, ◌+◌, ◌%◌, ◌^◌, ◌≤◌, false, Ok, is_ok, IfOk, if◌then◌else◌};
-ghost use Rattle.board.specs.Fuse.{burnt, fate_by, passes};
-ghost use Rattle.board.specs.Steps.{capped};
+ghost use Rattle.board.specs.Fuse.{fuse_after_call, fate_by, passes};
+ghost use Rattle.board.specs.Steps.{up_to_limit};
 ghost use Rattle.tee_base.specs.Faults.{Rose};
 ghost use Rattle.board.specs.declared.fuse.Fuse.TheVariants.{Unset};
 
@@ -38,8 +38,8 @@ impl Counts {
     pub fn begin(&mut self) -> Result<(), BoardFailed>
         ensures ok { is_ok result ≡ passes (fate_by self.old.fuse) }
         ensures after { self.new ≡ record self.old {
-          fuse = burnt self.old.fuse;
-          faults = if is_ok result then self.old.faults else capped (self.old.faults + 1);
+          fuse = fuse_after_call self.old.fuse;
+          faults = if is_ok result then self.old.faults else up_to_limit (self.old.faults + 1);
         } }
         ensures later { self.old.faults ≤ self.new.faults }
         ensures cause { is_ok result ≡ false → Rose self.old.faults self.new.faults }
@@ -56,7 +56,7 @@ impl Counts {
         ensures ok { is_ok result ≡ is_ok answer }
         ensures value { IfOk result (λ value. answer ≡ Ok value) }
         ensures after { self.new ≡ record self.old {
-          faults = if is_ok result then self.old.faults else capped (self.old.faults + 1);
+          faults = if is_ok result then self.old.faults else up_to_limit (self.old.faults + 1);
         } }
         ensures later { self.old.faults ≤ self.new.faults }
         ensures cause { is_ok result ≡ false → Rose self.old.faults self.new.faults }
@@ -68,7 +68,7 @@ impl Counts {
     }
 
     fn fail(&mut self) -> BoardFailed
-        ensures after { self.new ≡ record self.old { faults = capped (self.old.faults + 1) } }
+        ensures after { self.new ≡ record self.old { faults = up_to_limit (self.old.faults + 1) } }
         ensures later { self.old.faults ≤ self.new.faults }
         ensures cause { Rose self.old.faults self.new.faults }
     {

@@ -2,7 +2,7 @@
 ghost use Rattle.std.specs.Prelude.{◌≡◌, ◌≢◌, ◌+◌, ◌-◌, ◌*◌, ◌/◌, ◌%◌, ◌^◌, ◌<◌, ◌≤◌, ℕ, if◌then◌else◌, ◌&&◌, ◌==◌, nat_lt, Bool, true, false, is_ok, OnOk, IfOk, length};
 ghost use Rattle.tee_base.specs.declared.limits.TheConstants.{BLOCK_BYTES};
 ghost use Rattle.board.specs.Fuse.{passes, is_interrupted, is_refused};
-ghost use Rattle.board.specs.Steps.{capped, Unchanged, Wrote, Synced, Counted, Advanced, Powered};
+ghost use Rattle.board.specs.Steps.{up_to_limit, Unchanged, Wrote, Synced, Counted, Advanced, Powered};
 ghost use Rattle.boards.specs.Image.{block_at};
 ghost use Rattle.boards.specs.Landing.{digits_of, landed_counter, landed_image};
 ghost use Rattle.boards.specs.Row.{IsRow};
@@ -83,7 +83,7 @@ impl Disk {
     /// Counts a fault.
     fn fail(&mut self) -> BoardFailed
         requires whole { IsWhole self.old }
-        ensures { self.new ≡ record self.old { faults = capped (self.old.faults + 1) } }
+        ensures { self.new ≡ record self.old { faults = up_to_limit (self.old.faults + 1) } }
     {
         self.faults = self.faults.saturating_add(1);
         BoardFailed
@@ -97,7 +97,7 @@ impl Disk {
         ensures size { size_of self.new ≡ size_of self.old }
         ensures ok { is_ok result ≡ passes fate }
         ensures faults { self.new.faults
-            ≡ (if passes fate then self.old.faults else capped (self.old.faults + 1)) }
+            ≡ (if passes fate then self.old.faults else up_to_limit (self.old.faults + 1)) }
         ensures orders { self.new.orders ≡ self.old.orders }
         ensures bytes { OnOk result (into.new ≡ (state_of self.old).reads block) }
         ensures unchanged { Unchanged (state_of self.old) (state_of self.new) }
@@ -118,7 +118,7 @@ impl Disk {
         ensures size { size_of self.new ≡ size_of self.old }
         ensures ok { is_ok result ≡ passes fate }
         ensures faults { self.new.faults
-            ≡ (if passes fate then self.old.faults else capped (self.old.faults + 1)) }
+            ≡ (if passes fate then self.old.faults else up_to_limit (self.old.faults + 1)) }
         ensures orders { self.new.orders ≡ self.old.orders }
         ensures wrote { Wrote block from.now (is_ok result) (state_of self.old)
             (state_of self.new) }
@@ -150,7 +150,7 @@ impl Disk {
         ensures ok { is_ok result ≡ passes fate }
         ensures value { IfOk result (λ n. n ≡ self.old.counter) }
         ensures faults { self.new.faults
-            ≡ (if passes fate then self.old.faults else capped (self.old.faults + 1)) }
+            ≡ (if passes fate then self.old.faults else up_to_limit (self.old.faults + 1)) }
         ensures orders { self.new.orders ≡ self.old.orders }
         ensures counted { Counted result (state_of self.old) (state_of self.new) }
         ensures offered { offered_of self.new ≡ offered_of self.old }
@@ -172,7 +172,7 @@ impl Disk {
         ensures unsettled { is_ok result ≡ false
             → self.new.unsettled ≡ (if is_interrupted fate then true else self.old.unsettled) }
         ensures faults { self.new.faults
-            ≡ (if is_ok result then self.old.faults else capped (self.old.faults + 1)) }
+            ≡ (if is_ok result then self.old.faults else up_to_limit (self.old.faults + 1)) }
         ensures orders { self.new.orders ≡ self.old.orders }
         ensures advanced { Advanced result (state_of self.old) (state_of self.new) }
         ensures refused { is_refused fate ≡ true
@@ -198,7 +198,7 @@ impl Disk {
         ensures size { size_of self.new ≡ size_of self.old }
         ensures ok { is_ok result ≡ passes fate }
         ensures faults { self.new.faults
-            ≡ (if passes fate then self.old.faults else capped (self.old.faults + 1)) }
+            ≡ (if passes fate then self.old.faults else up_to_limit (self.old.faults + 1)) }
         ensures orders { self.new.orders ≡ self.old.orders }
         ensures synced { Synced (is_ok result) (state_of self.old) (state_of self.new) }
         ensures offered { offered_of self.new ≡ offered_of self.old }

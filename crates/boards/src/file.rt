@@ -1,7 +1,7 @@
 //! A board over three files: the blocks, the counter and the keys. It is an edge that is trusted, and tells no contents.
 ghost use Rattle.std.specs.Prelude.{◌≡◌, ◌≢◌, ◌+◌, ◌-◌, ◌<◌, ◌^◌, true, false, not, Some, None, is_ok, IsErr, IfOk, OnErr};
-ghost use Rattle.board.specs.Fuse.{fate_by, passes, refitted};
-ghost use Rattle.board.specs.Steps.{capped, Called, Ordered};
+ghost use Rattle.board.specs.Fuse.{fate_by, passes, fuse_after_set};
+ghost use Rattle.board.specs.Steps.{up_to_limit, Called, Ordered};
 ghost use Rattle.board.specs.declared.fuse.Fuse.TheVariants.{Unset};
 
 use crate::counter::Counter;
@@ -161,7 +161,7 @@ impl<F: Read + Write + Seek + OpenFile + Drop> Board for FileBoard<F> {
 
     fn fuse(&mut self, calls: u32)
         ensures ordered { Ordered calls (view_of self.old) (view_of self.new) }
-        ensures fuse { (view_of self.new).fuse ≡ refitted (view_of self.old).fuse calls }
+        ensures fuse { (view_of self.new).fuse ≡ fuse_after_set (view_of self.old).fuse calls }
         ensures rest { KeepsFiles self.old self.new }
     {
         self.counts.order(u64::from(calls));

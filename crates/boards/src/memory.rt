@@ -1,8 +1,8 @@
 //! A board in memory, which is honest.
 ghost use Rattle.std.specs.Prelude.{◌≡◌, ◌+◌, ◌-◌, ◌*◌, ◌/◌, ◌%◌, ◌^◌, ◌<◌, ◌++◌, ℕ, Bool, true, false, IsTrue, IfOk, OnOk, OnErr, is_ok, nat_lt, length, replicate, vec_len, slice_index_or, List, [], if◌then◌else◌, refl};
 ghost use Rattle.tee_base.specs.declared.limits.TheConstants.{BLOCK_BYTES};
-ghost use Rattle.board.specs.Fuse.{refitted, is_interrupted, is_refused};
-ghost use Rattle.board.specs.Steps.{capped, Called, Ordered, Answered, Passes, Unchanged, Wrote, Synced, Counted, Advanced, Powered};
+ghost use Rattle.board.specs.Fuse.{fuse_after_set, is_interrupted, is_refused};
+ghost use Rattle.board.specs.Steps.{up_to_limit, Called, Ordered, Answered, Passes, Unchanged, Wrote, Synced, Counted, Advanced, Powered};
 ghost use Rattle.board.specs.declared.fuse.Fuse.TheVariants.{Unset};
 ghost use Rattle.boards.specs.Disk.{IsWhole, Offers};
 ghost use Rattle.boards.specs.Image.{block_at};
@@ -148,7 +148,7 @@ impl Board for MemBoard {
     fn write(&mut self, block: u64, from: &[u8; 1024]) -> Result<(), BoardFailed>
         requires { block < (view_of self.old).size }
         ensures call { Called (is_ok result) (view_of self.old) (view_of self.new) }
-        ensures writes { (view_of self.new).writes ≡ capped ((view_of self.old).writes + 1) }
+        ensures writes { (view_of self.new).writes ≡ up_to_limit ((view_of self.old).writes + 1) }
         ensures honest { IsHonest self.old
             → IsHonest self.new × Answered (view_of self.old) (view_of self.new)
             × Wrote block from.now (is_ok result) (view_of self.old).state
@@ -218,7 +218,7 @@ impl Board for MemBoard {
 
     fn fuse(&mut self, calls: u32)
         ensures ordered { Ordered calls (view_of self.old) (view_of self.new) }
-        ensures fuse { (view_of self.new).fuse ≡ refitted (view_of self.old).fuse calls }
+        ensures fuse { (view_of self.new).fuse ≡ fuse_after_set (view_of self.old).fuse calls }
         ensures honest { IsHonest self.old
             → IsHonest self.new × Passes (view_of self.old) (view_of self.new)
             × Unchanged (view_of self.old).state (view_of self.new).state }

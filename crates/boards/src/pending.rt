@@ -1,6 +1,6 @@
 //! The blocks that a crash may change: written, or their write interrupted, since the last sync.
 ghost use Rattle.std.specs.Prelude.{◌≡◌, ◌<◌, ℕ, [], IfOk, ◌++◌, take, drop, length, vec_len, slice_index_or};
-ghost use Rattle.boards.specs.Landing.{digit_at, landed};
+ghost use Rattle.boards.specs.Landing.{digit_at, block_after_crash};
 ghost use Rattle.boards.specs.Places.{is_listed, place_in};
 
 use crate::block_list::BlockList;
@@ -100,7 +100,7 @@ impl Pending {
         requires pending { IsPending self.now }
         requires within { place < vec_len self.now.listed.blocks }
         ensures { result
-            ≡ landed (digit_at digits (is_listed self.now.listed.blocks.items)
+            ≡ block_after_crash (digit_at digits (is_listed self.now.listed.blocks.items)
             (slice_index_or self.now.listed.blocks.items place 0))
             (slice_index_or self.now.durable.items place [])
             (slice_index_or self.now.offered.items place []) }
@@ -112,7 +112,7 @@ impl Pending {
 
 /// What power leaves of a block.
 fn landed_block(digit: u64, durable: &[u8; 1024], offered: &[u8; 1024]) -> [u8; 1024]
-    ensures { result ≡ landed digit durable.now offered.now }
+    ensures { result ≡ block_after_crash digit durable.now offered.now }
 {
     match digit {
         0 => *durable,

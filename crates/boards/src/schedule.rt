@@ -1,7 +1,7 @@
 //! Which calls of a device in memory are interrupted.
 ghost use Rattle.std.specs.Prelude.{◌≡◌, ◌+◌, ◌++◌, OnOk, OnErr};
-ghost use Rattle.board.specs.Fuse.{burnt, fate_by};
-ghost use Rattle.board.specs.Steps.{capped};
+ghost use Rattle.board.specs.Fuse.{fuse_after_call, fate_by};
+ghost use Rattle.board.specs.Steps.{up_to_limit};
 ghost use Rattle.boards.specs.Memory.{fate_of, is_named};
 
 use board::fuse::{Fate, Fuse};
@@ -20,8 +20,8 @@ impl Schedule {
     pub fn next(&mut self) -> Fate
         ensures fate { result
             ≡ fate_of (is_named self.old.calls self.old.failing.items) (fate_by self.old.fuse) }
-        ensures calls { self.new.calls ≡ capped (self.old.calls + 1) }
-        ensures fuse { self.new.fuse ≡ burnt self.old.fuse }
+        ensures calls { self.new.calls ≡ up_to_limit (self.old.calls + 1) }
+        ensures fuse { self.new.fuse ≡ fuse_after_call self.old.fuse }
         ensures failing { self.new.failing ≡ self.old.failing }
     {
         let named = self.failing.contains(&self.calls);

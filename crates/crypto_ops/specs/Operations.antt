@@ -7,7 +7,7 @@ use Rattle.tee_base.specs.KeySizes.{size_fits}
 use Rattle.secret.specs.Bits.{bits_of}
 use Rattle.aes_modes.specs.declared.modes.Mode as modes
 use Rattle.aes_modes.specs.declared.modes.Mode.TheVariants.{Ecb, Cbc, Ctr}
-use Rattle.aes_modes.specs.Conversion.{Conversion, text_of, extended, needed_of, ends_within}
+use Rattle.aes_modes.specs.Conversion.{Conversion, text_of, with_more, needed_of, ends_within}
 use Rattle.mac_digest.specs.Hash.{digest_of, digest_len}
 use Rattle.mac_digest.specs.Hmac.{hmac_of}
 use Rattle.crypto_ops.specs.Algorithms.{algorithm_at, algorithm_number, mode_number, key_kind, greatest_fits, key_fits, usage_bit, is_cipher, is_mac, is_digest, mode_of, way_of, hash_of}
@@ -15,6 +15,7 @@ use Rattle.crypto_ops.specs.declared.algorithm.Algorithm.{Algorithm}
 use Rattle.crypto_ops.specs.declared.answer.OpAnswer.{OpAnswer}
 use Rattle.crypto_ops.specs.declared.answer.OpAnswer.TheVariants.{NotSupported, Short, MacInvalid, Misuse, NoMemory}
 use Rattle.crypto_ops.specs.declared.about.OpAbout.{OpAbout}
+use Rattle.tee_base.specs.Words.{Key}
 
 -- the state of an operation: initial, or active with its vector and the whole message so far
 pub data Progress : Type 0 where
@@ -61,16 +62,16 @@ abbrev pub lacks_key : CryptoOperation → Bool
 lacks_key op = not (is_digest op.algorithm) && is_none op.key
 
 -- the operation in its initial state
-abbrev pub restarted : CryptoOperation → CryptoOperation
-restarted op = record op { progress = Initial }
+abbrev pub operation_at_start : CryptoOperation → CryptoOperation
+operation_at_start op = record op { progress = Initial }
 
 -- the operation at the start of a message
 abbrev pub begun : CryptoOperation → List ℕ → CryptoOperation
 begun op vector = record op { progress = Active vector [] }
 
 -- the operation with more bytes of its message
-abbrev pub continued : CryptoOperation → List ℕ → CryptoOperation
-continued op bytes = record op { progress = Active (vector_of op.progress) (message_of op.progress ++ bytes) }
+abbrev pub with_more_message : CryptoOperation → List ℕ → CryptoOperation
+with_more_message op bytes = record op { progress = Active (vector_of op.progress) (message_of op.progress ++ bytes) }
 
 -- a new operation (section 6.2.1)
 abbrev pub fresh : Algorithm → ℕ → CryptoOperation
@@ -83,8 +84,8 @@ allocated_of (Some algorithm) max_bits =
     if greatest_fits (key_kind algorithm) max_bits then Ok (fresh algorithm max_bits) else Err NotSupported
 
 -- a new operation of the algorithm and mode of these numbers, or the refusal (section 6.2.1)
-abbrev pub allocated : ℕ → ℕ → ℕ → Result CryptoOperation OpAnswer
-allocated number mode max_bits = allocated_of (algorithm_at number mode) max_bits
+abbrev pub allocate_answer : ℕ → ℕ → ℕ → Result CryptoOperation OpAnswer
+allocate_answer number mode max_bits = allocated_of (algorithm_at number mode) max_bits
 
 -- what is told of an operation (section 6.2.4)
 abbrev pub about_of : CryptoOperation → OpAbout
@@ -109,16 +110,16 @@ set_key_answer op kind usage secret =
     then Err Misuse else Ok tt
 
 -- the operation with this key
-abbrev pub keyed : CryptoOperation → List ℕ → CryptoOperation
-keyed op secret = record op { key = Some secret }
+abbrev pub with_key : CryptoOperation → List ℕ → CryptoOperation
+with_key op secret = record op { key = Some secret }
 
 -- the key is taken away (section 6.2.6): not on a digest or an active operation
 abbrev pub clear_key_answer : CryptoOperation → Result (Unit {0}) OpAnswer
 clear_key_answer op = if is_digest op.algorithm || is_active op.progress then Err Misuse else Ok tt
 
 -- the operation without a key
-abbrev pub unkeyed : CryptoOperation → CryptoOperation
-unkeyed op = record op { key = None }
+abbrev pub without_key : CryptoOperation → CryptoOperation
+without_key op = record op { key = None }
 
 -- whether its key may be set or taken away at all, whatever key comes: not of a digest or an active operation
 abbrev pub may_change_key : CryptoOperation → Bool
@@ -135,8 +136,8 @@ copy_answer to from =
     then Err Misuse else Ok tt
 
 -- the operation with key and state of another
-abbrev pub copied : CryptoOperation → CryptoOperation → CryptoOperation
-copied to from = record to { key = from.key; progress = from.progress }
+abbrev pub with_copy_of : CryptoOperation → CryptoOperation → CryptoOperation
+with_copy_of to from = record to { key = from.key; progress = from.progress }
 
 -- what a cipher converts: its message so far under its key and vector
 abbrev pub conversion_of : CryptoOperation → Conversion
@@ -180,7 +181,7 @@ text_so_far op = text_of (conversion_of op)
 
 -- the next part of a conversion's text, for more bytes of its message
 abbrev pub part_of : Conversion → List ℕ → List ℕ
-part_of c bytes = drop (length (text_of c)) (text_of (extended c bytes))
+part_of c bytes = drop (length (text_of c)) (text_of (with_more c bytes))
 
 -- the next part of what a cipher gives, for more bytes of its message
 abbrev pub next_part : CryptoOperation → List ℕ → List ℕ
@@ -240,13 +241,13 @@ mac_compare_answer op bytes mac =
     else if bytes_eq mac (mac_of op bytes) then Ok tt else Err MacInvalid
 
 -- the operation after a comparison: initial, whatever the codes were, but not after misuse
-abbrev pub compared : Result (Unit {0}) OpAnswer → CryptoOperation → CryptoOperation
-compared (Ok done) op = restarted op
-compared (Err MacInvalid) op = restarted op
-compared (Err NotSupported) op = op
-compared (Err (Short needed)) op = op
-compared (Err Misuse) op = op
-compared (Err NoMemory) op = op
+abbrev pub after_comparison : Result (Unit {0}) OpAnswer → CryptoOperation → CryptoOperation
+after_comparison (Ok done) op = operation_at_start op
+after_comparison (Err MacInvalid) op = operation_at_start op
+after_comparison (Err NotSupported) op = op
+after_comparison (Err (Short needed)) op = op
+after_comparison (Err Misuse) op = op
+after_comparison (Err NoMemory) op = op
 
 -- more bytes of a digest's message, which makes it active (section 6.3.1)
 abbrev pub digest_update_answer : CryptoOperation → List ℕ → Result (Unit {0}) OpAnswer
@@ -284,7 +285,7 @@ abbrev pub after_ok : {A : Type 0} → Result A OpAnswer → CryptoOperation →
 after_ok result old new = if is_ok result then new else old
 
 -- the kind is one that this key fits; there is none for a digest
-abbrev pub KeyOfKind : Option ℕ → ℕ → List ℕ → Type 0
+abbrev pub KeyOfKind : Option ℕ → ℕ → Key → Type 0
 KeyOfKind None max_bits key = ⊥
 KeyOfKind (Some kind) max_bits key = IsTrue (size_fits kind (bits_of key)) × (bits_of key ≤ max_bits)
 

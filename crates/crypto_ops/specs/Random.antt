@@ -2,9 +2,10 @@
 use Rattle.std.specs.Prelude.{ℕ, zero, suc, ◌+◌, ◌*◌, ◌/◌, ◌%◌, ◌^◌, List, [], ◌++◌, take}
 use Rattle.std.specs.Int.{w32, to_le_bytes}
 use Rattle.rand_chacha.specs.ChaCha.{ChaCha, word_at, key_of}
+use Rattle.tee_base.specs.Words.{Key}
 
 -- the bytes of so many words of a stream from a place on, low byte first; places go on from 2^68 - 1 to 0
-unfoldable pub words_from : List ℕ → ℕ → ℕ → ℕ → List ℕ
+unfoldable pub words_from : Key → ℕ → ℕ → ℕ → List ℕ
 words_from key stream place zero = []
 words_from key stream place (suc count) =
     words_from key stream place count ++ to_le_bytes w32 (word_at 10 key stream ((place + count) % 2 ^ 68))
@@ -26,8 +27,8 @@ abbrev pub random_from : ChaCha → ℕ → List ℕ
 random_from s count = take count (words_from s.key s.stream s.word_pos (words_for count))
 
 -- the stream behind these bytes: what a last word has over is dropped
-abbrev pub moved : ChaCha → ℕ → ChaCha
-moved s count = record s { word_pos = (s.word_pos + words_for count) % 2 ^ 68 }
+abbrev pub stream_after : ChaCha → ℕ → ChaCha
+stream_after s count = record s { word_pos = (s.word_pos + words_for count) % 2 ^ 68 }
 
 -- the random bytes of an application in one boot, from a place on
 abbrev pub random : List ℕ → ℕ → ℕ → ℕ → ℕ → List ℕ

@@ -2,9 +2,9 @@
 
 ghost use Rattle.std.specs.Prelude.{◌≡◌, ◌+◌, ◌≤◌, ◌++◌, length, IfOk, IfErr, OnOk, OnErr, if◌then◌else◌};
 ghost use Rattle.tee_base.specs.declared.limits.TheConstants.{MAX_ASK_BYTES};
-ghost use Rattle.aes_modes.specs.Conversion.{Conversion, text_of, extended, needed_of, ends_within};
+ghost use Rattle.aes_modes.specs.Conversion.{Conversion, text_of, with_more, needed_of, ends_within};
 ghost use Rattle.aes_modes.specs.Stream as streams;
-ghost use Rattle.crypto_ops.specs.Operations.{CryptoOperation, is_vector, first_vector, part_of, content_within, cipher_init_answer, cipher_begun, text_so_far, continued, cipher_update_answer, cipher_final_answer, restarted, after_ok, Answers, IsNoMemoryOrShort};
+ghost use Rattle.crypto_ops.specs.Operations.{CryptoOperation, is_vector, first_vector, part_of, content_within, cipher_init_answer, cipher_begun, text_so_far, with_more_message, cipher_update_answer, cipher_final_answer, operation_at_start, after_ok, Answers, IsNoMemoryOrShort};
 ghost use Rattle.crypto_ops.specs.Represents.{Represents};
 
 use crate::algorithm::Algorithm;
@@ -72,9 +72,9 @@ fn converted(alloc: Global, stream: &mut Stream, bytes: &[u8], room: u32) -> Res
         → Answers result
         (content_within room (needed_of c (length bytes.now)) (part_of c bytes.now)) }
     ensures joined { (c : Conversion) → streams.Represents stream.old c
-        → IfOk result (λ part. text_of (extended c bytes.now) ≡ text_of c ++ part) }
+        → IfOk result (λ part. text_of (with_more c bytes.now) ≡ text_of c ++ part) }
     ensures taken { (c : Conversion) → streams.Represents stream.old c
-        → OnOk result (streams.Represents stream.new (extended c bytes.now)) }
+        → OnOk result (streams.Represents stream.new (with_more c bytes.now)) }
     ensures unchanged { OnErr result (stream.new ≡ stream.old) }
 {
     let needed = needed_for(stream, bytes.len());
@@ -130,9 +130,10 @@ impl Operation {
         ensures answer { (op : CryptoOperation) → Represents self.old op
             → Answers result (cipher_update_answer op bytes.now room) }
         ensures joined { (op : CryptoOperation) → Represents self.old op
-            → IfOk result (λ part. text_so_far (continued op bytes.now) ≡ text_so_far op ++ part) }
+            → IfOk result (λ part. text_so_far (with_more_message op bytes.now)
+            ≡ text_so_far op ++ part) }
         ensures after { (op : CryptoOperation) → Represents self.old op
-            → Represents self.new (after_ok result op (continued op bytes.now)) }
+            → Represents self.new (after_ok result op (with_more_message op bytes.now)) }
     {
         if is_too_much(bytes.len()) || is_too_much(room as usize) {
             return Err(OpAnswer::Misuse);
@@ -158,9 +159,10 @@ impl Operation {
         ensures answer { (op : CryptoOperation) → Represents self.old op
             → Answers result (cipher_final_answer op bytes.now room) }
         ensures joined { (op : CryptoOperation) → Represents self.old op
-            → IfOk result (λ part. text_so_far (continued op bytes.now) ≡ text_so_far op ++ part) }
+            → IfOk result (λ part. text_so_far (with_more_message op bytes.now)
+            ≡ text_so_far op ++ part) }
         ensures after { (op : CryptoOperation) → Represents self.old op
-            → Represents self.new (after_ok result op (restarted op)) }
+            → Represents self.new (after_ok result op (operation_at_start op)) }
     {
         if is_too_much(bytes.len()) || is_too_much(room as usize) {
             return Err(OpAnswer::Misuse);

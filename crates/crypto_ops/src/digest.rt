@@ -3,7 +3,7 @@
 ghost use Rattle.std.specs.Prelude.{◌≡◌, true};
 ghost use Rattle.mac_digest.specs.Digester.{HoldsMessage};
 ghost use Rattle.crypto_ops.specs.Algorithms as table;
-ghost use Rattle.crypto_ops.specs.Operations.{CryptoOperation, message_of, digest_update_answer, continued, digest_final_answer, restarted, after_ok, Answers};
+ghost use Rattle.crypto_ops.specs.Operations.{CryptoOperation, message_of, digest_update_answer, with_more_message, digest_final_answer, operation_at_start, after_ok, Answers};
 ghost use Rattle.crypto_ops.specs.Represents.{Represents};
 
 use crate::algorithm::Algorithm;
@@ -24,7 +24,7 @@ impl Operation {
         ensures answer { (op : CryptoOperation) → Represents self.old op
             → result ≡ digest_update_answer op bytes.now }
         ensures after { (op : CryptoOperation) → Represents self.old op
-            → Represents self.new (after_ok result op (continued op bytes.now)) }
+            → Represents self.new (after_ok result op (with_more_message op bytes.now)) }
     {
         let Algorithm::Digest(hash) = self.algorithm else {
             return Err(OpAnswer::Misuse);
@@ -53,7 +53,7 @@ impl Operation {
         ensures answer { (op : CryptoOperation) → Represents self.old op
             → Answers result (digest_final_answer op bytes.now room) }
         ensures after { (op : CryptoOperation) → Represents self.old op
-            → Represents self.new (after_ok result op (restarted op)) }
+            → Represents self.new (after_ok result op (operation_at_start op)) }
     {
         let Algorithm::Digest(hash) = self.algorithm else {
             return Err(OpAnswer::Misuse);

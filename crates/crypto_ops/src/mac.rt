@@ -1,7 +1,7 @@
 //! Authentication codes by HMAC (TEE Internal Core API 1.3, section 6.5).
 
 ghost use Rattle.std.specs.Prelude.{◌≡◌, ◌≤◌, length, IfOk, IfErr, Err};
-ghost use Rattle.crypto_ops.specs.Operations.{CryptoOperation, mac_init_answer, mac_begun, mac_update_answer, continued, mac_final_answer, mac_compare_answer, compared, restarted, after_ok, Answers};
+ghost use Rattle.crypto_ops.specs.Operations.{CryptoOperation, mac_init_answer, mac_begun, mac_update_answer, with_more_message, mac_final_answer, mac_compare_answer, after_comparison, operation_at_start, after_ok, Answers};
 ghost use Rattle.crypto_ops.specs.Represents.{Represents};
 
 use crate::algorithm::Algorithm;
@@ -53,7 +53,7 @@ impl Operation {
         ensures answer { (op : CryptoOperation) → Represents self.old op
             → result ≡ mac_update_answer op bytes.now }
         ensures after { (op : CryptoOperation) → Represents self.old op
-            → Represents self.new (after_ok result op (continued op bytes.now)) }
+            → Represents self.new (after_ok result op (with_more_message op bytes.now)) }
     {
         if is_too_much(bytes.len()) {
             return Err(OpAnswer::Misuse);
@@ -75,7 +75,7 @@ impl Operation {
         ensures answer { (op : CryptoOperation) → Represents self.old op
             → Answers result (mac_final_answer op bytes.now room) }
         ensures after { (op : CryptoOperation) → Represents self.old op
-            → Represents self.new (after_ok result op (restarted op)) }
+            → Represents self.new (after_ok result op (operation_at_start op)) }
     {
         if is_too_much(bytes.len()) || is_too_much(room as usize) {
             return Err(OpAnswer::Misuse);
@@ -103,7 +103,7 @@ impl Operation {
         ensures answer { (op : CryptoOperation) → Represents self.old op
             → result ≡ mac_compare_answer op bytes.now mac.now }
         ensures after { (op : CryptoOperation) → Represents self.old op
-            → Represents self.new (compared result op) }
+            → Represents self.new (after_comparison result op) }
     {
         if is_too_much(bytes.len()) || is_too_much(mac.len()) {
             return Err(OpAnswer::Misuse);

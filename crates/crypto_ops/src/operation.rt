@@ -3,7 +3,7 @@
 ghost use Rattle.std.specs.Prelude.{◌≡◌, ◌≤◌, length};
 ghost use Rattle.std.specs.Bool.{OnTrue};
 ghost use Rattle.tee_base.specs.declared.limits.TheConstants.{MAX_SECRET_BYTES};
-ghost use Rattle.crypto_ops.specs.Operations.{CryptoOperation, allocated, about_of, key_bits, lacks_key, reset_answer, restarted, set_key_answer, keyed, clear_key_answer, unkeyed, may_change_key, is_same_algorithm, copy_answer, copied, after_ok, is_too_much, is_active};
+ghost use Rattle.crypto_ops.specs.Operations.{CryptoOperation, allocate_answer, about_of, key_bits, lacks_key, reset_answer, operation_at_start, set_key_answer, with_key, clear_key_answer, without_key, may_change_key, is_same_algorithm, copy_answer, with_copy_of, after_ok, is_too_much, is_active};
 ghost use Rattle.secret.specs.Bits.{bits_of};
 ghost use Rattle.crypto_ops.specs.Represents.{Represents, IsAllocated};
 ghost use Rattle.crypto_ops.specs.Algorithms as table;
@@ -64,7 +64,7 @@ impl Operation {
     /// NotSupported exactly where there is no such algorithm or mode, or the greatest size of its key in bits
     /// doesn't fit the kind of key.
     pub fn new(alg: u32, mode: u32, max_bits: u32) -> Result<Operation, OpAnswer>
-        ensures { IsAllocated result (allocated alg mode max_bits) }
+        ensures { IsAllocated result (allocate_answer alg mode max_bits) }
     {
         let Some(algorithm) = algorithm_at(alg, mode) else {
             return Err(OpAnswer::NotSupported);
@@ -102,7 +102,7 @@ impl Operation {
         ensures answer { (op : CryptoOperation) → Represents self.old op
             → result ≡ reset_answer op }
         ensures after { (op : CryptoOperation) → Represents self.old op
-            → Represents self.new (after_ok result op (restarted op)) }
+            → Represents self.new (after_ok result op (operation_at_start op)) }
     {
         if !self.algorithm.is_digest() && self.key.is_none() {
             return Err(OpAnswer::Misuse);
@@ -121,7 +121,7 @@ impl Operation {
         ensures answer { (op : CryptoOperation) → Represents self.old op
             → result ≡ set_key_answer op kind usage secret.now }
         ensures after { (op : CryptoOperation) → Represents self.old op
-            → Represents self.new (after_ok result op (keyed op secret.now)) }
+            → Represents self.new (after_ok result op (with_key op secret.now)) }
     {
         if self.is_active() || !key_fits(self.algorithm, kind, secret) {
             return Err(OpAnswer::Misuse);
@@ -143,7 +143,7 @@ impl Operation {
         ensures answer { (op : CryptoOperation) → Represents self.old op
             → result ≡ clear_key_answer op }
         ensures after { (op : CryptoOperation) → Represents self.old op
-            → Represents self.new (after_ok result op (unkeyed op)) }
+            → Represents self.new (after_ok result op (without_key op)) }
     {
         if self.algorithm.is_digest() || self.is_active() {
             return Err(OpAnswer::Misuse);
@@ -170,7 +170,7 @@ impl Operation {
             → Represents from.now other → result ≡ copy_answer to other }
         ensures after { (to other : CryptoOperation) → Represents self.old to
             → Represents from.now other
-            → Represents self.new (after_ok result to (copied to other)) }
+            → Represents self.new (after_ok result to (with_copy_of to other)) }
     {
         if !is_same(self.algorithm, from.algorithm) || from.key_bits() > self.max_bits {
             return Err(OpAnswer::Misuse);

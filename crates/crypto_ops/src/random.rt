@@ -1,7 +1,7 @@
 //! The random bytes of an application.
 
 ghost use Rattle.std.specs.Prelude.{◌≡◌, ◌<◌, ◌^◌, ℕ, List, IfOk, OnOk, OnErr, length};
-ghost use Rattle.crypto_ops.specs.Random.{stream_at, random, random_from, moved};
+ghost use Rattle.crypto_ops.specs.Random.{stream_at, random, random_from, stream_after};
 
 use rand_chacha::ChaCha20Rng;
 use rand_core::SeedableRng;
@@ -47,7 +47,7 @@ impl Stream {
         ensures of_seed { (seed : List ℕ) (application boot place : ℕ)
             → self.old ≡ stream_at seed application boot place
             → IfOk result (λ bytes. bytes ≡ random seed application boot place count) }
-        ensures moved { OnOk result (self.new ≡ moved self.old count) }
+        ensures moved { OnOk result (self.new ≡ stream_after self.old count) }
         ensures unchanged { OnErr result (self.new ≡ self.old) }
     {
         let mut bytes = vec![in alloc; 0; count as usize]?;
@@ -60,7 +60,7 @@ impl Stream {
 fn fill(words: &mut ChaCha20Rng, bytes: &mut [u8])
     requires { words.old.word_pos < 2 ^ 68 }
     ensures bytes { bytes.new ≡ random_from words.old (length bytes.old) }
-    ensures moved { words.new ≡ moved words.old (length bytes.old) }
+    ensures moved { words.new ≡ stream_after words.old (length bytes.old) }
     ensures within { words.new.word_pos < 2 ^ 68 }
 {
     fill_bytes_via_u32(words, bytes);

@@ -4,7 +4,7 @@ use Rattle.std.proofs.lemmas.Bool.{cases_eq}
 use Rattle.tee_base.specs.Crash.{LeavesOnly}
 use Rattle.tee_base.proofs.Crash.{joined, weaker}
 use Rattle.board.specs.declared.BoardFailed.{BoardFailed}
-use Rattle.board.specs.Moment.{IsConsistent, IsLeft, Moment, Outcome, View, left_since, moment}
+use Rattle.board.specs.Moment.{IsConsistent, IsLeft, Moment, CrashImage, View, left_since, moment}
 use Rattle.board.specs.Runs.{LeavesBase, RunsOver}
 use Rattle.board.specs.Steps.{Advanced, Answered, SameBlocks, Synced, Wrote}
 use Rattle.board.proofs.Runs.{goes_on, run_starts, starts}

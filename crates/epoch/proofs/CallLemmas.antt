@@ -3,7 +3,7 @@ use Rattle.std.proofs.Common.{◌≡◌, ◌≤◌, ◌<◌, ◌-◌, ◌^◌, �
 use Rattle.std.specs.Prelude.{IsErr}
 use Rattle.std.proofs.lemmas.Bool.{false≢true}
 use Rattle.tee_base.specs.Faults.{Rose}
-use Rattle.board.specs.Fuse.{burnt}
+use Rattle.board.specs.Fuse.{fuse_after_call}
 use Rattle.board.specs.Moment.{View}
 use Rattle.board.specs.Steps.{Called, CallRun}
 use Rattle.store_api.specs.declared.leaves.LeafAnswer.{LeafAnswer}
@@ -40,7 +40,7 @@ run_once ok old new called = record {
   faults = called.faults;
   cause = called.cause;
   steady = called.steady;
-  unset = λ none. called.fuse ∙ ap burnt none;
+  unset = λ none. called.fuse ∙ ap fuse_after_call none;
 }
 
 -- a run behind another

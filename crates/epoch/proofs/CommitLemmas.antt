@@ -7,10 +7,10 @@ use Rattle.tee_base.specs.Crash.{LeavesOnly}
 use Rattle.tee_base.specs.declared.limits.TheConstants.{BLOCK_BYTES, MAX_HOSTS}
 use Rattle.tee_base.proofs.Crash.{joined, weaker}
 use Rattle.store_api.specs.Volumes.{Held}
-use Rattle.board.specs.Moment.{Outcome, Moment, View, IsLeft, moment, left_since}
+use Rattle.board.specs.Moment.{CrashImage, Moment, View, IsLeft, moment, left_since}
 use Rattle.board.specs.Runs.{LeavesBase, RunsOver, Rests}
 use Rattle.epoch.specs.Commits.{BeforeOrAfter, IsMounted, IsSteady, IsWritten, OpensTo, next_held, spare}
-use Rattle.epoch.specs.Forms.{Form, IsBlankRoot, IsFramed, Root, SameUsed, all_below, blank_leaves, held, held_by, held_of, is_leaf, is_sealed, leaves_of, root_of}
+use Rattle.epoch.specs.Forms.{Form, IsBlankRoot, IsFramed, Root, SameUsed, all_below, blank_leaves, held_in, held_by, held_of, is_leaf, is_sealed, leaves_of, root_of}
 use Rattle.epoch.specs.Gates.{gate_at, header_at, gate_open}
 use Rattle.epoch.specs.Opening.{opening_of}
 use Rattle.epoch.specs.Slots.{header_slot, slot_of}
@@ -92,7 +92,7 @@ is_current f n root (Ok (Some found)) opens = opens.0
 is_current f n root (Err answer) opens = absurd opens
 
 -- what a crash of a board at rest leaves
-rest_outcome : Moment → ℕ → Outcome
+rest_outcome : Moment → ℕ → CrashImage
 rest_outcome m n = record { image = m.reads; counter = n; faults = m.faults; orders = m.orders }
 
 rest_left : (m : Moment) (n : ℕ) → Rests n m → n < 2 ^ 64 → IsLeft m (rest_outcome m n)
@@ -166,15 +166,15 @@ module _ (f : Form) (framed : IsFramed f) (key : List ℕ) where
 
   pub held_before : (root : Root) (h : Held) (m : Moment) (image : ℕ → List ℕ) (counter : ℕ) → IsMounted f key root h m
       → opening_of f.known key image counter ≡ opening_of f.known key m.reads h.sequence → SameUsed f key root m.reads image
-      → held f key image counter ≡ Some h
-  unfolding held
+      → held_in f key image counter ≡ Some h
+  unfolding held_in
   held_before root h m image counter mounted e same =
       ap (held_by f key image) e ∙ holds_by (opening_of f.known key m.reads h.sequence) root h m.reads image mounted.opens mounted.sealed mounted.leaves mounted.version same
 
   pub held_after : (root : Root) (leaves : ℕ → ℕ → List ℕ) (n : ℕ) (base image : ℕ → List ℕ) (counter : ℕ) (found : Found) → opening_of f.known key image counter ≡ Ok (Some found)
       → OpensTo f (n + 1) root (Ok (Some found)) → root.version ≡ f.version → IsWritten f key root leaves base → SameUsed f key root base image
-      → held f key image counter ≡ Some (next_held f leaves n)
-  unfolding held
+      → held_in f key image counter ≡ Some (next_held f leaves n)
+  unfolding held_in
   held_after root leaves n base image counter found e opens kind written same =
       ap (held_by f key image) e ∙ holds_by (Ok (Some found)) root (next_held f leaves n) base image opens written.sealed (sym written.leaves_are) (sym kind) same
 
@@ -191,7 +191,7 @@ module _ (f : Form) (framed : IsFramed f) (key : List ℕ) where
   }
 
   -- what is held by a board that is mounted
-  pub mounted_holds : (root : Root) (h : Held) (m : Moment) → IsMounted f key root h m → held f key m.reads h.sequence ≡ Some h
+  pub mounted_holds : (root : Root) (h : Held) (m : Moment) → IsMounted f key root h m → held_in f key m.reads h.sequence ≡ Some h
   mounted_holds root h m mounted = held_before root h m m.reads h.sequence mounted refl (λ k used. refl)
 
   module _ (root : Root) (h : Held) (slot : ℕ) (is_slot : slot ≡ (h.sequence + 1) % 2) where
@@ -221,7 +221,7 @@ module _ (f : Form) (framed : IsFramed f) (key : List ℕ) where
     shut_same : (base : ℕ → List ℕ) (image : ℕ → List ℕ) → ((k : ℕ) → shut_writes slot base k ≡ false → image k ≡ base k) → SameUsed f key root base image
     shut_same base image same k used = same k (no_gate base base k used)
 
-    pub shut_holds : (m : Moment) (c : Outcome) → IsMounted f key root h m → LeavesBase (shut_writes slot m.reads) m.reads h.sequence h.sequence c → held_of f key c ≡ Some h
+    pub shut_holds : (m : Moment) (c : CrashImage) → IsMounted f key root h m → LeavesBase (shut_writes slot m.reads) m.reads h.sequence h.sequence c → held_of f key c ≡ Some h
     shut_holds m c mounted leaves =
         let counter : c.counter ≡ h.sequence = omega (arith, leaves.least, leaves.greatest) in
         held_before root h m c.image c.counter mounted
@@ -244,7 +244,7 @@ module _ (f : Form) (framed : IsFramed f) (key : List ℕ) where
     spare_same : (base image : ℕ → List ℕ) → ((k : ℕ) → spare f key base root slot k ≡ false → image k ≡ base k) → SameUsed f key root base image
     spare_same base image same k used = same k (not_spare base k used)
 
-    pub spare_holds : (m : Moment) (c : Outcome) → IsMounted f key root h m → gate_open (m.reads (gate_at slot)) ≡ false
+    pub spare_holds : (m : Moment) (c : CrashImage) → IsMounted f key root h m → gate_open (m.reads (gate_at slot)) ≡ false
         → LeavesBase (spare f key m.reads root slot) m.reads h.sequence h.sequence c → held_of f key c ≡ Some h
     spare_holds m c mounted shut leaves =
         let counter : c.counter ≡ h.sequence = omega (arith, leaves.least, leaves.greatest) in
@@ -307,7 +307,7 @@ module _ (f : Form) (framed : IsFramed f) (key : List ℕ) where
     used_other root' base image at low same k used = same k (λ e. absurd (let far : 4 ≤ k = used_behind root' base k used in omega arith))
 
     -- within the opening of the gate
-    pub flip_holds : (m : Moment) (c : Outcome) (header : Header) (leaves : ℕ → ℕ → List ℕ) → header.version ≡ f.version → IsMounted f key root h m
+    pub flip_holds : (m : Moment) (c : CrashImage) (header : Header) (leaves : ℕ → ℕ → List ℕ) → header.version ≡ f.version → IsMounted f key root h m
         → IsLaid f.known key slot h.sequence header m → IsWritten f key (root_of header) leaves m.reads → LeavesFlip slot m.reads h.sequence c
         → BeforeOrAfter f key h (next_held f leaves h.sequence) c
     flip_holds m c header leaves kind mounted laid written left =

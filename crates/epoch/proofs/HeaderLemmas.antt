@@ -6,25 +6,25 @@ use Rattle.std.proofs.lemmas.Nat.{from_le_bytes-to_le_bytes_4, from_le_bytes-to_
 use Rattle.std.proofs.lemmas.Slice.Eq.{bytes_eq-Decides}
 use Rattle.seal.specs.Sealing.{le64}
 use Rattle.epoch.specs.Header.{header_tag, IsEntry, IsHeaderBlock}
-use Rattle.epoch.specs.Parts.{part, patched}
+use Rattle.epoch.specs.Parts.{part, with_bytes_at}
 use Rattle.epoch.specs.Slots.{header_slot}
 use Rattle.epoch.specs.declared.header.Header.{Header}
 use Rattle.epoch.specs.declared.header.TreeEntry.{TreeEntry}
 use Rattle.epoch.specs.declared.slots.Slot.TheVariants.{Good}
 
-pub part_here : (at : ℕ) (bytes block : List ℕ) → at + length bytes ≤ length block → part at (length bytes) (patched at bytes block) ≡ bytes
+pub part_here : (at : ℕ) (bytes block : List ℕ) → at + length bytes ≤ length block → part at (length bytes) (with_bytes_at at bytes block) ≡ bytes
 part_here at bytes block fits = same_lists _ _ (search (rules, places)) (λ k d h. grind (arith, places))
 
-pub part_before : (at n at' : ℕ) (bytes block : List ℕ) → at + n ≤ at' → at' + length bytes ≤ length block → part at n (patched at' bytes block) ≡ part at n block
+pub part_before : (at n at' : ℕ) (bytes block : List ℕ) → at + n ≤ at' → at' + length bytes ≤ length block → part at n (with_bytes_at at' bytes block) ≡ part at n block
 part_before at n at' bytes block before fits = same_lists _ _ (search (rules, places)) (λ k d h. grind (arith, places))
 
-pub part_after : (at n at' : ℕ) (bytes block : List ℕ) → at' + length bytes ≤ at → at' + length bytes ≤ length block → part at n (patched at' bytes block) ≡ part at n block
+pub part_after : (at n at' : ℕ) (bytes block : List ℕ) → at' + length bytes ≤ at → at' + length bytes ≤ length block → part at n (with_bytes_at at' bytes block) ≡ part at n block
 part_after at n at' bytes block after fits = same_lists _ _ (search (rules, places)) (λ k d h. grind (arith, places))
 
 pub part_part : (at n at' n' : ℕ) (block : List ℕ) → at' + n' ≤ n → part at' n' (part at n block) ≡ part (at + at') n' block
 part_part at n at' n' block fits = same_lists _ _ (search (rules, places)) (λ k d h. grind (arith, places))
 
-pub length-patched : (at : ℕ) (bytes block : List ℕ) → at + length bytes ≤ length block → length (patched at bytes block) ≡ length block
+pub length-patched : (at : ℕ) (bytes block : List ℕ) → at + length bytes ≤ length block → length (with_bytes_at at bytes block) ≡ length block
 length-patched at bytes block fits = search (rules, places)
 
 -- pieces of zeros are zeros
@@ -35,12 +35,12 @@ zeros_120 : part 120 904 (replicate 1024 0) ≡ replicate 904 0
 zeros_120 = refl
 
 -- what was written last
-here : (at n : ℕ) (bytes block : List ℕ) → length bytes ≡ n → at + n ≤ length block → part at n (patched at bytes block) ≡ bytes
-here at n bytes block long fits = subst (λ (k : ℕ). part at k (patched at bytes block) ≡ bytes) long (part_here at bytes block (omega (arith, long, fits)))
+here : (at n : ℕ) (bytes block : List ℕ) → length bytes ≡ n → at + n ≤ length block → part at n (with_bytes_at at bytes block) ≡ bytes
+here at n bytes block long fits = subst (λ (k : ℕ). part at k (with_bytes_at at bytes block) ≡ bytes) long (part_here at bytes block (omega (arith, long, fits)))
 
 module _ (entry : TreeEntry) (zero copy sequence p1 p2 p3 p4 : List ℕ) (long : length zero ≡ 64) (iv : length entry.iv ≡ 16) (tag : length entry.tag ≡ 32)
-    (is_copy : copy ≡ le64 entry.copy) (is_sequence : sequence ≡ le64 entry.sequence) (e1 : p1 ≡ patched 0 copy zero) (e2 : p2 ≡ patched 8 sequence p1)
-    (e3 : p3 ≡ patched 16 entry.iv p2) (e4 : p4 ≡ patched 32 entry.tag p3) where
+    (is_copy : copy ≡ le64 entry.copy) (is_sequence : sequence ≡ le64 entry.sequence) (e1 : p1 ≡ with_bytes_at 0 copy zero) (e2 : p2 ≡ with_bytes_at 8 sequence p1)
+    (e3 : p3 ≡ with_bytes_at 16 entry.iv p2) (e4 : p4 ≡ with_bytes_at 32 entry.tag p3) where
   copy_long : length copy ≡ 8
   copy_long = ap length is_copy
 
@@ -80,8 +80,8 @@ module _ (entry : TreeEntry) (zero copy sequence p1 p2 p3 p4 : List ℕ) (long :
 
 module _ (key : List ℕ) (slot : ℕ) (header : Header) (zero text version sequence entry tag p1 p2 p3 p4 p5 : List ℕ) (is_zero : zero ≡ replicate 1024 0)
     (is_text : text ≡ codes "TEEVOLUM") (is_version : version ≡ to_le_bytes w32 header.version) (is_sequence : sequence ≡ le64 header.sequence)
-    (is_entry : IsEntry header.root entry) (is_tag : tag ≡ header_tag key slot (take 88 p4)) (tag_long : length tag ≡ 32) (e1 : p1 ≡ patched 0 text zero)
-    (e2 : p2 ≡ patched 8 version p1) (e3 : p3 ≡ patched 16 sequence p2) (e4 : p4 ≡ patched 24 entry p3) (e5 : p5 ≡ patched 88 tag p4) where
+    (is_entry : IsEntry header.root entry) (is_tag : tag ≡ header_tag key slot (take 88 p4)) (tag_long : length tag ≡ 32) (e1 : p1 ≡ with_bytes_at 0 text zero)
+    (e2 : p2 ≡ with_bytes_at 8 version p1) (e3 : p3 ≡ with_bytes_at 16 sequence p2) (e4 : p4 ≡ with_bytes_at 24 entry p3) (e5 : p5 ≡ with_bytes_at 88 tag p4) where
   h0 : length zero ≡ 1024
   h0 = ap length is_zero ∙ length-replicate {A = ℕ} 1024 0
 

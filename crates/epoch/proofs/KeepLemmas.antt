@@ -12,7 +12,7 @@ use Rattle.store_api.specs.declared.leaves.LeafAnswer.{LeafAnswer}
 use Rattle.store_api.specs.declared.leaves.LeafAnswer.TheVariants as answers
 use Rattle.store_api.specs.Foundations.{Foundation}
 use Rattle.store_api.specs.Volumes.{Condition, Held, IfMismatch, IfUnwritten, IsUndamaged, IsVolumeCall, LeafCause, LeftByCommit, ShowsLeaf, UnlessFailed, VolumeKeeper, after_commit}
-use Rattle.board.specs.Moment.{Moment, Outcome, View, IsLeft, moment, left_since}
+use Rattle.board.specs.Moment.{Moment, CrashImage, View, IsLeft, moment, left_since}
 use Rattle.board.specs.declared.BoardFailed.{BoardFailed}
 use Rattle.board.specs.Runs.{LeavesBase, Rests}
 use Rattle.board.specs.Steps.{Advanced, CallRun, Passes, SameBlocks, Unchanged}
@@ -125,7 +125,7 @@ module _ (f : Form) (framed : IsFramed f) where
   }
 
   -- what a crash leaves whose blocks are those of an open volume, and whose counter is its sequence
-  left_holds : (view : View) (m : Moment) (root : Root) (sequence : ℕ) (c : Outcome) → IsInUse f view root sequence → SameBlocks view.state m
+  left_holds : (view : View) (m : Moment) (root : Root) (sequence : ℕ) (c : CrashImage) → IsInUse f view root sequence → SameBlocks view.state m
       → IsLeft m c → c.counter ≡ sequence → held_of f view.key c ≡ Some (held_now f view root sequence)
   left_holds view m root sequence c is same left counter =
       let rests = is.rests in

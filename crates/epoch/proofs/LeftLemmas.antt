@@ -2,18 +2,18 @@
 use Rattle.std.proofs.Common.{◌≡◌, ◌≤◌, ◌+◌, ◌∙◌, ℕ, List, [], ◌∷◌, Option, Some, length, refl, sym, ap, inl, inr, ⊎_elim, arith}
 use Rattle.tee_base.specs.Crash.{read_as}
 use Rattle.store_api.specs.Volumes.{Held}
-use Rattle.board.specs.Moment.{IsConsistent, IsCounter, Outcome, Moment, View, IsLeft, WasLeft, moment, left_since}
+use Rattle.board.specs.Moment.{IsConsistent, IsCounter, CrashImage, Moment, View, IsLeft, WasLeft, moment, left_since}
 use Rattle.epoch.specs.Forms.{Form, IsFramed, Root, held_of}
 use Rattle.epoch.specs.Keeping.{IsInUse, held_now}
 use Rattle.epoch.specs.Opening.{opening_of}
 use Rattle.epoch.proofs.CommitLemmas.{held_before, mounted_holds}
 
-was_earlier : (past : List Moment) (t u : ℕ) (c : Outcome) → t ≤ u → WasLeft past u c → WasLeft past t c
+was_earlier : (past : List Moment) (t u : ℕ) (c : CrashImage) → t ≤ u → WasLeft past u c → WasLeft past t c
 was_earlier [] t u c le was = was
 was_earlier (m ∷ past) t u c le was =
     ⊎_elim (λ (h : (u ≤ length past) × IsLeft m c). inl (let x = h.0 in omega arith, h.1)) (λ (w : WasLeft past u c). inr (was_earlier past t u c le w)) was
 
-none_now : (past : List Moment) (t : ℕ) (c : Outcome) → length past ≤ t → WasLeft past t c → ⊥
+none_now : (past : List Moment) (t : ℕ) (c : CrashImage) → length past ≤ t → WasLeft past t c → ⊥
 none_now [] t c late was = was
 none_now (m ∷ past) t c late was =
     ⊎_elim (λ (h : (t ≤ length past) × IsLeft m c). absurd (let x = h.0 in omega arith)) (λ (w : WasLeft past t c). none_now past t c (omega arith) w) was

@@ -6,14 +6,14 @@ use Rattle.std.proofs.lemmas.Bool.Decides.{nat_tests}
 use Rattle.tee_base.specs.Crash.{LeavesOnly, read_as}
 use Rattle.tee_base.proofs.Crash.{joined, mapped, weaker}
 use Rattle.store_api.specs.Volumes.{Held}
-use Rattle.board.specs.Moment.{IsConsistent, IsCounter, IsLeft, Moment, Outcome, View, WasLeft, left_since, moment}
+use Rattle.board.specs.Moment.{IsConsistent, IsCounter, IsLeft, Moment, CrashImage, View, WasLeft, left_since, moment}
 use Rattle.board.specs.Runs.{IsBase, LeavesBase, Rests, RunsOver}
 use Rattle.board.specs.Steps.{Answered, Passes, Powered, SameBlocks, Synced, Unchanged}
 use Rattle.board.proofs.Runs.{goes_on, run_starts, starts}
 use Rattle.epoch.specs.Commits.{IsMounted, OpensTo}
 use Rattle.epoch.specs.Finding.{Finds, IsSettledAt, OpensBelow, sequence_of}
 use Rattle.epoch.specs.Formats.{IsFormatOf, accepts}
-use Rattle.epoch.specs.Forms.{Form, IsBlankRoot, IsFramed, Root, blank_leaves, held, held_by, held_of, is_sealed, leaves_of, root_of}
+use Rattle.epoch.specs.Forms.{Form, IsBlankRoot, IsFramed, Root, blank_leaves, held_in, held_by, held_of, is_sealed, leaves_of, root_of}
 use Rattle.epoch.specs.Mounting.{AreSound, IsHolding, MightBe, Mounts, MountsAfterPower, MountsAgain, MountsTo, after_found, after_opening, opened_by}
 use Rattle.epoch.specs.Mounts.{IsAdmitted, IsKeptFromOpening, IsLeftSound, IsRefusal, IsRefusedNow, IsRuledBy, IsOpenedTo, IsRewritten, LeavesOpening, LeftByOpening, MakesBy, MakesOf, TakesUp}
 use Rattle.epoch.specs.Opening.{IsRuled, answer_at, found_header, header_answer, opening_by, opening_of, opens_as}
@@ -88,13 +88,13 @@ held_as f key image h (Ok (Some found)) e =
     )
 held_as f key image h (Err answer) e = absurd (cc)
 
-pub holds_as : (f : Form) (key : List ℕ) (image : ℕ → List ℕ) (n : ℕ) (h : Held) → held f key image n ≡ Some h → HeldAs f key image h (opening_of f.known key image n)
-unfolding held
+pub holds_as : (f : Form) (key : List ℕ) (image : ℕ → List ℕ) (n : ℕ) (h : Held) → held_in f key image n ≡ Some h → HeldAs f key image h (opening_of f.known key image n)
+unfolding held_in
 holds_as f key image n h e = held_as f key image h (opening_of f.known key image n) e
 
 -- what an opening gives is what is held
-pub held_opening : (f : Form) (key : List ℕ) (image : ℕ → List ℕ) (n m : ℕ) → opening_of f.known key image n ≡ opening_of f.known key image m → held f key image n ≡ held f key image m
-unfolding held
+pub held_opening : (f : Form) (key : List ℕ) (image : ℕ → List ℕ) (n m : ℕ) → opening_of f.known key image n ≡ opening_of f.known key image m → held_in f key image n ≡ held_in f key image m
+unfolding held_in
 held_opening f key image n m e = ap (held_by f key image) e
 
 -- one image opens alike at two counters at which it is sound: to one header, or as a blank board, where both are 0
@@ -111,20 +111,20 @@ opens_alike f key image n m a b (Ok found) (Err answer) one two is is' = absurd 
 opens_alike f key image n m a b (Err answer) y one two is is' = absurd is
 
 -- what a sound board holds is the same at each counter
-pub one_held : (f : Form) (key : List ℕ) (image : ℕ → List ℕ) (n m : ℕ) (a b : Held) → held f key image n ≡ Some a → held f key image m ≡ Some b → held f key image m ≡ held f key image n
+pub one_held : (f : Form) (key : List ℕ) (image : ℕ → List ℕ) (n m : ℕ) (a b : Held) → held_in f key image n ≡ Some a → held_in f key image m ≡ Some b → held_in f key image m ≡ held_in f key image n
 one_held f key image n m a b one two =
     held_opening f key image m n
     (opens_alike f key image n m a b (opening_of f.known key image n) (opening_of f.known key image m) refl refl (holds_as f key image n a one) (holds_as f key image m b two))
 
 -- what a crash left has a counter that fits
-was_fits : (past : List Moment) (t : ℕ) (c : Outcome) → WasLeft past t c → c.counter < 2 ^ 64
+was_fits : (past : List Moment) (t : ℕ) (c : CrashImage) → WasLeft past t c → c.counter < 2 ^ 64
 was_fits [] t c was = absurd was
 was_fits (m ∷ past) t c was = ⊎_elim (λ (h : (t ≤ length past) × IsLeft m c). h.1.counter.fits) (λ (w : WasLeft past t c). was_fits past t c w) was
 
-left_fits : (v : View) (t : ℕ) (c : Outcome) → left_since v t c → c.counter < 2 ^ 64
+left_fits : (v : View) (t : ℕ) (c : CrashImage) → left_since v t c → c.counter < 2 ^ 64
 left_fits v t c left = ⊎_elim (λ (h : IsLeft v.state c). h.counter.fits) (λ (w : WasLeft v.past t c). was_fits v.past t c w) left
 
-fitted : (old new : View) (P : Outcome → Type 0) → LeavesOnly moment left_since old new P → LeavesOnly moment left_since old new (λ c. P c × (c.counter < 2 ^ 64))
+fitted : (old new : View) (P : CrashImage → Type 0) → LeavesOnly moment left_since old new P → LeavesOnly moment left_since old new (λ c. P c × (c.counter < 2 ^ 64))
 fitted old new P run = record {
   later = run.later;
   each = λ c left. (run.each c left, left_fits new (moment old) c left);
@@ -140,7 +140,7 @@ module _ (f : Form) (key : List ℕ) (h : Held) (m : Moment) (holding : IsHoldin
   least_counter = record { least = omega arith; greatest = omega arith; fits = fits }
 
   -- what is held at the least counter
-  pub held_least : held f key m.reads m.counter ≡ Some h
+  pub held_least : held_in f key m.reads m.counter ≡ Some h
   held_least = holding.each m.counter least_counter
 
   pub opens_least : HeldAs f key m.reads h (opening_of f.known key m.reads m.counter)
@@ -174,7 +174,7 @@ module _ (f : Form) (h : Held) (old new : View) (holding : IsHolding f old.key h
   }
 
   leaves_high : (high : ℕ) → old.state.counter + old.state.slack ≤ high → BoundsBy f old.key old.state high
-      → ((n : ℕ) → old.state.counter ≤ n → n ≤ high → n < 2 ^ 64 → held f old.key old.state.reads n ≡ Some h)
+      → ((n : ℕ) → old.state.counter ≤ n → n ≤ high → n < 2 ^ 64 → held_in f old.key old.state.reads n ≡ Some h)
       → LeavesOnly moment left_since old new (λ c. held_of f old.key c ≡ Some h)
   leaves_high high room bounds each =
       let run = goes (λ k. false) old.state.reads old.state.counter high old (opens_under f old.key h old.state holding fits high bounds)
@@ -182,11 +182,11 @@ module _ (f : Form) (h : Held) (old new : View) (holding : IsHolding f old.key h
       weaker moment left_since old new (λ c. LeavesBase (λ k. false) old.state.reads old.state.counter high c × (c.counter < 2 ^ 64)) (λ c. held_of f old.key c ≡ Some h)
       (λ c both.
       let same : c.image ≡ old.state.reads = λ i k. both.0.image k refl i in
-      ap (λ (image : ℕ → List ℕ). held f old.key image c.counter) same ∙ each c.counter both.0.least both.0.greatest both.1)
+      ap (λ (image : ℕ → List ℕ). held_in f old.key image c.counter) same ∙ each c.counter both.0.least both.0.greatest both.1)
       (fitted old new (LeavesBase (λ k. false) old.state.reads old.state.counter high) run.leaves)
 
   -- within what a crash may leave of the counter
-  within : (n : ℕ) → old.state.counter ≤ n → n ≤ old.state.counter + old.state.slack → n < 2 ^ 64 → held f old.key old.state.reads n ≡ Some h
+  within : (n : ℕ) → old.state.counter ≤ n → n ≤ old.state.counter + old.state.slack → n < 2 ^ 64 → held_in f old.key old.state.reads n ≡ Some h
   within n low high fit = holding.each n (record { least = low; greatest = high; fits = fit })
 
   leaves_by : (o : Result (Option Found) OpenAnswer) → opening_of f.known old.key old.state.reads old.state.counter ≡ o → HeldAs f old.key old.state.reads h o
@@ -343,7 +343,7 @@ module _ (f : Form) (framed : IsFramed f) (format : Format) (serves : IsFormatOf
       }
 
 -- a board as it reads is among what a crash may leave
-outcome_as_read : Moment → ℕ → Outcome
+outcome_as_read : Moment → ℕ → CrashImage
 outcome_as_read m n = record { image = m.reads; counter = n; faults = m.faults; orders = m.orders }
 
 left_as_read : (v : View) → IsConsistent v → (n : ℕ) → IsCounter v.state n → IsLeft v.state (outcome_as_read v.state n)
@@ -366,7 +366,7 @@ module _ (f : Form) (old : View) (is : IsConsistent old) where
   counter_now = record { least = omega arith; greatest = omega arith; fits = is.counter }
 
   -- what a crash leaves after a sync, or after one that failed
-  synced_left : (ok : Bool) (mid : View) → Synced ok old.state mid.state → (c : Outcome) → IsLeft mid.state c → MightBe f old.key old.state c
+  synced_left : (ok : Bool) (mid : View) → Synced ok old.state mid.state → (c : CrashImage) → IsLeft mid.state c → MightBe f old.key old.state c
   unfolding outcome_as_read
   synced_left true mid synced c left =
       let among : IsCounter old.state c.counter = record {
@@ -375,7 +375,7 @@ module _ (f : Form) (old : View) (is : IsConsistent old) where
         fits = left.counter.fits;
       } in
       let image : c.image ≡ old.state.reads = λ i k. (left.kept k (synced.settled refl k) ∙ synced.durable refl k) i in
-      (outcome_as_read old.state c.counter, left_as_read old is c.counter among, ap (λ (g : ℕ → List ℕ). held f old.key g c.counter) image)
+      (outcome_as_read old.state c.counter, left_as_read old is c.counter among, ap (λ (g : ℕ → List ℕ). held_in f old.key g c.counter) image)
   synced_left false mid synced c left =
       let among : IsCounter old.state c.counter = record {
         least = omega (arith, left.counter.least, synced.counter);
@@ -383,7 +383,7 @@ module _ (f : Form) (old : View) (is : IsConsistent old) where
         fits = left.counter.fits;
       } in
       let pending : (k : ℕ) → mid.state.pending k ≡ old.state.pending k = λ k. ap (λ (g : ℕ → Bool). g k) (synced.failed_pending refl) in
-      let d : Outcome = record { image = c.image; counter = c.counter; faults = old.state.faults; orders = old.state.orders } in (
+      let d : CrashImage = record { image = c.image; counter = c.counter; faults = old.state.faults; orders = old.state.orders } in (
         record { image = c.image; counter = c.counter; faults = old.state.faults; orders = old.state.orders },
         record {
           kept = λ k shut. left.kept k (pending k ∙ shut) ∙ ap (λ (g : ℕ → List ℕ). g k) (synced.failed_durable refl);
@@ -401,14 +401,14 @@ module _ (f : Form) (old : View) (is : IsConsistent old) where
 
   module _ (sound : AreSound f old) where
     -- what reads give now
-    unfoldable now_held : (h : Held) × (held f old.key old.state.reads old.state.counter ≡ Some h)
+    unfoldable now_held : (h : Held) × (held_in f old.key old.state.reads old.state.counter ≡ Some h)
     unfolding outcome_as_read
-    now_held = sound_now (held f old.key old.state.reads old.state.counter) (sound (outcome_as_read old.state old.state.counter) (left_as_read old is old.state.counter counter_now))
+    now_held = sound_now (held_in f old.key old.state.reads old.state.counter) (sound (outcome_as_read old.state old.state.counter) (left_as_read old is old.state.counter counter_now))
 
-    each_held : (n : ℕ) → IsCounter old.state n → held f old.key old.state.reads n ≡ Some now_held.0
+    each_held : (n : ℕ) → IsCounter old.state n → held_in f old.key old.state.reads n ≡ Some now_held.0
     unfolding outcome_as_read
     each_held n among =
-        let x = sound_now (held f old.key old.state.reads n) (sound (outcome_as_read old.state n) (left_as_read old is n among)) in
+        let x = sound_now (held_in f old.key old.state.reads n) (sound (outcome_as_read old.state n) (left_as_read old is n among)) in
         one_held f old.key old.state.reads old.state.counter n now_held.0 x.0 now_held.1 x.1 ∙ now_held.1
 
     -- after the sync whichever counter is told, this is held
@@ -425,7 +425,7 @@ module _ (f : Form) (old : View) (is : IsConsistent old) where
           rw (key, synced.reads) (each_held n among');
     }
 
-    among_now : (c : Outcome) × IsLeft old.state c × (held_of f old.key c ≡ Some now_held.0)
+    among_now : (c : CrashImage) × IsLeft old.state c × (held_of f old.key c ≡ Some now_held.0)
     unfolding outcome_as_read
     among_now = (outcome_as_read old.state old.state.counter, left_as_read old is old.state.counter counter_now, now_held.1)
 
@@ -462,13 +462,13 @@ module _ (f : Form) (old : View) (is : IsConsistent old) where
 
 -- after a loss of power: what a crash leaves holds what was chosen
 module _ (f : Form) (old mid : View) (key : mid.key ≡ old.key) (time : Passes old mid) (powered : Powered old.state mid.state) where
-  power_left : (c : Outcome) → IsLeft mid.state c → held_of f mid.key c ≡ held_of f old.key powered.left
+  power_left : (c : CrashImage) → IsLeft mid.state c → held_of f mid.key c ≡ held_of f old.key powered.left
   power_left c left =
       let counter : c.counter ≡ powered.left.counter = omega (arith, left.counter.least, left.counter.greatest, powered.counter, powered.slack) in
       let image : c.image ≡ powered.left.image = λ i k. (left.kept k (powered.pending k) ∙ powered.durable k) i in
       rw (key, counter, image) refl
 
-  might_be : (c : Outcome) → MightBe f mid.key mid.state c → MightBe f old.key old.state c
+  might_be : (c : CrashImage) → MightBe f mid.key mid.state c → MightBe f old.key old.state c
   might_be c might = (powered.left, powered.may, ap (λ (k : List ℕ). held_of f k c) (sym key) ∙ might.2 ∙ power_left might.0 might.1)
 
   pub power_sound : AreSound f old → AreSound f mid
@@ -612,7 +612,7 @@ pub stopped : {f : Form} {result failed : Result (Option Header) OpenAnswer} {ol
 stopped {f} {result} {failed} {old} {new} same again = subst (λ (r : Result (Option Header) OpenAnswer). MountsAgain f r old new) (sym same) again
 
 -- a board that is mounted with this leaves it
-pub mounted_left : (f : Form) (framed : IsFramed f) (root : Root) (h : Held) (view : View) → IsMounted f view.key root h view.state → (c : Outcome) → IsLeft view.state c
+pub mounted_left : (f : Form) (framed : IsFramed f) (root : Root) (h : Held) (view : View) → IsMounted f view.key root h view.state → (c : CrashImage) → IsLeft view.state c
     → held_of f view.key c ≡ Some h
 mounted_left f framed root h view mounted c left =
     let rests = mounted.rests in
@@ -624,13 +624,13 @@ mounted_left f framed root h view mounted c left =
     (λ k used. image k)
 
 -- a board at rest holds what it reads
-pub rests_holding : (f : Form) (key : List ℕ) (h : Held) (n : ℕ) (m : Moment) → Rests n m → held f key m.reads n ≡ Some h → IsHolding f key h m
+pub rests_holding : (f : Form) (key : List ℕ) (h : Held) (n : ℕ) (m : Moment) → Rests n m → held_in f key m.reads n ≡ Some h → IsHolding f key h m
 rests_holding f key h n m rests is = record {
   as_read = rests.as_read;
   pending = rests.pending;
   each = λ k among.
       let same : k ≡ n = omega (arith, among.least, among.greatest, rests.counter, rests.slack) in
-      ap (held f key m.reads) same ∙ is;
+      ap (held_in f key m.reads) same ∙ is;
 }
 
 -- an order that changes nothing
@@ -676,13 +676,13 @@ pub board_sound : (f : Form) (view : View) → ((o : Option Held) → read_as (h
 board_sound f view sound c left = sound (held_of f view.key c) (c, inl left, refl)
 
 -- no crash before now was at this moment or later
-none_now : (past : List Moment) (t : ℕ) (c : Outcome) → length past ≤ t → WasLeft past t c → ⊥
+none_now : (past : List Moment) (t : ℕ) (c : CrashImage) → length past ≤ t → WasLeft past t c → ⊥
 none_now [] t c late was = was
 none_now (m ∷ past) t c late was =
     ⊎_elim (λ (h : (t ≤ length past) × IsLeft m c). absurd (let x = h.0 in omega arith)) (λ (w : WasLeft past t c). none_now past t c (omega arith) w) was
 
 -- what is known of all that a crash may leave now, one layer up
-pub rests_above : (f : Form) (key : List ℕ) (view : View) (h : Held) → view.key ≡ key → ((c : Outcome) → IsLeft view.state c → held_of f key c ≡ Some h)
+pub rests_above : (f : Form) (key : List ℕ) (view : View) (h : Held) → view.key ≡ key → ((c : CrashImage) → IsLeft view.state c → held_of f key c ≡ Some h)
     → (o : Option Held) → read_as (held_of f view.key) (left_since view) (moment view) o → o ≡ Some h
 rests_above f key view h same each o left =
     let now : IsLeft view.state left.0 = ⊎_elim (λ (x : IsLeft view.state left.0). x) (λ (was : WasLeft view.past (moment view) left.0). absurd
@@ -704,9 +704,9 @@ module _ (f : Form) (single : (version : ℕ) → f.known version ≡ true → (
       subst (λ (b : Bool). MakesBy f b h h) (sym (single w.header.version (not_known (f.known w.header.version) known))) refl
   makes_of key image n h (Err answer) e is = absurd is
 
-  pub opened_to : (view : View) (n : ℕ) (h : Held) → Rests n view.state → held f view.key view.state.reads n ≡ Some h → IsOpenedTo f view h (after_opening f view h)
+  pub opened_to : (view : View) (n : ℕ) (h : Held) → Rests n view.state → held_in f view.key view.state.reads n ≡ Some h → IsOpenedTo f view h (after_opening f view h)
   opened_to view n h rests is =
-      let here : held f view.key view.state.reads view.state.counter ≡ Some h = ap (held f view.key view.state.reads) rests.counter ∙ is in
+      let here : held_in f view.key view.state.reads view.state.counter ≡ Some h = ap (held_in f view.key view.state.reads) rests.counter ∙ is in
       makes_of view.key view.state.reads view.state.counter h (opening_of f.known view.key view.state.reads view.state.counter) refl
       (holds_as f view.key view.state.reads view.state.counter h here)
 

@@ -6,7 +6,7 @@ use Rattle.std.proofs.lemmas.Bool.{false≢true}
 use Rattle.std.proofs.lemmas.Bool.Decides.{nat_tests}
 use Rattle.tee_base.specs.Crash.{LeavesOnly}
 use Rattle.tee_base.proofs.Crash.{joined, weaker}
-use Rattle.store_api.specs.Volumes.{Held, leaf_after, replaced}
+use Rattle.store_api.specs.Volumes.{Held, leaf_after, with_named_leaves}
 use Rattle.board.specs.Moment.{Moment, View, left_since, moment}
 use Rattle.board.specs.Steps.{SameBlocks}
 use Rattle.board.proofs.Runs.{starts}
@@ -57,7 +57,7 @@ same_leaf : (b : Bool) (l : ℕ) (bytes : List ℕ) → (if b then leaf_after []
 same_leaf true l bytes = refl
 same_leaf false l bytes = refl
 
-same_leaves : (leaves : ℕ → ℕ → List ℕ) → replaced 0 [] leaves ≡ leaves
+same_leaves : (leaves : ℕ → ℕ → List ℕ) → with_named_leaves 0 [] leaves ≡ leaves
 same_leaves leaves = λ i r l. same_leaf (r == 0) l (leaves r l) i
 
 module _ (f : Form) where
@@ -79,14 +79,14 @@ module _ (f : Form) where
       starts view (λ c. (held_of f view.key c ≡ Some h) ⊎ (held_of f view.key c ≡ Some after)) (λ c left. inl (mounted_left f framed root h view mounted c left))
 
   -- what a commit of no leaf makes of a blank board
-  pub formatted : (h : Held) → h.sequence ≡ 0 → h.version ≡ f.version → next_held f (replaced 0 [] h.leaves) h.sequence ≡ after_found None h
+  pub formatted : (h : Held) → h.sequence ≡ 0 → h.version ≡ f.version → next_held f (with_named_leaves 0 [] h.leaves) h.sequence ≡ after_found None h
   formatted h zero version =
       let next : h.sequence + 1 ≡ 1 = omega (arith, zero) in
       λ i. record { leaves = same_leaves h.leaves i; sequence = next i; version = (sym version) i }
 
   -- what a crash leaves within the formatting
   pub leaves_format : (old new : View) (h : Held) → h.sequence ≡ 0 → h.version ≡ f.version
-      → LeavesOnly moment left_since old new (BeforeOrAfter f old.key h (next_held f (replaced 0 [] h.leaves) h.sequence))
+      → LeavesOnly moment left_since old new (BeforeOrAfter f old.key h (next_held f (with_named_leaves 0 [] h.leaves) h.sequence))
       → LeavesOnly moment left_since old new (λ c. (held_of f old.key c ≡ Some h) ⊎ (held_of f old.key c ≡ Some (after_found None h)))
   leaves_format old new h zero version run =
       subst (λ (after : Held). LeavesOnly moment left_since old new (λ c. (held_of f old.key c ≡ Some h) ⊎ (held_of f old.key c ≡ Some after))) (formatted h zero version) run
@@ -114,7 +114,7 @@ module _ (f : Form) where
         subst (λ (x : Option Header). Opens f IsOpenAs holding h (after_found x h) result old new) (sym is) (opens (subst (MountsTo f old.key h old.state) is mounts))
 
     pub format_failed : (old new : View) (result : Result A OpenAnswer) (h : Held) → h.sequence ≡ 0 → h.version ≡ f.version → IsErr result → IfErr result (λ why. IsKeptFromOpening why)
-        → LeavesOnly moment left_since old new (BeforeOrAfter f old.key h (next_held f (replaced 0 [] h.leaves) h.sequence))
+        → LeavesOnly moment left_since old new (BeforeOrAfter f old.key h (next_held f (with_named_leaves 0 [] h.leaves) h.sequence))
         → Opens f IsOpenAs holding h (after_found None h) result old new
     format_failed old new (Ok o) h zero version fails kept run = absurd (false≢true fails)
     format_failed old new (Err why) h zero version fails kept run = record { opened = tt; failed = kept; leaves = leaves_format old new h zero version run }

@@ -5,7 +5,7 @@ use Rattle.tee_base.specs.Crash.{LeavesOnly}
 use Rattle.tee_base.proofs.Crash.{weaker}
 use Rattle.board.specs.declared.BoardFailed.{BoardFailed}
 use Rattle.board.specs.declared.TheConstants.{BLOCK}
-use Rattle.board.specs.Moment.{Outcome, Moment, View, IsLeft, moment, left_since}
+use Rattle.board.specs.Moment.{CrashImage, Moment, View, IsLeft, moment, left_since}
 use Rattle.board.specs.Steps.{Answered, Unchanged, Wrote, Synced, Counted, Advanced}
 use Rattle.board.specs.Runs.{LeavesBase, RunsOver, Rests}
 use Rattle.board.proofs.Runs.{goes_on, run_starts, run_goes_on, base-unchanged, base-wrote, base-synced, base-counted, rests_base}
@@ -96,7 +96,7 @@ ready slot n gate old mid new rests wrote synced opened = record {
 }
 
 -- what a crash leaves after the advance
-leaves_after : (slot n : ℕ) (base : ℕ → List ℕ) (old new : Moment) (result : Result ℕ BoardFailed) (c : Outcome) → IsReady slot n base old
+leaves_after : (slot n : ℕ) (base : ℕ → List ℕ) (old new : Moment) (result : Result ℕ BoardFailed) (c : CrashImage) → IsReady slot n base old
     → Advanced result old new → IsLeft new c → (n ≤ c.counter) → (c.counter ≤ n + 1) → LeavesFlip slot base n c
 leaves_after slot n base old new result c is advanced left low high =
     let image : (k : ℕ) → c.image k ≡ old.reads k

@@ -2,7 +2,7 @@
 use Rattle.std.proofs.Common.{◌≡◌, ◌≢◌, ◌≤◌, ◌<◌, ◌+◌, ◌⊎◌, ◌==◌, ◌∙◌, if◌then◌else◌, ℕ, Bool, true, false, not, List, Option, Some}
 use Rattle.std.proofs.Common.{None, Result, Ok, Err, refl, sym, ap, subst, inl, inr, ⊎_elim, nat_lt, arith}
 use Rattle.std.proofs.lemmas.Bool.{cases_lt, false≢true}
-use Rattle.board.specs.Moment.{Outcome, Moment}
+use Rattle.board.specs.Moment.{CrashImage, Moment}
 use Rattle.epoch.specs.Gates.{gate_at, header_at, gate_open}
 use Rattle.epoch.specs.Opening.{answer_at, opening_by, opening_of}
 use Rattle.epoch.specs.Slots.{header_slot, slot_of}
@@ -200,7 +200,7 @@ flip_shut knows key base image n slot below =
     → opening_of knows key image n ≡ opening_of knows key base n) slot below (still_0 knows key base image n) (still_1 knows key base image n)
 
 -- what a crash within a flip leaves opens as before, or to the header that was laid
-pub flip_opens : (knows : ℕ → Bool) (key : List ℕ) (slot n : ℕ) (h : Header) (m : Moment) (c : Outcome) → slot < 2 → IsLaid knows key slot n h m
+pub flip_opens : (knows : ℕ → Bool) (key : List ℕ) (slot n : ℕ) (h : Header) (m : Moment) (c : CrashImage) → slot < 2 → IsLaid knows key slot n h m
     → LeavesFlip slot m.reads n c
     → (outcome_opening knows key c ≡ opening_of knows key m.reads n) ⊎ (outcome_opening knows key c ≡ Ok (Some (record { header = h; slot = slot })))
 flip_opens knows key slot n h m c below laid leaves =

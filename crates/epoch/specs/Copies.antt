@@ -7,8 +7,8 @@ abbrev pub copy_of : ℕ → ℕ
 copy_of copy = if copy == 0 then 0 else 1
 
 -- a tag that was computed and the one that is kept, where they differ
-unfoldable pub differing : List ℕ → List ℕ → Option Mismatch
-differing found kept =
+unfoldable pub difference : List ℕ → List ℕ → Option Mismatch
+difference found kept =
     if bytes_eq found kept then None else Some (record { found = found; kept = kept })
 
 -- the first of two damages

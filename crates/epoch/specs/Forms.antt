@@ -4,12 +4,13 @@ use Rattle.std.specs.Prelude.{◌≡◌, ◌≤◌, ◌<◌, ℕ, zero, suc, ◌
 use Rattle.tee_base.specs.declared.limits.TheConstants.{BLOCK_BYTES, MAX_HOSTS}
 use Rattle.store_api.specs.declared.answer.Mismatch.{Mismatch}
 use Rattle.store_api.specs.Volumes.{Held}
-use Rattle.board.specs.Moment.{Outcome}
+use Rattle.board.specs.Moment.{CrashImage}
 use Rattle.epoch.specs.Opening.{opening_of}
 use Rattle.epoch.specs.declared.answer.OpenAnswer.{OpenAnswer}
 use Rattle.epoch.specs.declared.header.Header.{Header}
 use Rattle.epoch.specs.declared.header.TreeEntry.{TreeEntry}
 use Rattle.epoch.specs.declared.rule.Found.{Found}
+use Rattle.tee_base.specs.Words.{Counter, Image, Key}
 
 -- what the leaves of a volume hang on: the version of the header that counts, and its entry
 pub record Root : Type 0 where
@@ -56,14 +57,14 @@ abbrev pub is_leaf : ℕ → ℕ → ℕ → Bool
 is_leaf leaves region leaf = nat_lt region MAX_HOSTS && nat_lt leaf leaves
 
 -- no two tags on the way to any leaf differ, and the image is sound besides: the root seals its leaves
-unfoldable pub is_sealed : Form → List ℕ → (ℕ → List ℕ) → Root → Bool
+unfoldable pub is_sealed : Form → Key → Image → Root → Bool
 is_sealed f key image root =
     all_below MAX_HOSTS (λ region.
     all_below f.leaves (λ leaf. is_none (f.damage key image root region leaf)))
     && f.sound key image root
 
 -- the leaves under a root; there is nothing where there is no leaf
-unfoldable pub leaves_of : Form → List ℕ → (ℕ → List ℕ) → Root → ℕ → ℕ → List ℕ
+unfoldable pub leaves_of : Form → Key → Image → Root → ℕ → ℕ → List ℕ
 leaves_of f key image root region leaf =
     if is_leaf f.leaves region leaf then f.leaf key image root region leaf else []
 
@@ -73,7 +74,7 @@ blank_leaves leaves region leaf = if is_leaf leaves region leaf then replicate B
 
 -- what an image holds that opens so; nothing where it isn't sound: a header stands in the slot of its sequence, and its
 -- root seals the leaves
-abbrev pub held_by : Form → List ℕ → (ℕ → List ℕ) → Result (Option Found) OpenAnswer → Option Held
+abbrev pub held_by : Form → Key → Image → Result (Option Found) OpenAnswer → Option Held
 held_by f key image (Ok None) = Some (record { leaves = blank_leaves f.leaves; sequence = 0; version = f.version })
 held_by f key image (Ok (Some found)) =
     if (found.slot == found.header.sequence % 2) && is_sealed f key image (root_of found.header)
@@ -86,40 +87,40 @@ held_by f key image (Ok (Some found)) =
 held_by f key image (Err answer) = None
 
 -- what an image holds beside a counter, under a board's key
-unfoldable pub held : Form → List ℕ → (ℕ → List ℕ) → ℕ → Option Held
-held f key image counter = held_by f key image (opening_of f.known key image counter)
+unfoldable pub held_in : Form → Key → Image → Counter → Option Held
+held_in f key image counter = held_by f key image (opening_of f.known key image counter)
 
 -- what a crash left
-abbrev pub held_of : Form → List ℕ → Outcome → Option Held
-held_of f key c = held f key c.image c.counter
+abbrev pub held_of : Form → Key → CrashImage → Option Held
+held_of f key c = held_in f key c.image c.counter
 
 -- all blocks on the ways to the leaves of a root are those of the base
-abbrev pub SameUsed : Form → List ℕ → Root → (ℕ → List ℕ) → (ℕ → List ℕ) → Type 0
+abbrev pub SameUsed : Form → Key → Root → Image → Image → Type 0
 SameUsed f key root base image = (k : ℕ) → f.uses key base root k ≡ true → image k ≡ base k
 
 -- what each form keeps to
 pub record IsFramed (f : Form) : Type 0 where
   -- the leaves and their damage rest on the blocks that the root uses, and on nothing else
-  pub same_damage : (key : List ℕ) (root : Root) (base image : ℕ → List ℕ) (region leaf : ℕ)
+  pub same_damage : (key : Key) (root : Root) (base image : Image) (region leaf : ℕ)
       → SameUsed f key root base image → region < MAX_HOSTS → leaf < f.leaves
       → f.damage key image root region leaf ≡ f.damage key base root region leaf
-  pub same_leaf : (key : List ℕ) (root : Root) (base image : ℕ → List ℕ) (region leaf : ℕ)
+  pub same_leaf : (key : Key) (root : Root) (base image : Image) (region leaf : ℕ)
       → SameUsed f key root base image → region < MAX_HOSTS → leaf < f.leaves
       → f.leaf key image root region leaf ≡ f.leaf key base root region leaf
-  pub same_sound : (key : List ℕ) (root : Root) (base image : ℕ → List ℕ)
+  pub same_sound : (key : Key) (root : Root) (base image : Image)
       → SameUsed f key root base image → f.sound key image root ≡ f.sound key base root
   -- these lie behind the slots
-  pub behind : (key : List ℕ) (root : Root) (image : ℕ → List ℕ) (k : ℕ) → k < 4
+  pub behind : (key : Key) (root : Root) (image : Image) (k : ℕ) → k < 4
       → f.uses key image root k ≡ false
   -- both slots are among the blocks, and what is written is accepted
   pub slots : 4 ≤ f.blocks
   pub accepted : f.known f.version ≡ true
   -- the root of a blank board stands for zeros
-  pub no_damage : (key : List ℕ) (root : Root) (image : ℕ → List ℕ) (region leaf : ℕ)
+  pub no_damage : (key : Key) (root : Root) (image : Image) (region leaf : ℕ)
       → IsBlankRoot f root → region < MAX_HOSTS → leaf < f.leaves
       → f.damage key image root region leaf ≡ None
-  pub zeros : (key : List ℕ) (root : Root) (image : ℕ → List ℕ) (region leaf : ℕ)
+  pub zeros : (key : Key) (root : Root) (image : Image) (region leaf : ℕ)
       → IsBlankRoot f root → region < MAX_HOSTS → leaf < f.leaves
       → f.leaf key image root region leaf ≡ replicate BLOCK_BYTES 0
-  pub blank_sound : (key : List ℕ) (root : Root) (image : ℕ → List ℕ)
+  pub blank_sound : (key : Key) (root : Root) (image : Image)
       → IsBlankRoot f root → f.sound key image root ≡ true

@@ -9,6 +9,7 @@ use Rattle.board.specs.declared.TheConstants.{BLOCK}
 use Rattle.epoch.specs.declared.header.TheConstants.{SLOT_0, TAGGED}
 use Rattle.epoch.specs.declared.header.Header.{Header}
 use Rattle.epoch.specs.declared.header.TreeEntry.{TreeEntry}
+use Rattle.tee_base.specs.Words.{Key}
 
 -- the entry that stands in a block from a place on
 abbrev pub entry_at : ℕ → List ℕ → TreeEntry
@@ -28,7 +29,7 @@ header_of block = record {
 }
 
 -- the tag of a header: of its slot's number, which no place has, and of the bytes before the tag
-unfoldable pub header_tag : List ℕ → ℕ → List ℕ → List ℕ
+unfoldable pub header_tag : Key → ℕ → List ℕ → List ℕ
 header_tag key slot bytes = hmac_of Sha256 (tag_key key) (le64 (SLOT_0 + slot) ++ bytes)
 
 -- the bytes of an entry
@@ -40,7 +41,7 @@ pub record IsEntry (entry : TreeEntry) (bytes : List ℕ) : Type 0 where
   pub tag : part 32 32 bytes ≡ entry.tag
 
 -- the block of a header in a slot
-pub record IsHeaderBlock (key : List ℕ) (slot : ℕ) (header : Header)
+pub record IsHeaderBlock (key : Key) (slot : ℕ) (header : Header)
     (block : List ℕ) : Type 0 where
   pub long : length block ≡ BLOCK
   pub text : part 0 8 block ≡ codes "TEEVOLUM"

@@ -7,9 +7,10 @@ use Rattle.store_api.specs.Volumes.{Held}
 use Rattle.board.specs.Moment.{View, left_since, moment}
 use Rattle.epoch.specs.Commits.{IsMounted, IsSteady}
 use Rattle.epoch.specs.Forms.{Form, Root, held_of, leaves_of}
+use Rattle.tee_base.specs.Words.{Sequence}
 
 -- what is held under a root, with the sequence
-abbrev pub held_now : Form → View → Root → ℕ → Held
+abbrev pub held_now : Form → View → Root → Sequence → Held
 held_now f view root sequence = record {
   leaves = leaves_of f view.key view.state.reads root;
   sequence = sequence;
@@ -17,7 +18,7 @@ held_now f view root sequence = record {
 }
 
 -- the board is at rest with a sound image that holds this under the root
-abbrev pub IsInUse : Form → View → Root → ℕ → Type 0
+abbrev pub IsInUse : Form → View → Root → Sequence → Type 0
 IsInUse f view root sequence =
     IsMounted f view.key root (held_now f view root sequence) view.state
 

@@ -3,21 +3,22 @@
 use Rattle.std.specs.Prelude.{◌≡◌, ℕ, false, List, Option, Some, None, Result, Ok, Err, IfErr, IfOk}
 use Rattle.tee_base.specs.Crash.{LeavesOnly}
 use Rattle.store_api.specs.Volumes.{Held}
-use Rattle.board.specs.Moment.{IsCounter, IsLeft, Moment, Outcome, View, left_since, moment}
+use Rattle.board.specs.Moment.{IsCounter, IsLeft, Moment, CrashImage, View, left_since, moment}
 use Rattle.epoch.specs.Commits.{IsMounted}
-use Rattle.epoch.specs.Forms.{Form, IsBlankRoot, Root, held, held_of, root_of}
+use Rattle.epoch.specs.Forms.{Form, IsBlankRoot, Root, held_in, held_of, root_of}
 use Rattle.epoch.specs.Mounts.{IsLeftSound}
 use Rattle.epoch.specs.Opening.{opening_of}
 use Rattle.epoch.specs.declared.answer.OpenAnswer.{OpenAnswer}
 use Rattle.epoch.specs.declared.answer.OpenAnswer.TheVariants as answers
 use Rattle.epoch.specs.declared.header.Header.{Header}
 use Rattle.epoch.specs.declared.rule.Found.{Found}
+use Rattle.tee_base.specs.Words.{Key}
 
 -- nothing is pending, and whichever counter is told, the board holds this
-pub record IsHolding (f : Form) (key : List ℕ) (h : Held) (m : Moment) : Type 0 where
+pub record IsHolding (f : Form) (key : Key) (h : Held) (m : Moment) : Type 0 where
   pub as_read : (k : ℕ) → m.reads k ≡ m.durable k
   pub pending : (k : ℕ) → m.pending k ≡ false
-  pub each : (n : ℕ) → IsCounter m n → held f key m.reads n ≡ Some h
+  pub each : (n : ℕ) → IsCounter m n → held_in f key m.reads n ≡ Some h
 
 -- what is held once a header was found, or where none was, the board was formatted
 abbrev pub after_found : Option Header → Held → Held
@@ -36,7 +37,7 @@ after_opening f view held =
     opened_by (opening_of f.known view.key view.state.reads view.state.counter) held
 
 -- the board is mounted with this under the root of the header, and where there is none, under each root of a blank board
-abbrev pub MountsTo : Form → List ℕ → Held → Moment → Option Header → Type 0
+abbrev pub MountsTo : Form → Key → Held → Moment → Option Header → Type 0
 MountsTo f key h m None =
     (h.sequence ≡ 0) × ((root : Root) → IsBlankRoot f root → IsMounted f key root h m)
 MountsTo f key h m (Some header) =
@@ -52,17 +53,17 @@ pub record Mounts (f : Form) (h : Held) (result : Result (Option Header) OpenAns
 
 -- all that a crash may leave now is sound
 abbrev pub AreSound : Form → View → Type 0
-AreSound f view = (c : Outcome) → IsLeft view.state c → IsLeftSound (held_of f view.key c)
+AreSound f view = (c : CrashImage) → IsLeft view.state c → IsLeftSound (held_of f view.key c)
 
 -- a crash left what holds the same as something that it might have left then
-abbrev pub MightBe : Form → List ℕ → Moment → Outcome → Type 0
-MightBe f key m c = (d : Outcome) × IsLeft m d × (held_of f key c ≡ held_of f key d)
+abbrev pub MightBe : Form → Key → Moment → CrashImage → Type 0
+MightBe f key m c = (d : CrashImage) × IsLeft m d × (held_of f key c ≡ held_of f key d)
 
 -- a board was opened again: it is mounted with what a crash might have left, or a call failed
 pub record MountsAgain (f : Form) (result : Result (Option Header) OpenAnswer)
     (old new : View) : Type 0 where
   pub chosen : Held
-  pub among : (c : Outcome) × IsLeft old.state c × (held_of f old.key c ≡ Some chosen)
+  pub among : (c : CrashImage) × IsLeft old.state c × (held_of f old.key c ≡ Some chosen)
   pub mounted : IfOk result (λ found. MountsTo f old.key chosen new.state found)
   pub failed : IfErr result (λ why. why ≡ answers.Failed)
   pub leaves : LeavesOnly moment left_since old new (MightBe f old.key old.state)
@@ -71,5 +72,5 @@ pub record MountsAgain (f : Form) (result : Result (Option Header) OpenAnswer)
 pub record MountsAfterPower (f : Form) (result : Result (Option Header) OpenAnswer)
     (old new : View) : Type 0 where
   pub again : MountsAgain f result old new
-  pub rests : (c : Outcome) → IsLeft new.state c
+  pub rests : (c : CrashImage) → IsLeft new.state c
       → held_of f old.key c ≡ Some again.chosen

@@ -4,7 +4,7 @@ use Rattle.std.specs.Prelude.{◌≡◌, ◌≤◌, ◌<◌, ◌⊎◌, ◌+◌,
 use Rattle.tee_base.specs.Crash.{LeavesOnly, read_as}
 use Rattle.tee_base.specs.declared.limits.TheConstants.{MAX_HOSTS}
 use Rattle.store_api.specs.Volumes.{Held, RestsAt, VolumeKeeper}
-use Rattle.board.specs.Moment.{IsBehind, IsCounter, Outcome, View, left_since, moment}
+use Rattle.board.specs.Moment.{IsBehind, IsCounter, CrashImage, View, left_since, moment}
 use Rattle.board.specs.Steps.{Passes, Powered}
 use Rattle.epoch.specs.Forms.{Form, Root, held_of, root_of}
 use Rattle.epoch.specs.Opening.{found_header, header_answer, opening_of, opens_as}
@@ -12,6 +12,7 @@ use Rattle.epoch.specs.declared.answer.OpenAnswer.{OpenAnswer}
 use Rattle.epoch.specs.declared.answer.OpenAnswer.TheVariants as answers
 use Rattle.epoch.specs.declared.header.Header.{Header}
 use Rattle.epoch.specs.declared.rule.Found.{Found}
+use Rattle.tee_base.specs.Words.{Counter, Image, Sequence}
 
 -- an opening that writes a header keeps the leaves, so that each region stands for the same store; the sequence is the next
 -- one, and the version the one that is written
@@ -44,7 +45,7 @@ IsLeftSound None = ⊥
 
 -- a refusal is the opening rule's, of a board over this image and this counter; a failure and want of memory are no such
 -- refusals
-abbrev pub IsRefusal : Form → View → (ℕ → List ℕ) → ℕ → OpenAnswer → Type 0
+abbrev pub IsRefusal : Form → View → Image → Counter → OpenAnswer → Type 0
 IsRefusal f view image counter answers.Failed = Unit {0}
 IsRefusal f view image counter answers.NoMemory = Unit {0}
 IsRefusal f view image counter why =
@@ -54,24 +55,24 @@ IsRefusal f view image counter why =
 abbrev pub IsRefusedNow : Form → View → OpenAnswer → Type 0
 IsRefusedNow f view answers.Failed = Unit {0}
 IsRefusedNow f view answers.NoMemory = Unit {0}
-IsRefusedNow f view why = (counter : ℕ) × IsCounter view.state counter
+IsRefusedNow f view why = (counter : Counter) × IsCounter view.state counter
     × (opens_as f.known f.blocks view.size view.key view.state.reads counter ≡ Err why)
 
 -- what is taken up is the header that counts, with its sequence and its root; where none does, the board has this sequence, and a
 -- root of the same and of the version that is written
-abbrev pub TakesUp : Form → Option Header → ℕ → ℕ → Root → Type 0
+abbrev pub TakesUp : Form → Option Header → ℕ → Sequence → Root → Type 0
 TakesUp f None blank sequence root =
     (sequence ≡ blank) × (root.version ≡ f.version) × (root.entry.sequence ≡ blank)
 TakesUp f (Some header) blank sequence root = (header.sequence ≡ sequence) × (root_of header ≡ root)
 
 -- the opening rule opens a board over this image and this counter, and what counts there is taken up
-abbrev pub IsAdmitted : Form → View → (ℕ → List ℕ) → ℕ → ℕ → ℕ → Root → Type 0
+abbrev pub IsAdmitted : Form → View → Image → Counter → ℕ → Sequence → Root → Type 0
 IsAdmitted f view image counter blank sequence root = (found : Option Found)
     × (opens_as f.known f.blocks view.size view.key image counter ≡ Ok found)
     × TakesUp f (found_header found) blank sequence root
 
 -- what a search for the header answers is the rule's, over this image and this counter
-abbrev pub IsRuledBy : Form → View → (ℕ → List ℕ) → ℕ → Result (Option Header) OpenAnswer
+abbrev pub IsRuledBy : Form → View → Image → Counter → Result (Option Header) OpenAnswer
     → Type 0
 IsRuledBy f view image counter result = IfErr result (λ why. IsRefusal f view image counter why)
     × IfOk result (λ found. header_answer
@@ -98,7 +99,7 @@ pub record PowerFirst (old new : View) : Type 0 where
   pub behind : IsBehind between new
 
 -- within an opening a crash leaves what the board held, or what the opening makes of that
-abbrev pub LeftByOpening : Form → Held → View → Outcome → Type 0
+abbrev pub LeftByOpening : Form → Held → View → CrashImage → Type 0
 LeftByOpening f held old c = (held_of f old.key c ≡ Some held)
     ⊎ ((after : Held) × (held_of f old.key c ≡ Some after) × IsOpenedTo f old held after)
 
@@ -115,7 +116,7 @@ module _ {V : Type 0} (K : VolumeKeeper V) where
     pub moment : K.moment volume ≡ moment view
     pub left : (t : ℕ) (o : Option Held) → K.left_since volume t o
         → read_as (held_of f view.key) (left_since view) t o
-    pub left_back : (t : ℕ) (c : Outcome) → left_since view t c
+    pub left_back : (t : ℕ) (c : CrashImage) → left_since view t c
         → K.left_since volume t (held_of f view.key c)
 
   -- the damage of each leaf, and what is found of it, is the form's over what reads give

@@ -9,17 +9,18 @@ use Rattle.epoch.specs.declared.header.Header.{Header}
 use Rattle.epoch.specs.declared.rule.Found.{Found}
 use Rattle.epoch.specs.declared.slots.Slot.{Slot}
 use Rattle.epoch.specs.declared.slots.Slot.TheVariants.{Shut, Bad, Good}
+use Rattle.tee_base.specs.Words.{Counter, Image, Key}
 
 -- an open slot whose tag doesn't match
 abbrev pub bad_header : ℕ → Mismatch → Result (Option Found) OpenAnswer
 bad_header slot tags = Err (BadHeader slot tags.found tags.kept)
 
 -- no slot is open
-abbrev pub without_slot : ℕ → Result (Option Found) OpenAnswer
+abbrev pub without_slot : Counter → Result (Option Found) OpenAnswer
 without_slot counter = if counter == 0 then Ok None else Err (NoVolume counter)
 
 -- the header that counts: its version first, then its sequence beside the counter
-abbrev pub answer_at : (ℕ → Bool) → ℕ → Header → ℕ → Result (Option Found) OpenAnswer
+abbrev pub answer_at : (ℕ → Bool) → ℕ → Header → Counter → Result (Option Found) OpenAnswer
 answer_at knows slot header counter =
     if not (knows header.version) then Err (UnknownVersion header.version) else
     if nat_lt header.sequence counter then Err (Rollback header.sequence counter) else
@@ -27,7 +28,7 @@ answer_at knows slot header counter =
     Ok (Some (record { header = header; slot = slot }))
 
 -- the rule over both slots: a damaged one first; of two the greater sequence, slot 0 on a tie
-abbrev pub opening_by : (ℕ → Bool) → Slot → Slot → ℕ → Result (Option Found) OpenAnswer
+abbrev pub opening_by : (ℕ → Bool) → Slot → Slot → Counter → Result (Option Found) OpenAnswer
 opening_by knows (Bad tags) second counter = bad_header 0 tags
 opening_by knows Shut (Bad tags) counter = bad_header 1 tags
 opening_by knows Shut Shut counter = without_slot counter
@@ -39,12 +40,12 @@ opening_by knows (Good header) (Good other) counter =
     else answer_at knows 0 header counter
 
 -- what an image and a counter open to under a key
-unfoldable pub opening_of : (ℕ → Bool) → List ℕ → (ℕ → List ℕ) → ℕ → Result (Option Found) OpenAnswer
+unfoldable pub opening_of : (ℕ → Bool) → Key → Image → Counter → Result (Option Found) OpenAnswer
 opening_of knows key image counter =
     opening_by knows (slot_of key image 0) (slot_of key image 1) counter
 
 -- the same of a board with so many blocks
-abbrev pub opens_as : (ℕ → Bool) → ℕ → ℕ → List ℕ → (ℕ → List ℕ) → ℕ
+abbrev pub opens_as : (ℕ → Bool) → ℕ → ℕ → Key → Image → Counter
     → Result (Option Found) OpenAnswer
 opens_as knows blocks size key image counter =
     if nat_lt size blocks then Err (TooSmall size) else

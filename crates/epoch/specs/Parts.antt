@@ -6,5 +6,5 @@ abbrev pub part : ℕ → ℕ → List ℕ → List ℕ
 part at count block = take count (drop at block)
 
 -- a block with these bytes from a place on
-abbrev pub patched : ℕ → List ℕ → List ℕ → List ℕ
-patched at bytes block = take at block ++ bytes ++ drop (at + length bytes) block
+abbrev pub with_bytes_at : ℕ → List ℕ → List ℕ → List ℕ
+with_bytes_at at bytes block = take at block ++ bytes ++ drop (at + length bytes) block

@@ -1,6 +1,6 @@
 -- What the three steps of a commit do to a board, and what a crash within them leaves.
 use Rattle.std.specs.Prelude.{◌≡◌, ◌≢◌, ◌<◌, ◌⊎◌, ℕ, ◌+◌, ◌-◌, ◌==◌, ◌&&◌, Bool, true, false, List, Option, Some, None, Result, Ok, Err}
-use Rattle.board.specs.Moment.{Outcome, Moment, IsCounter}
+use Rattle.board.specs.Moment.{CrashImage, Moment, IsCounter}
 use Rattle.board.specs.Runs.{Rests}
 use Rattle.epoch.specs.Gates.{gate_at, header_at, gate_open}
 use Rattle.epoch.specs.Opening.{opening_of}
@@ -9,6 +9,7 @@ use Rattle.epoch.specs.declared.answer.OpenAnswer.{OpenAnswer}
 use Rattle.epoch.specs.declared.header.Header.{Header}
 use Rattle.epoch.specs.declared.rule.Found.{Found}
 use Rattle.epoch.specs.declared.slots.Slot.TheVariants.{Good}
+use Rattle.tee_base.specs.Words.{Image, Key}
 
 -- all is durable, and but for this block all reads as before
 pub record SyncedBut (block : ℕ) (old new : Moment) : Type 0 where
@@ -27,17 +28,17 @@ pub record IsFlipped (slot m : ℕ) (old new : Moment) : Type 0 where
   pub gate : gate_open (new.reads (gate_at slot)) ≡ true
 
 -- what a crash within a flip leaves: the counter is raised only where the gate is open
-pub record LeavesFlip (slot : ℕ) (base : ℕ → List ℕ) (n : ℕ) (c : Outcome) : Type 0 where
+pub record LeavesFlip (slot : ℕ) (base : Image) (n : ℕ) (c : CrashImage) : Type 0 where
   pub elsewhere : (k : ℕ) → k ≢ gate_at slot → c.image k ≡ base k
   pub counter : (c.counter ≡ n)
       ⊎ ((c.counter ≡ n + 1) × (gate_open (c.image (gate_at slot)) ≡ true))
 
 -- the one block that shutting a slot writes: its gate, where that is open
-abbrev pub shut_writes : ℕ → (ℕ → List ℕ) → ℕ → Bool
+abbrev pub shut_writes : ℕ → Image → ℕ → Bool
 shut_writes slot base k = (k == gate_at slot) && gate_open (base k)
 
 -- what an image and a counter that a crash left open to
-abbrev pub outcome_opening : (ℕ → Bool) → List ℕ → Outcome → Result (Option Found) OpenAnswer
+abbrev pub outcome_opening : (ℕ → Bool) → Key → CrashImage → Result (Option Found) OpenAnswer
 outcome_opening knows key c = opening_of knows key c.image c.counter
 
 -- the board is blank, or the header that counts is in another slot than this
@@ -53,7 +54,7 @@ IsCurrent n (Ok (Some found)) = found.header.sequence ≡ n
 IsCurrent n (Err _) = ⊥
 
 -- a slot whose gate isn't open holds the header that is to count next
-pub record IsLaid (knows : ℕ → Bool) (key : List ℕ) (slot n : ℕ) (header : Header)
+pub record IsLaid (knows : ℕ → Bool) (key : Key) (slot n : ℕ) (header : Header)
     (m : Moment) : Type 0 where
   pub rests : Rests n m
   pub current : IsCurrent n (opening_of knows key m.reads n)

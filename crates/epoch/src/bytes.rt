@@ -1,11 +1,11 @@
 //! Pieces of a block.
 ghost use Rattle.std.specs.Prelude.{◌≡◌, ◌≤◌, ◌+◌, length};
-ghost use Rattle.epoch.specs.Parts.{part, patched};
+ghost use Rattle.epoch.specs.Parts.{part, with_bytes_at};
 
 /// Writes bytes into others, from a place on.
 pub fn put(into: &mut [u8], at: usize, from: &[u8])
     requires { at + length from.now ≤ length into.old }
-    ensures { into.new ≡ patched at from.now into.old }
+    ensures { into.new ≡ with_bytes_at at from.now into.old }
 {
     into[at..at + from.len()].copy_from_slice(from);
 }

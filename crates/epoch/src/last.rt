@@ -2,7 +2,7 @@
 ghost use Rattle.std.specs.Prelude.{◌≡◌, ◌⊎◌, ◌-◌, ◌^◌, not};
 ghost use Rattle.tee_base.specs.Faults.{Rose};
 ghost use Rattle.store_api.specs.declared.leaves.LeafAnswer.TheVariants as answers;
-ghost use Rattle.board.specs.Fuse.{burnt};
+ghost use Rattle.board.specs.Fuse.{fuse_after_call};
 ghost use Rattle.board.specs.Steps.{CallRun};
 ghost use Rattle.epoch.specs.Alone.{LeavesAlone};
 ghost use Rattle.epoch.specs.Forms.{Form, IsFramed, Root};
@@ -20,7 +20,7 @@ pub fn exhaust<B: Board>(board: &mut B) -> LeafAnswer
         → Rose (B.view board.old).state.faults (B.view board.new).state.faults }
     ensures answer { (result ≡ answers.Failed) ⊎ (result ≡ answers.NoMemory) }
     ensures writes { (B.view board.new).writes ≡ (B.view board.old).writes }
-    ensures called { (B.view board.new).fuse ≡ burnt (B.view board.old).fuse }
+    ensures called { (B.view board.new).fuse ≡ fuse_after_call (B.view board.old).fuse }
     ensures honest { B.honest board.old → B.honest board.new }
     ensures past { B.honest board.old → KeepsPast (B.view board.old) (B.view board.new) }
     // no block is written

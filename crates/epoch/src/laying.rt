@@ -3,7 +3,7 @@ ghost use Rattle.std.specs.Prelude.{◌≡◌, ◌≢◌, ◌≤◌, ◌<◌, �
 ghost use Rattle.tee_base.specs.Crash.{LeavesOnly};
 ghost use Rattle.board.specs.Moment.{View, moment, left_since};
 ghost use Rattle.board.specs.Runs.{Rests, RunsOver};
-ghost use Rattle.board.specs.Steps.{capped, CallRun};
+ghost use Rattle.board.specs.Steps.{up_to_limit, CallRun};
 ghost use Rattle.epoch.specs.Gates.{gate_at, header_at, gate_open};
 ghost use Rattle.epoch.specs.Header.{IsHeaderBlock};
 ghost use Rattle.epoch.specs.Opening.{opening_of};
@@ -25,7 +25,7 @@ use seal::Keys;
 pub fn lay<B: Board>(board: &mut B, header: &Header) -> Result<(), BoardFailed>
     requires { 4 ≤ (B.view board.old).size }
     ensures calls { CallRun (is_ok result) (B.view board.old) (B.view board.new) }
-    ensures writes { (B.view board.new).writes ≡ capped ((B.view board.old).writes + 1) }
+    ensures writes { (B.view board.new).writes ≡ up_to_limit ((B.view board.old).writes + 1) }
     ensures honest { B.honest board.old → B.honest board.new }
     ensures past { B.honest board.old → KeepsPast (B.view board.old) (B.view board.new) }
     ensures elsewhere { B.honest board.old → (k : ℕ) → k ≢ header_at (header.now.sequence % 2)

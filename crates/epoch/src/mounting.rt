@@ -2,7 +2,7 @@
 ghost use Rattle.std.specs.Prelude.{◌≡◌, ◌≢◌, ◌≤◌, ℕ, true, Err, IfErr, IfOk, IsTrue, OnOk};
 ghost use Rattle.tee_base.specs.Faults.{Rose};
 ghost use Rattle.store_api.specs.Volumes.{Held};
-ghost use Rattle.board.specs.Moment.{IsCounter, IsLeft, Outcome};
+ghost use Rattle.board.specs.Moment.{IsCounter, IsLeft, CrashImage};
 ghost use Rattle.board.specs.Steps.{CallRun, SameBlocks};
 ghost use Rattle.board.specs.declared.fuse.Fuse.TheVariants.{Unset};
 ghost use Rattle.epoch.specs.Alone.{LeavesAlone};
@@ -130,7 +130,7 @@ pub fn mount_after_power<B: Board>(
     ensures past { B.honest board.old → KeepsPast (B.view board.old) (B.view board.new) }
     ensures settled { B.honest board.old
         → StaysSettled (B.view board.old).state (B.view board.new).state }
-    ensures exact { B.honest board.old → (c : Outcome) × IsLeft (B.view board.old).state c
+    ensures exact { B.honest board.old → (c : CrashImage) × IsLeft (B.view board.old).state c
         × ((f : Form) → IsFormatOf f format
         → IsRuledBy f (B.view board.old) c.image c.counter result) }
     // a refusal is the rule's over what the board then holds

@@ -2,14 +2,14 @@
 ghost use Rattle.std.specs.Prelude.{◌≡◌, ◌≢◌, ◌≤◌, ◌<◌, ◌↔◌, ◌⊎◌, ℕ, List, true, false, Some, Err, IsTrue, IfOk, IfErr, OnOk, OnErr};
 ghost use Rattle.tee_base.specs.Faults.{Rose};
 ghost use Rattle.store_api.specs.Volumes.{Held};
-ghost use Rattle.board.specs.Moment.{IsCounter, IsLeft, Outcome};
+ghost use Rattle.board.specs.Moment.{IsCounter, IsLeft, CrashImage};
 ghost use Rattle.board.specs.Runs.{Rests};
-ghost use Rattle.board.specs.Fuse.{refitted};
+ghost use Rattle.board.specs.Fuse.{fuse_after_set};
 ghost use Rattle.board.specs.Steps.{CallRun, Passes, SameBlocks, Unchanged};
 ghost use Rattle.board.specs.declared.fuse.Fuse.TheVariants.{Unset};
 ghost use Rattle.epoch.specs.Alone.{LeavesAlone};
 ghost use Rattle.epoch.specs.Finding.{IsSettledAt};
-ghost use Rattle.epoch.specs.Forms.{Form, Root, held};
+ghost use Rattle.epoch.specs.Forms.{Form, Root, held_in};
 ghost use Rattle.epoch.specs.Mounts.{IsAdmitted, IsAlwaysSound, IsBack, IsFormed, IsKeptFromOpening, IsOpenedTo, IsOrdered, IsRefusal, IsRefusedNow, IsSeenOn, LeavesOpening, OpensAfterPower, OpensAgain, OrderRun, PowerFirst};
 ghost use Rattle.epoch.specs.Opening.{is_no_failure, no_failure};
 ghost use Rattle.epoch.specs.Past.{KeepsPast};
@@ -94,13 +94,13 @@ pub trait BoardVolume<B: Board>: Volume + Sized {
         // a board at rest with a sound image is opened, unless a call failed or there was no memory
         ensures opened { B.honest board → (n : ℕ) (h : Held) → Rests n (B.view board).state
             → form.blocks ≤ (B.view board).size
-            → held form (B.view board).key (B.view board).state.reads n ≡ Some h
+            → held_in form (B.view board).key (B.view board).state.reads n ≡ Some h
             → IfOk result (λ v. Self.keeper.honest v
             × IsOpenedTo form (B.view board) h (Self.keeper.held v)
             × LeavesOpening form h (B.view board) (B.view (board_of v))) }
         ensures unopened { B.honest board → (n : ℕ) (h : Held) → Rests n (B.view board).state
             → form.blocks ≤ (B.view board).size
-            → held form (B.view board).key (B.view board).state.reads n ≡ Some h
+            → held_in form (B.view board).key (B.view board).state.reads n ≡ Some h
             → IfErr result (λ u. IsKeptFromOpening u.why
             × LeavesOpening form h (B.view board) (B.view u.board)) };
 
@@ -156,7 +156,7 @@ pub trait BoardVolume<B: Board>: Volume + Sized {
             (B.view (board_of self.new)).state.faults }
         ensures back { IsBack Self.keeper result self.new }
         ensures honest { B.honest (board_of self.old) → B.honest (board_of self.new) }
-        ensures exact { B.honest (board_of self.old) → (c : Outcome)
+        ensures exact { B.honest (board_of self.old) → (c : CrashImage)
             × IsLeft (B.view (board_of self.old)).state c
             × IfErr result (λ why. IsRefusal form (B.view (board_of self.old)) c.image c.counter
             why)
@@ -188,7 +188,7 @@ pub trait BoardVolume<B: Board>: Volume + Sized {
     fn fuse(&mut self, calls: u32)
         ensures root { root self.new ≡ root self.old }
         ensures fuse { (B.view (board_of self.new)).fuse
-            ≡ refitted (B.view (board_of self.old)).fuse calls }
+            ≡ fuse_after_set (B.view (board_of self.old)).fuse calls }
         ensures alone { B.honest (board_of self.old)
             → Passes (B.view (board_of self.old)) (B.view (board_of self.new))
             × Unchanged (B.view (board_of self.old)).state

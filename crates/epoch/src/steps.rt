@@ -4,7 +4,7 @@ ghost use Rattle.std.specs.Prelude.{◌≡◌, ◌≢◌, ◌≤◌, ◌<◌, �
 ghost use Rattle.tee_base.specs.Crash.{LeavesOnly};
 ghost use Rattle.board.specs.Moment.{View, moment, left_since};
 ghost use Rattle.board.specs.Runs.{Rests, RunsOver};
-ghost use Rattle.board.specs.Steps.{capped, CallRun};
+ghost use Rattle.board.specs.Steps.{up_to_limit, CallRun};
 ghost use Rattle.epoch.specs.Alone.{LeavesAlone};
 ghost use Rattle.epoch.specs.Gates.{gate_at, gate_open, shut_gate};
 ghost use Rattle.epoch.specs.Opening.{opening_of};
@@ -75,7 +75,7 @@ pub fn flip<B: Board>(board: &mut B, slot: u8) -> Result<u64, BoardFailed>
     requires slot { slot < 2 }
     requires size { 4 ≤ (B.view board.old).size }
     ensures calls { CallRun (is_ok result) (B.view board.old) (B.view board.new) }
-    ensures writes { (B.view board.new).writes ≡ capped ((B.view board.old).writes + 1) }
+    ensures writes { (B.view board.new).writes ≡ up_to_limit ((B.view board.old).writes + 1) }
     ensures honest { B.honest board.old → B.honest board.new }
     ensures past { B.honest board.old → KeepsPast (B.view board.old) (B.view board.new) }
     ensures elsewhere { B.honest board.old → (k : ℕ) → k ≢ gate_at slot

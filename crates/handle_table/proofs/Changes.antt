@@ -10,7 +10,7 @@ use Rattle.share_rules.specs.declared.index.Share.{Share}
 use Rattle.handle_table.specs.declared.handle.Handle.{Handle}
 use Rattle.handle_table.specs.declared.handle.Handle.TheVariants.{Persistent, Transient}
 use Rattle.handle_table.specs.declared.handle.Entry.{Entry}
-use Rattle.handle_table.specs.Handles.{share_of, entry_share, change_first, entry_sought, sought, entry_moved, moved}
+use Rattle.handle_table.specs.Handles.{share_of, entry_share, change_first, entry_sought, with_position, entry_moved, with_identifier}
 use Rattle.handle_table.proofs.Counts.{weight, weight_of}
 
 first_changed : {X : Type 0} (q : X → Bool) (f : X → X) (xs : List X) (i : ℕ) (d : X) → i < length xs → q (get_or xs i d) ≡ true → ((k : ℕ) → k < i → q (get_or xs k d) ≡ false) →
@@ -78,7 +78,7 @@ sum_change q g f same (x ∷ xs) =
     (λ (no : q x ≡ false). rw no (sum_by-cons f x (change_first q g xs) ∙ ap (λ n. f x + n) (sum_change q g f same xs) ∙ sym (sum_by-cons f x xs)))
     (cases_Bool (q x))
 
-sought_share : (to : ℕ) (h : Handle) → share_of (sought to h) ≡ share_of h
+sought_share : (to : ℕ) (h : Handle) → share_of (with_position to h) ≡ share_of h
 sought_share to (Persistent id flags position) = refl
 sought_share to Transient = refl
 
@@ -89,7 +89,7 @@ sought_weight p to e = ap (weight p) (sought_share to e.handle)
 abbrev pub on_other : List ℕ → Share → Share
 on_other to s = record { id = to; flags = s.flags }
 
-moved_share : (to : List ℕ) (h : Handle) → share_of (moved to h) ≡ option_map (on_other to) (share_of h)
+moved_share : (to : List ℕ) (h : Handle) → share_of (with_identifier to h) ≡ option_map (on_other to) (share_of h)
 moved_share to (Persistent id flags position) = refl
 moved_share to Transient = refl
 

@@ -11,21 +11,21 @@ use Rattle.share_rules.specs.Sharing.{Gains, is_noted, conflict}
 use Rattle.handle_table.specs.declared.handle.Handle.{Handle}
 use Rattle.handle_table.specs.declared.handle.Entry.{Entry}
 use Rattle.handle_table.specs.declared.handle.Rename.{Rename}
-use Rattle.handle_table.specs.Handles.{Table, IsTable, HoldsFor, noted, shares_of, share_of, entry_share, share_at, pending_share}
+use Rattle.handle_table.specs.Handles.{Table, IsTable, HoldsFor, all_shares, shares_of, share_of, entry_share, share_at, pending_share}
 use Rattle.handle_table.specs.Handles.{is_of, is_at, is_full, may_open, change_first, entry_sought, entry_moved}
 use Rattle.handle_table.proofs.Counts.{weight, weight_of, count-shares_of, count_option, noted_from_weight}
 use Rattle.handle_table.proofs.Conflicts.{conflict_same}
 use Rattle.handle_table.proofs.Changes.{sum_change, sought_weight, sum_moved, on_other}
 
 -- without a pending rename the shares of the handles are noted, and no others
-pub bare : (shares : List Share) (handles : List Entry) (pending : Option Rename) → pending ≡ None → HoldsFor shares (noted (record { handles = handles; pending = pending })) →
+pub bare : (shares : List Share) (handles : List Entry) (pending : Option Rename) → pending ≡ None → HoldsFor shares (all_shares (record { handles = handles; pending = pending })) →
     HoldsFor shares (shares_of handles)
 bare shares handles pending none holds p =
     let nothing : weight p (pending_share pending handles) ≡ 0 = ap (λ (o : Option Rename). weight p (pending_share o handles)) none in
     omega (arith, holds p, count_option p (shares_of handles) (pending_share pending handles), nothing)
 
 pub unbare : (shares : List Share) (handles : List Entry) (pending : Option Rename) → pending ≡ None → HoldsFor shares (shares_of handles) →
-    HoldsFor shares (noted (record { handles = handles; pending = pending }))
+    HoldsFor shares (all_shares (record { handles = handles; pending = pending }))
 unbare shares handles pending none holds p =
     let nothing : weight p (pending_share pending handles) ≡ 0 = ap (λ (o : Option Rename). weight p (pending_share o handles)) none in
     omega (arith, holds p, count_option p (shares_of handles) (pending_share pending handles), nothing)
@@ -33,7 +33,7 @@ unbare shares handles pending none holds p =
 pub none_pending : (t now : Table) → t ≡ now → now.pending ≡ None → t.pending ≡ None
 none_pending t now same none = ap (λ (t : Table). t.pending) same ∙ none
 
-pub may_open_same : (shares : List Share) (t now : Table) (id : List ℕ) (flags : Flags) → t ≡ now → now.pending ≡ None → HoldsFor shares (noted t) →
+pub may_open_same : (shares : List Share) (t now : Table) (id : List ℕ) (flags : Flags) → t ≡ now → now.pending ≡ None → HoldsFor shares (all_shares t) →
     not (conflict shares id flags) ≡ may_open now id flags
 may_open_same shares t now id flags same none holds =
     ap not (conflict_same shares (shares_of t.handles) id flags (bare shares t.handles t.pending (none_pending t now same none) holds)) ∙ ap (λ (t : Table). may_open t id flags) same

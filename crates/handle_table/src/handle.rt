@@ -21,7 +21,7 @@ pub enum Handle {
 
 impl Handle {
     ghost use Rattle.std.specs.Prelude.{◌≡◌, option_map};
-    ghost use Rattle.handle_table.specs.Handles.{is_on, share_of, sought, moved};
+    ghost use Rattle.handle_table.specs.Handles.{is_on, share_of, with_position, with_identifier};
 
     /// Whether it is on the persistent object of this identifier.
     pub fn is_on(&self, id: &[u8]) -> bool
@@ -45,7 +45,7 @@ impl Handle {
 
     /// Sets where the next read or write begins.
     pub fn seek(&mut self, to: u32)
-        ensures { self.new ≡ sought to self.old }
+        ensures { self.new ≡ with_position to self.old }
     {
         if let Handle::Persistent { position, .. } = self {
             *position = to;
@@ -55,7 +55,7 @@ impl Handle {
     /// Puts it on the object of another identifier, and hands back the identifier and the flags that it had.
     pub fn move_to(&mut self, to: Bytes) -> Option<Share>
         ensures before { result ≡ share_of self.old }
-        ensures after { self.new ≡ moved to self.old }
+        ensures after { self.new ≡ with_identifier to self.old }
     {
         match self {
             Handle::Persistent { id, flags, .. } => Some(Share {

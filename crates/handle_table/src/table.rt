@@ -29,7 +29,7 @@ impl Model for HandleTable {
 impl HandleTable {
     ghost use Rattle.std.specs.Prelude.{◌≡◌, ◌↔◌, IsTrue, IfOk, OnOk, OnErr, Err, None, Some, not, option_map, is_some};
     ghost use Rattle.handle_table.specs.declared.handle.Handle.TheVariants.{Persistent as on_object, Transient as in_memory};
-    ghost use Rattle.handle_table.specs.Handles.{Table, no_handles, may_open, is_open, is_full, is_there, is_alone, free_number, handle_at, added, sought_at, closed, all_closed, rename_started, rename_ended};
+    ghost use Rattle.handle_table.specs.Handles.{Table, no_handles, may_open, is_open, is_full, is_there, is_alone, free_number, handle_at, with_handle, sought_at, without_handle, all_closed, rename_started, rename_ended};
 
     /// No handles. It takes no memory.
     pub fn new(alloc: Global) -> HandleTable
@@ -75,7 +75,8 @@ impl HandleTable {
         requires no_rename { self.old.pending ≡ None }
         requires may_open { IsTrue (may_open self.old id.now flags) }
         ensures number { IfOk result (λ n. n ≡ free_number self.old.handles instance) }
-        ensures ok { OnOk result (self.new ≡ added self.old instance (on_object id.now flags 0)) }
+        ensures ok { OnOk result (self.new
+            ≡ with_handle self.old instance (on_object id.now flags 0)) }
         ensures full { (result ≡ Err HandleAnswer.Full) ↔ IsTrue (is_full self.old instance) }
         ensures unchanged { OnErr result (self.new ≡ self.old) }
     {
@@ -110,7 +111,7 @@ impl HandleTable {
     pub fn add_transient(&mut self, instance: u8) -> Result<u32, HandleAnswer>
         requires { self.old.pending ≡ None }
         ensures number { IfOk result (λ n. n ≡ free_number self.old.handles instance) }
-        ensures ok { OnOk result (self.new ≡ added self.old instance in_memory) }
+        ensures ok { OnOk result (self.new ≡ with_handle self.old instance in_memory) }
         ensures full { (result ≡ Err HandleAnswer.Full) ↔ IsTrue (is_full self.old instance) }
         ensures unchanged { OnErr result (self.new ≡ self.old) }
     {
@@ -146,7 +147,7 @@ impl HandleTable {
     pub fn close(&mut self, instance: u8, number: u32)
         requires no_rename { self.old.pending ≡ None }
         requires there { IsTrue (is_there self.old instance number) }
-        ensures { self.new ≡ closed self.old instance number }
+        ensures { self.new ≡ without_handle self.old instance number }
     {
         let closing = Closing::One { instance, number };
         lists::forget_all(&mut self.shares, self.handles.as_slice(), closing);

@@ -13,7 +13,7 @@ use Rattle.instances.specs.declared.session.SessionState.TheVariants.{Opening, D
 use Rattle.instances.specs.declared.instances.Admission.{Admission}
 use Rattle.instances.specs.declared.instances.Refusal.{Refusal}
 use Rattle.instances.specs.Instances.{Table, IsTable, session_of, session_numbers, instance_numbers, admission_of, own_instance, shared_instance, has_session, busy}
-use Rattle.instances.specs.Instances.{bad_state, entered, with_state, state_set, session_removed, with_ending, destroy_begun, stays_after_end, killed, ended}
+use Rattle.instances.specs.Instances.{bad_state, with_session, with_state, state_set, session_removed, with_ending, destroy_begun, stays_after_end, dead_if_of, without_instance}
 use Rattle.instances.proofs.Fitting.{Fits, Fits-push, Fits-filter, Fits-map, number_of, number_of_slot, slots_Fits, sessions_Fits, IsTable-from_Fits}
 
 -- an admission's numbers are free, and there is room for them
@@ -66,7 +66,7 @@ record SlotsFit (single : Bool) (slots : List Slot) : Type 0 where
   numbers : Fits number_of_slot MAX_INSTANCES slots
   one : single ≡ true → length slots ≤ 1
 
-pub entered_IsTable : (t : Table) (client label : ℕ) (a : Admission) → IsTable t → IsAdmitted t a → IsTable (entered t client label a)
+pub entered_IsTable : (t : Table) (client label : ℕ) (a : Admission) → IsTable t → IsAdmitted t a → IsTable (with_session t client label a)
 entered_IsTable t client label a old fits =
     let session : Session = record { client = client; label = label; number = a.session; instance = a.instance; state = Opening } in
     let slot : Slot = record { number = a.instance; ending = false } in
@@ -78,7 +78,7 @@ entered_IsTable t client label a old fits =
           λ single. omega (arith, length_push t.slots slot, fits.one new single);
     })
     (λ _. record { numbers = slots_Fits t old; one = old.one_instance }) in
-    IsTable-from_Fits (entered t client label a) slots.numbers (Fits-push number_of MAX_SESSIONS t.sessions session (sessions_Fits t old) fits.session fits.room) slots.one
+    IsTable-from_Fits (with_session t client label a) slots.numbers (Fits-push number_of MAX_SESSIONS t.sessions session (sessions_Fits t old) fits.session fits.room) slots.one
 
 -- with other instances, of which there aren't more
 pub with_slots : (t : Table) (slots : List Slot) → IsTable t → Fits number_of_slot MAX_INSTANCES slots → length slots ≤ length t.slots → IsTable (record t { slots = slots })
@@ -110,12 +110,12 @@ destroy_begun_IsTable t instance old =
     (λ slot. keeps_slot_number (slot.number == instance) (record slot { ending = true }) slot refl) (slots_Fits t old))
     (omega (arith, length-map t.slots (with_ending instance)))
 
-pub ended_IsTable : (t : Table) (instance : ℕ) → IsTable t → IsTable (ended t instance)
+pub ended_IsTable : (t : Table) (instance : ℕ) → IsTable t → IsTable (without_instance t instance)
 ended_IsTable t instance old =
     let p : Slot → Bool = λ slot. not (slot.number == instance) in
     let fewer : IsTable (record t { slots = filter p t.slots }) = with_slots t (filter p t.slots) old (Fits-filter number_of_slot MAX_INSTANCES p t.slots (slots_Fits t old))
     (omega (arith, length-filter p t.slots, count_by-le-length p t.slots)) in
     let kept : List Session = filter (stays_after_end instance) t.sessions in
-    with_sessions (record t { slots = filter p t.slots }) (map (killed instance) kept) fewer (Fits-map number_of MAX_SESSIONS (killed instance) kept
+    with_sessions (record t { slots = filter p t.slots }) (map (dead_if_of instance) kept) fewer (Fits-map number_of MAX_SESSIONS (dead_if_of instance) kept
     (λ s. keeps_number (s.instance == instance) (record s { state = Dead }) s refl) (Fits-filter number_of MAX_SESSIONS (stays_after_end instance) t.sessions
     (sessions_Fits t old)))

@@ -14,6 +14,7 @@ use Rattle.instances.specs.declared.session.SessionState.{SessionState}
 use Rattle.instances.specs.declared.session.SessionState.TheVariants.{Opening, Open, Closing, Dead}
 use Rattle.instances.specs.declared.instances.Admission.{Admission}
 use Rattle.instances.specs.declared.instances.Refusal.{Refusal}
+use Rattle.tee_base.specs.Words.{InstanceNumber}
 
 -- the instances that exist, and the sessions, both in the order in which they came
 pub record Table : Type 0 where
@@ -45,11 +46,11 @@ is_dead Closing = false
 is_dead Dead = true
 
 -- a session that is opening, open or closing counts as a session of its instance
-abbrev pub counts_for : ℕ → Session → Bool
+abbrev pub counts_for : InstanceNumber → Session → Bool
 counts_for instance s = (s.instance == instance) && not (is_dead s.state)
 
 -- the instance has a session that counts
-abbrev pub has_session : Table → ℕ → Bool
+abbrev pub has_session : Table → InstanceNumber → Bool
 has_session t instance = list_any (counts_for instance) t.sessions
 
 -- an application of one instance that stays without a session
@@ -57,11 +58,11 @@ abbrev pub is_kept_alive : Properties → Bool
 is_kept_alive properties = properties.single && properties.keep
 
 -- the instance has no session and isn't kept alive
-abbrev pub is_left : Table → ℕ → Bool
+abbrev pub is_left : Table → InstanceNumber → Bool
 is_left t instance = not (has_session t instance) && not (is_kept_alive t.properties)
 
 -- there is an instance of this number
-abbrev pub slot_exists : Table → ℕ → Bool
+abbrev pub slot_exists : Table → InstanceNumber → Bool
 slot_exists t instance = list_any (λ slot. slot.number == instance) t.slots
 
 -- the numbers of all sessions
@@ -102,8 +103,8 @@ admission_of t client label =
     else own_instance t
 
 -- the table with one session more, which is opening, and with its instance where that is new
-abbrev pub entered : Table → ℕ → ℕ → Admission → Table
-entered t client label a = record {
+abbrev pub with_session : Table → ℕ → ℕ → Admission → Table
+with_session t client label a = record {
   properties = t.properties;
   slots = if a.new_instance then t.slots ++ record { number = a.instance; ending = false } ∷ [] else t.slots;
   sessions = t.sessions ++ record { client = client; label = label; number = a.session; instance = a.instance; state = Opening } ∷ [];
@@ -122,11 +123,11 @@ abbrev pub session_removed : Table → ℕ → Table
 session_removed t number = record t { sessions = filter (λ s. not (s.number == number)) t.sessions }
 
 -- the instance, with its end begun if it has this number
-abbrev pub with_ending : ℕ → Slot → Slot
+abbrev pub with_ending : InstanceNumber → Slot → Slot
 with_ending instance slot = if slot.number == instance then record slot { ending = true } else slot
 
 -- the table once the destroy entry of this instance has begun
-abbrev pub destroy_begun : Table → ℕ → Table
+abbrev pub destroy_begun : Table → InstanceNumber → Table
 destroy_begun t instance = record t { slots = map (with_ending instance) t.slots }
 
 -- an open session of the instance is dead, a dead one stays, and an opening or closing one goes
@@ -137,19 +138,19 @@ state_after_end Closing = None
 state_after_end Dead = Some Dead
 
 -- the session is still there once the instance has ended
-abbrev pub stays_after_end : ℕ → Session → Bool
+abbrev pub stays_after_end : InstanceNumber → Session → Bool
 stays_after_end instance s = not (s.instance == instance) || is_some (state_after_end s.state)
 
 -- the session, dead if it is of this instance
-abbrev pub killed : ℕ → Session → Session
-killed instance s = if s.instance == instance then record s { state = Dead } else s
+abbrev pub dead_if_of : InstanceNumber → Session → Session
+dead_if_of instance s = if s.instance == instance then record s { state = Dead } else s
 
 -- the table without the instance
-abbrev pub ended : Table → ℕ → Table
-ended t instance = record {
+abbrev pub without_instance : Table → InstanceNumber → Table
+without_instance t instance = record {
   properties = t.properties;
   slots = filter (λ slot. not (slot.number == instance)) t.slots;
-  sessions = map (killed instance) (filter (stays_after_end instance) t.sessions);
+  sessions = map (dead_if_of instance) (filter (stays_after_end instance) t.sessions);
 }
 
 -- the session is there

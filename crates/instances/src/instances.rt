@@ -69,7 +69,7 @@ impl Model for Instances {
 
 impl Instances {
     ghost use Rattle.std.specs.Prelude.{◌≡◌, ◌↔◌, IsTrue, IsSome, option_map, Ok};
-    ghost use Rattle.instances.specs.Instances.{Table, IsTable, no_instances, session_of, facts_of, admission_of, own_instance, shared_instance, entered, state_set, session_removed, has_session, has_number, is_left, slot_exists, destroy_begun, ended};
+    ghost use Rattle.instances.specs.Instances.{Table, IsTable, no_instances, session_of, facts_of, admission_of, own_instance, shared_instance, with_session, state_set, session_removed, has_session, has_number, is_left, slot_exists, destroy_begun, without_instance};
 
     /// No instance and no session.
     pub fn new(properties: Properties) -> Instances
@@ -141,7 +141,7 @@ impl Instances {
     /// Enters the session that was admitted, as opening, and its instance where that is new.
     pub fn enter(&mut self, client: u8, label: u32, admission: Admission)
         requires { admission_of self.old client label ≡ Ok admission }
-        ensures { self.new ≡ entered self.old client label admission }
+        ensures { self.new ≡ with_session self.old client label admission }
     {
         tables::add_instance(&mut self.slots, admission);
         self.sessions.push(Session {
@@ -207,7 +207,7 @@ impl Instances {
 
     /// The instance is gone: its open sessions are dead, its opening and closing ones go.
     pub fn end(&mut self, instance: u8)
-        ensures { self.new ≡ ended self.old instance }
+        ensures { self.new ≡ without_instance self.old instance }
     {
         let slots = tables::without_slot(self.slots.as_slice(), instance);
         self.slots = slots;

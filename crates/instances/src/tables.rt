@@ -3,7 +3,7 @@
 ghost use Rattle.std.specs.Prelude.{◌≡◌, ◌==◌, ◌≤◌, ◌<◌, [], ◌∷◌, ◌++◌, true, false, if◌then◌else◌, not, filter, map, find, option_map, length};
 ghost use Rattle.tee_base.specs.Numbers.{lowest_free};
 ghost use Rattle.tee_base.specs.declared.limits.TheConstants.{MAX_INSTANCES, MAX_SESSIONS};
-ghost use Rattle.instances.specs.Instances.{is_known_as, facts_of, with_state, with_ending, stays_after_end, killed};
+ghost use Rattle.instances.specs.Instances.{is_known_as, facts_of, with_state, with_ending, stays_after_end, dead_if_of};
 
 use crate::instances::Admission;
 use crate::session::{Session, SessionFacts, SessionState, Slot};
@@ -121,7 +121,7 @@ pub fn without_slot(slots: &[Slot], instance: u8) -> ArrayVec<Slot, MAX_INSTANCE
 pub fn after_end(sessions: &[Session], instance: u8) -> ArrayVec<Session, MAX_SESSIONS>
     requires { length sessions.now ≤ MAX_SESSIONS }
     ensures { result.items
-        ≡ map (killed instance) (filter (stays_after_end instance) sessions.now) }
+        ≡ map (dead_if_of instance) (filter (stays_after_end instance) sessions.now) }
 {
     let mut after = ArrayVec::<Session, MAX_SESSIONS>::new();
     for session in sessions {

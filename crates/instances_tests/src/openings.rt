@@ -1,7 +1,7 @@
 //! A whole opening: a client is admitted, and its session is entered.
 
 ghost use Rattle.std.specs.Prelude.{◌≡◌, IfOk, OnErr};
-ghost use Rattle.instances.specs.Instances.{admission_of, entered};
+ghost use Rattle.instances.specs.Instances.{admission_of, with_session};
 
 use instances::{Admission, Instances, Refusal};
 
@@ -13,7 +13,7 @@ use instances::{Admission, Instances, Refusal};
 pub fn open(instances: &mut Instances, client: u8, label: u32) -> Result<Admission, Refusal>
     ensures answer { result ≡ admission_of instances.old client label }
     ensures entered { IfOk result
-        (λ admission. instances.new ≡ entered instances.old client label admission) }
+        (λ admission. instances.new ≡ with_session instances.old client label admission) }
     ensures unchanged { OnErr result (instances.new ≡ instances.old) }
 {
     let admission = instances.admit(client, label)?;

@@ -10,7 +10,7 @@ use Rattle.store_api.specs.Stores.{Store, change}
 use Rattle.object_asks.specs.declared.outcome.Outcome.{Outcome as Result_of}
 use Rattle.object_asks.specs.declared.outcome.Outcome.TheVariants as outcomes
 use Rattle.object_asks.specs.declared.turn.TurnKind.TheVariants.{Plain, Lost}
-use Rattle.object_asks.specs.Resolutions.{Objects, Outcome, Answered, code_of, refused}
+use Rattle.object_asks.specs.Resolutions.{Objects, Outcome, Answered, code_of, refusal_with}
 use Rattle.object_asks.specs.Held.{Held}
 use Rattle.object_asks.specs.Serving.{EndsUnchanged, IsGiven, IsKept, IsOldOr, LeftByTurn, StaysBeside, UnlessInDoubt, kind_of, left_by, objects_in}
 use Rattle.object_asks.proofs.GivenLemmas.{only_want, refusal_given}
@@ -138,7 +138,7 @@ module _ {D : Type 0} (K : Keeper D) (honest_model : (d : D) → K.honest d → 
 
   -- the store refused, or was kept from its answer, and this is left; want of memory leaves what was held
   pub given_refused : {A : Type 0} (e : StoreAnswer) (by : Result Store StoreAnswer → Outcome Objects) (held kept left : Held)
-      → by (Err e) ≡ refused (objects_in kept (K.contents old)) (code_of e) → ((store : Store) → left_by (by (Ok store)) ≡ Some store)
+      → by (Err e) ≡ refusal_with (objects_in kept (K.contents old)) (code_of e) → ((store : Store) → left_by (by (Ok store)) ≡ Some store)
       → left ≡ kept → (e ≡ stores.NoMemory → left ≡ held) → applies {A = A} (Err e) → IsGiven K (Err e) (by stated) true held kept left old new
   given_refused {A} e by held kept left refuses doubt left_is stays made = record {
     gives = λ t. refusal_given {A = Store} e stated (by stated) (objects_in held (K.contents old)) (objects_in kept (K.contents old)) (objects_in left (K.contents new))

@@ -8,7 +8,7 @@ use Rattle.store_api.specs.Stores.{Store}
 use Rattle.object_asks.specs.declared.outcome.Outcome.{Outcome as Result_of}
 use Rattle.object_asks.specs.declared.turn.TurnKind.{TurnKind}
 use Rattle.object_asks.specs.declared.turn.TurnKind.TheVariants.{Plain}
-use Rattle.object_asks.specs.Resolutions.{Objects, Outcome, code_of, refused}
+use Rattle.object_asks.specs.Resolutions.{Objects, Outcome, code_of, refusal_with}
 use Rattle.object_asks.specs.Held.{Held}
 use Rattle.object_asks.specs.Serving.{CrashTurns, EndsUnchanged, Gives, IsGiven, IsKept, IsOutcome, LeftByTurn, StaysBeside, TriesOnce, kind_of, left_by, objects_in}
 use Rattle.object_asks.proofs.Crashes.{only_old, whatever}
@@ -17,7 +17,7 @@ use Rattle.object_asks.proofs.ServingLemmas.{ends_with}
 
 -- a refusal is the stated one, and leaves this
 pub refusal_given : {A : Type 0} (e : StoreAnswer) (stated : Result A StoreAnswer) (if_served : Outcome Objects) (before kept after : Objects) → Answers {A = A} (Err e) stated
-    → (stated ≡ Err e → if_served ≡ refused kept (code_of e)) → after ≡ kept → Gives (Err e) if_served before kept after
+    → (stated ≡ Err e → if_served ≡ refusal_with kept (code_of e)) → after ≡ kept → Gives (Err e) if_served before kept after
 refusal_given stores.NotFound stated if_served before kept after told refuses same = (refuses told, same)
 refusal_given stores.Exists stated if_served before kept after told refuses same = (refuses told, same)
 refusal_given stores.NoSpace stated if_served before kept after told refuses same = (refuses told, same)
@@ -103,7 +103,7 @@ module _ {D A : Type 0} (K : Keeper D) (honest_model : (d : D) → K.honest d �
 
   -- the read was refused, or was kept from its answer
   pub given_refusal : (e : StoreAnswer) (by : Result A StoreAnswer → Outcome Objects) (changes : Bool) (held : Held)
-      → by (Err e) ≡ refused (objects_in held (K.contents old)) (code_of e) → reads (Err e) → IsGiven K (Err e) (by (stated (K.contents old).store)) changes held held held old new
+      → by (Err e) ≡ refusal_with (objects_in held (K.contents old)) (code_of e) → reads (Err e) → IsGiven K (Err e) (by (stated (K.contents old).store)) changes held held held old new
   given_refusal e by changes held refuses read = record {
     gives = λ t. refusal_given e (stated (K.contents old).store) (by (stated (K.contents old).store)) (objects_in held (K.contents old)) (objects_in held (K.contents old))
         (objects_in held (K.contents new)) (read.answer t) (λ is. ap by is ∙ refuses) (ap (objects_in held) (read.same t));

@@ -13,7 +13,8 @@ use Rattle.share_rules.specs.Sharing.{flags_on, conflicts, uses_of, is_on as sha
 use Rattle.handle_table.specs.declared.handle.Entry.{Entry}
 use Rattle.handle_table.specs.declared.handle.Handle.{Handle}
 use Rattle.handle_table.specs.declared.handle.Handle.TheVariants.{Persistent, Transient}
-use Rattle.handle_table.specs.Handles.{added, change_first, closed, entry_is_on, entry_sought, free_number, handle_at, is_at, is_of, is_on, is_open, is_there, may_open, share_of, shares_of, sought}
+use Rattle.handle_table.specs.Handles.{with_handle, change_first, without_handle, entry_is_on, entry_sought, free_number, handle_at, is_at}
+use Rattle.handle_table.specs.Handles.{is_of, is_on, is_open, is_there, may_open, share_of, shares_of, with_position}
 use Rattle.object_asks.specs.Handles.{without_rename}
 use Rattle.object_asks.specs.Handles.{HasIdentifier, entry_has_identifier, has_identifier}
 
@@ -37,7 +38,7 @@ has_identifier_is Transient h = tt
 pub all_added : (hs : List Entry) (e : Entry) → list_all entry_has_identifier hs ≡ true → entry_has_identifier e ≡ true → list_all entry_has_identifier (hs ++ e ∷ []) ≡ true
 all_added hs e old new = list_all-append entry_has_identifier hs (e ∷ []) ∙ both _ _ old (both _ _ new refl)
 
-sought_keeps : (to : ℕ) (h : Handle) → has_identifier (sought to h) ≡ has_identifier h
+sought_keeps : (to : ℕ) (h : Handle) → has_identifier (with_position to h) ≡ has_identifier h
 sought_keeps to (Persistent id flags position) = refl
 sought_keeps to Transient = refl
 
@@ -141,7 +142,7 @@ absent i n (e ∷ hs) none =
 pub free_absent : (hs : List Entry) (i : ℕ) → list_any (is_at i (free_number hs i)) hs ≡ false
 free_absent hs i = absent i (free_number hs i) hs (lowest_free-untaken (map (λ e. e.number) (filter (is_of i) hs)))
 
-pub closed_again : (hs : List Entry) (i : ℕ) (h : Handle) → (closed (added (without_rename hs) i h) i (free_number hs i)).handles ≡ hs
+pub closed_again : (hs : List Entry) (i : ℕ) (h : Handle) → (without_handle (with_handle (without_rename hs) i h) i (free_number hs i)).handles ≡ hs
 closed_again hs i h =
     let n = free_number hs i in
     let new : Entry = record { instance = i; number = n; handle = h } in
@@ -171,6 +172,6 @@ any_end : (test : Entry → Bool) (hs : List Entry) (e : Entry) → test e ≡ t
 any_end test [] e here = rw here refl
 any_end test (x ∷ hs) e here = elim (test x) as (λ b. (b || list_any test (hs ++ e ∷ [])) ≡ true) [ true ↦ refl | false ↦ any_end test hs e here ]
 
-pub added_there : (hs : List Entry) (i : ℕ) (h : Handle) → is_there (added (without_rename hs) i h) i (free_number hs i) ≡ true
+pub added_there : (hs : List Entry) (i : ℕ) (h : Handle) → is_there (with_handle (without_rename hs) i h) i (free_number hs i) ≡ true
 added_there hs i h = any_end (is_at i (free_number hs i)) hs (record { instance = i; number = free_number hs i; handle = h })
     (both _ _ (eq-eqb i i refl) (eq-eqb (free_number hs i) (free_number hs i) refl))

@@ -13,7 +13,7 @@ use Rattle.tee_base.specs.declared.codes.Flags.{Flags}
 use Rattle.handle_table.specs.declared.handle.Entry.{Entry}
 use Rattle.handle_table.specs.declared.handle.Handle.{Handle}
 use Rattle.handle_table.specs.declared.handle.Handle.TheVariants.{Persistent, Transient}
-use Rattle.handle_table.specs.Handles.{change_first, entry_moved, entry_sought, free_number, handle_at, is_at, moved, sought}
+use Rattle.handle_table.specs.Handles.{change_first, entry_moved, entry_sought, free_number, handle_at, is_at, with_identifier, with_position}
 use Rattle.object_asks.specs.Handles.{entry_has_identifier, has_identifier, without_rename}
 use Rattle.transient_obj.specs.Keys.{Key}
 use Rattle.object_asks.specs.Held.{BelongTogether, Held, NumberedKey, NumberedList, handle_added, handle_closed, is_in_memory, is_transient}
@@ -49,7 +49,7 @@ pub together_left : (f : ℕ × ℕ → Bool) (hs : List Entry) (ks : List Numbe
 together_left f hs ks together = places_left f ks ∙ ap (filter f) together ∙ sym (memory_left f hs)
 
 -- a position makes no difference
-sought_in_memory : (to : ℕ) (h : Handle) → is_transient (sought to h) ≡ is_transient h
+sought_in_memory : (to : ℕ) (h : Handle) → is_transient (with_position to h) ≡ is_transient h
 sought_in_memory to (Persistent id flags position) = refl
 sought_in_memory to Transient = refl
 
@@ -160,7 +160,7 @@ sum_first q g w (x ∷ xs) e here =
     ∙ sum_by-cons w x (change_first q g xs) in
     omega (arith, stays, sum_by-cons w x xs, sum_first q g w xs e later))
 
-moved_in_memory : (to : List ℕ) (h : Handle) → is_transient (moved to h) ≡ is_transient h
+moved_in_memory : (to : List ℕ) (h : Handle) → is_transient (with_identifier to h) ≡ is_transient h
 moved_in_memory to (Persistent id flags position) = refl
 moved_in_memory to Transient = refl
 
@@ -180,7 +180,7 @@ memory_moved test to (e ∷ hs) =
 pub together_moved : (test : Entry → Bool) (to : List ℕ) (hs : List Entry) (ks : List NumberedKey) → BelongTogether hs ks → BelongTogether (change_first test (entry_moved to) hs) ks
 together_moved test to hs ks together = together ∙ sym (memory_moved test to hs)
 
-moved_has : (to : List ℕ) (h : Handle) → nat_le (length to) 64 ≡ true → has_identifier (moved to h) ≡ true
+moved_has : (to : List ℕ) (h : Handle) → nat_le (length to) 64 ≡ true → has_identifier (with_identifier to h) ≡ true
 moved_has to (Persistent id flags position) short = short
 moved_has to Transient short = refl
 

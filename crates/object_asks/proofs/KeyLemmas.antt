@@ -6,8 +6,8 @@ use Rattle.store_api.specs.declared.answer.StoreAnswer.{StoreAnswer}
 use Rattle.store_api.specs.declared.answer.StoreAnswer.TheVariants as stores
 use Rattle.store_api.specs.Keeping.{Keeper, Reads}
 use Rattle.transient_obj.specs.declared.object_key.ObjectKey.{ObjectKey}
-use Rattle.object_asks.specs.declared.lending.KeyFound.{KeyFound}
-use Rattle.object_asks.specs.declared.lending.KeyFound.TheVariants as finds
+use Rattle.transient_obj.specs.declared.look.KeyLook.{KeyLook}
+use Rattle.transient_obj.specs.declared.look.KeyLook.TheVariants as finds
 use Rattle.object_asks.specs.declared.lending.KeyServed.{KeyServed}
 use Rattle.object_asks.specs.declared.turn.TurnKind.TheVariants.{Plain}
 use Rattle.tee_base.specs.declared.codes.TheConstants.Code.{STORAGE_NOT_AVAILABLE}
@@ -19,10 +19,10 @@ use Rattle.object_asks.proofs.Crashes.{idle_keeps}
 use Rattle.object_asks.proofs.ServingLemmas.{by_nothing, stays}
 
 -- where the store isn't lost, and where it is
-serves : (lost : Bool) (if_served : KeyFound) → lost ≡ false → key_came_of Serves lost (KeyComesToStore if_served) ≡ if_served
+serves : (lost : Bool) (if_served : KeyLook) → lost ≡ false → key_came_of Serves lost (KeyComesToStore if_served) ≡ if_served
 serves lost if_served e = rw e refl
 
-keeps : (lost : Bool) (if_served : KeyFound) → lost ≡ true → key_came_of Serves lost (KeyComesToStore if_served) ≡ finds.Refused STORAGE_NOT_AVAILABLE
+keeps : (lost : Bool) (if_served : KeyLook) → lost ≡ true → key_came_of Serves lost (KeyComesToStore if_served) ≡ finds.Refused STORAGE_NOT_AVAILABLE
 keeps lost if_served e = rw e refl
 
 abbrev told_as : StoreAnswer → KeyServed
@@ -42,7 +42,7 @@ untold (Err (stores.Garbled leaf)) told = absurd (let e : Some (told_as (stores.
 
 module _ {D : Type 0} (K : Keeper D) where
   -- a look that is settled before the store is asked
-  settled_key : (found : KeyFound) (old : D) → IsKeyServed K (key_plainly found) (KeySettled found) old old
+  settled_key : (found : KeyLook) (old : D) → IsKeyServed K (key_plainly found) (KeySettled found) old old
   settled_key found old = record {
     outcome = λ t. refl;
     same = λ t. refl;
@@ -56,7 +56,7 @@ module _ {D : Type 0} (K : Keeper D) where
     crash = (by_nothing K old).crash;
   }
 
-  pub tells_settled : (served : KeyServed) (resolution : KeyResolution) (found : KeyFound) (old : D) → served ≡ key_plainly found → resolution ≡ KeySettled found
+  pub tells_settled : (served : KeyServed) (resolution : KeyResolution) (found : KeyLook) (old : D) → served ≡ key_plainly found → resolution ≡ KeySettled found
       → TellsKey K (Ok served) resolution old old
   tells_settled served resolution found old is same = rw (is, same) (record { served = settled_key found old; tried = refl; want = tt })
 

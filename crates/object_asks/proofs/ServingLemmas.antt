@@ -11,7 +11,7 @@ use Rattle.store_api.specs.Keeping.{Status, Keeper, HasCause, LeavesJust}
 use Rattle.object_asks.specs.Held.{Held}
 use Rattle.object_asks.specs.declared.turn.TurnKind.{TurnKind}
 use Rattle.object_asks.specs.declared.turn.TurnKind.TheVariants.{Plain}
-use Rattle.object_asks.specs.Asks.{Outcome, Answered, Panicked, Resolution, Settled, ComesToStore, Objects, came_of, code_of, holding, outcome_in, refused, Serves, without_store}
+use Rattle.object_asks.specs.Asks.{Outcome, Answered, Panicked, Resolution, Settled, ComesToStore, Objects, came_of, code_of, with_held, outcome_in, refusal_with, Serves, without_store}
 use Rattle.tee_base.specs.declared.codes.TheConstants.Code.{STORAGE_NOT_AVAILABLE}
 use Rattle.object_asks.specs.declared.outcome.Outcome.{Outcome as Result_of}
 use Rattle.object_asks.specs.declared.outcome.Outcome.TheVariants as outcomes
@@ -24,7 +24,7 @@ use Rattle.object_asks.proofs.Crashes.{idle_crash, idle_keeps}
 serves : (lost : Bool) (s : Objects) (if_served : Outcome Objects) → lost ≡ false → came_of Serves lost (ComesToStore s if_served) ≡ if_served
 serves lost s if_served e = rw e refl
 
-keeps : (lost : Bool) (s : Objects) (if_served : Outcome Objects) → lost ≡ true → came_of Serves lost (ComesToStore s if_served) ≡ refused s STORAGE_NOT_AVAILABLE
+keeps : (lost : Bool) (s : Objects) (if_served : Outcome Objects) → lost ≡ true → came_of Serves lost (ComesToStore s if_served) ≡ refusal_with s STORAGE_NOT_AVAILABLE
 keeps lost s if_served e = rw e refl
 
 pub stays : (s : Status) → HasStatus Plain s s
@@ -63,13 +63,13 @@ module _ {D : Type 0} (K : Keeper D) where
 
   -- the store refuses
   declined : (answer : StoreAnswer) (if_served : Outcome Objects) (changes : Bool) (held kept left : Held) (old new : D)
-      → kind_of changes answer ≡ Plain → (K.has_model old → (if_served ≡ refused (objects_in kept (K.contents old)) (code_of answer))
+      → kind_of changes answer ≡ Plain → (K.has_model old → (if_served ≡ refusal_with (objects_in kept (K.contents old)) (code_of answer))
       × (objects_in left (K.contents new) ≡ objects_in kept (K.contents old)))
       → (K.status old).lost ≡ false → HasStatus Plain (K.status old) (K.status new) → (K.honest old → K.honest new)
       → IsKept K old new → (K.honest old → LeavesJust K old (K.contents old) → CrashTurns K (kind_of changes answer) (left_by if_served) old new)
       → IsServed K (plainly (outcomes.Answered (Refused (code_of answer)))) (ComesToStore (objects_in kept (K.contents old)) if_served) changes held left old new
   declined answer if_served changes held kept left old new kind gives works stands sound keeps crash = record {
-    outcome = λ t. serves (K.status old).lost _ if_served works ∙ (gives t).0 ∙ ap (λ s. refused s (code_of answer)) (sym (gives t).1);
+    outcome = λ t. serves (K.status old).lost _ if_served works ∙ (gives t).0 ∙ ap (λ s. refusal_with s (code_of answer)) (sym (gives t).1);
     ends = tt;
     reaches = λ t. tt;
     change = tt;
@@ -127,7 +127,7 @@ module _ {D : Type 0} (K : Keeper D) where
   told_served (Err stores.Lost) if_served changes held kept left old new given =
       let met : HasCause (Err stores.Lost) (K.status old) (K.status new) = given.cause (λ e. let f : (Err stores.Lost) ≡ Err stores.NoMemory = e in cc) in
       record {
-        outcome = λ t. keeps (K.status old).lost _ if_served met.cause.0 ∙ ap (λ s. refused s STORAGE_NOT_AVAILABLE) (sym (given.gives t));
+        outcome = λ t. keeps (K.status old).lost _ if_served met.cause.0 ∙ ap (λ s. refusal_with s STORAGE_NOT_AVAILABLE) (sym (given.gives t));
         ends = tt;
         reaches = λ t. tt;
         change = tt;
@@ -140,7 +140,7 @@ module _ {D : Type 0} (K : Keeper D) where
   told_served (Err stores.Failed) if_served changes held kept left old new given =
       let met : HasCause (Err stores.Failed) (K.status old) (K.status new) = given.cause (λ e. let f : (Err stores.Failed) ≡ Err stores.NoMemory = e in cc) in
       record {
-        outcome = λ t. ap (λ s. refused s STORAGE_NOT_AVAILABLE) (sym (given.gives t));
+        outcome = λ t. ap (λ s. refusal_with s STORAGE_NOT_AVAILABLE) (sym (given.gives t));
         ends = tt;
         reaches = λ t. refl;
         change = refl;
@@ -153,7 +153,7 @@ module _ {D : Type 0} (K : Keeper D) where
   told_served (Err (stores.Corrupt tags)) if_served changes held kept left old new given =
       let met : HasCause (Err (stores.Corrupt tags)) (K.status old) (K.status new) = given.cause (λ e. let f : (Err (stores.Corrupt tags)) ≡ Err stores.NoMemory = e in cc) in
       record {
-        outcome = λ t. ap (λ s. refused s (code_of (stores.Corrupt tags))) (sym (given.gives t));
+        outcome = λ t. ap (λ s. refusal_with s (code_of (stores.Corrupt tags))) (sym (given.gives t));
         ends = tt;
         reaches = λ t. refl;
         change = tt;
@@ -166,7 +166,7 @@ module _ {D : Type 0} (K : Keeper D) where
   told_served (Err (stores.Garbled leaf)) if_served changes held kept left old new given =
       let met : HasCause (Err (stores.Garbled leaf)) (K.status old) (K.status new) = given.cause (λ e. let f : (Err (stores.Garbled leaf)) ≡ Err stores.NoMemory = e in cc) in
       record {
-        outcome = λ t. ap (λ s. refused s (code_of (stores.Garbled leaf))) (sym (given.gives t));
+        outcome = λ t. ap (λ s. refusal_with s (code_of (stores.Garbled leaf))) (sym (given.gives t));
         ends = tt;
         reaches = λ t. refl;
         change = tt;
@@ -276,10 +276,10 @@ module _ {D : Type 0} (K : Keeper D) where
 
   -- an ask that never needs the store
   pub left_in : (outcome : Result_of) (stated : Outcome Held) (held left : Held) (old : D) → IsOutcome outcome stated held left
-      → IsOutcome outcome (outcome_in (holding (objects_in held (K.contents old))) stated) (objects_in held (K.contents old)) (objects_in left (K.contents old))
-  left_in (outcomes.Answered answer) stated held left old is = ap (outcome_in (holding (objects_in held (K.contents old)))) is
-  left_in (outcomes.Returned ending) stated held left old is = (ap (outcome_in (holding (objects_in held (K.contents old)))) is.0, ap (λ h. objects_in h (K.contents old)) is.1)
-  left_in outcomes.Panicked stated held left old is = (ap (outcome_in (holding (objects_in held (K.contents old)))) is.0, ap (λ h. objects_in h (K.contents old)) is.1)
+      → IsOutcome outcome (outcome_in (with_held (objects_in held (K.contents old))) stated) (objects_in held (K.contents old)) (objects_in left (K.contents old))
+  left_in (outcomes.Answered answer) stated held left old is = ap (outcome_in (with_held (objects_in held (K.contents old)))) is
+  left_in (outcomes.Returned ending) stated held left old is = (ap (outcome_in (with_held (objects_in held (K.contents old)))) is.0, ap (λ h. objects_in h (K.contents old)) is.1)
+  left_in outcomes.Panicked stated held left old is = (ap (outcome_in (with_held (objects_in held (K.contents old)))) is.0, ap (λ h. objects_in h (K.contents old)) is.1)
 
   pub serves_held : (served : Served) (outcome : Result_of) (resolution : Resolution Objects) (stated : Outcome Held) (changes : Bool) (held left : Held) (old : D)
       → served ≡ plainly outcome → resolution ≡ without_store (objects_in held (K.contents old)) stated → IsOutcome outcome stated held left

@@ -14,7 +14,7 @@ use Rattle.store_api.specs.Stores.{Store, has}
 use Rattle.handle_table.specs.declared.handle.Entry.{Entry}
 use Rattle.handle_table.specs.declared.handle.Handle.{Handle}
 use Rattle.handle_table.specs.declared.handle.Handle.TheVariants.{Persistent, Transient}
-use Rattle.handle_table.specs.Handles.{change_first, entry_is_on, entry_sought, is_on, may_open, share_of, shares_of, sought}
+use Rattle.handle_table.specs.Handles.{change_first, entry_is_on, entry_sought, is_on, may_open, share_of, shares_of, with_position}
 use Rattle.handle_table.proofs.Changes.{sum_change}
 use Rattle.object_asks.specs.Handles.{without_rename}
 use Rattle.object_asks.specs.Held.{AreSole, meta_writers, ones_on, writes_meta_on}
@@ -45,11 +45,11 @@ fewer_sound store stays hs sound = record {
   sole = fewer_sole stays hs sound.sole;
 }
 
-sought_on : (id : List ℕ) (to : ℕ) (h : Handle) → is_on id (sought to h) ≡ is_on id h
+sought_on : (id : List ℕ) (to : ℕ) (h : Handle) → is_on id (with_position to h) ≡ is_on id h
 sought_on id to (Persistent own flags position) = refl
 sought_on id to Transient = refl
 
-sought_meta : (id : List ℕ) (to : ℕ) (h : Handle) → writes_meta_on id (sought to h) ≡ writes_meta_on id h
+sought_meta : (id : List ℕ) (to : ℕ) (h : Handle) → writes_meta_on id (with_position to h) ≡ writes_meta_on id h
 sought_meta id to (Persistent own flags position) = refl
 sought_meta id to Transient = refl
 

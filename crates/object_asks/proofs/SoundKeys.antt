@@ -8,13 +8,13 @@ use Rattle.store_api.specs.declared.answer.StoreAnswer.{StoreAnswer}
 use Rattle.transient_obj.specs.declared.answer.KeyAnswer.{KeyAnswer}
 use Rattle.transient_obj.specs.declared.answer.KeyAnswer.TheVariants as refusals
 use Rattle.transient_obj.specs.declared.object_key.ObjectKey.{ObjectKey}
-use Rattle.transient_obj.specs.Keys.{Key, allocated, copied, copy_answer, populate_answer, populated, restricted, without_secret}
+use Rattle.transient_obj.specs.Keys.{Key, allocate_answer, with_secret_of, copy_answer, populate_answer, key_with_secret, with_usages, without_secret}
 use Rattle.handle_table.specs.declared.handle.Handle.{Handle}
 use Rattle.handle_table.specs.declared.handle.Handle.TheVariants.{Persistent, Transient}
 use Rattle.handle_table.specs.Handles.{free_number, is_full}
 use Rattle.object_asks.specs.declared.source.KeySource.{KeySource}
 use Rattle.object_asks.specs.declared.source.KeySource.TheVariants.{NoKey, InMemory, InStore}
-use Rattle.object_asks.specs.Asks.{Answered, Objects, holding, is_too_much, outcome_in, refused, without_store}
+use Rattle.object_asks.specs.Asks.{Answered, Objects, with_held, is_too_much, outcome_in, refusal_with, without_store}
 use Rattle.object_asks.specs.Handles.{without_rename}
 use Rattle.object_asks.specs.Held.{is_key_at, key_added, key_set, transient_at}
 use Rattle.object_asks.specs.Keys.{copied_by, copied_from, copied_in, copy_resolution, copy_from, copy_to, generate_resolution, generated_of, generated_on, is_extractable, new_key, new_key_by}
@@ -25,23 +25,23 @@ use Rattle.object_asks.proofs.SoundHandles.{memory_sound}
 use Rattle.object_asks.proofs.SoundObjects.{AreSound, Goes, Leaves, by_handles, of_handles, turn}
 
 -- a key changes where it is
-set_sound : (o : Objects) (i n : ℕ) (key : Key) → AreSound o → AreSound (holding o (key_set o.held i n key))
+set_sound : (o : Objects) (i n : ℕ) (key : Key) → AreSound o → AreSound (with_held o (key_set o.held i n key))
 set_sound o i n key sound = record { stored = sound.stored; sole = sound.sole; together = places_set (is_key_at i n) key o.held.keys ∙ sound.together }
 
 -- a key comes with a handle
-added_key_sound : (o : Objects) (i : ℕ) (key : Key) → AreSound o → AreSound (holding o (key_added o.held i key))
+added_key_sound : (o : Objects) (i : ℕ) (key : Key) → AreSound o → AreSound (with_held o (key_added o.held i key))
 added_key_sound o i key sound =
-    by_handles (holding o (key_added o.held i key)) (memory_sound o.store o.held.handles i (free_number o.held.handles i) (of_handles o sound))
+    by_handles (with_held o (key_added o.held i key)) (memory_sound o.store o.held.handles i (free_number o.held.handles i) (of_handles o sound))
     (together_more o.held.handles o.held.keys i (free_number o.held.handles i) key sound.together)
 
 new_by_sound : (o : Objects) (i : ℕ) (r : Result Key KeyAnswer) → AreSound o → Goes AreSound (without_store o (new_key_by o.held i r))
 new_by_sound o i (Err answer) sound = sound
 new_by_sound o i (Ok key) sound =
-    cond_both (is_full (without_rename o.held.handles) i) (refused o.held BUSY) (Answered (key_added o.held i key) (answers.Number (free_number o.held.handles i)))
+    cond_both (is_full (without_rename o.held.handles) i) (refusal_with o.held BUSY) (Answered (key_added o.held i key) (answers.Number (free_number o.held.handles i)))
     (λ outcome. Goes AreSound (without_store o outcome)) (λ _. sound) (λ _. added_key_sound o i key sound)
 
 pub new_key_sound : (o : Objects) (i kind max_bits : ℕ) → AreSound o → Goes AreSound (without_store o (new_key o.held i kind max_bits))
-new_key_sound o i kind max_bits sound = new_by_sound o i (allocated kind max_bits) sound
+new_key_sound o i kind max_bits sound = new_by_sound o i (allocate_answer kind max_bits) sound
 
 populated_by_sound : (o : Objects) (i object : ℕ) (after : Key) (r : Result (Unit {0}) KeyAnswer) → AreSound o → Goes AreSound (without_store o (populated_by o.held i object after r))
 populated_by_sound o i object after (Ok nothing) sound = set_sound o i object after sound
@@ -51,7 +51,7 @@ populated_by_sound o i object after (Err refusals.Misuse) sound = tt
 
 pub populate_sound : (o : Objects) (i object : ℕ) (secret : List ℕ) (key : Option Key) → AreSound o → Goes AreSound (without_store o (populate_on o.held i object secret key))
 populate_sound o i object secret None sound = tt
-populate_sound o i object secret (Some key) sound = populated_by_sound o i object (populated key secret) (populate_answer key secret) sound
+populate_sound o i object secret (Some key) sound = populated_by_sound o i object (key_with_secret key secret) (populate_answer key secret) sound
 
 pub reset_key_sound : (o : Objects) (i object : ℕ) (key : Option Key) → AreSound o → Goes AreSound (without_store o (reset_key o.held i object key))
 reset_key_sound o i object None sound = tt
@@ -75,12 +75,12 @@ secret_from_sound o room (InStore id) sound = (sound, secret_by_sound o room (st
 pub secret_sound : (o : Objects) (i object room : ℕ) → AreSound o → Goes AreSound (secret_resolution o i object room)
 secret_sound o i object room sound = turn (is_too_much room) _ _ tt (λ _. secret_from_sound o room (key_source o.held i object) sound)
 
-copied_by_sound : (o : Objects) (i to : ℕ) (after : Key) (r : Result (Unit {0}) KeyAnswer) → AreSound o → Leaves AreSound (outcome_in (holding o) (copied_by o.held i to after r))
+copied_by_sound : (o : Objects) (i to : ℕ) (after : Key) (r : Result (Unit {0}) KeyAnswer) → AreSound o → Leaves AreSound (outcome_in (with_held o) (copied_by o.held i to after r))
 copied_by_sound o i to after (Ok nothing) sound = set_sound o i to after sound
 copied_by_sound o i to after (Err answer) sound = tt
 
-copied_from_sound : (o : Objects) (i to : ℕ) (key : Key) (from : ObjectKey) → AreSound o → Leaves AreSound (outcome_in (holding o) (copied_from o.held i to key from))
-copied_from_sound o i to key from sound = copied_by_sound o i to (copied key from.usage from.secret) (copy_answer key from.kind from.secret) sound
+copied_from_sound : (o : Objects) (i to : ℕ) (key : Key) (from : ObjectKey) → AreSound o → Leaves AreSound (outcome_in (with_held o) (copied_from o.held i to key from))
+copied_from_sound o i to key from sound = copied_by_sound o i to (with_secret_of key from.usage from.secret) (copy_answer key from.kind from.secret) sound
 
 copied_in_sound : (o : Objects) (i to : ℕ) (key : Key) (r : Result ObjectKey StoreAnswer) → AreSound o → Leaves AreSound (copied_in o i to key r)
 copied_in_sound o i to key (Ok from) sound = copied_from_sound o i to key from sound
@@ -100,16 +100,16 @@ copy_sound o i to from sound = copy_to_sound o i to from (transient_at o.held i 
 
 restrict_key_sound : (o : Objects) (i object usage : ℕ) (key : Option Key) → AreSound o → Goes AreSound (without_store o (restrict_key o.held i object usage key))
 restrict_key_sound o i object usage None sound = tt
-restrict_key_sound o i object usage (Some key) sound = set_sound o i object (restricted key usage) sound
+restrict_key_sound o i object usage (Some key) sound = set_sound o i object (with_usages key usage) sound
 
 pub restrict_sound : (o : Objects) (i object usage : ℕ) (h : Option Handle) → AreSound o → Goes AreSound (without_store o (restrict_on o.held i object usage h))
 restrict_sound o i object usage None sound = tt
 restrict_sound o i object usage (Some (Persistent id flags position)) sound = sound
 restrict_sound o i object usage (Some Transient) sound = restrict_key_sound o i object usage (transient_at o.held i object) sound
 
-generated_on_sound : (o : Objects) (i object : ℕ) (secret : List ℕ) (key : Option Key) → AreSound o → AreSound (holding o (generated_on o.held i object secret key))
+generated_on_sound : (o : Objects) (i object : ℕ) (secret : List ℕ) (key : Option Key) → AreSound o → AreSound (with_held o (generated_on o.held i object secret key))
 generated_on_sound o i object secret None sound = record { stored = sound.stored; sole = sound.sole; together = sound.together }
-generated_on_sound o i object secret (Some key) sound = set_sound o i object (populated key secret) sound
+generated_on_sound o i object secret (Some key) sound = set_sound o i object (key_with_secret key secret) sound
 
 generated_of_sound : (o : Objects) (i object : ℕ) (random : ℕ → List ℕ) (wanted : Option ℕ) → AreSound o → Goes AreSound (generated_of o i object random wanted)
 generated_of_sound o i object random None sound = tt

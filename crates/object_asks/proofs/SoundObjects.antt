@@ -16,7 +16,7 @@ use Rattle.store_api.specs.declared.object.Facts.{Facts}
 use Rattle.store_api.specs.declared.answer.StoreAnswer.{StoreAnswer}
 use Rattle.store_api.specs.declared.answer.StoreAnswer.TheVariants.{Exists, NoSpace}
 use Rattle.store_api.specs.declared.change.Change.TheVariants.{Delete, Rename, Truncate, Write}
-use Rattle.store_api.specs.Stores.{Store, change, cost, facts_of, found, has, object_at, quota, read_at, resized, with_object, within_quota, written}
+use Rattle.store_api.specs.Stores.{Store, change, cost, facts_of, found, has, object_at, quota, read_at, resize, with_object, within_quota, write_at}
 use Rattle.store_api.proofs.ChangeLaws.{leaves_others}
 use Rattle.store_api.proofs.Costs.{by_bytes, equal, tied_same}
 use Rattle.transient_obj.specs.Keys.{Key}
@@ -24,9 +24,9 @@ use Rattle.transient_obj.specs.declared.object_key.ObjectKey.{ObjectKey}
 use Rattle.handle_table.specs.declared.handle.Handle.{Handle}
 use Rattle.handle_table.specs.declared.handle.Handle.TheVariants.{Persistent, Transient}
 use Rattle.handle_table.specs.Handles.{change_first, entry_is_on, entry_moved, free_number, handle_at, is_at, is_full, is_of, is_on, is_open, is_there, may_open}
-use Rattle.object_asks.specs.Asks.{Resolution, Objects, close_resolution, create_resolution, created, created_by, created_with, delete_resolution, delete_on, deleted_by, has_unknown_bits}
-use Rattle.object_asks.specs.Asks.{holding, info_resolution, is_long_identifier, is_too_much, kept_flags, key_info, landed, landed_on, moved_by, moved_from_end, moved_to}
-use Rattle.object_asks.specs.Asks.{numbered, open_resolution, opened_by, overwrites, private_storage, put_of, read_by, read_resolution, refused, rename_resolution, renamed}
+use Rattle.object_asks.specs.Asks.{Resolution, Objects, close_resolution, create_resolution, create_outcome, created_by, created_with, delete_resolution, delete_on, deleted_by, has_unknown_bits}
+use Rattle.object_asks.specs.Asks.{with_held, info_resolution, is_long_identifier, is_too_much, kept_flags, key_info, position_from, landed_on, moved_by, moved_from_end, moved_to}
+use Rattle.object_asks.specs.Asks.{with_new_handle, open_resolution, opened_by, overwrites, private_storage, put_of, read_by, read_resolution, refusal_with, rename_resolution, rename_outcome}
 use Rattle.object_asks.specs.Asks.{renamed_by, seek_resolution, told_of_object, truncate_resolution, truncated_by, write_resolution, written_by}
 use Rattle.tee_base.specs.declared.codes.TheConstants.Code.{ACCESS_CONFLICT}
 use Rattle.object_asks.specs.Handles.{without_rename}
@@ -77,14 +77,14 @@ of_found P (Some o) f each = each o
 write_gains : (m : Store) (id : List ℕ) (at : ℕ) (bytes : List ℕ) → IfOk (change m (Write id at bytes)) (λ after. Gains m id after)
 unfolding change
 write_gains m id at bytes =
-    of_found (Gains m id) (object_at m id) (λ o. Ok (finite.insert m id (record o { content = written o.content at bytes })))
-    (λ o. within (Gains m id) (finite.insert m id (record o { content = written o.content at bytes })) (inserted_gains m id (record o { content = written o.content at bytes })))
+    of_found (Gains m id) (object_at m id) (λ o. Ok (finite.insert m id (record o { content = write_at o.content at bytes })))
+    (λ o. within (Gains m id) (finite.insert m id (record o { content = write_at o.content at bytes })) (inserted_gains m id (record o { content = write_at o.content at bytes })))
 
 truncate_gains : (m : Store) (id : List ℕ) (n : ℕ) → IfOk (change m (Truncate id n)) (λ after. Gains m id after)
 unfolding change
 truncate_gains m id n =
-    of_found (Gains m id) (object_at m id) (λ o. Ok (finite.insert m id (record o { content = resized n o.content })))
-    (λ o. within (Gains m id) (finite.insert m id (record o { content = resized n o.content })) (inserted_gains m id (record o { content = resized n o.content })))
+    of_found (Gains m id) (object_at m id) (λ o. Ok (finite.insert m id (record o { content = resize n o.content })))
+    (λ o. within (Gains m id) (finite.insert m id (record o { content = resize n o.content })) (inserted_gains m id (record o { content = resize n o.content })))
 
 -- a delete leaves the others
 each_other : (r : Result Store StoreAnswer) (m : Store) (id : List ℕ) → ((q : List ℕ) → ¬ (q ≡ id) → IfOk r (λ after. object_at after q ≡ object_at m q)) →
@@ -121,7 +121,7 @@ pub turn : (b : Bool) (x y : Resolution Objects) → Goes AreSound x → (b ≡ 
 turn b x y here there = cond_both b x y (Goes AreSound) (λ e. here) there
 
 numbered_sound : (o : Objects) (i : ℕ) (id : List ℕ) (flags : Flags) → has o.store id ≡ true → may_open (without_rename o.held.handles) id flags ≡ true → AreSound o
-    → Leaves AreSound (numbered o i id flags)
+    → Leaves AreSound (with_new_handle o i id flags)
 numbered_sound o i id flags there may sound =
     by_handles (record o { held = handle_added o.held i id flags }) (added_sound o.store o.held.handles i (free_number o.held.handles i) id flags 0 there may (of_handles o sound))
     (together_added o.held.handles o.held.keys (record { instance = i; number = free_number o.held.handles i; handle = Persistent id flags 0 }) refl sound.together)
@@ -142,7 +142,7 @@ open_sound o i storage id flags sound =
     turn (is_full (without_rename o.held.handles) i) _ _ sound (λ _. (
       sound,
       found_there o.store (object_at o.store id) id (λ r. Leaves AreSound (opened_by o i id (kept_flags flags) r))
-          (λ there facts. cond_both (may_open (without_rename o.held.handles) id (kept_flags flags)) (numbered o i id (kept_flags flags)) (refused o ACCESS_CONFLICT) (Leaves AreSound)
+          (λ there facts. cond_both (may_open (without_rename o.held.handles) id (kept_flags flags)) (with_new_handle o i id (kept_flags flags)) (refusal_with o ACCESS_CONFLICT) (Leaves AreSound)
           (λ may. numbered_sound o i id (kept_flags flags) there may sound) (λ _. sound))
           (λ answer. sound),
     ))))
@@ -152,9 +152,9 @@ created_by_sound : (o : Objects) (i : ℕ) (id : List ℕ) (flags : Flags) (r : 
 created_by_sound o i id flags (Ok after) gains may sound = numbered_sound (record o { store = after }) i id flags gains.there may (kept_valid o after gains.keeps sound)
 created_by_sound o i id flags (Err answer) gains may sound = sound
 
-created_sound : (o : Objects) (i : ℕ) (id : List ℕ) (flags : ℕ) (content : List ℕ) (key : ObjectKey) → AreSound o → Leaves AreSound (created o i id flags content key)
+created_sound : (o : Objects) (i : ℕ) (id : List ℕ) (flags : ℕ) (content : List ℕ) (key : ObjectKey) → AreSound o → Leaves AreSound (create_outcome o i id flags content key)
 created_sound o i id flags content key sound =
-    cond_both (is_open (without_rename o.held.handles) id) (refused o ACCESS_CONFLICT) (created_by o i id (kept_flags flags) (change o.store (put_of id key content (overwrites flags))))
+    cond_both (is_open (without_rename o.held.handles) id) (refusal_with o ACCESS_CONFLICT) (created_by o i id (kept_flags flags) (change o.store (put_of id key content (overwrites flags))))
     (Leaves AreSound) (λ _. sound)
     (λ none. created_by_sound o i id (kept_flags flags) (change o.store (put_of id key content (overwrites flags))) (put_gains o.store id key content (overwrites flags))
     (closed_opens o.held.handles id (kept_flags flags) none) sound)
@@ -232,7 +232,7 @@ landed_sound o i object None sound = sound
 landed_sound o i object (Some to) sound = moved_to_sound o i object to sound
 
 moved_by_sound : (o : Objects) (i object base : ℕ) (offset : ℤ) → AreSound o → Leaves AreSound (moved_by o i object base offset)
-moved_by_sound o i object base offset sound = landed_sound o i object (landed (pos base +ℤ offset)) sound
+moved_by_sound o i object base offset sound = landed_sound o i object (position_from (pos base +ℤ offset)) sound
 
 from_end_sound : (o : Objects) (i object : ℕ) (offset : ℤ) (r : Result Facts StoreAnswer) → AreSound o → Leaves AreSound (moved_from_end o i object offset r)
 from_end_sound o i object offset (Ok facts) sound = moved_by_sound o i object facts.length offset sound
@@ -273,9 +273,9 @@ sole_gone o i object id flags position here meta sound =
 
 deleted_sound : (o : Objects) (i object : ℕ) (id : List ℕ) (flags : Flags) (position : ℕ) (r : Result Store StoreAnswer) →
     handle_at (without_rename o.held.handles) i object ≡ Some (Persistent id flags position) → has_bit access_write_meta flags ≡ true
-    → IfOk r (λ after. (q : List ℕ) → ¬ (q ≡ id) → object_at after q ≡ object_at o.store q) → AreSound o → Leaves AreSound (deleted_by (holding o (handle_closed o.held i object)) r)
+    → IfOk r (λ after. (q : List ℕ) → ¬ (q ≡ id) → object_at after q ≡ object_at o.store q) → AreSound o → Leaves AreSound (deleted_by (with_held o (handle_closed o.held i object)) r)
 deleted_sound o i object id flags position (Ok after) here meta others sound =
-    let left : AreSound (holding o (handle_closed o.held i object)) = closed_sound o i object sound in
+    let left : AreSound (with_held o (handle_closed o.held i object)) = closed_sound o i object sound in
     record {
       stored = λ q some. ap is_some (others q (λ same. let none = sole_gone o i object id flags position here meta sound in
           let on : 0 < ones_on id (handle_closed o.held i object).handles = subst (λ x. 0 < ones_on x (handle_closed o.held i object).handles) same some in absurd (omega arith)))
@@ -359,9 +359,9 @@ renamed_by_sound o i object id to (Ok after) w free moves sound =
     }
 renamed_by_sound o i object id to (Err answer) w free moves sound = sound
 
-renamed_sound : (o : Objects) (i object : ℕ) (id to : List ℕ) → Writes o.held.handles i object id → AreSound o → Leaves AreSound (renamed o i object id to)
+renamed_sound : (o : Objects) (i object : ℕ) (id to : List ℕ) → Writes o.held.handles i object id → AreSound o → Leaves AreSound (rename_outcome o i object id to)
 renamed_sound o i object id to w sound =
-    cond_both (is_open (without_rename o.held.handles) to) (refused o ACCESS_CONFLICT) (renamed_by o i object to (change o.store (Rename id to))) (Leaves AreSound) (λ _. sound)
+    cond_both (is_open (without_rename o.held.handles) to) (refusal_with o ACCESS_CONFLICT) (renamed_by o i object to (change o.store (Rename id to))) (Leaves AreSound) (λ _. sound)
     (λ free. renamed_by_sound o i object id to (change o.store (Rename id to)) w free (moves_by (change o.store (Rename id to)) o.store id to (rename_there o.store id to)
     (leaves_others o.store (Rename id to))) sound)
 

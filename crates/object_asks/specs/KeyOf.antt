@@ -8,8 +8,8 @@ use Rattle.store_api.specs.Stores.{Store}
 use Rattle.transient_obj.specs.declared.object_key.ObjectKey.{ObjectKey}
 use Rattle.object_asks.specs.declared.source.KeySource.{KeySource}
 use Rattle.object_asks.specs.declared.source.KeySource.TheVariants.{NoKey, InMemory, InStore}
-use Rattle.object_asks.specs.declared.lending.KeyFound.{KeyFound}
-use Rattle.object_asks.specs.declared.lending.KeyFound.TheVariants as finds
+use Rattle.transient_obj.specs.declared.look.KeyLook.{KeyLook}
+use Rattle.transient_obj.specs.declared.look.KeyLook.TheVariants as finds
 use Rattle.object_asks.specs.declared.lending.KeyServed.{KeyServed}
 use Rattle.object_asks.specs.declared.turn.TurnKind.{TurnKind}
 use Rattle.object_asks.specs.declared.turn.TurnKind.TheVariants.{Plain, Lost, Corrupted}
@@ -18,14 +18,15 @@ use Rattle.tee_base.specs.declared.codes.TheConstants.Code.{CORRUPT_OBJECT, STOR
 use Rattle.object_asks.specs.Resolutions.{Objects, Serving, Serves, Fails, Damaged, code_of}
 use Rattle.object_asks.specs.Serving.{EndsUnchanged, HasStatus, IsKept, IsUndamaged, Meets, SaysChange, ShowsDamage, kind_of, serving_of}
 use Rattle.object_asks.specs.Sources.{key_source, stored_key}
+use Rattle.tee_base.specs.Words.{HandleNumber, InstanceNumber}
 
 -- how the look for a key goes: it is settled without the store, or comes to it, and if_served is what the store's answer gives
 pub data KeyResolution : Type 0 where
-  KeySettled : (found : KeyFound) → KeyResolution
-  KeyComesToStore : (if_served : KeyFound) → KeyResolution
+  KeySettled : (found : KeyLook) → KeyResolution
+  KeyComesToStore : (if_served : KeyLook) → KeyResolution
 
 -- an object that the store hasn't got gives its refusal
-abbrev pub found_by : Result ObjectKey StoreAnswer → KeyFound
+abbrev pub found_by : Result ObjectKey StoreAnswer → KeyLook
 found_by (Ok key) = finds.Key key
 found_by (Err answer) = finds.Refused (code_of answer)
 
@@ -36,7 +37,7 @@ key_resolution_of store (InMemory key) = KeySettled (finds.Key key)
 key_resolution_of store (InStore id) = KeyComesToStore (found_by (stored_key store id))
 
 -- how the look goes for the key of the instance's object of this number
-abbrev pub key_resolution : Objects → ℕ → ℕ → KeyResolution
+abbrev pub key_resolution : Objects → InstanceNumber → HandleNumber → KeyResolution
 key_resolution o i object = key_resolution_of o.store (key_source o.held i object)
 
 -- the look comes to the store
@@ -45,14 +46,14 @@ key_comes_to_store (KeySettled found) = false
 key_comes_to_store (KeyComesToStore if_served) = true
 
 -- what comes of it
-abbrev pub key_came_of : Serving → Bool → KeyResolution → KeyFound
+abbrev pub key_came_of : Serving → Bool → KeyResolution → KeyLook
 key_came_of serving lost (KeySettled found) = found
 key_came_of Serves lost (KeyComesToStore if_served) = if lost then finds.Refused STORAGE_NOT_AVAILABLE else if_served
 key_came_of Fails lost (KeyComesToStore if_served) = finds.Refused STORAGE_NOT_AVAILABLE
 key_came_of Damaged lost (KeyComesToStore if_served) = finds.Refused CORRUPT_OBJECT
 
 -- a look in which the store had no part, or served, found this
-abbrev pub key_plainly : KeyFound → KeyServed
+abbrev pub key_plainly : KeyLook → KeyServed
 key_plainly found = record { kind = Plain; found = found }
 
 -- what is told, by what the store's answer gives: nothing at want of memory
@@ -62,7 +63,7 @@ key_told (Err NoMemory) = None
 key_told (Err answer) = Some (record { kind = kind_of false answer; found = finds.Refused (code_of answer) })
 
 -- a lost or damaged look gives a refusal
-abbrev pub RefusesUnlessPlain : TurnKind → KeyFound → Type 0
+abbrev pub RefusesUnlessPlain : TurnKind → KeyLook → Type 0
 RefusesUnlessPlain Plain found = Unit {0}
 RefusesUnlessPlain (Lost changes) found = (code : Code) × (found ≡ finds.Refused code)
 RefusesUnlessPlain Corrupted found = (code : Code) × (found ≡ finds.Refused code)

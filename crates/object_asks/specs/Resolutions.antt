@@ -12,6 +12,7 @@ use Rattle.store_api.specs.declared.answer.StoreAnswer.TheVariants as stores
 use Rattle.store_api.specs.Stores.{Store}
 use Rattle.tee_base.specs.declared.codes.TheConstants.Code.{ITEM_NOT_FOUND, ACCESS_CONFLICT, STORAGE_NO_SPACE, STORAGE_NOT_AVAILABLE, CORRUPT_OBJECT, OUT_OF_MEMORY}
 use Rattle.object_asks.specs.Held.{Held}
+use Rattle.tee_base.specs.Words.{Identifier}
 
 -- what comes of an ask: an answer, with what it leaves; the return of the entry; or a panic
 pub data Outcome (S : Type 0) : Type 0 where
@@ -27,12 +28,12 @@ pub data Resolution (S : Type 0) : Type 0 where
   ComesToStore : (refused : S) (if_served : Outcome S) → Resolution S
 
 -- the ask is refused with this code, and leaves this
-abbrev pub refused : {S : Type 0} → S → Code → Outcome S
-refused s code = Answered s (answers.Refused code)
+abbrev pub refusal_with : {S : Type 0} → S → Code → Outcome S
+refusal_with s code = Answered s (answers.Refused code)
 
 -- the ask is done, and leaves this
-abbrev pub done : {S : Type 0} → S → Outcome S
-done s = Answered s answers.Done
+abbrev pub success : {S : Type 0} → S → Outcome S
+success s = Answered s answers.Done
 
 -- the ask comes to the store
 abbrev pub comes_to_store : {S : Type 0} → Resolution S → Bool
@@ -56,8 +57,8 @@ pub record Objects : Type 0 where
   pub held : Held
 
 -- the same store with other things held
-abbrev pub holding : Objects → Held → Objects
-holding o held = record o { held = held }
+abbrev pub with_held : Objects → Held → Objects
+with_held o held = record o { held = held }
 
 -- the same things held over another store
 abbrev pub over_store : Objects → Store → Objects
@@ -65,7 +66,7 @@ over_store o store = record o { store = store }
 
 -- how an ask goes that never needs the store
 abbrev pub without_store : Objects → Outcome Held → Resolution Objects
-without_store o outcome = Settled (outcome_in (holding o) outcome)
+without_store o outcome = Settled (outcome_in (with_held o) outcome)
 
 -- how the store does in a turn: it serves, unless it is lost; a call of it fails; or what it reads is damaged
 pub data Serving : Type 0 where
@@ -76,14 +77,14 @@ pub data Serving : Type 0 where
 -- what comes of a resolution
 abbrev pub came_of : {S : Type 0} → Serving → Bool → Resolution S → Outcome S
 came_of serving lost (Settled outcome) = outcome
-came_of Serves lost (ComesToStore refused_ if_served) = if lost then refused refused_ STORAGE_NOT_AVAILABLE else if_served
-came_of Fails lost (ComesToStore refused_ if_served) = refused refused_ STORAGE_NOT_AVAILABLE
-came_of Damaged lost (ComesToStore refused_ if_served) = refused refused_ CORRUPT_OBJECT
+came_of Serves lost (ComesToStore refused_ if_served) = if lost then refusal_with refused_ STORAGE_NOT_AVAILABLE else if_served
+came_of Fails lost (ComesToStore refused_ if_served) = refusal_with refused_ STORAGE_NOT_AVAILABLE
+came_of Damaged lost (ComesToStore refused_ if_served) = refusal_with refused_ CORRUPT_OBJECT
 
 -- ---- limits and flags
 
 -- more than 64 bytes
-abbrev pub is_long_identifier : List ℕ → Bool
+abbrev pub is_long_identifier : Identifier → Bool
 is_long_identifier id = nat_lt MAX_IDENTIFIER_BYTES (length id)
 
 -- more than an ask may bring or want

@@ -11,7 +11,7 @@ use Rattle.store_api.specs.Stores.{Store}
 use Rattle.object_asks.specs.Held.{Held}
 use Rattle.object_asks.specs.declared.turn.TurnKind.{TurnKind}
 use Rattle.object_asks.specs.declared.turn.TurnKind.TheVariants.{Plain, Lost, Corrupted}
-use Rattle.object_asks.specs.Asks.{Outcome, Answered, Returned, Panicked, Resolution, Objects, Serving, Serves, Fails, Damaged, came_of, code_of, Settled, ComesToStore, comes_to_store, refused}
+use Rattle.object_asks.specs.Asks.{Outcome, Answered, Returned, Panicked, Resolution, Objects, Serving, Serves, Fails, Damaged, came_of, code_of, Settled, ComesToStore, comes_to_store, refusal_with}
 use Rattle.object_asks.specs.declared.outcome.Outcome.{Outcome as Result_of}
 use Rattle.object_asks.specs.declared.outcome.Outcome.TheVariants as outcomes
 use Rattle.object_asks.specs.declared.outcome.Served.{Served}
@@ -58,9 +58,9 @@ IsOutcome outcomes.Panicked stated before after = (stated ≡ Panicked) × (afte
 -- from serving, but want of memory
 abbrev pub Gives : Result Result_of StoreAnswer → Outcome Objects → Objects → Objects → Objects → Type 0
 Gives (Ok outcome) if_served before kept after = IsOutcome outcome if_served before after
-Gives (Err NotFound) if_served before kept after = (if_served ≡ refused kept (code_of NotFound)) × (after ≡ kept)
-Gives (Err Exists) if_served before kept after = (if_served ≡ refused kept (code_of Exists)) × (after ≡ kept)
-Gives (Err NoSpace) if_served before kept after = (if_served ≡ refused kept (code_of NoSpace)) × (after ≡ kept)
+Gives (Err NotFound) if_served before kept after = (if_served ≡ refusal_with kept (code_of NotFound)) × (after ≡ kept)
+Gives (Err Exists) if_served before kept after = (if_served ≡ refusal_with kept (code_of Exists)) × (after ≡ kept)
+Gives (Err NoSpace) if_served before kept after = (if_served ≡ refusal_with kept (code_of NoSpace)) × (after ≡ kept)
 Gives (Err NoMemory) if_served before kept after = Unit {0}
 Gives (Err answer) if_served before kept after = after ≡ kept
 
@@ -131,7 +131,7 @@ left_by Panicked = None
 -- the store that an ask would leave where it comes to the store
 abbrev pub would_leave : Resolution Objects → Option Store
 would_leave (Settled outcome) = None
-would_leave (ComesToStore refused if_served) = left_by if_served
+would_leave (ComesToStore refusal_with if_served) = left_by if_served
 
 -- a crash leaves what was kept, or this store in its place, with a greater number
 abbrev pub IsOldOr : Contents → Store → Remains → Type 0

@@ -15,6 +15,7 @@ use Rattle.object_asks.specs.declared.source.KeySource.{KeySource}
 use Rattle.object_asks.specs.declared.source.KeySource.TheVariants.{NoKey, InMemory, InStore}
 use Rattle.object_asks.specs.Handles.{without_rename}
 use Rattle.object_asks.specs.Held.{Held, key_at}
+use Rattle.tee_base.specs.Words.{HandleNumber, Identifier, InstanceNumber}
 
 -- a key in memory gives them where it is initialised
 abbrev pub with_secret : Key → Option (List ℕ) → KeySource
@@ -27,17 +28,17 @@ memory_source None = NoKey
 memory_source (Some key) = with_secret key key.secret
 
 -- a persistent object is always initialised
-abbrev pub source_on : Held → ℕ → ℕ → Option Handle → KeySource
+abbrev pub source_on : Held → InstanceNumber → HandleNumber → Option Handle → KeySource
 source_on h i object None = NoKey
 source_on h i object (Some Transient) = memory_source (key_at h i object)
 source_on h i object (Some (Persistent id flags position)) = InStore id
 
 -- where the instance's object of this number gives them from
-abbrev pub key_source : Held → ℕ → ℕ → KeySource
+abbrev pub key_source : Held → InstanceNumber → HandleNumber → KeySource
 key_source h i object = source_on h i object (handle_at (without_rename h.handles) i object)
 
 -- the attributes of a new object: those of the kind DATA without a secret and with every usage, or an object's
-abbrev pub attr_source : Held → ℕ → ℕ → KeySource
+abbrev pub attr_source : Held → InstanceNumber → ℕ → KeySource
 attr_source h i attr =
     if attr == 0 then InMemory (record { kind = KIND_DATA; usage = every_usage; secret = [] })
     else key_source h i attr
@@ -55,7 +56,7 @@ HasSource (InMemory key) = Unit {0}
 HasSource (InStore id) = IsIdentifier id
 
 -- what the store has of them
-abbrev pub stored_key : Store → List ℕ → Result ObjectKey StoreAnswer
+abbrev pub stored_key : Store → Identifier → Result ObjectKey StoreAnswer
 stored_key store id = with_object (object_at store id) (λ o. Ok (record { kind = o.kind; usage = o.usage; secret = o.secret }))
 
 -- what a source gives, or why it gives nothing

@@ -36,7 +36,7 @@ impl Held {
     ghost use Rattle.store_api.specs.Limits.{IsIdentifier};
     ghost use Rattle.object_asks.specs.Handles.{without_rename, HasIdentifier};
     ghost use Rattle.object_asks.specs.Held.{nothing_held, handle_added, handle_sought, handle_closed, instance_closed, key_added, key_at, key_set, may_rename, transient_at, walk_at};
-    ghost use Rattle.object_asks.specs.Lists.{free_list, has_all_lists, list_added, list_freed, walked};
+    ghost use Rattle.object_asks.specs.Lists.{free_list, has_all_lists, list_added, list_freed, after_walk};
     ghost use Rattle.object_asks.specs.Sources.{HasSource, key_source};
     ghost use Rattle.std.specs.Prelude.{true};
     ghost use Rattle.store_api.specs.Stores.{change};
@@ -250,7 +250,7 @@ impl Held {
 
     /// The enumerator has come so far.
     pub(crate) fn set_walk(&mut self, instance: u8, number: u32, walk: Walk)
-        ensures { self.new ≡ walked self.old instance number walk }
+        ensures { self.new ≡ after_walk self.old instance number walk }
     {
         walks::set(&mut self.lists, instance, number, walk);
     }

@@ -7,7 +7,7 @@ ghost use Rattle.transient_obj.specs.Keys.{Key};
 ghost use Rattle.handle_table.specs.Handles.{handle_at};
 ghost use Rattle.object_asks.specs.Handles.{without_rename};
 ghost use Rattle.object_asks.specs.Held.{Held as HeldValue, transient_at};
-ghost use Rattle.object_asks.specs.Keys.{copied_from, copied_in, copy_resolution, copy_from, generated, new_key, populate_on, random_wanted, reset_key, restrict_on, secret_by, secret_resolution, secret_from, secret_told};
+ghost use Rattle.object_asks.specs.Keys.{copied_from, copied_in, copy_resolution, copy_from, with_secret, new_key, populate_on, random_wanted, reset_key, restrict_on, secret_by, secret_resolution, secret_from, secret_told};
 ghost use Rattle.object_asks.specs.Sources.{HasSource, stored_key};
 ghost use Rattle.object_asks.specs.Serving.{IsGiven, IsOutcome, ServesAsk, objects_in};
 
@@ -268,7 +268,7 @@ pub fn random_wanted(held: &Held, instance: u8, object: u32, bits: u32) -> Optio
 pub fn generate(held: &mut Held, instance: u8, object: u32, secret: &[u8])
     requires { (bits : ℕ)
         × (random_wanted held.old instance object bits ≡ some (length secret.now)) }
-    ensures { held.new ≡ generated held.old instance object secret.now }
+    ensures { held.new ≡ with_secret held.old instance object secret.now }
 {
     let Some(key) = held.transient(instance, object) else {
         return;

@@ -3,7 +3,7 @@
 ghost use Rattle.std.specs.Prelude.{ℕ, List};
 ghost use Rattle.app_api.specs.declared.ask.Ask.{Ask as AnyAsk};
 ghost use Rattle.store_api.specs.Stores.{Store};
-ghost use Rattle.object_asks.specs.Asks.{Objects, holding, object_resolution};
+ghost use Rattle.object_asks.specs.Asks.{Objects, with_held, object_resolution};
 ghost use Rattle.object_asks.specs.Held.{instance_closed, nothing_held};
 ghost use Rattle.object_asks.specs.Keys.{generate_resolution};
 ghost use Rattle.object_asks.specs.Valid.{Goes, IsValidObjects};
@@ -17,5 +17,5 @@ pub fn objects_stay_valid()
     ensures generate { (o : Objects) (i object bits : ℕ) (random : ℕ → List ℕ) → IsValidObjects o
         → Goes IsValidObjects (generate_resolution o i object bits random) }
     ensures closing { (o : Objects) (i : ℕ) → IsValidObjects o
-        → IsValidObjects (holding o (instance_closed o.held i)) }
+        → IsValidObjects (with_held o (instance_closed o.held i)) }
 {}

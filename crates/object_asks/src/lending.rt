@@ -12,29 +12,18 @@ use crate::source::KeySource;
 use crate::turn::TurnKind;
 use std::alloc::Global;
 use store_api::{AppStore, StoreAnswer};
-use tee_base::{Code, NoMemory};
-use transient_obj::ObjectKey;
-
-/// What an object gives.
-#[derive(Drop)]
-pub enum KeyFound {
-    /// The kind, the usage and the secret of an initialised object.
-    Key(ObjectKey),
-    /// Nothing: there is no such object, or it isn't initialised.
-    NoKey,
-    /// Nothing: the storage refuses with this code.
-    Refused(Code),
-}
+use tee_base::NoMemory;
+use transient_obj::{KeyLook, ObjectKey};
 
 /// What was found, and how the store did.
 #[derive(Drop)]
 pub struct KeyServed {
     pub kind: TurnKind,
-    pub found: KeyFound,
+    pub found: KeyLook,
 }
 
 /// What was found where the store had no part in it, or served.
-fn plainly(found: KeyFound) -> KeyServed
+fn plainly(found: KeyLook) -> KeyServed
     ensures { result ≡ key_plainly found }
 {
     KeyServed {
@@ -49,11 +38,11 @@ fn tell(given: Result<ObjectKey, StoreAnswer>) -> Result<KeyServed, NoMemory>
     ensures err { OnErr result (key_told given ≡ None) }
 {
     match given {
-        Ok(key) => Ok(plainly(KeyFound::Key(key))),
+        Ok(key) => Ok(plainly(KeyLook::Key(key))),
         Err(StoreAnswer::NoMemory) => Err(NoMemory),
         Err(answer) => Ok(KeyServed {
             kind: kind_of(answer, false),
-            found: KeyFound::Refused(code_of(answer)),
+            found: KeyLook::Refused(code_of(answer)),
         }),
     }
 }
@@ -65,8 +54,8 @@ fn from_source<T: AppStore>(store: &mut T, source: KeySource) -> Result<KeyServe
         (key_resolution_of (T.keeper.contents store.old).store source) store.old store.new }
 {
     match source {
-        KeySource::NoKey => Ok(plainly(KeyFound::NoKey)),
-        KeySource::InMemory(key) => Ok(plainly(KeyFound::Key(key))),
+        KeySource::NoKey => Ok(plainly(KeyLook::NoKey)),
+        KeySource::InMemory(key) => Ok(plainly(KeyLook::Key(key))),
         KeySource::InStore(id) => tell(read_key(store, id.as_slice())),
     }
 }

@@ -21,7 +21,7 @@ mod walks;
 pub use held::Held;
 pub use keys::{generate, random_wanted};
 pub use laws::objects_stay_valid;
-pub use lending::{KeyFound, KeyServed, key_of};
+pub use lending::{KeyServed, key_of};
 pub use outcome::{Ending, Outcome, Served, answered, panicked, refused};
 pub use serving::serve;
 pub use turn::TurnKind;

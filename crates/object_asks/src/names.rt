@@ -9,7 +9,7 @@ ghost use Rattle.handle_table.specs.Handles.{handle_at, is_alone, is_open, is_th
 ghost use Rattle.object_asks.specs.Handles.{without_rename};
 ghost use Rattle.tee_base.specs.declared.codes.TheConstants.Code.{ACCESS_CONFLICT};
 ghost use Rattle.object_asks.specs.Held.{Held as HeldValue, handle_closed, may_rename};
-ghost use Rattle.object_asks.specs.Asks.{Serves, came_of, close_resolution, delete_resolution, deleted_by, delete_on, holding, info_resolution, key_info, refused, rename_resolution, renamed, renamed_by, told_of_object};
+ghost use Rattle.object_asks.specs.Asks.{Serves, came_of, close_resolution, delete_resolution, deleted_by, delete_on, with_held, info_resolution, key_info, refusal_with, rename_resolution, rename_outcome, renamed_by, told_of_object};
 ghost use Rattle.object_asks.specs.Serving.{IsGiven, IsOutcome, ServesAsk, objects_in};
 
 use crate::checks::{has_bit, is_long_identifier};
@@ -53,7 +53,7 @@ fn delete_through<T: AppStore>(
     ensures { let before = objects_in held.old (T.keeper.contents store.old)
         in let kept = handle_closed held.old instance object
         in IsGiven T.keeper result
-        (deleted_by (holding before kept) (change before.store (deletion id)))
+        (deleted_by (with_held before kept) (change before.store (deletion id)))
         true held.old kept held.new store.old store.new }
 {
     let change = Change::Delete { id };
@@ -111,7 +111,7 @@ fn rename_object<T: AppStore>(
     requires meta { IsTrue (may_rename held.old instance object id) }
     ensures { let before = objects_in held.old (T.keeper.contents store.old)
         in IsGiven T.keeper result
-        (renamed before instance object id to)
+        (rename_outcome before instance object id to)
         true held.old held.old held.new store.old store.new }
 {
     if held.is_open(to.as_slice()) {

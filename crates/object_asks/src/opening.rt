@@ -11,7 +11,7 @@ ghost use Rattle.object_asks.specs.Handles.{without_rename};
 ghost use Rattle.tee_base.specs.declared.codes.TheConstants.Code.{ACCESS_CONFLICT};
 ghost use Rattle.object_asks.specs.Held.{Held as HeldValue};
 ghost use Rattle.object_asks.specs.Sources.{HasSource, IsObjectKey, attr_source, is_no_key, key_given, stored_key};
-ghost use Rattle.object_asks.specs.Asks.{created, created_by, created_with, create_by, create_resolution, kept_flags, open_resolution, opened_by, overwrites, put_of, refused};
+ghost use Rattle.object_asks.specs.Asks.{create_outcome, created_by, created_with, create_by, create_resolution, kept_flags, open_resolution, opened_by, overwrites, put_of, refusal_with};
 ghost use Rattle.object_asks.specs.Serving.{IsGiven, ServesAsk, objects_in};
 
 use crate::checks::{
@@ -96,7 +96,7 @@ pub fn read_key<T: AppStore>(store: &mut T, id: &[u8]) -> Result<ObjectKey, Stor
 pub fn conflict<T: AppStore>(store: &mut T, id: &[u8]) -> Result<Outcome, StoreAnswer>
     requires { IsIdentifier id.now }
     ensures { (held : HeldValue) → IsGiven T.keeper result
-        (refused (objects_in held (T.keeper.contents store.old)) ACCESS_CONFLICT)
+        (refusal_with (objects_in held (T.keeper.contents store.old)) ACCESS_CONFLICT)
         true held held held store.old store.new }
 {
     match store.find(id) {
@@ -166,7 +166,7 @@ fn create_object<T: AppStore>(
     requires room { is_full (without_rename held.old.handles) instance ≡ false }
     ensures { let before = objects_in held.old (T.keeper.contents store.old)
         in IsGiven T.keeper result
-        (created before instance id flags content key.now)
+        (create_outcome before instance id flags content key.now)
         true held.old held.old held.new store.old store.new }
 {
     if held.is_open(id.as_slice()) {

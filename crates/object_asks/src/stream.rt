@@ -8,7 +8,7 @@ ghost use Rattle.store_api.specs.Stores.{found, read_at, change};
 ghost use Rattle.store_api.specs.declared.change.Change.TheVariants.{Write as write_at, Truncate as truncate_to};
 ghost use Rattle.handle_table.specs.Handles.{handle_at, is_there};
 ghost use Rattle.object_asks.specs.Handles.{without_rename};
-ghost use Rattle.object_asks.specs.Asks.{landed, moved_by, moved_from_end, read_by, read_resolution, seek_resolution, truncate_resolution, truncated_by, write_resolution, written_by};
+ghost use Rattle.object_asks.specs.Asks.{position_from, moved_by, moved_from_end, read_by, read_resolution, seek_resolution, truncate_resolution, truncated_by, write_resolution, written_by};
 ghost use Rattle.store_api.specs.Keeping.{Contents};
 ghost use Rattle.object_asks.specs.Serving.{IsGiven, IsOutcome, ServesAsk, objects_in};
 
@@ -212,7 +212,7 @@ pub fn truncate<T: AppStore>(
 
 /// Where a seek leads from here, if a position can be that great. Below 0 it is 0.
 fn landed(base: u32, offset: i64) -> Option<u32>
-    ensures { result ≡ landed (pos base +ℤ offset) }
+    ensures { result ≡ position_from (pos base +ℤ offset) }
 {
     let target = i128::from(base) + i128::from(offset);
     if target < 0 {

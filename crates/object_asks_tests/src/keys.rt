@@ -4,11 +4,12 @@ use super::rows::{
     AES, BAD, DATA, DONE, Do, EVERY, META, NOT_FOUND, PANICKED, PLAIN, Row, Told, UNSUPPORTED,
     assert_row, run, run_tables,
 };
-use object_asks::{Held, KeyFound, generate, key_of, random_wanted};
+use object_asks::{Held, generate, key_of, random_wanted};
 use std::alloc::Global;
 use std::process::Abort;
 use store_api::MapStore;
 use tee_base::{NoMemory, keys};
+use transient_obj::KeyLook;
 
 const SEVENS: &[u8] = &[7; 24];
 
@@ -197,7 +198,7 @@ fn bits_of(
 ) -> Result<Option<usize>, NoMemory> {
     let lent = key_of(alloc, held, store, 1, object)?;
     let bits = match &lent.found {
-        KeyFound::Key(key) => Some(8 * key.secret.len()),
+        KeyLook::Key(key) => Some(8 * key.secret.len()),
         _ => None,
     };
     drop(lent);

@@ -7,7 +7,7 @@ use Rattle.store_api.specs.declared.leaves.Leaf.{Leaf}
 use Rattle.store_api.specs.Keeping.{IsBeforeOrAfter, Remains, Rest}
 use Rattle.store_api.specs.Limits.{IsWithinLimits}
 use Rattle.store_api.specs.Stores.{Store, change}
-use Rattle.store_api.specs.Volumes.{Held, VolumeKeeper, leaf_after, replaced, after_commit}
+use Rattle.store_api.specs.Volumes.{Held, VolumeKeeper, leaf_after, with_named_leaves, after_commit}
 use Rattle.region_plan.specs.Planning.{IsPlanOf}
 use Rattle.region_plan.specs.Plans.{with_leaves}
 use Rattle.region_plan.specs.Regions.{breaks, region_of}
@@ -41,14 +41,14 @@ never_breaks leaves store is leaf below broken =
     cc
 
 -- the leaves of a region after a commit of some, and of the others
-pub own_leaves : (n : ℕ) (named : List Leaf) (leaves : ℕ → ℕ → List ℕ) → replaced n named leaves n ≡ with_leaves named (leaves n)
+pub own_leaves : (n : ℕ) (named : List Leaf) (leaves : ℕ → ℕ → List ℕ) → with_named_leaves n named leaves n ≡ with_leaves named (leaves n)
 own_leaves n named leaves = ap (λ (b : Bool). (λ (l : ℕ). if b then leaf_after named l (leaves n l) else leaves n l)) (eq-eqb n n refl)
 
 twice : {A : Type 0} (b : Bool) (x y z : A) → (if b then x else (if b then y else z)) ≡ (if b then x else z)
 twice true x y z = refl
 twice false x y z = refl
 
-pub others_same : (n : ℕ) (named : List Leaf) (leaves : ℕ → ℕ → List ℕ) → others n (replaced n named leaves) ≡ others n leaves
+pub others_same : (n : ℕ) (named : List Leaf) (leaves : ℕ → ℕ → List ℕ) → others n (with_named_leaves n named leaves) ≡ others n leaves
 others_same n named leaves = λ i r l. twice (r == n) [] (leaf_after named l (leaves r l)) (leaves r l) i
 
 module _ {V : Type 0} (K : VolumeKeeper V) (r : Region V) where

@@ -4,7 +4,7 @@ use Rattle.tee_base.specs.declared.limits.TheConstants.{LEAVES}
 use Rattle.store_api.specs.declared.answer.StoreAnswer.{StoreAnswer}
 use Rattle.store_api.specs.declared.change.Change.{Change}
 use Rattle.store_api.specs.Limits.{IsWithinLimits}
-use Rattle.store_api.specs.Stores.{Store, change, changed, within_quota}
+use Rattle.store_api.specs.Stores.{Store, change, after_change, within_quota}
 use Rattle.region_plan.specs.Layout.{layout, quota_of}
 use Rattle.region_plan.specs.Quotas.{KeepsWithin, change_in, within}
 use Rattle.region_plan.specs.declared.form.Form.TheVariants.{Two}
@@ -25,7 +25,7 @@ fits n le = omega (arith, le, leaves_are)
 -- a change within the quota of the layout is one within that of the runtime
 pub change_same : (store : Store) (c : Change) → change_in in_use store c ≡ change store c
 unfolding layout change_in change
-change_same store c = each (changed store c)
+change_same store c = each (after_change store c)
   where
     each : (r : Result Store StoreAnswer) → within (quota_of in_use) r ≡ within_quota r
     each (Ok after) = refl

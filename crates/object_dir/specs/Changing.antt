@@ -16,6 +16,7 @@ use Rattle.region_plan.specs.Reading.{IfAnswered, IfCorrupt, IfGarbled, IsBroken
 use Rattle.region_plan.specs.Regions.{region_of}
 use Rattle.object_dir.specs.Regions.{in_use, HasStore, kept_in, number_of, region_keeper, remains_in}
 use Rattle.object_dir.specs.declared.region.Region.{Region}
+use Rattle.tee_base.specs.Words.{RegionLeaves}
 
 -- what a store answers where a commit answers this
 abbrev pub done_of : Result ℕ LeafAnswer → Result (Unit {0}) StoreAnswer
@@ -23,7 +24,7 @@ done_of (Ok sequence) = Ok tt
 done_of (Err answer) = Err (store_answer answer)
 
 -- leaves of a region have these bytes already
-abbrev pub are_there : (ℕ → List ℕ) → List Leaf → Bool
+abbrev pub are_there : RegionLeaves → List Leaf → Bool
 are_there leaves named = list_all (λ leaf. bytes_eq (leaves leaf.number) leaf.bytes) named
 
 -- the leaves of a plan, which are none where nothing is to be written

@@ -8,6 +8,7 @@ use Rattle.region_plan.specs.Layout.{Layout, layout}
 use Rattle.region_plan.specs.declared.form.Form.TheVariants.{Two}
 use Rattle.region_plan.specs.Regions.{region_of}
 use Rattle.object_dir.specs.declared.region.Region.{Region}
+use Rattle.tee_base.specs.Words.{Leaves}
 
 -- what a region stands on: the name of the reference to its volume and its number are the place, before that of the volume
 abbrev pub region_foundation : ℕ → ℕ → Foundation → Foundation
@@ -37,7 +38,7 @@ abbrev pub number_of : {V : Type 0} → Region V → ℕ
 number_of r = r.number
 
 -- the leaves of all regions but this one
-abbrev pub others : ℕ → (ℕ → ℕ → List ℕ) → ℕ → ℕ → List ℕ
+abbrev pub others : ℕ → Leaves → ℕ → ℕ → List ℕ
 others region leaves r l = if r == region then [] else leaves r l
 
 -- what is kept beside a region
@@ -74,14 +75,14 @@ abbrev pub contents_in : ℕ → Held → Contents
 contents_in region held = beside region held (store_in region held)
 
 -- what is left of a region that stands for this: its store with what is beside it, or nothing
-abbrev pub opened : ℕ → Held → Result Store ℕ → Remains
-opened region held (Ok store) = Some (beside region held store)
-opened region held (Err leaf) = None
+abbrev pub remains_of : ℕ → Held → Result Store ℕ → Remains
+remains_of region held (Ok store) = Some (beside region held store)
+remains_of region held (Err leaf) = None
 
 -- what a crash leaves of a volume, as the store of one region and what is beside it: nothing where the region stands for no store
 abbrev pub remains_in : ℕ → Option Held → Remains
 remains_in region None = None
-remains_in region (Some held) = opened region held (region_in region held)
+remains_in region (Some held) = remains_of region held (region_in region held)
 
 module _ {V : Type 0} (K : VolumeKeeper V) where
   -- what the region and the volume keep

@@ -12,7 +12,8 @@ use Rattle.app_api.specs.declared.call.Call.{Call}
 use Rattle.op_queue.specs.declared.operation.Operation.{Operation}
 use Rattle.op_queue.specs.declared.operation.Progress.{Progress}
 use Rattle.op_queue.specs.declared.operation.Progress.TheVariants.{Waiting, Running}
-use Rattle.op_queue.specs.Queue.{Queue, IsQueue, ComesBefore, is_close, is_close_call, is_full, submitted, skipped, without, forgotten, started, requested, with_request, masked_as, with_mask}
+use Rattle.op_queue.specs.Queue.{Queue, IsQueue, ComesBefore, is_close, is_close_call, is_full, with_operation}
+use Rattle.op_queue.specs.Queue.{with_number_used, without, without_operations, as_running, as_requested, with_request, masked_as, with_mask}
 
 abbrev pub is_other : Operation → Bool
 is_other o = not (is_close o.progress)
@@ -64,7 +65,7 @@ filter_IsQueue q p old = record {
   ordered = AllPairs-filter ComesBefore p q.operations old.ordered;
 }
 
-pub skipped_IsQueue : (q : Queue) → IsQueue q → IsQueue (skipped q)
+pub skipped_IsQueue : (q : Queue) → IsQueue q → IsQueue (with_number_used q)
 skipped_IsQueue q old = record {
   first = omega (arith, old.first);
   few = old.few;
@@ -85,7 +86,7 @@ room_for_close q true free old = omega (arith, free refl)
 room_for_close q false free old = omega (arith, old.closes)
 
 pub submitted_IsQueue : (q : Queue) (client instance session : ℕ) (call : Call) → (is_full q && not (is_close_call call)) ≡ false →
-    (is_close_call call ≡ true → count_by closes q.operations < MAX_SESSIONS) → IsQueue q → IsQueue (submitted q client instance session call)
+    (is_close_call call ≡ true → count_by closes q.operations < MAX_SESSIONS) → IsQueue q → IsQueue (with_operation q client instance session call)
 submitted_IsQueue q client instance session call free few_closes old =
     let o : Operation = record { number = q.next; client = client; session = session; instance = instance; progress = Waiting call } in
     record {
@@ -116,16 +117,16 @@ mask_close : (value : Bool) (progress : Progress) → is_close (with_mask value 
 mask_close value (Waiting call) = refl
 mask_close value (Running close cancelled masked) = refl
 
-pub started_IsQueue : (q : Queue) (op : ℕ) → IsQueue q → IsQueue (record q { operations = map (started op) q.operations })
+pub started_IsQueue : (q : Queue) (op : ℕ) → IsQueue q → IsQueue (record q { operations = map (as_running op) q.operations })
 started_IsQueue q op old =
-    map_IsQueue q (started op)
+    map_IsQueue q (as_running op)
     (λ o. same_number (o.number == op) (record o { progress = Running (is_close o.progress) false true }) o refl)
     (λ o. same_close (o.number == op) (record o { progress = Running (is_close o.progress) false true }) o refl)
     old
 
-pub requested_IsQueue : (q : Queue) (op : ℕ) → IsQueue q → IsQueue (record q { operations = map (requested op) q.operations })
+pub requested_IsQueue : (q : Queue) (op : ℕ) → IsQueue q → IsQueue (record q { operations = map (as_requested op) q.operations })
 requested_IsQueue q op old =
-    map_IsQueue q (requested op)
+    map_IsQueue q (as_requested op)
     (λ o. same_number (o.number == op) (record o { progress = with_request o.progress }) o refl)
     (λ o. same_close (o.number == op) (record o { progress = with_request o.progress }) o (request_close o.progress))
     old
@@ -140,7 +141,7 @@ masked_IsQueue q op value old =
 pub without_IsQueue : (q : Queue) (op : ℕ) → IsQueue q → IsQueue (without q op)
 without_IsQueue q op old = filter_IsQueue q (λ o. not (o.number == op)) old
 
-pub forgotten_IsQueue : (q : Queue) → IsQueue q → IsQueue (forgotten q)
+pub forgotten_IsQueue : (q : Queue) → IsQueue q → IsQueue (without_operations q)
 forgotten_IsQueue q old = record {
   first = old.first;
   few = omega arith;

@@ -11,7 +11,7 @@ use Rattle.std.proofs.lemmas.List.Sums.{fails_before_first}
 use Rattle.op_queue.specs.declared.operation.Operation.{Operation}
 use Rattle.op_queue.specs.declared.operation.Progress.TheVariants.{Running}
 use Rattle.op_queue.specs.declared.operation.Cancelled.TheVariants.{Dropped, Flagged, Nothing}
-use Rattle.op_queue.specs.Queue.{Queue, IsQueue, ComesBefore, operation_of, cancel_of, is_close, is_running, started, requested, with_request, masked_as, with_mask}
+use Rattle.op_queue.specs.Queue.{Queue, IsQueue, ComesBefore, operation_of, cancel_of, is_close, is_running, as_running, as_requested, with_request, masked_as, with_mask}
 
 -- ---- places
 
@@ -117,13 +117,13 @@ other_stays f n o e = cond-false (o.number == n) (f o) o e
 
 -- ---- the changes of the calls
 
-pub started_here : (op : ℕ) (xs : List Operation) (i : ℕ) (x y : Operation) → AllPairs ComesBefore xs → i < length xs → x ≡ get_or xs i x → x.number ≡ op → y ≡ started op x →
-    set xs i y ≡ map (started op) xs
-started_here op = one_changed (started op) op (λ o e. other_stays (λ (o : Operation). record o { progress = Running (is_close o.progress) false true }) op o e)
+pub started_here : (op : ℕ) (xs : List Operation) (i : ℕ) (x y : Operation) → AllPairs ComesBefore xs → i < length xs → x ≡ get_or xs i x → x.number ≡ op → y ≡ as_running op x →
+    set xs i y ≡ map (as_running op) xs
+started_here op = one_changed (as_running op) op (λ o e. other_stays (λ (o : Operation). record o { progress = Running (is_close o.progress) false true }) op o e)
 
-pub requested_here : (op : ℕ) (xs : List Operation) (i : ℕ) (x y : Operation) → AllPairs ComesBefore xs → i < length xs → x ≡ get_or xs i x → x.number ≡ op → y ≡ requested op x →
-    set xs i y ≡ map (requested op) xs
-requested_here op = one_changed (requested op) op (λ o e. other_stays (λ (o : Operation). record o { progress = with_request o.progress }) op o e)
+pub requested_here : (op : ℕ) (xs : List Operation) (i : ℕ) (x y : Operation) → AllPairs ComesBefore xs → i < length xs → x ≡ get_or xs i x → x.number ≡ op → y ≡ as_requested op x →
+    set xs i y ≡ map (as_requested op) xs
+requested_here op = one_changed (as_requested op) op (λ o e. other_stays (λ (o : Operation). record o { progress = with_request o.progress }) op o e)
 
 pub masked_here : (op : ℕ) (value : Bool) (xs : List Operation) (i : ℕ) (x y : Operation) → AllPairs ComesBefore xs → i < length xs → x ≡ get_or xs i x → x.number ≡ op →
     y ≡ masked_as op value x → set xs i y ≡ map (masked_as op value) xs
@@ -151,10 +151,10 @@ masks q op i value x y old at read changed =
     masked_here op value q.operations i x y old.ordered (place_inside (λ (o : Operation). o.number == op) q.operations i x at) read number (changed ∙ ap (λ n. masked_as n value x) number)
 
 pub requests : (q : Queue) (op i : ℕ) (x y : Operation) → IsQueue q → position (λ o. o.number == op) q.operations ≡ Some i → x ≡ get_or q.operations i x →
-    y ≡ requested x.number x → set q.operations i y ≡ map (requested op) q.operations
+    y ≡ as_requested x.number x → set q.operations i y ≡ map (as_requested op) q.operations
 requests q op i x y old at read changed =
     let number : x.number ≡ op = its_number op q.operations i x at read in
-    requested_here op q.operations i x y old.ordered (place_inside (λ (o : Operation). o.number == op) q.operations i x at) read number (changed ∙ ap (λ n. requested n x) number)
+    requested_here op q.operations i x y old.ordered (place_inside (λ (o : Operation). o.number == op) q.operations i x at) read number (changed ∙ ap (λ n. as_requested n x) number)
 
 -- ---- what a request for cancellation does
 

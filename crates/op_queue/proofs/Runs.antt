@@ -5,8 +5,8 @@ use Rattle.app_api.specs.declared.call.Call.{Call}
 use Rattle.op_queue.specs.declared.operation.Operation.{Operation}
 use Rattle.op_queue.specs.declared.operation.Progress.{Progress}
 use Rattle.op_queue.specs.declared.operation.Progress.TheVariants.{Waiting, Running}
-use Rattle.op_queue.specs.Queue.{Queue, operation_of, runs, if_operation, is_running, is_close, submitted, without, waits_for}
-use Rattle.op_queue.specs.Queue.{first_waiting, started, after_begin, requested, with_request, masked_as, with_mask, mask_set}
+use Rattle.op_queue.specs.Queue.{Queue, operation_of, runs, if_operation, is_running, is_close, with_operation, without, waits_for}
+use Rattle.op_queue.specs.Queue.{first_waiting, as_running, after_begin, as_requested, with_request, masked_as, with_mask, mask_set}
 
 abbrev pub runs_in : List Operation → ℕ → Bool
 runs_in xs op = if_operation (find (λ o. o.number == op) xs) false (λ o. is_running o.progress)
@@ -36,7 +36,7 @@ runs_push op (x ∷ xs) y h =
     (λ (no : (x.number == op) ≡ false). let before : runs_in xs op ≡ true = rw no at h in rw no (runs_push op xs y before))
     (cases_Bool (x.number == op))
 
-pub runs-submitted : (q : Queue) (client instance session op : ℕ) (call : Call) → runs q op ≡ true → runs (submitted q client instance session call) op ≡ true
+pub runs-submitted : (q : Queue) (client instance session op : ℕ) (call : Call) → runs q op ≡ true → runs (with_operation q client instance session call) op ≡ true
 runs-submitted q client instance session op call h = runs_push op q.operations (record { number = q.next; client = client; session = session; instance = instance; progress = Waiting call }) h
 
 runs_filter : (p : Operation → Bool) (op : ℕ) (xs : List Operation) → ((o : Operation) → o.number ≡ op → p o ≡ true) → runs_in xs op ≡ true → runs_in (filter p xs) op ≡ true
@@ -74,15 +74,15 @@ mask_runs : (value : Bool) (progress : Progress) → is_running (with_mask value
 mask_runs value (Waiting call) = refl
 mask_runs value (Running close cancelled masked) = refl
 
-pub runs-started : (q : Queue) (op other : ℕ) → runs q op ≡ true → runs (record q { operations = map (started other) q.operations }) op ≡ true
+pub runs-started : (q : Queue) (op other : ℕ) → runs q op ≡ true → runs (record q { operations = map (as_running other) q.operations }) op ≡ true
 runs-started q op other h =
-    runs_map (started other) op q.operations
+    runs_map (as_running other) op q.operations
     (λ o. same_number (o.number == other) (record o { progress = Running (is_close o.progress) false true }) o refl)
     (λ o k. runs_on (o.number == other) (record o { progress = Running (is_close o.progress) false true }) o refl k) h
 
-pub runs-requested : (q : Queue) (op other : ℕ) → runs q op ≡ true → runs (record q { operations = map (requested other) q.operations }) op ≡ true
+pub runs-requested : (q : Queue) (op other : ℕ) → runs q op ≡ true → runs (record q { operations = map (as_requested other) q.operations }) op ≡ true
 runs-requested q op other h =
-    runs_map (requested other) op q.operations
+    runs_map (as_requested other) op q.operations
     (λ o. same_number (o.number == other) (record o { progress = with_request o.progress }) o refl)
     (λ o k. runs_on (o.number == other) (record o { progress = with_request o.progress }) o (request_runs o.progress ∙ k) k) h
 
@@ -94,7 +94,7 @@ runs-mask_set q op other value h =
 
 -- ---- what begins runs
 
-started_runs : (n : ℕ) (p : Operation → Bool) (xs : List Operation) (o : Operation) → find p xs ≡ Some o → o.number ≡ n → runs_in (map (started n) xs) n ≡ true
+started_runs : (n : ℕ) (p : Operation → Bool) (xs : List Operation) (o : Operation) → find p xs ≡ Some o → o.number ≡ n → runs_in (map (as_running n) xs) n ≡ true
 started_runs n p [] o e number = let never : None ≡ Some o = e in cc
 started_runs n p (x ∷ xs) o e number =
     let same : (b : Bool) → (cond b (record x { progress = Running (is_close x.progress) false true }) x).number ≡ x.number =

@@ -11,6 +11,7 @@ use Rattle.op_queue.specs.declared.operation.Cancelled.{Cancelled}
 use Rattle.op_queue.specs.declared.operation.Cancelled.TheVariants.{Dropped, Flagged, Nothing}
 use Rattle.op_queue.specs.declared.operation.Progress.{Progress}
 use Rattle.op_queue.specs.declared.operation.Progress.TheVariants.{Waiting, Running}
+use Rattle.tee_base.specs.Words.{InstanceNumber}
 
 -- the operations that haven't been answered, in ascending order of their numbers, and the number of the next call
 pub record Queue : Type 0 where
@@ -42,18 +43,18 @@ abbrev pub is_full : Queue → Bool
 is_full q = nat_le MAX_OPERATIONS (count_by (λ o. not (is_close o.progress)) q.operations)
 
 -- one more operation, which waits
-abbrev pub submitted : Queue → ℕ → ℕ → ℕ → Call → Queue
-submitted q client instance session call = record {
+abbrev pub with_operation : Queue → ℕ → InstanceNumber → ℕ → Call → Queue
+with_operation q client instance session call = record {
   next = q.next + 1;
   operations = q.operations ++ record { number = q.next; client = client; session = session; instance = instance; progress = Waiting call } ∷ [];
 }
 
 -- the next number is used up
-abbrev pub skipped : Queue → Queue
-skipped q = record q { next = q.next + 1 }
+abbrev pub with_number_used : Queue → Queue
+with_number_used q = record q { next = q.next + 1 }
 
 -- the operation is of this instance and waits
-abbrev pub waits_for : ℕ → Operation → Bool
+abbrev pub waits_for : InstanceNumber → Operation → Bool
 waits_for instance o = (o.instance == instance) && not (is_running o.progress)
 
 -- the call of an operation that waits, ready to be run
@@ -62,7 +63,7 @@ begun_of o (Waiting call) = Some (record { op = o.number; session = o.session; c
 begun_of o (Running close cancelled masked) = None
 
 -- the instance's operation with the least number that waits
-abbrev pub first_waiting : Queue → ℕ → Option Operation
+abbrev pub first_waiting : Queue → InstanceNumber → Option Operation
 first_waiting q instance = find (waits_for instance) q.operations
 
 -- the call of the operation, where there is one that waits
@@ -71,13 +72,13 @@ begun_at None = None
 begun_at (Some o) = begun_of o o.progress
 
 -- from now on the operation runs, with cancellation masked
-abbrev pub started : ℕ → Operation → Operation
-started op o = if o.number == op then record o { progress = Running (is_close o.progress) false true } else o
+abbrev pub as_running : ℕ → Operation → Operation
+as_running op o = if o.number == op then record o { progress = Running (is_close o.progress) false true } else o
 
 -- the queue once this operation, if there is one, runs
 abbrev pub after_begin : Queue → Option Operation → Queue
 after_begin q None = q
-after_begin q (Some o) = record q { operations = map (started o.number) q.operations }
+after_begin q (Some o) = record q { operations = map (as_running o.number) q.operations }
 
 -- the unanswered operation of this number, where there is one
 abbrev pub operation_of : Queue → ℕ → Option Operation
@@ -88,7 +89,7 @@ abbrev pub facts_of : Operation → OpFacts
 facts_of o = record { client = o.client; instance = o.instance; session = o.session; running = is_running o.progress; close = is_close o.progress }
 
 -- the least unanswered number of the instance that is greater
-abbrev pub next_of : Queue → ℕ → ℕ → Option ℕ
+abbrev pub next_of : Queue → InstanceNumber → ℕ → Option ℕ
 next_of q instance after = option_map (λ o. o.number) (find (λ o. (o.instance == instance) && nat_lt after o.number) q.operations)
 
 -- what a request for cancellation does to an operation: one that waits and is no close goes, one that runs and is no close is flagged
@@ -101,12 +102,12 @@ abbrev pub without : Queue → ℕ → Queue
 without q op = record q { operations = filter (λ o. not (o.number == op)) q.operations }
 
 -- the operations of an instance taken out
-abbrev pub cleared : Queue → ℕ → Queue
-cleared q instance = record q { operations = filter (λ o. not (o.instance == instance)) q.operations }
+abbrev pub without_operations_of : Queue → InstanceNumber → Queue
+without_operations_of q instance = record q { operations = filter (λ o. not (o.instance == instance)) q.operations }
 
 -- all operations taken out; the numbers go on
-abbrev pub forgotten : Queue → Queue
-forgotten q = record q { operations = [] }
+abbrev pub without_operations : Queue → Queue
+without_operations q = record q { operations = [] }
 
 -- with cancellation requested, if the operation runs
 abbrev pub with_request : Progress → Progress
@@ -114,13 +115,13 @@ with_request (Waiting call) = Waiting call
 with_request (Running close cancelled masked) = Running close true masked
 
 -- the operation, with cancellation requested if it has this number
-abbrev pub requested : ℕ → Operation → Operation
-requested op o = if o.number == op then record o { progress = with_request o.progress } else o
+abbrev pub as_requested : ℕ → Operation → Operation
+as_requested op o = if o.number == op then record o { progress = with_request o.progress } else o
 
 -- the queue after a request for cancellation that did this to the operation of this number
 abbrev pub after_cancel : Queue → ℕ → Cancelled → Queue
 after_cancel q op Dropped = without q op
-after_cancel q op Flagged = record q { operations = map (requested op) q.operations }
+after_cancel q op Flagged = record q { operations = map (as_requested op) q.operations }
 after_cancel q op Nothing = q
 
 -- cancellation is masked, as it is until the entry unmasks it

@@ -79,7 +79,7 @@ pub struct Operation {
 
 impl Operation {
     ghost use Rattle.std.specs.Prelude.{◌≡◌, Option};
-    ghost use Rattle.op_queue.specs.Queue.{facts_of, begun_of, waits_for, started, requested, masked_as, mask_of};
+    ghost use Rattle.op_queue.specs.Queue.{facts_of, begun_of, waits_for, as_running, as_requested, masked_as, mask_of};
 
     /// Whether it is the instance's, and waits.
     pub fn waits_for(&self, instance: u8) -> bool
@@ -104,7 +104,7 @@ impl Operation {
     /// Hands out the call where it waits; from then on it runs, masked.
     pub fn start(&mut self) -> Option<Begun>
         ensures begun { result ≡ begun_of self.old self.old.progress }
-        ensures after { self.new ≡ started self.old.number self.old }
+        ensures after { self.new ≡ as_running self.old.number self.old }
     {
         let close = self.progress.is_close();
         let running = Progress::Running {
@@ -124,7 +124,7 @@ impl Operation {
 
     /// Notes a request for cancellation, where an entry runs.
     pub fn request(&mut self)
-        ensures { self.new ≡ requested self.old.number self.old }
+        ensures { self.new ≡ as_requested self.old.number self.old }
     {
         if let Progress::Running { cancelled, .. } = &mut self.progress {
             *cancelled = true;

@@ -1,7 +1,7 @@
 //! The queue.
 
 ghost use Rattle.std.specs.Prelude.{◌≡◌, ◌≤◌, ◌+◌, ◌^◌, ◌&&◌, ◌↔◌, IsTrue, IfOk, OnErr, Ok, Err, true, false, not, option_map, length};
-ghost use Rattle.tee_base.specs.declared.limits.TheConstants.{MAX_SESSIONS, MAX_OPERATIONS};
+ghost use Rattle.tee_base.specs.declared.limits.TheConstants.{MAX_NUMBER, MAX_OPERATIONS, MAX_SESSIONS};
 
 use crate::operation::{
     Begun, Cancelled, OpFacts, Operation, Progress, QueueAnswer, is_close_call,
@@ -30,7 +30,7 @@ impl Model for OpQueue {
 }
 
 impl OpQueue {
-    ghost use Rattle.op_queue.specs.Queue.{Queue, IsQueue, empty_queue, is_close_call, is_full, submitted, skipped, first_waiting, begun_at, after_begin, operation_of, facts_of, next_of, cancel_of, after_cancel, mask_at, mask_set, flag_of, without, cleared, forgotten};
+    ghost use Rattle.op_queue.specs.Queue.{Queue, IsQueue, empty_queue, is_close_call, is_full, with_operation, with_number_used, first_waiting, begun_at, after_begin, operation_of, facts_of, next_of, cancel_of, after_cancel, mask_at, mask_set, flag_of, without, without_operations_of, without_operations};
 
     /// No operations yet; the first will have the number 1.
     pub fn new(alloc: Global) -> OpQueue
@@ -64,10 +64,10 @@ impl OpQueue {
         session: u8,
         call: Call,
     ) -> Result<u64, QueueAnswer>
-        requires { self.old.next ≤ 2 ^ 63 }
+        requires { self.old.next ≤ MAX_NUMBER }
         ensures ok { IfOk result (λ n.
             (n ≡ self.old.next)
-            × (self.new ≡ submitted self.old client instance session call)) }
+            × (self.new ≡ with_operation self.old client instance session call)) }
         ensures full { (result ≡ Err QueueAnswer.Full) ↔ IsTrue
             (is_full self.old && not (is_close_call call)) }
         ensures unchanged { OnErr result (self.new ≡ self.old) }
@@ -101,9 +101,9 @@ impl OpQueue {
 
     /// Takes the next number, for a call that is refused at once.
     pub fn skip(&mut self) -> u64
-        requires { self.old.next ≤ 2 ^ 63 }
+        requires { self.old.next ≤ MAX_NUMBER }
         ensures number { result ≡ self.old.next }
-        ensures after { self.new ≡ skipped self.old }
+        ensures after { self.new ≡ with_number_used self.old }
     {
         let number = self.next;
         self.next = number + 1;
@@ -215,14 +215,14 @@ impl OpQueue {
 
     /// Takes all operations of the instance out, which are answered.
     pub fn clear(&mut self, instance: u8)
-        ensures { self.new ≡ cleared self.old instance }
+        ensures { self.new ≡ without_operations_of self.old instance }
     {
         scans::leave_out(&mut self.operations, instance);
     }
 
     /// Takes all operations out, with no answer. The number of the next call stays. No memory is taken.
     pub fn forget(&mut self)
-        ensures { self.new ≡ forgotten self.old }
+        ensures { self.new ≡ without_operations self.old }
     {
         self.operations.clear();
     }

@@ -18,8 +18,8 @@ use Rattle.crypto_ops.specs.declared.operation.Operation.{Operation}
 use Rattle.crypto_ops.specs.declared.algorithm.Algorithm.{Algorithm}
 use Rattle.crypto_ops.specs.declared.answer.OpAnswer.{OpAnswer}
 use Rattle.crypto_ops.specs.Algorithms.{is_digest, algorithm_number, mode_number, key_kind}
-use Rattle.crypto_ops.specs.Operations.{may_change_key, clear_key_answer, unkeyed, is_active, CryptoOperation, KeyFits, KeyOfKind, after_ok}
-use Rattle.crypto_ops.specs.Operations.{copy_answer, copied, keyed, set_key_answer, key_bits}
+use Rattle.crypto_ops.specs.Operations.{may_change_key, clear_key_answer, without_key, is_active, CryptoOperation, KeyFits, KeyOfKind, after_ok}
+use Rattle.crypto_ops.specs.Operations.{copy_answer, with_copy_of, with_key, set_key_answer, key_bits}
 use Rattle.secret.specs.Bits.{bits_of}
 use Rattle.crypto_ops.specs.Represents.{Represents, IsAllocated}
 use Rattle.operation_asks.specs.declared.outcome.Outcome.{Outcome}
@@ -28,7 +28,7 @@ use Rattle.operation_asks.specs.declared.outcome.CryptoOutcome.TheVariants as as
 use Rattle.operation_asks.specs.declared.table.Entry.{Entry}
 use Rattle.operation_asks.specs.Effects.{Effect, told_refusal, told_done}
 use Rattle.operation_asks.specs.OneOperation.{one_effect}
-use Rattle.operation_asks.specs.Table.{NumberedOperation, changed, is_full, free_number, operation_at, freed}
+use Rattle.operation_asks.specs.Table.{NumberedOperation, with_changed, is_full, free_number, operation_at, without_numbered}
 use Rattle.operation_asks.specs.Asks.{Resolution, Settled, WantsKey, resolution_in, set_key_resolution, new_by, free_effect, on_operation, copy_effect, key_set}
 use Rattle.operation_asks.specs.Represents.{AreOperations, IsEffect, IsResolution, told_by, left_by, has_number, has_instance}
 use Rattle.operation_asks.proofs.TableLemmas.{Slot, slot, slot_at, some_none, count_same, numbers_same, freed_same, push_same}
@@ -108,7 +108,7 @@ pub free_some : (i n : ℕ) (values now : List Entry) (os : List NumberedOperati
     → now ≡ filter (λ e. not (has_number i n e)) values
     → IsEffect AreOperations (Answered answers.Done) (free_effect os i n) now
 free_some i n values now os o are some found rest =
-    rw (some, found) (record { told_is = refl; leaves = subst (λ (vs : List Entry). AreOperations vs (freed os i n)) (sym rest) (freed_same i n values os are) })
+    rw (some, found) (record { told_is = refl; leaves = subst (λ (vs : List Entry). AreOperations vs (without_numbered os i n)) (sym rest) (freed_same i n values os are) })
 
 -- ---- one operation
 
@@ -142,12 +142,12 @@ key_none i n values os key are none = rw none (record { told_is = refl; leaves =
 
 pub key_slot : (i n : ℕ) (values : List Entry) (os : List NumberedOperation) (k : ℕ) (v : Entry) (key : ObjectKey) (answer : Result (Unit {0}) OpAnswer) (w : Operation) (s : Slot i n values os k v)
     → answer ≡ set_key_answer s.operation key.kind key.usage key.secret
-    → Represents w (after_ok answer s.operation (keyed s.operation key.secret))
+    → Represents w (after_ok answer s.operation (with_key s.operation key.secret))
     → IsEffect AreOperations (told_done answer) (key_set os i n key (operation_at os i n)) (set values k (record v { operation = w }))
 key_slot i n values os k v key answer w s e r =
     rw s.found (record {
       told_is = ap told_done e;
-      leaves = s.put w _ (subst (λ (a : Result (Unit {0}) OpAnswer). Represents w (after_ok a s.operation (keyed s.operation key.secret))) e r);
+      leaves = s.put w _ (subst (λ (a : Result (Unit {0}) OpAnswer). Represents w (after_ok a s.operation (with_key s.operation key.secret))) e r);
     })
 
 -- ---- a key that is taken away, or wanted
@@ -176,13 +176,13 @@ may_clear o allowed =
 
 pub begin_cleared : (i op object : ℕ) (values : List Entry) (os : List NumberedOperation) (k : ℕ) (v : Entry) (answer : Result (Unit {0}) OpAnswer) (w : Operation) (s : Slot i op values os k v)
     → may_change_key s.operation ≡ true → object ≡ 0 → answer ≡ clear_key_answer s.operation
-    → Represents w (after_ok answer s.operation (unkeyed s.operation))
+    → Represents w (after_ok answer s.operation (without_key s.operation))
     → IsResolution AreOperations (asked.Settled (told_done answer)) (set_key_resolution os i op object) os (set values k (record v { operation = w }))
 begin_cleared i op object values os k v answer w s allowed zero_ e r =
     let fine : answer ≡ Ok tt = e ∙ may_clear s.operation allowed in
     rw (s.found, allowed, zero_) (record {
       told_is = ap (λ (a : Result (Unit {0}) OpAnswer). asked.Settled (told_done a)) fine;
-      leaves = s.put w _ (subst (λ (a : Result (Unit {0}) OpAnswer). Represents w (after_ok a s.operation (unkeyed s.operation))) fine r);
+      leaves = s.put w _ (subst (λ (a : Result (Unit {0}) OpAnswer). Represents w (after_ok a s.operation (without_key s.operation))) fine r);
     })
 
 -- ---- a copy
@@ -200,12 +200,12 @@ copy_no_source i to from values os o are found none = rw (found, none) (record {
 pub copy_slots : (i to from : ℕ) (values : List Entry) (os : List NumberedOperation) (k l : ℕ) (v x : Entry) (answer : Result (Unit {0}) OpAnswer)
     (w : Operation) (s : Slot i to values os k v) (t : Slot i from values os l x)
     → answer ≡ copy_answer s.operation t.operation
-    → Represents w (after_ok answer s.operation (copied s.operation t.operation))
+    → Represents w (after_ok answer s.operation (with_copy_of s.operation t.operation))
     → IsEffect AreOperations (told_done answer) (copy_effect os i to from) (set values k (record v { operation = w }))
 copy_slots i to from values os k l v x answer w s t e r =
     rw (s.found, t.found) (record {
       told_is = ap told_done e;
-      leaves = s.put w _ (subst (λ (a : Result (Unit {0}) OpAnswer). Represents w (after_ok a s.operation (copied s.operation t.operation))) e r);
+      leaves = s.put w _ (subst (λ (a : Result (Unit {0}) OpAnswer). Represents w (after_ok a s.operation (with_copy_of s.operation t.operation))) e r);
     })
 
 -- the operation at the front of two parts has key and state of the one that begins the back, and the other way round; d and e are
@@ -215,7 +215,7 @@ pub copy_front : (values front back : List Entry) (os : List NumberedOperation) 
     → d ≡ get_or front k d → e ≡ get_or back 0 e → position (has_number i to) values ≡ Some k
     → position (has_number i from) values ≡ Some l
     → ((t o : CryptoOperation) → Represents (get_or front k d).operation t → Represents (get_or back 0 e).operation o → answer ≡ copy_answer t o)
-    → ((t o : CryptoOperation) → Represents (get_or front k d).operation t → Represents (get_or back 0 e).operation o → Represents w (after_ok answer t (copied t o)))
+    → ((t o : CryptoOperation) → Represents (get_or front k d).operation t → Represents (get_or back 0 e).operation o → Represents w (after_ok answer t (with_copy_of t o)))
     → IsEffect AreOperations (told_done answer) (copy_effect os i to from) (set front k (record (get_or front k d) { operation = w }) ++ back)
 copy_front values front back os k l d e answer w i to from are parts inside cut some read_d read_e at_to at_from answers after =
     let d_is : d ≡ get_or values k d = read_d ∙ sym (ap (λ (vs : List Entry). get_or vs k d) parts ∙ get_or_append_left front back d k inside) in
@@ -236,7 +236,7 @@ pub copy_back : (values front back : List Entry) (os : List NumberedOperation) (
     → d ≡ get_or back 0 d → e ≡ get_or front l e → position (has_number i to) values ≡ Some k
     → position (has_number i from) values ≡ Some l
     → ((t o : CryptoOperation) → Represents (get_or back 0 d).operation t → Represents (get_or front l e).operation o → answer ≡ copy_answer t o)
-    → ((t o : CryptoOperation) → Represents (get_or back 0 d).operation t → Represents (get_or front l e).operation o → Represents w (after_ok answer t (copied t o)))
+    → ((t o : CryptoOperation) → Represents (get_or back 0 d).operation t → Represents (get_or front l e).operation o → Represents w (after_ok answer t (with_copy_of t o)))
     → IsEffect AreOperations (told_done answer) (copy_effect os i to from) (front ++ set back 0 (record (get_or back 0 d) { operation = w }))
 copy_back values front back os k l d e answer w i to from are parts inside cut some read_d read_e at_to at_from answers after =
     let d_is : d ≡ get_or values k d = read_d ∙ sym (ap (λ (vs : List Entry). get_or vs k d) parts ∙ get_or-append_right front back k k d cut (omega arith) ∙ ap (λ n. get_or back n d) (sub-self k)) in
@@ -277,7 +277,7 @@ copy_at i to from values os k d s t =
     let fine : copy_answer s.operation s.operation ≡ Ok tt = self_copy s.operation s.means.key_fits in
     rw (s.found, t.found ∙ ap Some same, fine) (record {
       told_is = refl;
-      leaves = subst (λ (vs : List Entry). AreOperations vs (changed i to s.operation os)) (set-get_or values k d) (s.put (get_or values k d).operation s.operation s.means);
+      leaves = subst (λ (vs : List Entry). AreOperations vs (with_changed i to s.operation os)) (set-get_or values k d) (s.put (get_or values k d).operation s.operation s.means);
     })
 
 -- both numbers are of one place: it is a copy of an operation onto itself

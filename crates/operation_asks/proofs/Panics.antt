@@ -9,18 +9,19 @@ use Rattle.tee_base.specs.declared.codes.TheConstants.Code.{BUSY, MAC_INVALID}
 use Rattle.transient_obj.specs.declared.object_key.ObjectKey.{ObjectKey}
 use Rattle.crypto_ops.specs.declared.answer.OpAnswer.{OpAnswer}
 use Rattle.crypto_ops.specs.declared.answer.OpAnswer.TheVariants.{MacInvalid, Misuse, NotSupported, Short, NoMemory}
-use Rattle.crypto_ops.specs.Operations.{CryptoOperation, allocated, compared, copy_answer, copied, is_too_much, keyed, may_change_key, mac_compare_answer, set_key_answer, unkeyed}
-use Rattle.crypto_ops.specs.Random.{moved, random_from}
-use Rattle.operation_asks.specs.declared.outcome.KeyGiven.{KeyGiven}
-use Rattle.operation_asks.specs.declared.outcome.KeyGiven.TheVariants as gives
+use Rattle.crypto_ops.specs.Operations.{CryptoOperation, allocate_answer, after_comparison, copy_answer, with_copy_of}
+use Rattle.crypto_ops.specs.Operations.{is_too_much, with_key, may_change_key, mac_compare_answer, set_key_answer, without_key}
+use Rattle.crypto_ops.specs.Random.{stream_after, random_from}
+use Rattle.transient_obj.specs.declared.look.KeyLook.{KeyLook}
+use Rattle.transient_obj.specs.declared.look.KeyLook.TheVariants as gives
 use Rattle.operation_asks.specs.declared.outcome.Outcome.TheVariants.{Answered, Panicked}
 use Rattle.operation_asks.proofs.AskLemmas.{same_some}
 use Rattle.operation_asks.specs.Asks.{CryptoState, Resolution, Settled, WantsKey, copy_between, resolution_in, free_by, free_effect, key_set, new_by, on_found}
 use Rattle.operation_asks.specs.Asks.{operation_resolution, random_effect, set_key_on, with_operations}
-use Rattle.operation_asks.specs.Effects.{Effect, answered, content_by, done, done_by, effect_in, panicked, refused, told_done}
+use Rattle.operation_asks.specs.Effects.{Effect, answer_effect, content_by, done_effect, done_by, effect_in, panic_effect, refusal_effect, told_done}
 use Rattle.operation_asks.specs.OneOperation.{one_effect}
 use Rattle.operation_asks.specs.Past.{key_effect}
-use Rattle.operation_asks.specs.Table.{NumberedOperation, added, changed, free_number, is_at, is_full, operation_at}
+use Rattle.operation_asks.specs.Table.{NumberedOperation, with_numbered, with_changed, free_number, is_at, is_full, operation_at}
 
 -- where it tells a panic, it leaves this
 abbrev pub KeepsAtPanic : {S : Type 0} → S → Effect S → Type 0
@@ -43,7 +44,7 @@ by_content : (answer : Result (List ℕ) OpAnswer) (old new : CryptoOperation) �
 by_content (Ok content) old new e = absurd (let h : Answered (answers.Content content) ≡ Panicked = e in cc)
 by_content (Err answer) old new e = refl
 
-by_comparison : (answer : Result (Unit {0}) OpAnswer) (o : CryptoOperation) → told_done answer ≡ Panicked → compared answer o ≡ o
+by_comparison : (answer : Result (Unit {0}) OpAnswer) (o : CryptoOperation) → told_done answer ≡ Panicked → after_comparison answer o ≡ o
 by_comparison (Ok nothing) o e = absurd (let h : Answered answers.Done ≡ Panicked = e in cc)
 by_comparison (Err MacInvalid) o e = absurd (let h : Answered (answers.Refused MAC_INVALID) ≡ Panicked = e in cc)
 by_comparison (Err NotSupported) o e = refl
@@ -70,25 +71,25 @@ one_keeps o ask e = refl
 
 -- whether the first of them is it
 at_head : (i n : ℕ) (o : CryptoOperation) (x : NumberedOperation) (xs : List NumberedOperation) (b : Bool) → is_at i n x ≡ b → operation_at (x ∷ xs) i n ≡ Some o
-    → (operation_at xs i n ≡ Some o → changed i n o xs ≡ xs) → changed i n o (x ∷ xs) ≡ x ∷ xs
+    → (operation_at xs i n ≡ Some o → with_changed i n o xs ≡ xs) → with_changed i n o (x ∷ xs) ≡ x ∷ xs
 at_head i n o x xs true here found rest =
     let first : Some x.operation ≡ Some o =
     subst (λ (b : Bool). option_map (λ (y : NumberedOperation). y.operation) (cond b (Some x) (find (is_at i n) xs)) ≡ Some o) here found in
-    ap (λ (b : Bool). cond b (record x { operation = o } ∷ xs) (x ∷ changed i n o xs)) here
+    ap (λ (b : Bool). cond b (record x { operation = o } ∷ xs) (x ∷ with_changed i n o xs)) here
     ∙ ap (λ (p : CryptoOperation). record x { operation = p } ∷ xs) (sym (same_some x.operation o first))
 at_head i n o x xs false there found rest =
-    ap (λ (b : Bool). cond b (record x { operation = o } ∷ xs) (x ∷ changed i n o xs)) there
+    ap (λ (b : Bool). cond b (record x { operation = o } ∷ xs) (x ∷ with_changed i n o xs)) there
     ∙ ap (λ (ys : List NumberedOperation). x ∷ ys)
     (rest (subst (λ (b : Bool). option_map (λ (y : NumberedOperation). y.operation) (cond b (Some x) (find (is_at i n) xs)) ≡ Some o) there found))
 
 -- changed to what it is, the list is the same
-same_list : (i n : ℕ) (o : CryptoOperation) (os : List NumberedOperation) → operation_at os i n ≡ Some o → changed i n o os ≡ os
+same_list : (i n : ℕ) (o : CryptoOperation) (os : List NumberedOperation) → operation_at os i n ≡ Some o → with_changed i n o os ≡ os
 same_list i n o [] found = refl
 same_list i n o (x ∷ xs) found = at_head i n o x xs (is_at i n x) refl found (same_list i n o xs)
 
 placed : (os : List NumberedOperation) (i n : ℕ) (o : CryptoOperation) (e : Effect CryptoOperation) → operation_at os i n ≡ Some o → KeepsAtPanic o e
-    → KeepsAtPanic os (effect_in (λ p. changed i n p os) e)
-placed os i n o e found keeps told = ap (λ (p : CryptoOperation). changed i n p os) (keeps told) ∙ same_list i n o os found
+    → KeepsAtPanic os (effect_in (λ p. with_changed i n p os) e)
+placed os i n o e found keeps told = ap (λ (p : CryptoOperation). with_changed i n p os) (keeps told) ∙ same_list i n o os found
 
 on_keeps : (os : List NumberedOperation) (i n : ℕ) (ask : Ask) (o : Option CryptoOperation) → operation_at os i n ≡ o → KeepsAtPanic os (on_found os i n ask o)
 on_keeps os i n ask None found e = refl
@@ -97,7 +98,7 @@ on_keeps os i n ask (Some o) found e = placed os i n o (one_effect o ask) found 
 refusal_keeps : (os : List NumberedOperation) (i : ℕ) (r : Result CryptoOperation OpAnswer) → KeepsAtPanic os (new_by os i r)
 refusal_keeps os i (Err answer) = λ e. refl
 refusal_keeps os i (Ok o) =
-    either os (is_full os i) (refused os BUSY) (answered (added os i o) (answers.Number (free_number os i)))
+    either os (is_full os i) (refusal_effect os BUSY) (answer_effect (with_numbered os i o) (answers.Number (free_number os i)))
     (λ e. refl) (λ e. absurd (let h : Answered (answers.Number (free_number os i)) ≡ Panicked = e in cc))
 
 freed_keeps : (os : List NumberedOperation) (i n : ℕ) (o : Option CryptoOperation) → KeepsAtPanic os (free_by os i n o)
@@ -105,22 +106,24 @@ freed_keeps os i n None e = refl
 freed_keeps os i n (Some o) e = absurd (let h : Answered answers.Done ≡ Panicked = e in cc)
 
 free_keeps : (os : List NumberedOperation) (i n : ℕ) → KeepsAtPanic os (free_effect os i n)
-free_keeps os i n = either os (n == 0) (done os) (free_by os i n (operation_at os i n)) (λ e. refl) (freed_keeps os i n (operation_at os i n))
+free_keeps os i n = either os (n == 0) (done_effect os) (free_by os i n (operation_at os i n)) (λ e. refl) (freed_keeps os i n (operation_at os i n))
 
 copy_keeps : (os : List NumberedOperation) (i to : ℕ) (target source : Option CryptoOperation) → operation_at os i to ≡ target → KeepsAtPanic os (copy_between os i to target source)
 copy_keeps os i to None source found e = refl
 copy_keeps os i to (Some target) None found e = refl
-copy_keeps os i to (Some target) (Some source) found e = placed os i to target (done_by (copy_answer target source) target (copied target source)) found (by_done _ target _) e
+copy_keeps os i to (Some target) (Some source) found e = placed os i to target (done_by (copy_answer target source) target (with_copy_of target source)) found (by_done _ target _) e
 
 set_keeps : (os : List NumberedOperation) (i n object : ℕ) (o : Option CryptoOperation) → ResolutionKeeps os (set_key_on os i n object o)
 set_keeps os i n object None = λ e. refl
 set_keeps os i n object (Some o) =
-    cond_both (not (may_change_key o)) (Settled (panicked os)) (cond (object == 0) (Settled (done (changed i n (unkeyed o) os))) (WantsKey n object)) (ResolutionKeeps os) (λ _ e. refl)
-    (λ _. cond_both (object == 0) (Settled (done (changed i n (unkeyed o) os))) (WantsKey n object) (ResolutionKeeps os) (λ _ e. absurd (let h : Answered answers.Done ≡ Panicked = e in cc)) (λ _. tt))
+    cond_both (not (may_change_key o)) (Settled (panic_effect os)) (cond (object == 0) (Settled (done_effect (with_changed i n (without_key o) os))) (WantsKey n object))
+    (ResolutionKeeps os) (λ _ e. refl)
+    (λ _. cond_both (object == 0) (Settled (done_effect (with_changed i n (without_key o) os))) (WantsKey n object) (ResolutionKeeps os) (λ _ e. absurd (let h : Answered answers.Done
+    ≡ Panicked = e in cc)) (λ _. tt))
 
 key_keeps : (os : List NumberedOperation) (i n : ℕ) (key : ObjectKey) (o : Option CryptoOperation) → operation_at os i n ≡ o → KeepsAtPanic os (key_set os i n key o)
 key_keeps os i n key None found e = refl
-key_keeps os i n key (Some o) found e = placed os i n o (done_by (set_key_answer o key.kind key.usage key.secret) o (keyed o key.secret)) found (by_done _ o _) e
+key_keeps os i n key (Some o) found e = placed os i n o (done_by (set_key_answer o key.kind key.usage key.secret) o (with_key o key.secret)) found (by_done _ o _) e
 
 -- ---- all of it
 
@@ -133,14 +136,14 @@ resolution_in_state s (WantsKey op object) keeps = tt
 
 random_keeps : (s : CryptoState) (count : ℕ) → KeepsAtPanic s.random (random_effect s.random count)
 random_keeps s count =
-    either s.random (is_too_much count) (panicked s.random) (answered (moved s.random count) (answers.Content (random_from s.random count))) (λ e. refl)
+    either s.random (is_too_much count) (panic_effect s.random) (answer_effect (stream_after s.random count) (answers.Content (random_from s.random count))) (λ e. refl)
     (λ e. absurd (let h : Answered (answers.Content (random_from s.random count)) ≡ Panicked = e in cc))
 
 -- an ask that panics leaves the operations and the stream as they were
 pub resolution_keeps : (s : CryptoState) (i : ℕ) (ask : Ask) → ResolutionKeeps s (operation_resolution s i ask)
 unfolding operation_resolution
 resolution_keeps s i (asked.Random count) = λ e. ap (λ (r : ChaCha). record s { random = r }) (random_keeps s count e)
-resolution_keeps s i (asked.OpNew alg mode max_bits) = in_state s _ (refusal_keeps s.operations i (allocated alg mode max_bits))
+resolution_keeps s i (asked.OpNew alg mode max_bits) = in_state s _ (refusal_keeps s.operations i (allocate_answer alg mode max_bits))
 resolution_keeps s i (asked.OpFree op) = in_state s _ (free_keeps s.operations i op)
 resolution_keeps s i (asked.OpSetKey op object) = resolution_in_state s _ (set_keeps s.operations i op object (operation_at s.operations i op))
 resolution_keeps s i (asked.OpCopy to from) = in_state s _ (copy_keeps s.operations i to (operation_at s.operations i to) (operation_at s.operations i from) refl)
@@ -158,7 +161,7 @@ resolution_keeps s i (asked.DigestFinal op bytes room) = in_state s _ (on_keeps 
 resolution_keeps s i ask = λ e. refl
 
 -- so does the rest of an ask for a key
-pub key_effect_keeps : (s : CryptoState) (i op : ℕ) (given : KeyGiven) → KeepsAtPanic s (key_effect s i op given)
+pub key_effect_keeps : (s : CryptoState) (i op : ℕ) (given : KeyLook) → KeepsAtPanic s (key_effect s i op given)
 key_effect_keeps s i op (gives.Key key) = in_state s _ (key_keeps s.operations i op key (operation_at s.operations i op) refl)
 key_effect_keeps s i op gives.NoKey = λ e. refl
 key_effect_keeps s i op (gives.Refused code) = λ e. refl

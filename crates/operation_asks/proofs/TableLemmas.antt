@@ -9,7 +9,7 @@ use Rattle.crypto_ops.specs.declared.operation.Operation.{Operation}
 use Rattle.crypto_ops.specs.Operations.{CryptoOperation}
 use Rattle.crypto_ops.specs.Represents.{Represents}
 use Rattle.operation_asks.specs.declared.table.Entry.{Entry}
-use Rattle.operation_asks.specs.Table.{NumberedOperation, is_at, is_of, operation_at, changed}
+use Rattle.operation_asks.specs.Table.{NumberedOperation, is_at, is_of, operation_at, with_changed}
 use Rattle.operation_asks.specs.Represents.{IsEntry, AreOperations, has_number, has_instance}
 
 same_number : (i n : ℕ) (v : Entry) (o : NumberedOperation) → IsEntry v o → has_number i n v ≡ is_at i n o
@@ -27,7 +27,7 @@ pub record Slot (i n : ℕ) (values : List Entry) (os : List NumberedOperation) 
   pub means : Represents v.operation operation
   pub at_place : (d : NumberedOperation) → operation ≡ (get_or os k d).operation
   pub keep : (w : Operation) → Represents w operation → AreOperations (set values k (record v { operation = w })) os
-  pub put : (w : Operation) (p : CryptoOperation) → Represents w p → AreOperations (set values k (record v { operation = w })) (changed i n p os)
+  pub put : (w : Operation) (p : CryptoOperation) → Represents w p → AreOperations (set values k (record v { operation = w })) (with_changed i n p os)
 
 pub slot_at : (i n : ℕ) (values : List Entry) (os : List NumberedOperation) (k : ℕ) (d : Entry)
     → AreOperations values os → k < length values → has_number i n (get_or values k d) ≡ true

@@ -8,13 +8,14 @@ use Rattle.app_api.specs.declared.ask.Answer.TheVariants as answers
 use Rattle.rand_chacha.specs.ChaCha.{ChaCha}
 use Rattle.transient_obj.specs.declared.object_key.ObjectKey.{ObjectKey}
 use Rattle.crypto_ops.specs.declared.answer.OpAnswer.{OpAnswer}
-use Rattle.crypto_ops.specs.Operations.{CryptoOperation, allocated, may_change_key, unkeyed, keyed, set_key_answer, copy_answer, copied, is_too_much}
-use Rattle.crypto_ops.specs.Random.{stream_at, random_from, moved}
-use Rattle.operation_asks.specs.declared.outcome.KeyGiven.{KeyGiven}
-use Rattle.operation_asks.specs.declared.outcome.KeyGiven.TheVariants.{Key, NoKey, Refused}
-use Rattle.operation_asks.specs.Effects.{Effect, answered, done, refused, panicked, effect_in, told_refusal, done_by}
+use Rattle.crypto_ops.specs.Operations.{CryptoOperation, allocate_answer, may_change_key, without_key, with_key, set_key_answer, copy_answer, with_copy_of, is_too_much}
+use Rattle.crypto_ops.specs.Random.{stream_at, random_from, stream_after}
+use Rattle.transient_obj.specs.declared.look.KeyLook.{KeyLook}
+use Rattle.transient_obj.specs.declared.look.KeyLook.TheVariants.{Key, NoKey, Refused}
+use Rattle.operation_asks.specs.Effects.{Effect, answer_effect, done_effect, refusal_effect, panic_effect, effect_in, told_refusal, done_by}
 use Rattle.operation_asks.specs.OneOperation.{one_effect}
-use Rattle.operation_asks.specs.Table.{NumberedOperation, operation_at, is_full, free_number, added, changed, freed, all_freed}
+use Rattle.operation_asks.specs.Table.{NumberedOperation, operation_at, is_full, free_number, with_numbered, with_changed, without_numbered, all_freed}
+use Rattle.tee_base.specs.Words.{HandleNumber, InstanceNumber}
 
 -- all that an ask about operations touches: the operations of all instances, and the random stream of the application
 pub record CryptoState : Type 0 where
@@ -42,85 +43,85 @@ with_operations s operations = record s { operations = operations }
 -- ---- operations come and go
 
 -- OpNew: there is such an algorithm and mode, and the size fits; the instance has fewer operations than it may have
-abbrev pub new_by : List NumberedOperation → ℕ → Result CryptoOperation OpAnswer → Effect (List NumberedOperation)
+abbrev pub new_by : List NumberedOperation → InstanceNumber → Result CryptoOperation OpAnswer → Effect (List NumberedOperation)
 new_by os i (Err answer) = record { told = told_refusal answer; after = os }
 new_by os i (Ok operation) =
-    if is_full os i then refused os BUSY else answered (added os i operation) (answers.Number (free_number os i))
+    if is_full os i then refusal_effect os BUSY else answer_effect (with_numbered os i operation) (answers.Number (free_number os i))
 
 -- OpNew over the numbers that the application gives
-abbrev pub new_effect : List NumberedOperation → ℕ → ℕ → ℕ → ℕ → Effect (List NumberedOperation)
-new_effect os i alg mode max_bits = new_by os i (allocated alg mode max_bits)
+abbrev pub new_effect : List NumberedOperation → InstanceNumber → ℕ → ℕ → ℕ → Effect (List NumberedOperation)
+new_effect os i alg mode max_bits = new_by os i (allocate_answer alg mode max_bits)
 
 -- OpFree: 0 is no operation, and Done
-abbrev pub free_by : List NumberedOperation → ℕ → ℕ → Option CryptoOperation → Effect (List NumberedOperation)
-free_by os i op None = panicked os
-free_by os i op (Some operation) = done (freed os i op)
+abbrev pub free_by : List NumberedOperation → InstanceNumber → ℕ → Option CryptoOperation → Effect (List NumberedOperation)
+free_by os i op None = panic_effect os
+free_by os i op (Some operation) = done_effect (without_numbered os i op)
 
 -- OpFree over the number that the application gives
-abbrev pub free_effect : List NumberedOperation → ℕ → ℕ → Effect (List NumberedOperation)
-free_effect os i op = if op == 0 then done os else free_by os i op (operation_at os i op)
+abbrev pub free_effect : List NumberedOperation → InstanceNumber → ℕ → Effect (List NumberedOperation)
+free_effect os i op = if op == 0 then done_effect os else free_by os i op (operation_at os i op)
 
 -- ---- one operation
 
 -- an ask on the instance's operation of this number
-abbrev pub on_found : List NumberedOperation → ℕ → ℕ → Ask → Option CryptoOperation → Effect (List NumberedOperation)
-on_found os i op ask None = panicked os
-on_found os i op ask (Some operation) = effect_in (λ o. changed i op o os) (one_effect operation ask)
+abbrev pub on_found : List NumberedOperation → InstanceNumber → ℕ → Ask → Option CryptoOperation → Effect (List NumberedOperation)
+on_found os i op ask None = panic_effect os
+on_found os i op ask (Some operation) = effect_in (λ o. with_changed i op o os) (one_effect operation ask)
 
 -- an ask on one operation, over the number that the application gives; without such an operation it is misuse
-abbrev pub on_operation : List NumberedOperation → ℕ → ℕ → Ask → Effect (List NumberedOperation)
+abbrev pub on_operation : List NumberedOperation → InstanceNumber → ℕ → Ask → Effect (List NumberedOperation)
 on_operation os i op ask = on_found os i op ask (operation_at os i op)
 
 -- ---- two operations
 
 -- OpCopy: key and state of the one become those of the other
-abbrev pub copy_between : List NumberedOperation → ℕ → ℕ → Option CryptoOperation → Option CryptoOperation
+abbrev pub copy_between : List NumberedOperation → InstanceNumber → ℕ → Option CryptoOperation → Option CryptoOperation
     → Effect (List NumberedOperation)
-copy_between os i to None source = panicked os
-copy_between os i to (Some target) None = panicked os
+copy_between os i to None source = panic_effect os
+copy_between os i to (Some target) None = panic_effect os
 copy_between os i to (Some target) (Some source) =
-    effect_in (λ o. changed i to o os) (done_by (copy_answer target source) target (copied target source))
+    effect_in (λ o. with_changed i to o os) (done_by (copy_answer target source) target (with_copy_of target source))
 
 -- OpCopy over the numbers that the application gives
-abbrev pub copy_effect : List NumberedOperation → ℕ → ℕ → ℕ → Effect (List NumberedOperation)
+abbrev pub copy_effect : List NumberedOperation → InstanceNumber → ℕ → ℕ → Effect (List NumberedOperation)
 copy_effect os i to from = copy_between os i to (operation_at os i to) (operation_at os i from)
 
 -- ---- an operation and the key of an object
 
 -- OpSetKey before an object is looked at: the operation is no digest and not active; object 0 takes the key away, and the key of
 -- any other decides
-abbrev pub set_key_on : List NumberedOperation → ℕ → ℕ → ℕ → Option CryptoOperation → Resolution (List NumberedOperation)
-set_key_on os i op object None = Settled (panicked os)
+abbrev pub set_key_on : List NumberedOperation → InstanceNumber → ℕ → HandleNumber → Option CryptoOperation → Resolution (List NumberedOperation)
+set_key_on os i op object None = Settled (panic_effect os)
 set_key_on os i op object (Some o) =
-    if not (may_change_key o) then Settled (panicked os)
-    else if object == 0 then Settled (done (changed i op (unkeyed o) os))
+    if not (may_change_key o) then Settled (panic_effect os)
+    else if object == 0 then Settled (done_effect (with_changed i op (without_key o) os))
     else WantsKey op object
 
 -- OpSetKey before an object is looked at, over the number that the application gives
-abbrev pub set_key_resolution : List NumberedOperation → ℕ → ℕ → ℕ → Resolution (List NumberedOperation)
+abbrev pub set_key_resolution : List NumberedOperation → InstanceNumber → ℕ → HandleNumber → Resolution (List NumberedOperation)
 set_key_resolution os i op object = set_key_on os i op object (operation_at os i op)
 
 -- OpSetKey over the key that the object gives: of the operation's kind, of a size that fits and isn't above the greatest, with the
 -- usage that the mode needs
-abbrev pub key_set : List NumberedOperation → ℕ → ℕ → ObjectKey → Option CryptoOperation
+abbrev pub key_set : List NumberedOperation → InstanceNumber → ℕ → ObjectKey → Option CryptoOperation
     → Effect (List NumberedOperation)
-key_set os i op key None = panicked os
+key_set os i op key None = panic_effect os
 key_set os i op key (Some o) =
-    effect_in (λ o. changed i op o os) (done_by (set_key_answer o key.kind key.usage key.secret) o (keyed o key.secret))
+    effect_in (λ o. with_changed i op o os) (done_by (set_key_answer o key.kind key.usage key.secret) o (with_key o key.secret))
 
 -- OpSetKey over what was found at the object: a key, no key, which is misuse, or a refusal
-abbrev pub set_key_effect : List NumberedOperation → ℕ → ℕ → KeyGiven → Effect (List NumberedOperation)
+abbrev pub set_key_effect : List NumberedOperation → InstanceNumber → ℕ → KeyLook → Effect (List NumberedOperation)
 set_key_effect os i op (Key key) = key_set os i op key (operation_at os i op)
-set_key_effect os i op NoKey = panicked os
-set_key_effect os i op (Refused code) = refused os code
+set_key_effect os i op NoKey = panic_effect os
+set_key_effect os i op (Refused code) = refusal_effect os code
 
 -- ---- random bytes
 
 -- Random: the next bytes of the application's stream
 abbrev pub random_effect : ChaCha → ℕ → Effect ChaCha
 random_effect stream count =
-    if is_too_much count then panicked stream
-    else answered (moved stream count) (answers.Content (random_from stream count))
+    if is_too_much count then panic_effect stream
+    else answer_effect (stream_after stream count) (answers.Content (random_from stream count))
 
 -- ---- the family
 
@@ -133,7 +134,7 @@ abbrev pub of_random : CryptoState → Effect ChaCha → Resolution CryptoState
 of_random s effect = Settled (effect_in (λ random. record s { random = random }) effect)
 
 -- how an ask goes; an ask of another family doesn't come here
-unfoldable pub operation_resolution : CryptoState → ℕ → Ask → Resolution CryptoState
+unfoldable pub operation_resolution : CryptoState → InstanceNumber → Ask → Resolution CryptoState
 operation_resolution s i (asked.Random count) = of_random s (random_effect s.random count)
 operation_resolution s i (asked.OpNew alg mode max_bits) = of_operations s (new_effect s.operations i alg mode max_bits)
 operation_resolution s i (asked.OpFree op) = of_operations s (free_effect s.operations i op)
@@ -156,17 +157,17 @@ operation_resolution s i (asked.DigestUpdate op bytes) =
     of_operations s (on_operation s.operations i op (asked.DigestUpdate op bytes))
 operation_resolution s i (asked.DigestFinal op bytes room) =
     of_operations s (on_operation s.operations i op (asked.DigestFinal op bytes room))
-operation_resolution s i ask = Settled (panicked s)
+operation_resolution s i ask = Settled (panic_effect s)
 
 -- what comes of a resolution, where key_of is what the object of a number gives
-abbrev pub came_of : CryptoState → ℕ → (ℕ → KeyGiven) → Resolution CryptoState → Effect CryptoState
+abbrev pub came_of : CryptoState → InstanceNumber → (ℕ → KeyLook) → Resolution CryptoState → Effect CryptoState
 came_of s i key_of (Settled effect) = effect
 came_of s i key_of (WantsKey op object) = effect_in (with_operations s) (set_key_effect s.operations i op (key_of object))
 
 -- an ask as a whole
-abbrev pub operation_effect : CryptoState → ℕ → (ℕ → KeyGiven) → Ask → Effect CryptoState
+abbrev pub operation_effect : CryptoState → InstanceNumber → (ℕ → KeyLook) → Ask → Effect CryptoState
 operation_effect s i key_of ask = came_of s i key_of (operation_resolution s i ask)
 
 -- an instance ends: its operations go
-abbrev pub instance_ended : CryptoState → ℕ → CryptoState
+abbrev pub instance_ended : CryptoState → InstanceNumber → CryptoState
 instance_ended s i = with_operations s (all_freed s.operations i)

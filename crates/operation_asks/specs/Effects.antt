@@ -16,20 +16,20 @@ pub record Effect (S : Type 0) : Type 0 where
   pub after : S
 
 -- the application is answered this
-abbrev pub answered : {S : Type 0} → S → Answer → Effect S
-answered s answer = record { told = Answered answer; after = s }
+abbrev pub answer_effect : {S : Type 0} → S → Answer → Effect S
+answer_effect s answer = record { told = Answered answer; after = s }
 
 -- the application is answered Done
-abbrev pub done : {S : Type 0} → S → Effect S
-done s = answered s answers.Done
+abbrev pub done_effect : {S : Type 0} → S → Effect S
+done_effect s = answer_effect s answers.Done
 
 -- the application is refused by this code
-abbrev pub refused : {S : Type 0} → S → Code → Effect S
-refused s code = answered s (answers.Refused code)
+abbrev pub refusal_effect : {S : Type 0} → S → Code → Effect S
+refusal_effect s code = answer_effect s (answers.Refused code)
 
 -- the instance panics, and nothing is changed
-abbrev pub panicked : {S : Type 0} → S → Effect S
-panicked s = record { told = Panicked; after = s }
+abbrev pub panic_effect : {S : Type 0} → S → Effect S
+panic_effect s = record { told = Panicked; after = s }
 
 -- the same of a larger whole, whose part this is
 abbrev pub effect_in : {S W : Type 0} → (S → W) → Effect S → Effect W

@@ -6,9 +6,9 @@ use Rattle.app_api.specs.declared.ask.Ask.TheVariants as asked
 use Rattle.app_api.specs.declared.ask.Answer.{Answer}
 use Rattle.app_api.specs.declared.ask.Answer.TheVariants as answers
 use Rattle.crypto_ops.specs.declared.about.OpAbout.{OpAbout}
-use Rattle.crypto_ops.specs.Operations.{CryptoOperation, about_of, reset_answer, restarted, cipher_init_answer, cipher_begun, cipher_update_answer, cipher_final_answer, continued}
-use Rattle.crypto_ops.specs.Operations.{mac_init_answer, mac_begun, mac_update_answer, mac_final_answer, mac_compare_answer, compared, digest_update_answer, digest_final_answer}
-use Rattle.operation_asks.specs.Effects.{Effect, answered, panicked, told_done, done_by, content_by}
+use Rattle.crypto_ops.specs.Operations.{CryptoOperation, about_of, reset_answer, operation_at_start, cipher_init_answer, cipher_begun, cipher_update_answer, cipher_final_answer, with_more_message}
+use Rattle.crypto_ops.specs.Operations.{mac_init_answer, mac_begun, mac_update_answer, mac_final_answer, mac_compare_answer, after_comparison, digest_update_answer, digest_final_answer}
+use Rattle.operation_asks.specs.Effects.{Effect, answer_effect, panic_effect, told_done, done_by, content_by}
 
 -- the answer that tells of an operation
 abbrev pub about_answer : OpAbout → Answer
@@ -16,11 +16,11 @@ about_answer a = answers.About a.alg a.mode a.max_bits a.key_bits a.active
 
 -- OpInfo
 abbrev pub info_effect : CryptoOperation → Effect CryptoOperation
-info_effect o = answered o (about_answer (about_of o))
+info_effect o = answer_effect o (about_answer (about_of o))
 
 -- OpReset: initial, the key stays
 abbrev pub reset_effect : CryptoOperation → Effect CryptoOperation
-reset_effect o = done_by (reset_answer o) o (restarted o)
+reset_effect o = done_by (reset_answer o) o (operation_at_start o)
 
 -- CipherInit: active with nothing held
 abbrev pub cipher_init_effect : CryptoOperation → List ℕ → Effect CryptoOperation
@@ -28,11 +28,11 @@ cipher_init_effect o iv = done_by (cipher_init_answer o iv) o (cipher_begun o iv
 
 -- CipherUpdate: the next part of what the mode makes of the message, these bytes among it
 abbrev pub cipher_update_effect : CryptoOperation → List ℕ → ℕ → Effect CryptoOperation
-cipher_update_effect o bytes room = content_by (cipher_update_answer o bytes room) o (continued o bytes)
+cipher_update_effect o bytes room = content_by (cipher_update_answer o bytes room) o (with_more_message o bytes)
 
 -- CipherFinal: the rest of it; the operation is initial
 abbrev pub cipher_final_effect : CryptoOperation → List ℕ → ℕ → Effect CryptoOperation
-cipher_final_effect o bytes room = content_by (cipher_final_answer o bytes room) o (restarted o)
+cipher_final_effect o bytes room = content_by (cipher_final_answer o bytes room) o (operation_at_start o)
 
 -- MacInit: active with an empty message
 abbrev pub mac_init_effect : CryptoOperation → Effect CryptoOperation
@@ -40,24 +40,24 @@ mac_init_effect o = done_by (mac_init_answer o) o (mac_begun o)
 
 -- MacUpdate
 abbrev pub mac_update_effect : CryptoOperation → List ℕ → Effect CryptoOperation
-mac_update_effect o bytes = done_by (mac_update_answer o bytes) o (continued o bytes)
+mac_update_effect o bytes = done_by (mac_update_answer o bytes) o (with_more_message o bytes)
 
 -- MacFinal: the code of the message; the operation is initial
 abbrev pub mac_final_effect : CryptoOperation → List ℕ → ℕ → Effect CryptoOperation
-mac_final_effect o bytes room = content_by (mac_final_answer o bytes room) o (restarted o)
+mac_final_effect o bytes room = content_by (mac_final_answer o bytes room) o (operation_at_start o)
 
 -- MacCompare: whether the code is that of the message; the operation is initial in both cases
 abbrev pub mac_compare_effect : CryptoOperation → List ℕ → List ℕ → Effect CryptoOperation
 mac_compare_effect o bytes mac =
-    let answer = mac_compare_answer o bytes mac in record { told = told_done answer; after = compared answer o }
+    let answer = mac_compare_answer o bytes mac in record { told = told_done answer; after = after_comparison answer o }
 
 -- DigestUpdate: active
 abbrev pub digest_update_effect : CryptoOperation → List ℕ → Effect CryptoOperation
-digest_update_effect o bytes = done_by (digest_update_answer o bytes) o (continued o bytes)
+digest_update_effect o bytes = done_by (digest_update_answer o bytes) o (with_more_message o bytes)
 
 -- DigestFinal: the digest of the message; the operation is initial
 abbrev pub digest_final_effect : CryptoOperation → List ℕ → ℕ → Effect CryptoOperation
-digest_final_effect o bytes room = content_by (digest_final_answer o bytes room) o (restarted o)
+digest_final_effect o bytes room = content_by (digest_final_answer o bytes room) o (operation_at_start o)
 
 -- the ask on the operation that it names; the other asks aren't on one operation
 unfoldable pub one_effect : CryptoOperation → Ask → Effect CryptoOperation
@@ -72,4 +72,4 @@ one_effect o (asked.MacFinal op bytes room) = mac_final_effect o bytes room
 one_effect o (asked.MacCompare op bytes mac) = mac_compare_effect o bytes mac
 one_effect o (asked.DigestUpdate op bytes) = digest_update_effect o bytes
 one_effect o (asked.DigestFinal op bytes room) = digest_final_effect o bytes room
-one_effect o ask = panicked o
+one_effect o ask = panic_effect o

@@ -10,6 +10,7 @@ use Rattle.operation_asks.specs.declared.crypto.Crypto.{Crypto}
 use Rattle.operation_asks.specs.Effects.{Effect}
 use Rattle.operation_asks.specs.Table.{NumberedOperation}
 use Rattle.operation_asks.specs.Asks.{CryptoState, Resolution, Settled, WantsKey}
+use Rattle.tee_base.specs.Words.{InstanceNumber}
 
 -- the value is this operation, of this instance and number
 pub record IsEntry (value : Entry) (o : NumberedOperation) : Type 0 where
@@ -27,11 +28,11 @@ pub record Represents (value : Crypto) (s : CryptoState) : Type 0 where
   pub random_is : value.random ≡ s.random
 
 -- the value is the instance's operation of this number
-abbrev pub has_number : ℕ → ℕ → Entry → Bool
+abbrev pub has_number : InstanceNumber → ℕ → Entry → Bool
 has_number instance number value = (value.instance == instance) && (value.number == number)
 
 -- the value is an operation of this instance
-abbrev pub has_instance : ℕ → Entry → Bool
+abbrev pub has_instance : InstanceNumber → Entry → Bool
 has_instance instance value = value.instance == instance
 
 -- it was told as stated, and the value is what the effect leaves

@@ -1,11 +1,12 @@
 //! The operations and the random stream of one application.
 
-use crate::outcome::{CryptoOutcome, KeyGiven, Outcome};
+use crate::outcome::{CryptoOutcome, Outcome};
 use crate::table::{self, Entry};
 use app_api::{Answer, Ask};
 use crypto_ops::Stream;
 use std::alloc::Global;
 use tee_base::{Bytes, NoMemory, limits};
+use transient_obj::KeyLook;
 
 /// The operations of all instances of an application, at most eight of each, and the random stream that these share.
 #[derive(Drop)]
@@ -16,7 +17,7 @@ pub struct Crypto {
 
 impl Crypto {
     ghost use Rattle.std.specs.Prelude.{◌≡◌, ℕ, IfOk, OnOk, OnErr};
-    ghost use Rattle.crypto_ops.specs.Random.{random_from, moved};
+    ghost use Rattle.crypto_ops.specs.Random.{random_from, stream_after};
     ghost use Rattle.operation_asks.specs.Asks.{CryptoState, no_operations, of_operations, of_random, random_effect, new_effect, free_effect, on_operation, copy_effect, resolution_in, set_key_resolution, set_key_effect, with_operations, operation_resolution, instance_ended};
     ghost use Rattle.operation_asks.specs.Effects.{effect_in};
     ghost use Rattle.operation_asks.specs.Represents.{Represents, IsResolution, IsEffect};
@@ -76,7 +77,7 @@ impl Crypto {
     }
 
     /// Serves the rest of an ask for a key, over what the object gives. It takes no memory.
-    pub fn set_key(&mut self, instance: u8, op: u32, given: KeyGiven) -> Outcome
+    pub fn set_key(&mut self, instance: u8, op: u32, given: KeyLook) -> Outcome
         ensures { (s : CryptoState) → Represents self.old s
             → IsEffect Represents result
             (effect_in (with_operations s)
@@ -95,7 +96,8 @@ impl Crypto {
         ensures bytes { (s : CryptoState) → Represents self.old s
             → IfOk result (λ bytes. bytes ≡ random_from s.random count) }
         ensures moved { (s : CryptoState) → Represents self.old s
-            → OnOk result (Represents self.new (record s { random = moved s.random count })) }
+            → OnOk result (Represents self.new
+            (record s { random = stream_after s.random count })) }
         ensures want { (s : CryptoState) → Represents self.old s
             → OnErr result (Represents self.new s) }
     {

@@ -9,4 +9,4 @@ mod past;
 mod table;
 
 pub use operations::Operations;
-pub use outcome::{CryptoOutcome, KeyGiven, Outcome};
+pub use outcome::{CryptoOutcome, Outcome};

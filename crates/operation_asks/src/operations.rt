@@ -4,12 +4,13 @@ ghost use Rattle.operation_asks.specs.Past.{state_after};
 ghost use Rattle.operation_asks.specs.Represents.{Represents};
 
 use crate::crypto::Crypto;
-use crate::outcome::{CryptoOutcome, KeyGiven, Outcome};
+use crate::outcome::{CryptoOutcome, Outcome};
 use crate::past::{Did, Past};
 use app_api::Ask;
 use std::alloc::Global;
 use std::snapshot::Snapshot;
 use tee_base::{Bytes, NoMemory};
+use transient_obj::KeyLook;
 
 /// The operations of all instances of an application, at most eight of each, and the random stream that these share. What
 /// they are follows from all that was done with them.
@@ -25,7 +26,7 @@ impl Operations {
     ghost use Rattle.crypto_ops.specs.Random.{random_from};
     ghost use Rattle.operation_asks.specs.Asks.{no_operations, operation_resolution, instance_ended};
     ghost use Rattle.operation_asks.specs.Kept.{state_of};
-    ghost use Rattle.operation_asks.specs.Past.{drawn, key_effect};
+    ghost use Rattle.operation_asks.specs.Past.{after_draw, key_effect};
     ghost use Rattle.operation_asks.specs.Represents.{told_by, left_by};
 
     /// No operations, and the stream of the application in this boot at its first word. It takes no memory.
@@ -73,7 +74,7 @@ impl Operations {
     }
 
     /// Serves the rest of an ask for a key, over what the object gives. It takes no memory.
-    pub fn set_key(&mut self, instance: u8, op: u32, given: KeyGiven) -> Outcome
+    pub fn set_key(&mut self, instance: u8, op: u32, given: KeyLook) -> Outcome
         ensures told { result ≡ (key_effect (state_of self.old) instance op given).told }
         ensures left { state_of self.new
             ≡ (key_effect (state_of self.old) instance op given).after }
@@ -97,7 +98,7 @@ impl Operations {
     pub fn draw(&mut self, alloc: Global, count: u32) -> Result<Bytes, NoMemory>
         ensures bytes { IfOk result (λ bytes.
             bytes ≡ random_from (state_of self.old).random count) }
-        ensures moved { OnOk result (state_of self.new ≡ drawn (state_of self.old) count) }
+        ensures moved { OnOk result (state_of self.new ≡ after_draw (state_of self.old) count) }
         ensures want { OnErr result (state_of self.new ≡ state_of self.old) }
     {
         let bytes = self.crypto.draw(alloc, count)?;

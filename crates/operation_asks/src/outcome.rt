@@ -8,7 +8,6 @@ ghost use Rattle.operation_asks.specs.Effects.{told_refusal, told_done, told_con
 use app_api::Answer;
 use crypto_ops::OpAnswer;
 use tee_base::{Bytes, Code, NoMemory};
-use transient_obj::ObjectKey;
 
 /// What comes of an ask.
 #[derive(Debug, Drop)]
@@ -26,17 +25,6 @@ pub enum CryptoOutcome {
     Settled(Outcome),
     /// The key of this object decides, by `Operations::set_key`. Nothing has changed.
     WantsKey { op: u32, object: u32 },
-}
-
-/// What an object gives for a key.
-#[derive(Drop)]
-pub enum KeyGiven {
-    /// The key of an initialised object.
-    Key(ObjectKey),
-    /// Nothing: the instance has no such object, or it isn't initialised.
-    NoKey,
-    /// Nothing: the storage that has the object refuses with this code.
-    Refused(Code),
 }
 
 /// An ask that is done.

@@ -1,9 +1,9 @@
 //! What was done with operations and the random stream, for contracts alone.
 
-use crate::outcome::KeyGiven;
 use app_api::Ask;
 use std::marker::Model;
 use std::snapshot::Snapshot;
+use transient_obj::KeyLook;
 
 /// Something that was done.
 #[derive(Drop)]
@@ -23,7 +23,7 @@ pub enum Did {
     KeySet {
         instance: u8,
         op: u32,
-        given: Snapshot<KeyGiven>,
+        given: Snapshot<KeyLook>,
     },
     /// Random bytes were taken.
     Drew {

@@ -8,14 +8,14 @@ ghost use Rattle.operation_asks.specs.Asks.{set_key_resolution, key_set, new_eff
 ghost use Rattle.operation_asks.specs.Represents.{AreOperations, IsEffect, IsResolution, has_number, has_instance};
 
 use crate::one;
-use crate::outcome::{CryptoOutcome, KeyGiven, Outcome, done, refused, told_done, told_refusal};
+use crate::outcome::{CryptoOutcome, Outcome, done, refused, told_done, told_refusal};
 use app_api::{Answer, Ask};
 use arrayvec::ArrayVec;
 use crypto_ops::Operation;
 use std::alloc::Global;
 use tee_base::limits::MAX_CRYPTO_OPERATIONS;
 use tee_base::{Code, NoMemory, find_lowest_free};
-use transient_obj::ObjectKey;
+use transient_obj::{KeyLook, ObjectKey};
 
 /// An operation with its instance and its number.
 #[derive(Drop)]
@@ -219,14 +219,14 @@ fn take_key(entries: &mut Vec<Entry>, instance: u8, op: u32, key: &ObjectKey) ->
 }
 
 /// Gives the instance's operation the key that an object gives.
-pub fn set_key(entries: &mut Vec<Entry>, instance: u8, op: u32, given: KeyGiven) -> Outcome
+pub fn set_key(entries: &mut Vec<Entry>, instance: u8, op: u32, given: KeyLook) -> Outcome
     ensures { (os : List NumberedOperation) → AreOperations entries.old.items os
         → IsEffect AreOperations result
         (set_key_effect os instance op given) entries.new.items }
 {
     match given {
-        KeyGiven::Key(key) => take_key(entries, instance, op, &key),
-        KeyGiven::NoKey => Outcome::Panicked,
-        KeyGiven::Refused(code) => refused(code),
+        KeyLook::Key(key) => take_key(entries, instance, op, &key),
+        KeyLook::NoKey => Outcome::Panicked,
+        KeyLook::Refused(code) => refused(code),
     }
 }

@@ -2,11 +2,11 @@
 
 use crate::given::key_with;
 use app_api::{Answer, Ask};
-use operation_asks::{CryptoOutcome, KeyGiven, Operations, Outcome};
+use operation_asks::{CryptoOutcome, Operations, Outcome};
 use std::alloc::Global;
 use std::process::Abort;
 use tee_base::{Bytes, Code, keys};
-use transient_obj::Secret;
+use transient_obj::{KeyLook, Secret};
 
 /// An ask in words that a table can hold.
 #[derive(Clone, Copy)]
@@ -116,13 +116,13 @@ fn ask(rt: &impl Abort, alloc: Global, what: Do<'_>) -> Ask {
 }
 
 /// An object gives this key.
-fn key_of(rt: &impl Abort, kind: u32, usage: u32, secret: &[u8]) -> KeyGiven {
+fn key_of(rt: &impl Abort, kind: u32, usage: u32, secret: &[u8]) -> KeyLook {
     assert!(rt; secret.len() <= 128);
     key_with(kind, usage, Secret::from_slice(secret))
 }
 
 /// The rest of an ask for a key.
-fn settled(crypto: &mut Operations, instance: u8, op: u32, given: KeyGiven) -> CryptoOutcome {
+fn settled(crypto: &mut Operations, instance: u8, op: u32, given: KeyLook) -> CryptoOutcome {
     CryptoOutcome::Settled(crypto.set_key(instance, op, given))
 }
 
@@ -136,8 +136,8 @@ fn served(
 ) -> CryptoOutcome {
     let (op, given) = match what {
         Do::Key(op, kind, usage, secret) => (op, key_of(rt, kind, usage, secret)),
-        Do::NoKey(op) => (op, KeyGiven::NoKey),
-        Do::Gone(op) => (op, KeyGiven::Refused(Code::STORAGE_NOT_AVAILABLE)),
+        Do::NoKey(op) => (op, KeyLook::NoKey),
+        Do::Gone(op) => (op, KeyLook::Refused(Code::STORAGE_NOT_AVAILABLE)),
         _ => {
             let asked = crypto.serve(alloc, instance, ask(rt, alloc, what));
             return asked.expect(rt, "an outcome");

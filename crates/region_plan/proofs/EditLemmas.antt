@@ -5,7 +5,7 @@ use Rattle.region_plan.specs.Layout.{Layout}
 use Rattle.region_plan.specs.Edits.{content_after, IsEditedLeaf}
 use Rattle.region_plan.specs.Entries.{entry_at, is_inode, is_data_of}
 use Rattle.region_plan.specs.Inodes.{length_in, IsHead}
-use Rattle.region_plan.specs.Places.{entries_in, is_of, placed}
+use Rattle.region_plan.specs.Places.{entries_in, is_of, place_leaves}
 use Rattle.region_plan.specs.Plans.{bytes_or, kept_leaves, IsChangedLeaf, IsEdited}
 use Rattle.region_plan.specs.Regions.{object_of, data_leaves}
 use Rattle.region_plan.specs.declared.edit.Edit.{Edit}
@@ -36,7 +36,7 @@ module _ (L : Layout) (laid : IsLaid L) where
 
   module _ (leaves after : ℕ → List ℕ) (base map : List Entry) (n had : ℕ) (head : Option (List ℕ)) (edit : Edit) (sound : Sound L leaves) (is_base : IsBase L laid leaves n (data_leaves had))
       (is_with : IsWith L laid leaves n (entries_in base)) (kept_had : edit.kept ≤ had) (edited : IsEdited L leaves after base map n had head edit) where
-    mapped : (i : ℕ) → i < L.leaves → entry_at L after i ≡ placed L (entries_in base) n (kept_leaves had edit) (data_leaves edit.length) i
+    mapped : (i : ℕ) → i < L.leaves → entry_at L after i ≡ place_leaves L (entries_in base) n (kept_leaves had edit) (data_leaves edit.length) i
     mapped i below = in_map leaves after map n head edit edited.each i below ∙ edited.map_is i below
 
     data_map : (i : ℕ) → i < L.leaves → is_of n (entries_in map i) ≡ is_data_of L after n i

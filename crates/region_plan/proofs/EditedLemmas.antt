@@ -5,20 +5,20 @@ use Rattle.std.specs.Prelude.{◌&&◌, ◌||◌, if◌then◌else◌, nat_lt}
 use Rattle.std.proofs.lemmas.Bool.{ltb-true, ltb-false, leb-true, leb-false, lt-ltb, le-ltb, le-leb, lt-leb, and_from, ne_eqb}
 use Rattle.std.proofs.lemmas.Grind.{same_number_lists}
 use Rattle.std.proofs.lemmas.List.{get_or_append_left, get_or-append_right, get_or-take, get_or-drop, get_or-replicate, length-take, length-replicate, places}
-use Rattle.store_api.specs.Stores.{resized, written}
+use Rattle.store_api.specs.Stores.{resize, write_at}
 use Rattle.region_plan.specs.Edits.{byte_after, content_after, is_touched, is_left}
 use Rattle.region_plan.specs.Regions.{data_leaves}
 use Rattle.region_plan.specs.declared.edit.Edit.{Edit}
 use Rattle.region_plan.proofs.BlockLemmas.{past_end, after_byte, after_long}
 
-resized_long : (n : ℕ) (c : List ℕ) → length (resized n c) ≡ n
+resized_long : (n : ℕ) (c : List ℕ) → length (resize n c) ≡ n
 resized_long n c = (let one = length-append (take n c) (replicate (n - length c) 0) in let two = length-take n c in let three = length-replicate {A = ℕ} (n - length c) 0 in
     omega (arith, one, two, three))
 
-resized_at : (n : ℕ) (c : List ℕ) (k : ℕ) → k < n → get_or (resized n c) k 0 ≡ get_or c k 0
+resized_at : (n : ℕ) (c : List ℕ) (k : ℕ) → k < n → get_or (resize n c) k 0 ≡ get_or c k 0
 resized_at n c k less =
     let long = length-take n c in
-    elim (nat_lt k (length c)) as (λ b. nat_lt k (length c) ≡ b → get_or (resized n c) k 0 ≡ get_or c k 0) [
+    elim (nat_lt k (length c)) as (λ b. nat_lt k (length c) ≡ b → get_or (resize n c) k 0 ≡ get_or c k 0) [
       | true ↦ λ e. (let inside = ltb-true k (length c) e in get_or_append_left (take n c) (replicate (n - length c) 0) 0 k (omega (arith, long, inside, less)) ∙ get_or-take n c k 0 less)
       | false ↦ λ e.
           let past = ltb-false k (length c) e in
@@ -50,8 +50,8 @@ module _ (edit : Edit) (old : List ℕ) (long : length old ≡ edit.kept) where
       each false e = refl
 
   -- with no bytes written it is cut or filled up
-  pub after_resized : length edit.bytes.now ≡ 0 → content_after edit old ≡ resized edit.length old
-  after_resized none = alike (resized edit.length old) (resized_long edit.length old)
+  pub after_resized : length edit.bytes.now ≡ 0 → content_after edit old ≡ resize edit.length old
+  after_resized none = alike (resize edit.length old) (resized_long edit.length old)
       (λ p less. ap (λ b. if b then get_or edit.bytes.now (p - edit.at) 0 else get_or old p 0) (outside p none) ∙ sym (resized_at edit.length old p less))
 
   pub after_same : length edit.bytes.now ≡ 0 → edit.length ≡ length old → content_after edit old ≡ old
@@ -65,19 +65,19 @@ module _ (edit : Edit) (old : List ℕ) (long : length old ≡ edit.kept) where
       ∙ ap (λ (k : ℕ). get_or edit.bytes.now k 0) (let e : p - edit.at ≡ p = omega (arith, start) in e))
 
   -- bytes written at a place
-  pub after_written : length edit.bytes.now ≢ 0 → edit.length ≡ max (length old) (edit.at + length edit.bytes.now) → content_after edit old ≡ written old edit.at edit.bytes.now
+  pub after_written : length edit.bytes.now ≢ 0 → edit.length ≡ max (length old) (edit.at + length edit.bytes.now) → content_after edit old ≡ write_at old edit.at edit.bytes.now
   after_written some' same =
-      alike (resized edit.at old ++ edit.bytes.now ++ drop (edit.at + length edit.bytes.now) old) whole_long each
-      ∙ sym (ap (λ b. if b then old else resized edit.at old ++ edit.bytes.now ++ drop (edit.at + length edit.bytes.now) old) (ne_eqb (length edit.bytes.now) 0 some'))
+      alike (resize edit.at old ++ edit.bytes.now ++ drop (edit.at + length edit.bytes.now) old) whole_long each
+      ∙ sym (ap (λ b. if b then old else resize edit.at old ++ edit.bytes.now ++ drop (edit.at + length edit.bytes.now) old) (ne_eqb (length edit.bytes.now) 0 some'))
     where
-      front_long : length (resized edit.at old) ≡ edit.at
+      front_long : length (resize edit.at old) ≡ edit.at
       front_long = resized_long edit.at old
 
       three_long : (a b c : List ℕ) → length (a ++ b ++ c) ≡ length a + length b + length c
       three_long a b c = search (arith, length-append)
 
-      whole_long : length (resized edit.at old ++ edit.bytes.now ++ drop (edit.at + length edit.bytes.now) old) ≡ edit.length
-      whole_long = (let one = three_long (resized edit.at old) edit.bytes.now (drop (edit.at + length edit.bytes.now) old) in let two =
+      whole_long : length (resize edit.at old ++ edit.bytes.now ++ drop (edit.at + length edit.bytes.now) old) ≡ edit.length
+      whole_long = (let one = three_long (resize edit.at old) edit.bytes.now (drop (edit.at + length edit.bytes.now) old) in let two =
           length-drop (edit.at + length edit.bytes.now) old in omega (arith, one, two, front_long, same))
 
       first_at : (a b c : List ℕ) (k : ℕ) → k < length a → get_or (a ++ b ++ c) k 0 ≡ get_or a k 0
@@ -90,29 +90,29 @@ module _ (edit : Edit) (old : List ℕ) (long : length old ≡ edit.kept) where
       third_at a b c k more = grind (arith, places)
 
       each : (p : ℕ) → p < edit.length → (if nat_le edit.at p && nat_lt (p - edit.at) (length edit.bytes.now) then get_or edit.bytes.now (p - edit.at) 0 else get_or old p 0) ≡
-          get_or (resized edit.at old ++ edit.bytes.now ++ drop (edit.at + length edit.bytes.now) old) p 0
+          get_or (resize edit.at old ++ edit.bytes.now ++ drop (edit.at + length edit.bytes.now) old) p 0
       each p less =
           elim (nat_le edit.at p) as (λ b. nat_le edit.at p ≡ b → (if b && nat_lt (p - edit.at) (length edit.bytes.now) then get_or edit.bytes.now (p - edit.at) 0 else get_or old p
-          0) ≡ get_or (resized edit.at old ++ edit.bytes.now ++ drop (edit.at + length edit.bytes.now) old) p 0) [
+          0) ≡ get_or (resize edit.at old ++ edit.bytes.now ++ drop (edit.at + length edit.bytes.now) old) p 0) [
             | true ↦ λ e. elim (nat_lt (p - edit.at) (length edit.bytes.now)) as (λ b. nat_lt (p - edit.at) (length edit.bytes.now) ≡ b →
-                (if b then get_or edit.bytes.now (p - edit.at) 0 else get_or old p 0) ≡ get_or (resized edit.at old ++ edit.bytes.now ++ drop (edit.at + length edit.bytes.now) old)
+                (if b then get_or edit.bytes.now (p - edit.at) 0 else get_or old p 0) ≡ get_or (resize edit.at old ++ edit.bytes.now ++ drop (edit.at + length edit.bytes.now) old)
                 p 0) [
                   | true ↦ λ f.
                       let low = leb-true edit.at p e in
                       let high = ltb-true (p - edit.at) (length edit.bytes.now) f in
-                      sym (second_at (resized edit.at old) edit.bytes.now (drop (edit.at + length edit.bytes.now) old) p (omega (arith, low, front_long)) (omega (arith, low, high, front_long))
+                      sym (second_at (resize edit.at old) edit.bytes.now (drop (edit.at + length edit.bytes.now) old) p (omega (arith, low, front_long)) (omega (arith, low, high, front_long))
                       ∙ ap (λ (k : ℕ). get_or edit.bytes.now (p - k) 0) front_long)
                   | false ↦ λ f.
                       let low = leb-true edit.at p e in
                       let past = ltb-false (p - edit.at) (length edit.bytes.now) f in
-                      sym (third_at (resized edit.at old) edit.bytes.now (drop (edit.at + length edit.bytes.now) old) p (omega (arith, low, past, front_long))
-                      ∙ get_or-drop (edit.at + length edit.bytes.now) old (p - (length (resized edit.at old) + length edit.bytes.now)) 0
-                      ∙ ap (λ (k : ℕ). get_or old k 0) (let at : edit.at + length edit.bytes.now + (p - (length (resized edit.at old) + length edit.bytes.now)) ≡ p =
+                      sym (third_at (resize edit.at old) edit.bytes.now (drop (edit.at + length edit.bytes.now) old) p (omega (arith, low, past, front_long))
+                      ∙ get_or-drop (edit.at + length edit.bytes.now) old (p - (length (resize edit.at old) + length edit.bytes.now)) 0
+                      ∙ ap (λ (k : ℕ). get_or old k 0) (let at : edit.at + length edit.bytes.now + (p - (length (resize edit.at old) + length edit.bytes.now)) ≡ p =
                       omega (arith, low, past, front_long) in at))
                 ] refl
             | false ↦ λ e.
                 let early = leb-false edit.at p e in
-                sym (first_at (resized edit.at old) edit.bytes.now (drop (edit.at + length edit.bytes.now) old) p (omega (arith, early, front_long)) ∙ resized_at edit.at old p early)
+                sym (first_at (resize edit.at old) edit.bytes.now (drop (edit.at + length edit.bytes.now) old) p (omega (arith, early, front_long)) ∙ resized_at edit.at old p early)
           ] refl
 
 -- which leaves an edit writes

@@ -5,7 +5,7 @@ use Rattle.std.proofs.lemmas.Bool.{eqb-true, ltb-true}
 use Rattle.std.proofs.lemmas.List.{get_or_default}
 use Rattle.region_plan.specs.Layout.{Layout}
 use Rattle.region_plan.specs.Entries.{entry_at, number_in, form_of, follows, is_zero, is_well_formed}
-use Rattle.region_plan.specs.Places.{IsPlaced, IsMapOf, IsWritable, AreWritable, data_at, entries_in, free_before, free_entry, is_free, is_of, placed, with_entry}
+use Rattle.region_plan.specs.Places.{IsPlaced, IsMapOf, IsWritable, AreWritable, data_at, entries_in, free_before, free_entry, is_free, is_of, place_leaves, with_entry}
 use Rattle.region_plan.specs.declared.entry.Entry.{Entry}
 use Rattle.region_plan.specs.declared.entry.TheConstants.{FREE, INODE}
 use Rattle.region_plan.proofs.FormLemmas.{IsLaid}
@@ -89,7 +89,7 @@ set_writable L map next leaf e all one set i below =
 
 -- and with data placed
 pub placed_writable : (L : Layout) (laid : IsLaid L) (map next : List Entry) (inode kept blocks : ℕ) → AreWritable L map → inode < L.leaves → blocks ≤ L.indexes
-    → ((i : ℕ) → i < L.leaves → entries_in next i ≡ placed L (entries_in map) inode kept blocks i) → AreWritable L next
+    → ((i : ℕ) → i < L.leaves → entries_in next i ≡ place_leaves L (entries_in map) inode kept blocks i) → AreWritable L next
 placed_writable L laid map next inode kept blocks all owner few is i below =
     subst (λ (x : Entry). IsWritable L x) (sym (is i below))
     (elim (is_free L (entries_in map) i && nat_lt (kept + free_before L (entries_in map) i) blocks) as

@@ -6,7 +6,7 @@ use Rattle.region_plan.specs.Layout.{Layout, quota_of}
 use Rattle.region_plan.specs.Edits.{is_left}
 use Rattle.region_plan.specs.Entries.{entry_at, is_data_of, is_data_at}
 use Rattle.region_plan.specs.Places.{IsMapOf, entries_in, is_of}
-use Rattle.region_plan.specs.Plans.{changing, may_change}
+use Rattle.region_plan.specs.Plans.{leaves_to_change, may_change}
 use Rattle.region_plan.specs.declared.edit.Edit.{Edit}
 use Rattle.region_plan.specs.declared.entry.Entry.{Entry}
 use Rattle.region_plan.proofs.PlaceLemmas.{HasEach}
@@ -117,8 +117,8 @@ module _ (L : Layout) (laid : IsLaid L) where
     one_number : (k : ℕ) → k < L.leaves → total (λ i. mark (i == k)) 0 L.leaves ≡ 1
     one_number k within = total_one (λ i. mark (i == k)) 0 L.leaves k (omega arith) (omega (arith, within)) (λ i low high other. ap mark (ne_eqb i k other)) ∙ ap mark (eq-eqb k k refl)
 
-    pub changing_few : changing L map n edit L.leaves ≤ L.map_leaves + 1 + (last - first)
-    unfolding changing
+    pub changing_few : leaves_to_change L map n edit L.leaves ≤ L.map_leaves + 1 + (last - first)
+    unfolding leaves_to_change
     changing_few =
         joined (counted (λ i. may_change L map n edit i) 0 L.leaves)
         (total_less (λ i. mark (may_change L map n edit i)) (λ i. mark (nat_lt i L.map_leaves) + (mark (i == n) + written i)) 0 L.leaves (λ i low high. mark_or (nat_lt i L.map_leaves) (i == n) _))

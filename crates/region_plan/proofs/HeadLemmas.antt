@@ -5,7 +5,7 @@ use Rattle.std.specs.List.{slice_index}
 use Rattle.std.proofs.lemmas.Bool.{and_from, le-leb}
 use Rattle.std.proofs.lemmas.List.{length-replicate, get_or-take, get_or-drop}
 use Rattle.std.proofs.lemmas.Nat.{from_le_bytes-to_le_bytes_4}
-use Rattle.region_plan.specs.Parts.{part, patched, are_zero}
+use Rattle.region_plan.specs.Parts.{part, with_bytes_at, are_zero}
 use Rattle.region_plan.specs.Inodes.{four_at, length_in, identifier_in, secret_in, is_inode_leaf, IsHead}
 use Rattle.region_plan.specs.declared.inode.TheConstants.{USAGE_AT}
 use Rattle.region_plan.proofs.BlankLemmas.{drop_zeros}
@@ -23,7 +23,8 @@ zeros_part at n = ap (λ (l : List ℕ). are_zero (take n l)) (drop_zeros at 102
 module _ (id secret none kind usage long lengths p1 p2 p3 p4 p5 p6 : List ℕ) (k u l : ℕ) (k_fits : k < 2 ^ 32) (u_fits : u < 2 ^ 32) (l_fits : l < 2 ^ 32)
     (is_none : none ≡ replicate 1024 0) (is_kind : kind ≡ to_le_bytes w32 k) (is_usage : usage ≡ to_le_bytes w32 u) (is_long : long ≡ to_le_bytes w32 l)
     (is_lengths : lengths ≡ length id ∷ length secret ∷ []) (short_id : length id ≤ 64) (short_secret : length secret ≤ 128)
-    (e1 : p1 ≡ patched 0 kind none) (e2 : p2 ≡ patched 4 usage p1) (e3 : p3 ≡ patched 8 long p2) (e4 : p4 ≡ patched 12 lengths p3) (e5 : p5 ≡ patched 16 id p4) (e6 : p6 ≡ patched 80 secret p5) where
+    (e1 : p1 ≡ with_bytes_at 0 kind none) (e2 : p2 ≡ with_bytes_at 4 usage p1) (e3 : p3 ≡ with_bytes_at 8 long p2) (e4 : p4 ≡ with_bytes_at 12 lengths p3) (e5 : p5
+    ≡ with_bytes_at 16 id p4) (e6 : p6 ≡ with_bytes_at 80 secret p5) where
   kind_long : length kind ≡ 4
   kind_long = ap length is_kind
 

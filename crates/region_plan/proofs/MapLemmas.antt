@@ -8,7 +8,7 @@ use Rattle.std.specs.List.{range_with_len}
 use Rattle.std.proofs.lemmas.List.FromFn.{get_or-map-range_with_len}
 use Rattle.std.proofs.lemmas.Nat.{from_le_bytes-to_le_bytes_4}
 use Rattle.region_plan.specs.Layout.{Layout}
-use Rattle.region_plan.specs.Parts.{part, patched}
+use Rattle.region_plan.specs.Parts.{part, with_bytes_at}
 use Rattle.region_plan.specs.Entries.{entry_at, number_in}
 use Rattle.region_plan.specs.Places.{IsMapOf, entries_in, free_entry, with_entry}
 use Rattle.region_plan.specs.Plans.{IsMapLeaf, same_entry}
@@ -16,20 +16,20 @@ use Rattle.region_plan.specs.declared.entry.Entry.{Entry}
 use Rattle.region_plan.proofs.FormLemmas.{IsLaid}
 use Rattle.region_plan.proofs.SoundLemmas.{and_both}
 
-part_here : (at : ℕ) (bytes block : List ℕ) → at + length bytes ≤ length block → part at (length bytes) (patched at bytes block) ≡ bytes
+part_here : (at : ℕ) (bytes block : List ℕ) → at + length bytes ≤ length block → part at (length bytes) (with_bytes_at at bytes block) ≡ bytes
 part_here at bytes block fits = same_lists _ _ (search (rules, places)) (λ k d h. grind (arith, places))
 
-pub part_before : (at n at' : ℕ) (bytes block : List ℕ) → at + n ≤ at' → at' + length bytes ≤ length block → part at n (patched at' bytes block) ≡ part at n block
+pub part_before : (at n at' : ℕ) (bytes block : List ℕ) → at + n ≤ at' → at' + length bytes ≤ length block → part at n (with_bytes_at at' bytes block) ≡ part at n block
 part_before at n at' bytes block before fits = same_lists _ _ (search (rules, places)) (λ k d h. grind (arith, places))
 
-pub part_after : (at n at' : ℕ) (bytes block : List ℕ) → at' + length bytes ≤ at → at' + length bytes ≤ length block → part at n (patched at' bytes block) ≡ part at n block
+pub part_after : (at n at' : ℕ) (bytes block : List ℕ) → at' + length bytes ≤ at → at' + length bytes ≤ length block → part at n (with_bytes_at at' bytes block) ≡ part at n block
 part_after at n at' bytes block after fits = same_lists _ _ (search (rules, places)) (λ k d h. grind (arith, places))
 
-pub length-patched : (at : ℕ) (bytes block : List ℕ) → at + length bytes ≤ length block → length (patched at bytes block) ≡ length block
+pub length-patched : (at : ℕ) (bytes block : List ℕ) → at + length bytes ≤ length block → length (with_bytes_at at bytes block) ≡ length block
 length-patched at bytes block fits = search (rules, places)
 
-pub part_is : (at n : ℕ) (bytes block : List ℕ) → length bytes ≡ n → at + n ≤ length block → part at n (patched at bytes block) ≡ bytes
-part_is at n bytes block long fits = subst (λ (k : ℕ). part at k (patched at bytes block) ≡ bytes) long (part_here at bytes block (omega (arith, long, fits)))
+pub part_is : (at n : ℕ) (bytes block : List ℕ) → length bytes ≡ n → at + n ≤ length block → part at n (with_bytes_at at bytes block) ≡ bytes
+part_is at n bytes block long fits = subst (λ (k : ℕ). part at k (with_bytes_at at bytes block) ≡ bytes) long (part_here at bytes block (omega (arith, long, fits)))
 
 pub set_is : (map : List Entry) (leaf : ℕ) (e : Entry) (i : ℕ) → leaf < length map → entries_in (slice_set map leaf e) i ≡ with_entry leaf e (entries_in map) i
 unfolding entries_in
@@ -136,7 +136,7 @@ none_written L map leaf = record { long = length-replicate {A = ℕ} 1024 0; wri
 -- one more entry written
 pub more_written : (L : Layout) (map : List Entry) (leaf : ℕ) (block next bytes : List ℕ) (place number : ℕ) (e : Entry) → place < 256
     → WrittenSoFar L map leaf block place → e ≡ entries_in map (256 * leaf + place) → L.entry_of number ≡ e → number < 2 ^ 32
-    → bytes ≡ to_le_bytes w32 number → next ≡ patched (4 * place) bytes block → WrittenSoFar L map leaf next (place + 1)
+    → bytes ≡ to_le_bytes w32 number → next ≡ with_bytes_at (4 * place) bytes block → WrittenSoFar L map leaf next (place + 1)
 more_written L map leaf block next bytes place number e below so_far is is_number fits written put =
     let four : length bytes ≡ 4 = ap length written in
     let long = so_far.long in

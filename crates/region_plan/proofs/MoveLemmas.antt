@@ -11,7 +11,7 @@ use Rattle.region_plan.specs.Layout.{Layout}
 use Rattle.region_plan.specs.Edits.{IsEditedLeaf}
 use Rattle.region_plan.specs.Entries.{entry_at, is_inode, is_data_of}
 use Rattle.region_plan.specs.Inodes.{identifier_in, length_in, IsHead}
-use Rattle.region_plan.specs.Places.{IsMapOf, entries_in, free_entry, is_of, is_free, free_before, placed, with_entry}
+use Rattle.region_plan.specs.Places.{IsMapOf, entries_in, free_entry, is_of, is_free, free_before, place_leaves, with_entry}
 use Rattle.region_plan.specs.Plans.{with_leaves, IsEdited, IsMapLeaf, kept_leaves}
 use Rattle.region_plan.specs.Regions.{data_leaves, object_of, content_of, region_of, store_of}
 use Rattle.region_plan.specs.declared.edit.Edit.{Edit}
@@ -81,13 +81,13 @@ module _ (L : Layout) (laid : IsLaid L) where
           subst (λ (e : Entry). e.index < data_leaves inode.length) (at_map i below) (subst (λ (k : ℕ). (entry_at L leaves i).index < data_leaves k) (sym found.long)
           (own.before i below of))
 
-      all_kept : (i : ℕ) → i < L.leaves → placed L (entries_in own_map) m (kept_leaves inode.length idle) (data_leaves inode.length) i ≡ entries_in own_map i
+      all_kept : (i : ℕ) → i < L.leaves → place_leaves L (entries_in own_map) m (kept_leaves inode.length idle) (data_leaves inode.length) i ≡ entries_in own_map i
       all_kept i below = each (ways (is_free L (entries_in own_map) i) (entries_in own_map i) m (kept_leaves inode.length idle + free_before L (entries_in own_map) i) (data_leaves inode.length))
         where
           each : IsTaken (is_free L (entries_in own_map) i) (entries_in own_map i) m (kept_leaves inode.length idle + free_before L (entries_in own_map) i) (data_leaves inode.length)
               ⊎ (IsFreed (is_free L (entries_in own_map) i) (entries_in own_map i) m (kept_leaves inode.length idle + free_before L (entries_in own_map) i) (data_leaves inode.length)
               ⊎ IsKept (is_free L (entries_in own_map) i) (entries_in own_map i) m (kept_leaves inode.length idle + free_before L (entries_in own_map) i) (data_leaves inode.length))
-              → placed L (entries_in own_map) m (kept_leaves inode.length idle) (data_leaves inode.length) i ≡ entries_in own_map i
+              → place_leaves L (entries_in own_map) m (kept_leaves inode.length idle) (data_leaves inode.length) i ≡ entries_in own_map i
           each (inl t) = absurd (let inside = t.inside in omega (arith, inside))
           each (inr (inl f)) = absurd (let past = f.past in let inside = data_before i below f.own in omega (arith, past, inside))
           each (inr (inr k)) = k.is
@@ -205,7 +205,7 @@ module _ (L : Layout) (laid : IsLaid L) where
     -- an object that is taken away
     module _ (id : List ℕ) (inode : Inode) (found : IsFound L laid leaves id inode) (map mid after : List Entry) (first : IsMapOf L leaves map) (named : List Leaf)
         (each_is : (i : ℕ) → i < L.map_leaves → IsMapLeaf L after i (with_leaves named leaves i)) (above : is_above_all named L.map_leaves ≡ true)
-        (placed_is : (i : ℕ) → i < L.leaves → entries_in mid i ≡ placed L (entries_in map) inode.number 0 0 i)
+        (placed_is : (i : ℕ) → i < L.leaves → entries_in mid i ≡ place_leaves L (entries_in map) inode.number 0 0 i)
         (set : (i : ℕ) → entries_in after i ≡ with_entry inode.number free_entry (entries_in mid) i) where
       abbrev left : ℕ → List ℕ
       left = with_leaves named leaves
@@ -233,7 +233,7 @@ module _ (L : Layout) (laid : IsLaid L) where
       left_is : (i : ℕ) → i < L.leaves → i ≢ d → Left i
       left_is i below apart = each (ways (is_free L (entries_in map) i) (entries_in map i) d (0 + free_before L (entries_in map) i) 0)
         where
-          now : entry_at L left i ≡ placed L (entries_in map) d 0 0 i
+          now : entry_at L left i ≡ place_leaves L (entries_in map) d 0 0 i
           now = now_at i below ∙ ap (λ b. if b then free_entry else entries_in mid i) (ne_eqb i d apart) ∙ placed_is i below
 
           of : is_of d (entries_in map i) ≡ is_data_of L leaves d i

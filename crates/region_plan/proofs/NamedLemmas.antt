@@ -8,7 +8,7 @@ use Rattle.std.proofs.lemmas.Bool.{eqb-true, eqb-false, ne_eqb, ltb-true, lt-ltb
 use Rattle.store_api.specs.declared.leaves.Leaf.{Leaf}
 use Rattle.store_api.specs.Ascending.{is_above_all}
 use Rattle.store_api.specs.Volumes.{leaf_after}
-use Rattle.region_plan.specs.Plans.{IsChangedLeaf, IsMapLeaf, with_leaves, changing, may_change}
+use Rattle.region_plan.specs.Plans.{IsChangedLeaf, IsMapLeaf, with_leaves, leaves_to_change, may_change}
 use Rattle.region_plan.specs.declared.edit.Edit.{Edit}
 use Rattle.region_plan.proofs.SoundLemmas.{and_both}
 use Rattle.region_plan.proofs.Totals.{counted, mark, rank_more, total_each}
@@ -76,27 +76,28 @@ module _ (P : ℕ → List ℕ → Type 0) (leaves : ℕ → List ℕ) (named : 
       ] refl
 
 module _ (L : Layout) (laid : IsLaid L) where
-  pub changing_more : (map : List Entry) (inode : ℕ) (edit : Edit) (n : ℕ) → changing L map inode edit (n + 1) ≡ changing L map inode edit n + mark (may_change L map inode edit n)
-  unfolding changing
+  pub changing_more : (map : List Entry) (inode : ℕ) (edit : Edit) (n : ℕ) → leaves_to_change L map inode edit (n + 1) ≡ leaves_to_change L map inode edit n + mark (may_change L map inode edit n)
+  unfolding leaves_to_change
   changing_more map inode edit n =
       ap (λ (k : ℕ). count_by (λ i. may_change L map inode edit i) (range_with_len 0 k)) (let e : n + 1 ≡ suc n = omega arith in e)
       ∙ counted (λ i. may_change L map inode edit i) 0 (suc n) ∙ rank_more (λ i. may_change L map inode edit i) n
       ∙ ap (λ (k : ℕ). k + mark (may_change L map inode edit n)) (sym (counted (λ i. may_change L map inode edit i) 0 n))
 
-  pub few_named : (map : List Entry) (inode : ℕ) (edit : Edit) (named : List Leaf) (last : Leaf) (n : ℕ) → length named ≤ changing L map inode edit n → may_change L map inode edit n ≡ true →
-      length (named ++ last ∷ []) ≤ changing L map inode edit (n + 1)
+  pub few_named : (map : List Entry) (inode : ℕ) (edit : Edit) (named : List Leaf) (last : Leaf) (n : ℕ) → length named ≤ leaves_to_change L map inode edit n → may_change L map inode edit n ≡ true →
+      length (named ++ last ∷ []) ≤ leaves_to_change L map inode edit (n + 1)
   few_named map inode edit named last n few is =
       let more = changing_more map inode edit n in
       let one : mark (may_change L map inode edit n) ≡ 1 = ap mark is in
       let long = length-append named (last ∷ []) in
       omega (arith, more, one, long, few)
 
-  pub few_unnamed : (map : List Entry) (inode : ℕ) (edit : Edit) (named : List Leaf) (n : ℕ) → length named ≤ changing L map inode edit n → length named ≤ changing L map inode edit (n + 1)
+  pub few_unnamed : (map : List Entry) (inode : ℕ) (edit : Edit) (named : List Leaf) (n : ℕ) → length named ≤ leaves_to_change L map inode edit n
+      → length named ≤ leaves_to_change L map inode edit (n + 1)
   few_unnamed map inode edit named n few = (let more = changing_more map inode edit n in omega (arith, more, few))
 
   -- the leaves of the map may all be among those that change
-  pub changing_first : (map : List Entry) (inode : ℕ) (edit : Edit) → changing L map inode edit L.map_leaves ≡ L.map_leaves
-  unfolding changing
+  pub changing_first : (map : List Entry) (inode : ℕ) (edit : Edit) → leaves_to_change L map inode edit L.map_leaves ≡ L.map_leaves
+  unfolding leaves_to_change
   changing_first map inode edit =
       counted (λ i. may_change L map inode edit i) 0 L.map_leaves
       ∙ total_each (λ i. mark (may_change L map inode edit i)) 0 L.map_leaves

@@ -4,7 +4,7 @@ use Rattle.std.specs.Prelude.{◌&&◌, ◌||◌, ◌==◌, if◌then◌else◌,
 use Rattle.std.proofs.lemmas.Bool.{eqb-true, eqb-false, eq-eqb, ne_eqb, ltb-true, ltb-false, leb-true, leb-false, le-ltb, lt-ltb, and_from}
 use Rattle.region_plan.specs.Layout.{Layout}
 use Rattle.region_plan.specs.Entries.{entry_at, form_of, is_zero, is_inode, is_data_of, is_data_at, is_used, is_well_formed}
-use Rattle.region_plan.specs.Places.{free_entry, data_at, is_of, is_free, free_before, placed_entry, placed}
+use Rattle.region_plan.specs.Places.{free_entry, data_at, is_of, is_free, free_before, placed_entry, place_leaves}
 use Rattle.region_plan.specs.declared.entry.Entry.{Entry}
 use Rattle.region_plan.specs.declared.entry.TheConstants.{FREE, INODE, DATA}
 use Rattle.region_plan.proofs.LimitLemmas.{used_later}
@@ -132,7 +132,7 @@ module _ (L : Layout) (laid : IsLaid L) where
 
   module _ (leaves after : ℕ → List ℕ) (n had kept blocks : ℕ) (base : ℕ → Entry) (sound : Sound L leaves) (is_base : IsBase leaves n had) (is_with : IsWith leaves n base)
       (kept_had : kept ≤ had) (kept_blocks : kept ≤ blocks) (kept_all : (x : ℕ) → x < had → x < blocks → x < kept) (enough : blocks ≤ kept + free_before L base L.leaves)
-      (mapped : (i : ℕ) → i < L.leaves → entry_at L after i ≡ placed L base n kept blocks i)
+      (mapped : (i : ℕ) → i < L.leaves → entry_at L after i ≡ place_leaves L base n kept blocks i)
       (short : blocks ≤ L.indexes) (bytes : (i : ℕ) → i < L.leaves → L.map_leaves ≤ i → i ≢ n → is_data_of L after n i ≡ false → after i ≡ leaves i) where
     abbrev E : ℕ → Entry
     E i = entry_at L leaves i
@@ -153,7 +153,7 @@ module _ (L : Layout) (laid : IsLaid L) where
     inode_now : F n ≡ record { kind = INODE; inode = n; index = 0 }
     inode_now = mapped n is_base.high ∙ each (way n)
       where
-        each : Ways n → placed L base n kept blocks n ≡ record { kind = INODE; inode = n; index = 0 }
+        each : Ways n → place_leaves L base n kept blocks n ≡ record { kind = INODE; inode = n; index = 0 }
         each (inl t) = true_false (free_of n t.was_free).1 (ap (λ (e : Entry). e.kind == FREE) is_with.inode)
         each (inr (inl f)) = true_false f.own (inode_not_data (base n) n n is_with.inode)
         each (inr (inr k)) = k.is ∙ is_with.inode

@@ -12,7 +12,7 @@ use Rattle.store_api.specs.declared.change.Change.{Change}
 use Rattle.store_api.specs.declared.leaves.Leaf.{Leaf}
 use Rattle.store_api.specs.declared.object.Object.{Object}
 use Rattle.store_api.specs.Keeping.{Answers}
-use Rattle.store_api.specs.Stores.{Store, object_at, changed}
+use Rattle.store_api.specs.Stores.{Store, object_at, after_change}
 use Rattle.store_api.proofs.Costs.{by_bytes, tied_same, equal}
 use Rattle.region_plan.specs.Layout.{Layout}
 use Rattle.region_plan.specs.Edits.{content_after, is_left}
@@ -20,7 +20,7 @@ use Rattle.region_plan.specs.Entries.{entry_at, form_of, is_zero, is_inode, is_d
 use Rattle.region_plan.specs.Inodes.{identifier_in, IsHead}
 use Rattle.region_plan.specs.Places.{IsMapOf, entries_in, is_free, with_entry}
 use Rattle.region_plan.specs.Planning.{IsPlanOf, most_leaves}
-use Rattle.region_plan.specs.Plans.{ChangeMap, bytes_or, with_leaves, changing, IsEdited, IsPlanned, IsUnreadOrFull}
+use Rattle.region_plan.specs.Plans.{ChangeMap, bytes_or, with_leaves, leaves_to_change, IsEdited, IsPlanned, IsUnreadOrFull}
 use Rattle.region_plan.specs.Regions.{data_leaves, object_of, content_of, region_of, store_of}
 use Rattle.region_plan.specs.declared.edit.Edit.{Edit}
 use Rattle.region_plan.specs.declared.entry.Entry.{Entry}
@@ -96,7 +96,7 @@ module _ (L : Layout) (laid : IsLaid L) where
     same_store = region_store L leaves store stands
 
     -- leaves after which the region stands for the stated store are a plan
-    pub plan_stands : (c : Change) (after : Store) (named : List Leaf) → changed store c ≡ Ok after → region_of L (with_leaves named leaves) ≡ Ok after →
+    pub plan_stands : (c : Change) (after : Store) (named : List Leaf) → after_change store c ≡ Ok after → region_of L (with_leaves named leaves) ≡ Ok after →
         length named ≤ most_leaves L store c → ChangeMap L leaves named → IsPlanOf L leaves store c named
     plan_stands c after named is now few changed' = record {
       after = after;
@@ -172,7 +172,7 @@ module _ (L : Layout) (laid : IsLaid L) where
       pub edit_stands : region_of L after ≡ Ok (finite.insert store id new_object)
       edit_stands = changed_region L laid leaves after n found.high sound frame (λ is. own) (λ is. named_apart) (finite.insert store id new_object) changed_to
 
-      pub edit_few : length named ≤ changing L map n edit L.leaves → (least last : ℕ) → ((x : ℕ) → x < data_leaves edit.length → is_left edit x ≡ false → (least ≤ x) × (x < last)) →
+      pub edit_few : length named ≤ leaves_to_change L map n edit L.leaves → (least last : ℕ) → ((x : ℕ) → x < data_leaves edit.length → is_left edit x ≡ false → (least ≤ x) × (x < last)) →
           length named ≤ L.map_leaves + 1 + (last - least)
       edit_few few least last reach =
           joined few (changing_few L laid after map (λ i below. sym (in_map L laid leaves after map n head edit edited.each i below)) n (data_leaves edit.length) least last edit found.high

@@ -12,12 +12,12 @@ use Rattle.store_api.specs.declared.change.Change.{Change}
 use Rattle.store_api.specs.declared.change.Change.TheVariants.{Put, Delete, Rename, Write, Truncate}
 use Rattle.store_api.specs.declared.leaves.Leaf.{Leaf}
 use Rattle.store_api.specs.declared.object.Object.{Object}
-use Rattle.store_api.specs.Stores.{Store, object_at, has, changed, resized, with_object, written}
+use Rattle.store_api.specs.Stores.{Store, object_at, has, after_change, resize, with_object, write_at}
 use Rattle.region_plan.specs.Layout.{Layout, quota_of}
 use Rattle.region_plan.specs.Edits.{content_after, is_left}
 use Rattle.region_plan.specs.Entries.{entry_at, is_data_of}
 use Rattle.region_plan.specs.Inodes.{IsHead}
-use Rattle.region_plan.specs.Places.{IsMapOf, entries_in, free_entry, placed, with_entry}
+use Rattle.region_plan.specs.Places.{IsMapOf, entries_in, free_entry, place_leaves, with_entry}
 use Rattle.region_plan.specs.Planning.{IsPlanOf, Plans, content_length, most_leaves}
 use Rattle.region_plan.specs.Plans.{ChangeMap, ChangesMap, IsContentPlan, IsMapLeaf, IsNewPlan, IsPlanned, IsUnreadOrFull, LacksNew, LacksSpace, bytes_or, with_leaves}
 use Rattle.region_plan.specs.Quotas.{change_in, within}
@@ -40,7 +40,7 @@ use Rattle.region_plan.proofs.StoreLemmas.{length_content, found_id}
 use Rattle.region_plan.proofs.FormLemmas.{IsLaid}
 
 -- a change that is refused whatever it costs
-pub change_refused : (L : Layout) (store : Store) (c : Change) (e : StoreAnswer) → changed store c ≡ Err e → change_in L store c ≡ Err e
+pub change_refused : (L : Layout) (store : Store) (c : Change) (e : StoreAnswer) → after_change store c ≡ Err e → change_in L store c ≡ Err e
 unfolding change_in
 change_refused L store c e is = ap (within (quota_of L)) is
 
@@ -80,7 +80,7 @@ module _ (L : Layout) (laid : IsLaid L) where
 
       -- the content is edited
       module _ (map : List Entry) (first : IsMapOf L leaves map) (edit : Edit) (had : edit.had ≡ inode.length) (kept : edit.kept ≡ inode.length) (c : Change)
-          (stated : changed store c ≡ Ok (finite.insert store id (object_with inode (content_after edit content))))
+          (stated : after_change store c ≡ Ok (finite.insert store id (object_with inode (content_after edit content))))
           (least last : ℕ) (reach : (x : ℕ) → x < data_leaves edit.length → is_left edit x ≡ false → (least ≤ x) × (x < last)) (most : L.map_leaves + 1 + (last - least) ≡ most_leaves L store c) where
         long : length content ≡ edit.kept
         long = content_long ∙ sym kept
@@ -122,8 +122,8 @@ module _ (L : Layout) (laid : IsLaid L) where
           Plans L leaves store (Truncate id n) r
       truncate_plans map edit n first had kept at long none r plan space refused =
           content_plans map first edit had kept (Truncate id n)
-          (ap (λ o. with_object o (λ x. Ok (finite.insert store id (record x { content = resized n x.content })))) (held ∙ ap (λ (o : Object). Some o) told)
-          ∙ ap (λ (m : ℕ). Ok (finite.insert store id (object_with inode (resized m content)))) (sym long)
+          (ap (λ o. with_object o (λ x. Ok (finite.insert store id (record x { content = resize n x.content })))) (held ∙ ap (λ (o : Object). Some o) told)
+          ∙ ap (λ (m : ℕ). Ok (finite.insert store id (object_with inode (resize m content)))) (sym long)
           ∙ ap (λ (b : List ℕ). Ok (finite.insert store id (object_with inode b))) (sym (after_resized edit content (content_long ∙ sym kept) none)))
           (min edit.length edit.kept / 1024) (data_leaves edit.length) (λ x inside isnt. reach_resized edit x none (at ∙ sym long) inside isnt)
           (ap (λ (m : ℕ). L.map_leaves + 1 + (data_leaves m - min m edit.kept / 1024)) long ∙ ap (λ (m : ℕ). L.map_leaves + 1 + (data_leaves n - min n m / 1024)) (kept ∙ sym length_is))
@@ -138,9 +138,9 @@ module _ (L : Layout) (laid : IsLaid L) where
       write_plans map edit at bytes first had kept is_at is_bytes some' long r plan space refused =
           let same_length : edit.length ≡ max edit.kept (edit.at + length edit.bytes.now) = long ∙ sym (λ i. max (kept i) (is_at i + length (is_bytes i))) in
           content_plans map first edit had kept (Write id at bytes)
-          (ap (λ o. with_object o (λ x. Ok (finite.insert store id (record x { content = written x.content at bytes })))) (held ∙ ap (λ (o : Object). Some o) told)
+          (ap (λ o. with_object o (λ x. Ok (finite.insert store id (record x { content = write_at x.content at bytes })))) (held ∙ ap (λ (o : Object). Some o) told)
           ∙ ap (λ (b : List ℕ). Ok (finite.insert store id (object_with inode b)))
-          (sym (λ i. written content (is_at i) (is_bytes i))
+          (sym (λ i. write_at content (is_at i) (is_bytes i))
           ∙ sym (after_written edit content (content_long ∙ sym kept) (λ none. some' (ap length (sym is_bytes) ∙ none))
           (same_length ∙ ap (λ (m : ℕ). max m (edit.at + length edit.bytes.now)) (kept ∙ sym content_long)))))
           (min edit.at edit.kept / 1024) (data_leaves (edit.at + length edit.bytes.now)) (λ x inside isnt. reach_written edit x same_length inside isnt)
@@ -152,9 +152,9 @@ module _ (L : Layout) (laid : IsLaid L) where
       -- no bytes are written
       pub write_none : (at : ℕ) (bytes : List ℕ) (named : List Leaf) → length bytes ≡ 0 → named ≡ [] → Plans L leaves store (Write id at bytes) (Ok named)
       write_none at bytes named none is = plan_stands L laid leaves store stands (Write id at bytes) store named
-          (ap (λ o. with_object o (λ x. Ok (finite.insert store id (record x { content = written x.content at bytes })))) held
+          (ap (λ o. with_object o (λ x. Ok (finite.insert store id (record x { content = write_at x.content at bytes })))) held
           ∙ ap (λ (b : List ℕ). Ok (finite.insert store id (record (object_of L leaves inode.number) { content = b })))
-          (ap (λ t. if t then (object_of L leaves inode.number).content else resized at (object_of L leaves inode.number).content ++ bytes ++ drop
+          (ap (λ t. if t then (object_of L leaves inode.number).content else resize at (object_of L leaves inode.number).content ++ bytes ++ drop
           (at + length bytes) (object_of L leaves inode.number).content) (eq-eqb (length bytes) 0 none))
           ∙ ap (λ (s : Store). Ok s) (inserted_same store id (object_of L leaves inode.number) held))
           (ap (λ (l : List Leaf). region_of L (with_leaves l leaves)) is ∙ stands)
@@ -179,7 +179,7 @@ module _ (L : Layout) (laid : IsLaid L) where
         and_none true = refl
         and_none false = refl
 
-        put_stated : changed store (Put id kind usage secret content' true) ≡ Ok (finite.insert store id put_object)
+        put_stated : after_change store (Put id kind usage secret content' true) ≡ Ok (finite.insert store id put_object)
         put_stated =
             ap (λ b. if b then Err answers.Exists else Ok (finite.insert store id (record { kind = kind; usage = usage; secret = secret; content = content' }))) (and_none (has store id))
             ∙ ap (λ (b : List ℕ). Ok (finite.insert store id (record { kind = kind; usage = usage; secret = secret; content = b }))) (sym put_content)
@@ -237,7 +237,7 @@ module _ (L : Layout) (laid : IsLaid L) where
 
       -- it is taken away
       pub delete_plans : (map mid after : List Entry) (named : List Leaf) → IsMapOf L leaves map → ((i : ℕ) → i < L.map_leaves → IsMapLeaf L after i (with_leaves named leaves i))
-          → is_above_all named L.map_leaves ≡ true → ((i : ℕ) → i < L.leaves → entries_in mid i ≡ placed L (entries_in map) inode.number 0 0 i)
+          → is_above_all named L.map_leaves ≡ true → ((i : ℕ) → i < L.leaves → entries_in mid i ≡ place_leaves L (entries_in map) inode.number 0 0 i)
           → ((i : ℕ) → entries_in after i ≡ with_entry inode.number free_entry (entries_in mid) i) → length named ≤ L.map_leaves → ChangeMap L leaves named
           → Plans L leaves store (Delete id) (Ok named)
       delete_plans map mid after named first each above placed_is set few changed' =
@@ -257,11 +257,11 @@ module _ (L : Layout) (laid : IsLaid L) where
 
     pub write_absent : (id : List ℕ) (at : ℕ) (bytes : List ℕ) → inode_with id (inodes_of L leaves) ≡ None → change_in L store (Write id at bytes) ≡ Err answers.NotFound
     write_absent id at bytes none = change_refused L store (Write id at bytes) answers.NotFound (ap (λ o. with_object o
-        (λ x. Ok (finite.insert store id (record x { content = written x.content at bytes })))) (absent_at id none))
+        (λ x. Ok (finite.insert store id (record x { content = write_at x.content at bytes })))) (absent_at id none))
 
     pub truncate_none : (id : List ℕ) (n : ℕ) → inode_with id (inodes_of L leaves) ≡ None → change_in L store (Truncate id n) ≡ Err answers.NotFound
     truncate_none id n none = change_refused L store (Truncate id n) answers.NotFound (ap (λ o. with_object o
-        (λ x. Ok (finite.insert store id (record x { content = resized n x.content })))) (absent_at id none))
+        (λ x. Ok (finite.insert store id (record x { content = resize n x.content })))) (absent_at id none))
 
     -- a new object
     module _ (head : Head) (none : inode_with head.id.now (inodes_of L leaves) ≡ None) (map : List Entry) (first : IsMapOf L leaves map) (content' : List ℕ) (overwrite : Bool) (edit : Edit)
@@ -272,7 +272,7 @@ module _ (L : Layout) (laid : IsLaid L) where
       new_content : content_after edit [] ≡ content'
       new_content = after_whole edit [] (sym kept) start (long ∙ ap length (sym bytes)) ∙ bytes
 
-      new_stated : changed store (Put head.id.now head.kind head.usage head.secret.now content' overwrite) ≡ Ok (finite.insert store head.id.now new_object)
+      new_stated : after_change store (Put head.id.now head.kind head.usage head.secret.now content' overwrite) ≡ Ok (finite.insert store head.id.now new_object)
       new_stated =
           ap (λ o. if is_some o && not overwrite then Err answers.Exists else Ok (finite.insert store head.id.now
           (record { kind = head.kind; usage = head.usage; secret = head.secret.now; content = content' }))) (absent_at head.id.now none)

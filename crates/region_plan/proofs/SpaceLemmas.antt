@@ -7,7 +7,7 @@ use Rattle.store_api.specs.declared.answer.StoreAnswer.TheVariants.{NoSpace}
 use Rattle.store_api.specs.declared.change.Change.{Change}
 use Rattle.store_api.specs.declared.object.Object.{Object}
 use Rattle.store_api.specs.Objects.{blocks_at}
-use Rattle.store_api.specs.Stores.{Store, object_at, blocks_for, cost, changed}
+use Rattle.store_api.specs.Stores.{Store, object_at, blocks_for, cost, after_change}
 use Rattle.store_api.proofs.Costs.{cost-insert, cost-remove}
 use Rattle.region_plan.specs.Layout.{Layout, quota_of}
 use Rattle.region_plan.specs.Entries.{entry_at, form_of, is_zero, is_inode, is_used, is_well_formed}
@@ -122,11 +122,11 @@ module _ (L : Layout) (laid : IsLaid L) where
       one = total_one (λ i. mark (i == n)) 0 L.leaves n (omega arith) (omega (arith, below)) (λ i low high other. ap mark (ne_eqb i n other)) ∙ ap mark (eq-eqb n n refl)
 
   -- a changed store that the quota pays, and one that it doesn't
-  pub change_fits : (store after : Store) (c : Change) → changed store c ≡ Ok after → cost after ≤ quota_of L → change_in L store c ≡ Ok after
+  pub change_fits : (store after : Store) (c : Change) → after_change store c ≡ Ok after → cost after ≤ quota_of L → change_in L store c ≡ Ok after
   unfolding change_in
   change_fits store after c is paid = ap (within (quota_of L)) is ∙ ap (λ b. if b then Ok after else Err NoSpace) (le-leb (cost after) (quota_of L) paid)
 
-  pub change_full : (store after : Store) (c : Change) → changed store c ≡ Ok after → quota_of L < cost after → change_in L store c ≡ Err NoSpace
+  pub change_full : (store after : Store) (c : Change) → after_change store c ≡ Ok after → quota_of L < cost after → change_in L store c ≡ Err NoSpace
   unfolding change_in
   change_full store after c is over = ap (within (quota_of L)) is ∙ ap (λ b. if b then Ok after else Err NoSpace) (lt-leb (cost after) (quota_of L) over)
 

@@ -4,7 +4,7 @@ use Rattle.std.specs.Prelude.{◌==◌, ◌&&◌, nat_le, if◌then◌else◌}
 use Rattle.std.specs.List.{range_with_len, count_by}
 use mir.Val.{bool_byte}
 use Rattle.std.proofs.lemmas.Bool.{eqb-true, eqb-false}
-use Rattle.region_plan.specs.Places.{entries_in, with_entry, free_before, is_free, placed, placed_entry}
+use Rattle.region_plan.specs.Places.{entries_in, with_entry, free_before, is_free, place_leaves, placed_entry}
 use Rattle.region_plan.specs.declared.entry.Entry.{Entry}
 use Rattle.region_plan.specs.declared.entry.TheConstants.{FREE}
 use Rattle.region_plan.proofs.Totals.{counted, mark, rank_more}
@@ -25,7 +25,7 @@ module _ (L : Layout) (laid : IsLaid L) where
   pub record SoFar (map after : List Entry) (inode kept blocks index leaf : ℕ) : Type 0 where
     pub counted : index ≡ kept + free_before L (entries_in map) leaf
     pub few : free_before L (entries_in map) leaf ≤ leaf
-    pub done : (i : ℕ) → i < leaf → entries_in after i ≡ placed L (entries_in map) inode kept blocks i
+    pub done : (i : ℕ) → i < leaf → entries_in after i ≡ place_leaves L (entries_in map) inode kept blocks i
     pub rest : (i : ℕ) → leaf ≤ i → i < L.leaves → entries_in after i ≡ entries_in map i
 
   pub none_before : (entries : ℕ → Entry) → free_before L entries 0 ≡ 0
@@ -58,14 +58,14 @@ module _ (L : Layout) (laid : IsLaid L) where
       let more = one_before (entries_in map) leaf in
       let share : one ≡ mark (is_free L (entries_in map) leaf) = is_one ∙ ap mark free_is in
       let most = marked (is_free L (entries_in map) leaf) in
-      let now : new ≡ placed L (entries_in map) inode kept blocks leaf =
+      let now : new ≡ place_leaves L (entries_in map) inode kept blocks leaf =
       is_new ∙ ap (λ (b : Bool). placed_entry b entry inode index blocks) free_is ∙ ap (λ (e : Entry). placed_entry (is_free L (entries_in map) leaf) e inode index blocks) is
       ∙ ap (λ (k : ℕ). placed_entry (is_free L (entries_in map) leaf) (entries_in map leaf) inode k blocks) before.counted in
       record {
         counted = (let was = before.counted in omega (arith, was, more, share));
         few = (let was = before.few in omega (arith, was, more, most));
-        done = λ i less. set i ∙ elim (i == leaf) as (λ b. (i == leaf) ≡ b → (if b then new else entries_in after i) ≡ placed L (entries_in map) inode kept blocks i) [
-          | true ↦ λ e. now ∙ ap (λ (k : ℕ). placed L (entries_in map) inode kept blocks k) (sym (eqb-true i leaf e))
+        done = λ i less. set i ∙ elim (i == leaf) as (λ b. (i == leaf) ≡ b → (if b then new else entries_in after i) ≡ place_leaves L (entries_in map) inode kept blocks i) [
+          | true ↦ λ e. now ∙ ap (λ (k : ℕ). place_leaves L (entries_in map) inode kept blocks k) (sym (eqb-true i leaf e))
           | false ↦ λ e. (let other = eqb-false i leaf e in before.done i (omega (arith, less, other)))
         ] refl;
         rest = λ i past less. set i ∙ elim (i == leaf) as (λ b. (i == leaf) ≡ b → (if b then new else entries_in after i) ≡ entries_in map i) [

@@ -12,7 +12,7 @@ use Rattle.std.proofs.lemmas.Slice.Eq.{bytes_eq-Decides}
 use Rattle.std.proofs.lemmas.List.Elements.{All-head, All-tail, filter_passes}
 use Rattle.std.proofs.lemmas.List.FromFn.{length-map-range_with_len}
 use Rattle.store_api.specs.declared.object.Object.{Object}
-use Rattle.store_api.specs.Stores.{Store, object_at, is_after, with_object, facts_of, found, secret_at, read_at, listed, next_after}
+use Rattle.store_api.specs.Stores.{Store, object_at, is_after, with_object, facts_of, found, secret_at, read_at, listing_answer, next_after}
 use Rattle.store_api.specs.declared.object.Facts.{Facts}
 use Rattle.store_api.specs.declared.object.Listed.{Listed}
 use Rattle.store_api.specs.declared.answer.StoreAnswer.{StoreAnswer}
@@ -217,9 +217,9 @@ module _ (L : Layout) (leaves : ℕ → List ℕ) where
         | false ↦ λ e. best_is_told last ns inode e
       ] is
 
-  next_is : (last : Option (List ℕ)) → next_after (store_of L leaves) last ≡ listed (option_map entry_for (best_after last (inodes_of L leaves)))
+  next_is : (last : Option (List ℕ)) → next_after (store_of L leaves) last ≡ listing_answer (option_map entry_for (best_after last (inodes_of L leaves)))
   unfolding store_of inodes_of
-  next_is last = ap listed (sym (best_met last (inode_numbers L leaves)))
+  next_is last = ap listing_answer (sym (best_met last (inode_numbers L leaves)))
 
   listed_is_told : (last : Option (List ℕ)) (inode : Inode) → best_after last (inodes_of L leaves) ≡ Some inode → inode ≡ told inode.number
   unfolding inodes_of
@@ -228,10 +228,10 @@ module _ (L : Layout) (leaves : ℕ → List ℕ) where
   pub next_told : (last : Option (List ℕ)) (inode : Inode) → best_after last (inodes_of L leaves) ≡ Some inode →
       next_after (store_of L leaves) last ≡ Ok (record { id = inode.id; facts = inode_facts inode })
   next_told last inode is =
-      next_is last ∙ ap (λ r. listed (option_map entry_for r)) is ∙ ap (listed_as inode.id) (facts_same inode (listed_is_told last inode is))
+      next_is last ∙ ap (λ r. listing_answer (option_map entry_for r)) is ∙ ap (listed_as inode.id) (facts_same inode (listed_is_told last inode is))
 
   pub next_none : (last : Option (List ℕ)) → best_after last (inodes_of L leaves) ≡ None → next_after (store_of L leaves) last ≡ Err NotFound
-  next_none last is = next_is last ∙ ap (λ r. listed (option_map entry_for r)) is
+  next_none last is = next_is last ∙ ap (λ r. listing_answer (option_map entry_for r)) is
 
   -- what the code looked up
   pub looked_none : (q : List ℕ) (r : Option (Bor Inode)) (slice items : List Inode) → option_copied r ≡ inode_with q slice → slice ≡ items → items ≡ inodes_of L leaves →

@@ -3,8 +3,9 @@ use Rattle.std.specs.Prelude.{ℕ, ◌≡◌, ◌<◌, true, List, Some}
 use Rattle.region_plan.specs.Layout.{Layout}
 use Rattle.region_plan.specs.Entries.{entry_at, is_data_of}
 use Rattle.region_plan.specs.Regions.{leaf_of}
+use Rattle.tee_base.specs.Words.{RegionLeaves}
 
-module _ (L : Layout) (leaves : ℕ → List ℕ) where
+module _ (L : Layout) (leaves : RegionLeaves) where
   -- a leaf of data is the one that is found at its index, which is below this number
   pub record IsInPlace (inode blocks i : ℕ) : Type 0 where
     pub before : (entry_at L leaves i).index < blocks

@@ -13,6 +13,7 @@ use Rattle.region_plan.specs.Reading.{IfGarbled, IsWhole, ReadsOnly, leaves_of, 
 use Rattle.region_plan.specs.Regions.{breaks, inodes_of, store_of}
 use Rattle.region_plan.specs.Tables.{IsWithin}
 use Rattle.region_plan.specs.declared.directory.Directory.{Directory}
+use Rattle.tee_base.specs.Words.{RegionLeaves}
 
 -- whatever was read, a directory keeps to the limits of its form
 pub record IsBounded (d : Directory) : Type 0 where
@@ -20,7 +21,7 @@ pub record IsBounded (d : Directory) : Type 0 where
   pub map : AreWritable (layout d.form) d.map
 
 -- a directory says what the map and the inodes of these leaves say, which keep the rules
-pub record IsDirectoryOf (leaves : ℕ → List ℕ) (d : Directory) : Type 0 where
+pub record IsDirectoryOf (leaves : RegionLeaves) (d : Directory) : Type 0 where
   pub map : IsMapOf (layout d.form) leaves d.map
   pub inodes : d.inodes ≡ inodes_of (layout d.form) leaves
   pub formed : (i : ℕ) → i < (layout d.form).leaves → is_well_formed (layout d.form) leaves i ≡ true
@@ -29,7 +30,7 @@ pub record IsDirectoryOf (leaves : ℕ → List ℕ) (d : Directory) : Type 0 wh
 -- a look-up in a directory, without a read: this is stated of the store of the leaves that it is of, whichever they are, and the answer
 -- is within these bounds in any case
 pub record LooksUp {A : Type 0} (stated : Store → Result A StoreAnswer) (Bounds : A → Type 0) (d : Directory) (result : Result A StoreAnswer) : Type 0 where
-  pub answer : (leaves : ℕ → List ℕ) → IsDirectoryOf leaves d → Answers result (stated (store_of (layout d.form) leaves))
+  pub answer : (leaves : RegionLeaves) → IsDirectoryOf leaves d → Answers result (stated (store_of (layout d.form) leaves))
   pub bounds : IfOk result (λ a. Bounds a)
   pub decided : IsDecided (refusal_of result)
 

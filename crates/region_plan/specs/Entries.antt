@@ -5,6 +5,7 @@ use Rattle.region_plan.specs.Layout.{Layout}
 use Rattle.region_plan.specs.Parts.{part}
 use Rattle.region_plan.specs.declared.entry.Entry.{Entry}
 use Rattle.region_plan.specs.declared.entry.TheConstants.{FREE, INODE, DATA, MAP_ENTRIES, ENTRY_BYTES}
+use Rattle.tee_base.specs.Words.{RegionLeaves}
 
 -- an entry has one of three kinds: zeros behind a free leaf; itself and index 0 for an inode; data is named, where it
 -- names an inode, at an index that there may be
@@ -28,7 +29,7 @@ follows L entries i =
     if nat_lt i L.map_leaves then is_zero (entries i) else
     form_of i (entries i) (((entries (entries i).inode).kind == INODE) && nat_lt (entries i).index L.indexes)
 
-module _ (L : Layout) (leaves : ℕ → List ℕ) where
+module _ (L : Layout) (leaves : RegionLeaves) where
   -- the entry of a leaf as a number
   abbrev pub entry_number : ℕ → ℕ
   entry_number i = number_in (leaves (i / MAP_ENTRIES)) (i % MAP_ENTRIES)

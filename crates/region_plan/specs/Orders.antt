@@ -5,6 +5,7 @@ use Rattle.std.specs.Ordering.{nat_cmp}
 use Rattle.std.specs.Cmp.Lexicographic.{slice_cmp}
 use Rattle.store_api.specs.Stores.{is_after}
 use Rattle.region_plan.specs.declared.inode.Inode.{Inode}
+use Rattle.tee_base.specs.Words.{Identifier}
 
 -- the identifier of the inode at a place of a list
 abbrev pub id_at : List Inode → ℕ → List ℕ
@@ -19,7 +20,7 @@ abbrev pub ordered_id : List Inode → List ℕ → ℕ → List ℕ
 ordered_id inodes order n = id_at inodes (place_at order n)
 
 -- an identifier is less than another one, byte by byte
-abbrev pub IsLess : List ℕ → List ℕ → Type 0
+abbrev pub IsLess : Identifier → List ℕ → Type 0
 IsLess id other = slice_cmp nat_cmp id other ≡ Less
 
 -- an order has the place of each inode, and no other, and identifiers ascend along it

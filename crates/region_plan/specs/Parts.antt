@@ -7,8 +7,8 @@ abbrev pub part : ℕ → ℕ → List ℕ → List ℕ
 part at count bytes = take count (drop at bytes)
 
 -- a leaf with these bytes from a place on
-abbrev pub patched : ℕ → List ℕ → List ℕ → List ℕ
-patched at bytes block = take at block ++ bytes ++ drop (at + length bytes) block
+abbrev pub with_bytes_at : ℕ → List ℕ → List ℕ → List ℕ
+with_bytes_at at bytes block = take at block ++ bytes ++ drop (at + length bytes) block
 
 -- no byte is another than zero
 abbrev pub are_zero : List ℕ → Bool

@@ -5,6 +5,7 @@ use Rattle.region_plan.specs.Layout.{Layout}
 use Rattle.region_plan.specs.Entries.{entry_at}
 use Rattle.region_plan.specs.declared.entry.Entry.{Entry}
 use Rattle.region_plan.specs.declared.entry.TheConstants.{FREE, DATA}
+use Rattle.tee_base.specs.Words.{RegionLeaves}
 
 -- the entry of a free leaf
 abbrev pub free_entry : Entry
@@ -34,7 +35,7 @@ placed_entry free e inode index blocks =
 
 module _ (L : Layout) where
   -- a map is that of a region's leaves
-  abbrev pub IsMapOf : (ℕ → List ℕ) → List Entry → Type 0
+  abbrev pub IsMapOf : RegionLeaves → List Entry → Type 0
   IsMapOf leaves map = (i : ℕ) → i < L.leaves → entries_in map i ≡ entry_at L leaves i
 
   -- an entry that may be written
@@ -57,9 +58,9 @@ module _ (L : Layout) where
 
   -- the entries after an inode's data got so many leaves, of which it had the first ones: it gives up leaves past the last one, and
   -- takes free ones in ascending order for what it lacks
-  abbrev pub placed : (ℕ → Entry) → ℕ → ℕ → ℕ → ℕ → Entry
-  placed entries inode kept blocks i = placed_entry (is_free entries i) (entries i) inode (kept + free_before entries i) blocks
+  abbrev pub place_leaves : (ℕ → Entry) → ℕ → ℕ → ℕ → ℕ → Entry
+  place_leaves entries inode kept blocks i = placed_entry (is_free entries i) (entries i) inode (kept + free_before entries i) blocks
 
   -- a map has the entries after an inode's data got so many leaves
   abbrev pub IsPlaced : (ℕ → Entry) → List Entry → ℕ → ℕ → ℕ → Type 0
-  IsPlaced entries after inode kept blocks = (i : ℕ) → i < L.leaves → entries_in after i ≡ placed entries inode kept blocks i
+  IsPlaced entries after inode kept blocks = (i : ℕ) → i < L.leaves → entries_in after i ≡ place_leaves entries inode kept blocks i

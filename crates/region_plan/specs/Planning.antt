@@ -17,6 +17,7 @@ use Rattle.region_plan.specs.Quotas.{change_in}
 use Rattle.region_plan.specs.Reading.{ReadsOnly, IfAnswered, IfGarbled, IsBroken, IsSound, refusal_of, leaves_of}
 use Rattle.region_plan.specs.Regions.{data_leaves, region_of}
 use Rattle.region_plan.specs.declared.directory.Directory.{Directory}
+use Rattle.tee_base.specs.Words.{Identifier, RegionLeaves}
 
 -- how long a content is, if there is one
 abbrev pub content_length : Option Object → ℕ
@@ -24,7 +25,7 @@ content_length None = 0
 content_length (Some o) = length o.content
 
 -- how many leaves are written from a place of an object's content to another one, besides the map and its inode
-abbrev pub leaves_from : Store → List ℕ → ℕ → ℕ → ℕ
+abbrev pub leaves_from : Store → Identifier → ℕ → ℕ → ℕ
 leaves_from store id at end = data_leaves end - min at (content_length (object_at store id)) / BLOCK_BYTES
 
 -- how many leaves a change needs at most: the map, the inode, and the data that it writes
@@ -36,7 +37,7 @@ most_leaves L store (Write id at bytes) = if length bytes == 0 then 0 else L.map
 most_leaves L store (Truncate id n) = L.map_leaves + 1 + leaves_from store id n n
 
 -- leaves after which a region stands for the changed store
-pub record IsPlanOf (L : Layout) (leaves : ℕ → List ℕ) (store : Store) (c : Change) (named : List Leaf) : Type 0 where
+pub record IsPlanOf (L : Layout) (leaves : RegionLeaves) (store : Store) (c : Change) (named : List Leaf) : Type 0 where
   pub after : Store
   pub changes : change_in L store c ≡ Ok after
   pub stands : region_of L (with_leaves named leaves) ≡ Ok after
@@ -44,7 +45,7 @@ pub record IsPlanOf (L : Layout) (leaves : ℕ → List ℕ) (store : Store) (c 
   pub changed : ChangeMap L leaves named
 
 -- a plan of a change, or the change's own refusal; what keeps it from an answer may come instead
-abbrev pub Plans : Layout → (ℕ → List ℕ) → Store → Change → Result (List Leaf) StoreAnswer → Type 0
+abbrev pub Plans : Layout → RegionLeaves → Store → Change → Result (List Leaf) StoreAnswer → Type 0
 Plans L leaves store c (Ok named) = IsPlanOf L leaves store c named
 Plans L leaves store c (Err refusal) = Answers {A = Store} (Err refusal) (change_in L store c)
 

@@ -9,13 +9,14 @@ use Rattle.region_plan.specs.Edits.{IsEditedLeaf, is_left}
 use Rattle.region_plan.specs.Entries.{number_in}
 use Rattle.region_plan.specs.Inodes.{inode_of, is_inode_leaf, IsHead}
 use Rattle.region_plan.specs.Layout.{Layout, quota_of}
-use Rattle.region_plan.specs.Places.{entries_in, is_free, is_of, free_before, placed, with_entry}
+use Rattle.region_plan.specs.Places.{entries_in, is_free, is_of, free_before, place_leaves, with_entry}
 use Rattle.region_plan.specs.Regions.{data_leaves}
 use Rattle.region_plan.specs.declared.edit.Edit.{Edit}
 use Rattle.region_plan.specs.declared.entry.Entry.{Entry}
 use Rattle.region_plan.specs.declared.entry.TheConstants.{INODE, MAP_ENTRIES}
 use Rattle.region_plan.specs.declared.inode.Head.{Head}
 use Rattle.region_plan.specs.declared.inode.Inode.{Inode}
+use Rattle.tee_base.specs.Words.{RegionLeaves}
 
 -- the new bytes of a leaf, if there are some, else those that it had
 abbrev pub bytes_or : Option (List ℕ) → List ℕ → List ℕ
@@ -23,7 +24,7 @@ bytes_or None old = old
 bytes_or (Some new) old = new
 
 -- the leaves of a region after these were written
-abbrev pub with_leaves : List Leaf → (ℕ → List ℕ) → ℕ → List ℕ
+abbrev pub with_leaves : List Leaf → RegionLeaves → ℕ → List ℕ
 with_leaves named leaves number = leaf_after named number (leaves number)
 
 -- how many data leaves an inode keeps where its content gets another length
@@ -50,11 +51,11 @@ same_entry e f = (e.kind == f.kind) && ((e.inode == f.inode) && (e.index == f.in
 
 module _ (L : Layout) where
   -- a leaf, if it is one of the map, changes
-  abbrev pub ChangesMap : (ℕ → List ℕ) → Leaf → Type 0
+  abbrev pub ChangesMap : RegionLeaves → Leaf → Type 0
   ChangesMap leaves leaf = leaf.number < L.map_leaves → leaf.bytes ≢ leaves leaf.number
 
   -- leaves of the map are named only where they change
-  abbrev pub ChangeMap : (ℕ → List ℕ) → List Leaf → Type 0
+  abbrev pub ChangeMap : RegionLeaves → List Leaf → Type 0
   ChangeMap leaves named = All (λ leaf. ChangesMap leaves leaf) named
 
   -- the bytes of a map leaf have the entries of a map
@@ -62,7 +63,7 @@ module _ (L : Layout) where
   IsMapLeaf map leaf bytes = (place : ℕ) → place < MAP_ENTRIES → L.entry_of (number_in bytes place) ≡ entries_in map (MAP_ENTRIES * leaf + place)
 
   -- a leaf after a change of an inode's object, where this is the map then: one of the map, the inode, its data, or another one
-  pub record IsChangedLeaf (leaves : ℕ → List ℕ) (map : List Entry) (inode : ℕ) (head : Option (List ℕ)) (edit : Edit) (i : ℕ) (new : List ℕ) : Type 0 where
+  pub record IsChangedLeaf (leaves : RegionLeaves) (map : List Entry) (inode : ℕ) (head : Option (List ℕ)) (edit : Edit) (i : ℕ) (new : List ℕ) : Type 0 where
     pub first : i < L.map_leaves → IsMapLeaf map i new
     pub own : L.map_leaves ≤ i → i ≡ inode → new ≡ bytes_or head (leaves i)
     pub data' : L.map_leaves ≤ i → i ≢ inode → is_of inode (entries_in map i) ≡ true → IsEditedLeaf edit (entries_in map i).index (leaves i) new
@@ -70,8 +71,8 @@ module _ (L : Layout) where
 
   -- a region after the content of an inode's object was edited, which had so many bytes: the base is the map with the inode in it, and
   -- the map is that of the region then
-  pub record IsEdited (leaves after : ℕ → List ℕ) (base map : List Entry) (inode had : ℕ) (head : Option (List ℕ)) (edit : Edit) : Type 0 where
-    pub map_is : (i : ℕ) → i < L.leaves → entries_in map i ≡ placed L (entries_in base) inode (kept_leaves had edit) (data_leaves edit.length) i
+  pub record IsEdited (leaves after : RegionLeaves) (base map : List Entry) (inode had : ℕ) (head : Option (List ℕ)) (edit : Edit) : Type 0 where
+    pub map_is : (i : ℕ) → i < L.leaves → entries_in map i ≡ place_leaves L (entries_in base) inode (kept_leaves had edit) (data_leaves edit.length) i
     pub short : data_leaves edit.length ≤ L.indexes
     pub enough : data_leaves edit.length ≤ kept_leaves had edit + free_before L (entries_in base) L.leaves
     pub each : (i : ℕ) → i < L.leaves → IsChangedLeaf leaves map inode head edit i (after i)
@@ -82,14 +83,14 @@ module _ (L : Layout) where
       nat_lt i L.map_leaves || ((i == inode) || (is_of inode (entries_in map i) && not (is_left edit (entries_in map i).index)))
 
   -- how many leaves below a number may change
-  unfoldable pub changing : List Entry → ℕ → Edit → ℕ → ℕ
-  changing map inode edit n = count_by (λ i. may_change map inode edit i) (range_with_len 0 n)
+  unfoldable pub leaves_to_change : List Entry → ℕ → Edit → ℕ → ℕ
+  leaves_to_change map inode edit n = count_by (λ i. may_change map inode edit i) (range_with_len 0 n)
 
   -- leaves after which an inode's object is edited, and how few they are
-  pub record IsPlanned (leaves : ℕ → List ℕ) (base : List Entry) (inode : ℕ) (head : Option (List ℕ)) (edit : Edit) (named : List Leaf) : Type 0 where
+  pub record IsPlanned (leaves : RegionLeaves) (base : List Entry) (inode : ℕ) (head : Option (List ℕ)) (edit : Edit) (named : List Leaf) : Type 0 where
     pub map : List Entry
     pub edited : IsEdited leaves (with_leaves named leaves) base map inode edit.had head edit
-    pub few : length named ≤ changing map inode edit L.leaves
+    pub few : length named ≤ leaves_to_change map inode edit L.leaves
     pub changed : ChangeMap leaves named
 
   -- there are too few free leaves for an edit
@@ -99,7 +100,7 @@ module _ (L : Layout) where
       ⊎ (kept_leaves edit.had edit + free_before L (entries_in base) L.leaves < data_leaves edit.length)
 
   -- leaves that edit the content of an inode's object, and the inode's leaf if they change it
-  pub record IsContentPlan (leaves : ℕ → List ℕ) (map : List Entry) (inode : Inode) (edit : Edit) (named : List Leaf) : Type 0 where
+  pub record IsContentPlan (leaves : RegionLeaves) (map : List Entry) (inode : Inode) (edit : Edit) (named : List Leaf) : Type 0 where
     pub head : Option (List ℕ)
     pub planned : IsPlanned leaves map inode.number head edit named
     pub says : is_inode_leaf (leaves inode.number) ≡ true → inode ≡ inode_of inode.number (leaves inode.number)
@@ -112,7 +113,7 @@ module _ (L : Layout) where
     pub set : (i : ℕ) → i < L.leaves → entries_in base i ≡ with_entry leaf (record { kind = INODE; inode = leaf; index = 0 }) (entries_in map) i
 
   -- leaves that keep a new object
-  pub record IsNewPlan (leaves : ℕ → List ℕ) (map : List Entry) (head : Head) (edit : Edit) (named : List Leaf) : Type 0 where
+  pub record IsNewPlan (leaves : RegionLeaves) (map : List Entry) (head : Head) (edit : Edit) (named : List Leaf) : Type 0 where
     pub leaf : ℕ
     pub base : List Entry
     pub block : List ℕ

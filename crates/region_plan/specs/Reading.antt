@@ -14,6 +14,7 @@ use Rattle.region_plan.specs.Layout.{Layout}
 use Rattle.region_plan.specs.Entries.{is_inode, is_well_formed}
 use Rattle.region_plan.specs.Inodes.{identifier_in, is_inode_leaf, length_in}
 use Rattle.region_plan.specs.Regions.{breaks, has_data, is_doubled, is_padded, leaf_of, store_of}
+use Rattle.tee_base.specs.Words.{Identifier, RegionLeaves}
 
 -- the refusal of an answer, if it is one
 abbrev pub refusal_of : {A : Type 0} → Result A StoreAnswer → Option StoreAnswer
@@ -51,7 +52,7 @@ UnlessFailed (Some answers.Failed) fact = Unit {0}
 UnlessFailed _ fact = fact
 
 -- an inode keeps the rules of its leaf, of its identifier and of the places of its data
-pub record IsWhole (L : Layout) (leaves : ℕ → List ℕ) (inode : ℕ) : Type 0 where
+pub record IsWhole (L : Layout) (leaves : RegionLeaves) (inode : ℕ) : Type 0 where
   pub bytes : is_inode_leaf (leaves inode) ≡ true
   pub new : is_doubled L leaves inode ≡ false
   pub placed : has_data L leaves inode ≡ true
@@ -106,7 +107,7 @@ module _ {S : Type 0} (K : VolumeKeeper S) (region : S → ℕ) where
           → is_padded L (leaves_of source) leaf ≡ true
 
     -- so are those of the object of an identifier that hold so many bytes from a place on, up to its end
-    pub record IsReadPart (id : List ℕ) (start count : ℕ) (source : S) : Type 0 where
+    pub record IsReadPart (id : Identifier) (start count : ℕ) (source : S) : Type 0 where
       pub inode : ℕ
       pub is : is_inode L (leaves_of source) inode ≡ true
       pub named : identifier_in (leaves_of source inode) ≡ id

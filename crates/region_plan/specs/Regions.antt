@@ -13,6 +13,7 @@ use Rattle.region_plan.specs.Inodes.{four_at, length_in, identifier_in, secret_i
 use Rattle.region_plan.specs.declared.inode.Inode.{Inode}
 use Rattle.region_plan.specs.declared.inode.TheConstants.{USAGE_AT}
 use Rattle.region_plan.specs.declared.entry.TheConstants.{DATA}
+use Rattle.tee_base.specs.Words.{RegionLeaves}
 
 -- how many leaves a content of so many bytes takes
 abbrev pub data_leaves : ℕ → ℕ
@@ -22,7 +23,7 @@ data_leaves n = (n + 1023) / BLOCK_BYTES
 unfoldable pub numbers : Layout → List ℕ
 numbers L = range_with_len 0 L.leaves
 
-module _ (L : Layout) (leaves : ℕ → List ℕ) where
+module _ (L : Layout) (leaves : RegionLeaves) where
   -- how many leaves are in use
   unfoldable pub used_leaves : ℕ
   used_leaves = count_by (λ i. is_used L leaves i) (numbers L)

@@ -13,13 +13,14 @@ use Rattle.region_plan.specs.Inodes.{length_in, inode_of}
 use Rattle.region_plan.specs.Places.{IsMapOf}
 use Rattle.region_plan.specs.declared.entry.Entry.{Entry}
 use Rattle.region_plan.specs.declared.inode.Inode.{Inode}
+use Rattle.tee_base.specs.Words.{Identifier, RegionLeaves}
 
 -- the identifier, the secret and the leaf of an inode are within their limits
 abbrev pub IsWithin : Layout → Inode → Type 0
 IsWithin L inode = IsIdentifier inode.id × IsSecret inode.secret × (inode.number < L.leaves)
 
 -- the first inode of an identifier
-abbrev pub inode_with : List ℕ → List Inode → Option Inode
+abbrev pub inode_with : Identifier → List Inode → Option Inode
 inode_with id inodes = find (λ inode. bytes_eq inode.id id) inodes
 
 -- there is no better inode so far, or one whose identifier isn't less
@@ -39,11 +40,11 @@ abbrev pub inode_facts : Inode → Facts
 inode_facts inode = record { kind = inode.kind; usage = inode.usage; secret = length inode.secret; length = inode.length }
 
 -- the inodes below a number, in ascending order
-unfoldable pub inodes_below : Layout → (ℕ → List ℕ) → ℕ → List Inode
+unfoldable pub inodes_below : Layout → RegionLeaves → ℕ → List Inode
 inodes_below L leaves n = map (λ i. inode_of i (leaves i)) (filter (λ i. is_inode L leaves i) (range_with_len 0 n))
 
 -- a leaf is an inode with a content of this length, where this is the map
-pub record IsInode (L : Layout) (leaves : ℕ → List ℕ) (map : List Entry) (number length' : ℕ) : Type 0 where
+pub record IsInode (L : Layout) (leaves : RegionLeaves) (map : List Entry) (number length' : ℕ) : Type 0 where
   pub first : IsMapOf L leaves map
   pub inode : is_inode L leaves number ≡ true
   pub long : length' ≡ length_in (leaves number)

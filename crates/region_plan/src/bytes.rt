@@ -3,7 +3,7 @@
 ghost use Rattle.std.specs.Prelude.{◌≡◌, ◌≤◌, ◌+◌, ◌==◌, length};
 ghost use Rattle.std.specs.Int.{w32, from_le_bytes};
 ghost use Rattle.std.specs.List.{list_all};
-ghost use Rattle.region_plan.specs.Parts.{part, patched, are_zero};
+ghost use Rattle.region_plan.specs.Parts.{part, with_bytes_at, are_zero};
 
 /// The number that four bytes from a place on are.
 pub(crate) fn number_at(bytes: &[u8], at: usize) -> u32
@@ -29,7 +29,7 @@ pub(crate) fn all_zero(bytes: &[u8]) -> bool
 /// Puts bytes into a leaf at a place.
 pub(crate) fn put(into: &mut [u8], at: usize, bytes: &[u8])
     requires { at + length bytes.now ≤ length into.old }
-    ensures { into.new ≡ patched at bytes.now into.old }
+    ensures { into.new ≡ with_bytes_at at bytes.now into.old }
 {
     into[at..at + bytes.len()].copy_from_slice(bytes);
 }

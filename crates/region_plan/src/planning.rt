@@ -11,7 +11,7 @@ ghost use Rattle.store_api.specs.Stores.{Store, blocks_for};
 ghost use Rattle.region_plan.specs.Layout.{layout};
 ghost use Rattle.region_plan.specs.Places.{AreWritable, IsMapOf, entries_in};
 ghost use Rattle.region_plan.specs.Planning.{Plans};
-ghost use Rattle.region_plan.specs.Plans.{ChangeMap, IsChangedLeaf, IsContentPlan, IsDecided, IsMapLeaf, IsNewPlan, IsPlanned, LacksNew, IsUnreadOrFull, LacksSpace, bytes_or, changing, may_change, same_entry, with_leaves};
+ghost use Rattle.region_plan.specs.Plans.{ChangeMap, IsChangedLeaf, IsContentPlan, IsDecided, IsMapLeaf, IsNewPlan, IsPlanned, LacksNew, IsUnreadOrFull, LacksSpace, bytes_or, leaves_to_change, may_change, same_entry, with_leaves};
 ghost use Rattle.region_plan.specs.Reading.{IfGarbled, IsUnread, ReadsOnly, leaves_of, refusal_of};
 ghost use Rattle.region_plan.specs.Regions.{inodes_of, region_of};
 ghost use Rattle.region_plan.specs.Tables.{IsWithin};
@@ -142,7 +142,7 @@ fn changed_leaves<L: LeafSource>(
         → IsMapOf (layout form) (leaves_of L.keeper L.region from.old) old.now → IfOk result
         (λ named. ChangeMap (layout form) (leaves_of L.keeper L.region from.old) named) }
     ensures few { IfOk result (λ named. length_of named
-        ≤ changing (layout form) map.now inode edit.entry (layout form).leaves) }
+        ≤ leaves_to_change (layout form) map.now inode edit.entry (layout form).leaves) }
     ensures named { IfOk result (λ named. IsTrue (is_above_all named (layout form).leaves)) }
     ensures garbled { IfGarbled (refusal_of result) (λ n. ⊥) }
     ensures unread { IsUnread (refusal_of result) }

@@ -20,14 +20,14 @@ abbrev pub new_count : Count
 new_count = record { number = 0; sessions = 0 }
 
 -- a number is added where the sum is at most 2^32 - 1
-abbrev pub added : Count → ℕ → Reaction Count
-added c a =
+abbrev pub after_add : Count → ℕ → Reaction Count
+after_add c a =
     if nat_lt (2 ^ 32 - 1) (c.number + a) then fail_with c OVERFLOW
     else succeed_with (record c { number = c.number + a }) (at_p1 (Value (c.number + a) c.sessions))
 
 -- 1: adds the value's first number
 unfoldable pub add : Count → Param → Param → Param → Param → Reaction Count
-add c (ValueIn a b) ValueOut Nothing Nothing = added c a
+add c (ValueIn a b) ValueOut Nothing Nothing = after_add c a
 add c p0 p1 p2 p3 = fail_with c BAD_PARAMETERS
 
 -- 2: shows the number
@@ -43,16 +43,16 @@ command c n ps =
     else fail_with c BAD_PARAMETERS
 
 -- an entry. The number of sessions stays at 2^32 - 1 where it would pass it, and at 0 where it would fall below
-unfoldable pub entered : Count → Entry → Reaction Count
-entered c Create = succeed_with c no_outs
-entered c Destroy = succeed_with c no_outs
-entered c (Start session ps) = succeed_with (record c { sessions = min (c.sessions + 1) (2 ^ 32 - 1) }) no_outs
-entered c (Stop session) = succeed_with (record c { sessions = c.sessions - 1 }) no_outs
-entered c (Invoke session n ps) = command c n ps
+unfoldable pub after_entry : Count → Entry → Reaction Count
+after_entry c Create = succeed_with c no_outs
+after_entry c Destroy = succeed_with c no_outs
+after_entry c (Start session ps) = succeed_with (record c { sessions = min (c.sessions + 1) (2 ^ 32 - 1) }) no_outs
+after_entry c (Stop session) = succeed_with (record c { sessions = c.sessions - 1 }) no_outs
+after_entry c (Invoke session n ps) = command c n ps
 
 -- each entry returns at once, so no answer can come
 unfoldable pub reaction : Count → Given → Reaction Count
-reaction c (givens.Entry entry) = entered c entry
+reaction c (givens.Entry entry) = after_entry c entry
 reaction c (givens.Answer answer) = fail_with c GENERIC
 
 -- the state after what is given

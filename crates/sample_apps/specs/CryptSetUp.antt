@@ -17,6 +17,7 @@ use Rattle.sample_apps.specs.declared.crypt.Waiting.{Waiting}
 use Rattle.sample_apps.specs.declared.crypt.Waiting.TheVariants as waiting
 use Rattle.tee_base.specs.declared.codes.TheConstants.Code.{GENERIC}
 use Rattle.sample_apps.specs.Reactions.{ask_for, succeed_with, fail_with}
+use Rattle.tee_base.specs.Words.{Key}
 
 -- no operation yet
 abbrev pub new_crypt : Crypt
@@ -57,7 +58,7 @@ class_of None iv = Digest
 class_of (Some kind) iv = if kind == numbers.KIND_AES then Cipher iv else Mac
 
 -- the size of a key in bits. One that no 32 bits hold fits no kind of key, as the number here doesn't
-unfoldable pub bits_of : List ℕ → ℕ
+unfoldable pub bits_of : Key → ℕ
 bits_of key = min (8 * length key) (2 ^ 32 - 1)
 
 -- the ask that begins a message; a digest needs none
@@ -90,7 +91,7 @@ after_op_new c plan (Number op) = key_or_readiness (record c { op = op }) plan (
 after_op_new c plan answer = refusal_of c answer
 
 -- the object for the key is there: it is given the key
-unfoldable pub after_key_new : Crypt → List ℕ → Class → Answer → Reaction Crypt
+unfoldable pub after_key_new : Crypt → Key → Class → Answer → Reaction Crypt
 after_key_new c key class (Number object) = wait_for c (waiting.FillingKey object class) (asked.KeyPopulate object key)
 after_key_new c key class answer = refusal_of c answer
 

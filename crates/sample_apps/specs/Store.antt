@@ -10,20 +10,20 @@ use Rattle.sample_apps.specs.declared.store.Store.{Store}
 use Rattle.sample_apps.specs.declared.store.Store.TheVariants.{Idle}
 use Rattle.sample_apps.specs.Reactions.{succeed_with}
 use Rattle.sample_apps.specs.StoreCommands.{command}
-use Rattle.sample_apps.specs.StoreAnswers.{answered}
+use Rattle.sample_apps.specs.StoreAnswers.{after_answer}
 
 -- an entry begins anew, whatever waited
-unfoldable pub entered : Entry → Reaction Store
-entered Create = succeed_with Idle no_outs
-entered Destroy = succeed_with Idle no_outs
-entered (Start session ps) = succeed_with Idle no_outs
-entered (Stop session) = succeed_with Idle no_outs
-entered (Invoke session number ps) = command number ps
+unfoldable pub after_entry : Entry → Reaction Store
+after_entry Create = succeed_with Idle no_outs
+after_entry Destroy = succeed_with Idle no_outs
+after_entry (Start session ps) = succeed_with Idle no_outs
+after_entry (Stop session) = succeed_with Idle no_outs
+after_entry (Invoke session number ps) = command number ps
 
 -- what Store does with what it is given
 unfoldable pub reaction : Store → Given → Reaction Store
-reaction s (givens.Entry entry) = entered entry
-reaction s (givens.Answer answer) = answered s answer
+reaction s (givens.Entry entry) = after_entry entry
+reaction s (givens.Answer answer) = after_answer s answer
 
 -- the state after what is given
 abbrev pub next_state : Store → Given → Store

@@ -28,7 +28,7 @@ impl Count {
 
     /// A number is added where the sum fits.
     fn added(self, number: u32) -> Reaction<Count>
-        ensures { result ≡ rows.added self number }
+        ensures { result ≡ rows.after_add self number }
     {
         let Some(sum) = self.number.checked_add(number) else {
             return Reaction::fail_with(self, Code::OVERFLOW);
@@ -75,9 +75,9 @@ impl Count {
         }
     }
 
-    #[tactic(auto, unfolding(crate::specs::Count::entered))]
+    #[tactic(auto, unfolding(crate::specs::Count::after_entry))]
     fn entered(self, entry: Entry) -> Reaction<Count>
-        ensures { result ≡ rows.entered self entry }
+        ensures { result ≡ rows.after_entry self entry }
     {
         let mut count = self;
         match entry {

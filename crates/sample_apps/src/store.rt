@@ -48,9 +48,9 @@ impl Store {
     ghost use Rattle.sample_apps.specs.StoreAnswers as answers;
 
     /// An entry begins anew, whatever waited.
-    #[tactic(auto, unfolding(crate::specs::Store::entered))]
+    #[tactic(auto, unfolding(crate::specs::Store::after_entry))]
     fn entered(entry: Entry) -> Reaction<Store>
-        ensures { result ≡ rules.entered entry }
+        ensures { result ≡ rules.after_entry entry }
     {
         match entry {
             Entry::Create | Entry::Destroy | Entry::Start { .. } | Entry::Stop { .. } => {
@@ -67,9 +67,9 @@ impl Store {
 
     /// An answer comes to the command that waits. On `Err` the state stays; on `Ok` the new one is in the reaction, and nothing is
     /// said of what is left here.
-    #[tactic(auto, unfolding(crate::specs::StoreAnswers::answered))]
+    #[tactic(auto, unfolding(crate::specs::StoreAnswers::after_answer))]
     fn answered(&mut self, alloc: Global, answer: Answer) -> Result<Reaction<Store>, NoMemory>
-        ensures ok { IfOk result (λ reaction. reaction ≡ answers.answered self.old answer) }
+        ensures ok { IfOk result (λ reaction. reaction ≡ answers.after_answer self.old answer) }
         ensures err { OnErr result (self.new ≡ self.old) }
     {
         let reaction = match self {

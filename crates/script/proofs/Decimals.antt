@@ -8,7 +8,7 @@ use Rattle.std.proofs.lemmas.Bool.{and_from, and_parts, le-leb, leb-true, lt-ltb
 use Rattle.std.proofs.lemmas.Fmt.{decimal_is_IsNumeral}
 use Rattle.std.proofs.lemmas.Option.{cond_some, none-some}
 use Rattle.std.proofs.lemmas.Str.Parse.{IsNumeralModel, digit_from_value, numerals_by_fold}
-use Rattle.script.specs.Numbers.{is_digit, digits_on, fitting, number_of, number32_of, within}
+use Rattle.script.specs.Numbers.{is_digit, digits_on, if_it_fits, number_of, number32_of, within}
 use Rattle.script.specs.Words.{IsNumber, IsNumber32}
 
 abbrev are_digits : List ℕ → Bool
@@ -30,7 +30,7 @@ digits_on_is (c ∷ cs) n =
       | false ↦ refl
     ]
 
-by_test : (ds : List ℕ) (n : ℕ) (b : Bool) → are_digits ds ≡ b → 0 < length ds → fitting (cond b (Some (read_on 0 ds)) None) ≡ Some n → IsNumber ds n × (n < 2 ^ 64)
+by_test : (ds : List ℕ) (n : ℕ) (b : Bool) → are_digits ds ≡ b → 0 < length ds → if_it_fits (cond b (Some (read_on 0 ds)) None) ≡ Some n → IsNumber ds n × (n < 2 ^ 64)
 by_test ds n true e some h =
     let p = cond_some (ltb (read_on 0 ds) (2 ^ 64)) (read_on 0 ds) n h in
     let small : read_on 0 ds < 2 ^ 64 = ltb-true (read_on 0 ds) (2 ^ 64) p.0 in
@@ -43,7 +43,7 @@ by_test ds n false e some h = absurd (none-some n h)
 pub number_reads : (ds : List ℕ) (n : ℕ) → number_of ds ≡ Some n → IsNumber ds n × (n < 2 ^ 64)
 unfolding number_of
 number_reads [] n h = absurd (none-some n h)
-number_reads (c ∷ cs) n h = by_test (c ∷ cs) n (are_digits (c ∷ cs)) refl (omega arith) (sym (ap fitting (digits_on_is (c ∷ cs) 0)) ∙ h)
+number_reads (c ∷ cs) n h = by_test (c ∷ cs) n (are_digits (c ∷ cs)) refl (omega arith) (sym (ap if_it_fits (digits_on_is (c ∷ cs) 0)) ∙ h)
 
 -- the digits of a number are read as it
 pub number_again : (ds : List ℕ) (n : ℕ) → IsNumber ds n → n < 2 ^ 64 → number_of ds ≡ Some n
@@ -53,9 +53,9 @@ number_again (c ∷ cs) n h small =
     let all : are_digits (c ∷ cs) ≡ true = own.from (c ∷ cs) h.0.1 in
     let same : read_on 0 (c ∷ cs) ≡ n = own.same (c ∷ cs) h.0.1 ∙ h.1 in
     let test : ltb n (2 ^ 64) ≡ true = lt-ltb n (2 ^ 64) small in
-    ap fitting (digits_on_is (c ∷ cs) 0) ∙ by_value (are_digits (c ∷ cs)) (read_on 0 (c ∷ cs)) n all same test
+    ap if_it_fits (digits_on_is (c ∷ cs) 0) ∙ by_value (are_digits (c ∷ cs)) (read_on 0 (c ∷ cs)) n all same test
   where
-    by_value : (b : Bool) (m n : ℕ) → b ≡ true → m ≡ n → ltb n (2 ^ 64) ≡ true → fitting (cond b (Some m) None) ≡ Some n
+    by_value : (b : Bool) (m n : ℕ) → b ≡ true → m ≡ n → ltb n (2 ^ 64) ≡ true → if_it_fits (cond b (Some m) None) ≡ Some n
     by_value b m n all same test = rw (all, same, test) refl
 
 within_some : (low high n : ℕ) (o : Option ℕ) → within low high o ≡ Some n → (o ≡ Some n) × (low ≤ n) × (n ≤ high)

@@ -19,7 +19,7 @@ use Rattle.script.specs.declared.param.Parameter.{Parameter}
 use Rattle.script.specs.declared.param.Parameters.{Parameters}
 use Rattle.script.specs.Numbers.{number32_of}
 use Rattle.script.specs.Parameters.{◌>>=◌, hex_of, plain_parameter, parameter_of_one, parameter_of_two, parameter_of_three}
-use Rattle.script.specs.Parameters.{parameter_of_parts, parameter_of, parameter_at, parameters_of, with_numbers, filled}
+use Rattle.script.specs.Parameters.{parameter_of_parts, parameter_of, parameter_at, parameters_of, with_numbers, fill_parameter}
 use Rattle.script.specs.Words.{AreParams, IsFilled, IsMemory, IsPair, IsParam}
 use Rattle.script.proofs.Cuts.{Lacks, all_append, all_weaker, cut_joined, joined}
 use Rattle.script.proofs.Decimals.{IsGraphic, IsPart, digits_part, number32_again, number32_reads}
@@ -39,7 +39,7 @@ with_numbers_some : (make : ℕ → ℕ → Param) (o q : Option ℕ) (p : Param
 with_numbers_some make None q p e = absurd (none-some p e)
 with_numbers_some make (Some a) q p e = let m = option_map_some (λ b. plain_parameter (make a b)) q p e in (a, m.0, refl, m.1, m.2)
 
-filled_some : (o : Option ℕ) (q : Option (List ℕ)) (p : Parameter) → filled o q ≡ Some p
+filled_some : (o : Option ℕ) (q : Option (List ℕ)) (p : Parameter) → fill_parameter o q ≡ Some p
     → (size byte : ℕ) × (o ≡ Some size) × (q ≡ Some (byte ∷ [])) × (size ≤ MAX_ASK_BYTES) × (record { param = MemIn (replicate size byte); fill = size } ≡ p)
 filled_some None q p e = absurd (none-some p e)
 filled_some (Some size) None p e = absurd (none-some p e)

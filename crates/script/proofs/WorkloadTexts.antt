@@ -21,7 +21,7 @@ use Rattle.script.specs.declared.line.Line.TheVariants as lines
 use Rattle.script.specs.Canonical.{call_words, canonical, name_at, params_words}
 use Rattle.script.specs.Grammar.{IsCall, IsHost, IsLine, Reads}
 use Rattle.script.specs.Words.{IsNumber32, IsParam}
-use Rattle.script.specs.Workload.{byte, call_line, drawn, drawn_for, line_at, line_of, params, state_after, workload_of}
+use Rattle.script.specs.Workload.{byte, call_line, draw_at, drawn_for, line_at, line_of, params, state_after, workload_of}
 use Rattle.script.proofs.CanonicalTexts.{CanPrint, CanStand, can_stand, name_is, none_prints, params_printed, printed_reads}
 use Rattle.script.proofs.Decimals.{decimal_number}
 
@@ -124,9 +124,9 @@ module _ {A : Type 0} (hosts : List (Host A)) (fit : HostsFit hosts) where
   at_stands : (number index : ℕ) → CanStand hosts (line_at number (length hosts) index)
   at_stands number index =
       let state = state_after number (DRAWS_A_LINE * index) in
-      let label : 1 + drawn state 3 % 3 < 2 ^ 32 = omega arith in
-      let command : 1 + drawn state 4 % 15 < 2 ^ 32 = omega arith in
-      line_stands (drawn_for (length hosts) state) (mod-lt (drawn state 1) fit.some) label command
+      let label : 1 + draw_at state 3 % 3 < 2 ^ 32 = omega arith in
+      let command : 1 + draw_at state 4 % 15 < 2 ^ 32 = omega arith in
+      line_stands (drawn_for (length hosts) state) (mod-lt (draw_at state 1) fit.some) label command
 
   all_stand : (number start count : ℕ) → AllByRecursion (CanStand hosts) (map (line_at number (length hosts)) (range_with_len start count))
   all_stand number start zero = tt

@@ -16,6 +16,7 @@ use Rattle.script.specs.declared.line.Meaning.{Meaning}
 use Rattle.script.specs.declared.line.Meaning.TheVariants.{Nothing, Client, Script}
 use Rattle.script.specs.Dialects.{Takes}
 use Rattle.script.specs.Words.{AreParams, AreWords, IsNumber, IsNumber32}
+use Rattle.tee_base.specs.Words.{Text}
 
 -- the names of hosts, in order
 abbrev pub names_of : {A : Type 0} → List (Host A) → List (List ℕ)
@@ -59,23 +60,23 @@ IsLine hosts client words (lines.Power pick) fill =
     (number : List ℕ) × IsNumber number pick × (pick < 2 ^ 64) × (words ≡ codes "board" ∷ codes "power" ∷ number ∷ []) × (fill ≡ 0)
 
 -- a line that means nothing: an empty one, and one that begins with #
-abbrev pub IsSilent : List ℕ → Type 0
+abbrev pub IsSilent : Text → Type 0
 IsSilent line = (line ≡ []) ⊎ ((more : List ℕ) × (line ≡ codes "#" ++ more))
 
 -- what a line means where the lines before it are this client's, and how many bytes are filled in for it
-unfoldable pub Means : {A : Type 0} → List (Host A) → ℕ → List ℕ → Meaning → ℕ → Type 0
+unfoldable pub Means : {A : Type 0} → List (Host A) → ℕ → Text → Meaning → ℕ → Type 0
 Means hosts client line Nothing fill = IsSilent line × (fill ≡ 0)
 Means hosts client line (Client n) fill =
     (¬ IsSilent line) × (number : List ℕ) × AreWords line (codes "client" ∷ number ∷ []) × IsNumber number n × (n < MAX_CLIENTS) × (fill ≡ 0)
 Means hosts client line (Script told) fill = (¬ IsSilent line) × (words : List (List ℕ)) × AreWords line words × IsLine hosts client words told fill
 
 -- no line feed stands in the text
-abbrev pub HasNoLineFeed : List ℕ → Type 0
+abbrev pub HasNoLineFeed : Text → Type 0
 HasNoLineFeed text = AllByRecursion (λ c. c ≢ 10) text
 
 -- the first line of a text, without its end, and what stands behind it; its end is a line feed, or a carriage return and a line
 -- feed. The last line may have no end, but a carriage return alone is none
-abbrev pub IsFirstLine : List ℕ → List ℕ → List ℕ → Type 0
+abbrev pub IsFirstLine : Text → Text → List ℕ → Type 0
 IsFirstLine text line rest =
     ((piece : List ℕ) × HasNoLineFeed piece × (text ≡ piece ++ codes "\n" ++ rest) × (line ≡ strip_carriage_return piece))
     ⊎ (HasNoLineFeed text × (text ≢ []) × (slice_index text (length text - 1) ≢ 13) × (line ≡ text) × (rest ≡ []))
@@ -87,7 +88,7 @@ pub record Place : Type 0 where
   pub rest : List ℕ
 
 -- before the first line
-abbrev pub start_of : List ℕ → Place
+abbrev pub start_of : Text → Place
 start_of text = record { client = 0; filled = 0; rest = text }
 
 -- the client whose lines come after a line of this meaning
@@ -98,7 +99,7 @@ client_after client (Script line) = client
 
 -- the next line is in the grammar: its bytes are ASCII, it has this meaning, and not too many bytes are filled in up to its end
 pub record IsNext {A : Type 0} (hosts : List (Host A)) (at : Place) (meaning : Meaning) (after : Place) : Type 0 where
-  pub line : List ℕ
+  pub line : Text
   pub fill : ℕ
   pub first : IsFirstLine at.rest line after.rest
   pub ascii : IsAscii line
@@ -119,7 +120,7 @@ lines_of (Client n) = []
 lines_of (Script line) = line ∷ []
 
 -- what a text reads to: its lines are in the grammar up to its end, the script is what they mean, and the dialect takes them
-pub record Reads {A : Type 0} (dialect : Dialect) (hosts : List (Host A)) (text : List ℕ) (script : List Line) : Type 0 where
+pub record Reads {A : Type 0} (dialect : Dialect) (hosts : List (Host A)) (text : Text) (script : List Line) : Type 0 where
   pub meanings : List Meaning
   pub after : Place
   pub read : AreNext hosts (start_of text) meanings after
@@ -128,7 +129,7 @@ pub record Reads {A : Type 0} (dialect : Dialect) (hosts : List (Host A)) (text 
   pub told : script ≡ flat_map lines_of meanings
 
 -- line n, counted from 1, is the first that isn't in the grammar or that the dialect doesn't take: the lines before it are read
-pub record FirstBad {A : Type 0} (dialect : Dialect) (hosts : List (Host A)) (text : List ℕ) (n : ℕ) : Type 0 where
+pub record FirstBad {A : Type 0} (dialect : Dialect) (hosts : List (Host A)) (text : Text) (n : ℕ) : Type 0 where
   pub meanings : List Meaning
   pub at : Place
   pub read : AreNext hosts (start_of text) meanings at

@@ -13,17 +13,18 @@ use Rattle.script.specs.declared.line.ReadCall.{ReadCall}
 use Rattle.script.specs.declared.line.ReadMeaning.{ReadMeaning}
 use Rattle.script.specs.Numbers.{number_of, number32_of, within}
 use Rattle.script.specs.Parameters.{◌>>=◌, parameters_of}
+use Rattle.tee_base.specs.Words.{Text}
 
 -- the word isn't empty
 abbrev pub is_some_word : List ℕ → Bool
 is_some_word word = not (length word == 0)
 
 -- the parts between spaces that aren't empty
-abbrev pub words_of : List ℕ → List (List ℕ)
+abbrev pub words_of : Text → List (List ℕ)
 words_of text = filter is_some_word (slice_split (λ c. c == 32) text)
 
 -- each byte is ASCII
-abbrev pub all_ascii : List ℕ → Bool
+abbrev pub all_ascii : Text → Bool
 all_ascii text = list_all (λ c. nat_lt c 128) text
 
 -- the index of the first of these that is the word, counted on
@@ -143,7 +144,7 @@ is_silent [] = true
 is_silent (c ∷ cs) = c == 35
 
 -- what a line means where the lines before are this client's
-unfoldable pub meaning_of : {A : Type 0} → List (Host A) → ℕ → List ℕ → Option ReadMeaning
+unfoldable pub meaning_of : {A : Type 0} → List (Host A) → ℕ → Text → Option ReadMeaning
 meaning_of hosts client text =
     if all_ascii text then (if is_silent text then Some (record { meaning = Nothing; fills = 0 }) else meaning_of_words hosts client (words_of text))
     else None

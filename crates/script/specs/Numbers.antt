@@ -11,14 +11,14 @@ digits_on n [] = Some n
 digits_on n (c ∷ cs) = if is_digit c then digits_on (n * 10 + (c - 48)) cs else None
 
 -- a number that fits 64 bits
-abbrev pub fitting : Option ℕ → Option ℕ
-fitting None = None
-fitting (Some n) = if nat_lt n (2 ^ 64) then Some n else None
+abbrev pub if_it_fits : Option ℕ → Option ℕ
+if_it_fits None = None
+if_it_fits (Some n) = if nat_lt n (2 ^ 64) then Some n else None
 
 -- the value of one or more digits, where it fits 64 bits
 unfoldable pub number_of : List ℕ → Option ℕ
 number_of [] = None
-number_of (c ∷ cs) = fitting (digits_on 0 (c ∷ cs))
+number_of (c ∷ cs) = if_it_fits (digits_on 0 (c ∷ cs))
 
 -- a number within these bounds
 abbrev pub within : ℕ → ℕ → Option ℕ → Option ℕ

@@ -52,16 +52,16 @@ with_numbers make None b = None
 with_numbers make (Some a) b = option_map (λ x. plain_parameter (make a x)) b
 
 -- so many bytes, all of them the one byte, and no more than a memory reference may have
-abbrev pub filled : Option ℕ → Option (List ℕ) → Option Parameter
-filled (Some size) (Some (byte ∷ [])) = if nat_le size MAX_ASK_BYTES then Some (record { param = MemIn (replicate size byte); fill = size }) else None
-filled size bytes = None
+abbrev pub fill_parameter : Option ℕ → Option (List ℕ) → Option Parameter
+fill_parameter (Some size) (Some (byte ∷ [])) = if nat_le size MAX_ASK_BYTES then Some (record { param = MemIn (replicate size byte); fill = size }) else None
+fill_parameter size bytes = None
 
 -- a parameter of three parts: a value's two numbers, or memory that is filled with one byte
 unfoldable pub parameter_of_three : List ℕ → List ℕ → List ℕ → Option Parameter
 parameter_of_three kind a b =
     if bytes_eq kind (codes "vi") then with_numbers ValueIn (number32_of a) (number32_of b)
     else if bytes_eq kind (codes "vio") then with_numbers ValueInOut (number32_of a) (number32_of b)
-    else if bytes_eq kind (codes "mf") then filled (number32_of a) (hex_of b)
+    else if bytes_eq kind (codes "mf") then fill_parameter (number32_of a) (hex_of b)
     else None
 
 -- a parameter by its parts

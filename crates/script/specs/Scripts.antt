@@ -13,6 +13,7 @@ use Rattle.script.specs.declared.script.ScriptAnswer.{ScriptAnswer}
 use Rattle.script.specs.declared.script.ScriptAnswer.TheVariants.{BadLine, NoMemory}
 use Rattle.script.specs.Dialects.{takes}
 use Rattle.script.specs.Lines.{meaning_of}
+use Rattle.tee_base.specs.Words.{Text}
 
 -- what was read so far: the client whose lines come, how many bytes were filled in, and the lines
 pub record Reading : Type 0 where
@@ -32,7 +33,7 @@ with_line dialect r None = None
 with_line dialect r (Some read) = if nat_lt MAX_FILL_BYTES (r.filled + read.fills) then None else with_meaning dialect r (r.filled + read.fills) read.meaning
 
 -- what is read after one more line
-unfoldable pub reading_after : {A : Type 0} → Dialect → List (Host A) → Reading → List ℕ → Option Reading
+unfoldable pub reading_after : {A : Type 0} → Dialect → List (Host A) → Reading → Text → Option Reading
 reading_after dialect hosts r line = with_line dialect r (meaning_of hosts r.client line)
 
 -- what comes after line n, where it is read
@@ -66,7 +67,7 @@ script_from dialect hosts pieces =
     after_lines (read_from dialect hosts 1 no_reading (take (length pieces - 1) pieces)) (λ r. ended_by dialect hosts (length pieces) r (slice_index_or pieces (length pieces - 1) []))
 
 -- the script that a text is, or the number of the first line that is none
-abbrev pub script_of : {A : Type 0} → Dialect → List (Host A) → List ℕ → Result (List Line) ℕ
+abbrev pub script_of : {A : Type 0} → Dialect → List (Host A) → Text → Result (List Line) ℕ
 script_of dialect hosts text = script_from dialect hosts (slice_split (λ c. c == 10) text)
 
 -- what was answered, seen by view, is what the text reads to, unless memory ran out

@@ -6,9 +6,10 @@ use Rattle.hex.specs.Hex.{decode_of}
 use Rattle.tee_base.specs.declared.limits.TheConstants.{MAX_ASK_BYTES}
 use Rattle.app_api.specs.declared.param.Param.{Param}
 use Rattle.app_api.specs.declared.param.Param.TheVariants.{Nothing, ValueIn, ValueOut, ValueInOut, MemIn, MemOut, MemInOut}
+use Rattle.tee_base.specs.Words.{Text}
 
 -- spaces alone, or nothing
-abbrev pub AreSpaces : List ℕ → Type 0
+abbrev pub AreSpaces : Text → Type 0
 AreSpaces text = AllByRecursion (λ c. c ≡ 32) text
 
 -- a word: one or more bytes, and no space among them
@@ -16,7 +17,7 @@ abbrev pub IsWord : List ℕ → Type 0
 IsWord word = (word ≢ []) × AllByRecursion (λ c. c ≢ 32) word
 
 -- the words of a line: one or more spaces stand between them, and there may be spaces before and behind them
-unfoldable pub AreWords : List ℕ → List (List ℕ) → Type 0
+unfoldable pub AreWords : Text → List (List ℕ) → Type 0
 AreWords text [] = AreSpaces text
 AreWords text (word ∷ []) =
     (before after : List ℕ) × AreSpaces before × IsWord word × AreSpaces after × (text ≡ before ++ word ++ after)

@@ -22,18 +22,18 @@ state_after number zero = number
 state_after number (suc draws) = next_state (state_after number draws)
 
 -- the n-th number that is drawn behind a state, the first being 1: its upper bits
-abbrev pub drawn : ℕ → ℕ → ℕ
-drawn state n = state_after state n / HIDDEN
+abbrev pub draw_at : ℕ → ℕ → ℕ
+draw_at state n = state_after state n / HIDDEN
 
 -- what is drawn for a line, where there are so many hosts
 abbrev pub drawn_for : ℕ → ℕ → Drawn
 drawn_for hosts state = record {
-  app = drawn state 1 % hosts;
-  kind = drawn state 2 % 8;
-  label = 1 + drawn state 3 % 3;
-  command = 1 + drawn state 4 % 15;
-  first = drawn state 5;
-  second = drawn state 6;
+  app = draw_at state 1 % hosts;
+  kind = draw_at state 2 % 8;
+  label = 1 + draw_at state 3 % 3;
+  command = 1 + draw_at state 4 % 15;
+  first = draw_at state 5;
+  second = draw_at state 6;
 }
 
 -- the parameters of a command

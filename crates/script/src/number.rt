@@ -1,7 +1,7 @@
 //! Numbers in decimal digits.
 
 ghost use Rattle.std.specs.Prelude.{◌≡◌, ◌<◌, ◌≤◌, ◌^◌, ◌↔◌, ℕ, IfOk};
-ghost use Rattle.script.specs.Numbers.{digits_on, fitting, number_of, number32_of, within};
+ghost use Rattle.script.specs.Numbers.{digits_on, if_it_fits, number_of, number32_of, within};
 ghost use Rattle.script.specs.Parameters.{Gives};
 ghost use Rattle.script.specs.Words.{IsNumber};
 
@@ -28,7 +28,7 @@ pub fn number(digits: &[u8]) -> Option<u64>
 
 /// The value of decimal digits, below 2^64.
 fn value(digits: &[u8]) -> Option<u64>
-    ensures { result ≡ fitting (digits_on 0 digits.now) }
+    ensures { result ≡ if_it_fits (digits_on 0 digits.now) }
 {
     let mut value = 0u64;
     for digit in digits {

@@ -2,7 +2,7 @@
 
 ghost use Rattle.std.specs.Prelude.{◌≡◌, ◌^◌, ◌<◌, ◌≤◌, ◌*◌, Some, List, ℕ, map, replicate, IfOk};
 ghost use Rattle.std.specs.List.{slice_split};
-ghost use Rattle.script.specs.Parameters.{parameter_of, parameter_of_parts, parameter_of_one, parameter_of_two, parameter_of_three, hex_of, filled, parameter_at, parameters_of, plain_parameter, IsSmall, Gives};
+ghost use Rattle.script.specs.Parameters.{parameter_of, parameter_of_parts, parameter_of_one, parameter_of_two, parameter_of_three, hex_of, fill_parameter, parameter_at, parameters_of, plain_parameter, IsSmall, Gives};
 ghost use Rattle.script.specs.Numbers.{number32_of};
 ghost use Rattle.tee_base.specs.declared.limits.TheConstants.{MAX_ASK_BYTES};
 
@@ -87,7 +87,7 @@ fn param_of_three(alloc: Global, kind: &[u8], a: &[u8], b: &[u8]) -> Result<Para
 
 /// Memory of `size` bytes, each of them the one byte that is given.
 fn fill(alloc: Global, size: u32, byte: Bytes) -> Result<Parameter, LineError>
-    ensures value { Gives result (filled (Some size) (Some byte)) }
+    ensures value { Gives result (fill_parameter (Some size) (Some byte)) }
     ensures small { IfOk result IsSmall }
 {
     match byte.as_slice() {

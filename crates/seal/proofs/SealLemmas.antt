@@ -3,7 +3,7 @@ use Rattle.std.proofs.Common.{◌≡◌, ℕ, suc, ◌+◌, ◌/◌, ◌%◌, Li
 use Rattle.std.proofs.lemmas.List.{take_all}
 use lib.Bits.{xor_assoc, xor_self, xor_zero_r}
 use Rattle.aes_core.specs.Cipher.{cipher}
-use Rattle.aes_modes.specs.Conversion.{begun, extended, text_of, update_answer}
+use Rattle.aes_modes.specs.Conversion.{begun, with_more, text_of, update_answer}
 use Rattle.aes_modes.specs.Modes.{number_of, counter_block, ctr_from, mode_text}
 use Rattle.aes_modes.specs.declared.modes.Mode.TheVariants.{Ctr}
 use Rattle.aes_modes.specs.declared.modes.ModeAnswer.{ModeAnswer}
@@ -17,11 +17,11 @@ whole_answer key way iv count room long wide = rw (long, wide) refl
 
 -- and all of it is written
 pub whole_text : (way : Way) (key iv from into : List ℕ) (answer : Result ℕ ModeAnswer) → length into ≡ 1024 → answer ≡ Ok 1024
-    → IfOk answer (λ n. text_of (extended (begun key Ctr way iv) from) ≡ text_of (begun key Ctr way iv) ++ take n into)
+    → IfOk answer (λ n. text_of (with_more (begun key Ctr way iv) from) ≡ text_of (begun key Ctr way iv) ++ take n into)
     → into ≡ mode_text Ctr way key iv from
 unfolding mode_text ctr_from
 whole_text way key iv from into answer long ok text =
-    let P : Result ℕ ModeAnswer → Type 0 = λ a. IfOk a (λ n. text_of (extended (begun key Ctr way iv) from) ≡ text_of (begun key Ctr way iv) ++ take n into) in
+    let P : Result ℕ ModeAnswer → Type 0 = λ a. IfOk a (λ n. text_of (with_more (begun key Ctr way iv) from) ≡ text_of (begun key Ctr way iv) ++ take n into) in
     let whole : ctr_from key iv 0 from ≡ take 1024 into = subst P ok text in
     sym (whole ∙ take_all 1024 into (omega (arith, long)))
 

@@ -8,13 +8,14 @@ use Rattle.mac_digest.specs.declared.digests.Hash.TheVariants.{Sha256}
 use Rattle.seal.specs.Sealing.{vector_key, cipher_key, tag_key}
 use Rattle.seal.specs.declared.codes.CodeKey.{CodeKey}
 use Rattle.seal.specs.declared.keys.Keys.{Keys}
+use Rattle.tee_base.specs.Words.{Key}
 
 -- the key of codes is this one, made ready
-unfoldable pub IsCodeKeyOf : CodeKey → List ℕ → Type 0
+unfoldable pub IsCodeKeyOf : CodeKey → Key → Type 0
 IsCodeKeyOf ready key = Holds256 ready.inner (inner_block Sha256 key) × Holds256 ready.outer (outer_block Sha256 key)
 
 -- the keys that this board's key gives, each code at its start
-pub record AreKeysOf (keys : Keys) (key : List ℕ) : Type 0 where
+pub record AreKeysOf (keys : Keys) (key : Key) : Type 0 where
   pub vector : IsCodeKeyOf keys.vector (vector_key key)
   pub cipher : key_bytes keys.cipher ≡ cipher_key key
   pub tag : IsCodeKeyOf keys.tag (tag_key key)

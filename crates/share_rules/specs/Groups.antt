@@ -8,6 +8,7 @@ use Rattle.std.specs.Global.{Vec}
 use Rattle.tee_base.specs.declared.codes.Flags.{Flags}
 use Rattle.share_rules.specs.declared.group.Count.{Count}
 use Rattle.share_rules.specs.declared.index.Share.{Share}
+use Rattle.tee_base.specs.Words.{Identifier}
 
 -- ---- one object
 
@@ -40,7 +41,7 @@ has_some (x ∷ xs) = true
 -- ---- all objects
 
 -- the handle on the object of this identifier with these flags
-abbrev pub share : List ℕ → Flags → Share
+abbrev pub share : Identifier → Flags → Share
 share id flags = record { id = id; flags = flags }
 
 -- each handle, object after object

@@ -5,6 +5,7 @@ use Rattle.std.specs.Str.{bytes_eq}
 use Rattle.tee_base.specs.declared.codes.Flags.{Flags}
 use Rattle.share_rules.specs.declared.index.Share.{Share}
 use Rattle.share_rules.specs.declared.uses.Uses.{Uses}
+use Rattle.tee_base.specs.Words.{Identifier}
 
 -- the bit of a flag is set
 abbrev pub has : ℕ → Flags → Bool
@@ -57,23 +58,23 @@ abbrev pub conflicts : Uses → Bool
 conflicts u = u.several && (u.writes_meta || ((u.reads && not u.share_read) || (u.writes && not u.share_write)))
 
 -- the handle is on the object of this identifier
-abbrev pub is_on : List ℕ → Share → Bool
+abbrev pub is_on : Identifier → Share → Bool
 is_on id s = bytes_eq s.id id
 
 -- the flags of the handles that are noted on the object
-abbrev pub flags_on : List Share → List ℕ → List Flags
+abbrev pub flags_on : List Share → Identifier → List Flags
 flags_on shares id = map (λ s. s.flags) (filter (is_on id) shares)
 
 -- a new handle with these flags conflicts with those on the object, or these do so themselves
-abbrev pub conflict : List Share → List ℕ → Flags → Bool
+abbrev pub conflict : List Share → Identifier → Flags → Bool
 conflict shares id flags = conflicts (uses_of (flags ∷ flags_on shares id))
 
 -- it is a handle on this object with these flags
-abbrev pub is_share : List ℕ → Flags → Share → Bool
+abbrev pub is_share : Identifier → Flags → Share → Bool
 is_share id flags s = is_on id s && (s.flags.0 == flags.0)
 
 -- such a handle is noted
-abbrev pub is_noted : List Share → List ℕ → Flags → Bool
+abbrev pub is_noted : List Share → Identifier → Flags → Bool
 is_noted shares id flags = list_any (is_share id flags) shares
 
 -- the new shares are the old ones and one more: each test passes on as many. What order they are in makes no difference

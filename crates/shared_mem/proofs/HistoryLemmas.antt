@@ -4,7 +4,7 @@ use Rattle.std.specs.Option.{unwrap_or}
 use Rattle.std.proofs.lemmas.Bool.{cases_Bool, cond-true, cond-false, and_parts, eqb-true}
 use Rattle.shared_mem.specs.declared.block.Block.{Block}
 use Rattle.shared_mem.specs.declared.reference.Direction.{Direction}
-use Rattle.shared_mem.specs.Blocks.{block_at, change_first, is_at, new_block, written}
+use Rattle.shared_mem.specs.Blocks.{block_at, change_first, is_at, new_block, block_after_write}
 use Rattle.shared_mem.specs.History.{Happening, Shared, Written, GivenUp, block_by, blocks_after, is_same}
 
 -- ---- where one is found behind a change
@@ -87,10 +87,11 @@ block_is (Written other its at bytes ∷ before) client number =
     let blocks = blocks_after before in
     ⊎_elim
     (λ (yes : is_same other its client number ≡ true).
-    ap (λ (q : Block → Bool). find test (change_first q (written at bytes) blocks)) (same_test other its client number yes) ∙ change_found test (written at bytes) (λ x. refl) blocks
-    ∙ ap (λ (o : Option Block). option_map (written at bytes) o) (block_is before client number) ∙ sym (cond-true (is_same other its client number) _ _ yes))
+    ap (λ (q : Block → Bool). find test (change_first q (block_after_write at bytes) blocks)) (same_test other its client number yes)
+    ∙ change_found test (block_after_write at bytes) (λ x. refl) blocks
+    ∙ ap (λ (o : Option Block). option_map (block_after_write at bytes) o) (block_is before client number) ∙ sym (cond-true (is_same other its client number) _ _ yes))
     (λ (no : is_same other its client number ≡ false).
-    change_other test (is_at other its) (written at bytes) (apart other its client number no) (λ x. refl) blocks ∙ block_is before client number
+    change_other test (is_at other its) (block_after_write at bytes) (apart other its client number no) (λ x. refl) blocks ∙ block_is before client number
     ∙ sym (cond-false (is_same other its client number) _ _ no))
     (cases_Bool (is_same other its client number))
 block_is (GivenUp other its ∷ before) client number =

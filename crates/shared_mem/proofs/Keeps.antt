@@ -10,7 +10,7 @@ use Rattle.shared_mem.specs.declared.block.Block.{Block}
 use Rattle.shared_mem.specs.declared.reference.Direction.{Direction}
 use Rattle.shared_mem.specs.declared.reference.Reference.{Reference}
 use Rattle.shared_mem.specs.declared.reference.Reference.TheVariants.{Whole, Part}
-use Rattle.shared_mem.specs.Blocks.{IsBlocks, is_of, is_at, is_sound, block_at, change_first, fits, length_in, new_block, written, overwritten, with_bytes}
+use Rattle.shared_mem.specs.Blocks.{IsBlocks, is_of, is_at, is_sound, block_at, change_first, fits, length_in, new_block, block_after_write, bytes_over, with_bytes}
 
 -- ---- room
 
@@ -188,7 +188,7 @@ length-change q g (x ∷ xs) =
     (λ (no : q x ≡ false). rw no (omega (arith, length-change q g xs)))
     (cases_Bool (q x))
 
-pub length-overwritten : (at : ℕ) (bytes content : List ℕ) → at + length bytes ≤ length content → length (overwritten at bytes content) ≡ length content
+pub length-overwritten : (at : ℕ) (bytes content : List ℕ) → at + length bytes ≤ length content → length (bytes_over at bytes content) ≡ length content
 length-overwritten at bytes content within =
     length-append (take at content ++ bytes) (drop (at + length bytes) content) ∙ omega (
       arith,
@@ -198,19 +198,19 @@ length-overwritten at bytes content within =
       length-drop (at + length bytes) content,
     )
 
-written_sound : (at : ℕ) (bytes : List ℕ) (b : Block) → at + length bytes ≤ length b.bytes → is_sound b ≡ true → is_sound (written at bytes b) ≡ true
+written_sound : (at : ℕ) (bytes : List ℕ) (b : Block) → at + length bytes ≤ length b.bytes → is_sound b ≡ true → is_sound (block_after_write at bytes b) ≡ true
 written_sound at bytes b within sound =
     ap (λ n. nat_lt b.client 8 && nat_le n 524288) (length-overwritten at bytes b.bytes within) ∙ sound
 
 sound_change : (q : Block → Bool) (at : ℕ) (bytes : List ℕ) (blocks : List Block) → IfSome (find q blocks) (λ b. at + length bytes ≤ length b.bytes) → list_all is_sound blocks ≡ true →
-    list_all is_sound (change_first q (written at bytes) blocks) ≡ true
+    list_all is_sound (change_first q (block_after_write at bytes) blocks) ≡ true
 sound_change q at bytes [] within sound = refl
 sound_change q at bytes (x ∷ xs) within sound =
     let both = and_parts (is_sound x) (list_all is_sound xs) sound in
     ⊎_elim
     (λ (yes : q x ≡ true).
     let here : at + length bytes ≤ length x.bytes = subst (λ b. IfSome (cond b (Some x) (find q xs)) (λ b. at + length bytes ≤ length b.bytes)) yes within in
-    rw yes (and_from (is_sound (written at bytes x)) _ (written_sound at bytes x here both.0) both.1))
+    rw yes (and_from (is_sound (block_after_write at bytes x)) _ (written_sound at bytes x here both.0) both.1))
     (λ (no : q x ≡ false).
     let rest : IfSome (find q xs) (λ b. at + length bytes ≤ length b.bytes) = subst (λ b. IfSome (cond b (Some x) (find q xs)) (λ b. at + length bytes ≤ length b.bytes)) no within in
     rw no (and_from (is_sound x) _ both.0 (sound_change q at bytes xs rest both.1)))
@@ -220,12 +220,12 @@ pub write_IsBlocks : (blocks : List Block) (client number at : ℕ) (bytes : Lis
     IsBlocks (with_bytes blocks client number at bytes)
 write_IsBlocks blocks client number at bytes is within = record {
   sound = sound_change (is_at client number) at bytes blocks within is.sound;
-  alone = λ c n. omega (arith, is.alone c n, count_change (is_at client number) (written at bytes) (is_at c n) (λ x. refl) blocks);
-  few = λ c. omega (arith, is.few c, count_change (is_at client number) (written at bytes) (is_of c) (λ x. refl) blocks);
+  alone = λ c n. omega (arith, is.alone c n, count_change (is_at client number) (block_after_write at bytes) (is_at c n) (λ x. refl) blocks);
+  few = λ c. omega (arith, is.few c, count_change (is_at client number) (block_after_write at bytes) (is_of c) (λ x. refl) blocks);
 }
 
 pub length-with_bytes : (blocks : List Block) (client number at : ℕ) (bytes : List ℕ) → length (with_bytes blocks client number at bytes) ≡ length blocks
-length-with_bytes blocks client number at bytes = length-change (is_at client number) (written at bytes) blocks
+length-with_bytes blocks client number at bytes = length-change (is_at client number) (block_after_write at bytes) blocks
 
 refill_same : (xs ws : List Block) → length ws ≡ length xs → refill (length xs) xs ws ≡ ws
 refill_same xs ws long = take_at ws (drop (length ws) xs) (length xs) long

@@ -59,9 +59,9 @@ left_by (Ok after) before = after
 left_by (Err code) before = before
 
 -- the block that was sought, or the refusal where there is none
-abbrev pub sought : Option Block → Result Block Code
-sought None = Err ITEM_NOT_FOUND
-sought (Some block) = Ok block
+abbrev pub block_or_refusal : Option Block → Result Block Code
+block_or_refusal None = Err ITEM_NOT_FOUND
+block_or_refusal (Some block) = Ok block
 
 -- ---- Share
 
@@ -97,12 +97,12 @@ share_of blocks client number flags size = share_in blocks client number (direct
 -- ---- Fill
 
 -- some bytes with others over those that stood from a place on
-abbrev pub overwritten : ℕ → List ℕ → List ℕ → List ℕ
-overwritten at bytes content = take at content ++ bytes ++ drop (at + length bytes) content
+abbrev pub bytes_over : ℕ → List ℕ → List ℕ → List ℕ
+bytes_over at bytes content = take at content ++ bytes ++ drop (at + length bytes) content
 
 -- the block with bytes written from a place on
-abbrev pub written : ℕ → List ℕ → Block → Block
-written at bytes block = record block { bytes = overwritten at bytes block.bytes }
+abbrev pub block_after_write : ℕ → List ℕ → Block → Block
+block_after_write at bytes block = record block { bytes = bytes_over at bytes block.bytes }
 
 -- the first element that passes the test is changed
 abbrev pub change_first : {X : Type 0} → (X → Bool) → (X → X) → List X → List X
@@ -111,7 +111,7 @@ change_first test change (x ∷ xs) = if test x then change x ∷ xs else x ∷ 
 
 -- the blocks with bytes written into the client's block of this number, from a place on
 abbrev pub with_bytes : List Block → ℕ → ℕ → ℕ → List ℕ → List Block
-with_bytes blocks client number at bytes = change_first (is_at client number) (written at bytes) blocks
+with_bytes blocks client number at bytes = change_first (is_at client number) (block_after_write at bytes) blocks
 
 -- bytes are filled into the block that was sought
 abbrev pub fill_in : List Block → ℕ → ℕ → ℕ → List ℕ → Option Block → Result (List Block) Code

@@ -1,6 +1,6 @@
 -- A block by all that happened to the blocks of one application.
 use Rattle.std.specs.Prelude.{ℕ, ◌==◌, ◌&&◌, Bool, if◌then◌else◌, List, [], ◌∷◌, Option, None, Some, option_map, unwrap_or}
-use Rattle.shared_mem.specs.Blocks.{new_block, with_block, with_bytes, without_block, written}
+use Rattle.shared_mem.specs.Blocks.{new_block, with_block, with_bytes, without_block, block_after_write}
 use Rattle.shared_mem.specs.declared.block.Block.{Block}
 use Rattle.shared_mem.specs.declared.reference.Direction.{Direction}
 
@@ -32,7 +32,7 @@ block_by client number (Shared other its direction size ∷ before) =
     if is_same other its client number then Some (unwrap_or (block_by client number before) (new_block other its direction size))
     else block_by client number before
 block_by client number (Written other its at bytes ∷ before) =
-    if is_same other its client number then option_map (written at bytes) (block_by client number before)
+    if is_same other its client number then option_map (block_after_write at bytes) (block_by client number before)
     else block_by client number before
 block_by client number (GivenUp other its ∷ before) =
     if is_same other its client number then None

@@ -31,7 +31,7 @@ impl MadeWith<Global> for Block {
 impl Block {
     ghost use Rattle.std.specs.Prelude.{◌≡◌, ◌+◌, ◌≤◌, ◌<◌, ◌^◌, IfOk, IsTrue, length, nat_le};
     ghost use Rattle.tee_base.specs.declared.limits.TheConstants.{MAX_ASK_BYTES};
-    ghost use Rattle.shared_mem.specs.Blocks.{direction_in, is_at, fits, length_in, new_block, param_of, written};
+    ghost use Rattle.shared_mem.specs.Blocks.{direction_in, is_at, fits, length_in, new_block, param_of, block_after_write};
 
     /// A block of zeros.
     pub fn zeros(
@@ -71,7 +71,7 @@ impl Block {
     /// Writes bytes from a place on, in place.
     pub fn write(&mut self, alloc: Global, at: u32, bytes: &[u8])
         requires { at + length bytes.now ≤ length self.old.bytes }
-        ensures { self.new ≡ written at bytes.now self.old }
+        ensures { self.new ≡ block_after_write at bytes.now self.old }
     {
         let mut content = mem::replace(&mut self.bytes, Bytes::empty(alloc)).into_vec();
         overwrite(content.as_mut_slice(), at as usize, bytes);
@@ -131,12 +131,12 @@ impl Block {
 }
 
 ghost use Rattle.std.specs.Prelude.{◌≡◌, ◌+◌, ◌≤◌, length};
-ghost use Rattle.shared_mem.specs.Blocks.{overwritten};
+ghost use Rattle.shared_mem.specs.Blocks.{bytes_over};
 
 /// Writes bytes over those that stand from a place on.
 fn overwrite(content: &mut [u8], at: usize, bytes: &[u8])
     requires { at + length bytes.now ≤ length content.old }
-    ensures { content.new ≡ overwritten at bytes.now content.old }
+    ensures { content.new ≡ bytes_over at bytes.now content.old }
 {
     content[at..at + bytes.len()].copy_from_slice(bytes);
 }

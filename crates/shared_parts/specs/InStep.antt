@@ -7,7 +7,7 @@ use Rattle.alone.specs.declared.reply.TheConstants.{REPLIES}
 use Rattle.alone.specs.Laws.{live}
 use Rattle.alone.specs.Logs.{IsLegal, KeptLog, Logged, is_full, machine_by, replies_in}
 use Rattle.alone.specs.Machine.{Machine}
-use Rattle.alone.specs.Step.{called}
+use Rattle.alone.specs.Step.{after_call}
 use Rattle.app_side.specs.Represents.{Represents, is_lost, machine_of, turns_of}
 use Rattle.app_side.specs.declared.side.AppSide.{AppSide}
 use Rattle.shared_parts.specs.declared.recorded.Posted.{Posted}
@@ -76,7 +76,7 @@ pub record HasPart {A : Type 0} (side : AppSide A) (own : StoragePart) : Type 0 
 -- what a caller is told of its call: the number that the operation has in this machine, and the instance for which it waits
 pub record IsPosted {A : Type 0} (m : Machine A) (client : ℕ) (call : Call) (posted : Posted) : Type 0 where
   pub op : posted.op ≡ m.queue.next
-  pub instance : posted.instance ≡ (called m client call).instance
+  pub instance : posted.instance ≡ (after_call m client call).instance
 
 -- why a log refuses a call that brings so many bytes: it has no place for them, or there is no memory
 abbrev pub IsRefusal : SharedAnswer → List Logged → ℕ → Type 0

@@ -10,9 +10,10 @@ use Rattle.app_side.specs.Represents.{event_of}
 use Rattle.app_side.specs.declared.side.AppSide.{AppSide}
 use Rattle.store_api.specs.Volumes.{VolumeKeeper}
 use Rattle.tee_core.specs.Turning.{TurnsOver}
+use Rattle.tee_base.specs.Words.{InstanceNumber}
 
 -- the log has this entry more, for which there was room
-pub record IsPushed (client : ℕ) (kind : TurnKind) (instance : ℕ) (replies : List Reply) (old new : KeptLog) : Type 0 where
+pub record IsPushed (client : ℕ) (kind : TurnKind) (instance : InstanceNumber) (replies : List Reply) (old new : KeptLog) : Type 0 where
   pub more : new.entries ≡ old.entries ++ entry client (event_of kind instance) replies ∷ []
   pub room : new.room ≡ old.room
   pub reply_room : new.reply_room ≡ old.reply_room

@@ -1,8 +1,8 @@
 //! Events of an application that leave the storage alone, each of them with its entry in the log.
 
 ghost use Rattle.std.specs.Prelude.{◌≡◌, ◌<◌, ◌≤◌, ◌-◌, ◌^◌, ◌++◌, ◌⊎◌, [], ◌∷◌, ℕ, IfErr, IfOk, OnErr, OnOk, false, true};
-ghost use Rattle.tee_base.specs.declared.limits.TheConstants.{MAX_LOG_BYTES};
-ghost use Rattle.alone.specs.KeptLogs.{event_by, logged};
+ghost use Rattle.tee_base.specs.declared.limits.TheConstants.{MAX_LOG_BYTES, MAX_NUMBER};
+ghost use Rattle.alone.specs.KeptLogs.{event_by, log_with_replies};
 ghost use Rattle.alone.specs.Logs.{Adds, bytes_in, bytes_of_call, entry, is_full};
 ghost use Rattle.alone.specs.Machine.{Machine};
 ghost use Rattle.alone.specs.Step.{Called, Cancelled, Lost, needs_store};
@@ -15,13 +15,10 @@ use alone::{AppLog, Call, LogEntry, LogEvent, REPLIES, Replies, Reply, TurnKind,
 use app_api::Application;
 use app_side::AppSide;
 use std::alloc::Global;
-use tee_base::NoMemory;
+use tee_base::{NoMemory, limits};
 
 /// More than ever lives in an application: its unanswered operations and its instances.
 const MOST_ALIVE: usize = 1 << 16;
-
-/// More turns than any application makes.
-const MOST_TURNS: u64 = 1 << 63;
 
 /// What the log tells of a turn of this kind.
 pub(crate) fn turn_event(kind: TurnKind, instance: u8) -> LogEvent
@@ -52,7 +49,7 @@ impl<A: Application> Recorded<A> {
 
     /// The entries of the log, and the list of all their replies, which belong to them in order.
     pub fn log_parts(&self) -> (&[LogEntry], &[Reply])
-        ensures { logged result.0.now result.1.now ≡ self.now.log.entries }
+        ensures { log_with_replies result.0.now result.1.now ≡ self.now.log.entries }
     {
         self.log.parts()
     }
@@ -170,7 +167,7 @@ impl<A: Application> Recorded<A> {
     pub fn begin_turn(&mut self) -> Result<(), SharedAnswer>
         ensures side { self.new.side ≡ self.old.side }
         ensures log { HasGrown self.old.log self.new.log }
-        ensures few { OnOk result (turns_of self.new.side < 2 ^ 63) }
+        ensures few { OnOk result (turns_of self.new.side < MAX_NUMBER) }
         ensures reserved { OnOk result (IsReserved 4 self.new.side self.new.log) }
         ensures room { OnOk result (is_full self.old.log.entries 0 ≡ false) }
         ensures err { IfErr result (λ why. IsRefusal why self.old.log.entries 0) }
@@ -178,7 +175,7 @@ impl<A: Application> Recorded<A> {
         if self.log.is_full(0) {
             return Err(SharedAnswer::LogFull);
         }
-        if self.side.turns() >= MOST_TURNS {
+        if self.side.turns() >= limits::MAX_NUMBER {
             return Err(SharedAnswer::NoMemory);
         }
         match self.reserve() {
@@ -198,7 +195,7 @@ impl<A: Application> Recorded<A> {
 
     /// A client's turn of an instance in which no ask waits that may need the store, with its entry.
     pub fn turn_without_store(&mut self, client: u8, instance: u8) -> TurnKind
-        requires few { turns_of self.old.side < 2 ^ 63 }
+        requires few { turns_of self.old.side < MAX_NUMBER }
         requires storeless { wants_store self.old.side instance ≡ false }
         requires reserved { IsReserved 4 self.old.side self.old.log }
         ensures step { GoesInStep A.behaviour self.old.side self.old.log

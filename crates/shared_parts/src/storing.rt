@@ -1,7 +1,7 @@
 //! Turns over the storage, each of them with its entry.
 
 ghost use Rattle.std.specs.Prelude.{◌≡◌, ◌<◌, ◌^◌, ◌++◌, length, slice_set, true};
-ghost use Rattle.tee_base.specs.declared.limits.TheConstants.{MAX_HOSTS};
+ghost use Rattle.tee_base.specs.declared.limits.TheConstants.{MAX_HOSTS, MAX_NUMBER};
 ghost use Rattle.alone.specs.Logs.{Adds};
 ghost use Rattle.alone.specs.Machine.{Machine};
 ghost use Rattle.app_side.specs.Represents.{event_of, is_lost, turns_of};
@@ -28,7 +28,7 @@ fn turn_over<V: Volume, A: Application>(
     client: u8,
     instance: u8,
 ) -> TurnKind
-    requires few { turns_of recorded.old.side < 2 ^ 63 }
+    requires few { turns_of recorded.old.side < MAX_NUMBER }
     requires region { app < MAX_HOSTS }
     requires loss { is_lost recorded.old.side ≡ (V.keeper.condition volume.old).lost }
     requires reserved { IsReserved 3 recorded.old.side recorded.old.log }
@@ -82,7 +82,7 @@ impl<V: Volume, A: Application> Storage<V, A> {
         instance: u8,
     ) -> TurnKind
         requires there { app < length self.old.parts }
-        requires few { turns_of recorded.old.side < 2 ^ 63 }
+        requires few { turns_of recorded.old.side < MAX_NUMBER }
         requires loss { is_lost recorded.old.side ≡ true → is_lost_at self.old.trail ≡ true }
         requires reserved { IsReserved 4 recorded.old.side recorded.old.log }
         requires known { IsMarked V.keeper (first_of self.old.trail)
@@ -114,7 +114,7 @@ impl<V: Volume, A: Application> Storage<V, A> {
         instance: u8,
     ) -> TurnKind
         requires there { app < length self.old.parts }
-        requires few { turns_of recorded.old.side < 2 ^ 63 }
+        requires few { turns_of recorded.old.side < MAX_NUMBER }
         requires loss { is_lost recorded.old.side ≡ is_lost_at self.old.trail }
         requires reserved { IsReserved 3 recorded.old.side recorded.old.log }
         requires known { IsMarked V.keeper (first_of self.old.trail)

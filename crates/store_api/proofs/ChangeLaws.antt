@@ -10,7 +10,7 @@ use Rattle.store_api.specs.declared.answer.StoreAnswer.{StoreAnswer}
 use Rattle.store_api.specs.declared.answer.StoreAnswer.TheVariants.{Exists, NoSpace}
 use Rattle.store_api.specs.declared.change.Change.{Change}
 use Rattle.store_api.specs.declared.change.Change.TheVariants.{Put, Delete, Rename, Write, Truncate}
-use Rattle.store_api.specs.Stores.{Store, object_at, has, cost, quota, with_object, within_quota, written, resized, change}
+use Rattle.store_api.specs.Stores.{Store, object_at, has, cost, quota, with_object, within_quota, write_at, resize, change}
 use Rattle.store_api.specs.Limits.{IsIdentifier, IsWithinLimits}
 use Rattle.store_api.specs.Laws.{KeepsLimits, LeavesOthers}
 use Rattle.store_api.proofs.Costs.{by_bytes, tied_same, equal, inserted, removed, limits-insert, limits-remove}
@@ -53,13 +53,13 @@ keeps_limits m (Rename id to) limits h =
     of_object IsWithinLimits (object_at m id) (λ o. cond (has m to) (Err Exists) (Ok (finite.remove (finite.insert m to o) id)))
     (λ o here. unless IsWithinLimits (has m to) (Ok (finite.remove (finite.insert m to o) id)) (paid IsWithinLimits (finite.remove (finite.insert m to o) id) (renamed m id to o limits h.1 here)))
 keeps_limits m (Write id at bytes) limits h =
-    of_object IsWithinLimits (object_at m id) (λ o. Ok (finite.insert m id (record o { content = written o.content at bytes })))
-    (λ o here. paid IsWithinLimits (finite.insert m id (record o { content = written o.content at bytes }))
-    (limits-insert m id (record o { content = written o.content at bytes }) limits h.0 (limits.secrets id o here)))
+    of_object IsWithinLimits (object_at m id) (λ o. Ok (finite.insert m id (record o { content = write_at o.content at bytes })))
+    (λ o here. paid IsWithinLimits (finite.insert m id (record o { content = write_at o.content at bytes }))
+    (limits-insert m id (record o { content = write_at o.content at bytes }) limits h.0 (limits.secrets id o here)))
 keeps_limits m (Truncate id n) limits h =
-    of_object IsWithinLimits (object_at m id) (λ o. Ok (finite.insert m id (record o { content = resized n o.content })))
-    (λ o here. paid IsWithinLimits (finite.insert m id (record o { content = resized n o.content }))
-    (limits-insert m id (record o { content = resized n o.content }) limits h (limits.secrets id o here)))
+    of_object IsWithinLimits (object_at m id) (λ o. Ok (finite.insert m id (record o { content = resize n o.content })))
+    (λ o here. paid IsWithinLimits (finite.insert m id (record o { content = resize n o.content }))
+    (limits-insert m id (record o { content = resize n o.content }) limits h (limits.secrets id o here)))
 
 apart : (q k : List ℕ) → q ≢ k → eq_by_cmp by_bytes q k ≡ false
 apart q k differs =
@@ -87,9 +87,9 @@ leaves_others m (Rename id to) q other =
     (λ fits. beside_removed (finite.insert m to o) id q (λ e. other (inl e)) ∙ beside_inserted m to q o (λ e. other (inr e)))))
 leaves_others m (Write id at bytes) q other =
     let P : Store → Type 0 = λ after. object_at after q ≡ object_at m q in
-    of_object P (object_at m id) (λ o. Ok (finite.insert m id (record o { content = written o.content at bytes })))
-    (λ o here. paid P (finite.insert m id (record o { content = written o.content at bytes })) (λ fits. beside_inserted m id q (record o { content = written o.content at bytes }) other))
+    of_object P (object_at m id) (λ o. Ok (finite.insert m id (record o { content = write_at o.content at bytes })))
+    (λ o here. paid P (finite.insert m id (record o { content = write_at o.content at bytes })) (λ fits. beside_inserted m id q (record o { content = write_at o.content at bytes }) other))
 leaves_others m (Truncate id n) q other =
     let P : Store → Type 0 = λ after. object_at after q ≡ object_at m q in
-    of_object P (object_at m id) (λ o. Ok (finite.insert m id (record o { content = resized n o.content })))
-    (λ o here. paid P (finite.insert m id (record o { content = resized n o.content })) (λ fits. beside_inserted m id q (record o { content = resized n o.content }) other))
+    of_object P (object_at m id) (λ o. Ok (finite.insert m id (record o { content = resize n o.content })))
+    (λ o here. paid P (finite.insert m id (record o { content = resize n o.content })) (λ fits. beside_inserted m id q (record o { content = resize n o.content }) other))

@@ -16,7 +16,7 @@ use Rattle.std.specs.FinMap.Entries as at_keys
 use Rattle.tee_base.specs.declared.limits.TheConstants.{MAX_CONTENT_BYTES}
 use Rattle.store_api.specs.declared.object.Object.{Object}
 use Rattle.store_api.specs.Stores.{Store, object_at, cost, quota, blocks_for}
-use Rattle.store_api.specs.Objects.{named, store_of, AreKept}
+use Rattle.store_api.specs.Objects.{by_identifier, store_of, AreKept}
 use Rattle.store_api.specs.Limits.{IsIdentifier, IsWithinLimits}
 use Rattle.store_api.proofs.Costs.{by_bytes, Entries, others, keeps, below_tied, first, second, equal, entries-remove, blocks, blocks_at_most, limits-insert, limits-remove, limits-moved}
 
@@ -30,57 +30,57 @@ vec_order x y = by_bytes x.items y.items
 abbrev pub is_here : List ℕ → Vec ℕ → Bool
 is_here id = is_at (λ k. by_bytes id k.items)
 
-named-insert : (es : Kept) (k : Vec ℕ) (v : Object) → named (insert_entry vec_order es k v) ≡ finite.put by_bytes k.items v (named es)
+named-insert : (es : Kept) (k : Vec ℕ) (v : Object) → by_identifier (insert_entry vec_order es k v) ≡ finite.put by_bytes k.items v (by_identifier es)
 named-insert [] k v = refl
 named-insert (e ∷ es) k v =
-    elim (by_bytes k.items e.0.items) as (λ r. named (match_ordering r ((k, v) ∷ e ∷ es) ((e.0, v) ∷ es) (e ∷ insert_entry vec_order es k v)) ≡ at_keys.by_order r
-    ((k.items, v) ∷ named (e ∷ es)) ((e.0.items, v) ∷ named es) ((e.0.items, e.1) ∷ finite.put by_bytes k.items v (named es))) [
+    elim (by_bytes k.items e.0.items) as (λ r. by_identifier (match_ordering r ((k, v) ∷ e ∷ es) ((e.0, v) ∷ es) (e ∷ insert_entry vec_order es k v)) ≡ at_keys.by_order r
+    ((k.items, v) ∷ by_identifier (e ∷ es)) ((e.0.items, v) ∷ by_identifier es) ((e.0.items, e.1) ∷ finite.put by_bytes k.items v (by_identifier es))) [
       | Less ↦ refl
       | Equal ↦ refl
       | Greater ↦ ap (λ (l : Entries). (e.0.items, e.1) ∷ l) (named-insert es k v)
     ]
 
-named-remove : (es : Kept) (id : List ℕ) → T (finite.is_sorted by_bytes (named es)) → named (remove_entry (is_here id) es) ≡ others id (named es)
+named-remove : (es : Kept) (id : List ℕ) → T (finite.is_sorted by_bytes (by_identifier es)) → by_identifier (remove_entry (is_here id) es) ≡ others id (by_identifier es)
 named-remove [] id h = refl
 named-remove (e ∷ es) id h =
-    elim (is_eq (by_bytes id e.0.items)) as (λ b. is_eq (by_bytes id e.0.items) ≡ b → named (cond b es (e ∷ remove_entry (is_here id) es)) ≡ cond (not b)
-    ((e.0.items, e.1) ∷ others id (named es)) (others id (named es))) [
-      | true ↦ λ t. sym (keeps id (named es) (below_tied id e.0.items (named es) (equal _ t) (first _ _ h)))
+    elim (is_eq (by_bytes id e.0.items)) as (λ b. is_eq (by_bytes id e.0.items) ≡ b → by_identifier (cond b es (e ∷ remove_entry (is_here id) es)) ≡ cond (not b)
+    ((e.0.items, e.1) ∷ others id (by_identifier es)) (others id (by_identifier es))) [
+      | true ↦ λ t. sym (keeps id (by_identifier es) (below_tied id e.0.items (by_identifier es) (equal _ t) (first _ _ h)))
       | false ↦ λ t. ap (λ (l : Entries). (e.0.items, e.1) ∷ l) (named-remove es id (second _ _ h))
     ] refl
 
-lookup-named : (es : Kept) (id : List ℕ) → lookup (is_here id) es ≡ finite.find by_bytes id (named es)
+lookup-named : (es : Kept) (id : List ℕ) → lookup (is_here id) es ≡ finite.find by_bytes id (by_identifier es)
 lookup-named [] id = refl
 lookup-named (e ∷ es) id = ap (cond (is_eq (by_bytes id e.0.items)) (Some e.1)) (lookup-named es id)
 
 -- what the map has at an identifier is what the store has there
-pub lookup_is : (es : Kept) (id : List ℕ) → T (finite.is_sorted by_bytes (named es)) → lookup (is_here id) es ≡ object_at (store_of es) id
-lookup_is es id h = lookup-named es id ∙ sym (finite.get-from_sorted by_bytes (named es) id h)
+pub lookup_is : (es : Kept) (id : List ℕ) → T (finite.is_sorted by_bytes (by_identifier es)) → lookup (is_here id) es ≡ object_at (store_of es) id
+lookup_is es id h = lookup-named es id ∙ sym (finite.get-from_sorted by_bytes (by_identifier es) id h)
 
-pub insert_sorted : (es : Kept) (k : Vec ℕ) (v : Object) → T (finite.is_sorted by_bytes (named es)) → T (finite.is_sorted by_bytes (named (insert_entry vec_order es k v)))
-insert_sorted es k v h = subst (λ l. T (finite.is_sorted by_bytes l)) (sym (named-insert es k v)) (at_keys.is_sorted-put by_bytes nat_list_cmp_total k.items v (named es) h)
+pub insert_sorted : (es : Kept) (k : Vec ℕ) (v : Object) → T (finite.is_sorted by_bytes (by_identifier es)) → T (finite.is_sorted by_bytes (by_identifier (insert_entry vec_order es k v)))
+insert_sorted es k v h = subst (λ l. T (finite.is_sorted by_bytes l)) (sym (named-insert es k v)) (at_keys.is_sorted-put by_bytes nat_list_cmp_total k.items v (by_identifier es) h)
 
-pub remove_sorted : (es : Kept) (id : List ℕ) → T (finite.is_sorted by_bytes (named es)) → T (finite.is_sorted by_bytes (named (remove_entry (is_here id) es)))
-remove_sorted es id h = subst (λ l. T (finite.is_sorted by_bytes l)) (sym (named-remove es id h)) (at_keys.is_sorted-where_key by_bytes _ (named es) h)
+pub remove_sorted : (es : Kept) (id : List ℕ) → T (finite.is_sorted by_bytes (by_identifier es)) → T (finite.is_sorted by_bytes (by_identifier (remove_entry (is_here id) es)))
+remove_sorted es id h = subst (λ l. T (finite.is_sorted by_bytes l)) (sym (named-remove es id h)) (at_keys.is_sorted-where_key by_bytes _ (by_identifier es) h)
 
 -- an insertion into the map is one into the store
-pub insert_is : (es : Kept) (k : Vec ℕ) (v : Object) → T (finite.is_sorted by_bytes (named es)) → store_of (insert_entry vec_order es k v) ≡ finite.insert (store_of es) k.items v
+pub insert_is : (es : Kept) (k : Vec ℕ) (v : Object) → T (finite.is_sorted by_bytes (by_identifier es)) → store_of (insert_entry vec_order es k v) ≡ finite.insert (store_of es) k.items v
 insert_is es k v h =
     ap finite.from_sorted (named-insert es k v)
-    ∙ finite.same_entries_map (finite.from_sorted (finite.put by_bytes k.items v (named es))) (finite.insert (store_of es) k.items v)
-    (finite.entries-from_sorted by_bytes (finite.put by_bytes k.items v (named es)) (at_keys.is_sorted-put by_bytes nat_list_cmp_total k.items v (named es) h)
-    ∙ ap (finite.put by_bytes k.items v) (sym (finite.entries-from_sorted by_bytes (named es) h)) ∙ sym (finite.entries-insert nat_list_cmp_total (store_of es) k.items v))
+    ∙ finite.same_entries_map (finite.from_sorted (finite.put by_bytes k.items v (by_identifier es))) (finite.insert (store_of es) k.items v)
+    (finite.entries-from_sorted by_bytes (finite.put by_bytes k.items v (by_identifier es)) (at_keys.is_sorted-put by_bytes nat_list_cmp_total k.items v (by_identifier es) h)
+    ∙ ap (finite.put by_bytes k.items v) (sym (finite.entries-from_sorted by_bytes (by_identifier es) h)) ∙ sym (finite.entries-insert nat_list_cmp_total (store_of es) k.items v))
 
 -- a removal from the map is one from the store
-pub remove_is : (es : Kept) (id : List ℕ) → T (finite.is_sorted by_bytes (named es)) → store_of (remove_entry (is_here id) es) ≡ finite.remove (store_of es) id
+pub remove_is : (es : Kept) (id : List ℕ) → T (finite.is_sorted by_bytes (by_identifier es)) → store_of (remove_entry (is_here id) es) ≡ finite.remove (store_of es) id
 remove_is es id h =
     ap finite.from_sorted (named-remove es id h)
-    ∙ finite.same_entries_map (finite.from_sorted (others id (named es))) (finite.remove (store_of es) id)
-    (finite.entries-from_sorted by_bytes (others id (named es)) (at_keys.is_sorted-where_key by_bytes _ (named es) h)
-    ∙ ap (others id) (sym (finite.entries-from_sorted by_bytes (named es) h)) ∙ sym (entries-remove (store_of es) id))
+    ∙ finite.same_entries_map (finite.from_sorted (others id (by_identifier es))) (finite.remove (store_of es) id)
+    (finite.entries-from_sorted by_bytes (others id (by_identifier es)) (at_keys.is_sorted-where_key by_bytes _ (by_identifier es) h)
+    ∙ ap (others id) (sym (finite.entries-from_sorted by_bytes (by_identifier es) h)) ∙ sym (entries-remove (store_of es) id))
 
-pub entries_are : (es : Kept) → T (finite.is_sorted by_bytes (named es)) → finite.entries (store_of es) ≡ named es
-entries_are es h = finite.entries-from_sorted by_bytes (named es) h
+pub entries_are : (es : Kept) → T (finite.is_sorted by_bytes (by_identifier es)) → finite.entries (store_of es) ≡ by_identifier es
+entries_are es h = finite.entries-from_sorted by_bytes (by_identifier es) h
 
 -- with no entries there is nothing
 pub nothing_is : store_of [] ≡ finite.empty
@@ -126,7 +126,7 @@ are_inserted es new k id v m used after kept is_m is_id is_new named_so short pa
     let limits = subst IsWithinLimits is_m kept.limits in
     record {
       kept = record {
-        sorted = subst (λ (l : Kept). T (finite.is_sorted by_bytes (named l))) (sym is_new) (insert_sorted es k v kept.sorted);
+        sorted = subst (λ (l : Kept). T (finite.is_sorted by_bytes (by_identifier l))) (sym is_new) (insert_sorted es k v kept.sorted);
         paid = is_after ∙ ap cost (sym is);
         limits = subst IsWithinLimits (sym is) (limits-insert m id v limits named_so short paid);
       };
@@ -140,7 +140,7 @@ are_removed es new id m used after kept is_m is_new is_after =
     let limits = subst IsWithinLimits is_m kept.limits in
     record {
       kept = record {
-        sorted = subst (λ (l : Kept). T (finite.is_sorted by_bytes (named l))) (sym is_new) (remove_sorted es id kept.sorted);
+        sorted = subst (λ (l : Kept). T (finite.is_sorted by_bytes (by_identifier l))) (sym is_new) (remove_sorted es id kept.sorted);
         paid = is_after ∙ ap cost (sym is);
         limits = subst IsWithinLimits (sym is) (limits-remove m id limits);
       };
@@ -148,10 +148,11 @@ are_removed es new id m used after kept is_m is_new is_after =
     }
 
 -- the first entry of the map that passes is the first of the store
-find-named : (p : List ℕ → Bool) (es : Kept) → option_map (λ (e : Vec ℕ × Object). (e.0.items, e.1)) (find (λ e. p e.0.items) es) ≡ find (λ e. p e.0) (named es)
+find-named : (p : List ℕ → Bool) (es : Kept) → option_map (λ (e : Vec ℕ × Object). (e.0.items, e.1)) (find (λ e. p e.0.items) es) ≡ find (λ e. p e.0) (by_identifier es)
 find-named p [] = refl
 find-named p (e ∷ es) =
-    elim (p e.0.items) as (λ b. option_map (λ (e : Vec ℕ × Object). (e.0.items, e.1)) (cond b (Some e) (find (λ e. p e.0.items) es)) ≡ cond b (Some (e.0.items, e.1)) (find (λ e. p e.0) (named es))) [
+    elim (p e.0.items) as (λ b. option_map (λ (e : Vec ℕ × Object). (e.0.items, e.1)) (cond b (Some e) (find (λ e. p e.0.items) es))
+    ≡ cond b (Some (e.0.items, e.1)) (find (λ e. p e.0) (by_identifier es))) [
       | true ↦ refl
       | false ↦ find-named p es
     ]
@@ -162,12 +163,12 @@ pub are_moved : (es mid new : Kept) (key : Vec ℕ) (id to : List ℕ) (v : Obje
 are_moved es mid new key id to v m used kept is_m is_to is_mid is_new named_so absent here =
     let is_put : store_of mid ≡ finite.insert m to v =
     ap store_of is_mid ∙ insert_is es key v kept.sorted ∙ ap (λ s. finite.insert s key.items v) is_m ∙ ap (λ i. finite.insert m i v) is_to in
-    let mid_sorted = subst (λ (l : Kept). T (finite.is_sorted by_bytes (named l))) (sym is_mid) (insert_sorted es key v kept.sorted) in
+    let mid_sorted = subst (λ (l : Kept). T (finite.is_sorted by_bytes (by_identifier l))) (sym is_mid) (insert_sorted es key v kept.sorted) in
     let is : store_of new ≡ finite.remove (finite.insert m to v) id = ap store_of is_new ∙ remove_is mid id mid_sorted ∙ ap (λ s. finite.remove s id) is_put in
     let limits = limits-moved m id to v (subst IsWithinLimits is_m kept.limits) named_so absent here in
     record {
       kept = record {
-        sorted = subst (λ (l : Kept). T (finite.is_sorted by_bytes (named l))) (sym is_new) (remove_sorted mid id mid_sorted);
+        sorted = subst (λ (l : Kept). T (finite.is_sorted by_bytes (by_identifier l))) (sym is_new) (remove_sorted mid id mid_sorted);
         paid = kept.paid ∙ ap cost is_m ∙ sym limits.0 ∙ ap cost (sym is);
         limits = subst IsWithinLimits (sym is) limits.1;
       };
@@ -175,7 +176,7 @@ are_moved es mid new key id to v m used kept is_m is_to is_mid is_new named_so a
     }
 
 -- the first entry that passes, as the store has it
-pub first_is : (es : Kept) (m : Store) (p : List ℕ → Bool) → T (finite.is_sorted by_bytes (named es)) → store_of es ≡ m →
+pub first_is : (es : Kept) (m : Store) (p : List ℕ → Bool) → T (finite.is_sorted by_bytes (by_identifier es)) → store_of es ≡ m →
     option_map (λ (e : Vec ℕ × Object). (e.0.items, e.1)) (find (λ e. p e.0.items) es) ≡ find (λ e. p e.0) (finite.entries m)
 first_is es m p sorted is_m = find-named p es ∙ ap (λ (l : Entries). find (λ e. p e.0) l) (sym (entries_are es sorted) ∙ ap finite.entries is_m)
 

@@ -8,6 +8,7 @@ use Rattle.store_api.specs.declared.change.Change.{Change}
 use Rattle.store_api.specs.Foundations.{Foundation}
 use Rattle.store_api.specs.Limits.{IsWithinLimits}
 use Rattle.store_api.specs.Stores.{Store, change}
+use Rattle.tee_base.specs.Words.{Leaves}
 
 -- a call answers what is stated, if it isn't kept from it: want of memory, a loss, a failure or damage may come instead
 abbrev pub Answers : {A : Type 0} → Result A StoreAnswer → Result A StoreAnswer → Type 0
@@ -69,7 +70,7 @@ IsIntact result = TellsDamage result (λ answer. ⊥)
 
 -- all that a volume keeps beside one store: the leaves of the other regions, by region and leaf number
 pub record Rest : Type 0 where
-  pub leaves : ℕ → ℕ → List ℕ
+  pub leaves : Leaves
 
 -- what a keeper keeps: the store, the rest, and a number that rises with the changes, which a crash leaves too
 pub record Contents : Type 0 where

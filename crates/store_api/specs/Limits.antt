@@ -7,9 +7,10 @@ use Rattle.store_api.specs.declared.object.Listed.{Listed}
 use Rattle.store_api.specs.declared.change.Change.{Change}
 use Rattle.store_api.specs.declared.change.Change.TheVariants.{Put, Delete, Rename, Write, Truncate}
 use Rattle.store_api.specs.Stores.{Store, object_at, cost, quota}
+use Rattle.tee_base.specs.Words.{Identifier}
 
 -- bytes that may name an object
-abbrev pub IsIdentifier : List ℕ → Type 0
+abbrev pub IsIdentifier : Identifier → Type 0
 IsIdentifier id = length id ≤ MAX_IDENTIFIER_BYTES
 
 -- bytes that may be an object's secret
@@ -31,8 +32,8 @@ IsListed listed = IsIdentifier listed.id × AreFacts listed.facts
 -- each identifier and each secret is within its limit, and the cost within the quota
 pub record IsWithinLimits (store : Store) : Type 0 where
   pub paid : cost store ≤ quota
-  pub identifiers : (id : List ℕ) (o : Object) → object_at store id ≡ Some o → IsIdentifier id
-  pub secrets : (id : List ℕ) (o : Object) → object_at store id ≡ Some o → IsSecret o.secret
+  pub identifiers : (id : Identifier) (o : Object) → object_at store id ≡ Some o → IsIdentifier id
+  pub secrets : (id : Identifier) (o : Object) → object_at store id ≡ Some o → IsSecret o.secret
 
 -- what a caller has to see to before a change
 abbrev pub IsChange : Change → Type 0

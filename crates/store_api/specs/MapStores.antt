@@ -1,7 +1,7 @@
 -- A store in memory: which of its calls fail, and what a crash may leave of it.
 use Rattle.std.specs.Prelude.{ℕ, ◌≡◌, ◌≤◌, ◌⊎◌, ◌↔◌, Bool, true, false, List, [], ◌∷◌, Some, Result, Ok, Err, IsErrOf, Contains, refl, length}
 use Rattle.std.specs.Coded.{Coded, code_by, coded×, coded_ℕ, coded_list, coded_bool}
-use Rattle.tee_base.specs.Fakes.{Plan, opening_plan, called}
+use Rattle.tee_base.specs.Fakes.{Plan, opening_plan, plan_after_call}
 use Rattle.store_api.specs.declared.answer.StoreAnswer.{StoreAnswer}
 use Rattle.store_api.specs.declared.answer.StoreAnswer.TheVariants.{Lost, Failed, Corrupt, Garbled}
 use Rattle.store_api.specs.Foundations.{no_foundation}
@@ -78,8 +78,8 @@ map_keeper = record {
 -- the plan after a call: a call that is made is counted, and one that failed counts as a fault; a lost store makes none
 abbrev pub plan_after : {A : Type 0} → Result A StoreAnswer → Plan → Plan
 plan_after (Err Lost) plan = plan
-plan_after (Err Failed) plan = called true plan
-plan_after _ plan = called false plan
+plan_after (Err Failed) plan = plan_after_call true plan
+plan_after _ plan = plan_after_call false plan
 
 -- a call fails exactly where its number is among those that are to fail
 abbrev pub FailsAsPlanned : {A : Type 0} → Result A StoreAnswer → MapState → Type 0
@@ -95,7 +95,7 @@ IsOwn _ = Unit {0}
 
 -- how a call begins: it is made, or it is one that is to fail, or the store is lost
 abbrev pub Begins : {A : Type 0} → Result A StoreAnswer → MapState → MapState → Type 0
-Begins (Ok done) old new = (old.lost ≡ false) × ¬ (Contains old.plan.failing old.plan.calls) × (new ≡ record old { plan = called false old.plan })
-Begins (Err Failed) old new = (old.lost ≡ false) × Contains old.plan.failing old.plan.calls × (new ≡ record old { plan = called true old.plan; lost = true })
+Begins (Ok done) old new = (old.lost ≡ false) × ¬ (Contains old.plan.failing old.plan.calls) × (new ≡ record old { plan = plan_after_call false old.plan })
+Begins (Err Failed) old new = (old.lost ≡ false) × Contains old.plan.failing old.plan.calls × (new ≡ record old { plan = plan_after_call true old.plan; lost = true })
 Begins (Err Lost) old new = (old.lost ≡ true) × (new ≡ old)
 Begins (Err _) old new = ⊥

@@ -11,16 +11,16 @@ use Rattle.store_api.specs.Stores.{Store, cost, blocks_for}
 use Rattle.store_api.specs.Limits.{IsWithinLimits}
 
 -- the entries under the bytes of their identifiers
-abbrev pub named : List (Vec ℕ × Object) → List (List ℕ × Object)
-named entries = map (λ e. (e.0.items, e.1)) entries
+abbrev pub by_identifier : List (Vec ℕ × Object) → List (List ℕ × Object)
+by_identifier entries = map (λ e. (e.0.items, e.1)) entries
 
 -- the store that these entries are, in ascending order of their identifiers
 abbrev pub store_of : List (Vec ℕ × Object) → Store
-store_of entries = finite.from_sorted (named entries)
+store_of entries = finite.from_sorted (by_identifier entries)
 
 -- the identifiers ascend, what the objects cost is noted, and all is within the limits
 pub record AreKept (entries : List (Vec ℕ × Object)) (used : ℕ) : Type 0 where
-  pub sorted : T (finite.is_sorted (slice_cmp nat_cmp) (named entries))
+  pub sorted : T (finite.is_sorted (slice_cmp nat_cmp) (by_identifier entries))
   pub paid : used ≡ cost (store_of entries)
   pub limits : IsWithinLimits (store_of entries)
 

@@ -7,12 +7,13 @@ use Rattle.store_api.specs.declared.leaves.Leaf.{Leaf}
 use Rattle.store_api.specs.declared.leaves.LeafAnswer.{LeafAnswer}
 use Rattle.store_api.specs.declared.leaves.LeafAnswer.TheVariants as answers
 use Rattle.store_api.specs.Foundations.{Foundation}
+use Rattle.tee_base.specs.Words.{Leaves, Sequence}
 
 -- what a volume holds: the bytes of each leaf by region and leaf number, the sequence of the last acknowledged commit, and the version
 -- of the format, which says what the leaves of a region stand for
 pub record Held : Type 0 where
-  pub leaves : ℕ → ℕ → List ℕ
-  pub sequence : ℕ
+  pub leaves : Leaves
+  pub sequence : Sequence
   pub version : ℕ
 
 -- what is known of a volume whatever it stands on: whether it is lost, how often what it stands on failed, how many writes were made to
@@ -85,12 +86,12 @@ leaf_after [] number old = old
 leaf_after (leaf ∷ leaves) number old = if leaf.number == number then leaf.bytes else leaf_after leaves number old
 
 -- just the named leaves of a region replaced
-abbrev pub replaced : ℕ → List Leaf → (ℕ → ℕ → List ℕ) → ℕ → ℕ → List ℕ
-replaced region named leaves r l = if r == region then leaf_after named l (leaves r l) else leaves r l
+abbrev pub with_named_leaves : ℕ → List Leaf → Leaves → ℕ → ℕ → List ℕ
+with_named_leaves region named leaves r l = if r == region then leaf_after named l (leaves r l) else leaves r l
 
 -- what a volume holds after a commit: the version stays
 abbrev pub after_commit : ℕ → List Leaf → Held → Held
-after_commit region named held = record { leaves = replaced region named held.leaves; sequence = held.sequence + 1; version = held.version }
+after_commit region named held = record { leaves = with_named_leaves region named held.leaves; sequence = held.sequence + 1; version = held.version }
 
 -- what a commit answers and leaves
 abbrev pub Commits : Result ℕ LeafAnswer → ℕ → List Leaf → Held → Held → Type 0

@@ -6,7 +6,7 @@ ghost use Rattle.store_api.specs.declared.object.Object.{Object as Kept};
 ghost use Rattle.store_api.specs.declared.change.Change.TheVariants.{Put, Delete, Rename, Write, Truncate};
 ghost use Rattle.store_api.specs.Limits.{IsIdentifier, IsChange, IsSecret, IsWithinLimits};
 ghost use Rattle.store_api.specs.Objects.{Changes, blocks_at};
-ghost use Rattle.store_api.specs.Stores.{empty_store, object_at, blocks_for, cost, quota, resized, written as written_of, is_after as is_after_of, change as change_of};
+ghost use Rattle.store_api.specs.Stores.{empty_store, object_at, blocks_for, cost, quota, resize, write_at as written_of, is_after as is_after_of, change as change_of};
 ghost use Rattle.tee_base.specs.declared.limits.TheConstants.{MAX_CONTENT_BYTES};
 
 use crate::answer::StoreAnswer;
@@ -27,7 +27,7 @@ fn blocks_of(bytes: usize) -> usize
 
 /// The first bytes of some content, filled by zeros.
 fn resized_to(alloc: Global, bytes: usize, content: &[u8]) -> Result<Vec<u8>, AllocError>
-    ensures { IfOk result (λ v. v.items ≡ resized bytes content.now) }
+    ensures { IfOk result (λ v. v.items ≡ resize bytes content.now) }
 {
     let mut resized = Vec::from_slice(alloc, &content[..content.len().min(bytes)])?;
     resized.resize(bytes, 0)?;

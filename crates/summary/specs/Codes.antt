@@ -9,6 +9,7 @@ use Rattle.std.specs.Ordering.{nat_cmp}
 use Rattle.std.specs.Int.{w32, from_be_bytes}
 use Rattle.hex.specs.Hex.{decode_sized}
 use Rattle.hex.specs.declared.error.FromHexError.{FromHexError}
+use Rattle.tee_base.specs.Words.{Text}
 
 -- ---- lines
 
@@ -33,7 +34,7 @@ third (name ∷ op ∷ []) = None
 third (name ∷ op ∷ code ∷ more) = code_of code
 
 -- the code in a line
-abbrev pub code_in : List ℕ → Option ℕ
+abbrev pub code_in : Text → Option ℕ
 code_in line = third (slice_split (λ c. c == 32) line)
 
 -- the codes in lines, in order
@@ -41,7 +42,7 @@ abbrev pub codes_in : List (List ℕ) → List ℕ
 codes_in lines = filter_map code_in lines
 
 -- whether a line begins with this text
-abbrev pub begins_with : List ℕ → List ℕ → Bool
+abbrev pub begins_with : List ℕ → Text → Bool
 begins_with front line = starts_with (λ a b. a == b) line front
 
 -- ---- counts

@@ -7,28 +7,29 @@ use Rattle.mac_digest.specs.Digester.{HoldsMessage}
 use Rattle.mac_digest.specs.Hash.{digest_of}
 use Rattle.summary.specs.Codes.{IsTally, begins_with, codes_in}
 use Rattle.summary.specs.declared.cut.Cut.{Cut}
+use Rattle.tee_base.specs.Words.{Text}
 
 -- no line feed is in the line
-abbrev pub IsOneLine : List ℕ → Type 0
+abbrev pub IsOneLine : Text → Type 0
 IsOneLine line = AllByRecursion (λ c. (c == 10) ≡ false) line
 
 -- lines, a line feed behind each
-abbrev pub fed : List (List ℕ) → List ℕ
-fed lines = flat_map (λ line. line ++ codes "\n") lines
+abbrev pub with_line_feeds : List (List ℕ) → List ℕ
+with_line_feeds lines = flat_map (λ line. line ++ codes "\n") lines
 
 -- a text is these lines, none of which is the board's, and then what stands behind its last line feed
-pub record HasLines (text : List ℕ) (lines : List (List ℕ)) (rest : List ℕ) : Type 0 where
-  pub all : text ≡ fed lines ++ rest
+pub record HasLines (text : Text) (lines : List (List ℕ)) (rest : List ℕ) : Type 0 where
+  pub all : text ≡ with_line_feeds lines ++ rest
   pub each : AllByRecursion IsOneLine lines
   pub last : IsOneLine rest
   pub own : AllByRecursion (λ line. begins_with (codes "board ") line ≡ false) lines
 
 -- the whole lines of the text were hashed and their codes counted; the last line isn't whole
-pub record IsSummed (text line : List ℕ) (counts : List (ℕ × ℕ)) (digester : Digester) : Type 0 where
+pub record IsSummed (text line : Text) (counts : List (ℕ × ℕ)) (digester : Digester) : Type 0 where
   pub lines : List (List ℕ)
   pub has : HasLines text lines line
   pub tally : IsTally (codes_in lines) counts
-  pub hashed : HoldsMessage digester Sha256 (fed lines)
+  pub hashed : HoldsMessage digester Sha256 (with_line_feeds lines)
 
 -- the hash of a text, and the counts of the codes in its whole lines, none of which is the board's
 pub record IsSummary (text hash : List ℕ) (counts : List (ℕ × ℕ)) : Type 0 where
@@ -40,6 +41,6 @@ pub record IsSummary (text hash : List ℕ) (counts : List (ℕ × ℕ)) : Type 
 
 -- what a sink shows that sums up: the text so far, why it was cut short, if it was, and how often it failed
 pub record Summing : Type 0 where
-  pub text : List ℕ
+  pub text : Text
   pub cut : Option Cut
   pub faults : ℕ

@@ -1,6 +1,6 @@
 -- Sources and sinks in memory: which of their calls fail.
 use Rattle.std.specs.Prelude.{◌≡◌, ℕ, [], List, Bool, Contains, if◌then◌else◌}
-use Rattle.tee_base.specs.Faults.{counted}
+use Rattle.tee_base.specs.Faults.{one_more}
 
 -- the numbers of the calls that are to fail, how many calls there were, how many failed; the counts stop at their type's end
 pub record Plan : Type 0 where
@@ -13,16 +13,16 @@ abbrev pub opening_plan : List ℕ → Plan
 opening_plan failing = record { failing = failing; calls = 0; faults = 0 }
 
 -- after one more call, which failed or not
-abbrev pub called : Bool → Plan → Plan
-called fails plan = record {
+abbrev pub plan_after_call : Bool → Plan → Plan
+plan_after_call fails plan = record {
   failing = plan.failing;
-  calls = counted plan.calls;
-  faults = if fails then counted plan.faults else plan.faults;
+  calls = one_more plan.calls;
+  faults = if fails then one_more plan.faults else plan.faults;
 }
 
 -- the last call that the plan counted was to fail
 abbrev pub HasJustFailed : Plan → Type 0
-HasJustFailed plan = (n : ℕ) × (plan.calls ≡ counted n) × Contains plan.failing n
+HasJustFailed plan = (n : ℕ) × (plan.calls ≡ one_more n) × Contains plan.failing n
 
 -- a source in memory: the bytes left
 pub record Feed : Type 0 where

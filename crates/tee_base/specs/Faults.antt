@@ -6,12 +6,12 @@ abbrev pub Rose : ℕ → ℕ → Type 0
 Rose before after = (before < after) ⊎ (after ≡ 2 ^ 64 - 1)
 
 -- one more, up to the end of the count's type
-abbrev pub counted : ℕ → ℕ
-counted n = min (n + 1) (2 ^ 64 - 1)
+abbrev pub one_more : ℕ → ℕ
+one_more n = min (n + 1) (2 ^ 64 - 1)
 
 -- the count after a call: a fault is counted exactly at an Err
 abbrev pub faults_after : {A E : Type 0} → Result A E → ℕ → ℕ
-faults_after answer n = if is_err answer then counted n else n
+faults_after answer n = if is_err answer then one_more n else n
 
 -- a write of n bytes took at least one, if there was one
 abbrev pub TakesSome : List ℕ → ℕ → Type 0

@@ -5,3 +5,4 @@ pub mod Faults
 pub mod KeySizes
 pub mod Numbers
 pub mod Transfer
+pub mod Words

@@ -27,8 +27,8 @@ impl Model for Schedule {
 
 impl Schedule {
     ghost use Rattle.std.specs.Prelude.{◌≡◌, ◌≤◌, ◌↔◌, IfOk, IsTrue, Contains};
-    ghost use Rattle.tee_base.specs.Fakes.{HasJustFailed, called, opening_plan};
-    ghost use Rattle.tee_base.specs.Faults.{Rose, counted};
+    ghost use Rattle.tee_base.specs.Fakes.{HasJustFailed, plan_after_call, opening_plan};
+    ghost use Rattle.tee_base.specs.Faults.{Rose, one_more};
 
     /// No calls yet, and those with the numbers in `failing`, counted from 0, will fail.
     pub fn new(alloc: Global, failing: &[u64]) -> Result<Schedule, NoMemory>
@@ -44,7 +44,7 @@ impl Schedule {
     /// Counts the call that begins now, and says whether it fails.
     pub fn fails_now(&mut self) -> bool
         ensures fails { IsTrue result ↔ Contains self.old.failing self.old.calls }
-        ensures after { self.new ≡ called result self.old }
+        ensures after { self.new ≡ plan_after_call result self.old }
         ensures later { self.old.faults ≤ self.new.faults }
         ensures rose { IsTrue result → Rose self.old.faults self.new.faults }
         ensures last { IsTrue result → HasJustFailed self.new }
@@ -65,7 +65,7 @@ impl Schedule {
     }
 
     fn count_fault(&mut self)
-        ensures after { self.new ≡ record self.old { faults = counted self.old.faults } }
+        ensures after { self.new ≡ record self.old { faults = one_more self.old.faults } }
         ensures rose { Rose self.old.faults self.new.faults }
         ensures later { self.old.faults ≤ self.new.faults }
     {
@@ -121,7 +121,7 @@ impl MemSource {
 }
 
 impl Source for MemSource {
-    ghost use Rattle.tee_base.specs.Fakes.{HasJustFailed, called};
+    ghost use Rattle.tee_base.specs.Fakes.{HasJustFailed, plan_after_call};
 
     ghost left = { λ s. Some s.left };
 
@@ -138,7 +138,7 @@ impl Source for MemSource {
         ensures cause { OnErr result (Rose self.old.plan.faults self.new.plan.faults) }
         ensures later { self.old.plan.faults ≤ self.new.plan.faults }
         ensures fails { IsErr result ↔ Contains self.old.plan.failing self.old.plan.calls }
-        ensures plan { self.new.plan ≡ called (is_err result) self.old.plan }
+        ensures plan { self.new.plan ≡ plan_after_call (is_err result) self.old.plan }
     {
         if self.schedule.fails_now() {
             return Err(SourceFailed);
@@ -191,7 +191,7 @@ impl MemSink {
 }
 
 impl Sink for MemSink {
-    ghost use Rattle.tee_base.specs.Fakes.{called};
+    ghost use Rattle.tee_base.specs.Fakes.{plan_after_call};
 
     ghost written = { λ s. Some s.written };
 
@@ -208,7 +208,7 @@ impl Sink for MemSink {
         ensures later { self.old.plan.faults ≤ self.new.plan.faults }
         ensures fails { Contains self.old.plan.failing self.old.plan.calls → IsErr result }
         ensures whole { IfOk result (λ n. n ≡ length piece.now) }
-        ensures plan { self.new.plan ≡ called (is_err result) self.old.plan }
+        ensures plan { self.new.plan ≡ plan_after_call (is_err result) self.old.plan }
     {
         if self.schedule.fails_now() {
             return Err(SinkFailed);

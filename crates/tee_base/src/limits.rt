@@ -60,3 +60,5 @@ pub const MAX_PASS_CALLS: u64 = 1 << 60;
 pub const STORE_SEATS: usize = 16;
 /// Seats of an application's cell.
 pub const APPLICATION_SEATS: usize = 8;
+/// What the numbers of turns and of operations stay below: no run can make so many.
+pub const MAX_NUMBER: u64 = 1 << 63;

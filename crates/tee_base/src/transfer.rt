@@ -2,7 +2,7 @@
 
 ghost use Rattle.std.specs.Prelude.{◌≡◌, ◌≤◌, ◌<◌, ◌+◌, IfOk, IsErrOf, OnErr, OnOk, length};
 ghost use Rattle.std.specs.Io.KnownBytes.{Appends, Consumes, IsAtEnd};
-ghost use Rattle.tee_base.specs.Faults.{Rose, counted};
+ghost use Rattle.tee_base.specs.Faults.{Rose, one_more};
 ghost use Rattle.tee_base.specs.Transfer.{ConsumesWithin, AppendsFront, HasMoreThan};
 
 use crate::bytes::{Bytes, NoMemory};
@@ -41,7 +41,7 @@ pub fn read_all<S: Source>(alloc: Global, source: &mut S, limit: u32) -> Result<
         → Rose (S.failures source.old) (S.failures source.new) }
     // one call failed, and no call was made after it
     ensures once { IsErrOf result ReadAnswer.ReadFault
-        → (S.failures source.new ≡ counted (S.failures source.old)) × S.just_failed source.new }
+        → (S.failures source.new ≡ one_more (S.failures source.old)) × S.just_failed source.new }
     // under every other answer no call failed
     ensures no_fault { ¬ IsErrOf result ReadAnswer.ReadFault
         → S.failures source.new ≡ S.failures source.old }

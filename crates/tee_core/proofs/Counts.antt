@@ -4,7 +4,7 @@ use Rattle.std.specs.Prelude.{slice_get}
 use Rattle.std.proofs.lemmas.Bool.{eqb-true, eqb-false}
 use Rattle.app_api.specs.declared.call.Call.{Call}
 use Rattle.alone.specs.Machine.{Machine}
-use Rattle.alone.specs.Step.{called, cancelled}
+use Rattle.alone.specs.Step.{after_call, after_cancellation}
 use Rattle.alone.proofs.Booted.{call_boots_none, cancellation_boots_none}
 use Rattle.alone.proofs.Counted.{call_counts_none, cancellation_counts_none}
 use Rattle.app_side.specs.Represents.{Represents as Runs_as, boot_of, is_lost, turns_of}
@@ -23,16 +23,16 @@ module _ {A : Type 0} where
   pub same_boot : (old new : AppSide A) → ((m : Machine A) → Runs_as old m → Runs_as new m) → boot_of new ≡ boot_of old
   same_boot old new keeps = sym (ap (λ (x : Machine A). x.boot) (keeps _ (some_machine old)).parts)
 
-  pub called_turns : (old new : AppSide A) (client : ℕ) (call : Call) → ((m : Machine A) → Runs_as old m → Runs_as new (called m client call).machine) → turns_of new ≡ turns_of old
+  pub called_turns : (old new : AppSide A) (client : ℕ) (call : Call) → ((m : Machine A) → Runs_as old m → Runs_as new (after_call m client call).machine) → turns_of new ≡ turns_of old
   called_turns old new client call moves = sym (ap (λ (x : Machine A). x.turns) (moves _ (some_machine old)).parts) ∙ call_counts_none _ client call
 
-  pub called_boot : (old new : AppSide A) (client : ℕ) (call : Call) → ((m : Machine A) → Runs_as old m → Runs_as new (called m client call).machine) → boot_of new ≡ boot_of old
+  pub called_boot : (old new : AppSide A) (client : ℕ) (call : Call) → ((m : Machine A) → Runs_as old m → Runs_as new (after_call m client call).machine) → boot_of new ≡ boot_of old
   called_boot old new client call moves = sym (ap (λ (x : Machine A). x.boot) (moves _ (some_machine old)).parts) ∙ call_boots_none _ client call
 
-  pub cancelled_turns : (old new : AppSide A) (op : ℕ) → ((m : Machine A) → Runs_as old m → Runs_as new (cancelled m op).machine) → turns_of new ≡ turns_of old
+  pub cancelled_turns : (old new : AppSide A) (op : ℕ) → ((m : Machine A) → Runs_as old m → Runs_as new (after_cancellation m op).machine) → turns_of new ≡ turns_of old
   cancelled_turns old new op moves = sym (ap (λ (x : Machine A). x.turns) (moves _ (some_machine old)).parts) ∙ cancellation_counts_none _ op
 
-  pub cancelled_boot : (old new : AppSide A) (op : ℕ) → ((m : Machine A) → Runs_as old m → Runs_as new (cancelled m op).machine) → boot_of new ≡ boot_of old
+  pub cancelled_boot : (old new : AppSide A) (op : ℕ) → ((m : Machine A) → Runs_as old m → Runs_as new (after_cancellation m op).machine) → boot_of new ≡ boot_of old
   cancelled_boot old new op moves = sym (ap (λ (x : Machine A). x.boot) (moves _ (some_machine old)).parts) ∙ cancellation_boots_none _ op
 
   -- ---- of all of them, where one at a place is replaced

@@ -5,7 +5,7 @@ use Rattle.std.specs.Prelude.{slice_get}
 use Rattle.alone.proofs.Storage.{call_leaves_storage, cancellation_leaves_storage}
 use Rattle.alone.specs.Laws.{StorageStays}
 use Rattle.alone.specs.Machine.{Machine}
-use Rattle.alone.specs.Step.{Called, Cancelled, called, cancelled}
+use Rattle.alone.specs.Step.{Called, Cancelled, after_call, after_cancellation}
 use Rattle.app_api.specs.declared.call.Call.{Call}
 use Rattle.app_side.specs.Represents.{Represents as Runs_as}
 use Rattle.app_side.specs.declared.side.AppSide.{AppSide}
@@ -33,23 +33,23 @@ module _ {V A : Type 0} (K : VolumeKeeper V) (behaviour : Behaviour A) where
 
   -- a call
   pub stand_called : (sides : List (AppSide A)) (volume : V) (world : World A) (app client : ℕ) (call : Call) (old d after : AppSide A) → app < length sides → old ≡ get_or sides app d
-      → ((m : Machine A) → Runs_as old m → Runs_as after (called m client call).machine)
+      → ((m : Machine A) → Runs_as old m → Runs_as after (after_call m client call).machine)
       → StandFor K sides volume world → StandFor K (set sides app after) volume (world_step behaviour world (record { app = app; event = Called client call }))
   stand_called sides volume world app client call old d after lt value moves whole =
       let p = side_at sides world app whole.sides_are lt in
       let stands : Runs_as old p.0 = side_here sides world app old d p.0 whole.sides_are lt value p.1 in
       subst (λ (o : Option (Machine A)). StandFor K (set sides app after) volume (moved_at behaviour world app (Called client call) o)) (sym p.1)
-      (stand_moved sides volume world app p.0 (called p.0 client call).machine after p.1 (moves p.0 stands) (call_leaves_storage p.0 client call) whole)
+      (stand_moved sides volume world app p.0 (after_call p.0 client call).machine after p.1 (moves p.0 stands) (call_leaves_storage p.0 client call) whole)
 
   -- a cancellation
   pub stand_cancelled : (sides : List (AppSide A)) (volume : V) (world : World A) (app op : ℕ) (old d after : AppSide A) → app < length sides → old ≡ get_or sides app d
-      → ((m : Machine A) → Runs_as old m → Runs_as after (cancelled m op).machine)
+      → ((m : Machine A) → Runs_as old m → Runs_as after (after_cancellation m op).machine)
       → StandFor K sides volume world → StandFor K (set sides app after) volume (world_step behaviour world (record { app = app; event = Cancelled op }))
   stand_cancelled sides volume world app op old d after lt value moves whole =
       let p = side_at sides world app whole.sides_are lt in
       let stands : Runs_as old p.0 = side_here sides world app old d p.0 whole.sides_are lt value p.1 in
       subst (λ (o : Option (Machine A)). StandFor K (set sides app after) volume (moved_at behaviour world app (Cancelled op) o)) (sym p.1)
-      (stand_moved sides volume world app p.0 (cancelled p.0 op).machine after p.1 (moves p.0 stands) (cancellation_leaves_storage p.0 op) whole)
+      (stand_moved sides volume world app p.0 (after_cancellation p.0 op).machine after p.1 (moves p.0 stands) (cancellation_leaves_storage p.0 op) whole)
 
   -- an application that still stands for what it stood for
   pub stand_kept : (sides : List (AppSide A)) (volume : V) (world : World A) (app : ℕ) (old d after : AppSide A) → app < length sides → old ≡ get_or sides app d

@@ -5,10 +5,10 @@ use Rattle.std.specs.Prelude.{◌⊎◌, slice_get}
 use Rattle.app_api.specs.declared.host.Host.{Host}
 use Rattle.alone.specs.Machine.{Machine, start}
 use Rattle.app_side.specs.declared.side.AppSide.{AppSide}
-use Rattle.board.specs.Moment.{IsLeft, Moment, Outcome, View, WasLeft, left_since, moment}
+use Rattle.board.specs.Moment.{IsLeft, Moment, CrashImage, View, WasLeft, left_since, moment}
 use Rattle.board.specs.Runs.{Rests}
 use Rattle.board.specs.Steps.{CallRun}
-use Rattle.epoch.specs.Forms.{Form, held, held_of}
+use Rattle.epoch.specs.Forms.{Form, held_in, held_of}
 use Rattle.epoch.specs.Mounts.{IsOpenedTo, LeavesOpening, LeftByOpening}
 use Rattle.epoch.proofs.MountLemmas.{opening_keeps}
 use Rattle.epoch.specs.Opening.{opening_of}
@@ -76,7 +76,7 @@ module _ {V A : Type 0} (K : VolumeKeeper V) (rests : (v : V) → K.honest v →
 -- ---- a board that is handed back as it was
 
 -- no crash before now was at this moment or later
-none_now : (past : List Moment) (t : ℕ) (c : Outcome) → length past ≤ t → WasLeft past t c → ⊥
+none_now : (past : List Moment) (t : ℕ) (c : CrashImage) → length past ≤ t → WasLeft past t c → ⊥
 none_now [] t c late was = was
 none_now (m ∷ past) t c late was =
     ⊎_elim (λ (h : (t ≤ length past) × IsLeft m c). absurd (let x = h.0 in omega arith)) (λ (w : WasLeft past t c). none_now past t c (omega arith) w) was
@@ -95,14 +95,14 @@ run_of_none view = record {
 }
 
 -- a crash leaves what it holds
-pub leaves_resting : (f : Form) (view : View) (n : ℕ) (h : Held) → Rests n view.state → held f view.key view.state.reads n ≡ Some h → LeavesOpening f h view view
+pub leaves_resting : (f : Form) (view : View) (n : ℕ) (h : Held) → Rests n view.state → held_in f view.key view.state.reads n ≡ Some h → LeavesOpening f h view view
 leaves_resting f view n h rests is =
     started moment left_since view (LeftByOpening f h view) (λ c was.
     let left : IsLeft view.state c = ⊎_elim (λ (x : IsLeft view.state c). x) (λ (w : WasLeft view.past (moment view) c). absurd (none_now view.past (moment view) c (omega arith) w)) was in
     let image : (k : ℕ) → c.image k ≡ view.state.reads k = λ k. left.kept k (rests.pending k) ∙ sym (rests.as_read k) in
     let whole : c.image ≡ view.state.reads = λ i k. image k i in
     let counter : c.counter ≡ n = omega (arith, left.counter.least, left.counter.greatest, rests.counter, rests.slack) in
-    inl (ap (held f view.key c.image) counter ∙ ap (λ (g : ℕ → List ℕ). held f view.key g n) whole ∙ is))
+    inl (ap (held_in f view.key c.image) counter ∙ ap (λ (g : ℕ → List ℕ). held_in f view.key g n) whole ∙ is))
 
 -- ---- lists and results
 

@@ -4,7 +4,7 @@ use Rattle.std.proofs.Common.{◌≡◌, ◌<◌, ◌≤◌, ◌+◌, ℕ, zero,
 use Rattle.std.specs.Prelude.{IfNone, IfSome, slice_get, nat_lt}
 use Rattle.std.proofs.lemmas.Bool.{le-ltb, lt-ltb, ltb-false, ltb-true}
 use Rattle.alone.specs.Machine.{Machine}
-use Rattle.alone.specs.Step.{restarted}
+use Rattle.alone.specs.Step.{after_restart}
 use Rattle.app_side.proofs.Numbered.{doubt_told}
 use Rattle.app_side.specs.Represents.{has_doubt}
 use Rattle.app_side.specs.declared.side.AppSide.{AppSide}
@@ -28,7 +28,7 @@ module _ {A : Type 0} (behaviour : Behaviour A) where
   pub none_in_doubt : (kept : ℕ → Bool) (r owner : ℕ) (world : World A) → HasDoubt owner (restarts_from behaviour kept r world) → ⊥
   none_in_doubt kept r owner [] has = absurd (let e : None ≡ Some has.machine = has.there in cc)
   none_in_doubt kept r zero (m ∷ world) has =
-      let is : restarted m (kept r) ≡ has.machine = let e : Some (restarted m (kept r)) ≡ Some has.machine = has.there in cc in
+      let is : after_restart m (kept r) ≡ has.machine = let e : Some (after_restart m (kept r)) ≡ Some has.machine = has.there in cc in
       absurd (let e : false ≡ true = ap (λ (x : Machine A). is_some x.in_doubt) is ∙ has.doubt in cc)
   none_in_doubt kept r (suc owner) (m ∷ world) has = none_in_doubt kept (r + 1) owner world (record { machine = has.machine; there = has.there; doubt = has.doubt })
 

@@ -6,10 +6,10 @@ use Rattle.app_api.specs.declared.call.Call.{Call}
 use Rattle.alone.specs.Machine.{Machine}
 use Rattle.alone.specs.Marks.{Marks, SameWithin, no_marks}
 use Rattle.alone.specs.Runs.{events_of_call, turns_of_call}
-use Rattle.alone.specs.Step.{Event, Called, called}
+use Rattle.alone.specs.Step.{Event, Called, after_call}
 use Rattle.alone.proofs.Counted.{call_counts_none}
 use Rattle.tee_core.specs.declared.happened.Happened.{Happened}
-use Rattle.tee_core.specs.Happenings.{happening, happenings, is_told, marks_of, told_of_call}
+use Rattle.tee_core.specs.Happenings.{happened_in, happenings, is_told, marks_of, told_of_call}
 use Rattle.store_api.specs.Volumes.{Condition}
 use Rattle.tee_core.specs.Turns.{IsTurnedUntil, StopsBefore, StopsWithin}
 use Rattle.tee_core.proofs.RunCounts.{none_marked}
@@ -17,7 +17,7 @@ use Rattle.tee_core.specs.World.{AppEvent, World, called_at, events_at, run_even
 
 module _ {A : Type 0} (behaviour : Behaviour A) (Stands : World A → Type 0) (world : World A) (m : Machine A) (app client : ℕ) (call : Call) (here : slice_get world app ≡ Some m) where
   abbrev called_then : Machine A
-  called_then = (called m client call).machine
+  called_then = (after_call m client call).machine
 
   abbrev world_then : World A
   world_then = world_step behaviour world (record { app = app; event = Called client call })
@@ -30,10 +30,10 @@ module _ {A : Type 0} (behaviour : Behaviour A) (Stands : World A → Type 0) (w
   run_is : (marks : Marks) → run_events behaviour marks world app client call ≡ events_at behaviour app (events_of_call behaviour marks m client call)
   run_is marks = ap (λ o. called_at behaviour marks app client call o) here
 
-  module _ (h : Happened) (same : h ≡ happening behaviour m (Called client call)) where
+  module _ (h : Happened) (same : h ≡ happened_in behaviour m (Called client call)) where
     -- in whole
     module _ (turns : ℕ) (before told : List Happened) (alone : before ≡ h ∷ []) (turned : IsTurnedUntil behaviour Stands world_then called_then app h.instance h.op turns before told) where
-      of_call : IsTurnedUntil behaviour Stands world_then called_then app (called m client call).instance m.queue.next turns before told
+      of_call : IsTurnedUntil behaviour Stands world_then called_then app (after_call m client call).instance m.queue.next turns before told
       of_call = subst (λ (x : Happened). IsTurnedUntil behaviour Stands world_then called_then app x.instance x.op turns before told) same turned
 
       turns_are : (marks : Marks) → SameWithin m.turns turns marks (marks_of told) → turns_of_call behaviour marks m client call ≡ of_call.made
@@ -48,7 +48,7 @@ module _ {A : Type 0} (behaviour : Behaviour A) (Stands : World A → Type 0) (w
       run_told marks agree =
           of_call.told_so
           ∙ ap (λ (hs : List Happened). hs ++ filter is_told (happenings behaviour called_then of_call.made)) (alone ∙ ap (λ (x : Happened). x ∷ []) same)
-          ∙ ap (λ (es : List Event). happening behaviour m (Called client call) ∷ filter is_told (happenings behaviour called_then es)) (sym (turns_are marks agree))
+          ∙ ap (λ (es : List Event). happened_in behaviour m (Called client call) ∷ filter is_told (happenings behaviour called_then es)) (sym (turns_are marks agree))
 
     -- in part
     pub run_part : (old new : Condition) → StopsBefore behaviour Stands world_then called_then app h.instance h.op old new → StopsWithin behaviour Stands world app client call old new

@@ -7,11 +7,11 @@ use Rattle.alone.specs.declared.turn.TurnKind.{TurnKind}
 use Rattle.alone.specs.declared.turn.TurnKind.TheVariants as kinds
 use Rattle.alone.specs.declared.reply.Reply.{Reply}
 use Rattle.alone.specs.Machine.{Machine}
-use Rattle.alone.specs.Step.{called, cancelled, is_changing, step}
+use Rattle.alone.specs.Step.{after_call, after_cancellation, is_changing, step}
 use Rattle.app_side.specs.Represents.{event_of}
 use Rattle.app_side.proofs.Stored.{called_over, cancelled_over}
 use Rattle.tee_core.specs.declared.happened.Happened.{Happened}
-use Rattle.tee_core.specs.Happenings.{happening, has_reply, is_plain, append_if_told, turn_happened}
+use Rattle.tee_core.specs.Happenings.{happened_in, has_reply, is_plain, append_if_told, turn_happened}
 
 -- a lost turn says whether it was to change the store
 abbrev pub SaysChanging : TurnKind → Bool → Type 0
@@ -24,10 +24,10 @@ abbrev of_parts : TurnKind → ℕ → ℕ → ℕ → List Reply → Happened
 of_parts kind turn op instance replies = record { kind = kind; turn = turn; op = op; instance = instance; replies = replies }
 
 -- a call and a cancellation leave the objects
-pub called_store : {A : Type 0} (m : Machine A) (client : ℕ) (call : Call) → (called m client call).machine.store ≡ m.store
+pub called_store : {A : Type 0} (m : Machine A) (client : ℕ) (call : Call) → (after_call m client call).machine.store ≡ m.store
 called_store {A} m client call = ap (λ s. s.machine.store) (called_over m.store m.in_doubt m client call)
 
-pub cancelled_store : {A : Type 0} (m : Machine A) (op : ℕ) → (cancelled m op).machine.store ≡ m.store
+pub cancelled_store : {A : Type 0} (m : Machine A) (op : ℕ) → (after_cancellation m op).machine.store ≡ m.store
 cancelled_store {A} m op = ap (λ s. s.machine.store) (cancelled_over m.store m.in_doubt m op)
 
 pub on_err_known : {X E : Type 0} (r : Result X E) (P : Type 0) → P → OnErr r P
@@ -51,7 +51,7 @@ happened_is kind kind_then turn turn_then op op_then instance instance_then repl
 module _ {A : Type 0} (behaviour : Behaviour A) where
   -- what is told of a turn of its kind, which says of a lost one whether its ask was to change the store
   pub turn_is : (m : Machine A) (kind : TurnKind) (i turn : ℕ) (replies : List Reply) → SaysChanging kind (is_changing m i) → turn ≡ (step behaviour m (event_of kind i)).machine.turns
-      → replies ≡ (step behaviour m (event_of kind i)).replies → turn_happened kind turn i replies ≡ happening behaviour m (event_of kind i)
+      → replies ≡ (step behaviour m (event_of kind i)).replies → turn_happened kind turn i replies ≡ happened_in behaviour m (event_of kind i)
   turn_is m kinds.Plain i turn replies says same told = happened_is _ _ _ _ _ _ _ _ _ _ refl same refl refl told
   turn_is m (kinds.Lost change) i turn replies says same told = happened_is _ _ _ _ _ _ _ _ _ _ (ap (λ b. kinds.Lost b) says) same refl refl told
   turn_is m kinds.Starved i turn replies says same told = happened_is _ _ _ _ _ _ _ _ _ _ refl same refl refl told

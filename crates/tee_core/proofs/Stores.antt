@@ -7,7 +7,7 @@ use Rattle.store_api.specs.Keeping.{Contents, Rest}
 use Rattle.store_api.specs.Stores.{Store}
 use Rattle.store_api.specs.Volumes.{Held}
 use Rattle.region_plan.specs.Regions.{region_of}
-use Rattle.object_dir.specs.Regions.{beside, in_use, opened, others, region_in, remains_in, rest_of}
+use Rattle.object_dir.specs.Regions.{beside, in_use, remains_of, others, region_in, remains_in, rest_of}
 use Rattle.alone.specs.Machine.{Machine}
 use Rattle.alone.specs.Step.{store_found}
 use Rattle.tee_core.specs.Powers.{all_lost}
@@ -38,7 +38,7 @@ pub record IsRemains (app : ℕ) (o : Option Held) (kept : Contents) : Type 0 wh
   pub rest : rest_of app held ≡ kept.rest
   pub sequence : held.sequence ≡ kept.number
 
-remains_by : (app : ℕ) (held : Held) (r : Result Store ℕ) (kept : Contents) → region_in app held ≡ r → opened app held r ≡ Some kept → IsRemains app (Some held) kept
+remains_by : (app : ℕ) (held : Held) (r : Result Store ℕ) (kept : Contents) → region_in app held ≡ r → remains_of app held r ≡ Some kept → IsRemains app (Some held) kept
 remains_by app held (Ok store) kept region is =
     let same : beside app held store ≡ kept = let e : Some (beside app held store) ≡ Some kept = is in cc in
     record {

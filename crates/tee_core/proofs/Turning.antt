@@ -19,7 +19,7 @@ use Rattle.object_dir.specs.Laws.{reads_back}
 use Rattle.object_dir.proofs.HeldLemmas.{own_store as region_store, same_contents, stands_by, still_stands}
 use Rattle.object_dir.proofs.PlaceLemmas.{volume_stays}
 use Rattle.object_dir.specs.Directories.{dir_keeper}
-use Rattle.object_dir.specs.Regions.{HasStore, contents_in, opened, region_in, remains_in, rest_of, store_in}
+use Rattle.object_dir.specs.Regions.{HasStore, contents_in, remains_of, region_in, remains_in, rest_of, store_in}
 use Rattle.object_dir.specs.declared.directory.ObjectDir.{ObjectDir}
 use Rattle.store_api.specs.Keeping.{Contents, Keeper, LeavesJust, Remains, Status}
 use Rattle.store_api.specs.Stores.{Store}
@@ -320,7 +320,7 @@ module _ {V A : Type 0} (K : VolumeKeeper V)
   found_before o None same left = absurd left
   found_before o (Some held) same left =
       let region = region_left world (K.held old).sequence app m held here left in
-      let r = remains_is app o (record { store = region.0; rest = rest_of app held; number = held.sequence }) (same ∙ ap (λ (x : Result Store ℕ). opened app held x) region.1) in
+      let r = remains_is app o (record { store = region.0; rest = rest_of app held; number = held.sequence }) (same ∙ ap (λ (x : Result Store ℕ). remains_of app held x) region.1) in
       subst (λ (x : Option Held). IsLeftOf world (K.held old).sequence x) (sym r.is)
       (left_alike world (K.held old).sequence held r.held (λ b. same_regions app held r.held (r.store ∙ sym region.1) r.rest b) r.sequence left)
 

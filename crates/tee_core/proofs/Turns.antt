@@ -13,7 +13,7 @@ use Rattle.alone.proofs.Counted.{turn_counts}
 use Rattle.alone.proofs.Marked.{marked_corrupt, marked_lost, marked_plain, marked_starved}
 use Rattle.app_side.specs.Represents.{event_of}
 use Rattle.tee_core.specs.declared.happened.Happened.{Happened}
-use Rattle.tee_core.specs.Happenings.{IsPlainBehind, happening, happenings, is_corrupt_turn, is_lost_turn, is_starved_turn, is_told, marks_of, append_if_told}
+use Rattle.tee_core.specs.Happenings.{IsPlainBehind, happened_in, happenings, is_corrupt_turn, is_lost_turn, is_starved_turn, is_told, marks_of, append_if_told}
 use Rattle.store_api.specs.Volumes.{Condition}
 use Rattle.tee_core.specs.Moments.{AreMarkedSoundly}
 use Rattle.tee_core.specs.Turns.{IsTurnedUntil, StopsBefore}
@@ -43,10 +43,10 @@ module _ {A : Type 0} (behaviour : Behaviour A) where
   machine_more m [] e = refl
   machine_more m (x ∷ made) e = machine_more (step behaviour m x).machine made e
 
-  happenings_more : (m : Machine A) (made : List Event) (e : Event) → happenings behaviour m (made ++ e ∷ []) ≡ happenings behaviour m made ++ happening behaviour
+  happenings_more : (m : Machine A) (made : List Event) (e : Event) → happenings behaviour m (made ++ e ∷ []) ≡ happenings behaviour m made ++ happened_in behaviour
       (machine_after behaviour m made) e ∷ []
   happenings_more m [] e = refl
-  happenings_more m (x ∷ made) e = ap (λ hs. happening behaviour m x ∷ hs) (happenings_more (step behaviour m x).machine made e)
+  happenings_more m (x ∷ made) e = ap (λ hs. happened_in behaviour m x ∷ hs) (happenings_more (step behaviour m x).machine made e)
 
   -- turns end where the operation is answered
   turns_done : (marks : Marks) (k : ℕ) (m : Machine A) (i op : ℕ) → is_answered m op ≡ true → turns_until behaviour marks k m i op ≡ []
@@ -110,7 +110,7 @@ module _ {A : Type 0} (behaviour : Behaviour A) where
 
   pub turns_further : (Stands Stands_then : List Event → Type 0) (m : Machine A) (i op k : ℕ) (before told : List Happened) → (run : HasTurned Stands m i op k before told)
       → k < 10000000 → is_answered run.now op ≡ false → (h : Happened) → is_enabled run.now (event_of h.kind i) ≡ true
-      → Stands_then (run.made ++ event_of h.kind i ∷ []) → h ≡ happening behaviour run.now (event_of h.kind i)
+      → Stands_then (run.made ++ event_of h.kind i ∷ []) → h ≡ happened_in behaviour run.now (event_of h.kind i)
       → HasTurned Stands_then m i op (k + 1) before (append_if_told told h)
   turns_further Stands Stands_then m i op k before told run within not_yet h may stands same =
       let e : Event = event_of h.kind i in
@@ -128,7 +128,7 @@ module _ {A : Type 0} (behaviour : Behaviour A) where
             ∙ append_assoc before (filter is_told hs) (filter is_told (h ∷ []))
             ∙ ap (λ ts. before ++ ts) (
             sym (filter-append is_told hs (h ∷ []))
-            ∙ ap (λ (x : Happened). filter is_told (hs ++ x ∷ [])) (same ∙ ap (λ (x : Machine A). happening behaviour x e) (sym run.now_is))
+            ∙ ap (λ (x : Happened). filter is_told (hs ++ x ∷ [])) (same ∙ ap (λ (x : Machine A). happened_in behaviour x e) (sym run.now_is))
             ∙ ap (filter is_told) (sym (happenings_more m run.made e)));
         later = omega (arith, run.later, counts);
         plain = subst (λ n. IsPlainBehind n (append_if_told told h)) (sym counts) (behind_plain told h run.now.turns here run.plain);

@@ -9,8 +9,9 @@ use Rattle.alone.specs.declared.reply.Reply.{Reply}
 use Rattle.alone.specs.Machine.{Machine}
 use Rattle.alone.specs.Marks.{Marks, SameAt, no_marks}
 use Rattle.alone.specs.Runs.{turns_of_call}
-use Rattle.alone.specs.Step.{Event, Called, Cancelled, Turned, TurnLost, Corrupted, Lost, Starved, Restarted, Stepped, called, is_changing, step}
+use Rattle.alone.specs.Step.{Event, Called, Cancelled, Turned, TurnLost, Corrupted, Lost, Starved, Restarted, Stepped, after_call, is_changing, step}
 use Rattle.tee_core.specs.declared.happened.Happened.{Happened}
+use Rattle.tee_base.specs.Words.{InstanceNumber}
 
 -- how an event went that is a turn; any other event is plain
 abbrev pub kind_met : {A : Type 0} → Machine A → Event → TurnKind
@@ -46,7 +47,7 @@ instance_met (Starved instance) s = instance
 instance_met (Restarted took) s = 0
 
 -- what happened in a turn of this kind, after which so many were made
-abbrev pub turn_happened : TurnKind → ℕ → ℕ → List Reply → Happened
+abbrev pub turn_happened : TurnKind → ℕ → InstanceNumber → List Reply → Happened
 turn_happened kind turn instance replies = record { kind = kind; turn = turn; op = 0; instance = instance; replies = replies }
 
 -- ---- which happenings are told
@@ -109,8 +110,8 @@ IsPlainBehind turns told = (turn : ℕ) → turns < turn → SameAt turn (marks_
 -- behaviour has the application's two stated functions
 module _ {A : Type 0} (behaviour : Behaviour A) where
   -- what happens in an event: how it went, how many turns were made after it, and its replies
-  abbrev pub happening : Machine A → Event → Happened
-  happening m event = let s = step behaviour m event in record {
+  abbrev pub happened_in : Machine A → Event → Happened
+  happened_in m event = let s = step behaviour m event in record {
     kind = kind_met m event;
     turn = s.machine.turns;
     op = op_called m event;
@@ -121,10 +122,10 @@ module _ {A : Type 0} (behaviour : Behaviour A) where
   -- what happens in events, one after the other
   abbrev pub happenings : Machine A → List Event → List Happened
   happenings m [] = []
-  happenings m (event ∷ events) = happening m event ∷ happenings (step behaviour m event).machine events
+  happenings m (event ∷ events) = happened_in m event ∷ happenings (step behaviour m event).machine events
 
   -- what is told of a call that is run until it is answered, where its turns go as the marks say: the call, and those of the turns
   -- that are told
   abbrev pub told_of_call : Marks → Machine A → ℕ → Call → List Happened
   told_of_call marks m client call =
-      happening m (Called client call) ∷ filter is_told (happenings (called m client call).machine (turns_of_call behaviour marks m client call))
+      happened_in m (Called client call) ∷ filter is_told (happenings (after_call m client call).machine (turns_of_call behaviour marks m client call))

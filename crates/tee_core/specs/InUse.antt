@@ -1,6 +1,6 @@
 -- The kind of volume in use.
 use Rattle.epoch.specs.Forms.{Form}
-use Rattle.tree_volume.specs.Form.{tree_form}
+use Rattle.tree_paths.specs.Form.{tree_form}
 
 -- how its leaves lie on a board
 abbrev pub form_in_use : Form

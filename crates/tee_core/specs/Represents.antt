@@ -13,6 +13,7 @@ use Rattle.tee_core.specs.World.{World, AppEvent}
 use Rattle.tee_core.specs.declared.happened.Event.{Event}
 use Rattle.tee_core.specs.declared.happened.Event.TheVariants as events
 use Rattle.tee_core.specs.declared.tee.TeeOver.{TeeOver}
+use Rattle.tee_base.specs.Words.{Sequence}
 
 -- ---- stores and regions
 
@@ -42,7 +43,7 @@ pub record HasDoubt {A : Type 0} (owner : ℕ) (world : World A) : Type 0 where
   pub doubt : is_some machine.in_doubt ≡ true
 
 -- what a crash left has the stores of the world and this sequence, or has besides the change in doubt and a greater sequence
-abbrev pub IsLeftOf : {A : Type 0} → World A → ℕ → Option Held → Type 0
+abbrev pub IsLeftOf : {A : Type 0} → World A → Sequence → Option Held → Type 0
 IsLeftOf world sequence None = ⊥
 IsLeftOf world sequence (Some held) =
     ((held.sequence ≡ sequence) × HoldsStores none_kept world held)

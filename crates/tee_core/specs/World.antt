@@ -8,6 +8,7 @@ use Rattle.alone.specs.Machine.{Machine, start}
 use Rattle.alone.specs.Marks.{Marks}
 use Rattle.alone.specs.Runs.{events_of_call, turns_of}
 use Rattle.alone.specs.Step.{Event, Called, Cancelled, Turned, TurnLost, Corrupted, Lost, Starved, Restarted, step}
+use Rattle.tee_base.specs.Words.{InstanceNumber}
 
 -- the machines of the hosts, in their order
 abbrev pub World : Type 0 → Type 0
@@ -68,10 +69,10 @@ module _ {A : Type 0} (behaviour : Behaviour A) where
   run_events marks world app client call = called_at marks app client call (slice_get world app)
 
   -- so many turns of an instance of the application that has this machine; nothing where there is no machine
-  abbrev pub turned_at : Marks → ℕ → ℕ → ℕ → Option (Machine A) → List AppEvent
+  abbrev pub turned_at : Marks → ℕ → InstanceNumber → ℕ → Option (Machine A) → List AppEvent
   turned_at marks app instance count None = []
   turned_at marks app instance count (Some m) = events_at app (turns_of behaviour marks count m instance)
 
   -- so many turns of an application's instance, which go as these marks of the application say
-  abbrev pub turn_events : Marks → World A → ℕ → ℕ → ℕ → List AppEvent
+  abbrev pub turn_events : Marks → World A → ℕ → InstanceNumber → ℕ → List AppEvent
   turn_events marks world app instance count = turned_at marks app instance count (slice_get world app)

@@ -1,12 +1,13 @@
 //! Events of all applications, each of them one event of every world that the value represents.
 
+ghost use Rattle.tee_base.specs.declared.limits.TheConstants.{MAX_NUMBER};
 ghost use Rattle.std.specs.Prelude.{◌≡◌, ◌<◌, ◌≤◌, ◌+◌, ◌^◌, ℕ, [], IfOk, OnErr, Some, slice_get};
 ghost use Rattle.alone.specs.Machine.{Machine};
 ghost use Rattle.alone.specs.declared.turn.TurnKind.TheVariants.{Plain};
 ghost use Rattle.alone.specs.Step.{is_answered, is_changing, step, Called, Cancelled};
 ghost use Rattle.app_side.specs.Represents.{event_of as turn_of, store_kind};
 ghost use Rattle.object_asks.specs.Serving.{SaysChange};
-ghost use Rattle.tee_core.specs.Happenings.{happening};
+ghost use Rattle.tee_core.specs.Happenings.{happened_in};
 ghost use Rattle.tee_core.specs.Represents.{app_count, app_of, event_of, machine_event, turns_made, volume_of, IsCall, KeepsMachines, Represents};
 ghost use Rattle.tee_core.specs.Stepping.{KeepsOthers, MakesEvent};
 ghost use Rattle.tee_core.specs.World.{World};
@@ -45,13 +46,13 @@ impl<B, V: Volume, A: Application> TeeOver<B, V, A> {
     /// There is no memory for a call, which changes nothing. No other event ends so.
     pub fn event(&mut self, event: Event) -> Result<Happened, NoMemory>
         requires known { app_of event < app_count self.old }
-        requires room { turns_made self.old (app_of event) < 2 ^ 63 }
+        requires room { turns_made self.old (app_of event) < MAX_NUMBER }
         ensures made { IfOk result (λ told.
             MakesEvent A.behaviour (event_of event told.kind) told.kind self.old self.new) }
         ensures told { IfOk result (λ told.
             (world : World A) (m : Machine A) → Represents self.old world
             → slice_get world (app_of event) ≡ Some m
-            → told ≡ happening A.behaviour m (machine_event event told.kind)) }
+            → told ≡ happened_in A.behaviour m (machine_event event told.kind)) }
         ensures err { OnErr result (IsCall event × (volume_of self.new ≡ volume_of self.old)
             × ((world : World A) → Represents self.old world → Represents self.new world)) }
         // whatever the board
@@ -75,7 +76,7 @@ impl<B, V: Volume, A: Application> TeeOver<B, V, A> {
         ensures told { IfOk result (λ told.
             (world : World A) (m : Machine A) → Represents self.old world
             → slice_get world app ≡ Some m
-            → told ≡ happening A.behaviour m (Called client call)) }
+            → told ≡ happened_in A.behaviour m (Called client call)) }
         ensures kind { IfOk result (λ told. told.kind ≡ Plain) }
         ensures err { OnErr result ((world : World A) → Represents self.old world
             → Represents self.new world) }
@@ -101,7 +102,7 @@ impl<B, V: Volume, A: Application> TeeOver<B, V, A> {
         ensures made { MakesEvent A.behaviour (record { app = app; event = Cancelled op })
             result.kind self.old self.new }
         ensures told { (world : World A) (m : Machine A) → Represents self.old world
-            → slice_get world app ≡ Some m → result ≡ happening A.behaviour m (Cancelled op) }
+            → slice_get world app ≡ Some m → result ≡ happened_in A.behaviour m (Cancelled op) }
         ensures kept { KeepsOthers app self.old self.new }
         ensures turns { turns_made self.new app ≡ turns_made self.old app }
     {
@@ -119,13 +120,13 @@ impl<B, V: Volume, A: Application> TeeOver<B, V, A> {
     /// A turn of the instance.
     fn turn(&mut self, app: u8, instance: u8) -> Happened
         requires known { app < app_count self.old }
-        requires room { turns_made self.old app < 2 ^ 63 }
+        requires room { turns_made self.old app < MAX_NUMBER }
         ensures made { MakesEvent A.behaviour
             (record { app = app; event = turn_of result.kind instance }) result.kind
             self.old self.new }
         ensures told { (world : World A) (m : Machine A) → Represents self.old world
             → slice_get world app ≡ Some m
-            → result ≡ happening A.behaviour m (turn_of result.kind instance) }
+            → result ≡ happened_in A.behaviour m (turn_of result.kind instance) }
         ensures kept { KeepsOthers app self.old self.new }
         ensures turns { turns_made self.new app ≡ turns_made self.old app + 1 }
     {
@@ -143,7 +144,7 @@ impl<B, V: Volume, A: Application> TeeOver<B, V, A> {
     /// A turn of the instance, with its replies. One that lost the storage is told to every other application.
     pub(crate) fn advance(&mut self, app: u8, instance: u8, replies: &mut Replies) -> TurnKind
         requires known { app < app_count self.old }
-        requires room { turns_made self.old app < 2 ^ 63 }
+        requires room { turns_made self.old app < MAX_NUMBER }
         requires none { replies.old ≡ [] }
         ensures made { MakesEvent A.behaviour
             (record { app = app; event = turn_of result instance }) result self.old self.new }

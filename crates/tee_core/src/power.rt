@@ -7,12 +7,12 @@ ghost use Rattle.tee_base.specs.Faults.{Rose};
 ghost use Rattle.tee_base.specs.declared.limits.TheConstants.{MAX_HOSTS};
 ghost use Rattle.store_api.specs.Stores.{Store};
 ghost use Rattle.store_api.specs.Volumes.{Held};
-ghost use Rattle.board.specs.Moment.{IsCounter, IsLeft, Outcome};
+ghost use Rattle.board.specs.Moment.{IsCounter, IsLeft, CrashImage};
 ghost use Rattle.board.specs.Runs.{Rests};
-ghost use Rattle.board.specs.Fuse.{refitted};
+ghost use Rattle.board.specs.Fuse.{fuse_after_set};
 ghost use Rattle.board.specs.Steps.{Passes, SameBlocks, Unchanged};
 ghost use Rattle.board.specs.declared.fuse.Fuse.TheVariants.{Unset};
-ghost use Rattle.epoch.specs.Forms.{held};
+ghost use Rattle.epoch.specs.Forms.{held_in};
 ghost use Rattle.epoch.specs.Mounts.{IsAdmitted, IsKeptFromOpening, IsRefusal, IsRefusedNow, LeavesOpening, OrderRun, PowerFirst};
 ghost use Rattle.epoch.specs.Opening.{is_no_failure, no_failure};
 ghost use Rattle.epoch.specs.Past.{KeepsPast};
@@ -143,7 +143,7 @@ impl<B: Board, V: BoardVolume<B>, A: Application> TeeOver<B, V, A> {
             (V.root (volume_of tee))) }
         ensures unopened { B.honest board → (n : ℕ) (h : Held) → Rests n (B.view board).state
             → V.form.blocks ≤ (B.view board).size
-            → held V.form (B.view board).key (B.view board).state.reads n ≡ Some h
+            → held_in V.form (B.view board).key (B.view board).state.reads n ≡ Some h
             → IfErr result (λ u. IsKeptFromOpening u.why
             × LeavesOpening V.form h (B.view board) (B.view u.board)) }
     {
@@ -166,7 +166,7 @@ impl<B: Board, V: BoardVolume<B>, A: Application> TeeOver<B, V, A> {
     /// Lets so many calls of the board pass, as the board's `fuse` does.
     pub fn fuse(&mut self, calls: u32)
         ensures fuse { (B.view (V.board_of (volume_of self.new))).fuse
-            ≡ refitted (B.view (V.board_of (volume_of self.old))).fuse calls }
+            ≡ fuse_after_set (B.view (V.board_of (volume_of self.old))).fuse calls }
         ensures alone { B.honest (V.board_of (volume_of self.old))
             → Passes (B.view (V.board_of (volume_of self.old)))
             (B.view (V.board_of (volume_of self.new)))
@@ -209,7 +209,7 @@ impl<B: Board, V: BoardVolume<B>, A: Application> TeeOver<B, V, A> {
             → why ≡ answers.Failed) }
         ensures refused { OnErr result ((world : World A) → Represents self.old world
             → Represents self.new (all_lost world)) }
-        ensures exact { B.honest (V.board_of (volume_of self.old)) → (c : Outcome)
+        ensures exact { B.honest (V.board_of (volume_of self.old)) → (c : CrashImage)
             × IsLeft (B.view (V.board_of (volume_of self.old))).state c
             × IfErr result (λ why. IsRefusal V.form (B.view (V.board_of (volume_of self.old)))
             c.image c.counter why)

@@ -2,7 +2,7 @@
 
 ghost use Rattle.std.specs.Prelude.{◌≡◌, ◌≤◌, ◌<◌, ◌+◌, ◌-◌, ◌^◌, ℕ, [], false, true, IfNone, IfSome, length, map, slice_get, Some};
 ghost use Rattle.std.specs.List.{position};
-ghost use Rattle.tee_base.specs.declared.limits.TheConstants.{MAX_HOSTS};
+ghost use Rattle.tee_base.specs.declared.limits.TheConstants.{MAX_HOSTS, MAX_NUMBER};
 ghost use Rattle.alone.specs.Machine.{Machine};
 ghost use Rattle.alone.specs.Step.{step, Lost};
 ghost use Rattle.app_side.specs.Represents.{boot_of, has_doubt, is_lost, turns_of, Represents};
@@ -28,7 +28,7 @@ pub(crate) fn turn_over<V: Volume, A: Application>(
     instance: u8,
     replies: &mut Replies,
 ) -> TurnKind
-    requires few { turns_of side.old < 2 ^ 63 }
+    requires few { turns_of side.old < MAX_NUMBER }
     requires region { region < MAX_HOSTS }
     requires loss { is_lost side.old ≡ (V.keeper.condition volume.old).lost }
     requires none { replies.old ≡ [] }

@@ -18,7 +18,7 @@ use Rattle.alone.specs.Marks.{Marks}
 use Rattle.alone.specs.Step.{Event, Called, Cancelled, Turned, TurnLost, Corrupted, Lost, Starved, Restarted, step}
 use Rattle.alone.proofs.Counted.{call_counts_none, cancellation_counts_none}
 use Rattle.tee_core.specs.declared.happened.Happened.{Happened}
-use Rattle.tee_core.specs.Happenings.{happening, is_corrupt_turn, is_lost_turn, is_starved_turn, kind_met, has_told}
+use Rattle.tee_core.specs.Happenings.{happened_in, is_corrupt_turn, is_lost_turn, is_starved_turn, kind_met, has_told}
 use Rattle.tee_core.specs.Powers.{after_power, kept_by, restarts_from, told_of}
 use Rattle.tee_core.specs.World.{World, AppEvent, met_by_others, moved_at, world_step}
 use Rattle.tee_core.proofs.SideLemmas.{get_other}
@@ -165,7 +165,7 @@ module _ {A : Type 0} (behaviour : Behaviour A) where
         → ((m : Machine A) → o ≡ Some m → of ≡ app → (went (kind_met m event) && (step behaviour m event).machine.turns == turn) ≡ false) → says app (entry_of behaviour of event o) turn ≡ false
     entry_says of event app turn None none = refl
     entry_says of event app turn (Some m) none =
-        cond_both (of == app) (record { app = of; told = happening behaviour m event } ∷ []) [] (λ (es : List Entry). has_told went (map (λ (e : Entry). e.told) es) turn ≡ false)
+        cond_both (of == app) (record { app = of; told = happened_in behaviour m event } ∷ []) [] (λ (es : List Entry). has_told went (map (λ (e : Entry). e.told) es) turn ≡ false)
         (λ yes. or-false (went (kind_met m event) && (step behaviour m event).machine.turns == turn) ∙ none m refl (eqb-true of app yes))
         (λ no. refl)
 
@@ -224,7 +224,7 @@ module _ {A : Type 0} (behaviour : Behaviour A) where
         ∙ ap (λ b. says e.app here turn || b) (says_later then es e.app turn (omega (arith, own_turns w e m is, count)))
         ∙ or-false (says e.app here turn)
         ∙ ap (λ o. says e.app (entry_of behaviour e.app e.event o) turn) is
-        ∙ ap (λ b. has_told went (map (λ (x : Entry). x.told) (cond b (record { app = e.app; told = happening behaviour m e.event } ∷ []) [])) turn) (eq-eqb e.app e.app refl)
+        ∙ ap (λ b. has_told went (map (λ (x : Entry). x.told) (cond b (record { app = e.app; told = happened_in behaviour m e.event } ∷ []) [])) turn) (eq-eqb e.app e.app refl)
         ∙ or-false (went (kind_met m e.event) && (step behaviour m e.event).machine.turns == turn)
         ∙ ap (λ b. went (kind_met m e.event) && b) (eq-eqb (step behaviour m e.event).machine.turns turn count)
         ∙ true_and (went (kind_met m e.event))
@@ -257,7 +257,7 @@ module _ {A : Type 0} (behaviour : Behaviour A) where
         IsMarkedAs (kind_met m e.event) (weather.marks e.app) (m.turns + 1)
     marked power w e m front es is count behind whole known =
         let turn : ℕ = m.turns + 1 in
-        let entries : AreKnown names (OfApp (record { app = e.app; told = happening behaviour m e.event }) ∷ log_of behaviour (world_step behaviour w e) es) =
+        let entries : AreKnown names (OfApp (record { app = e.app; told = happened_in behaviour m e.event }) ∷ log_of behaviour (world_step behaviour w e) es) =
         subst (λ (o : Option (Machine A)). AreKnown names (entry_of behaviour e.app e.event o ++ log_of behaviour (world_step behaviour w e) es)) is known in
         let at = same.marks e.app turn entries.known.0 (omega (arith, entries.counted.0, count)) in
         record {

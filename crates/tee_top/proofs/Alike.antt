@@ -9,7 +9,7 @@ use Rattle.app_api.specs.declared.call.Call.{Call}
 use Rattle.alone.specs.Machine.{Machine}
 use Rattle.alone.specs.Marks.{Marks, SameAt, event_at}
 use Rattle.alone.specs.Runs.{events_of_call, machine_after, most_turns, turns_of, turns_until}
-use Rattle.alone.specs.Step.{Event, Called, Cancelled, Turned, TurnLost, Corrupted, Lost, Starved, Restarted, called, is_answered, is_enabled, step}
+use Rattle.alone.specs.Step.{Event, Called, Cancelled, Turned, TurnLost, Corrupted, Lost, Starved, Restarted, after_call, is_answered, is_enabled, step}
 use Rattle.alone.proofs.Booted.{call_boots_none, cancellation_boots_none, turn_boots_none}
 use Rattle.alone.proofs.Storage.{call_leaves_storage, cancellation_leaves_storage, damage_leaves_doubt, turn_leaves_doubt}
 use Rattle.object_asks.specs.Asks.{Serves, Fails, Damaged}
@@ -57,7 +57,7 @@ module _ {A : Type 0} (behaviour : Behaviour A) (marks : Marks) (P : Event → T
       (λ _. (each m i, until_all more (step behaviour m event).machine i op))
 
   pub call_all : (m : Machine A) (client : ℕ) (call : Call) → P (Called client call) → AllByRecursion P (events_of_call behaviour marks m client call)
-  call_all m client call first = let s = called m client call in (first, until_all most_turns s.machine s.instance m.queue.next)
+  call_all m client call first = let s = after_call m client call in (first, until_all most_turns s.machine s.instance m.queue.next)
 
 unless_lost : (corrupt starved : Bool) (i : ℕ) → LeavesAnother (cond corrupt (Corrupted i) (cond starved (Starved i) (Turned i)))
 unless_lost true starved i = refl
@@ -145,7 +145,7 @@ module _ {A : Type 0} (behaviour : Behaviour A) (these those : Marks) (same : (t
       ∙ ap (λ (es : List Event). cond (is_answered m op) [] (event ∷ es)) (until_alike more (step behaviour m event).machine i op)
 
   call_alike : (m : Machine A) (client : ℕ) (call : Call) → events_of_call behaviour these m client call ≡ events_of_call behaviour those m client call
-  call_alike m client call = let s = called m client call in ap (λ es. Called client call ∷ es) (until_alike most_turns s.machine s.instance m.queue.next)
+  call_alike m client call = let s = after_call m client call in ap (λ es. Called client call ∷ es) (until_alike most_turns s.machine s.instance m.queue.next)
 
   module _ (kept kept_then : ℕ → Bool) (kept_same : (power : ℕ) → kept power ≡ kept_then power) where
     line_alike : (m : Machine A) (line : Line) → own_line_events behaviour these kept m line ≡ own_line_events behaviour those kept_then m line

@@ -6,7 +6,7 @@ use Rattle.app_api.specs.declared.call.Call.{Call}
 use Rattle.alone.specs.Machine.{Machine}
 use Rattle.alone.specs.Marks.{Marks, event_at}
 use Rattle.alone.specs.Runs.{most_turns, turns_until}
-use Rattle.alone.specs.Step.{Event, Called, called, is_answered, step}
+use Rattle.alone.specs.Step.{Event, Called, after_call, is_answered, step}
 use Rattle.epoch.specs.Forms.{Form}
 use Rattle.script.specs.declared.line.Line.TheVariants as lines
 use Rattle.tee_core.specs.declared.happened.Event.TheVariants as events
@@ -76,13 +76,13 @@ module _ {A : Type 0} (behaviour : Behaviour A) where
   -- ---- a call
 
   call_first : (weather : Weather) (w : World A) (app client instance op : ℕ) (call : Call) (m : Machine A) → slice_get w app ≡ Some m → op ≡ m.queue.next
-      → instance ≡ (called m client call).instance
+      → instance ≡ (after_call m client call).instance
       → happens (called_at behaviour (weather.marks app) app client call (Some m))
       ≡ Happens (record { app = app; event = Called client call })
       ∷ until_events behaviour (weather.marks app) (world_step behaviour w (record { app = app; event = Called client call })) app instance op most_turns
   call_first weather w app client instance op call m here number waits =
       let marks : Marks = weather.marks app in
-      let then : Machine A = (called m client call).machine in
+      let then : Machine A = (after_call m client call).machine in
       let first : WorldEvent = Happens (record { app = app; event = Called client call }) in
       ap (λ n. first ∷ happens (events_at behaviour app (turns_until behaviour marks most_turns then n m.queue.next))) (sym waits)
       ∙ ap (λ n. first ∷ happens (events_at behaviour app (turns_until behaviour marks most_turns then instance n))) (sym number)
@@ -90,7 +90,7 @@ module _ {A : Type 0} (behaviour : Behaviour A) where
 
   -- a call line that isn't posted is the call, and then turns until it is answered
   pub call_split : (weather : Weather) (w : World A) (app client instance op : ℕ) (call : Call) (m : Machine A) → slice_get w app ≡ Some m → op ≡ m.queue.next
-      → instance ≡ (called m client call).instance
+      → instance ≡ (after_call m client call).instance
       → line_events behaviour weather w (lines.Call app client false call)
       ≡ step_events behaviour weather w (events.Call app client call)
       ++ until_events behaviour (weather.marks app) (after_events behaviour w (step_events behaviour weather w (events.Call app client call))) app instance op most_turns
@@ -102,20 +102,21 @@ module _ {A : Type 0} (behaviour : Behaviour A) where
   abbrev pub behind_call : Weather → World A → ℕ → ℕ → Call → Machine A → Bool → List WorldEvent
   behind_call weather w app client call m true = []
   behind_call weather w app client call m false =
-      until_events behaviour (weather.marks app) (after_events behaviour w (step_events behaviour weather w (events.Call app client call))) app (called m client call).instance m.queue.next most_turns
+      until_events behaviour (weather.marks app) (after_events behaviour w (step_events behaviour weather w (events.Call app client call))) app
+      (after_call m client call).instance m.queue.next most_turns
 
   -- a call line begins with the call
   pub call_begins : (weather : Weather) (w : World A) (app client : ℕ) (call : Call) (m : Machine A) (post : Bool) → slice_get w app ≡ Some m
       → line_events behaviour weather w (lines.Call app client post call) ≡ step_events behaviour weather w (events.Call app client call) ++ behind_call weather w app client call m post
   call_begins weather w app client call m true here = refl
-  call_begins weather w app client call m false here = call_split weather w app client (called m client call).instance m.queue.next call m here refl refl
+  call_begins weather w app client call m false here = call_split weather w app client (after_call m client call).instance m.queue.next call m here refl refl
 
   -- ---- the call, and then turns
 
   module _ (form : Form) (names : List (List ℕ)) (Stands : World A → Type 0) where
     -- a call, and turns until it is answered, or as many as there are at most
     pub call_whole : (Then : World A → Type 0) (w : World A) (m : Machine A) (app client instance op : ℕ) (call : Call)
-        → slice_get w app ≡ Some m → op ≡ m.queue.next → instance ≡ (called m client call).instance
+        → slice_get w app ≡ Some m → op ≡ m.queue.next → instance ≡ (after_call m client call).instance
         → (old mid new : Point) → IsRunOf behaviour form names (λ weather. step_events behaviour weather w (events.Call app client call)) w Stands old mid
         → ((now : World A) → Stands now → IsRunOf behaviour form names (λ weather. until_events behaviour (weather.marks app) now app instance op most_turns) now Then mid new)
         → IsRunOf behaviour form names (λ weather. line_events behaviour weather w (lines.Call app client false call)) w Then old new
@@ -133,7 +134,7 @@ module _ {A : Type 0} (behaviour : Behaviour A) where
 
     -- it stops in one of the turns
     pub call_stopped : (w : World A) (m : Machine A) (app client instance op : ℕ) (call : Call)
-        → slice_get w app ≡ Some m → op ≡ m.queue.next → instance ≡ (called m client call).instance
+        → slice_get w app ≡ Some m → op ≡ m.queue.next → instance ≡ (after_call m client call).instance
         → (old mid new : Point) → IsRunOf behaviour form names (λ weather. step_events behaviour weather w (events.Call app client call)) w Stands old mid
         → ((now : World A) → Stands now → StopsIn behaviour form names (λ weather. until_events behaviour (weather.marks app) now app instance op most_turns) now mid new)
         → StopsIn behaviour form names (λ weather. line_events behaviour weather w (lines.Call app client false call)) w old new

@@ -10,7 +10,7 @@ use Rattle.std.proofs.lemmas.Slice.Eq.{bytes_eq-Decides, starts_is}
 use Rattle.alone.specs.declared.power.Power.TheVariants.{Kept}
 use Rattle.board.specs.Moment.{View}
 use Rattle.report.specs.Texts.{mark_text, power_text}
-use Rattle.script.specs.Workload.{drawn, line_at, line_of, state_after, workload_of}
+use Rattle.script.specs.Workload.{draw_at, line_at, line_of, state_after, workload_of}
 use Rattle.script.specs.declared.line.Line.{Line}
 use Rattle.script.specs.declared.line.Line.TheVariants as lines
 use Rattle.tee_top.specs.BoardLines.{begins_with, has_line, power_lines, says_kept, weather_in, whole_lines}
@@ -97,7 +97,7 @@ by_kind (suc (suc (suc (suc (suc (suc (suc (suc kind)))))))) app label command f
 no_order : (number hosts index : ℕ) → order_of (line_at number hosts index) ≡ []
 no_order number hosts index =
     let state : ℕ = state_after number (6 * index) in
-    by_kind (drawn state 2 % 8) (drawn state 1 % hosts) (1 + drawn state 3 % 3) (1 + drawn state 4 % 15) (drawn state 5) (drawn state 6) (omega arith)
+    by_kind (draw_at state 2 % 8) (draw_at state 1 % hosts) (1 + draw_at state 3 % 3) (1 + draw_at state 4 % 15) (draw_at state 5) (draw_at state 6) (omega arith)
 
 no_orders : (number hosts start count : ℕ) → orders_of (map (line_at number hosts) (range_with_len start count)) ≡ []
 no_orders number hosts start zero = refl

@@ -3,9 +3,9 @@ use Rattle.app_api.specs.Behaviours.{Behaviour}
 use Rattle.std.proofs.Common.{ℕ, ◌≡◌, ◌<◌, Bool, List, [], Option, None, Some, Result, Ok, Err, inl, inr, length, refl, sym, subst, ◌∙◌, ap, arith}
 use Rattle.std.specs.Prelude.{◌⊎◌}
 use Rattle.app_api.specs.declared.host.Host.{Host}
-use Rattle.board.specs.Moment.{Outcome, View}
+use Rattle.board.specs.Moment.{CrashImage, View}
 use Rattle.board.specs.Steps.{CallRun}
-use Rattle.epoch.specs.Forms.{Form, held, held_of}
+use Rattle.epoch.specs.Forms.{Form, held_in, held_of}
 use Rattle.epoch.specs.Mounts.{IsOpenedTo, LeavesOpening, LeftByOpening}
 use Rattle.epoch.proofs.MountLemmas.{opening_keeps}
 use Rattle.epoch.specs.Opening.{opening_of}
@@ -62,7 +62,7 @@ module _ {A : Type 0} (form : Form) (hosts : List (Host A)) (seed : List ℕ) (s
       let image : (k : ℕ) → c.image k ≡ old.state.reads k = λ k. left.kept k (rests.pending k) ∙ sym (rests.as_read k) in
       let whole : c.image ≡ old.state.reads = λ i k. image k i in
       let counter : c.counter ≡ begins.counter = omega (arith, left.counter.least, left.counter.greatest, rests.counter, rests.slack) in
-      let holds : held_of form old.key c ≡ Some begins.held = ap (held form old.key c.image) counter ∙ ap (λ (g : ℕ → List ℕ). held form old.key g begins.counter) whole ∙ begins.sound.opens in
+      let holds : held_of form old.key c ≡ Some begins.held = ap (held_in form old.key c.image) counter ∙ ap (λ (g : ℕ → List ℕ). held_in form old.key g begins.counter) whole ∙ begins.sound.opens in
       subst (HasStoresOf begin) (sym holds) (inl (starts_over hosts seed stores begins.held begins.sound.stand))
 
   -- what an opening makes of it has the same stores
@@ -71,7 +71,7 @@ module _ {A : Type 0} (form : Form) (hosts : List (Host A)) (seed : List ℕ) (s
       let leaves = opening_keeps form (opening_of form.known old.key old.state.reads old.state.counter) begins.held after makes in
       inl (starts_over hosts seed stores after (λ app lt. ap (λ (l : ℕ → ℕ → List ℕ). region_of in_use (l app)) leaves ∙ begins.sound.stand app lt))
 
-  held_stores : (c : Outcome) → LeftByOpening form begins.held old c → HasStoresOf begin (held_of form old.key c)
+  held_stores : (c : CrashImage) → LeftByOpening form begins.held old c → HasStoresOf begin (held_of form old.key c)
   held_stores c (inl is) = subst (HasStoresOf begin) (sym is) (inl (starts_over hosts seed stores begins.held begins.sound.stand))
   held_stores c (inr made) = subst (HasStoresOf begin) (sym made.1) (made_stores made.0 made.2)
 

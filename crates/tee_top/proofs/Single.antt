@@ -14,13 +14,13 @@ use Rattle.alone.specs.declared.turn.TurnKind.{TurnKind}
 use Rattle.alone.specs.declared.turn.TurnKind.TheVariants as kinds
 use Rattle.alone.specs.Machine.{Machine}
 use Rattle.alone.specs.Marks.{event_at}
-use Rattle.alone.specs.Step.{Event, Called, called, is_enabled, step}
+use Rattle.alone.specs.Step.{Event, Called, after_call, is_enabled, step}
 use Rattle.alone.proofs.Counted.{call_counts_none, cancellation_counts_none}
 use Rattle.app_side.specs.Represents.{event_of as turn_of}
 use Rattle.tee_core.specs.declared.happened.Event.{Event as TeeEvent}
 use Rattle.tee_core.specs.declared.happened.Event.TheVariants as events
 use Rattle.tee_core.specs.declared.happened.Happened.{Happened}
-use Rattle.tee_core.specs.Happenings.{happening}
+use Rattle.tee_core.specs.Happenings.{happened_in}
 use Rattle.tee_core.specs.Moments.{IsSound, KeepsCounts, RoseIfLost}
 use Rattle.tee_core.specs.Represents.{app_of, event_of, machine_event}
 use Rattle.tee_core.specs.World.{World, AppEvent, turn_events, turned_at, world_step}
@@ -149,14 +149,14 @@ module _ {A : Type 0} (behaviour : Behaviour A) where
       (event_as (weather.marks app) m kind instance may (subst (λ (o : Option (Machine A)). AgreesIn (weather.marks app) o (turn_of kind instance)) here agree))
 
   -- the number and the instance of a call
-  pub call_told : (e : TeeEvent) (h : Happened) (m : Machine A) (app client : ℕ) (call : Call) → h ≡ happening behaviour m (machine_event e h.kind) → e ≡ events.Call app client call
-      → (h.op ≡ m.queue.next) × (h.instance ≡ (called m client call).instance)
+  pub call_told : (e : TeeEvent) (h : Happened) (m : Machine A) (app client : ℕ) (call : Call) → h ≡ happened_in behaviour m (machine_event e h.kind) → e ≡ events.Call app client call
+      → (h.op ≡ m.queue.next) × (h.instance ≡ (after_call m client call).instance)
   call_told e h m app client call same is =
-      let so : h ≡ happening behaviour m (Called client call) = same ∙ ap (λ (x : TeeEvent). happening behaviour m (machine_event x h.kind)) is in
+      let so : h ≡ happened_in behaviour m (Called client call) = same ∙ ap (λ (x : TeeEvent). happened_in behaviour m (machine_event x h.kind)) is in
       (ap (λ (x : Happened). x.op) so, ap (λ (x : Happened). x.instance) so)
 
   module _ (form : Form) (names : List (List ℕ)) (w : World A) (e : TeeEvent) (h : Happened) (m : Machine A) (here : slice_get w (app_of e) ≡ Some m)
-      (same : h ≡ happening behaviour m (machine_event e h.kind)) where
+      (same : h ≡ happened_in behaviour m (machine_event e h.kind)) where
     one_log : log_of behaviour w (Happens (event_of e h.kind) ∷ []) ≡ OfApp (record { app = app_of e; told = h }) ∷ []
     one_log =
         ap (λ o. entry_of behaviour (app_of e) (machine_event e h.kind) o ++ []) here

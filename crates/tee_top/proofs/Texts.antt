@@ -15,7 +15,7 @@ use Rattle.app_api.specs.declared.host.Host.{Host}
 use Rattle.alone.specs.Machine.{Machine, start}
 use Rattle.alone.specs.Marks.{Marks, event_at, no_marks}
 use Rattle.alone.specs.Runs.{events_of_call, machine_after, most_turns, turns_of, turns_until}
-use Rattle.alone.specs.Step.{Event, Called, Cancelled, Turned, TurnLost, Corrupted, Lost, Starved, Restarted, called, is_answered, is_enabled, step}
+use Rattle.alone.specs.Step.{Event, Called, Cancelled, Turned, TurnLost, Corrupted, Lost, Starved, Restarted, after_call, is_answered, is_enabled, step}
 use Rattle.report.specs.Texts.{mark_text}
 use Rattle.script.specs.Grammar.{names_of}
 use Rattle.script.specs.declared.line.Line.{Line}
@@ -136,7 +136,7 @@ module _ {A : Type 0} (behaviour : Behaviour A) (marks : Marks) (lossless : (tur
 
   call_plain : (m : Machine A) (client : ℕ) (call : Call) → AllByRecursion IsUndamaged (events_of_call behaviour marks m client call)
       → events_of_call behaviour marks m client call ≡ events_of_call behaviour no_marks m client call
-  call_plain m client call h = let s = called m client call in ap (λ es. Called client call ∷ es) (until_plain most_turns s.machine s.instance m.queue.next h.1)
+  call_plain m client call h = let s = after_call m client call in ap (λ es. Called client call ∷ es) (until_plain most_turns s.machine s.instance m.queue.next h.1)
 
   module _ (kept : ℕ → Bool) where
     line_plain : (m : Machine A) (line : Line) → m.in_doubt ≡ None → AllByRecursion IsUndamaged (own_line_events behaviour marks kept m line)

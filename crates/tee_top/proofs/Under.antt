@@ -15,7 +15,7 @@ use Rattle.alone.specs.Runs.{machine_after}
 use Rattle.alone.specs.Step.{Event, Called, Cancelled, Turned, TurnLost, Corrupted, Lost, Starved, Restarted, step}
 use Rattle.script.specs.Grammar.{names_of}
 use Rattle.script.proofs.Cuts.{Lacks}
-use Rattle.tee_core.specs.Happenings.{happening}
+use Rattle.tee_core.specs.Happenings.{happened_in}
 use Rattle.tee_core.specs.World.{World, AppEvent, world_step}
 use Rattle.tee_top.specs.Isolation.{events_for, lines_for, met_at, met_by_another, own_text}
 use Rattle.tee_top.specs.Transcript.{WorldEvent, Fused, Happens, Powered, after_event, happened_lines, machine_lines, owner_name, text_of}
@@ -92,7 +92,7 @@ module _ {A : Type 0} (behaviour : Behaviour A) where
       → eqb e.app app ≡ false → slice_get w e.app ≡ o → lines_for name (machine_lines behaviour (slice_index_or names e.app []) e.event o ++ rest) ≡ lines_for name rest
   event_other names app name w e rest None named many h is = refl
   event_other names app name w e rest (Some n) named many h is =
-      other_happened name (slice_index_or names e.app []) (happening behaviour n e.event) rest (named.other e.app (omega (arith, within w e.app n is, many)) h)
+      other_happened name (slice_index_or names e.app []) (happened_in behaviour n e.event) rest (named.other e.app (omega (arith, within w e.app n is, many)) h)
 
   -- a loss that came from another has no text
   loss_unwritten : (name : List ℕ) (m : Machine A) (event : Event) (more : List Event)
@@ -122,11 +122,11 @@ module _ {A : Type 0} (behaviour : Behaviour A) where
         | inl h ↦
             let then : Machine A = (step behaviour m e.event).machine in
             let index : e.app ≡ app = eqb-true e.app app h in
-            let lines = happened_lines name (happening behaviour m e.event) in
+            let lines = happened_lines name (happened_in behaviour m e.event) in
             ap (λ (i : ℕ). lines_for name (machine_lines behaviour (slice_index_or names i []) e.event (slice_get w i) ++ rest)) index
             ∙ ap (λ (n : List ℕ). lines_for name (machine_lines behaviour n e.event (slice_get w app) ++ rest)) named.here
             ∙ ap (λ o. lines_for name (machine_lines behaviour name e.event o ++ rest)) here
-            ∙ own_happened name (happening behaviour m e.event) rest named.feed
+            ∙ own_happened name (happened_in behaviour m e.event) rest named.feed
             ∙ ap (λ zs. lines ++ zs) (text_met names app name next then events named more there.1 (step_own behaviour app w m e here h))
             ∙ ap (λ (es : List Event). own_text behaviour name m (es ++ events_for app events)) (sym (met_own app e h))
         | inr h ↦

@@ -4,7 +4,7 @@ use Rattle.std.proofs.lemmas.Bool.Decides.{nat_tests}
 use Rattle.tee_base.specs.declared.limits.TheConstants.{BLOCK_BYTES, BOARD_BLOCKS, LEAVES, MAX_HOSTS}
 use Rattle.board.specs.Moment.{View}
 use Rattle.board.specs.Runs.{Rests}
-use Rattle.epoch.specs.Forms.{Form, blank_leaves, held, held_by}
+use Rattle.epoch.specs.Forms.{Form, blank_leaves, held_in, held_by}
 use Rattle.epoch.specs.Gates.{gate_at, gate_open}
 use Rattle.epoch.specs.Opening.{opening_by, opening_of}
 use Rattle.epoch.specs.Slots.{slot_of}
@@ -27,8 +27,8 @@ unfolding slot_of
 shut key image slot zero = let closed : gate_open (image (gate_at slot)) ≡ false = ap gate_open zero ∙ not_open in rw closed refl
 
 opens : (f : Form) (key : List ℕ) (image : ℕ → List ℕ) → image 0 ≡ replicate BLOCK_BYTES 0 → image 2 ≡ replicate BLOCK_BYTES 0
-    → held f key image 0 ≡ Some (record { leaves = blank_leaves f.leaves; sequence = 0; version = f.version })
-unfolding held opening_of
+    → held_in f key image 0 ≡ Some (record { leaves = blank_leaves f.leaves; sequence = 0; version = f.version })
+unfolding held_in opening_of
 opens f key image first second =
     let one : slot_of key image 0 ≡ Shut = shut key image 0 first in
     let two : slot_of key image 1 ≡ Shut = shut key image 1 second in

@@ -3,7 +3,7 @@ use Rattle.app_api.specs.Behaviours.{Behaviour}
 use Rattle.std.specs.Prelude.{ℕ, ◌≡◌, ◌≤◌, ◌+◌, ◌-◌, ◌%◌, ◌^◌, ◌⊎◌, List, [], ◌∷◌, ◌++◌, Option, Err}
 use Rattle.std.specs.Io.KnownBytes.{Appends}
 use Rattle.alone.specs.Step.{Event, Called, Cancelled, Turned, TurnLost, Corrupted, Lost, Starved, Restarted}
-use Rattle.board.specs.Moment.{Outcome, View, IsCounter, IsLeft}
+use Rattle.board.specs.Moment.{CrashImage, View, IsCounter, IsLeft}
 use Rattle.board.specs.Runs.{Rests}
 use Rattle.epoch.specs.Forms.{Form, Root, held_of}
 use Rattle.epoch.specs.Mounts.{IsAdmitted, OrderRun}
@@ -22,6 +22,7 @@ use Rattle.tee_core.specs.Represents.{HasStoresOf}
 use Rattle.tee_core.specs.World.{World, world_step}
 use Rattle.tee_top.specs.BoardLines.{lost_lines, whole_text}
 use Rattle.tee_top.specs.Transcript.{WorldEvent, Happens, Fused, Powered}
+use Rattle.tee_base.specs.Words.{Counter, Sequence, Text}
 
 -- ---- orders
 
@@ -101,7 +102,7 @@ losses_of (Restarted took) = 0
 
 -- whole lines were written, and at least as many calls failed as lines among them say that a turn lost the storage
 pub record WritesLosses (before after : Option (List ℕ)) (old new : View) : Type 0 where
-  pub text : List ℕ
+  pub text : Text
   pub appended : Appends before after text
   pub whole : whole_text text ≡ text
   pub later : old.state.faults ≤ new.state.faults
@@ -138,13 +139,13 @@ IsRuleAnswer answers.Failed = ⊥
 IsRuleAnswer answers.NoMemory = ⊥
 
 -- the opening rule refuses a board over what it reads as, at this counter, and this is the rule's answer
-pub record IsRefusedAt (form : Form) (view : View) (counter : ℕ) (why : OpenAnswer) : Type 0 where
+pub record IsRefusedAt (form : Form) (view : View) (counter : Counter) (why : OpenAnswer) : Type 0 where
   pub answer : IsRuleAnswer why
   pub rule : opens_as form.known form.blocks view.size view.key view.state.reads counter ≡ Err why
 
 -- the same at a counter that the board may tell
 pub record IsRefusedByRule (form : Form) (view : View) (why : OpenAnswer) : Type 0 where
-  pub counter : ℕ
+  pub counter : Counter
   pub may_tell : IsCounter view.state counter
   pub refused : IsRefusedAt form view counter why
 
@@ -152,13 +153,13 @@ pub record IsRefusedByRule (form : Form) (view : View) (why : OpenAnswer) : Type
 
 -- the opening rule opens the board's image, at a counter that it may tell
 abbrev pub HasOpened : Form → View → Type 0
-HasOpened form view = (counter : ℕ) × IsCounter view.state counter
-    × (sequence : ℕ) × (root : Root)
+HasOpened form view = (counter : Counter) × IsCounter view.state counter
+    × (sequence : Sequence) × (root : Root)
     × IsAdmitted form view view.state.reads counter FORMATTED sequence root
 
 -- the board rests with an image that is sound for so many hosts, whose regions stand for these stores
 pub record BeginsWith (form : Form) (view : View) (hosts : ℕ) (stores : ℕ → Store) : Type 0 where
-  pub counter : ℕ
+  pub counter : Counter
   pub rests : Rests counter view.state
   pub size : form.blocks ≤ view.size
   pub held : Held
@@ -166,7 +167,7 @@ pub record BeginsWith (form : Form) (view : View) (hosts : ℕ) (stores : ℕ �
 
 -- each image and counter that a crash of the board may leave opens to the stores of the world, with the change in doubt or without it
 abbrev pub LeavesStores : {A : Type 0} → Form → View → World A → Type 0
-LeavesStores form view world = (c : Outcome) → IsLeft view.state c → HasStoresOf world (held_of form view.key c)
+LeavesStores form view world = (c : CrashImage) → IsLeft view.state c → HasStoresOf world (held_of form view.key c)
 
 module _ {A : Type 0} (behaviour : Behaviour A) (form : Form) where
   -- the board along events from a world on: since the last order it was start, and so many turns have lost the storage. Between two

@@ -25,6 +25,7 @@ use Rattle.tee_top.specs.Runs.{AreRunWords}
 use Rattle.tee_top.specs.Transcript.{Weather, WorldEvent, after_events, events_of, transcript}
 use Rattle.tee_top.specs.declared.status.Status.{Status}
 use Rattle.tee_top.specs.declared.status.Status.TheVariants.{Done, BadWords, BadLine, TooLong, StoreRefused, NoMemory, ReadFault, WriteFault, BoardFault}
+use Rattle.tee_base.specs.Words.{Counter, Text}
 
 -- the words that ask for the workload of a number, which is written as a script has numbers
 abbrev pub AreGenWords : List (String Global) → ℕ → Type 0
@@ -64,7 +65,7 @@ IsBroken WriteFault = ⊥
 IsBroken BoardFault = Unit {0}
 
 -- a text was written, or a front of it where a write failed, or nothing where there was no memory for it
-abbrev pub WritesAs : Status → List ℕ → Option (List ℕ) → Option (List ℕ) → Type 0 → Type 0
+abbrev pub WritesAs : Status → Text → Option (List ℕ) → Option (List ℕ) → Type 0 → Type 0
 WritesAs Done text before after Same = Appends before after text
 WritesAs BadWords text before after Same = ⊥
 WritesAs (BadLine n) text before after Same = ⊥
@@ -87,21 +88,21 @@ module _ {A : Type 0} (behaviour : Behaviour A) (form : Form) (hosts : List (Hos
 
   -- a text is the summary of that run: the number of lines, the hash of the script in its canonical text, the hash of what is
   -- written of it, and how often each code stands in the lines of that, which are those of replies
-  pub record IsSummaryOf (text : List ℕ) : Type 0 where
+  pub record IsSummaryOf (text : Text) : Type 0 where
     pub counts : List (ℕ × ℕ)
     pub tally : IsTally (codes_in (whole_lines calm_text)) counts
     pub here : text ≡ summary_text (length script) (digest_of Sha256 (canonical hosts script)) (digest_of Sha256 calm_text) counts
 
   -- the summary was appended, and what a crash may leave of the board has the stores of the world behind the script
   pub record RunsSummed (new : View) (before after : Option (List ℕ)) : Type 0 where
-    pub text : List ℕ
+    pub text : Text
     pub summary : IsSummaryOf text
     pub appended : Appends before after text
     pub left : LeavesStores form new calm_end
 
   -- a front of the summary was appended, and what a crash may leave of the board has the stores of the world behind the script
   pub record RunsCut (new : View) (before after : Option (List ℕ)) : Type 0 where
-    pub text : List ℕ
+    pub text : Text
     pub summary : IsSummaryOf text
     pub front : AppendsFront text before after
     pub left : LeavesStores form new calm_end
@@ -129,6 +130,6 @@ module _ {A : Type 0} (behaviour : Behaviour A) (form : Form) (hosts : List (Hos
     pub orders : HasOrders [] old new
     pub cause : status ≡ BoardFault → Rose old.state.faults new.state.faults
     pub refused : (why : OpenAnswer) → status ≡ StoreRefused why → Honest → IsRefusedByRule form old why
-    pub rule : (why : OpenAnswer) → status ≡ StoreRefused why → IsTrue tells → (counter : ℕ) × IsRefusedAt form old counter why
+    pub rule : (why : OpenAnswer) → status ≡ StoreRefused why → IsTrue tells → (counter : Counter) × IsRefusedAt form old counter why
     pub complete : Honest → (stores : ℕ → Store) → BeginsWith form old (length hosts) stores → ¬ Rose failed fails
         → ¬ Rose old.state.faults new.state.faults → (status ≡ Done) ⊎ (status ≡ NoMemory)

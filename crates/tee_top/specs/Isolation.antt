@@ -17,6 +17,7 @@ use Rattle.tee_core.specs.World.{AppEvent, world_of}
 use Rattle.tee_top.specs.BoardLines.{begins_with, weather_in, whole_lines}
 use Rattle.tee_top.specs.Parts.{HasNoDamage}
 use Rattle.tee_top.specs.Transcript.{Weather, WorldEvent, Fused, Happens, Powered, events_of, happened_lines, transcript}
+use Rattle.tee_base.specs.Words.{Text}
 
 -- ---- lines of a text
 
@@ -25,21 +26,21 @@ abbrev pub mark_front : List ℕ → List ℕ → List ℕ
 mark_front word name = codes "board " ++ word ++ codes " " ++ name ++ codes " "
 
 -- whether a line says that a turn of the application of this name was lost, damaged or starved
-abbrev pub is_mark_of : List ℕ → List ℕ → Bool
+abbrev pub is_mark_of : List ℕ → Text → Bool
 is_mark_of name line =
     begins_with (mark_front (codes "lost") name) line || begins_with (mark_front (codes "corrupt") name) line
     || begins_with (mark_front (codes "starve") name) line
 
 -- whether a line is under a name: its first word is the name, or it tells of a turn of the application of that name
-abbrev pub is_under : List ℕ → List ℕ → Bool
+abbrev pub is_under : List ℕ → Text → Bool
 is_under name line = begins_with (name ++ codes " ") line || is_mark_of name line
 
 -- the lines of a text under a name, a line feed behind each
-abbrev pub lines_for : List ℕ → List ℕ → List ℕ
+abbrev pub lines_for : List ℕ → Text → List ℕ
 lines_for name text = flat_map (λ line. line ++ codes "\n") (filter (is_under name) (slice_split (λ c. c == 10) text))
 
 -- no whole line of a text begins so
-abbrev pub HasNoLine : List ℕ → List ℕ → Type 0
+abbrev pub HasNoLine : List ℕ → Text → Type 0
 HasNoLine front text = AllByRecursion (λ line. begins_with front line ≡ false) (whole_lines text)
 
 -- ---- events

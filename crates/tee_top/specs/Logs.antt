@@ -8,6 +8,7 @@ use Rattle.tee_core.specs.Happenings.{marks_of}
 use Rattle.tee_core.specs.Powers.{kept_by}
 use Rattle.tee_top.specs.BoardLines.{IsOwnerKnown}
 use Rattle.tee_top.specs.Transcript.{Weather, happened_lines, power_line}
+use Rattle.tee_base.specs.Words.{Text}
 
 -- what was told, and of which application
 pub record Entry : Type 0 where
@@ -68,7 +69,7 @@ pub record AreKnown (names : List (List ℕ)) (log : List Item) : Type 0 where
   pub owners : AllByRecursion (IsOwnerKnown (length names)) (powers_told log)
 
 -- the text of a log, of which the last may not have been written to its end
-pub record IsWrittenOf (names : List (List ℕ)) (log : List Item) (text : List ℕ) : Type 0 where
+pub record IsWrittenOf (names : List (List ℕ)) (log : List Item) (text : Text) : Type 0 where
   pub done : List Item
   pub last : List Item
   pub few : length last ≤ 1

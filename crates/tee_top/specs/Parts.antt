@@ -17,12 +17,13 @@ use Rattle.script.specs.declared.line.Line.TheVariants as lines
 use Rattle.tee_base.specs.Faults.{Rose}
 use Rattle.tee_core.specs.declared.happened.Event.{Event as TeeEvent}
 use Rattle.tee_core.specs.declared.happened.Event.TheVariants as tee_events
-use Rattle.tee_core.specs.Happenings.{happening, is_corrupt_turn, is_lost_turn, is_starved_turn, kind_met}
+use Rattle.tee_core.specs.Happenings.{happened_in, is_corrupt_turn, is_lost_turn, is_starved_turn, kind_met}
 use Rattle.tee_core.specs.Powers.{after_power}
 use Rattle.tee_core.specs.World.{World, turn_events, world_step}
 use Rattle.tee_top.specs.Boards.{GoesAlong, LeavesStores}
 use Rattle.tee_top.specs.Logs.{AreKnown, Item, OfApp, OfBoard}
 use Rattle.tee_top.specs.Transcript.{Weather, WorldEvent, Fused, Happens, Powered, after_event, after_events, events_of, happens, owner_in_doubt, powers_in, text_of, told_by}
+use Rattle.tee_base.specs.Words.{Text}
 
 -- the turn of this number is marked as one of this kind
 pub record IsMarkedAs (kind : TurnKind) (marks : Marks) (turn : ℕ) : Type 0 where
@@ -75,7 +76,7 @@ module _ {A : Type 0} (behaviour : Behaviour A) where
   -- the entry of an event of a machine; none where there is no such machine
   abbrev pub entry_of : ℕ → Event → Option (Machine A) → List Item
   entry_of app event None = []
-  entry_of app event (Some m) = OfApp (record { app = app; told = happening behaviour m event }) ∷ []
+  entry_of app event (Some m) = OfApp (record { app = app; told = happened_in behaviour m event }) ∷ []
 
   -- what is told of an event
   abbrev pub items_of : World A → WorldEvent → List Item
@@ -122,7 +123,7 @@ module _ {A : Type 0} (behaviour : Behaviour A) where
 
 module _ {A : Type 0} (behaviour : Behaviour A) (names : List (List ℕ)) (world : World A) (made : List WorldEvent) where
   -- the text of events, of which the last alone may not have been written to its end
-  pub record IsTextOfAllBut (text : List ℕ) : Type 0 where
+  pub record IsTextOfAllBut (text : Text) : Type 0 where
     pub done : List WorldEvent
     pub last : List WorldEvent
     pub few : length last ≤ 1
@@ -163,7 +164,7 @@ module _ {A : Type 0} (behaviour : Behaviour A) (form : Form) (names : List (Lis
     pub told : AreTold behaviour old.powers world made
     pub undamaged : HasNoDamage made
     pub left : LeavesStores form new.view (after_events behaviour world made)
-    pub text : List ℕ
+    pub text : Text
     pub cut : IsTextOfAllBut behaviour names world made text
     pub written : Appends old.written new.written text
     pub by_weather : (weather : Weather) → AgreeWith behaviour weather world made → (rest : List WorldEvent) × (events weather ≡ made ++ rest)

@@ -25,6 +25,7 @@ use Rattle.tee_top.specs.declared.lines.Stop.{Stop}
 use Rattle.tee_top.specs.declared.lines.Stop.TheVariants as stops
 use Rattle.tee_top.specs.declared.status.Status.{Status}
 use Rattle.tee_top.specs.declared.status.Status.TheVariants.{Done, BadWords, BadLine, TooLong, StoreRefused, NoMemory, ReadFault, WriteFault, BoardFault}
+use Rattle.tee_base.specs.Words.{Text}
 
 -- the words of a run: the one word, or that and the name of an image
 abbrev pub AreRunWords : List (String Global) → Type 0
@@ -115,11 +116,11 @@ ended_as (Ok x) = Done
 ended_as (Err stop) = stopped_as stop
 
 -- the text is a script of these lines
-abbrev pub IsText : {A : Type 0} → List (Host A) → List ℕ → List Line → Type 0
+abbrev pub IsText : {A : Type 0} → List (Host A) → Text → List Line → Type 0
 IsText hosts text script = Reads Whole hosts text script
 
 -- the text is no script: line n is the first outside the grammar
-abbrev pub IsBadText : {A : Type 0} → List (Host A) → List ℕ → ℕ → Type 0
+abbrev pub IsBadText : {A : Type 0} → List (Host A) → Text → ℕ → Type 0
 IsBadText hosts text n = FirstBad Whole hosts text n
 
 -- what the source had left, where it tells that, is a script of these lines
@@ -131,7 +132,7 @@ abbrev pub IsBadAt : {A : Type 0} → List (Host A) → Option (List ℕ) → �
 IsBadAt hosts left n = IfSome left (λ text. IsBadText hosts text n)
 
 -- the words are those of a run, the source tells a text within the limit, and no read of it failed
-pub record IsReadable (words : List (String Global)) (left : Option (List ℕ)) (text : List ℕ) (before after : ℕ) : Type 0 where
+pub record IsReadable (words : List (String Global)) (left : Option (List ℕ)) (text : Text) (before after : ℕ) : Type 0 where
   pub run : AreRunWords words
   pub told : left ≡ Some text
   pub within : length text ≤ MAX_SCRIPT_BYTES
@@ -142,7 +143,7 @@ abbrev pub IsWithin : Option (List ℕ) → Type 0
 IsWithin left = IfSome left (λ text. length text ≤ MAX_SCRIPT_BYTES)
 
 -- the words are those of a run, the source tells a text beyond the limit, and no read of it failed
-pub record IsTooMuch (words : List (String Global)) (left : Option (List ℕ)) (text : List ℕ) (before after : ℕ) : Type 0 where
+pub record IsTooMuch (words : List (String Global)) (left : Option (List ℕ)) (text : Text) (before after : ℕ) : Type 0 where
   pub run : AreRunWords words
   pub told : left ≡ Some text
   pub beyond : MAX_SCRIPT_BYTES < length text
@@ -155,17 +156,17 @@ module _ {A : Type 0} (behaviour : Behaviour A) (form : Form) (hosts : List (Hos
   begin = world_of hosts seed stores
 
   -- the events of the script in the weather that the board's lines of a text tell
-  abbrev pub events_by : List ℕ → List WorldEvent
+  abbrev pub events_by : Text → List WorldEvent
   events_by text = events_of behaviour (weather_in (names_of hosts) text) begin script
 
   -- what the script is written as in that weather
-  abbrev pub transcript_by : List ℕ → List ℕ
+  abbrev pub transcript_by : Text → List ℕ
   transcript_by text = transcript behaviour (weather_in (names_of hosts) text) hosts seed stores script
 
   -- the script was run to its end. The text that was appended is its transcript, in the weather that the text itself tells; no turn
   -- met damage; the board went along with the events; and what a crash may leave of it has the stores of the world at the end
   pub record RunsWhole (old new : View) (before after : Option (List ℕ)) : Type 0 where
-    pub text : List ℕ
+    pub text : Text
     pub appended : Appends before after text
     pub all : text ≡ transcript_by text
     pub undamaged : HasNoDamage (events_by text)
@@ -176,7 +177,7 @@ module _ {A : Type 0} (behaviour : Behaviour A) (form : Form) (hosts : List (Hos
   -- line of the board further. The text is theirs, and at most that of the last wasn't written to its end; and what a crash may leave
   -- of the board has the stores of the world behind them
   pub record RunsFront (new : View) (before after : Option (List ℕ)) : Type 0 where
-    pub text : List ℕ
+    pub text : Text
     pub appended : Appends before after text
     pub further : List ℕ
     pub one : IsBoardLineOrNone (names_of hosts) further
@@ -206,7 +207,7 @@ pub record RunsToPower {A : Type 0} (behaviour : Behaviour A) (form : Form) (hos
   pub pick : ℕ
   pub rest : List Line
   pub split : script ≡ front ++ lines.Power pick ∷ rest
-  pub text : List ℕ
+  pub text : Text
   pub appended : Appends before after text
   pub all : text ≡ transcript_by behaviour form hosts seed stores front text
   pub between : View

@@ -16,9 +16,10 @@ use Rattle.script.specs.declared.line.Line.{Line}
 use Rattle.script.specs.declared.line.Line.TheVariants as lines
 use Rattle.script.specs.Grammar.{names_of}
 use Rattle.tee_core.specs.declared.happened.Happened.{Happened}
-use Rattle.tee_core.specs.Happenings.{happening}
+use Rattle.tee_core.specs.Happenings.{happened_in}
 use Rattle.tee_core.specs.Powers.{after_power, told_of}
 use Rattle.tee_core.specs.World.{World, AppEvent, events_at, run_events, turn_events, world_of, world_step}
+use Rattle.tee_base.specs.Words.{InstanceNumber}
 
 -- an event of one application; a number of calls that the board lets pass; a loss of power, with the number that picks what is left
 -- on the board, of which this is told
@@ -87,7 +88,7 @@ module _ {A : Type 0} (behaviour : Behaviour A) where
   -- what is written of an event of a machine; nothing where there is no such machine
   abbrev pub machine_lines : List ℕ → Event → Option (Machine A) → List ℕ
   machine_lines name event None = []
-  machine_lines name event (Some m) = happened_lines name (happening behaviour m event)
+  machine_lines name event (Some m) = happened_lines name (happened_in behaviour m event)
 
   -- what is written of an event, under the name of its application
   abbrev pub event_lines : List (List ℕ) → World A → WorldEvent → List ℕ
@@ -104,12 +105,12 @@ module _ {A : Type 0} (behaviour : Behaviour A) where
 module _ {A : Type 0} (behaviour : Behaviour A) where
   -- turns of an instance of the application that has this machine until the operation is answered, at most so many; nothing where
   -- there is no machine
-  abbrev pub until_at : Marks → ℕ → ℕ → ℕ → ℕ → Option (Machine A) → List WorldEvent
+  abbrev pub until_at : Marks → ℕ → InstanceNumber → ℕ → ℕ → Option (Machine A) → List WorldEvent
   until_at marks app instance op most None = []
   until_at marks app instance op most (Some m) = happens (events_at behaviour app (turns_until behaviour marks most m instance op))
 
   -- the same of an application of the world
-  abbrev pub until_events : Marks → World A → ℕ → ℕ → ℕ → ℕ → List WorldEvent
+  abbrev pub until_events : Marks → World A → ℕ → InstanceNumber → ℕ → ℕ → List WorldEvent
   until_events marks world app instance op most = until_at marks app instance op most (slice_get world app)
 
 -- weather says how the turns of each application go, and what losses of power leave

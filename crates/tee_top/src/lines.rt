@@ -1,11 +1,12 @@
 //! Lines, one after the other: what happens in a line is written before the next line is run, and what happens in each event of
 //! a line before the next event is made.
 
+ghost use Rattle.tee_base.specs.declared.limits.TheConstants.{MAX_NUMBER};
 ghost use Rattle.std.specs.Prelude.{◌≡◌, ◌≤◌, ◌<◌, ◌+◌, ◌^◌, ◌↔◌, ℕ, IfOk, IsTrue, Some, [], ◌∷◌, length, slice_get, slice_index_or};
 ghost use Rattle.std.specs.List.{AllByRecursion};
 ghost use Rattle.alone.specs.Machine.{Machine};
 ghost use Rattle.alone.specs.Runs.{most_turns};
-ghost use Rattle.alone.specs.Step.{called};
+ghost use Rattle.alone.specs.Step.{after_call};
 ghost use Rattle.app_api.specs.declared.call.Call.{Call as ClientCall};
 ghost use Rattle.tee_core.specs.Represents.{app_count, app_of, turns_made, Represents};
 ghost use Rattle.tee_core.specs.World.{World, turn_events};
@@ -45,15 +46,12 @@ impl From<NoMemory> for Stop {
     }
 }
 
-/// So many turns an application makes at most. A run that comes there stops as if there were no memory.
-const MOST_TURNS: u64 = 1 << 63;
-
 /// Whether the application may make one turn more.
 fn has_room<B: Board, V: BoardVolume<B>, A: Application>(tee: &TeeOver<B, V, A>, app: u8) -> bool
     requires { app < app_count tee.now }
-    ensures { IsTrue result ↔ (turns_made tee.now app + 1 ≤ 2 ^ 63) }
+    ensures { IsTrue result ↔ (turns_made tee.now app + 1 ≤ MAX_NUMBER) }
 {
-    tee.turns(app) < MOST_TURNS
+    tee.turns(app) < limits::MAX_NUMBER
 }
 
 /// The name of the application of this index.
@@ -90,7 +88,7 @@ fn run_event<B: Board, V: BoardVolume<B>, A: Application, W: Sink>(
     ensures called { IfOk result (λ made. (world : World A) (m : Machine A) (client : ℕ)
         (call : ClientCall) → Represents tee.old world → slice_get world app ≡ Some m
         → event ≡ Event.Call app client call
-        → (made.0 ≡ m.queue.next) × (made.1 ≡ (called m client call).instance)) }
+        → (made.0 ≡ m.queue.next) × (made.1 ≡ (after_call m client call).instance)) }
 {
     if !has_room(tee, app) {
         drop(event);

@@ -22,8 +22,8 @@ abbrev pub new_key : ℕ → ℕ → Key
 new_key kind max_bits = record { kind = kind; max_bits = max_bits; usage = every_usage; secret = None }
 
 -- a new key, where the size fits the kind (section 5.6.1)
-abbrev pub allocated : ℕ → ℕ → Result Key KeyAnswer
-allocated kind max_bits = if size_fits kind max_bits then Ok (new_key kind max_bits) else Err NotSupported
+abbrev pub allocate_answer : ℕ → ℕ → Result Key KeyAnswer
+allocate_answer kind max_bits = if size_fits kind max_bits then Ok (new_key kind max_bits) else Err NotSupported
 
 -- whether a key can be populated: not where it is initialised or more bytes come than one call may bring, which is misuse,
 -- and only by a secret that fits the kind and isn't above the greatest size (section 5.6.4)
@@ -34,8 +34,8 @@ populate_answer key secret =
     else Ok tt
 
 -- the key with this secret
-abbrev pub populated : Key → List ℕ → Key
-populated key secret = record key { secret = Some secret }
+abbrev pub key_with_secret : Key → List ℕ → Key
+key_with_secret key secret = record key { secret = Some secret }
 
 -- without a secret, with all usages (section 5.6.3)
 abbrev pub without_secret : Key → Key
@@ -48,12 +48,12 @@ copy_answer to kind secret =
     else Ok tt
 
 -- with a copy of the secret, and the usages that both have
-abbrev pub copied : Key → ℕ → List ℕ → Key
-copied to usage secret = record to { usage = bit_and to.usage usage; secret = Some secret }
+abbrev pub with_secret_of : Key → ℕ → List ℕ → Key
+with_secret_of to usage secret = record to { usage = bit_and to.usage usage; secret = Some secret }
 
 -- with the usages that it has among these (section 5.5.2)
-abbrev pub restricted : Key → ℕ → Key
-restricted key usage = record key { usage = bit_and key.usage usage }
+abbrev pub with_usages : Key → ℕ → Key
+with_usages key usage = record key { usage = bit_and key.usage usage }
 
 -- what each key in memory keeps: a greatest size that fits its kind, and a secret that isn't above it
 pub record IsKey (key : Key) : Type 0 where

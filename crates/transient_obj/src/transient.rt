@@ -26,7 +26,7 @@ impl Model for Transient {
 
 impl Transient {
     ghost use Rattle.std.specs.Prelude.{◌≡◌, is_ok, is_some, if◌then◌else◌, option_copied};
-    ghost use Rattle.transient_obj.specs.Keys.{IsKey, allocated, populate_answer, populated, without_secret, copy_answer, copied, restricted};
+    ghost use Rattle.transient_obj.specs.Keys.{IsKey, allocate_answer, populate_answer, key_with_secret, without_secret, copy_answer, with_secret_of, with_usages};
 
     /// A new key of this kind, with room for a secret of so many bits, without one and with all usages.
     ///
@@ -34,7 +34,7 @@ impl Transient {
     ///
     /// NotSupported exactly where the size doesn't fit the kind or there is no such kind of key.
     pub fn allocate(kind: u32, max_bits: u32) -> Result<Transient, KeyAnswer>
-        ensures { result ≡ allocated kind max_bits }
+        ensures { result ≡ allocate_answer kind max_bits }
     {
         if !size_fits(kind, max_bits) {
             return Err(KeyAnswer::NotSupported);
@@ -103,7 +103,7 @@ impl Transient {
     pub fn populate(&mut self, secret: &[u8]) -> Result<(), KeyAnswer>
         ensures answer { result ≡ populate_answer self.old secret.now }
         ensures after { self.new
-            ≡ (if is_ok result then populated self.old secret.now else self.old) }
+            ≡ (if is_ok result then key_with_secret self.old secret.now else self.old) }
     {
         if self.secret.is_some() || secret.len() > limits::MAX_ASK_BYTES as usize {
             return Err(KeyAnswer::Misuse);
@@ -133,7 +133,7 @@ impl Transient {
     pub fn copy_from(&mut self, kind: u32, usage: u32, secret: &[u8]) -> Result<(), KeyAnswer>
         ensures answer { result ≡ copy_answer self.old kind secret.now }
         ensures after { self.new
-            ≡ (if is_ok result then copied self.old usage secret.now else self.old) }
+            ≡ (if is_ok result then with_secret_of self.old usage secret.now else self.old) }
     {
         if self.secret.is_some() || self.kind != kind || exceeds(secret, self.max_bits) {
             return Err(KeyAnswer::Misuse);
@@ -145,7 +145,7 @@ impl Transient {
 
     /// Takes all usages away but these.
     pub fn restrict(&mut self, usage: u32)
-        ensures { self.new ≡ restricted self.old usage }
+        ensures { self.new ≡ with_usages self.old usage }
     {
         self.usage &= usage;
     }

@@ -1,15 +1,2 @@
-pub mod ChangeLemmas
-pub mod CountLemmas
-pub mod GatherLemmas
-pub mod IdentifyLemmas
-pub mod KeptLemmas
 pub mod OpenLemmas
-pub mod ReadLemmas
-pub mod SealedLemmas
-pub mod StartLemmas
-pub mod StepLemmas
-pub mod TouchedLemmas
 pub mod VolumeLemmas
-pub mod VerifyLemmas
-pub mod WalkLemmas
-pub mod WriteLemmas

@@ -20,22 +20,22 @@ use Rattle.epoch.specs.Reading.{OnlyReads, is_failure}
 use Rattle.epoch.specs.declared.header.TreeEntry.{TreeEntry}
 use Rattle.epoch.proofs.CommitLemmas.{first_true, sealed_each, second_true}
 use Rattle.epoch.proofs.KeepLemmas.{held_same, in_use_same, leaf_is, left_before, reads_crash, steady_in_use, steady_read}
-use Rattle.tree_volume.specs.Change.{FitsTree}
-use Rattle.tree_volume.specs.Form.{form_root, tree_form}
-use Rattle.tree_volume.specs.Frame.{form_framed}
-use Rattle.tree_volume.specs.Gather.{AreTrue}
+use Rattle.tree_commits.specs.Change.{FitsTree}
+use Rattle.tree_paths.specs.Form.{form_root, tree_form}
+use Rattle.tree_paths.specs.Frame.{form_framed}
+use Rattle.tree_commits.specs.Gather.{AreTrue}
 use Rattle.tree_volume.specs.Keeping.{IsOpen, Replaces, StaysOpen, damage_now, held_now, text_now}
 use Rattle.tree_volume.specs.Opens.{IsBlankNode}
-use Rattle.tree_volume.specs.Shape.{shape}
-use Rattle.tree_volume.specs.Touched.{fresh_of}
-use Rattle.tree_volume.specs.Tree.{Found, damage_below, damage_of, entry_below, on_image, text_of}
-use Rattle.tree_volume.specs.Ways.{found_zero, zero_damage}
+use Rattle.tree_paths.specs.Shape.{shape}
+use Rattle.tree_commits.specs.Touched.{fresh_of}
+use Rattle.tree_paths.specs.Tree.{Found, damage_below, damage_of, entry_below, on_image, text_of}
+use Rattle.tree_paths.specs.Ways.{found_zero, zero_damage}
 use Rattle.epoch.specs.declared.taking.TheConstants.{NO_ROOT}
-use Rattle.tree_volume.specs.declared.touched.Node.{Node}
-use Rattle.tree_volume.specs.declared.touched.Touched.{Touched}
+use Rattle.tree_commits.specs.declared.touched.Node.{Node}
+use Rattle.tree_commits.specs.declared.touched.Touched.{Touched}
 use Rattle.tree_volume.specs.declared.volume.Opened.{Opened}
-use Rattle.tree_volume.proofs.GatherLemmas.{mismatch_told}
-use Rattle.tree_volume.proofs.TouchedLemmas.{fresh_head, fresh_tail}
+use Rattle.tree_commits.proofs.GatherLemmas.{mismatch_told}
+use Rattle.tree_commits.proofs.TouchedLemmas.{fresh_head, fresh_tail}
 
 -- the damage of a leaf
 pub damage_is : (view : View) (root : TreeEntry) (region leaf : ℕ) → region < MAX_HOSTS → leaf < 1024

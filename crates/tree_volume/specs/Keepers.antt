@@ -6,8 +6,8 @@ use Rattle.board.specs.Moment.{moment, left_since}
 use Rattle.board.specs.declared.Board.{Ghosts}
 use Rattle.epoch.specs.Commits.{IsSteady}
 use Rattle.epoch.specs.Forms.{held_of}
-use Rattle.tree_volume.specs.declared.places.TheConstants.{REGION_LEAVES}
-use Rattle.tree_volume.specs.Form.{form_root, tree_form}
+use Rattle.tree_paths.specs.declared.places.TheConstants.{REGION_LEAVES}
+use Rattle.tree_paths.specs.Form.{form_root, tree_form}
 use Rattle.tree_volume.specs.Keeping.{IsOpen, damage_now, held_now, text_now}
 use Rattle.tree_volume.specs.declared.volume.TreeVolume.{TreeVolume}
 

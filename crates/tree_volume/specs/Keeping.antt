@@ -12,11 +12,12 @@ use Rattle.epoch.specs.Commits.{IsSteady}
 use Rattle.epoch.specs.Forms.{held_of, is_leaf, leaves_of}
 use Rattle.epoch.specs.Keeping.{IsInUse, held_now as held_under}
 use Rattle.epoch.specs.declared.header.TreeEntry.{TreeEntry}
-use Rattle.tree_volume.specs.declared.places.TheConstants.{REGION_LEAVES}
+use Rattle.tree_paths.specs.declared.places.TheConstants.{REGION_LEAVES}
 use Rattle.tree_volume.specs.declared.volume.Opened.{Opened}
-use Rattle.tree_volume.specs.Form.{form_root, tree_form}
-use Rattle.tree_volume.specs.Shape.{shape}
-use Rattle.tree_volume.specs.Tree.{damage_of, on_image}
+use Rattle.tree_paths.specs.Form.{form_root, tree_form}
+use Rattle.tree_paths.specs.Shape.{shape}
+use Rattle.tree_paths.specs.Tree.{damage_of, on_image}
+use Rattle.tee_base.specs.Words.{Sequence}
 
 -- the damage of a leaf, by region and leaf number
 unfoldable pub damage_now : View → TreeEntry → ℕ → ℕ → Option Mismatch
@@ -31,17 +32,17 @@ abbrev pub text_now : View → TreeEntry → ℕ → ℕ → List ℕ
 text_now view root = leaves_of tree_form view.key view.state.reads (form_root root)
 
 -- what is held under a root, with the sequence
-abbrev pub held_now : View → TreeEntry → ℕ → Held
+abbrev pub held_now : View → TreeEntry → Sequence → Held
 held_now view root sequence = held_under tree_form view (form_root root) sequence
 
 -- the board is at rest with a sound image that holds this under the root
-abbrev pub IsOpen : View → TreeEntry → ℕ → Type 0
+abbrev pub IsOpen : View → TreeEntry → Sequence → Type 0
 IsOpen view root sequence = IsInUse tree_form view (form_root root) sequence
 
 -- what a commit answers of what it leaves: the sequence
-abbrev pub numbered : Result Opened LeafAnswer → Result ℕ LeafAnswer
-numbered (Ok opened) = Ok opened.sequence
-numbered (Err answer) = Err answer
+abbrev pub sequence_answer : Result Opened LeafAnswer → Result ℕ LeafAnswer
+sequence_answer (Ok opened) = Ok opened.sequence
+sequence_answer (Err answer) = Err answer
 
 -- what is held after a commit, under its root, or else under the root before
 abbrev pub held_after : Result Opened LeafAnswer → Opened → View → Held
@@ -65,9 +66,9 @@ pub record Replaces (region : ℕ) (named : List Leaf) (result : Result Opened L
   pub undamaged : IsUndamaged result
   pub stays : StaysOpen result before new
   pub steady : IsSteady tree_form new.key (form_root (root_after result before)) new.state
-  pub commits : Commits (numbered result) region named
+  pub commits : Commits (sequence_answer result) region named
       (held_now old before.root before.sequence) (held_after result before new)
-  pub crash : LeavesOnly moment left_since old new (λ c. LeftByCommit (numbered result)
+  pub crash : LeavesOnly moment left_since old new (λ c. LeftByCommit (sequence_answer result)
       (held_now old before.root before.sequence)
       (after_commit region named (held_now old before.root before.sequence))
       (held_of tree_form old.key c))

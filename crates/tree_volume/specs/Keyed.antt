@@ -12,6 +12,7 @@ use Rattle.mac_digest.specs.declared.digests.Hasher.TheVariants.{Sha256, Sha384,
 use Rattle.seal.specs.Keys.{AreKeysOf, IsCodeKeyOf}
 use Rattle.seal.specs.declared.codes.CodeKey.{CodeKey}
 use Rattle.seal.specs.declared.keys.Keys.{Keys}
+use Rattle.tee_base.specs.Words.{Key}
 
 -- hash functions by number
 number : Hash → ℕ
@@ -32,9 +33,9 @@ taken_prop (Sha256 h) message = Prim.hlevel props
 taken_prop (Sha384 h) message = Prim.hlevel props
 taken_prop (Sha512 h) message = Prim.hlevel props
 
-code_prop : (ready : CodeKey) (key : List ℕ) → IsProp (IsCodeKeyOf ready key)
+code_prop : (ready : CodeKey) (key : Key) → IsProp (IsCodeKeyOf ready key)
 unfolding IsCodeKeyOf HasTaken256
 code_prop ready key = Prim.hlevel props
 
-pub AreKeysOf-prop : (keys : Keys) (key : List ℕ) → IsProp (AreKeysOf keys key)
+pub AreKeysOf-prop : (keys : Keys) (key : Key) → IsProp (AreKeysOf keys key)
 AreKeysOf-prop keys key = Prim.hlevel (props, code_prop, taken_prop, coded_hash)

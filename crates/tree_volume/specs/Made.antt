@@ -3,13 +3,13 @@ use Rattle.std.specs.Prelude.{◌≤◌, ◌+◌, ◌*◌, ℕ, Bool, List, IsTr
 use Rattle.store_api.specs.declared.leaves.Leaf.{Leaf}
 use Rattle.board.specs.Moment.{View}
 use Rattle.epoch.specs.declared.header.TreeEntry.{TreeEntry}
-use Rattle.tree_volume.specs.declared.places.TheConstants.{DEPTH}
-use Rattle.tree_volume.specs.declared.touched.Node.{Node}
-use Rattle.tree_volume.specs.Gather.{AreOfLeaves, AreTrue}
-use Rattle.tree_volume.specs.Sealed.{AreSealed}
-use Rattle.tree_volume.specs.Shape.{shape}
-use Rattle.tree_volume.specs.Touched.{AreOrdered}
-use Rattle.tree_volume.specs.Tree.{on_image}
+use Rattle.tree_paths.specs.declared.places.TheConstants.{DEPTH}
+use Rattle.tree_commits.specs.declared.touched.Node.{Node}
+use Rattle.tree_commits.specs.Gather.{AreOfLeaves, AreTrue}
+use Rattle.tree_commits.specs.Sealed.{AreSealed}
+use Rattle.tree_paths.specs.Shape.{shape}
+use Rattle.tree_commits.specs.Touched.{AreOrdered}
+use Rattle.tree_paths.specs.Tree.{on_image}
 
 -- the nodes on the ways to these leaves of a region were sealed for this sequence: each as it stood under the root before, but for the
 -- entries of those that were sealed, and the leaves with their new bytes

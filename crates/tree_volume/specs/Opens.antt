@@ -6,9 +6,9 @@ use Rattle.board.specs.Moment.{View}
 use Rattle.epoch.specs.Opens.{Opens as OpensAs}
 use Rattle.epoch.specs.declared.answer.OpenAnswer.{OpenAnswer}
 use Rattle.epoch.specs.declared.taking.TheConstants.{NO_ROOT}
-use Rattle.tree_volume.specs.Form.{tree_form}
+use Rattle.tree_paths.specs.Form.{tree_form}
 use Rattle.tree_volume.specs.Keeping.{IsOpen, held_now}
-use Rattle.tree_volume.specs.declared.touched.Node.{Node}
+use Rattle.tree_commits.specs.declared.touched.Node.{Node}
 use Rattle.tree_volume.specs.declared.volume.Opened.{Opened}
 
 -- the node of the root of a blank board: zeros
@@ -21,9 +21,9 @@ abbrev pub IsOpenAs : Opened → View → Type 0
 IsOpenAs o view = IsOpen view o.root o.sequence
 
 -- and what is held then
-abbrev pub holding : Opened → View → Held
-holding o view = held_now view o.root o.sequence
+abbrev pub held_after : Opened → View → Held
+held_after o view = held_now view o.root o.sequence
 
 -- a board that held this is open with that, or a call failed, or there was no memory; a crash leaves one of the two
 abbrev pub Opens : Held → Held → Result Opened OpenAnswer → View → View → Type 0
-Opens = OpensAs tree_form IsOpenAs holding
+Opens = OpensAs tree_form IsOpenAs held_after

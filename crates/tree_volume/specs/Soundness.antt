@@ -7,13 +7,14 @@ use Rattle.epoch.specs.Forms.{is_leaf, leaves_of}
 use Rattle.epoch.proofs.KeepLemmas.{leaf_is}
 use Rattle.epoch.specs.declared.header.TreeEntry.{TreeEntry}
 use Rattle.epoch.proofs.CommitLemmas.{leaf_below, region_below, sealed_each}
-use Rattle.tree_volume.specs.declared.places.TheConstants.{REGION_LEAVES}
-use Rattle.tree_volume.specs.Form.{form_root, tree_form}
+use Rattle.tree_paths.specs.declared.places.TheConstants.{REGION_LEAVES}
+use Rattle.tree_paths.specs.Form.{form_root, tree_form}
 use Rattle.tree_volume.specs.Keeping.{IsOpen, damage_now, text_now}
-use Rattle.tree_volume.specs.Shape.{shape}
-use Rattle.tree_volume.specs.Tree.{damage_of, on_image}
+use Rattle.tree_paths.specs.Shape.{shape}
+use Rattle.tree_paths.specs.Tree.{damage_of, on_image}
+use Rattle.tee_base.specs.Words.{Sequence}
 
-pub sound_open : (view : View) (root : TreeEntry) (sequence : ℕ) → IsOpen view root sequence
+pub sound_open : (view : View) (root : TreeEntry) (sequence : Sequence) → IsOpen view root sequence
     → (region leaf : ℕ) → damage_now view root region leaf ≡ None
 unfolding damage_now
 sound_open view root sequence is region leaf =

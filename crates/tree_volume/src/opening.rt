@@ -8,7 +8,7 @@ ghost use Rattle.board.specs.Steps.{CallRun, SameBlocks};
 ghost use Rattle.epoch.specs.Alone.{LeavesAlone};
 ghost use Rattle.epoch.specs.Finding.{IsSettledAt, sequence_of};
 ghost use Rattle.epoch.specs.Formats.{IsAccepted};
-ghost use Rattle.epoch.specs.Forms.{held};
+ghost use Rattle.epoch.specs.Forms.{held_in};
 ghost use Rattle.epoch.specs.Mounting.{MountsTo, after_found, after_opening};
 ghost use Rattle.epoch.specs.Mounts.{IsAdmitted, IsKeptFromOpening, IsRefusal, IsRefusedNow, TakesUp};
 ghost use Rattle.epoch.specs.Opening.{no_failure};
@@ -18,16 +18,12 @@ ghost use Rattle.epoch.specs.declared.answer.OpenAnswer.TheVariants as refusals;
 ghost use Rattle.epoch.specs.declared.header.Header.{Header as Kept};
 ghost use Rattle.node_cache.specs.Kept.{HoldsNothing};
 ghost use Rattle.seal.specs.Keys.{AreKeysOf};
-ghost use Rattle.tree_volume.specs.declared.places.TheConstants.{FIRST_BLOCK};
-ghost use Rattle.tree_volume.specs.Form.{form_root, tree_form};
+ghost use Rattle.tree_paths.specs.declared.places.TheConstants.{FIRST_BLOCK};
+ghost use Rattle.tree_paths.specs.Form.{form_root, tree_form};
 ghost use Rattle.tree_volume.specs.Keeping.{IsOpen, held_now};
 ghost use Rattle.tree_volume.specs.Soundness.{damage_formed, text_formed};
 ghost use Rattle.tree_volume.specs.Opens.{IsBlankNode, Opens};
 
-use crate::change::TreeChange;
-use crate::nodes::Nodes;
-use crate::places::{TREE, TREE_BLOCKS};
-use crate::touched::{Node, Touched};
 use crate::volume::{Opened, TreeVolume};
 use board::Board;
 use epoch::{
@@ -36,6 +32,9 @@ use epoch::{
 };
 use seal::Keys;
 use std::alloc::Global;
+use tree_commits::{Node, Touched, TreeChange};
+use tree_paths::Nodes;
+use tree_paths::places::{TREE, TREE_BLOCKS};
 
 /// Opens a board; one that is blank is formatted.
 fn open_board<B: Board>(alloc: Global, board: &mut B, keys: &Keys) -> Result<Opened, OpenAnswer>
@@ -70,7 +69,7 @@ fn open_board<B: Board>(alloc: Global, board: &mut B, keys: &Keys) -> Result<Ope
         → IfErr result (λ why. IsRefusedNow tree_form (B.view board.new) why) }
     ensures opens { B.honest board.old → (n : ℕ) (h : Held) → Rests n (B.view board.old).state
         → TREE_BLOCKS ≤ (B.view board.old).size
-        → held tree_form (B.view board.old).key (B.view board.old).state.reads n ≡ Some h
+        → held_in tree_form (B.view board.old).key (B.view board.old).state.reads n ≡ Some h
         → Opens h (after_opening tree_form (B.view board.old) h) result (B.view board.old)
         (B.view board.new) }
 {

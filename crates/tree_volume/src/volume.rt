@@ -7,7 +7,7 @@ ghost use Rattle.tee_base.specs.declared.limits.TheConstants.{MAX_HOSTS};
 ghost use Rattle.store_api.specs.Volumes.{CommitsLeaves, IfMismatch, ReadsLeaf};
 ghost use Rattle.store_api.specs.Ascending.{is_above_all};
 ghost use Rattle.store_api.specs.declared.leaves.LeafAnswer.TheVariants as answers;
-ghost use Rattle.board.specs.Fuse.{burnt};
+ghost use Rattle.board.specs.Fuse.{fuse_after_call};
 ghost use Rattle.board.specs.Steps.{CallRun};
 ghost use Rattle.epoch.specs.Alone.{LeavesAlone};
 ghost use Rattle.epoch.specs.Forms.{is_sealed, leaves_of};
@@ -17,29 +17,27 @@ ghost use Rattle.epoch.specs.Reading.{no_fault};
 ghost use Rattle.epoch.specs.declared.answer.OpenAnswer.TheVariants.{Rollback};
 ghost use Rattle.epoch.proofs.LeftLemmas.{left_in_use, rests_in_use, since_earlier};
 ghost use Rattle.seal.specs.Keys.{AreKeysOf};
-ghost use Rattle.tree_volume.specs.declared.places.TheConstants.{FIRST_BLOCK, REGION_LEAVES, TREE_BLOCKS};
+ghost use Rattle.tree_paths.specs.declared.places.TheConstants.{FIRST_BLOCK, REGION_LEAVES, TREE_BLOCKS};
 ghost use Rattle.tree_volume.specs.Keyed.{AreKeysOf-prop};
-ghost use Rattle.tree_volume.specs.Form.{form_root, tree_form};
-ghost use Rattle.tree_volume.specs.Frame.{form_framed};
-ghost use Rattle.tree_volume.specs.Identify.{ImagesIdentify};
-ghost use Rattle.tree_volume.specs.Kept.{AreKept};
-ghost use Rattle.tree_volume.specs.Shape.{shape};
-ghost use Rattle.tree_volume.specs.Tree.{on_image};
+ghost use Rattle.tree_paths.specs.Form.{form_root, tree_form};
+ghost use Rattle.tree_paths.specs.Frame.{form_framed};
+ghost use Rattle.tree_paths.specs.Identify.{ImagesIdentify};
+ghost use Rattle.tree_paths.specs.Kept.{AreKept};
+ghost use Rattle.tree_paths.specs.Shape.{shape};
+ghost use Rattle.tree_paths.specs.Tree.{on_image};
 ghost use Rattle.tree_volume.specs.Keeping.{IsOpen, Replaces, damage_now, root_after};
 ghost use Rattle.tree_volume.specs.Made.{IsMade};
 ghost use Rattle.tree_volume.specs.Soundness.{sound_open};
 
-use crate::change::TreeChange;
-use crate::gathering::gather;
-use crate::load_place::find_leaf;
-use crate::nodes::Nodes;
-use crate::places::TREE_BLOCKS;
 use board::Board;
 use epoch::{TreeEntry, commit, exhaust, is_failed};
 use seal::Keys;
 use std::alloc::Global;
 use store_api::{LeafAnswer, Leaves, Volume};
 use tee_base::limits::BLOCK_BYTES;
+use tree_commits::{TreeChange, gather};
+use tree_paths::places::TREE_BLOCKS;
+use tree_paths::{Nodes, find_leaf};
 
 /// A volume whose entries stand in a tree.
 #[derive(Drop)]
@@ -221,7 +219,7 @@ impl<B: Board + Drop> Volume for TreeVolume<B> {
             (B.view self.new.board).state.reads counter ≡ Err (Rollback sequence counter)) }
         // at the last sequence the counter is advanced in vain, and nothing else is called
         ensures exhausted { self.old.lost ≡ false → self.old.sequence ≡ 2 ^ 64 - 1
-            → (B.view self.new.board).fuse ≡ burnt (B.view self.old.board).fuse }
+            → (B.view self.new.board).fuse ≡ fuse_after_call (B.view self.old.board).fuse }
     {
         if self.lost {
             return Err(LeafAnswer::Lost);

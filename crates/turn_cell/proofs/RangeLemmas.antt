@@ -12,7 +12,7 @@ use Rattle.atomic_table.proofs.Lists.{at_set, set_here, set_else, at_longer, at_
 use Rattle.turn_cell.specs.declared.view.SeatView.{SeatView}
 use Rattle.turn_cell.specs.declared.view.Turn.{Turn}
 use Rattle.turn_cell.specs.declared.view.Turn.TheVariants.{Free}
-use Rattle.turn_cell.specs.View.{segment, left_at, right_at, Adjoin, in_order, combined, spent_view}
+use Rattle.turn_cell.specs.View.{segment, left_at, right_at, Adjoin, in_order, combine, spent_view}
 use Rattle.turn_cell.specs.Rule.{TurnFits, HasTurn, IsHolder, Owns, ViewFits}
 use Rattle.turn_cell.proofs.Segments.{prefix_nil, first_segment, second_segment, two_segments}
 use Rattle.turn_cell.proofs.StepLemmas.{at_within, one_view, still, Rule}
@@ -185,7 +185,7 @@ module _ {P E : Type 0} where
   combined_fits : (word holder : ℕ) (owner : ℕ → ℕ) (made parts : List P) (trail : List E) (id other : ℕ) (v w : SeatView P E)
       → ViewFits word holder owner made parts trail id v → ViewFits word holder owner made parts trail other w → v.turn ≡ Free → ¬ (other ≡ id)
       → Whole made parts v w (min v.first w.first) (in_order v w v.own w.own) (in_order v w v.original w.original)
-      → ViewFits word holder (joined_owner owner other id) made parts trail id (combined v w)
+      → ViewFits word holder (joined_owner owner other id) made parts trail id (combine v w)
   combined_fits word holder owner made parts trail id other v w f g free ne x = record {
     inside = x.inside;
     owns = λ k l h.
@@ -275,10 +275,10 @@ module _ {T P E : Type 0} (parts_of : T → List P) (trail_of : T → List E) (m
       }
 
   pub joins : (id other : ℕ) (v w : SeatView P E) → v.turn ≡ Free → w.turn ≡ Free → 0 < length v.own → 0 < length w.own → Adjoin v w
-      → Joins (Rule parts_of trail_of made) id v other w (combined v w) spent_view
+      → Joins (Rule parts_of trail_of made) id v other w (combine v w) spent_view
   joins id other v w free_v free_w some_v some_w adjoin s r at ne there =
       let word : ℕ = slice_index s.words 0 in
-      let both : SeatView P E = combined v w in
+      let both : SeatView P E = combine v w in
       let owner : ℕ → ℕ = joined_owner r.owner other id in
       let views : List (SeatView P E) = set (set s.views id both) other spent_view in
       let apart : ¬ (id ≡ other) = λ e. ne (sym e) in

@@ -14,7 +14,7 @@ use Rattle.turn_cell.specs.declared.view.SeatView.{SeatView}
 use Rattle.turn_cell.specs.declared.view.Turn.{Turn}
 use Rattle.turn_cell.specs.declared.view.Turn.TheVariants.{Free, Taken, Announced}
 use Rattle.turn_cell.specs.View.{segment, ChangesOnlyWithin, opening_view, with_turn, with_word, with_miss, with_wait, with_waits, with_look}
-use Rattle.turn_cell.specs.View.{with_offer, given, settled, taken_parts, taken_trail, announced_parts, announced_trail}
+use Rattle.turn_cell.specs.View.{with_offer, view_after_give, settle, taken_parts, taken_trail, announced_parts, announced_trail}
 use Rattle.turn_cell.specs.Rule.{TurnFits, HasTurn, IsHolder, Owns, ViewFits, SeatIs, AtHome, IsConsistent}
 use Rattle.turn_cell.specs.Steps.{TakesTurn, tries, waits, announces, releases, looks, settles}
 use Rattle.turn_cell.proofs.Segments.{prefix_refl, prefix_nil, prefix_trans, prefix_longer, length-segment, segment_whole, all_segment, spared}
@@ -77,7 +77,7 @@ module _ {P E : Type 0} where
   -- the view of a seat that gave a value fits that value
   given_fits : (word holder : ℕ) (owner : ℕ → ℕ) (made parts new_parts : List P) (trail new_trail : List E) (seat : ℕ) (v : SeatView P E)
       → ViewFits word holder owner made parts trail seat v → ChangesOnlyWithin v.first (length v.own) parts new_parts → IsPrefix trail new_trail
-      → (length (segment v.first (length v.own) new_parts) ≡ length v.own) × ViewFits 0 holder owner made new_parts new_trail seat (given v new_parts new_trail)
+      → (length (segment v.first (length v.own) new_parts) ≡ length v.own) × ViewFits 0 holder owner made new_parts new_trail seat (view_after_give v new_parts new_trail)
   given_fits word holder owner made parts new_parts trail new_trail seat v f changes grows =
       let long : length new_parts ≡ length parts = changes.0 in
       let within : v.first + length v.own ≤ length new_parts = let i = f.inside in omega arith in
@@ -327,10 +327,10 @@ module _ {T P E : Type 0} (parts_of : T → List P) (trail_of : T → List E) (m
       let homes_are : homes_after s.homes me.1 gives ≡ homes = ap (λ (c : List (ℕ × Option T)). homes_after s.homes c gives) hand in
       let at_home : AtHome parts_of trail_of homes new_parts new_trail = (value, set_here s.homes 0 (logic.some (Some value)) (omega (arith, r.one_slot)), refl, refl) in
       let one : length homes ≡ 1 = length-set s.homes 0 (logic.some (Some value)) ∙ r.one_slot in (
-        given v new_parts new_trail,
+        view_after_give v new_parts new_trail,
         gives,
         tt,
-        renew s r id 0 me.1 v (given v new_parts new_trail) gives r.holder new_parts new_trail at refl fits.0 (rw homes_are one) (changes.0 ∙ r.counted)
+        renew s r id 0 me.1 v (view_after_give v new_parts new_trail) gives r.holder new_parts new_trail at refl fits.0 (rw homes_are one) (changes.0 ∙ r.counted)
             (λ e. rw homes_are at_home)
             (λ k. absurd (omega arith))
             fits.1
@@ -339,7 +339,7 @@ module _ {T P E : Type 0} (parts_of : T → List P) (trail_of : T → List E) (m
             (subst (λ (i : ℕ). ViewFits word r.holder r.owner made r.parts r.trail i v) has.1 f) some_part (r.each j u e) changes grows),
         (
           ap₂ (λ (z : SeatView P E) (c : List (ℕ × Option T)). (z, c))
-              (ap (λ (z : Turn P E). given v (announced_parts z) (announced_trail z)) (sym turn))
+              (ap (λ (z : Turn P E). view_after_give v (announced_parts z) (announced_trail z)) (sym turn))
               (ap (λ (c : List (ℕ × Option T)). carried_after c gives) hand),
           fits.0,
         ),
@@ -351,7 +351,7 @@ module _ {T P E : Type 0} (parts_of : T → List P) (trail_of : T → List E) (m
       let v : SeatView P E = me.0 in
       let f = r.each id v at in
       let l = prefix_longer v.trail v.incoming r.trail f.behind f.incoming_behind in
-      let f' : ViewFits (slice_index s.words 0) r.holder r.owner made r.parts r.trail id (settled v) = record {
+      let f' : ViewFits (slice_index s.words 0) r.holder r.owner made r.parts r.trail id (settle v) = record {
         inside = f.inside;
         owns = f.owns;
         knows = f.knows;
@@ -360,7 +360,7 @@ module _ {T P E : Type 0} (parts_of : T → List P) (trail_of : T → List E) (m
         incoming_behind = prefix_nil r.trail;
         turn_fits = f.turn_fits;
       } in
-      (settled v, keeps, tt, stays s r id me.1 v (settled v) at refl refl (λ o. o) f', (refl, l.0, l.1))
+      (settle v, keeps, tt, stays s r id me.1 v (settle v) at refl refl (λ o. o) f', (refl, l.0, l.1))
 
   -- where a free seat owns all parts nobody has the value
   not_out : (s : Cell) (r : Rule s) (id : ℕ) (v : SeatView P E) → get_elem? s.views id ≡ logic.some v → v.turn ≡ Free → v.first ≡ 0 → length v.own ≡ length made

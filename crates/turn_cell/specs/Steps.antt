@@ -5,7 +5,7 @@ use mathlib.Core.List.{IsPrefix}
 use Rattle.atomic_table.specs.Table.{Me}
 use Rattle.turn_cell.specs.declared.view.SeatView.{SeatView}
 use Rattle.turn_cell.specs.declared.view.Turn.TheVariants.{Taken}
-use Rattle.turn_cell.specs.View.{Continues, with_turn, with_word, with_miss, with_wait, with_look, with_offer, released, settled}
+use Rattle.turn_cell.specs.View.{Continues, with_turn, with_word, with_miss, with_wait, with_look, with_offer, view_after_release, settle}
 
 module _ {T P E : Type 0} (parts_of : T → List P) (trail_of : T → List E) where
   -- the turn is taken: the value's parts and trail are taken down, and the slot is in the seat's hands
@@ -28,7 +28,7 @@ module _ {T P E : Type 0} (parts_of : T → List P) (trail_of : T → List E) wh
 module _ {S P E : Type 0} where
   -- the turn ends, the seat knows what it announced, and its hands are empty
   abbrev pub releases : Me S (SeatView P E) → Me S (SeatView P E) → Type 0
-  releases me me' = (me' ≡ (released me.0, [])) × (length me'.0.own ≡ length me.0.own)
+  releases me me' = (me' ≡ (view_after_release me.0, [])) × (length me'.0.own ≡ length me.0.own)
 
   -- the word is looked at
   abbrev pub looks : Me S (SeatView P E) → ℕ → Me S (SeatView P E) → Type 0
@@ -36,4 +36,4 @@ module _ {S P E : Type 0} where
 
   -- of two trails, each of which begins the trail of the cell, the longer is kept
   abbrev pub settles : Me S (SeatView P E) → Me S (SeatView P E) → Type 0
-  settles me me' = (me' ≡ (settled me.0, me.1)) × IsPrefix me.0.trail me'.0.trail × IsPrefix me.0.incoming me'.0.trail
+  settles me me' = (me' ≡ (settle me.0, me.1)) × IsPrefix me.0.trail me'.0.trail × IsPrefix me.0.incoming me'.0.trail

@@ -68,8 +68,8 @@ module _ {P E : Type 0} where
   CutsWithin from v = (v.first < from) × (from < v.first + length v.own)
 
   -- the view after a value with these parts and this trail was given
-  abbrev pub given : SeatView P E → List P → List E → SeatView P E
-  given v parts trail = record v { own = segment v.first (length v.own) parts; trail = trail; turn = Free }
+  abbrev pub view_after_give : SeatView P E → List P → List E → SeatView P E
+  view_after_give v parts trail = record v { own = segment v.first (length v.own) parts; trail = trail; turn = Free }
 
   -- the view without its parts from a place on
   abbrev pub left_at : ℕ → SeatView P E → SeatView P E
@@ -100,8 +100,8 @@ module _ {P E : Type 0} where
   in_order v w xs ys = if nat_le v.first w.first then xs ++ ys else ys ++ xs
 
   -- both ranges, and the other's trail beside one's own
-  abbrev pub combined : SeatView P E → SeatView P E → SeatView P E
-  combined v w = record v {
+  abbrev pub combine : SeatView P E → SeatView P E → SeatView P E
+  combine v w = record v {
     first = min v.first w.first;
     own = in_order v w v.own w.own;
     original = in_order v w v.original w.original;
@@ -109,12 +109,12 @@ module _ {P E : Type 0} where
   }
 
   -- the longer of the two trails in place of both
-  abbrev pub settled : SeatView P E → SeatView P E
-  settled v = record v { trail = longer v.trail v.incoming; incoming = [] }
+  abbrev pub settle : SeatView P E → SeatView P E
+  settle v = record v { trail = longer v.trail v.incoming; incoming = [] }
 
   -- the view of a seat that another was joined into
-  abbrev pub joined : SeatView P E → SeatView P E → SeatView P E
-  joined v w = settled (combined v w)
+  abbrev pub view_after_join : SeatView P E → SeatView P E → SeatView P E
+  view_after_join v w = settle (combine v w)
 
   -- the view of a seat that was joined into another: it owns nothing
   abbrev pub spent_view : SeatView P E
@@ -149,8 +149,8 @@ module _ {P E : Type 0} where
   with_offer v parts trail = record v { turn = Announced (taken_parts v.turn) (taken_trail v.turn) parts trail }
 
   -- the view after what was announced was given
-  abbrev pub released : SeatView P E → SeatView P E
-  released v = given v (announced_parts v.turn) (announced_trail v.turn)
+  abbrev pub view_after_release : SeatView P E → SeatView P E
+  view_after_release v = view_after_give v (announced_parts v.turn) (announced_trail v.turn)
 
   -- the view has the turn, and has taken down the value's parts and its trail
   abbrev pub HoldsTurn : SeatView P E → Type 0

@@ -93,9 +93,9 @@ impl<P, E> Split<SeatView<P, E>> for Brand {
 pub struct Combine;
 
 impl<P, E> Join<SeatView<P, E>> for Combine {
-    ghost use Rattle.turn_cell.specs.View.{combined, spent_view};
+    ghost use Rattle.turn_cell.specs.View.{combine, spent_view};
 
-    ghost both = { combined };
+    ghost both = { combine };
 
     ghost spent = { spent_view };
 }

@@ -14,14 +14,14 @@ use tee_base::{Bytes, Code, NoMemory};
 
 /// The command returns a code with nothing.
 fn fail(code: Code) -> Reaction<Store>
-    ensures { result ≡ rows.failed code }
+    ensures { result ≡ rows.end_with_code code }
 {
     Reaction::fail_with(Store::Idle, code)
 }
 
 /// The command returns these outputs.
 fn succeed(outs: Outs) -> Reaction<Store>
-    ensures { result ≡ rows.succeeded outs }
+    ensures { result ≡ rows.end_command outs }
 {
     Reaction::succeed_with(Store::Idle, outs)
 }
@@ -35,7 +35,7 @@ fn fall_short(outs: Outs) -> Reaction<Store>
 
 /// An answer that isn't the one hoped for.
 fn refused(answer: Answer) -> Reaction<Store>
-    ensures { result ≡ rows.refused answer }
+    ensures { result ≡ rows.end_with_refusal answer }
 {
     match answer {
         Answer::Refused(code) => fail(code),

@@ -1,7 +1,7 @@
 // How seats share out a range of parts, and bring it back.
 ghost use Rattle.std.specs.Prelude.{◌≡◌, ◌+◌, ◌-◌, [], length, min};
 ghost use mathlib.Core.List.{IsPrefix};
-ghost use Rattle.turn_cell.specs.View.{Adjoin, CutsWithin, joined, left_at, right_at};
+ghost use Rattle.turn_cell.specs.View.{Adjoin, CutsWithin, view_after_join, left_at, right_at};
 ghost use Rattle.turn_cell.specs.Words.{view, IsFree, IsSeatOf};
 
 use super::{CellSeat, RangeSeat, TableSeat, TurnCell};
@@ -56,7 +56,8 @@ impl<T: Parted> TurnCell<T> {
         requires free { IsFree seat.old × IsFree other }
         requires adjoin { Adjoin (view seat.old) (view other) }
         ensures own { IsSeatOf self.now seat.new }
-        ensures joined { IsFree seat.new × (view seat.new ≡ joined (view seat.old) (view other)) }
+        ensures joined { IsFree seat.new × (view seat.new
+            ≡ view_after_join (view seat.old) (view other)) }
         ensures first { (view seat.new).first ≡ min (view seat.old).first (view other).first }
         ensures size { length (view seat.new).own
             ≡ length (view seat.old).own + length (view other).own }

@@ -1,8 +1,8 @@
 // The turn: how a seat takes the value, gives it back, and looks at the word.
 ghost use Rattle.std.specs.Prelude.{◌≡◌, ◌≢◌, ◌+◌, ◌<◌, [], ◌∷◌, IfErr, IfOk, None, OnErr, OnOk, Some, length};
 ghost use Rattle.turn_cell.specs.Steps.{tries, waits};
-ghost use Rattle.turn_cell.specs.View.{Continues, with_turn, with_word, with_miss, with_wait, with_waits, with_look, with_offer, given};
-ghost use Rattle.turn_cell.specs.View.{HoldsTurn, Offers, KeepsOtherParts, ExtendsTrail, released};
+ghost use Rattle.turn_cell.specs.View.{Continues, with_turn, with_word, with_miss, with_wait, with_waits, with_look, with_offer, view_after_give};
+ghost use Rattle.turn_cell.specs.View.{HoldsTurn, Offers, KeepsOtherParts, ExtendsTrail, view_after_release};
 ghost use Rattle.turn_cell.specs.Words.{view, IsFree, IsSeatOf, HasTaken, HoldsValue, name_of};
 
 use super::{Busy, CellSeat, RangeSeat, TableSeat, TurnCell};
@@ -129,7 +129,7 @@ impl<T: Parted> TurnCell<T> {
         ensures own { IsSeatOf self.now seat.new }
         ensures free { IsFree seat.new }
         ensures given { view seat.new
-            ≡ given (view seat.old) (T.parts_of value) (T.trail_of value) }
+            ≡ view_after_give (view seat.old) (T.parts_of value) (T.trail_of value) }
     {
         let own_word = seat.own_word();
         self.slot_home(&mut seat.seat, own_word, value);
@@ -165,7 +165,7 @@ impl<T: Parted> TurnCell<T> {
             × Offers T.parts_of T.trail_of seat.old.me.0 x }
         requires some_part { 0 < length seat.old.me.0.own }
         ensures own { seat.new.table_id ≡ seat.old.table_id }
-        ensures given { seat.new.me ≡ (released seat.old.me.0, []) }
+        ensures given { seat.new.me ≡ (view_after_release seat.old.me.0, []) }
         ensures same_length { length seat.new.me.0.own ≡ length seat.old.me.0.own }
     {
         self.table.shared.store::<Release<T>>(seat, 0, 0);

@@ -5,7 +5,7 @@ use Rattle.aes_core.specs.Key.{key_bytes}
 use Rattle.aes_core.specs.Shared.{IsSharedStart}
 use Rattle.aes_modes.proofs.CounterLemmas.{rest_more}
 use Rattle.aes_modes.specs.Modes.{counter_block}
-use Rattle.ae_modes.specs.Gcm.{raised, text_from}
+use Rattle.ae_modes.specs.Gcm.{counter_after, text_from}
 use Rattle.ae_modes.proofs.TextLemmas.{text_more}
 use Rattle.ae_modes.proofs.text.write_text.Goals as goal
 
@@ -19,7 +19,7 @@ loop-i-init c =
       rest_is = refl;
       start_is =
           subst (λ (n : ℕ). IsSharedStart c.args.key.now (counter_block n) c.start_at-start.result)
-          (c.raised.ensures ∙ ap (raised c.args.counter) none) c.start_at-start.ensures;
+          (c.raised.ensures ∙ ap (counter_after c.args.counter) none) c.start_at-start.ensures;
     }
 
 pub loop-i-preserved : goal.loop-i-preserved
@@ -43,5 +43,5 @@ loop-i-preserved c =
           (place % 16 + at - 16 * i) (omega arith) (omega arith) refl (omega arith) (omega arith) (omega arith) inv.text_is
           (c.write_piece.ensures ∙ rw c.raised-here.ensures refl);
       rest_is = rest_more c.loop-i.output c.args.output.now c.write_piece.new.output at (end - at) end (omega arith) width (omega arith) inv.rest_is;
-      start_is = subst (λ (n : ℕ). IsSharedStart c.args.key.now (counter_block (raised c.args.counter n)) c.go_on.new.start) next c.go_on.ensures;
+      start_is = subst (λ (n : ℕ). IsSharedStart c.args.key.now (counter_block (counter_after c.args.counter n)) c.go_on.new.start) next c.go_on.ensures;
     }

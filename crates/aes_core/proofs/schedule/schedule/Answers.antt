@@ -1,5 +1,5 @@
 use Rattle.std.proofs.Common.{◌≡◌, ◌-◌, ◌+◌, ◌*◌, ◌/◌, ℕ, refl, ap, ◌∙◌, length, length-set, arith}
-use Rattle.aes_core.specs.KeyExpansion.{key_words, expanded}
+use Rattle.aes_core.specs.KeyExpansion.{key_words, round_key_words}
 use Rattle.aes_core.proofs.KeyLemmas.{key_words_next, key_length_bounds}
 use Rattle.aes_core.proofs.schedule.schedule.Goals as goal
 
@@ -18,7 +18,7 @@ loop-i-preserved c =
     )
 
 pub returns : goal.returns
-unfolding expanded
+unfolding round_key_words
 returns c =
     let nk : ℕ = length c.args.key.now / 4 in
     let over : c.loop-i.i ≡ 4 * (nk + 7) = omega arith in

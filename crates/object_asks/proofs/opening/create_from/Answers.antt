@@ -1,7 +1,7 @@
 use Rattle.std.proofs.Common.{◌≡◌, Err, true, ap, refl, rules, sym, ◌∙◌}
 use Rattle.store_api.specs.Keeping.{Contents}
 use Rattle.store_api.specs.Stores.{Store}
-use Rattle.object_asks.specs.Asks.{created, created_with}
+use Rattle.object_asks.specs.Asks.{create_outcome, created_with}
 use Rattle.object_asks.specs.Serving.{objects_in}
 use Rattle.object_asks.specs.Sources.{IsObjectKey, stored_key}
 use Rattle.object_asks.proofs.GivenLemmas.{given_refusal}
@@ -22,7 +22,7 @@ returns g c =
     let held = c.args.held.now in
     let key = c.in_ok-key.key in
     let read = c.in_ok-key.ensures in
-    let made = λ (k : Contents). created (objects_in held k) c.args.instance c.args.id c.args.flags c.args.content key in
+    let made = λ (k : Contents). create_outcome (objects_in held k) c.args.instance c.args.id c.args.flags c.args.content key in
     let one = looked t (λ store. stored_key store c.args.attr.now) IsObjectKey key c.args.store.now c.read_key.new.store read in
     given_after t g.met.T.AppStore.honest_model c.create_object.result (made (t.contents c.read_key.new.store))
     (created_with (objects_in held (t.contents c.args.store.now)) c.args.instance c.args.id c.args.flags c.args.content (stored_key (t.contents c.args.store.now).store c.args.attr.now))

@@ -2,7 +2,7 @@ use Rattle.operation_asks.proofs.TableLemmas.{slot, nowhere, Slot}
 use Rattle.operation_asks.proofs.AskLemmas.{key_none, key_slot, with_told}
 use Rattle.std.proofs.Common.{ap, ◌∙◌, List, ℕ, subst}
 use Rattle.operation_asks.specs.Represents.{AreOperations}
-use Rattle.crypto_ops.specs.Operations.{keyed, set_key_answer, after_ok}
+use Rattle.crypto_ops.specs.Operations.{with_key, set_key_answer, after_ok}
 use Rattle.crypto_ops.specs.Represents.{Represents}
 use Rattle.operation_asks.proofs.table.take_key.Goals as goal
 
@@ -19,4 +19,4 @@ returns c os are =
     with_told AreOperations _ _ _ _ c.told_done.ensures
     (key_slot c.args.instance c.args.op c.args.entries.now.items os c.in-Some.place c.index_mut.result.now c.args.key.now c.set_key.result c.set_key.new.self s
     (c.set_key.ensures.answer s.operation s.means ∙ ap (set_key_answer s.operation c.args.key.now.kind c.args.key.now.usage) same)
-    (subst (λ (b : List ℕ). Represents c.set_key.new.self (after_ok c.set_key.result s.operation (keyed s.operation b))) same (c.set_key.ensures.after s.operation s.means)))
+    (subst (λ (b : List ℕ). Represents c.set_key.new.self (after_ok c.set_key.result s.operation (with_key s.operation b))) same (c.set_key.ensures.after s.operation s.means)))

@@ -3,7 +3,7 @@ use Rattle.std.proofs.Common.{◌≡◌, ◌≤◌, ◌<◌, ◌+◌, ◌++◌, 
 use Rattle.std.proofs.lemmas.List.Elements.{All-push}
 use Rattle.store_api.specs.Ascending.{is_above_all}
 use Rattle.store_api.specs.declared.leaves.Leaf.{Leaf}
-use Rattle.region_plan.specs.Plans.{ChangeMap, ChangesMap, IsChangedLeaf, bytes_or, changing, with_leaves}
+use Rattle.region_plan.specs.Plans.{ChangeMap, ChangesMap, IsChangedLeaf, bytes_or, leaves_to_change, with_leaves}
 use Rattle.region_plan.specs.Reading.{ReadsOnly, leaves_of}
 use Rattle.region_plan.proofs.NamedLemmas.{named_more, unnamed_more, above_more, above_pushed, few_named, few_unnamed, changing_first, map_done}
 use Rattle.region_plan.proofs.ReadLemmas.{reads_joined, reads_started, leaves_stay}
@@ -24,7 +24,7 @@ loop-leaf-init g c =
           map_done (layout c.args.form) (laid_by c.args.form) (leaves_of g.L.LeafSource.keeper g.L.LeafSource.region c.args.from.now) c.args.map.now c.args.inode c.args.head.now c.args.edit
           c.in_ok-leaves.leaves (c.in_ok-leaves.ensures.each (leaves_of g.L.LeafSource.keeper g.L.LeafSource.region c.args.from.now) first) i (omega (arith, low, start));
       changed = λ h first. c.in_ok-leaves.ensures.changed (leaves_of g.L.LeafSource.keeper g.L.LeafSource.region c.args.from.now) first;
-      few = subst (λ (n : ℕ). length c.in_ok-leaves.leaves ≤ changing (layout c.args.form) c.args.map.now c.args.inode c.args.edit n) (sym start)
+      few = subst (λ (n : ℕ). length c.in_ok-leaves.leaves ≤ leaves_to_change (layout c.args.form) c.args.map.now c.args.inode c.args.edit n) (sym start)
           (let all = changing_first (layout c.args.form) (laid_by c.args.form) c.args.map.now c.args.inode c.args.edit in let some' = c.in_ok-leaves.ensures.few in omega (arith, all, some'));
     }
 
@@ -59,7 +59,7 @@ loop-leaf-preserved g c =
                 subst (λ (l : List Leaf). ChangeMap (layout c.args.form) (leaves_of K R c.args.from.now) l) (sym named)
                 (All-push (λ leaf. ChangesMap (layout c.args.form) (leaves_of K R c.args.from.now) leaf) c.loop-leaf.leaves last (kept.changed h first)
                 (λ low. absurd (let past = kept.later in omega (arith, past, low))));
-            few = subst (λ (l : List Leaf). length l ≤ changing (layout c.args.form) c.args.map.now c.args.inode c.args.edit (c.loop-leaf.leaf + 1)) (sym named)
+            few = subst (λ (l : List Leaf). length l ≤ leaves_to_change (layout c.args.form) c.args.map.now c.args.inode c.args.edit (c.loop-leaf.leaf + 1)) (sym named)
                 (few_named (layout c.args.form) (laid_by c.args.form) c.args.map.now c.args.inode c.args.edit c.loop-leaf.leaves last c.loop-leaf.leaf kept.few
                 (c.in_ok-bytes.ensures.few (ap is_some w.in-Some.is)));
           }
@@ -77,7 +77,7 @@ loop-leaf-preserved g c =
         later = (let past = kept.later in omega (arith, past));
         most = omega (arith, c.loop-leaf-test.true, c.leaves-leaf-end.ensures.is);
         changed = λ h first. subst (λ (l : List Leaf). ChangeMap (layout c.args.form) (leaves_of K R c.args.from.now) l) (sym w.leaves-is) (kept.changed h first);
-        few = subst (λ (l : List Leaf). length l ≤ changing (layout c.args.form) c.args.map.now c.args.inode c.args.edit (c.loop-leaf.leaf + 1)) (sym w.leaves-is)
+        few = subst (λ (l : List Leaf). length l ≤ leaves_to_change (layout c.args.form) c.args.map.now c.args.inode c.args.edit (c.loop-leaf.leaf + 1)) (sym w.leaves-is)
             (few_unnamed (layout c.args.form) (laid_by c.args.form) c.args.map.now c.args.inode c.args.edit c.loop-leaf.leaves c.loop-leaf.leaf kept.few);
       }
     ]
@@ -86,7 +86,7 @@ pub returns-clause-few : goal.returns-clause-few
 returns-clause-few g c =
     let kept = c.loop-leaf.invariant in
     let high = kept.most in
-    subst (λ (n : ℕ). length c.loop-leaf.leaves ≤ changing (layout c.args.form) c.args.map.now c.args.inode c.args.edit n)
+    subst (λ (n : ℕ). length c.loop-leaf.leaves ≤ leaves_to_change (layout c.args.form) c.args.map.now c.args.inode c.args.edit n)
     (let all : c.loop-leaf.leaf ≡ (layout c.args.form).leaves = omega (arith, high, c.loop-leaf-test.false, c.leaves-leaf-end.ensures.is) in all) kept.few
 
 pub returns-clause-named : goal.returns-clause-named

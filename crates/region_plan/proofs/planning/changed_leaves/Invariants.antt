@@ -3,7 +3,7 @@ use Rattle.std.proofs.Common.{◌≡◌, ◌≤◌, ◌<◌, ℕ, true, None, le
 use Rattle.store_api.specs.Ascending.{is_above_all}
 use Rattle.region_plan.specs.Layout.{layout}
 use Rattle.region_plan.specs.Places.{IsMapOf}
-use Rattle.region_plan.specs.Plans.{ChangeMap, IsChangedLeaf, changing, with_leaves}
+use Rattle.region_plan.specs.Plans.{ChangeMap, IsChangedLeaf, leaves_to_change, with_leaves}
 use Rattle.region_plan.specs.Reading.{ReadsOnly, leaves_of}
 use Rattle.region_plan.proofs.planning.changed_leaves.Given as goal
 
@@ -19,5 +19,5 @@ invariant-loop-leaf g l = record {
       (with_leaves l.leaves (leaves_of g.L.LeafSource.keeper g.L.LeafSource.region l.fn.from) i);
   changed : IsTrue g.L.LeafSource.keeper.tells_reads → IsMapOf (layout l.form) (leaves_of g.L.LeafSource.keeper g.L.LeafSource.region l.fn.from) l.old
       → ChangeMap (layout l.form) (leaves_of g.L.LeafSource.keeper g.L.LeafSource.region l.fn.from) l.leaves;
-  few : length l.leaves ≤ changing (layout l.form) l.map l.inode l.edit l.leaf;
+  few : length l.leaves ≤ leaves_to_change (layout l.form) l.map l.inode l.edit l.leaf;
 }

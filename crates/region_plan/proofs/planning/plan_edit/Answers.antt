@@ -1,9 +1,9 @@
 use Rattle.std.proofs.Common.{◌≡◌, ◌≤◌, ◌<◌, ◌+◌, ◌∙◌, ℕ, List, length, min, subst, arith}
 use Rattle.store_api.specs.declared.leaves.Leaf.{Leaf}
 use Rattle.region_plan.specs.Layout.{layout}
-use Rattle.region_plan.specs.Places.{entries_in, free_before, placed}
+use Rattle.region_plan.specs.Places.{entries_in, free_before, place_leaves}
 use Rattle.region_plan.specs.declared.entry.Entry.{Entry}
-use Rattle.region_plan.specs.Plans.{ChangeMap, IsChangedLeaf, IsPlanned, changing, kept_leaves, with_leaves}
+use Rattle.region_plan.specs.Plans.{ChangeMap, IsChangedLeaf, IsPlanned, leaves_to_change, kept_leaves, with_leaves}
 use Rattle.region_plan.specs.Reading.{leaves_of}
 use Rattle.region_plan.specs.Regions.{data_leaves}
 use Rattle.region_plan.proofs.ContentLemmas.{if_ok_three, some_is}
@@ -31,13 +31,13 @@ returns-clause-planned g c h first =
     if_ok_three c.changed_leaves.result
     (λ (named : List Leaf). (i : ℕ) → i < (layout c.args.form).leaves → IsChangedLeaf (layout c.args.form) (leaves_of g.L.LeafSource.keeper g.L.LeafSource.region c.args.from.now)
     c.in-Some.after c.args.inode c.args.head.now c.args.edit i (with_leaves named (leaves_of g.L.LeafSource.keeper g.L.LeafSource.region c.args.from.now) i))
-    (λ (named : List Leaf). length named ≤ changing (layout c.args.form) c.in-Some.after c.args.inode c.args.edit (layout c.args.form).leaves)
+    (λ (named : List Leaf). length named ≤ leaves_to_change (layout c.args.form) c.in-Some.after c.args.inode c.args.edit (layout c.args.form).leaves)
     (λ (named : List Leaf). ChangeMap (layout c.args.form) (leaves_of g.L.LeafSource.keeper g.L.LeafSource.region c.args.from.now) named)
     (λ (named : List Leaf). IsPlanned (layout c.args.form) (leaves_of g.L.LeafSource.keeper g.L.LeafSource.region c.args.from.now) c.args.base.now c.args.inode c.args.head.now c.args.edit named)
     (λ named each few changed. record {
       map = c.in-Some.after;
       edited = record {
-        map_is = λ i below. placed' i below ∙ (λ j. placed (layout c.args.form) (entries_in c.args.base.now) c.args.inode (kept j) (wanted j) i);
+        map_is = λ i below. placed' i below ∙ (λ j. place_leaves (layout c.args.form) (entries_in c.args.base.now) c.args.inode (kept j) (wanted j) i);
         short = omega (arith, wide, wanted, c.if-wanted-quota.false, c.quota.ensures);
         enough =
             subst (λ (n : ℕ). n ≤ kept_leaves c.args.edit.had c.args.edit + free_before (layout c.args.form) (entries_in c.args.base.now) (layout c.args.form).leaves) wanted

@@ -2,7 +2,7 @@ use Rattle.std.proofs.lemmas.Grind.{common_steps}
 use Rattle.std.proofs.Common.{◌≡◌, ◌++◌, ◌∙◌, ℕ, List, Option, length, take, ap, append-nil, refl, subst, sym, arith, length-append, length-take}
 use Rattle.std.proofs.KnownBytes.{Consumes-kept, Consumes-trans}
 use Rattle.std.specs.Io.KnownBytes.{Consumes}
-use Rattle.tee_base.specs.Faults.{Rose, counted}
+use Rattle.tee_base.specs.Faults.{Rose, one_more}
 use Rattle.tee_base.proofs.transfer.read_all.Goals as goal
 
 -- what was read before this piece, and the piece
@@ -35,7 +35,7 @@ pub returns-in-Err-clause-read_fault : goal.returns-in-Err-clause-read_fault
 returns-in-Err-clause-read_fault g c = λ is. subst (λ n. Rose n (g.S.Source.failures c.read.new.self)) c.loop.invariant.no_fault c.in-Err.ensures.cause
 
 pub returns-in-Err-clause-once : goal.returns-in-Err-clause-once
-returns-in-Err-clause-once g c = λ is. (c.in-Err.ensures.counts ∙ ap counted c.loop.invariant.no_fault, c.in-Err.ensures.last)
+returns-in-Err-clause-once g c = λ is. (c.in-Err.ensures.counts ∙ ap one_more c.loop.invariant.no_fault, c.in-Err.ensures.last)
 
 pub returns-in-Err-clause-no_fault : goal.returns-in-Err-clause-no_fault
 returns-in-Err-clause-no_fault g c = λ other. absurd (other refl)

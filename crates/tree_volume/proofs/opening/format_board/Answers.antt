@@ -4,13 +4,13 @@ use Rattle.epoch.proofs.AloneLemmas.{alone_none}
 use Rattle.epoch.proofs.CallLemmas.{run_as, run_failed, run_none}
 use Rattle.epoch.specs.Commits.{IsBegun}
 use Rattle.epoch.specs.Mounts.{IsKeptFromOpening}
-use Rattle.tree_volume.specs.Change.{FitsTree}
-use Rattle.tree_volume.specs.Form.{form_root, tree_form}
-use Rattle.tree_volume.specs.Opens.{IsOpenAs, holding}
-use Rattle.tree_volume.specs.declared.places.TheConstants.{TREE}
+use Rattle.tree_commits.specs.Change.{FitsTree}
+use Rattle.tree_paths.specs.Form.{form_root, tree_form}
+use Rattle.tree_volume.specs.Opens.{IsOpenAs, held_after}
+use Rattle.tree_paths.specs.declared.places.TheConstants.{TREE}
 use Rattle.epoch.specs.declared.taking.TheConstants.{NO_ROOT}
 use Rattle.epoch.specs.Forms.{IsBlankRoot}
-use Rattle.tree_volume.specs.Frame.{form_framed, tree_format, tree_single}
+use Rattle.tree_paths.specs.Frame.{form_framed, tree_format, tree_single}
 use Rattle.epoch.proofs.OpenLemmas.{blank_root, format_failed, opens_without}
 use Rattle.tree_volume.proofs.OpenLemmas.{format_done}
 use Rattle.tree_volume.proofs.VolumeLemmas.{blank_fits}
@@ -22,7 +22,7 @@ blank = blank_root tree_form TREE tree_format tree_single
 pub returns-in_err-blank_node-clause-opens : goal.returns-in_err-blank_node-clause-opens
 returns-in_err-blank_node-clause-opens g c honest h mounts =
     let kept : IfErr c.from_residual.result (λ why. IsKeptFromOpening why) = search rules in
-    opens_without tree_form IsOpenAs holding form_framed (g.B.Board.view c.args.board.now) (form_root NO_ROOT) c.from_residual.result h _
+    opens_without tree_form IsOpenAs held_after form_framed (g.B.Board.view c.args.board.now) (form_root NO_ROOT) c.from_residual.result h _
     (mounts.1 (form_root NO_ROOT) blank) c.from_residual.ensures.0 kept
 
 pub returns-in_err-root-clause-opens : goal.returns-in_err-root-clause-opens
@@ -30,7 +30,7 @@ returns-in_err-root-clause-opens g c honest h mounts =
     let v = g.B.Board.view c.args.board.now in
     let keyed : AreKeysOf c.args.keys.now v.key = c.requires.keyed in
     let kept : IfErr c.from_residual-in_err-root.result (λ why. IsKeptFromOpening why) = search rules in
-    format_failed tree_form IsOpenAs holding v (g.B.Board.view c.commit.new.board) c.from_residual-in_err-root.result h
+    format_failed tree_form IsOpenAs held_after v (g.B.Board.view c.commit.new.board) c.from_residual-in_err-root.result h
     mounts.0 (mounts.1 (form_root NO_ROOT) blank).version
     c.from_residual-in_err-root.ensures.0 kept
     (c.in_err-root.ensures.crash honest h (record {

@@ -5,10 +5,10 @@ use Rattle.epoch.specs.Opening.{no_failure}
 use Rattle.epoch.proofs.PastLemmas.{followed}
 use Rattle.epoch.specs.Mounts.{IsRefusal, IsRefusedNow}
 use Rattle.epoch.proofs.MountLemmas.{kept_refused, rests_holding}
-use Rattle.tree_volume.specs.Form.{form_root, tree_form}
-use Rattle.tree_volume.specs.Opens.{IsOpenAs, holding}
+use Rattle.tree_paths.specs.Form.{form_root, tree_form}
+use Rattle.tree_volume.specs.Opens.{IsOpenAs, held_after}
 use Rattle.tree_volume.specs.declared.volume.Opened.{Opened}
-use Rattle.tree_volume.specs.Frame.{tree_format, form_framed}
+use Rattle.tree_paths.specs.Frame.{tree_format, form_framed}
 use Rattle.epoch.proofs.OpenLemmas.{blocks_more, err_so, not_ok, opens_failed, opens_joined, ruled_opening, told_so}
 use Rattle.tree_volume.proofs.opening.open_board.Goals as goal
 
@@ -47,7 +47,7 @@ returns-in_err-found-clause-opens g c honest n h rests large is =
     let v = g.B.Board.view c.args.board.now in
     let same : c.from_residual.result ≡ Err c.in_err-found.field-0.0 = search rules in
     let mounts = c.in_err-found.ensures.holds honest tree_form h form_framed tree_format large (rests_holding tree_form v.key h n v.state rests is) in
-    opens_failed tree_form IsOpenAs holding v (g.B.Board.view c.mount.new.board) c.in_err-found.field-0.0 c.from_residual.result h _ same mounts.failed mounts.leaves
+    opens_failed tree_form IsOpenAs held_after v (g.B.Board.view c.mount.new.board) c.in_err-found.field-0.0 c.from_residual.result h _ same mounts.failed mounts.leaves
 
 pub returns-clause-rule : goal.returns-clause-rule
 returns-clause-rule g c tells =
@@ -69,7 +69,7 @@ pub returns-clause-opens : goal.returns-clause-opens
 returns-clause-opens g c honest n h rests large is =
     let v = g.B.Board.view c.args.board.now in
     let mounts = c.in_ok-found.ensures.holds honest tree_form h form_framed tree_format large (rests_holding tree_form v.key h n v.state rests is) in
-    opens_joined tree_form IsOpenAs holding v (g.B.Board.view c.mount.new.board) (g.B.Board.view c.take_up.new.board) c.in_ok-found.found c.take_up.result h
+    opens_joined tree_form IsOpenAs held_after v (g.B.Board.view c.mount.new.board) (g.B.Board.view c.take_up.new.board) c.in_ok-found.found c.take_up.result h
     c.in_ok-found.ensures.calls.key mounts.mounted mounts.leaves
     (c.take_up.ensures.opens (c.in_ok-found.ensures.honest honest) h)
 

@@ -6,10 +6,10 @@ use Rattle.epoch.proofs.CallLemmas.{run_none}
 use Rattle.epoch.proofs.OpenLemmas.{opens_none, takes_header}
 use Rattle.tree_volume.proofs.OpenLemmas.{opens_found, takes_none}
 use Rattle.epoch.proofs.PastLemmas.{itself}
-use Rattle.tree_volume.specs.Form.{tree_form}
-use Rattle.tree_volume.specs.Frame.{tree_format, tree_single}
-use Rattle.tree_volume.specs.Opens.{IsOpenAs, holding}
-use Rattle.tree_volume.specs.declared.places.TheConstants.{TREE}
+use Rattle.tree_paths.specs.Form.{tree_form}
+use Rattle.tree_paths.specs.Frame.{tree_format, tree_single}
+use Rattle.tree_volume.specs.Opens.{IsOpenAs, held_after}
+use Rattle.tree_paths.specs.declared.places.TheConstants.{TREE}
 use Rattle.tree_volume.proofs.opening.take_up.Goals as goal
 
 pub returns-in-Some-clause-taken : goal.returns-in-Some-clause-taken
@@ -30,7 +30,7 @@ returns-in-Some-clause-opens g c honest h mounts =
 
 pub returns-in-None-clause-opens : goal.returns-in-None-clause-opens
 returns-in-None-clause-opens g c honest h mounts =
-    opens_none tree_form IsOpenAs holding (g.B.Board.view c.args.board.now) (g.B.Board.view c.format_board.new.board) c.format_board.result c.args.found h
+    opens_none tree_form IsOpenAs held_after (g.B.Board.view c.args.board.now) (g.B.Board.view c.format_board.new.board) c.format_board.result c.args.found h
     c.in-None.is (c.format_board.ensures.opens honest h) mounts
 
 pub returns-in-Some-clause-calls : goal.returns-in-Some-clause-calls

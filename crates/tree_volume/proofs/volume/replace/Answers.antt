@@ -10,22 +10,22 @@ use Rattle.epoch.specs.Commits.{IsBegun, IsSteady}
 use Rattle.epoch.proofs.KeepLemmas.{commit_crash, held_same, in_use_same, leaves_held, mounted_held, mounted_in_use}
 use Rattle.epoch.proofs.PastLemmas.{followed}
 use Rattle.epoch.proofs.SettledLemmas.{steady_rests}
-use Rattle.tree_volume.specs.Change.{FitsTree}
-use Rattle.tree_volume.specs.Form.{form_root, tree_form}
-use Rattle.tree_volume.specs.Frame.{form_framed}
+use Rattle.tree_commits.specs.Change.{FitsTree}
+use Rattle.tree_paths.specs.Form.{form_root, tree_form}
+use Rattle.tree_paths.specs.Frame.{form_framed}
 use Rattle.epoch.specs.Forms.{Root}
 use Rattle.epoch.specs.declared.header.TreeEntry.{TreeEntry}
-use Rattle.tree_volume.specs.Gather.{named}
+use Rattle.tree_commits.specs.Gather.{leaf_among}
 use Rattle.tree_volume.specs.Keeping.{IsOpen, Replaces, damage_now, held_now, root_after}
-use Rattle.tree_volume.specs.Kept.{AreKept}
-use Rattle.tree_volume.specs.Sealed.{AreSealed}
-use Rattle.tree_volume.specs.Shape.{shape}
-use Rattle.tree_volume.specs.Tree.{on_image}
-use Rattle.tree_volume.specs.declared.touched.Node.{Node}
-use Rattle.tree_volume.specs.declared.touched.Touched.{Touched}
+use Rattle.tree_paths.specs.Kept.{AreKept}
+use Rattle.tree_commits.specs.Sealed.{AreSealed}
+use Rattle.tree_paths.specs.Shape.{shape}
+use Rattle.tree_paths.specs.Tree.{on_image}
+use Rattle.tree_commits.specs.declared.touched.Node.{Node}
+use Rattle.tree_commits.specs.declared.touched.Touched.{Touched}
 use Rattle.tree_volume.specs.declared.volume.Opened.{Opened}
-use Rattle.tree_volume.proofs.GatherLemmas.{gathered}
-use Rattle.tree_volume.proofs.KeptLemmas.{kept_now}
+use Rattle.tree_commits.proofs.GatherLemmas.{gathered}
+use Rattle.tree_paths.proofs.KeptLemmas.{kept_now}
 use Rattle.tree_volume.proofs.VolumeLemmas.{above_all, read_replaces, told_damage, true_as}
 use Rattle.tree_volume.proofs.volume.replace.Goals as goal
 
@@ -95,7 +95,7 @@ returns-in-Ok-clause-made g c =
       nodes = c.in_ok-touched.touched;
       few = omega (arith, few, long);
       ordered = told.ordered;
-      named = record { here = λ l below. told.leaves l below ∙ ap (λ (ls : List Leaf). named ls l) c.as_slice.ensures.leaves; elsewhere = told.elsewhere };
+      named = record { here = λ l below. told.leaves l below ∙ ap (λ (ls : List Leaf). leaf_among ls l) c.as_slice.ensures.leaves; elsewhere = told.elsewhere };
       stood = λ tells. told.nodes tells v.key keyed (c.requires.cached tells);
       sealed = subst (AreSealed shape 4 v.key (c.args.opened.sequence + 1) c.in_ok-touched.touched) (ap (λ (r : Root). r.entry) c.in-Ok.ensures.root)
           (c.in-Ok.ensures.entries v.key keyed told.ordered);
@@ -117,7 +117,7 @@ returns-in-Ok-clause-replaced g c h is =
     let fits : FitsTree c.args.keys.now touched c.args.region leaves root mid.key mid.state.reads = record {
       keyed = subst (λ (k : List ℕ). AreKeysOf c.args.keys.now k) (sym told.calls.key) keyed;
       ordered = told.ordered;
-      named = record { here = λ l below. told.leaves l below ∙ ap (λ (ls : List Leaf). named ls l) (c.as_slice.ensures.leaves ∙ sym c.as_slice-2.ensures.leaves); elsewhere = told.elsewhere };
+      named = record { here = λ l below. told.leaves l below ∙ ap (λ (ls : List Leaf). leaf_among ls l) (c.as_slice.ensures.leaves ∙ sym c.as_slice-2.ensures.leaves); elsewhere = told.elsewhere };
       stands = true_as v mid root touched told.calls.key read.1.state.reads (told.nodes tells v.key keyed (c.requires.cached tells));
     } in
     let is' : IsOpen mid root sequence = in_use_same tree_form form_framed v mid (form_root root) sequence told.calls.key read.1.state is in
@@ -154,7 +154,7 @@ returns-clause-replaced g c h is =
     let fits : FitsTree c.args.keys.now touched c.args.region leaves root mid.key mid.state.reads = record {
       keyed = subst (λ (k : List ℕ). AreKeysOf c.args.keys.now k) (sym told.calls.key) keyed;
       ordered = told.ordered;
-      named = record { here = λ l below. told.leaves l below ∙ ap (λ (ls : List Leaf). named ls l) (c.as_slice.ensures.leaves ∙ sym c.as_slice-2.ensures.leaves); elsewhere = told.elsewhere };
+      named = record { here = λ l below. told.leaves l below ∙ ap (λ (ls : List Leaf). leaf_among ls l) (c.as_slice.ensures.leaves ∙ sym c.as_slice-2.ensures.leaves); elsewhere = told.elsewhere };
       stands = true_as v mid root touched told.calls.key read.1.state.reads (told.nodes tells v.key keyed (c.requires.cached tells));
     } in
     let is' : IsOpen mid root sequence = in_use_same tree_form form_framed v mid (form_root root) sequence told.calls.key read.1.state is in

@@ -1,6 +1,6 @@
 use Rattle.std.proofs.Common.{◌∙◌, ap, List, ℕ, refl, rules, length, ◌≡◌}
 use Rattle.aes_core.specs.Cipher.{cipher}
-use Rattle.ae_modes.specs.Code.{chained}
+use Rattle.ae_modes.specs.Code.{chain_value}
 use Rattle.ae_modes.proofs.CodeLemmas.{cmac_is}
 use Rattle.ae_modes.proofs.code.Cmac.finish.Goals as goal
 
@@ -13,6 +13,6 @@ returns-clause-code c = λ key m is.
     ∙ cmac_is key m c.args.self.now.vector c.last_block-last.result long (c.last_block-last.ensures key m is) is.vector_is
 
 pub returns-clause-started : goal.returns-clause-started
-unfolding chained
+unfolding chain_value
 returns-clause-started c = λ key m is.
     record { key_is = is.key_is; subkey_is = is.subkey_is; vector_is = refl; waiting_are = c.none_waiting-self.ensures }

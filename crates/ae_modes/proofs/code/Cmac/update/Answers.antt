@@ -1,7 +1,7 @@
 use Rattle.std.proofs.Common.{◌≡◌, ◌∙◌, ◌+◌, ◌-◌, ◌*◌, ◌/◌, ◌++◌, length, ap, sym, arith, rules}
 use Rattle.std.proofs.lemmas.List.{length-append}
 use Rattle.ae_modes.specs.Cmac.{blocks_before}
-use Rattle.ae_modes.specs.Code.{chained}
+use Rattle.ae_modes.specs.Code.{chain_value}
 use Rattle.ae_modes.specs.Waiting.{waiting_bytes}
 use Rattle.ae_modes.proofs.BlockLemmas.{waiting_count, waiting_of_message}
 use Rattle.ae_modes.proofs.code.Cmac.update.Goals as goal
@@ -17,6 +17,6 @@ returns c = λ key m is.
     record {
       key_is = is.key_is;
       subkey_is = is.subkey_is;
-      vector_is = c.vector_after-self.ensures key m is ∙ ap (chained key (m ++ piece)) all;
+      vector_is = c.vector_after-self.ensures key m is ∙ ap (chain_value key (m ++ piece)) all;
       waiting_are = waiting_of_message m piece (waiting_bytes c.args.self.now.waiting) _ (blocks_before m) _ _ (omega arith) is.waiting_are c.after-self.ensures (sym all);
     }

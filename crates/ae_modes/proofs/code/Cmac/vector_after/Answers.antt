@@ -2,7 +2,7 @@ use Rattle.std.proofs.Common.{◌≡◌, ◌∙◌, ◌+◌, ◌++◌, ℕ, List
 use Rattle.aes_core.specs.Cipher.{cipher}
 use Rattle.aes_modes.specs.Modes.{xor_bytes}
 use Rattle.ae_modes.specs.Cmac.{blocks_before}
-use Rattle.ae_modes.specs.Code.{chained}
+use Rattle.ae_modes.specs.Code.{chain_value}
 use Rattle.ae_modes.proofs.BlockLemmas.{block_of_message}
 use Rattle.ae_modes.proofs.CodeLemmas.{chained-append, chained-next}
 use Rattle.ae_modes.proofs.code.Cmac.vector_after.Goals as goal
@@ -10,7 +10,7 @@ use Rattle.ae_modes.proofs.code.Cmac.vector_after.Goals as goal
 pub loop-i-init : goal.loop-i-init
 loop-i-init c = λ key m is.
     let none : blocks_before m ≡ blocks_before m + 0 = omega arith in
-    is.vector_is ∙ sym (chained-append key m c.args.bytes.now (blocks_before m) (omega arith)) ∙ ap (chained key (m ++ c.args.bytes.now)) none
+    is.vector_is ∙ sym (chained-append key m c.args.bytes.now (blocks_before m) (omega arith)) ∙ ap (chain_value key (m ++ c.args.bytes.now)) none
 
 pub loop-i-preserved : goal.loop-i-preserved
 loop-i-preserved c = λ key m is.

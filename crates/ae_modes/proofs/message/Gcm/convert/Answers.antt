@@ -1,7 +1,7 @@
 use Rattle.std.proofs.Common.{◌≡◌, ◌∙◌, ◌++◌, ℕ, List, sym, length, take, arith, rules}
 use Rattle.std.proofs.lemmas.List.{length-take-le}
 use Rattle.aes_core.specs.Key.{key_bytes}
-use Rattle.ae_modes.specs.Message.{extended, text_of}
+use Rattle.ae_modes.specs.Message.{with_more, text_of}
 use Rattle.ae_modes.proofs.MessageLemmas.{text_of-extended, cipher_encrypted}
 use Rattle.ae_modes.proofs.message.Gcm.convert.Goals as goal
 
@@ -13,7 +13,7 @@ returns-in-Encrypt-clause-text c = λ m is.
 pub returns-in-Encrypt-clause-taken : goal.returns-in-Encrypt-clause-taken
 returns-in-Encrypt-clause-taken c = λ m is.
     let out : List ℕ = take (length c.args.input.now) c.write_text.new.output in
-    let text : text_of (extended m c.args.input.now) ≡ text_of m ++ out =
+    let text : text_of (with_more m c.args.input.now) ≡ text_of m ++ out =
     text_of-extended m c.args.input.now out (key_bytes c.args.self.now.key) c.args.self.now.counter c.args.self.now.text_len
     is.key_is is.counter_is is.text_len_is c.write_text.ensures.text in
     let width : length c.args.input.now ≡ length out =

@@ -4,18 +4,18 @@ use Rattle.aes_core.specs.Key.{key_bytes}
 use Rattle.aes_modes.specs.Modes.{xor_bytes, counter_block}
 use Rattle.ae_modes.specs.Absorbs.{Absorbs}
 use Rattle.ae_modes.specs.Gcm.{hash_subkey, hash_input}
-use Rattle.ae_modes.specs.Ghash.{ghash, filled}
-use Rattle.ae_modes.specs.Message.{Message, restarted, cipher_of}
-use Rattle.ae_modes.specs.Represents.{Represents, hashed}
+use Rattle.ae_modes.specs.Ghash.{ghash, whole_blocks}
+use Rattle.ae_modes.specs.Message.{Message, at_start, cipher_of}
+use Rattle.ae_modes.specs.Represents.{Represents, hash_so_far}
 use Rattle.ae_modes.proofs.MessageLemmas.{length-cipher_of, finished_input, whole_tag_is, hashed_begun, cipher_begun}
 use Rattle.ae_modes.proofs.message.Gcm.finish.Goals as goal
 
 -- what GHASH has taken before its last sum
 taken : (c : goal.After-xor) (m : Message) → Represents c.args.self.now m
-    → Absorbs c.absorb.new.self (hash_subkey m.key) (filled (hashed m.aad (cipher_of m)) ++ c.two_lengths-lengths.result)
+    → Absorbs c.absorb.new.self (hash_subkey m.key) (whole_blocks (hash_so_far m.aad (cipher_of m)) ++ c.two_lengths-lengths.result)
 taken c m is =
-    c.absorb.ensures (hash_subkey m.key) (filled (hashed m.aad (cipher_of m)))
-    (c.fill.ensures (hash_subkey m.key) (hashed m.aad (cipher_of m)) is.hash_is)
+    c.absorb.ensures (hash_subkey m.key) (whole_blocks (hash_so_far m.aad (cipher_of m)))
+    (c.fill.ensures (hash_subkey m.key) (hash_so_far m.aad (cipher_of m)) is.hash_is)
 
 pub returns-clause-tag : goal.returns-clause-tag
 returns-clause-tag c = λ m is.
@@ -40,6 +40,6 @@ returns-clause-restarted c = λ m is.
       text_len_is = refl;
       hash_is =
           subst (λ (x : List ℕ). Absorbs c.restart.new.self (hash_subkey m.key) x)
-          (sym (hashed_begun [] (cipher_of (restarted m)) (cipher_begun m.way m.key m.nonce)))
+          (sym (hashed_begun [] (cipher_of (at_start m)) (cipher_begun m.way m.key m.nonce)))
           (c.restart.ensures (hash_subkey m.key) _ (taken c m is));
     }

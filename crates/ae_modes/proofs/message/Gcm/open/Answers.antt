@@ -1,7 +1,7 @@
 use Rattle.std.proofs.Common.{◌≡◌, ◌∙◌, ℕ, Bool, List, cond, refl, sym, subst, length, take, ap, rules}
 use Rattle.std.specs.Prelude.{◌↔◌, IsTrue, Ok, Err}
 use Rattle.aes_core.specs.Key.{key_bytes}
-use Rattle.ae_modes.specs.Message.{Message, extended, restarted, tag_of, tag_len, open_answer}
+use Rattle.ae_modes.specs.Message.{Message, with_more, at_start, tag_of, tag_len, open_answer}
 use Rattle.ae_modes.specs.Represents.{Represents}
 use Rattle.ae_modes.specs.declared.answers.AeAnswer.TheVariants.{BadTag}
 use Rattle.ae_modes.proofs.MessageLemmas.{cipher_decrypted, open_answered, text_of-extended}
@@ -9,29 +9,29 @@ use Rattle.ae_modes.proofs.message.Gcm.open.Goals as goal
 use Rattle.ae_modes.proofs.message.Gcm.open.Goals.{After-is_same}
 
 -- with the last bytes of the ciphertext
-taken : (c : After-is_same) (m : Message) → Represents c.args.self.now m → Represents c.take_cipher.new.self (extended m c.args.input.now)
+taken : (c : After-is_same) (m : Message) → Represents c.args.self.now m → Represents c.take_cipher.new.self (with_more m c.args.input.now)
 taken c m is = c.take_cipher.ensures.taken m c.args.input.now is refl (cipher_decrypted m c.args.input.now (sym is.way_is ∙ c.requires))
 
 -- as at the start
-ended : (c : After-is_same) (m : Message) → Represents c.args.self.now m → Represents c.finish-whole.new.self (restarted m)
-ended c m is = c.finish-whole.ensures.restarted (extended m c.args.input.now) (taken c m is)
+ended : (c : After-is_same) (m : Message) → Represents c.args.self.now m → Represents c.finish-whole.new.self (at_start m)
+ended c m is = c.finish-whole.ensures.restarted (with_more m c.args.input.now) (taken c m is)
 
 -- what the comparison answers
 compared : (c : After-is_same) (m : Message) → Represents c.args.self.now m
-    → (IsTrue c.is_same.result ↔ (c.args.tag.now ≡ tag_of (extended m c.args.input.now)))
+    → (IsTrue c.is_same.result ↔ (c.args.tag.now ≡ tag_of (with_more m c.args.input.now)))
 compared c m is =
     subst (λ (right : List ℕ). IsTrue c.is_same.result ↔ (c.args.tag.now ≡ right))
     (ap (λ (n : ℕ). take n c.finish-whole.result) (ended c m is).tag_len_is
-    ∙ ap (take (tag_len m)) (c.finish-whole.ensures.tag (extended m c.args.input.now) (taken c m is)))
+    ∙ ap (take (tag_len m)) (c.finish-whole.ensures.tag (with_more m c.args.input.now) (taken c m is)))
     c.is_same.ensures
 
 -- the answer, by the comparison
 answered : (c : After-is_same) (m : Message) (same : Bool) → Represents c.args.self.now m
-    → (IsTrue same ↔ (c.args.tag.now ≡ tag_of (extended m c.args.input.now)))
+    → (IsTrue same ↔ (c.args.tag.now ≡ tag_of (with_more m c.args.input.now)))
     → cond c.is_same.result (Ok (length c.args.input.now)) (Err BadTag) ≡ open_answer m (length c.args.input.now) (length c.args.output.now) same
 answered c m same is right =
     open_answered m (length c.args.input.now) (length c.args.output.now) c.args.self.now.text_len c.is_same.result same c.args.tag.now
-    (tag_of (extended m c.args.input.now)) is.text_len_is c.in_ok-written.ensures.fits c.in_ok-written.ensures.room (compared c m is) right
+    (tag_of (with_more m c.args.input.now)) is.text_len_is c.in_ok-written.ensures.fits c.in_ok-written.ensures.room (compared c m is) right
 
 pub returns-then-not-is_same-clause-answer : goal.returns-then-not-is_same-clause-answer
 returns-then-not-is_same-clause-answer c = λ m same is right.

@@ -3,15 +3,15 @@ use Rattle.std.proofs.lemmas.List.{length-append}
 use Rattle.ae_modes.specs.Absorbs.{Absorbs}
 use Rattle.ae_modes.specs.Gcm.{hash_subkey}
 use Rattle.ae_modes.specs.Message.{cipher_of}
-use Rattle.ae_modes.specs.Represents.{hashed}
+use Rattle.ae_modes.specs.Represents.{hash_so_far}
 use Rattle.ae_modes.proofs.MessageLemmas.{cipher_none, hashed_begun}
 use Rattle.ae_modes.proofs.message.Gcm.take_aad.Goals as goal
 
 pub returns-clause-taken : goal.returns-clause-taken
 returns-clause-taken c = λ m is.
     let none : cipher_of m ≡ [] = cipher_none m (sym is.text_len_is ∙ c.requires.early) in
-    let taken : Absorbs c.absorb.new.self (hash_subkey m.key) (hashed m.aad (cipher_of m) ++ c.args.bytes.now) =
-    c.absorb.ensures (hash_subkey m.key) (hashed m.aad (cipher_of m)) is.hash_is in
+    let taken : Absorbs c.absorb.new.self (hash_subkey m.key) (hash_so_far m.aad (cipher_of m) ++ c.args.bytes.now) =
+    c.absorb.ensures (hash_subkey m.key) (hash_so_far m.aad (cipher_of m)) is.hash_is in
     record {
       key_is = is.key_is;
       way_is = is.way_is;

@@ -2,7 +2,7 @@ use Rattle.std.proofs.Common.{◌+◌, ◌≤◌, ◌++◌, ◌∷◌, [], ◌�
 use Rattle.tee_base.specs.declared.limits.TheConstants.{MAX_LOG_BYTES}
 use Rattle.alone.specs.declared.log_entry.LogEntry.{LogEntry}
 use Rattle.alone.specs.declared.reply.Reply.{Reply}
-use Rattle.alone.specs.KeptLogs.{event_by, logged}
+use Rattle.alone.specs.KeptLogs.{event_by, log_with_replies}
 use Rattle.alone.specs.Logs.{bytes_in, entry, replies_in}
 use Rattle.alone.proofs.LogLemmas.{kept_push, length_logged, logged_push, replies_logged}
 use Rattle.alone.proofs.log.AppLog.push.Goals as goal
@@ -38,7 +38,7 @@ returns-clause-more c =
     let es = c.self.inside.entries.items in
     let rs = c.self.inside.replies.items in
     let last : LogEntry = record { client = c.args.client; event = c.args.event; replies = c.len-count.result } in
-    ap (λ (all : List LogEntry). logged all c.append_to.new.into.items) c.push_reserved.ensures.items
-    ∙ ap (λ (all : List Reply). logged (es ++ last ∷ []) all) c.append_to.ensures.items
+    ap (λ (all : List LogEntry). log_with_replies all c.append_to.new.into.items) c.push_reserved.ensures.items
+    ∙ ap (λ (all : List Reply). log_with_replies (es ++ last ∷ []) all) c.append_to.ensures.items
     ∙ logged_push es rs c.args.replies last c.self.invariant.counted c.len-count.ensures.value
     ∙ ap (λ log. log.entries ++ entry c.args.client (event_by c.args.client c.args.event) c.args.replies ∷ []) c.self.view_is

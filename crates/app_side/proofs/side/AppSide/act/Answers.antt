@@ -9,9 +9,9 @@ use Rattle.object_asks.proofs.Crashes.{idle_crash}
 use Rattle.alone.specs.declared.active_entry.ActiveEntry.{ActiveEntry}
 use Rattle.alone.specs.Asks.{resolution, resolution_after, mask_noted}
 use Rattle.alone.specs.Machine.{Machine, is_number, with_instance}
-use Rattle.alone.specs.Step.{after_ask, served, torn_down}
+use Rattle.alone.specs.Step.{after_ask, serve_outcome, torn_down}
 use Rattle.alone.proofs.Lists.{found_number}
-use Rattle.app_side.specs.Asking.{asking, given_next}
+use Rattle.app_side.specs.Asking.{entry_with_ask, given_next}
 use Rattle.app_side.specs.Represents.{IsLeft, IsTurned, IsStep, machine_of, machine_over}
 use Rattle.app_side.specs.Serving.{in_doubt_by}
 use Rattle.app_side.proofs.Carried.{below, resolution_above, resolution_below, none_tried, plain_turn}
@@ -26,12 +26,12 @@ returns-then-entry-ge-MAX_ASKS g c inst found =
     let new = c.tear_down.new.self in
     let replies = c.tear_down.new.replies in
     let ask = c.args.ask in
-    let r : ActiveEntry = asking c.args.entry ask in
+    let r : ActiveEntry = entry_with_ask c.args.entry ask in
     let numbered : inst.number ≡ c.args.number = found_number c.args.number c.args.self.now.instances.items inst found in
     record {
       step = λ model same doubt.
           let m : Machine g.row.A.Denot = machine_over c.args.self.now before.store doubt in
-          subst (λ (k : Resolution (Machine g.row.A.Denot)). IsStep new before.store replies (after_ask m inst (mask_noted r ask) (served Serves m ask k)))
+          subst (λ (k : Resolution (Machine g.row.A.Denot)). IsStep new before.store replies (after_ask m inst (mask_noted r ask) (serve_outcome Serves m ask k)))
           (sym (resolution_above m inst.number r ask c.if-entry-ge-MAX_ASKS.true))
           (tears c.args.self.now new replies inst.number TARGET_DEAD Tee m before.store doubt (subst
           (λ (n : ℕ). IsTurned new replies (torn_down (machine_of c.args.self.now) n TARGET_DEAD Tee)) (sym numbered) c.tear_down.ensures) refl);
@@ -52,7 +52,7 @@ returns-in-Answered g c inst found =
     let done = c.in-Ok.served in
     let met = c.in-Ok.ensures in
     let ask = c.args.ask in
-    let r : ActiveEntry = asking c.args.entry ask in
+    let r : ActiveEntry = entry_with_ask c.args.entry ask in
     let out : done.outcome ≡ outcomes.Answered c.in-Answered.answer = c.in-Answered.is in
     let found_in : find (is_number c.args.number) mid.instances.items ≡ Some inst = ap (λ v. find (is_number c.args.number) v.items) c.carry_out.ensures.instances ∙ found in
     let numbered : inst.number ≡ c.args.number = found_number c.args.number c.args.self.now.instances.items inst found in
@@ -60,12 +60,12 @@ returns-in-Answered g c inst found =
     record {
       step = λ model same doubt.
           let m : Machine g.row.A.Denot = machine_over c.args.self.now before.store doubt in
-          let stated : Outcome (Machine g.row.A.Denot) = served (serving_of done.kind) m ask (resolution m c.args.number r ask) in
+          let stated : Outcome (Machine g.row.A.Denot) = serve_outcome (serving_of done.kind) m ask (resolution m c.args.number r ask) in
           let left : IsLeft (outcomes.Answered c.in-Answered.answer) stated mid after.store doubt m = subst (λ (o : Result_of). IsLeft o stated mid after.store doubt m) out
           (met.left model same doubt) in
-          answers mid new c.args.replies.now inst (mask_noted r ask) c.in-Answered.answer after.store left.0 (served (serving_of done.kind) m ask (resolution_after m inst.number r ask))
+          answers mid new c.args.replies.now inst (mask_noted r ask) c.in-Answered.answer after.store left.0 (serve_outcome (serving_of done.kind) m ask (resolution_after m inst.number r ask))
           (next ∙ ap (λ (b : Bool). with_instance (machine_of mid) (record inst { running = Some (given_next c.args.entry b c.in-Answered.answer) })) c.mask_after-masked.ensures) c.requires.none
-          (ap (λ (k : Resolution (Machine g.row.A.Denot)). served (serving_of done.kind) m ask k) (resolution_below m inst.number c.args.number r ask c.if-entry-ge-MAX_ASKS.false
+          (ap (λ (k : Resolution (Machine g.row.A.Denot)). serve_outcome (serving_of done.kind) m ask k) (resolution_below m inst.number c.args.number r ask c.if-entry-ge-MAX_ASKS.false
           numbered) ∙ left.1) m;
       kind = moves t done.kind _ _ _ _ _ _ _ c.args.store.now c.carry_out.new.store (sym (below c.args.entry.asks _ c.if-entry-ge-MAX_ASKS.false)) refl
           (sym (ap (λ (m : Machine g.row.A.Denot). m.lost) next)) met.kind;
@@ -74,8 +74,8 @@ returns-in-Answered g c inst found =
       starves = tt;
       crash = λ honest just doubt.
           let m : Machine g.row.A.Denot = machine_over c.args.self.now before.store doubt in
-          acted_crash t c.args.store.now c.carry_out.new.store m inst (mask_noted r ask) done.kind (served (serving_of done.kind) m ask (resolution_after m inst.number r ask))
-          (subst (λ (k : Resolution (Machine g.row.A.Denot)). CrashTurns t done.kind (in_doubt_by (served (serving_of done.kind) m ask k)) c.args.store.now c.carry_out.new.store)
+          acted_crash t c.args.store.now c.carry_out.new.store m inst (mask_noted r ask) done.kind (serve_outcome (serving_of done.kind) m ask (resolution_after m inst.number r ask))
+          (subst (λ (k : Resolution (Machine g.row.A.Denot)). CrashTurns t done.kind (in_doubt_by (serve_outcome (serving_of done.kind) m ask k)) c.args.store.now c.carry_out.new.store)
           (sym (resolution_below m inst.number c.args.number r ask c.if-entry-ge-MAX_ASKS.false numbered)) (met.crash honest just doubt));
     }
 
@@ -91,7 +91,7 @@ returns-in-Returned g c inst found =
     let met = c.in-Ok.ensures in
     let ask = c.args.ask in
     let ending = c.in-Returned.ending in
-    let r : ActiveEntry = asking c.args.entry ask in
+    let r : ActiveEntry = entry_with_ask c.args.entry ask in
     let out : done.outcome ≡ outcomes.Returned ending = c.in-Returned.is in
     let found_in : find (is_number c.args.number) mid.instances.items ≡ Some inst = ap (λ v. find (is_number c.args.number) v.items) c.carry_out.ensures.instances ∙ found in
     let numbered : inst.number ≡ c.args.number = found_number c.args.number c.args.self.now.instances.items inst found in
@@ -99,10 +99,10 @@ returns-in-Returned g c inst found =
     record {
       step = λ model same doubt.
           let m : Machine g.row.A.Denot = machine_over c.args.self.now before.store doubt in
-          let stated : Outcome (Machine g.row.A.Denot) = served (serving_of done.kind) m ask (resolution m c.args.number r ask) in
+          let stated : Outcome (Machine g.row.A.Denot) = serve_outcome (serving_of done.kind) m ask (resolution m c.args.number r ask) in
           let left : IsLeft (outcomes.Returned ending) stated mid after.store doubt m = subst (λ (o : Result_of). IsLeft o stated mid after.store doubt m) out (met.left model same doubt) in
-          let whole : served (serving_of done.kind) m ask (resolution_after m inst.number r ask) ≡ Returned ending.code ending.outs =
-          ap (λ (k : Resolution (Machine g.row.A.Denot)). served (serving_of done.kind) m ask k) (resolution_below m inst.number c.args.number r ask c.if-entry-ge-MAX_ASKS.false numbered)
+          let whole : serve_outcome (serving_of done.kind) m ask (resolution_after m inst.number r ask) ≡ Returned ending.code ending.outs =
+          ap (λ (k : Resolution (Machine g.row.A.Denot)). serve_outcome (serving_of done.kind) m ask k) (resolution_below m inst.number c.args.number r ask c.if-entry-ge-MAX_ASKS.false numbered)
           ∙ left.0 in
           subst (λ (o : Outcome (Machine g.row.A.Denot)). IsStep new after.store replies (after_ask m inst (mask_noted r ask) o)) (sym whole)
           (returns mid new replies inst r.op r.stage ending m after.store doubt turned left.1);
@@ -113,8 +113,8 @@ returns-in-Returned g c inst found =
       starves = tt;
       crash = λ honest just doubt.
           let m : Machine g.row.A.Denot = machine_over c.args.self.now before.store doubt in
-          acted_crash t c.args.store.now c.carry_out.new.store m inst (mask_noted r ask) done.kind (served (serving_of done.kind) m ask (resolution_after m inst.number r ask))
-          (subst (λ (k : Resolution (Machine g.row.A.Denot)). CrashTurns t done.kind (in_doubt_by (served (serving_of done.kind) m ask k)) c.args.store.now c.carry_out.new.store)
+          acted_crash t c.args.store.now c.carry_out.new.store m inst (mask_noted r ask) done.kind (serve_outcome (serving_of done.kind) m ask (resolution_after m inst.number r ask))
+          (subst (λ (k : Resolution (Machine g.row.A.Denot)). CrashTurns t done.kind (in_doubt_by (serve_outcome (serving_of done.kind) m ask k)) c.args.store.now c.carry_out.new.store)
           (sym (resolution_below m inst.number c.args.number r ask c.if-entry-ge-MAX_ASKS.false numbered)) (met.crash honest just doubt));
     }
 
@@ -129,17 +129,17 @@ returns-in-Panicked g c inst found =
     let done = c.in-Ok.served in
     let met = c.in-Ok.ensures in
     let ask = c.args.ask in
-    let r : ActiveEntry = asking c.args.entry ask in
+    let r : ActiveEntry = entry_with_ask c.args.entry ask in
     let out : done.outcome ≡ outcomes.Panicked = c.in-Panicked.is in
     let numbered : inst.number ≡ c.args.number = found_number c.args.number c.args.self.now.instances.items inst found in
     let torn = c.tear_down-in-Panicked.ensures in
     record {
       step = λ model same doubt.
           let m : Machine g.row.A.Denot = machine_over c.args.self.now before.store doubt in
-          let stated : Outcome (Machine g.row.A.Denot) = served (serving_of done.kind) m ask (resolution m c.args.number r ask) in
+          let stated : Outcome (Machine g.row.A.Denot) = serve_outcome (serving_of done.kind) m ask (resolution m c.args.number r ask) in
           let left : IsLeft outcomes.Panicked stated mid after.store doubt m = subst (λ (o : Result_of). IsLeft o stated mid after.store doubt m) out (met.left model same doubt) in
-          let whole : served (serving_of done.kind) m ask (resolution_after m inst.number r ask) ≡ Panicked =
-          ap (λ (k : Resolution (Machine g.row.A.Denot)). served (serving_of done.kind) m ask k) (resolution_below m inst.number c.args.number r ask c.if-entry-ge-MAX_ASKS.false numbered)
+          let whole : serve_outcome (serving_of done.kind) m ask (resolution_after m inst.number r ask) ≡ Panicked =
+          ap (λ (k : Resolution (Machine g.row.A.Denot)). serve_outcome (serving_of done.kind) m ask k) (resolution_below m inst.number c.args.number r ask c.if-entry-ge-MAX_ASKS.false numbered)
           ∙ left.0 in
           subst (λ (o : Outcome (Machine g.row.A.Denot)). IsStep new after.store replies (after_ask m inst (mask_noted r ask) o)) (sym whole)
           (tears mid new replies inst.number TARGET_DEAD Tee m after.store doubt (subst (λ (n : ℕ). IsTurned new replies (torn_down (machine_of mid) n TARGET_DEAD Tee)) (sym numbered) torn) left.1);
@@ -150,8 +150,8 @@ returns-in-Panicked g c inst found =
       starves = tt;
       crash = λ honest just doubt.
           let m : Machine g.row.A.Denot = machine_over c.args.self.now before.store doubt in
-          acted_crash t c.args.store.now c.carry_out.new.store m inst (mask_noted r ask) done.kind (served (serving_of done.kind) m ask (resolution_after m inst.number r ask))
-          (subst (λ (k : Resolution (Machine g.row.A.Denot)). CrashTurns t done.kind (in_doubt_by (served (serving_of done.kind) m ask k)) c.args.store.now c.carry_out.new.store)
+          acted_crash t c.args.store.now c.carry_out.new.store m inst (mask_noted r ask) done.kind (serve_outcome (serving_of done.kind) m ask (resolution_after m inst.number r ask))
+          (subst (λ (k : Resolution (Machine g.row.A.Denot)). CrashTurns t done.kind (in_doubt_by (serve_outcome (serving_of done.kind) m ask k)) c.args.store.now c.carry_out.new.store)
           (sym (resolution_below m inst.number c.args.number r ask c.if-entry-ge-MAX_ASKS.false numbered)) (met.crash honest just doubt));
     }
 

@@ -10,12 +10,12 @@ use Rattle.alone.specs.Families.{family_of}
 use Rattle.object_asks.specs.Asks.{changes_store}
 use Rattle.operation_asks.specs.Asks.{operation_resolution}
 use Rattle.alone.specs.Asks.{resolution_in_family}
-use Rattle.alone.specs.Crypto.{key_reaches, operated}
-use Rattle.alone.specs.Step.{served}
+use Rattle.alone.specs.Crypto.{key_reaches, crypto_resolution}
+use Rattle.alone.specs.Step.{serve_outcome}
 use Rattle.app_side.specs.Serving.{CarriesOut}
 use Rattle.app_side.proofs.CryptoLemmas.{changes_nothing, generated_whole}
 use Rattle.app_side.specs.declared.side.AppSide.{AppSide}
-use Rattle.app_side.specs.Asking.{asking, reaching_in_family}
+use Rattle.app_side.specs.Asking.{entry_with_ask, reaching_in_family}
 use Rattle.operation_asks.specs.Kept.{state_of}
 use Rattle.app_side.specs.Represents.{machine_over}
 use Rattle.app_side.proofs.Carried.{carried, entry_left, none_tried, noted_instances, noted_lost, plain_turn_as}
@@ -30,7 +30,7 @@ returns-in-Entry g c =
     let is = c.serve_entry.ensures in
     let family : family_of c.args.ask ≡ families.Entry = sym c.family_of.ensures ∙ c.in-Entry.is in
     record {
-      left = λ tells same doubt. entry_left c.args.self.now c.serve_entry.new.self kept.store doubt c.args.instance (asking c.args.entry.now c.args.ask) c.args.ask done family is;
+      left = λ tells same doubt. entry_left c.args.self.now c.serve_entry.new.self kept.store doubt c.args.instance (entry_with_ask c.args.entry.now c.args.ask) c.args.ask done family is;
       kind = plain_turn_as t done.kind _ _ _ _ c.args.store.now is.kind (ap (λ (s : AppSide g.row.A.Denot). s.lost) is.rest);
       ends = ends_with done.outcome _ (by_nothing t c.args.store.now);
       tried = none_tried _ (t.status c.args.store.now);
@@ -47,7 +47,7 @@ returns-in_ok-served-in-Objects g c =
     let after = t.contents c.serve.new.store in
     let done = c.in_ok-served-in-Objects.served in
     let is = c.in_ok-served-in-Objects.ensures.served in
-    let r = asking c.args.entry.now c.args.ask in
+    let r = entry_with_ask c.args.entry.now c.args.ask in
     let family : family_of c.args.ask ≡ families.Objects = sym c.family_of.ensures ∙ c.in-Objects.is in
     record {
       left = λ tells same doubt. carried c.args.self.now c.note.new.self before.store after.store doubt c.serve.new.held c.args.instance r c.args.ask done.kind done.outcome family
@@ -77,14 +77,14 @@ pub returns-in-Operations : goal.returns-in-Operations
 returns-in-Operations g c =
     let t = g.T.AppStore.keeper in
     let before = t.contents c.args.store.now in
-    let r = asking c.args.entry.now c.args.ask in
+    let r = entry_with_ask c.args.entry.now c.args.ask in
     let objects = objects_in c.args.self.now.held before in
     let s = state_of c.args.self.now.operations in
     let family : family_of c.args.ask ≡ families.Operations = sym c.family_of.ensures ∙ c.in-Operations.is in
-    subst (λ (f : Family). CarriesOut t (λ serving m. served serving m c.args.ask (resolution_in_family f m c.args.instance r c.args.ask))
+    subst (λ (f : Family). CarriesOut t (λ serving m. serve_outcome serving m c.args.ask (resolution_in_family f m c.args.instance r c.args.ask))
     (reaching_in_family f objects s c.args.instance c.args.ask) (changes_store c.args.ask) c.args.instance c.operate.result c.args.self.now c.operate.new.self c.args.store.now
     c.operate.new.store) (sym family)
-    (subst (λ (b : Bool). CarriesOut t (λ serving m. served serving m c.args.ask (operated m c.args.instance c.args.ask))
+    (subst (λ (b : Bool). CarriesOut t (λ serving m. serve_outcome serving m c.args.ask (crypto_resolution m c.args.instance c.args.ask))
     (key_reaches objects c.args.instance (operation_resolution s c.args.instance c.args.ask)) b c.args.instance c.operate.result c.args.self.now c.operate.new.self c.args.store.now
     c.operate.new.store) (sym (changes_nothing c.args.ask family))
     c.operate.ensures)
@@ -93,11 +93,11 @@ pub returns-in-Generation : goal.returns-in-Generation
 returns-in-Generation g c =
     let t = g.T.AppStore.keeper in
     let before = t.contents c.args.store.now in
-    let r = asking c.args.entry.now c.args.ask in
+    let r = entry_with_ask c.args.entry.now c.args.ask in
     let objects = objects_in c.args.self.now.held before in
     let s = state_of c.args.self.now.operations in
     let family : family_of c.args.ask ≡ families.Generation = sym c.family_of.ensures ∙ c.in-Generation.is in
-    subst (λ (f : Family). CarriesOut t (λ serving m. served serving m c.args.ask (resolution_in_family f m c.args.instance r c.args.ask))
+    subst (λ (f : Family). CarriesOut t (λ serving m. serve_outcome serving m c.args.ask (resolution_in_family f m c.args.instance r c.args.ask))
     (reaching_in_family f objects s c.args.instance c.args.ask) (changes_store c.args.ask) c.args.instance c.make_key.result c.args.self.now c.make_key.new.self
     c.args.store.now c.args.store.now) (sym family)
     (generated_whole t c.args.self.now c.make_key.new.self c.args.instance c.args.ask c.make_key.result c.args.store.now c.make_key.ensures)

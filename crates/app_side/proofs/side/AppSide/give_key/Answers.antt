@@ -8,12 +8,11 @@ use Rattle.operation_asks.specs.Asks.{CryptoState}
 use Rattle.operation_asks.specs.Kept.{state_of}
 use Rattle.operation_asks.specs.Past.{key_effect}
 use Rattle.operation_asks.specs.declared.operations.Operations.{Operations}
-use Rattle.operation_asks.specs.declared.outcome.KeyGiven.{KeyGiven}
-use Rattle.alone.specs.Crypto.{given_by, keyed_by}
+use Rattle.alone.specs.Crypto.{keyed_by}
 use Rattle.alone.specs.Machine.{Machine, objects_of}
-use Rattle.alone.specs.Step.{served}
+use Rattle.alone.specs.Step.{serve_outcome}
 use Rattle.app_side.specs.declared.side.AppSide.{AppSide}
-use Rattle.app_side.specs.Represents.{IsLeft, machine_over, noted}
+use Rattle.app_side.specs.Represents.{IsLeft, machine_over, after_store_kind}
 use Rattle.app_side.proofs.Carried.{noted_instances, noted_lost}
 use Rattle.app_side.proofs.CryptoLemmas.{key_crash, key_ends, keyed_left, noted_operations, noted_with}
 use Rattle.app_side.proofs.side.AppSide.give_key.Goals as goal
@@ -35,16 +34,16 @@ returns g c =
     let new : AppSide g.row.A.Denot = record c.note.new.self { operations = ops } in
     let states : state_of c.note.new.self.operations ≡ s =
     ap (λ (x : AppSide g.row.A.Denot). state_of x.operations) c.note.ensures ∙ ap (λ (x : Operations). state_of x) (noted_operations old looked.kind) in
-    let told_is : told ≡ (key_effect s i op (given_by looked.found)).told =
-    c.set_key-told.ensures.told ∙ ap (λ (x : CryptoState). (key_effect x i op c.given_by.result).told) states ∙ ap (λ (x : KeyGiven). (key_effect s i op x).told) c.given_by.ensures in
-    let left_is : state_of ops ≡ (key_effect s i op (given_by looked.found)).after =
-    c.set_key-told.ensures.left ∙ ap (λ (x : CryptoState). (key_effect x i op c.given_by.result).after) states ∙ ap (λ (x : KeyGiven). (key_effect s i op x).after) c.given_by.ensures in
-    let notes : new ≡ noted (record old { operations = ops }) looked.kind =
+    let told_is : told ≡ (key_effect s i op looked.found).told =
+    c.set_key-told.ensures.told ∙ ap (λ (x : CryptoState). (key_effect x i op looked.found).told) states in
+    let left_is : state_of ops ≡ (key_effect s i op looked.found).after =
+    c.set_key-told.ensures.left ∙ ap (λ (x : CryptoState). (key_effect x i op looked.found).after) states in
+    let notes : new ≡ after_store_kind (record old { operations = ops }) looked.kind =
     ap (λ (x : AppSide g.row.A.Denot). record x { operations = ops }) c.note.ensures ∙ noted_with old looked.kind ops in
     record {
       left = λ tells same doubt.
           let m : Machine g.row.A.Denot = machine_over old before.store doubt in
-          subst (λ (o : Result_of). IsLeft o (served (serving_of looked.kind) m (asked.OpSetKey op c.args.object) (keyed_by m i op (key_resolution (objects_of m) i c.args.object))) new
+          subst (λ (o : Result_of). IsLeft o (serve_outcome (serving_of looked.kind) m (asked.OpSetKey op c.args.object) (keyed_by m i op (key_resolution (objects_of m) i c.args.object))) new
           after.store doubt m) (sym c.outcome_of.ensures)
           (keyed_left old new before.store after.store doubt i op c.args.object looked.kind looked.found told resolution (ap (λ (k : Contents). k.store) (is.same tells))
           (subst (λ (b : Bool). looked.found ≡ key_came_of (serving_of looked.kind) b resolution) (sym same) (is.outcome tells)) told_is left_is notes (is.reaches tells) is.change);

@@ -9,7 +9,7 @@ use Rattle.alone.specs.Step.{of_instance, of_running, of_waits, turned_by}
 use Rattle.app_side.specs.Represents.{IsStep, machine_of, machine_over}
 use Rattle.object_asks.specs.Resolutions.{Serves}
 use Rattle.object_asks.specs.Serving.{objects_in, serving_of, CrashTurns, TriesOnce}
-use Rattle.app_side.specs.Asking.{changing, reaching}
+use Rattle.app_side.specs.Asking.{is_to_change, reaches_store}
 use Rattle.operation_asks.specs.Kept.{state_of}
 use Rattle.app_side.proofs.Carried.{none_tried, plain_turn}
 use Rattle.app_side.proofs.Taken.{found_there, go_on_turned, place_kept}
@@ -60,8 +60,8 @@ returns g c inst found =
           (IsStep c.resume.new.self (t.contents c.resume.new.store).store c.resume.new.replies) c.requires.place c.index_mut.ensures.value c.take.ensures.after
           (sym c.in-Some.ensures.value) (step model same doubt) inst found) is.step;
       kind = IfOk-weaker c.resume.result _ _ (λ kind of. moves t kind _ _ _ _ _ _ _ c.args.store.now c.resume.new.store
-          (waiting (reaching (objects_in c.args.self.now.held before) (state_of c.args.self.now.operations) c.args.number)) (waiting changing) refl of) is.kind;
-      tried = subst (λ (b : Bool). TriesOnce b (t.status c.args.store.now) (t.status c.resume.new.store)) (waiting changing) is.tried;
+          (waiting (reaches_store (objects_in c.args.self.now.held before) (state_of c.args.self.now.operations) c.args.number)) (waiting is_to_change) refl of) is.kind;
+      tried = subst (λ (b : Bool). TriesOnce b (t.status c.args.store.now) (t.status c.resume.new.store)) (waiting is_to_change) is.tried;
       want = is.want;
       starves = on_err_weaker c.resume.result (λ starves. record {
         alike = λ code origin. starves.alike code origin ∙ set_torn (machine_of c.args.self.now) c.args.number c.args.place idle code origin c.requires.place

@@ -9,9 +9,9 @@ use Rattle.operation_asks.specs.Asks.{CryptoState, Resolution, operation_resolut
 use Rattle.operation_asks.specs.Kept.{state_of}
 use Rattle.operation_asks.specs.Represents.{left_by}
 use Rattle.operation_asks.proofs.Panics.{resolution_keeps}
-use Rattle.alone.specs.Crypto.{operated}
+use Rattle.alone.specs.Crypto.{crypto_resolution}
 use Rattle.alone.specs.Machine.{Machine}
-use Rattle.alone.specs.Step.{served}
+use Rattle.alone.specs.Step.{serve_outcome}
 use Rattle.app_side.specs.declared.side.AppSide.{AppSide}
 use Rattle.app_side.specs.Crypto.{outcome_of}
 use Rattle.app_side.specs.Represents.{IsLeft, machine_over}
@@ -32,7 +32,7 @@ returns-in-Settled g c =
     record {
       left = λ tells same doubt.
           let m : Machine g.row.A.Denot = machine_over old before.store doubt in
-          subst (λ (d : Served). IsLeft d.outcome (served (serving_of d.kind) m c.args.ask (operated m c.args.instance c.args.ask)) new before.store doubt m) (sym served_is)
+          subst (λ (d : Served). IsLeft d.outcome (serve_outcome (serving_of d.kind) m c.args.ask (crypto_resolution m c.args.instance c.args.ask)) new before.store doubt m) (sym served_is)
           (settled_left old new before.store doubt Serves c.args.instance c.args.ask (operation_resolution s c.args.instance c.args.ask) told (sym c.in_ok-told.ensures.told ∙ c.in-Settled.is)
           c.in_ok-told.ensures.left refl (resolution_keeps s c.args.instance c.args.ask));
       kind = plain_turn_as t done.kind _ _ _ _ c.args.store.now (ap (λ (d : Served). d.kind) served_is) refl;

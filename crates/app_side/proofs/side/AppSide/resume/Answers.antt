@@ -7,7 +7,7 @@ use Rattle.object_asks.specs.Resolutions.{Serves}
 use Rattle.object_asks.specs.Serving.{objects_in, serving_of, CrashTurns, TriesOnce}
 use Rattle.alone.specs.declared.active_entry.ActiveEntry.{ActiveEntry}
 use Rattle.app_side.specs.declared.turns.Entered.{Entered}
-use Rattle.app_side.specs.Asking.{asking, changing, reaching}
+use Rattle.app_side.specs.Asking.{entry_with_ask, is_to_change, reaches_store}
 use Rattle.operation_asks.specs.Kept.{state_of}
 use Rattle.app_side.proofs.Carried.{none_tried, plain_turn}
 use Rattle.app_side.proofs.TurnLemmas.{moves, thinks}
@@ -39,7 +39,7 @@ returns-in-Ask g c inst found =
     let before = t.contents c.args.store.now in
     let is = c.act.ensures inst found in
     let entry : Entered = record { op = c.args.running.op; stage = c.args.running.stage; asks = c.args.running.asks; masked = c.args.running.masked } in
-    let same : c.args.running ≡ asking entry c.in-Ask.ask = ap (λ (w : Waits). (let r : ActiveEntry = record {
+    let same : c.args.running ≡ entry_with_ask entry c.in-Ask.ask = ap (λ (w : Waits). (let r : ActiveEntry = record {
       op = c.args.running.op;
       stage = c.args.running.stage;
       waits = w;
@@ -53,9 +53,9 @@ returns-in-Ask g c inst found =
           (went_on g.A.Application.behaviour (serving_of kind) (machine_over c.args.self.now before.store doubt) inst r r.waits)) (sym same)
           (step there lost doubt)) is.step;
       kind = IfOk-weaker c.act.result _ _ (λ kind of. moves t kind _ _ _ _ _ _ _ c.args.store.now c.act.new.store
-          (ap (λ (r : ActiveEntry). of_waits (reaching (objects_in c.args.self.now.held before) (state_of c.args.self.now.operations) c.args.number) r r.waits) (sym same))
-          (ap (λ (r : ActiveEntry). of_waits changing r r.waits) (sym same)) refl of) is.kind;
-      tried = subst (λ (r : ActiveEntry). TriesOnce (of_waits changing r r.waits) (t.status c.args.store.now) (t.status c.act.new.store)) (sym same) is.tried;
+          (ap (λ (r : ActiveEntry). of_waits (reaches_store (objects_in c.args.self.now.held before) (state_of c.args.self.now.operations) c.args.number) r r.waits) (sym same))
+          (ap (λ (r : ActiveEntry). of_waits is_to_change r r.waits) (sym same)) refl of) is.kind;
+      tried = subst (λ (r : ActiveEntry). TriesOnce (of_waits is_to_change r r.waits) (t.status c.args.store.now) (t.status c.act.new.store)) (sym same) is.tried;
       want = is.want;
       starves = is.starves;
       crash = IfOk-weaker c.act.result _ _ (λ kind crash honest just doubt.

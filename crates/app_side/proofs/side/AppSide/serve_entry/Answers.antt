@@ -9,7 +9,7 @@ use Rattle.object_asks.specs.declared.outcome.Served.{Served}
 use Rattle.alone.specs.declared.active_entry.EntryPoint.{EntryPoint}
 use Rattle.alone.specs.Asks.{entry_resolution, return_resolution, return_of}
 use Rattle.alone.specs.Places.{is_misuse, places_at}
-use Rattle.app_side.specs.Asking.{asking}
+use Rattle.app_side.specs.Asking.{entry_with_ask}
 use Rattle.app_side.specs.Represents.{machine_of}
 use Rattle.app_side.specs.Serving.{IsEntryServed}
 use Rattle.app_side.specs.declared.side.AppSide.{AppSide}
@@ -27,7 +27,7 @@ return_served {A} side stage code outs =
 pub returns-in-Return : goal.returns-in-Return
 returns-in-Return g c =
     let side = c.args.self.now in
-    subst (λ (s : Served). IsEntryServed s (entry_resolution (machine_of side) (asking c.args.entry.now c.args.ask) c.args.ask) side side) (sym c.returned.ensures)
-    (subst (λ (ask : Ask). IsEntryServed (return_of c.args.entry.now.stage c.in-Return.code c.in-Return.outs) (entry_resolution (machine_of side) (asking c.args.entry.now ask) ask)
+    subst (λ (s : Served). IsEntryServed s (entry_resolution (machine_of side) (entry_with_ask c.args.entry.now c.args.ask) c.args.ask) side side) (sym c.returned.ensures)
+    (subst (λ (ask : Ask). IsEntryServed (return_of c.args.entry.now.stage c.in-Return.code c.in-Return.outs) (entry_resolution (machine_of side) (entry_with_ask c.args.entry.now ask) ask)
     side side) (sym c.in-Return.is)
     (return_served side c.args.entry.now.stage c.in-Return.code c.in-Return.outs))

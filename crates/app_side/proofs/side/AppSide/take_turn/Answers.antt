@@ -6,7 +6,7 @@ use Rattle.object_asks.specs.declared.turn.TurnKind.{TurnKind as StoreKind}
 use Rattle.alone.specs.declared.turn.TurnKind.{TurnKind}
 use Rattle.alone.specs.Kinds.{kind_by}
 use Rattle.alone.specs.Machine.{Machine, is_number}
-use Rattle.alone.specs.Step.{Stepped, is_changing, starved, step}
+use Rattle.alone.specs.Step.{Stepped, is_changing, after_starved_turn, step}
 use Rattle.app_side.specs.Represents.{event_of, IsStep, Represents, machine_of}
 use Rattle.app_side.specs.Serving.{IsTurn}
 use Rattle.app_side.proofs.Starving.{starving_crash}
@@ -54,12 +54,12 @@ returns-in-Err-clause-turn g c =
     let new_store = c.advance.new.store in
     let want = c.in-Err.ensures.want in
     let alike = c.in-Err.ensures.starves.alike OUT_OF_MEMORY Tee in
-    let machine : machine_of new ≡ (starved (machine_of side) i).machine = c.tear_down.ensures.machine ∙ ap (λ (s : Stepped g.row.A.Denot). s.machine) alike in
-    let replies : c.tear_down.new.replies ≡ (starved (machine_of side) i).replies = c.tear_down.ensures.replies ∙ ap (λ (s : Stepped g.row.A.Denot). s.replies) alike in
+    let machine : machine_of new ≡ (after_starved_turn (machine_of side) i).machine = c.tear_down.ensures.machine ∙ ap (λ (s : Stepped g.row.A.Denot). s.machine) alike in
+    let replies : c.tear_down.new.replies ≡ (after_starved_turn (machine_of side) i).replies = c.tear_down.ensures.replies ∙ ap (λ (s : Stepped g.row.A.Denot). s.replies) alike in
     record {
-      step = λ there m stands kept. step_stands side new (λ (x : Machine g.row.A.Denot). starved x i) (λ s d x. refl) machine m stands;
+      step = λ there m stands kept. step_stands side new (λ (x : Machine g.row.A.Denot). after_starved_turn x i) (λ s d x. refl) machine m stands;
       store = λ there m stands kept. kept ∙ ap (λ k. k.store) (sym (want.contents there));
-      told = λ there m stands kept. replies ∙ step_replies side (λ (x : Machine g.row.A.Denot). starved x i) (λ s d x. refl) m stands;
+      told = λ there m stands kept. replies ∙ step_replies side (λ (x : Machine g.row.A.Denot). after_starved_turn x i) (λ s d x. refl) m stands;
       stands = λ there m stands kept. subst (λ (x : Machine g.row.A.Denot). is_some (find (is_number i) x.instances) ≡ true) (sym stands.parts) c.in-Err.ensures.there;
       change = λ m stands. tt;
       status = want.status;

@@ -1,6 +1,6 @@
 use Rattle.std.proofs.Common.{◌≡◌, ℕ, List, Option, None, Some, get_or, set, map, find, position, refl, sym, ap, subst, ◌∙◌}
 use Rattle.op_queue.specs.declared.operation.Operation.{Operation}
-use Rattle.op_queue.specs.Queue.{Queue, IsQueue, waits_for, first_waiting, begun_at, started, after_begin}
+use Rattle.op_queue.specs.Queue.{Queue, IsQueue, waits_for, first_waiting, begun_at, as_running, after_begin}
 use Rattle.op_queue.proofs.Keeps.{started_IsQueue}
 use Rattle.op_queue.proofs.Places.{place_inside, place_found, place_none, started_here}
 use Rattle.op_queue.proofs.queue.OpQueue.begin.Goals as goal
@@ -16,7 +16,7 @@ waiting q now instance xs i x same list at read = ap (λ (w : Queue). first_wait
     ∙ place_found (waits_for instance) q.operations i x (ap (position (waits_for instance)) (sym list) ∙ sym at) read
 
 starts : (q : Queue) (instance : ℕ) (xs : List Operation) (i : ℕ) (x y : Operation) → IsQueue q → xs ≡ q.operations → Some i ≡ position (waits_for instance) xs →
-    x ≡ get_or q.operations i x → y ≡ started x.number x → set q.operations i y ≡ map (started x.number) q.operations
+    x ≡ get_or q.operations i x → y ≡ as_running x.number x → set q.operations i y ≡ map (as_running x.number) q.operations
 starts q instance xs i x y old list at read changed = started_here x.number q.operations i x y old.ordered
     (place_inside (waits_for instance) q.operations i x (ap (position (waits_for instance)) (sym list) ∙ sym at)) read refl changed
 
@@ -30,7 +30,7 @@ returns-in_err-index-clause-after c = ap (after_begin c.args.self.now) (sym (non
 
 pub invariant_of-self : goal.invariant_of-self
 invariant_of-self c =
-    let list : set c.self.inside.operations.items c.in_ok-index.index c.start.new.self ≡ map (started c.index_mut.result.now.number) c.self.inside.operations.items =
+    let list : set c.self.inside.operations.items c.in_ok-index.index c.start.new.self ≡ map (as_running c.index_mut.result.now.number) c.self.inside.operations.items =
     starts (record { next = c.self.inside.next; operations = c.self.inside.operations.items }) c.args.instance c.as_slice.result.now c.in_ok-index.index c.index_mut.result.now
     c.start.new.self c.self.invariant c.as_slice.ensures.value c.in_ok-index.ensures c.index_mut.ensures.value c.start.ensures.after in
     subst (λ (os : List Operation). IsQueue (record { next = c.self.inside.next; operations = os })) (sym list)
@@ -42,7 +42,7 @@ returns-clause-begun c = c.start.ensures.begun ∙ ap begun_at (sym (waiting (re
 
 pub returns-clause-after : goal.returns-clause-after
 returns-clause-after c =
-    let list : set c.self.inside.operations.items c.in_ok-index.index c.start.new.self ≡ map (started c.index_mut.result.now.number) c.self.inside.operations.items =
+    let list : set c.self.inside.operations.items c.in_ok-index.index c.start.new.self ≡ map (as_running c.index_mut.result.now.number) c.self.inside.operations.items =
     starts (record { next = c.self.inside.next; operations = c.self.inside.operations.items }) c.args.instance c.as_slice.result.now c.in_ok-index.index c.index_mut.result.now
     c.start.new.self c.self.invariant c.as_slice.ensures.value c.in_ok-index.ensures c.index_mut.ensures.value c.start.ensures.after in
     let found : first_waiting c.args.self.now c.args.instance ≡ Some c.index_mut.result.now = waiting

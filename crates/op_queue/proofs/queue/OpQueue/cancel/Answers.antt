@@ -1,7 +1,7 @@
 use Rattle.std.proofs.Common.{◌≡◌, ◌==◌, not, true, false, List, set, map, filter, sym, ap, subst, ◌∙◌}
 use Rattle.op_queue.specs.declared.operation.Operation.{Operation}
 use Rattle.op_queue.specs.declared.operation.Cancelled.TheVariants.{Flagged}
-use Rattle.op_queue.specs.Queue.{Queue, IsQueue, cancel_of, after_cancel, requested, without}
+use Rattle.op_queue.specs.Queue.{Queue, IsQueue, cancel_of, after_cancel, as_requested, without}
 use Rattle.op_queue.proofs.Keeps.{requested_IsQueue, without_IsQueue}
 use Rattle.op_queue.proofs.Places.{no_operation, found_at, the_operation, requests, operation_removed, cancel_close, cancel_open}
 use Rattle.op_queue.proofs.queue.OpQueue.cancel.Goals as goal
@@ -17,7 +17,7 @@ returns-then-is_close-clause-answer c = cancel_close _ c.index.result.now (the_o
 
 pub invariant_of-self : goal.invariant_of-self
 invariant_of-self c =
-    let list : set c.self.inside.operations.items c.in-Some.index c.request.new.self ≡ map (requested c.args.op) c.self.inside.operations.items =
+    let list : set c.self.inside.operations.items c.in-Some.index c.request.new.self ≡ map (as_requested c.args.op) c.self.inside.operations.items =
     (requests (record { next = c.self.inside.next; operations = c.self.inside.operations.items }) c.args.op c.in-Some.index c.index_mut.result.now c.request.new.self
     c.self.invariant (found_at c.args.op c.as_slice.result.now c.self.inside.operations.items c.in-Some.index c.as_slice.ensures.value c.in-Some.ensures)
     c.index_mut.ensures.value c.request.ensures) in
@@ -34,7 +34,7 @@ returns-then-is_running-clause-answer c = cancel_open _ c.index.result.now c.ind
 
 pub returns-then-is_running-clause-after : goal.returns-then-is_running-clause-after
 returns-then-is_running-clause-after c =
-    let list : set c.self.inside.operations.items c.in-Some.index c.request.new.self ≡ map (requested c.args.op) c.self.inside.operations.items =
+    let list : set c.self.inside.operations.items c.in-Some.index c.request.new.self ≡ map (as_requested c.args.op) c.self.inside.operations.items =
     (requests (record { next = c.self.inside.next; operations = c.self.inside.operations.items }) c.args.op c.in-Some.index c.index_mut.result.now c.request.new.self
     c.self.invariant (found_at c.args.op c.as_slice.result.now c.self.inside.operations.items c.in-Some.index c.as_slice.ensures.value c.in-Some.ensures)
     c.index_mut.ensures.value c.request.ensures) in

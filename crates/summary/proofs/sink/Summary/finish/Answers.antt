@@ -1,7 +1,7 @@
 use Rattle.std.proofs.Common.{◌++◌, ap, sym, ◌∙◌, subst}
 use Rattle.mac_digest.specs.declared.digests.Hash.TheVariants.{Sha256}
 use Rattle.mac_digest.specs.Hash.{digest_of}
-use Rattle.summary.specs.Summaries.{HasLines, Summing, fed}
+use Rattle.summary.specs.Summaries.{HasLines, Summing, with_line_feeds}
 use Rattle.summary.proofs.sink.Summary.finish.Goals as goal
 
 pub returns : goal.returns
@@ -13,6 +13,6 @@ returns c =
       rest = c.self.inside.line.items;
       has = subst (λ t. HasLines t summed.lines c.self.inside.line.items) text summed.has;
       tally = summed.tally;
-      hashed = c.finish.ensures.digest Sha256 (fed summed.lines ++ c.as_slice.result.now) (c.update.ensures Sha256 (fed summed.lines) summed.hashed)
-          ∙ ap (λ line. digest_of Sha256 (fed summed.lines ++ line)) c.as_slice.ensures.value ∙ ap (digest_of Sha256) (sym summed.has.all ∙ text);
+      hashed = c.finish.ensures.digest Sha256 (with_line_feeds summed.lines ++ c.as_slice.result.now) (c.update.ensures Sha256 (with_line_feeds summed.lines) summed.hashed)
+          ∙ ap (λ line. digest_of Sha256 (with_line_feeds summed.lines ++ line)) c.as_slice.ensures.value ∙ ap (digest_of Sha256) (sym summed.has.all ∙ text);
     }

@@ -1,8 +1,8 @@
 use Rattle.epoch.proofs.KeepLemmas.{held_same, in_use_same, steady_read}
 use Rattle.epoch.proofs.MountLemmas.{after_order, before_above, past_above}
 use Rattle.epoch.proofs.PastLemmas.{passed}
-use Rattle.tree_volume.specs.Frame.{form_framed}
-use Rattle.tree_volume.specs.Form.{tree_form, form_root}
+use Rattle.tree_paths.specs.Frame.{form_framed}
+use Rattle.tree_paths.specs.Form.{tree_form, form_root}
 use Rattle.tree_volume.proofs.opening.TreeVolumeBoardVolume.fuse.Goals as goal
 
 pub returns-clause-same : goal.returns-clause-same

@@ -6,8 +6,8 @@ use Rattle.epoch.proofs.CallLemmas.{run_none}
 use Rattle.epoch.proofs.KeepLemmas.{steady_in_use}
 use Rattle.epoch.proofs.MountLemmas.{leaves_opening, opened_to}
 use Rattle.epoch.proofs.PastLemmas.{itself}
-use Rattle.tree_volume.specs.Form.{tree_form}
-use Rattle.tree_volume.specs.Frame.{form_framed, tree_single}
+use Rattle.tree_paths.specs.Form.{tree_form}
+use Rattle.tree_paths.specs.Frame.{form_framed, tree_single}
 use Rattle.epoch.proofs.OpenLemmas.{blocks_none}
 use Rattle.tree_volume.proofs.OpenLemmas.{leaves_resting}
 use Rattle.tree_volume.proofs.opening.TreeVolumeBoardVolume.open.Goals as goal

@@ -2,7 +2,7 @@ use Rattle.std.proofs.Common.{◌≡◌, ◌∙◌, ℕ, List, Err, Option, Some
 use Rattle.std.proofs.lemmas.Bool.{false≢true}
 use Rattle.tee_base.specs.Crash.{LeavesOnly}
 use Rattle.store_api.specs.Volumes.{Held}
-use Rattle.board.specs.Moment.{IsLeft, Outcome, View, left_since, moment}
+use Rattle.board.specs.Moment.{IsLeft, CrashImage, View, left_since, moment}
 use Rattle.epoch.proofs.KeepLemmas.{held_steady, steady_in_use, steady_same}
 use Rattle.epoch.specs.Forms.{held_of}
 use Rattle.epoch.specs.Mounting.{MightBe, MountsTo}
@@ -13,8 +13,8 @@ use Rattle.epoch.specs.declared.answer.OpenAnswer.TheVariants.{Failed}
 use Rattle.epoch.proofs.CommitLemmas.{on_err}
 use Rattle.epoch.proofs.MountLemmas.{admitted_by, before_above, board_sound, past_above, rests_above, taken_counter}
 use Rattle.epoch.specs.Finding.{IsSettledAt, sequence_of}
-use Rattle.tree_volume.specs.Form.{tree_form, form_root}
-use Rattle.tree_volume.specs.Frame.{tree_format, form_framed}
+use Rattle.tree_paths.specs.Form.{tree_form, form_root}
+use Rattle.tree_paths.specs.Frame.{tree_format, form_framed}
 use Rattle.tree_volume.specs.Keeping.{held_now}
 use Rattle.epoch.proofs.OpenLemmas.{not_ok, told_so}
 use Rattle.tree_volume.proofs.opening.TreeVolumeBoardVolume.power.Goals as goal
@@ -90,8 +90,8 @@ returns-clause-opened g c honest sound =
     let past : KeepsPast v n = subst (KeepsPast v) (sym stays) (c.in_ok-found.ensures.past honest) in
     let honest' = subst g.B.Board.honest (sym c.resume.ensures.board) (c.in_ok-found.ensures.honest honest) in
     let steady = steady_in_use tree_form form_framed n (form_root c.resume.new.self.root) c.resume.new.self.sequence both.0 in
-    let rests : (d : Outcome) → IsLeft n.state d → held_of tree_form v.key d ≡ Some again.chosen
-    = subst (λ (x : View). (d : Outcome) → IsLeft x.state d → held_of tree_form v.key d ≡ Some again.chosen) (sym stays) after.rests in
+    let rests : (d : CrashImage) → IsLeft n.state d → held_of tree_form v.key d ≡ Some again.chosen
+    = subst (λ (x : View). (d : CrashImage) → IsLeft x.state d → held_of tree_form v.key d ≡ Some again.chosen) (sym stays) after.rests in
     record {
       again = record {
         opened = (again.among.0, inl again.among.1, sym (again.among.2 ∙ held));

@@ -14,8 +14,8 @@ use Rattle.epoch.specs.declared.answer.OpenAnswer.TheVariants.{Failed}
 use Rattle.epoch.proofs.CommitLemmas.{on_err}
 use Rattle.epoch.proofs.MountLemmas.{admitted_by, before_above, board_sound, past_above, taken_counter}
 use Rattle.epoch.specs.Finding.{IsSettledAt, sequence_of}
-use Rattle.tree_volume.specs.Form.{tree_form, form_root}
-use Rattle.tree_volume.specs.Frame.{tree_format, form_framed}
+use Rattle.tree_paths.specs.Form.{tree_form, form_root}
+use Rattle.tree_paths.specs.Frame.{tree_format, form_framed}
 use Rattle.tree_volume.specs.Keeping.{held_now}
 use Rattle.epoch.proofs.OpenLemmas.{not_ok, told_so}
 use Rattle.tree_volume.proofs.opening.TreeVolumeBoardVolume.reopen.Goals as goal

@@ -1,8 +1,8 @@
 use Rattle.epoch.proofs.OpenLemmas.{taken_up}
 use Rattle.tree_volume.proofs.OpenLemmas.{open_found}
-use Rattle.tree_volume.specs.Form.{tree_form}
-use Rattle.tree_volume.specs.Frame.{tree_format, tree_single}
-use Rattle.tree_volume.specs.declared.places.TheConstants.{TREE}
+use Rattle.tree_paths.specs.Form.{tree_form}
+use Rattle.tree_paths.specs.Frame.{tree_format, tree_single}
+use Rattle.tree_paths.specs.declared.places.TheConstants.{TREE}
 use Rattle.tree_volume.proofs.volume.TreeVolume.resume.Goals as goal
 
 pub returns-clause-opened : goal.returns-clause-opened

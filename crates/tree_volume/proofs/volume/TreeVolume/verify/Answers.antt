@@ -4,11 +4,11 @@ use Rattle.seal.specs.Keys.{AreKeysOf}
 use Rattle.board.specs.Moment.{moment, left_since}
 use Rattle.epoch.proofs.KeepLemmas.{crash_read, held_same, in_use_same, steady_read}
 use Rattle.epoch.specs.Forms.{held_of}
-use Rattle.tree_volume.specs.Form.{form_root, tree_form}
-use Rattle.tree_volume.specs.Frame.{form_framed}
+use Rattle.tree_paths.specs.Form.{form_root, tree_form}
+use Rattle.tree_paths.specs.Frame.{form_framed}
 use Rattle.tree_volume.specs.Keeping.{held_now}
-use Rattle.tree_volume.specs.Verify.{has_failed}
-use Rattle.tree_volume.proofs.VerifyLemmas.{answer_sealed, answer_sound}
+use Rattle.tree_paths.specs.WalkAnswers.{has_failed}
+use Rattle.tree_paths.proofs.VerifyLemmas.{answer_sealed, answer_sound}
 use Rattle.tree_volume.proofs.volume.TreeVolume.verify.Goals as goal
 
 pub returns-clause-leaves : goal.returns-clause-leaves

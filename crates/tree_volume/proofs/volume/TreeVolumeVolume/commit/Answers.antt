@@ -8,8 +8,8 @@ use Rattle.epoch.proofs.KeepLemmas.{err_cause, exhausts_at, foundation_same, if_
 use Rattle.epoch.proofs.MountLemmas.{mounted_refuses}
 use Rattle.epoch.specs.Forms.{held_of}
 use Rattle.seal.specs.Keys.{AreKeysOf}
-use Rattle.tree_volume.specs.Form.{form_root, tree_form}
-use Rattle.tree_volume.specs.Frame.{form_framed}
+use Rattle.tree_paths.specs.Form.{form_root, tree_form}
+use Rattle.tree_paths.specs.Frame.{form_framed}
 use Rattle.tree_volume.specs.Keeping.{IsOpen, held_now}
 use Rattle.tree_volume.specs.Made.{IsMade}
 use Rattle.tree_volume.specs.declared.volume.Opened.{Opened}

@@ -5,8 +5,8 @@ use Rattle.seal.specs.Keys.{AreKeysOf}
 use Rattle.board.specs.Moment.{moment, left_since}
 use Rattle.epoch.proofs.KeepLemmas.{crash_read, err_cause, err_undamaged, foundation_same, held_same, in_use_same, past_read, steady_read, unless_failed}
 use Rattle.epoch.specs.Forms.{held_of}
-use Rattle.tree_volume.specs.Form.{form_root, tree_form}
-use Rattle.tree_volume.specs.Frame.{form_framed}
+use Rattle.tree_paths.specs.Form.{form_root, tree_form}
+use Rattle.tree_paths.specs.Frame.{form_framed}
 use Rattle.tree_volume.specs.Keeping.{held_now}
 use Rattle.tree_volume.specs.Soundness.{sound_open}
 use Rattle.epoch.proofs.CommitLemmas.{sealed_each}

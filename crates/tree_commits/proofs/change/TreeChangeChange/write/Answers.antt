@@ -1,0 +1,49 @@
+use Rattle.std.proofs.Common.{◌<◌, ℕ, true}
+use Rattle.epoch.proofs.AloneLemmas.{alone_run}
+use Rattle.epoch.specs.Commits.{spare}
+use Rattle.epoch.proofs.SettledLemmas.{settled_run, settled_starts}
+use Rattle.tree_paths.specs.Form.{form_root, tree_form}
+use Rattle.tree_paths.specs.Shape.{shape}
+use Rattle.tree_commits.specs.Touched.{AreSpare}
+use Rattle.tree_paths.specs.Shapes.{is_shape}
+use Rattle.tree_commits.proofs.ChangeLemmas.{all_spare, apart_spare, nodes_spare, tree_written}
+use Rattle.tree_commits.proofs.change.TreeChangeChange.write.Goals as goal
+
+pub returns-clause-written : goal.returns-clause-written
+returns-clause-written g c h fits sealed =
+    let v = g.B.Board.view c.args.board.now in
+    let w = c.in_ok-self.ensures in
+    tree_written v.key v.state.reads _ c.args.self.now.keys.now c.args.self.now.touched c.args.self.now.region c.args.self.now.leaves.now c.args.self.now.root _
+    c.args.self.now.within c.args.self.now.inside fits sealed (w.damage h fits.ordered v.key fits.keyed c.args.self.now.root) (w.text h fits.ordered v.key fits.keyed c.args.self.now.root)
+
+pub returns-in_err-self-clause-run : goal.returns-in_err-self-clause-run
+returns-in_err-self-clause-run g c h slot low high first fits run =
+    let v = g.B.Board.view c.args.board.now in
+    let root = c.args.self.now.root in
+    c.in_err-self.ensures.run h (spare tree_form v.key v.state.reads (form_root root) slot) v.state.reads low high first
+    (nodes_spare shape is_shape v.key v.state.reads root slot c.args.self.now.touched fits.stands.copies) run
+
+pub returns-clause-run : goal.returns-clause-run
+returns-clause-run g c h slot low high first fits run =
+    let v = g.B.Board.view c.args.board.now in
+    let root = c.args.self.now.root in
+    c.in_ok-self.ensures.run h (spare tree_form v.key v.state.reads (form_root root) slot) v.state.reads low high first
+    (nodes_spare shape is_shape v.key v.state.reads root slot c.args.self.now.touched fits.stands.copies) run
+
+pub returns-clause-counter : goal.returns-clause-counter
+returns-clause-counter g c h n settled =
+    let v = g.B.Board.view c.args.board.now in
+    settled_run n v.state.reads v (g.B.Board.view c.write_all.new.board)
+    (c.in_ok-self.ensures.run h (λ k. true) v.state.reads n n v (all_spare shape c.args.self.now.touched) (settled_starts n v settled))
+
+pub returns-in_err-self-clause-alone : goal.returns-in_err-self-clause-alone
+returns-in_err-self-clause-alone g c h =
+    let touched = c.args.self.now.touched in
+    alone_run (λ (k : ℕ). k < 8742) (λ open_at. AreSpare shape open_at touched) _ _ (g.met.B.Board.consistent c.args.board.now h)
+    (λ k low. apart_spare k low touched) (c.in_err-self.ensures.before h) (c.in_err-self.ensures.run h)
+
+pub returns-clause-alone : goal.returns-clause-alone
+returns-clause-alone g c h =
+    let touched = c.args.self.now.touched in
+    alone_run (λ (k : ℕ). k < 8742) (λ open_at. AreSpare shape open_at touched) _ _ (g.met.B.Board.consistent c.args.board.now h)
+    (λ k low. apart_spare k low touched) (c.in_ok-self.ensures.before h) (c.in_ok-self.ensures.run h)

@@ -1,0 +1,11 @@
+pub mod Form
+pub mod Frame
+pub mod Identify
+pub mod Kept
+pub mod Laws
+pub mod Shape
+pub mod Shapes
+pub mod Tree
+pub mod Walk
+pub mod WalkAnswers
+pub mod Ways
