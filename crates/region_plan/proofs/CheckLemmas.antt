@@ -1,6 +1,6 @@
 -- Inodes that break a rule together with the map or other inodes.
 use Rattle.std.proofs.Common.{◌≡◌, ◌≢◌, ℕ, zero, suc, ◌+◌, ◌<◌, ◌≤◌, Bool, true, false, cond, not, List, [], ◌∷◌, map, get_or, Option, None, Some, find, refl, sym, ◌∙◌, ap, subst, arith}
-use Rattle.std.specs.Prelude.{is_some, ◌&&◌, ◌||◌, ◌==◌, nat_le}
+use Rattle.std.specs.Prelude.{is_none, is_some, ◌&&◌, ◌||◌, ◌==◌, nat_le}
 use Rattle.std.specs.List.{range_with_len, filter, list_any, count_by}
 use Rattle.std.specs.Str.{bytes_eq}
 use Rattle.std.proofs.lemmas.Bool.{eqb-true, eq-eqb, le-leb, leb-true, leb-false, and_left, and_right, and_from, not-false, not-true}
@@ -14,8 +14,9 @@ use Rattle.region_plan.specs.Regions.{numbers, has_one, has_data, is_doubled, is
 use Rattle.region_plan.specs.declared.entry.Entry.{Entry}
 use Rattle.region_plan.specs.declared.entry.TheConstants.{DATA}
 use Rattle.region_plan.specs.declared.inode.Inode.{Inode}
-use Rattle.region_plan.specs.Tables.{inodes_below}
+use Rattle.region_plan.specs.Tables.{inode_with, inodes_below}
 use Rattle.region_plan.proofs.FormLemmas.{IsLaid}
+use Rattle.region_plan.proofs.OrderLemmas.{none_is as none_among}
 
 -- what passes is counted
 count_some : (p : ℕ → Bool) (n a k : ℕ) → a ≤ k → k < a + n → p k ≡ true → 1 ≤ count_by p (range_with_len a n)
@@ -149,19 +150,9 @@ module _ (L : Layout) (laid : IsLaid L) where
       (subst (λ (x : Entry). x.index < data_leaves (length_in (leaves inode))) is (subst (λ (n : ℕ). e.index < n) long before))
       (λ same. other (found ∙ ap (λ (x : Entry). leaf_of L leaves inode x.index) is ∙ same))
 
-  -- whether an inode that was read has the identifier of none before it
-  pub new_is : (leaves : ℕ → List ℕ) (n : ℕ) (block : List ℕ) (inode : Inode) (id : List ℕ) (before : List Inode) (r : Bool) → block ≡ leaves n → inode ≡ inode_of n block →
-      id ≡ inode.id → before ≡ inodes_below L leaves n → r ≡ not (list_any (λ x. bytes_eq x.id id) before) → r ≡ not (is_doubled L leaves n)
-  new_is leaves n block inode id before r read is named earlier told =
-      let id_is : id ≡ identifier_in (leaves n) = named ∙ ap (λ (x : Inode). x.id) is ∙ ap (λ (b : List ℕ). (inode_of n b).id) read ∙ told_id L leaves n in
-      told ∙ ap not (ap (λ (l : List Inode). list_any (λ x. bytes_eq x.id id) l) earlier ∙ doubled_is L leaves n id id_is)
-
-  pub doubled_from : (leaves : ℕ → List ℕ) (n : ℕ) (block : List ℕ) (inode : Inode) (id : List ℕ) (before : List Inode) (r : Bool) → block ≡ leaves n → inode ≡ inode_of n block →
-      id ≡ inode.id → before ≡ inodes_below L leaves n
-      → r ≡ not (list_any (λ x. bytes_eq x.id id) before) → r ≡ false → is_doubled L leaves n ≡ true
-  doubled_from leaves n block inode id before r read is named earlier told isnt = not-false _ (sym (new_is leaves n block inode id before r read is named earlier told) ∙ isnt)
-
-  pub single_from : (leaves : ℕ → List ℕ) (n : ℕ) (block : List ℕ) (inode : Inode) (id : List ℕ) (before : List Inode) (r : Bool) → block ≡ leaves n → inode ≡ inode_of n block →
-      id ≡ inode.id → before ≡ inodes_below L leaves n
-      → r ≡ not (list_any (λ x. bytes_eq x.id id) before) → r ≡ true → is_doubled L leaves n ≡ false
-  single_from leaves n block inode id before r read is named earlier told yes' = not-true _ (sym (new_is leaves n block inode id before r read is named earlier told) ∙ yes')
+  -- whether an inode that was read has the identifier of one before it
+  pub known_is : (leaves : ℕ → List ℕ) (n : ℕ) (inode : Inode) (before : List Inode) → inode ≡ inode_of n (leaves n) → before ≡ inodes_below L leaves n →
+      is_none (inode_with inode.id before) ≡ not (is_doubled L leaves n)
+  known_is leaves n inode before is earlier =
+      let id_is : inode.id ≡ identifier_in (leaves n) = ap (λ (x : Inode). x.id) is ∙ told_id L leaves n in
+      sym (none_among inode.id before) ∙ ap not (ap (λ (l : List Inode). list_any (λ x. bytes_eq x.id inode.id) l) earlier ∙ doubled_is L leaves n inode.id id_is)

@@ -142,9 +142,13 @@ found_among (y ∷ ys) id x is =
     ] is
 
 -- an identifier that stands somewhere is that of an inode
-pub stands_among : (inodes : List Inode) (order : List ℕ) → IsOrder inodes order → (id : List ℕ) (n : ℕ) → inode_with id inodes ≡ None → StandsAt inodes order id n → ⊥
-stands_among inodes order is id n none stands =
-    missing inodes (place_at order n) (is.inside n stands.inside) (sym (with_one inodes id (place_at order n) (is.inside n stands.inside) stands.is (alone_among inodes order is id n stands)) ∙ none)
+pub stands_among : (inodes : List Inode) (order : List ℕ) → IsOrder inodes order → (id : List ℕ) (n : ℕ) → StandsAt inodes order id n → is_none (inode_with id inodes) ≡ false
+stands_among inodes order is id n stands = some_is (inode_with id inodes) (λ none. missing inodes (place_at order n) (is.inside n stands.inside)
+    (sym (with_one inodes id (place_at order n) (is.inside n stands.inside) stands.is (alone_among inodes order is id n stands)) ∙ none))
+  where
+    some_is : (r : Option Inode) → (r ≡ None → ⊥) → is_none r ≡ false
+    some_is None never = absurd (never refl)
+    some_is (Some x) never = refl
 
 -- what is found of an identifier where it stands, and where it doesn't, in a list that is this one
 pub standing_is : (inodes : List Inode) (order : List ℕ) → IsOrder inodes order → (id : List ℕ) (n place : ℕ) (r : Option (Bor Inode)) → StandsAt inodes order id n →
@@ -166,20 +170,3 @@ pub none_is : (id : List ℕ) (inodes : List Inode) → not (list_any (λ inode.
 none_is id [] = refl
 none_is id (x ∷ xs) =
     elim (bytes_eq x.id id) as (λ b. not (b || list_any (λ inode. bytes_eq inode.id id) xs) ≡ is_none (cond b (Some x) (inode_with id xs))) [ true ↦ refl | false ↦ none_is id xs ]
-
-none_copied : (r : Option (Bor Inode)) (none : Bool) → is_some r ≡ not none → none ≡ is_none (option_copied r)
-none_copied None true is = refl
-none_copied None false is = absurd (let e : false ≡ true = is in cc)
-none_copied (Some b) true is = absurd (let e : true ≡ false = is in cc)
-none_copied (Some b) false is = refl
-
-pub new_is : (id : List ℕ) (inodes : List Inode) (r : Option (Bor Inode)) (none : Bool) → is_some r ≡ not none → option_copied r ≡ inode_with id inodes →
-    none ≡ not (list_any (λ inode. bytes_eq inode.id id) inodes)
-new_is id inodes r none told is = none_copied r none told ∙ ap is_none is ∙ sym (none_is id inodes)
-
-pub new_with : (id : List ℕ) (inodes : List Inode) → not (list_any (λ inode. bytes_eq inode.id id) inodes) ≡ true → inode_with id inodes ≡ None
-new_with id inodes is = no_some (inode_with id inodes) (sym (none_is id inodes) ∙ is)
-  where
-    no_some : (r : Option Inode) → is_none r ≡ true → r ≡ None
-    no_some None is' = refl
-    no_some (Some x) is' = absurd (let e : false ≡ true = is' in cc)

@@ -1,8 +1,6 @@
-//! The rules that tie an inode to the map and to the other inodes.
+//! The rule that ties an inode to the map.
 
-ghost use Rattle.std.specs.Prelude.{◌≡◌, ◌<◌, ℕ, List, not, IfOk};
-ghost use Rattle.std.specs.List.{list_any};
-ghost use Rattle.std.specs.Str.{bytes_eq};
+ghost use Rattle.std.specs.Prelude.{◌≡◌, ◌<◌, ℕ, List, IfOk};
 ghost use Rattle.region_plan.specs.Chains.{AreChains};
 ghost use Rattle.region_plan.specs.Layout.{layout};
 ghost use Rattle.region_plan.specs.Inodes.{length_in};
@@ -14,7 +12,6 @@ use crate::edit::blocks;
 use crate::entry::Map;
 use crate::form::Form;
 use crate::inode::Inode;
-use crate::inodes::Inodes;
 use std::alloc::Global;
 use tee_base::NoMemory;
 
@@ -43,11 +40,4 @@ pub(crate) fn has_data(
         return Ok(false);
     }
     Ok(have_leaves(firsts))
-}
-
-/// Whether no inode has an identifier.
-pub(crate) fn is_new(inodes: &Inodes, id: &[u8]) -> bool
-    ensures { result ≡ not (list_any (λ inode. bytes_eq inode.id id.now) inodes.now) }
-{
-    inodes.find(id).is_none()
 }

@@ -1,6 +1,6 @@
 //! The inodes of a region, found by their identifiers.
 
-ghost use Rattle.std.specs.Prelude.{◌≡◌, ◌<◌, ◌++◌, [], ◌∷◌, None, IfErr, IfOk, length as length_of, option_copied};
+ghost use Rattle.std.specs.Prelude.{◌≡◌, ◌<◌, ◌++◌, [], ◌∷◌, IfErr, IfOk, IfSome, is_none, is_some, length as length_of, option_copied};
 ghost use Rattle.std.specs.Ordering.{nat_cmp};
 ghost use Rattle.std.specs.Cmp.Lexicographic.{slice_cmp};
 ghost use Rattle.region_plan.specs.Orders.{IsNext, IsOrder, StandsAt, WouldStandAt, id_at as id_of};
@@ -71,17 +71,6 @@ fn next_number(inodes: &[Inode], order: &[u16], last: Option<&[u8]>) -> usize
     }
 }
 
-/// Where an identifier would stand that no inode has.
-fn new_number(inodes: &[Inode], order: &[u16], id: &[u8]) -> usize
-    requires order { IsOrder inodes.now order.now }
-    requires new { inode_with id.now inodes.now ≡ None }
-    ensures { WouldStandAt inodes.now order.now id.now result }
-{
-    match search(inodes, order, id) {
-        Ok(n) | Err(n) => n,
-    }
-}
-
 impl Inodes {
     /// No inodes. It takes no memory.
     pub fn none(alloc: Global) -> Inodes
@@ -115,19 +104,25 @@ impl Inodes {
         }
     }
 
-    /// One more inode, behind the others.
-    pub fn with(self, inode: Inode) -> Result<Inodes, NoMemory>
-        requires new { inode_with inode.id self ≡ None }
+    /// One more inode, behind the others. None where one of them has its identifier. It searches once.
+    pub fn with(self, inode: Inode) -> Result<Option<Inodes>, NoMemory>
         requires few { length_of self < 1024 }
-        ensures { IfOk result (λ after. after ≡ self ++ inode ∷ []) }
+        ensures new { IfOk result
+            (λ more. is_some more ≡ is_none (inode_with inode.id self)) }
+        ensures added { IfOk result
+            (λ more. IfSome more (λ after. after ≡ self ++ inode ∷ [])) }
     {
         let Inodes {
             mut items,
             mut order,
         } = self;
-        let n = new_number(&items, &order, inode.id.as_slice());
-        order.insert(n, items.len() as u16)?;
-        items.push(inode)?;
-        Ok(Inodes { items, order })
+        match search(&items, &order, inode.id.as_slice()) {
+            Ok(_) => Ok(None),
+            Err(n) => {
+                order.insert(n, items.len() as u16)?;
+                items.push(inode)?;
+                Ok(Some(Inodes { items, order }))
+            }
+        }
     }
 }

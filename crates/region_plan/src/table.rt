@@ -1,20 +1,20 @@
 //! The map and the inodes of a region, read in one pass.
 
-ghost use Rattle.std.specs.Prelude.{◌≡◌, ◌≤◌, ◌<◌, ◌*◌, ℕ, List, IfErr, IfOk, IfSome, OnOk, IsTrue, true, false, None, option_copied};
+ghost use Rattle.std.specs.Prelude.{◌≡◌, ◌≤◌, ◌<◌, ◌+◌, ◌*◌, ◌++◌, [], ◌∷◌, ℕ, List, length, IfErr, IfOk, IfSome, OnOk, IsTrue, true, false, option_copied};
 ghost use Rattle.std.specs.List.{All};
 ghost use Rattle.store_api.specs.declared.answer.StoreAnswer.TheVariants.{Garbled};
 ghost use Rattle.region_plan.specs.Chains.{AreChains};
 ghost use Rattle.region_plan.specs.Layout.{layout};
 ghost use Rattle.region_plan.specs.Entries.{follows, is_inode};
-ghost use Rattle.region_plan.specs.Inodes.{inode_of};
+ghost use Rattle.region_plan.specs.Inodes.{inode_of, is_inode_leaf as follows_rules};
 ghost use Rattle.region_plan.specs.Places.{AreWritable, IsMapOf, entries_in};
 ghost use Rattle.region_plan.specs.Plans.{IsMapLeaf};
 ghost use Rattle.region_plan.specs.Reading.{AreWhole, IsBroken, IsSound, IsUndamaged, IsUnread, IsWhole, ReadsOnly, IfGarbled, leaves_of, refusal_of};
-ghost use Rattle.region_plan.specs.Regions.{breaks, inodes_of};
+ghost use Rattle.region_plan.specs.Regions.{breaks, has_data as holds_data, inodes_of};
 ghost use Rattle.region_plan.specs.Tables.{IsWithin, inode_with, inodes_below};
 
 use crate::chain::{Chains, chains_of};
-use crate::check::{has_data, is_new};
+use crate::check::has_data;
 use crate::entry::{INODE, Map, entry_in, is_well_formed, take_entries};
 use crate::form::Form;
 use crate::inode::{Inode, inode_in, is_inode_leaf};
@@ -88,14 +88,13 @@ fn check_map(form: Form, map: &Map) -> Result<(), StoreAnswer>
     Ok(())
 }
 
-/// Reads an inode, and checks it beside the map and those before it.
+/// Reads an inode, and checks it beside the map.
 fn read_inode<L: LeafSource>(
     alloc: Global,
     from: &mut L,
     form: Form,
     map: &Map,
     chains: &Chains,
-    before: &Inodes,
     leaf: u16,
 ) -> Result<Inode, StoreAnswer>
     requires fits { (layout form).leaves ≤ L.keeper.leaves }
@@ -106,17 +105,17 @@ fn read_inode<L: LeafSource>(
         (λ inode. inode ≡ inode_of leaf (leaves_of L.keeper L.region from.old leaf)) }
     ensures undamaged { IsTrue L.keeper.tells_reads
         → IfOk result (λ inode. IsUndamaged L.keeper L.region from.old leaf) }
-    ensures whole { IsTrue L.keeper.tells_reads
+    ensures bytes { IsTrue L.keeper.tells_reads → IfOk result
+        (λ inode. follows_rules (leaves_of L.keeper L.region from.old leaf) ≡ true) }
+    ensures placed { IsTrue L.keeper.tells_reads
         → IsMapOf (layout form) (leaves_of L.keeper L.region from.old) map.now
-        → before.now ≡ inodes_below (layout form) (leaves_of L.keeper L.region from.old) leaf
-        → IfOk result (λ inode. IsWhole (layout form) (leaves_of L.keeper L.region from.old) leaf) }
+        → IfOk result (λ inode.
+        holds_data (layout form) (leaves_of L.keeper L.region from.old) leaf ≡ true) }
     ensures within { IfOk result (λ inode. IsWithin (layout form) inode) }
-    ensures new { IfOk result (λ inode. inode_with inode.id before.now ≡ None) }
     ensures few { IfGarbled (refusal_of result) (λ n. n < (layout form).leaves) }
     ensures garbled { IsTrue L.keeper.tells_reads
         → IsMapOf (layout form) (leaves_of L.keeper L.region from.old) map.now
         → IsTrue (is_inode (layout form) (leaves_of L.keeper L.region from.old) leaf)
-        → before.now ≡ inodes_below (layout form) (leaves_of L.keeper L.region from.old) leaf
         → IfGarbled (refusal_of result)
         (λ n. IsTrue (breaks (layout form) (leaves_of L.keeper L.region from.old) n)) }
     ensures unread { IsUnread (refusal_of result) }
@@ -128,14 +127,55 @@ fn read_inode<L: LeafSource>(
         return Err(StoreAnswer::Garbled(leaf));
     }
     let inode = inode_in(alloc, leaf, &block)?;
-    if !is_new(before, inode.id.as_slice()) {
-        return Err(StoreAnswer::Garbled(leaf));
-    }
     let placed = has_data(alloc, form, map, chains, &inode)?;
     if !placed {
         return Err(StoreAnswer::Garbled(leaf));
     }
     Ok(inode)
+}
+
+/// Reads an inode, checks it beside the map and those before it, and puts it behind them.
+fn take_inode<L: LeafSource>(
+    alloc: Global,
+    from: &mut L,
+    form: Form,
+    map: &Map,
+    chains: &Chains,
+    before: Inodes,
+    leaf: u16,
+) -> Result<Inodes, StoreAnswer>
+    requires fits { (layout form).leaves ≤ L.keeper.leaves }
+    requires leaf { leaf < (layout form).leaves }
+    requires few { length before < 1024 }
+    requires chains { AreChains (entries_in map.now) (layout form).leaves chains.now.last
+        chains.now.next }
+    ensures inodes { IsTrue L.keeper.tells_reads → IfOk result (λ inodes. inodes
+        ≡ before ++ inode_of leaf (leaves_of L.keeper L.region from.old leaf) ∷ []) }
+    ensures one { IfOk result (λ inodes. length inodes ≡ length before + 1) }
+    ensures within { All (IsWithin (layout form)) before
+        → IfOk result (λ inodes. All (IsWithin (layout form)) inodes) }
+    ensures undamaged { IsTrue L.keeper.tells_reads
+        → IfOk result (λ inodes. IsUndamaged L.keeper L.region from.old leaf) }
+    ensures whole { IsTrue L.keeper.tells_reads
+        → IsMapOf (layout form) (leaves_of L.keeper L.region from.old) map.now
+        → before ≡ inodes_below (layout form) (leaves_of L.keeper L.region from.old) leaf
+        → IfOk result
+        (λ inodes. IsWhole (layout form) (leaves_of L.keeper L.region from.old) leaf) }
+    ensures told { IfGarbled (refusal_of result) (λ n. n < (layout form).leaves) }
+    ensures garbled { IsTrue L.keeper.tells_reads
+        → IsMapOf (layout form) (leaves_of L.keeper L.region from.old) map.now
+        → IsTrue (is_inode (layout form) (leaves_of L.keeper L.region from.old) leaf)
+        → before ≡ inodes_below (layout form) (leaves_of L.keeper L.region from.old) leaf
+        → IfGarbled (refusal_of result)
+        (λ n. IsTrue (breaks (layout form) (leaves_of L.keeper L.region from.old) n)) }
+    ensures unread { IsUnread (refusal_of result) }
+    ensures reads { ReadsOnly L.keeper L.region (refusal_of result) from.old from.new }
+{
+    let inode = read_inode(alloc, from, form, map, chains, leaf)?;
+    match before.with(inode)? {
+        Some(inodes) => Ok(inodes),
+        None => Err(StoreAnswer::Garbled(leaf)),
+    }
 }
 
 /// Reads the inodes that the map names, in ascending order.
@@ -168,8 +208,7 @@ fn read_inodes<L: LeafSource>(
     let mut inodes = Inodes::none(alloc);
     for leaf in 0..form.leaves() {
         if entry_in(map, leaf).kind == INODE {
-            let inode = read_inode(alloc, from, form, map, &chains, &inodes, leaf as u16)?;
-            inodes = inodes.with(inode)?;
+            inodes = take_inode(alloc, from, form, map, &chains, inodes, leaf as u16)?;
         }
     }
     Ok(inodes)

@@ -1,6 +1,6 @@
 use Rattle.std.proofs.Common.{◌≡◌, ◌<◌, ◌∙◌, ◌+◌, ℕ, false, None, List, length, ◌≤◌, sym, ap, subst, refl, arith}
 use Rattle.std.specs.List.{All}
-use Rattle.std.proofs.lemmas.List.Elements.{All-nil, All-push}
+use Rattle.std.proofs.lemmas.List.Elements.{All-nil}
 use Rattle.region_plan.specs.Reading.{ReadsOnly, leaves_of}
 use Rattle.region_plan.specs.Tables.{IsWithin}
 use Rattle.region_plan.specs.declared.inode.Inode.{Inode}
@@ -13,10 +13,9 @@ use Rattle.region_plan.specs.declared.entry.Entry.{Entry}
 use Rattle.region_plan.specs.declared.entry.TheConstants.{INODE}
 use Rattle.region_plan.proofs.ReadLemmas.{reads_started, reads_joined, leaves_stay}
 use Rattle.region_plan.proofs.RegionLemmas.{more_whole, none_whole, undamaged_before}
-use Rattle.region_plan.proofs.OrderedLemmas.{length_more}
 use Rattle.region_plan.proofs.TableLemmas.{inodes_none, inodes_all, inodes_pushed, inodes_passed}
 use Rattle.region_plan.proofs.table.read_inodes.Goals as goal
-use Rattle.region_plan.proofs.table.read_inodes.Goals.{then-entry_in-eq-INODE+in_ok-inode+in_ok-inodes, else-entry_in-eq-INODE}
+use Rattle.region_plan.proofs.table.read_inodes.Goals.{then-entry_in-eq-INODE+in_ok-inodes, else-entry_in-eq-INODE}
 use Rattle.region_plan.specs.Layout.{layout}
 use Rattle.region_plan.specs.Places.{IsMapOf}
 use Rattle.region_plan.proofs.FormLemmas.{laid_by}
@@ -37,26 +36,24 @@ loop-leaf-preserved g c =
     let kept = c.loop-leaf.invariant in
     let below : c.loop-leaf.leaf < (layout c.args.form).leaves = subst (λ (n : ℕ). c.loop-leaf.leaf < n) c.leaves-leaf-end.ensures.is c.loop-leaf-test.true in
     elim c.if-entry_in-eq-INODE.branch [
-      | then-entry_in-eq-INODE+in_ok-inode+in_ok-inodes w ↦ record {
-        reads = subst (λ s. ReadsOnly K R None c.args.from.now s) (sym w.from-is) (reads_joined K R None c.args.from.now c.loop-leaf.from w.read_inode.new.from kept.reads w.in_ok-inode.ensures.reads);
+      | then-entry_in-eq-INODE+in_ok-inodes w ↦ record {
+        reads = subst (λ s. ReadsOnly K R None c.args.from.now s) (sym w.from-is)
+            (reads_joined K R None c.args.from.now c.loop-leaf.from w.take_inode.new.from kept.reads w.in_ok-inodes.ensures.reads);
         inodes = λ h first.
             let same = leaves_stay K R c.args.from.now c.loop-leaf.from kept.reads h in
             inodes_pushed (layout c.args.form) (laid_by c.args.form) (leaves_of K R c.args.from.now) (leaves_of K R c.loop-leaf.from) c.loop-leaf.leaf (c.loop-leaf.leaf + 1) c.entry_in.result
-            c.loop-leaf.inodes _
-            w.in_ok-inode.inode same refl
-            (c.entry_in.ensures ∙ first c.loop-leaf.leaf below) w.if-entry_in-eq-INODE.true (kept.inodes h first) (w.in_ok-inode.ensures.inode h)
-            (w.inodes-is ∙ w.in_ok-inodes.ensures);
-        few = (let size = ap length (w.inodes-is ∙ w.in_ok-inodes.ensures) ∙ length_more c.loop-leaf.inodes w.in_ok-inode.inode in let few = kept.few in omega (arith, size, few));
-        within =
-            subst (λ (l : List Inode). All (IsWithin (layout c.args.form)) l) (sym (w.inodes-is ∙ w.in_ok-inodes.ensures))
-            (All-push (IsWithin (layout c.args.form)) c.loop-leaf.inodes w.in_ok-inode.inode kept.within w.in_ok-inode.ensures.within);
+            c.loop-leaf.inodes _ _ same refl
+            (c.entry_in.ensures ∙ first c.loop-leaf.leaf below) w.if-entry_in-eq-INODE.true (kept.inodes h first) refl
+            (w.inodes-is ∙ w.in_ok-inodes.ensures.inodes h);
+        few = (let size = ap length w.inodes-is ∙ w.in_ok-inodes.ensures.one in let few = kept.few in omega (arith, size, few));
+        within = subst (λ (l : List Inode). All (IsWithin (layout c.args.form)) l) (sym w.inodes-is) (w.in_ok-inodes.ensures.within kept.within);
         sound = λ h first.
             let same = leaves_stay K R c.args.from.now c.loop-leaf.from kept.reads h in
             let before = kept.inodes h first ∙ ap (λ (l : ℕ → List ℕ). inodes_below (layout c.args.form) l c.loop-leaf.leaf) (sym same) in
             more_whole K R (layout c.args.form) c.args.from.now c.loop-leaf.leaf _ refl (kept.sound h first)
-            (λ is. undamaged_before K R (layout c.args.form) c.args.from.now c.loop-leaf.from kept.reads h c.loop-leaf.leaf (w.in_ok-inode.ensures.undamaged h))
+            (λ is. undamaged_before K R (layout c.args.form) c.args.from.now c.loop-leaf.from kept.reads h c.loop-leaf.leaf (w.in_ok-inodes.ensures.undamaged h))
             (λ is. subst (λ (l : ℕ → List ℕ). IsWhole (layout c.args.form) l c.loop-leaf.leaf) same
-            (w.in_ok-inode.ensures.whole h (subst (λ (l : ℕ → List ℕ). IsMapOf (layout c.args.form) l c.args.map.now) (sym same) first) before));
+            (w.in_ok-inodes.ensures.whole h (subst (λ (l : ℕ → List ℕ). IsMapOf (layout c.args.form) l c.args.map.now) (sym same) first) before));
       }
       | else-entry_in-eq-INODE w ↦ record {
         reads = subst (λ s. ReadsOnly K R None c.args.from.now s) (sym w.from-is) kept.reads;
