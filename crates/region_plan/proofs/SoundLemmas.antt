@@ -30,7 +30,7 @@ any_range p (suc n) a i none low high =
     apart false y e = (refl, e)
     apart true y e = absurd (let f : true ≡ false = e in cc)
 
-none_range : (p : ℕ → Bool) (n a : ℕ) → ((i : ℕ) → a ≤ i → i < a + n → p i ≡ false) → list_any p (range_with_len a n) ≡ false
+pub none_range : (p : ℕ → Bool) (n a : ℕ) → ((i : ℕ) → a ≤ i → i < a + n → p i ≡ false) → list_any p (range_with_len a n) ≡ false
 none_range p zero a none = refl
 none_range p (suc n) a none = ap (λ b. b || list_any p (range_with_len (a + 1) n)) (none a (omega arith) (omega arith)) ∙ none_range p n (a + 1) (λ i low high. none i (omega arith) (omega arith))
 
@@ -47,7 +47,7 @@ all_range p (suc n) a i all low high =
     both true y e = (refl, e)
     both false y e = absurd (let f : false ≡ true = e in cc)
 
-each_range : (p : ℕ → Bool) (n a : ℕ) → ((i : ℕ) → a ≤ i → i < a + n → p i ≡ true) → list_all p (range_with_len a n) ≡ true
+pub each_range : (p : ℕ → Bool) (n a : ℕ) → ((i : ℕ) → a ≤ i → i < a + n → p i ≡ true) → list_all p (range_with_len a n) ≡ true
 each_range p zero a all = refl
 each_range p (suc n) a all = ap (λ b. b && list_all p (range_with_len (a + 1) n)) (all a (omega arith) (omega arith)) ∙ each_range p n (a + 1) (λ i low high. all i (omega arith) (omega arith))
 
@@ -64,7 +64,7 @@ find_range p (suc n) a i none low high =
     skipped true v r e = cc
     skipped false v r e = (refl, e)
 
-none_found : (p : ℕ → Bool) (n a : ℕ) → ((i : ℕ) → a ≤ i → i < a + n → p i ≡ false) → find p (range_with_len a n) ≡ None
+pub none_found : (p : ℕ → Bool) (n a : ℕ) → ((i : ℕ) → a ≤ i → i < a + n → p i ≡ false) → find p (range_with_len a n) ≡ None
 none_found p zero a none = refl
 none_found p (suc n) a none = ap (λ b. cond b (Some a) (find p (range_with_len (a + 1) n))) (none a (omega arith) (omega arith))
     ∙ none_found p n (a + 1) (λ i low high. none i (omega arith) (omega arith))
@@ -260,7 +260,7 @@ module _ (L : Layout) (leaves : ℕ → List ℕ) where
         each o less true true is same = absurd (let e : n ≡ o = sound.apart n o below (omega arith) inode is
             (sym ((bytes_eq-Decides (identifier_in (leaves o)) (identifier_in (leaves n))).0 same)) in omega (arith, e))
 
-    data_has : (n : ℕ) → n < L.leaves → is_inode L leaves n ≡ true → has_data L leaves n ≡ true
+    pub data_has : (n : ℕ) → n < L.leaves → is_inode L leaves n ≡ true → has_data L leaves n ≡ true
     unfolding has_data numbers
     data_has n here inode =
         let own = sound.inode n here inode in

@@ -6,7 +6,7 @@ ghost use Rattle.std.specs.List.{list_all};
 ghost use Rattle.region_plan.specs.Parts.{part, with_bytes_at, are_zero};
 
 /// The number that four bytes from a place on are.
-pub(crate) fn number_at(bytes: &[u8], at: usize) -> u32
+pub fn number_at(bytes: &[u8], at: usize) -> u32
     requires { at + 4 ≤ length bytes.now }
     ensures { result ≡ from_le_bytes w32 (part at 4 bytes.now) }
 {
@@ -16,7 +16,7 @@ pub(crate) fn number_at(bytes: &[u8], at: usize) -> u32
 }
 
 /// Whether all bytes are zero. It goes on behind one that isn't, since many are looked at at a time so.
-pub(crate) fn all_zero(bytes: &[u8]) -> bool
+pub fn all_zero(bytes: &[u8]) -> bool
     ensures { result ≡ are_zero bytes.now }
 {
     let mut bits = 0;

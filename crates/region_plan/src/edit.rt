@@ -12,7 +12,7 @@ use store_api::StoreAnswer;
 use tee_base::limits::BLOCK_BYTES;
 
 /// How many leaves the content of so many bytes takes.
-pub(crate) fn blocks(length: u32) -> u32
+pub fn blocks(length: u32) -> u32
     ensures { result ≡ data_leaves length }
 {
     length.div_ceil(1024)

@@ -1,6 +1,6 @@
 //! The map of a region: what each leaf is.
 
-ghost use Rattle.std.specs.Prelude.{◌≡◌, ◌≤◌, ◌<◌, ◌+◌, ◌*◌, ◌==◌, ◌&&◌, ℕ, IfOk};
+ghost use Rattle.std.specs.Prelude.{◌≡◌, ◌≤◌, ◌<◌, ◌+◌, ◌*◌, ◌==◌, ◌&&◌, nat_lt, ℕ, IfOk, if◌then◌else◌};
 ghost use Rattle.region_plan.specs.Layout.{layout};
 ghost use Rattle.region_plan.specs.Entries.{follows, form_of, is_zero as has_zeros, number_in};
 ghost use Rattle.region_plan.specs.Places.{AreWritable, entries_in, free_entry, with_entry};
@@ -26,7 +26,7 @@ pub(crate) const ENTRY_BYTES: usize = 4;
 
 /// What the map says of a leaf: its kind, the leaf of its inode, and its index among the inode's data.
 #[derive(Clone, Copy)]
-pub(crate) struct Entry {
+pub struct Entry {
     pub kind: u32,
     pub inode: u32,
     pub index: u32,
@@ -103,7 +103,7 @@ fn is_zero(entry: Entry) -> bool
 }
 
 /// Whether an entry has the form of its kind, where it is known if it is named.
-fn has_form(leaf: usize, entry: Entry, named: bool) -> bool
+fn fits_kind(leaf: usize, entry: Entry, named: bool) -> bool
     ensures { result ≡ form_of leaf entry named }
 {
     if entry.kind == FREE {
@@ -115,20 +115,24 @@ fn has_form(leaf: usize, entry: Entry, named: bool) -> bool
     entry.kind == DATA && named
 }
 
+/// Whether the entry of a leaf follows the rules, where it is known if the leaf that it names is an inode.
+pub fn has_form(form: Form, leaf: usize, entry: Entry, names_inode: bool) -> bool
+    ensures { result ≡ (if nat_lt leaf (layout form).map_leaves then has_zeros entry
+        else form_of leaf entry (names_inode && nat_lt entry.index (layout form).indexes)) }
+{
+    if leaf < form.map_leaves() {
+        return is_zero(entry);
+    }
+    fits_kind(leaf, entry, names_inode && entry.index < form.indexes())
+}
+
 /// Whether the entry of a leaf follows the rules.
 pub(crate) fn is_well_formed(form: Form, map: &Map, leaf: usize) -> bool
     ensures { result ≡ follows (layout form) (entries_in map.now) leaf }
 {
     let entry = entry_in(map, leaf);
-    if leaf < form.map_leaves() {
-        return is_zero(entry);
-    }
     let inode = entry_in(map, entry.inode as usize);
-    has_form(
-        leaf,
-        entry,
-        inode.kind == INODE && entry.index < form.indexes(),
-    )
+    has_form(form, leaf, entry, inode.kind == INODE)
 }
 
 /// Takes the entries of a leaf of the map.

@@ -67,7 +67,7 @@ impl Form {
 
     /// The entry that a number of the map is.
     #[tactic(auto, unfolding(crate::specs::Layout::layout))]
-    pub(crate) fn entry_of(self, number: u32) -> Entry
+    pub fn entry_of(self, number: u32) -> Entry
         ensures { result ≡ (layout self).entry_of number }
     {
         match self {

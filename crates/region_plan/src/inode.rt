@@ -87,7 +87,7 @@ pub(crate) fn inode_block(head: Head<'_>, length: u32) -> [u8; BLOCK_BYTES]
 }
 
 /// Whether the bytes of an inode leaf follow the rules.
-pub(crate) fn is_inode_leaf(leaf: &[u8; BLOCK_BYTES]) -> bool
+pub fn is_inode_leaf(leaf: &[u8; BLOCK_BYTES]) -> bool
     ensures { result ≡ follows_rules leaf.now }
 {
     let id = leaf[IDENTIFIER_LENGTH_AT] as usize;

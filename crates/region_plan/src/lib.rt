@@ -19,11 +19,15 @@ mod planning;
 mod source;
 mod table;
 
+pub use bytes::{all_zero, number_at};
 pub use calls::{facts, locate, next_after, secret};
 pub use change::plan;
 pub use data::content;
 pub use directory::Directory;
+pub use edit::blocks;
+pub use entry::{Entry, has_form};
 pub use form::Form;
+pub use inode::is_inode_leaf;
 pub use laws::region_laws;
 pub use planning::cost;
-pub use source::LeafSource;
+pub use source::{LeafSource, read};

@@ -49,7 +49,7 @@ pub trait LeafSource {
 }
 
 /// Reads a leaf, and answers as a store does.
-pub(crate) fn read<L: LeafSource>(
+pub fn read<L: LeafSource>(
     from: &mut L,
     number: u16,
     into: &mut [u8; BLOCK_BYTES],
