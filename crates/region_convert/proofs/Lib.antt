@@ -1,0 +1,5 @@
+pub mod CheckedLemmas
+pub mod ConvertedLemmas
+pub mod MovedLemmas
+pub mod OldLemmas
+pub mod RangeLemmas
