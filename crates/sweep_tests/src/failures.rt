@@ -27,10 +27,13 @@ fn is_done(rt: &impl Abort, alloc: Global, call: u64, pick: u8) -> Result<bool, 
     let mut board = blank(alloc)?;
     board.failing(&[call])?;
     let (status, sink, board) = run_on(rt, alloc, board, script.as_str());
-    let done = status == Status::Done && sink.written() == CLEAN.as_bytes();
-    assert!(rt; done || is_told(&status, sink.written()));
+    if status == Status::Done && sink.written() == CLEAN.as_bytes() {
+        drop(board);
+        return Ok(true);
+    }
+    assert!(rt; is_told(&status, sink.written()));
     check_left(rt, alloc, board, said_by(sink.written()));
-    Ok(done)
+    Ok(false)
 }
 
 /// The same for each call of the run.
