@@ -10,10 +10,10 @@ use Rattle.app_api.specs.declared.param.Param.{Param}
 use Rattle.app_api.specs.declared.param.Param.TheVariants.{Nothing, ValueIn, ValueOut}
 use Rattle.app_api.specs.declared.param.Params.{Params}
 use Rattle.app_api.specs.Outs.{no_outs}
-use Rattle.sample_apps.specs.declared.reaction.Reaction.{Reaction}
+use Rattle.app_kit.specs.declared.reaction.Reaction.{Reaction}
 use Rattle.sample_apps.specs.declared.count.Count.{Count}
 use Rattle.tee_base.specs.declared.codes.TheConstants.Code.{GENERIC, BAD_PARAMETERS, OVERFLOW}
-use Rattle.sample_apps.specs.Reactions.{succeed_with, fail_with, at_p0, at_p1}
+use Rattle.app_kit.specs.Reactions.{succeed_with, fail_with, at_p0, at_p1}
 
 -- nothing counted, and no session
 abbrev pub new_count : Count

@@ -7,7 +7,7 @@ use Rattle.app_api.specs.declared.ask.Given.TheVariants as givens
 use Rattle.app_api.specs.declared.ask.Entry.{Entry}
 use Rattle.app_api.specs.declared.ask.Entry.TheVariants.{Create, Destroy, Start, Stop, Invoke}
 use Rattle.app_api.specs.Outs.{no_outs}
-use Rattle.sample_apps.specs.declared.reaction.Reaction.{Reaction}
+use Rattle.app_kit.specs.declared.reaction.Reaction.{Reaction}
 use Rattle.sample_apps.specs.declared.crypt.Crypt.{Crypt}
 use Rattle.sample_apps.specs.declared.crypt.Class.{Class}
 use Rattle.sample_apps.specs.declared.crypt.Waiting.{Waiting}
@@ -15,7 +15,7 @@ use Rattle.sample_apps.specs.declared.crypt.Waiting.TheVariants as waiting
 use Rattle.sample_apps.specs.declared.crypt.commands.Command.{Command}
 use Rattle.sample_apps.specs.declared.crypt.commands.Command.TheVariants.{SetUp, Update, Finish, Compare}
 use Rattle.tee_base.specs.declared.codes.TheConstants.Code.{GENERIC, BAD_PARAMETERS}
-use Rattle.sample_apps.specs.Reactions.{succeed_with, fail_with}
+use Rattle.app_kit.specs.Reactions.{succeed_with, fail_with}
 use Rattle.sample_apps.specs.CryptCommands.{command_of}
 use Rattle.sample_apps.specs.CryptSetUp as first
 use Rattle.sample_apps.specs.CryptMessages as messages

@@ -9,13 +9,13 @@ use Rattle.app_api.specs.declared.ask.Ask.{Ask}
 use Rattle.app_api.specs.declared.ask.Ask.TheVariants as asked
 use Rattle.app_api.specs.declared.out.Out.TheVariants.{Mem, Size}
 use Rattle.app_api.specs.Outs.{no_outs}
-use Rattle.sample_apps.specs.declared.reaction.Reaction.{Reaction}
+use Rattle.app_kit.specs.declared.reaction.Reaction.{Reaction}
 use Rattle.sample_apps.specs.declared.crypt.Crypt.{Crypt}
 use Rattle.sample_apps.specs.declared.crypt.Class.{Class}
 use Rattle.sample_apps.specs.declared.crypt.Class.TheVariants.{Cipher, Mac, Digest}
 use Rattle.sample_apps.specs.declared.crypt.Waiting.TheVariants as waiting
 use Rattle.tee_base.specs.declared.codes.TheConstants.Code.{SUCCESS, GENERIC, BAD_STATE, SHORT_BUFFER, MAC_INVALID}
-use Rattle.sample_apps.specs.Reactions.{return_with, succeed_with, fail_with, at_p1}
+use Rattle.app_kit.specs.Reactions.{return_with, succeed_with, fail_with, at_p1}
 use Rattle.sample_apps.specs.CryptSetUp.{idle, wait_for, refusal_of}
 
 -- the command returns these bytes

@@ -8,7 +8,7 @@ use Rattle.app_api.specs.declared.ask.Answer.TheVariants.{Done, Refused, Number}
 use Rattle.app_api.specs.declared.ask.Ask.{Ask}
 use Rattle.app_api.specs.declared.ask.Ask.TheVariants as asked
 use Rattle.app_api.specs.Outs.{no_outs}
-use Rattle.sample_apps.specs.declared.reaction.Reaction.{Reaction}
+use Rattle.app_kit.specs.declared.reaction.Reaction.{Reaction}
 use Rattle.sample_apps.specs.declared.crypt.Crypt.{Crypt}
 use Rattle.sample_apps.specs.declared.crypt.Class.{Class}
 use Rattle.sample_apps.specs.declared.crypt.Class.TheVariants.{Cipher, Mac, Digest}
@@ -16,7 +16,7 @@ use Rattle.sample_apps.specs.declared.crypt.commands.Plan.{Plan}
 use Rattle.sample_apps.specs.declared.crypt.Waiting.{Waiting}
 use Rattle.sample_apps.specs.declared.crypt.Waiting.TheVariants as waiting
 use Rattle.tee_base.specs.declared.codes.TheConstants.Code.{GENERIC}
-use Rattle.sample_apps.specs.Reactions.{ask_for, succeed_with, fail_with}
+use Rattle.app_kit.specs.Reactions.{ask_for, succeed_with, fail_with}
 use Rattle.tee_base.specs.Words.{Key}
 
 -- no operation yet

@@ -1,5 +1,3 @@
-pub mod Reactions
-pub mod Parameters
 pub mod StoreCommands
 pub mod StoreAnswers
 pub mod Store

@@ -13,7 +13,7 @@ use Rattle.app_api.specs.declared.param.Param.{Param}
 use Rattle.app_api.specs.declared.param.Param.TheVariants.{Nothing, ValueIn, ValueOut, MemOut}
 use Rattle.app_api.specs.declared.param.Params.{Params}
 use Rattle.app_api.specs.Outs.{no_outs}
-use Rattle.sample_apps.specs.declared.reaction.Reaction.{Reaction}
+use Rattle.app_kit.specs.declared.reaction.Reaction.{Reaction}
 use Rattle.sample_apps.specs.declared.rogue.Rogue.{Rogue}
 use Rattle.sample_apps.specs.declared.rogue.Rogue.TheVariants.{Idle, ClosingUnknown, Looping, Creating, Closing, Replacing, MakingKeys}
 use Rattle.sample_apps.specs.declared.rogue.commands.Command.{Command}
@@ -21,7 +21,7 @@ use Rattle.sample_apps.specs.declared.rogue.commands.Command.TheVariants.{Panic,
 use Rattle.tee_base.specs.declared.keys.TheConstants.{KIND_AES}
 use Rattle.tee_base.specs.declared.limits.TheConstants.{MAX_ASKS}
 use Rattle.tee_base.specs.declared.codes.TheConstants.Code.{GENERIC, BAD_PARAMETERS, SHORT_BUFFER, STORAGE_NO_SPACE}
-use Rattle.sample_apps.specs.Reactions.{ask_for, return_with, succeed_with, fail_with, at_p0}
+use Rattle.app_kit.specs.Reactions.{ask_for, return_with, succeed_with, fail_with, at_p0}
 
 -- ---- numbers
 

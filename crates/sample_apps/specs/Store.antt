@@ -5,10 +5,10 @@ use Rattle.app_api.specs.declared.ask.Given.TheVariants as givens
 use Rattle.app_api.specs.declared.ask.Entry.{Entry}
 use Rattle.app_api.specs.declared.ask.Entry.TheVariants.{Create, Destroy, Start, Stop, Invoke}
 use Rattle.app_api.specs.Outs.{no_outs}
-use Rattle.sample_apps.specs.declared.reaction.Reaction.{Reaction}
+use Rattle.app_kit.specs.declared.reaction.Reaction.{Reaction}
 use Rattle.sample_apps.specs.declared.store.Store.{Store}
 use Rattle.sample_apps.specs.declared.store.Store.TheVariants.{Idle}
-use Rattle.sample_apps.specs.Reactions.{succeed_with}
+use Rattle.app_kit.specs.Reactions.{succeed_with}
 use Rattle.sample_apps.specs.StoreCommands.{command}
 use Rattle.sample_apps.specs.StoreAnswers.{after_answer}
 

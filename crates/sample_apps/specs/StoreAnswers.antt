@@ -8,12 +8,12 @@ use Rattle.app_api.specs.declared.ask.Ask.TheVariants as asked
 use Rattle.app_api.specs.declared.out.Out.TheVariants.{Value, Mem, Size}
 use Rattle.app_api.specs.declared.out.Outs.{Outs}
 use Rattle.app_api.specs.Outs.{no_outs}
-use Rattle.sample_apps.specs.declared.reaction.Reaction.{Reaction}
+use Rattle.app_kit.specs.declared.reaction.Reaction.{Reaction}
 use Rattle.sample_apps.specs.declared.store.Store.{Store}
 use Rattle.sample_apps.specs.declared.store.Store.TheVariants.{Idle, Opening, Creating, Acting, Describing, Reading, MakingList, StartingList}
 use Rattle.sample_apps.specs.declared.store.Store.TheVariants.{Listing, FreeingList, Polling, Unmasking, Watching, Drawing}
 use Rattle.tee_base.specs.declared.codes.TheConstants.Code.{GENERIC, CANCEL, ITEM_NOT_FOUND, SHORT_BUFFER}
-use Rattle.sample_apps.specs.Reactions.{ask_for, return_with, succeed_with, fail_with, at_p0, at_p1, at_p2, at_p3}
+use Rattle.app_kit.specs.Reactions.{ask_for, return_with, succeed_with, fail_with, at_p0, at_p1, at_p2, at_p3}
 use Rattle.sample_apps.specs.StoreCommands.{polls, watches}
 use Rattle.tee_base.specs.Words.{Identifier}
 

@@ -8,11 +8,11 @@ use Rattle.app_api.specs.declared.param.Param.{Param}
 use Rattle.app_api.specs.declared.param.Param.TheVariants.{Nothing, ValueIn, ValueOut, MemIn, MemOut}
 use Rattle.app_api.specs.declared.param.Params.{Params}
 use Rattle.app_api.specs.Outs.{no_outs}
-use Rattle.sample_apps.specs.declared.reaction.Reaction.{Reaction}
+use Rattle.app_kit.specs.declared.reaction.Reaction.{Reaction}
 use Rattle.sample_apps.specs.declared.store.Store.{Store}
 use Rattle.sample_apps.specs.declared.store.Store.TheVariants.{Idle, Opening, Creating, Acting, Describing, Reading, MakingList, Polling, Unmasking, Watching, Drawing}
 use Rattle.tee_base.specs.declared.codes.TheConstants.Code.{BAD_PARAMETERS}
-use Rattle.sample_apps.specs.Reactions.{ask_for, succeed_with, fail_with}
+use Rattle.app_kit.specs.Reactions.{ask_for, succeed_with, fail_with}
 
 -- an unknown command, or parameters of other kinds
 abbrev pub misfit : Reaction Store

@@ -1,7 +1,7 @@
 //! The sample application Count: it keeps a number that commands add to, and how many sessions it has.
 
-use crate::reaction::{Reaction, at_p0, at_p1};
 use app_api::{Application, Ask, Entry, Given, Out, Outs, Param, Params};
+use app_kit::{Reaction, at_p0, at_p1};
 use std::alloc::Global;
 use tee_base::{Code, NoMemory};
 

@@ -73,7 +73,7 @@ pub struct Crypt {
 
 impl Crypt {
     ghost use Rattle.std.specs.Prelude.{◌≡◌, IfOk, OnErr};
-    ghost use Rattle.sample_apps.specs.Reactions.{ask_for, return_with, succeed_with, fail_with};
+    ghost use Rattle.app_kit.specs.Reactions.{ask_for, return_with, succeed_with, fail_with};
     ghost use Rattle.sample_apps.specs.CryptSetUp.{new_crypt, idle, wait_for, refusal_of};
     ghost use Rattle.sample_apps.specs.Crypt as rows;
 

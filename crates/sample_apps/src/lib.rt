@@ -4,8 +4,6 @@
 mod count;
 mod crypt;
 mod hosts;
-mod parameters;
-mod reaction;
 mod rogue;
 mod sample;
 mod store;

@@ -3,8 +3,8 @@
 
 mod commands;
 
-use crate::reaction::{Reaction, at_p0};
 use app_api::{Answer, Application, Ask, Entry, Given, Out, Outs};
+use app_kit::{Reaction, at_p0};
 use commands::{Command, command_of};
 use std::alloc::Global;
 use tee_base::{Bytes, Code, NoMemory, keys, limits};

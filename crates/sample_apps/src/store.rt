@@ -3,8 +3,8 @@
 mod answers;
 mod commands;
 
-use crate::reaction::Reaction;
 use app_api::{Answer, Application, Ask, Entry, Given, Outs};
+use app_kit::Reaction;
 use std::alloc::Global;
 use std::mem;
 use tee_base::{Bytes, Code, NoMemory};

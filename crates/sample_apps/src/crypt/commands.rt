@@ -3,8 +3,8 @@
 ghost use Rattle.std.specs.Prelude.{◌≡◌};
 ghost use Rattle.sample_apps.specs.CryptCommands as rows;
 
-use crate::parameters::take_bytes;
 use app_api::{Param, Params};
+use app_kit::take_bytes;
 use tee_base::Bytes;
 
 /// What an operation is set up with.

@@ -1,12 +1,12 @@
 //! Commands 2 to 4 of Crypt: messages that go through the operation.
 
 ghost use Rattle.std.specs.Prelude.{◌≡◌};
-ghost use Rattle.sample_apps.specs.Reactions.{ask_for};
+ghost use Rattle.app_kit.specs.Reactions.{ask_for};
 ghost use Rattle.sample_apps.specs.CryptMessages as rows;
 
 use crate::crypt::{Class, Crypt, Waiting};
-use crate::reaction::at_p1;
 use app_api::{Answer, Ask, Out, Outs};
+use app_kit::at_p1;
 use std::alloc::Global;
 use tee_base::{Bytes, Code};
 

@@ -1,7 +1,7 @@
 //! Command 1 of Crypt: the asks that set up an operation, each after the answer to the one before.
 
 ghost use Rattle.std.specs.Prelude.{◌≡◌, IfOk};
-ghost use Rattle.sample_apps.specs.Reactions.{ask_for};
+ghost use Rattle.app_kit.specs.Reactions.{ask_for};
 ghost use Rattle.sample_apps.specs.CryptSetUp as rows;
 
 use crate::crypt::commands::Plan;

@@ -4,10 +4,10 @@
 ghost use Rattle.std.specs.Prelude.{◌≡◌, ◌∷◌, ◌++◌, IfOk, OnOk, OnErr};
 ghost use Rattle.sample_apps.specs.StoreAnswers as rows;
 
-use crate::reaction::{Reaction, at_p0, at_p1, at_p2, at_p3};
 use crate::store::Store;
 use crate::store::commands::{PRIVATE_STORAGE, poll, watch};
 use app_api::{Answer, Ask, Out, Outs};
+use app_kit::{Reaction, at_p0, at_p1, at_p2, at_p3};
 use std::alloc::Global;
 use std::mem;
 use tee_base::{Bytes, Code, NoMemory};

@@ -3,10 +3,9 @@
 ghost use Rattle.std.specs.Prelude.{◌≡◌};
 ghost use Rattle.sample_apps.specs.StoreCommands as rows;
 
-use crate::parameters::take_bytes;
-use crate::reaction::Reaction;
 use crate::store::Store;
 use app_api::{Ask, Outs, Param, Params};
+use app_kit::{Reaction, take_bytes};
 use tee_base::Code;
 
 /// The number of private storage (TEE Internal Core API 1.3, section 5.3).

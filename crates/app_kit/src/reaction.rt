@@ -1,7 +1,7 @@
 //! What an application does with what it is given.
 
 ghost use Rattle.std.specs.Prelude.{◌≡◌};
-ghost use Rattle.sample_apps.specs.Reactions as reactions;
+ghost use Rattle.app_kit.specs.Reactions as reactions;
 
 use app_api::{Ask, Out, Outs};
 use tee_base::Code;

@@ -1,7 +1,7 @@
 //! Bytes that the parameters of a call bring in.
 
 ghost use Rattle.std.specs.Prelude.{◌≡◌};
-ghost use Rattle.sample_apps.specs.Parameters.{bytes_in};
+ghost use Rattle.app_kit.specs.Parameters.{bytes_in};
 
 use app_api::Param;
 use std::mem;

@@ -5,7 +5,7 @@ use Rattle.app_api.specs.declared.ask.Ask.TheVariants.{Return}
 use Rattle.app_api.specs.declared.out.Out.{Out}
 use Rattle.app_api.specs.declared.out.Outs.{Outs}
 use Rattle.app_api.specs.Outs.{no_outs}
-use Rattle.sample_apps.specs.declared.reaction.Reaction.{Reaction}
+use Rattle.app_kit.specs.declared.reaction.Reaction.{Reaction}
 use Rattle.tee_base.specs.declared.codes.TheConstants.Code.{SUCCESS}
 
 -- this state afterwards, and this ask

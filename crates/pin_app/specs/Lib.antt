@@ -1,0 +1,4 @@
+pub mod PinCommands
+pub mod PinAnswers
+pub mod PinSteps
+pub mod PinHosts
