@@ -50,9 +50,9 @@ pub struct Pair<F> {
 
 /// A file that was there, locked, and how many bytes it has.
 #[derive(Drop)]
-struct Found<F> {
-    file: F,
-    bytes: u64,
+pub struct Found<F> {
+    pub file: F,
+    pub bytes: u64,
 }
 
 /// Reads what is at this place of the file.
@@ -100,17 +100,31 @@ fn taken<F: OpenFile + Lock>(role: BoardFile, file: &F) -> Result<u64, FileBoard
     }
 }
 
+/// Takes a file that has to be there for this process, and reads it alone.
+pub fn take_to_read<R: Files>(
+    rt: &R,
+    role: BoardFile,
+    path: &str,
+) -> Result<Found<R::File>, FileBoardFailed>
+where
+    R::File: Lock,
+{
+    if !is_there(rt, role, path)? {
+        return Err(FileBoardFailed::unfit(role, FileFault::Missing));
+    }
+    let file = blame(role, FileFault::Unreadable, fs::open(rt, path))?;
+    let bytes = taken(role, &file)?;
+    Ok(Found { file, bytes })
+}
+
 /// Takes the key file for this process, and reads it.
 pub fn take_keys<R: Files>(rt: &R, path: &str) -> Result<Keys<R::File>, FileBoardFailed>
 where
     R::File: Lock,
 {
     let role = BoardFile::Key;
-    if !is_there(rt, role, path)? {
-        return Err(FileBoardFailed::unfit(role, FileFault::Missing));
-    }
-    let mut file = blame(role, FileFault::Unreadable, fs::open(rt, path))?;
-    if taken(role, &file)? != KEY_BYTES {
+    let Found { mut file, bytes } = take_to_read(rt, role, path)?;
+    if bytes != KEY_BYTES {
         return Err(FileBoardFailed::unfit(role, FileFault::NoKeys));
     }
     let (mut key, mut seed) = ([0; 32], [0; 32]);

@@ -2,6 +2,7 @@
 #![tactic(auto)]
 
 mod block_list;
+mod copy;
 mod counter;
 mod counts;
 mod disk;
@@ -17,6 +18,7 @@ mod room;
 mod row;
 mod schedule;
 
+pub use copy::copy_of_files;
 pub use failed::{BoardFile, FileBoardFailed, FileFailure, FileFault};
 pub use file::FileBoard;
 pub use files::NEW_BLOCKS;

@@ -2,7 +2,7 @@
 use crate::rows::{Row, go_through};
 use boards::BoardFile::{Counter, Image, Key};
 use boards::FileFault::{InUse, Missing, NoKeys, NotPlain, WrongLength};
-use boards::{BoardFile, FileBoard, FileBoardFailed, FileFault, NEW_BLOCKS};
+use boards::{BoardFile, FileBoard, FileBoardFailed, FileFault, NEW_BLOCKS, copy_of_files};
 use std::fs::File;
 use std::process::Abort;
 use std::{env, fs, process};
@@ -23,6 +23,10 @@ enum Act<'a> {
     Refused(BoardFile, FileFault),
     /// The board is opened, and the calls are made.
     Open(&'a [Row]),
+    /// Its copy is refused for this fault of this file.
+    CopyRefused(BoardFile, FileFault),
+    /// It is copied, and the calls are made of the copy.
+    Copy(&'a [Row]),
 }
 
 /// What the file's name ends in behind the image's, and what is done. The board has the image's name.
@@ -66,6 +70,21 @@ fn is_refused(host: &HostRuntime, image: &str, file: BoardFile, fault: FileFault
     }
 }
 
+/// Whether a copy is refused for this fault of this file.
+fn is_copy_refused(host: &HostRuntime, image: &str, file: BoardFile, fault: FileFault) -> bool {
+    match copy_of_files(host, host.alloc(), image) {
+        Err(FileBoardFailed::Failed(why)) => why.file == file && why.fault == fault,
+        _ => false,
+    }
+}
+
+/// Copies the board, and makes the calls of the copy.
+fn copy(rt: &impl Abort, host: &HostRuntime, image: &str, rows: &[Row]) -> bool {
+    let mut board = copy_of_files(host, host.alloc(), image).expect(rt, "a copy");
+    go_through(rt, &mut board, 0, rows);
+    true
+}
+
 /// The board of these files.
 fn opened(rt: &impl Abort, host: &HostRuntime, image: &str) -> FileBoard<File> {
     FileBoard::open(host, host.alloc(), image).expect(rt, "a board")
@@ -91,6 +110,8 @@ fn is_done(rt: &impl Abort, host: &HostRuntime, path: &str, act: &Act<'_>) -> bo
         Act::RemoveFolder => fs::remove_dir(host, path).is_ok(),
         Act::Refused(file, fault) => is_refused(host, path, *file, *fault),
         Act::Open(rows) => open(rt, host, path, *rows),
+        Act::CopyRefused(file, fault) => is_copy_refused(host, path, *file, *fault),
+        Act::Copy(rows) => copy(rt, host, path, *rows),
     }
 }
 
@@ -226,5 +247,56 @@ fn one_board_at_a_time_holds_the_files(rt: HostRuntime) {
     let image = path_of(&rt, &rt, "held");
     go(&rt, &rt, image.as_str(), OTHERS);
     hold(&rt, &rt, image.as_str(), HELD);
+    go(&rt, &rt, image.as_str(), LET_GO);
+}
+
+/// The image has two blocks of threes, and the counter is 1. What is written stays in the copy.
+const COPIED: &[Row] = &[
+    Row::Blocks(NEW_BLOCKS),
+    Row::Key(1),
+    Row::Counter(Some(1)),
+    Row::Filled(1, 3),
+    Row::Filled(2, 0),
+    Row::Filled(43_719, 0),
+    Row::Fill(1, 5, true),
+    Row::Sync(true),
+    Row::Advance(Some(2)),
+    Row::Filled(1, 5),
+];
+
+#[test]
+fn a_copy_leaves_the_files(rt: HostRuntime) {
+    const STEPS: &[Step] = &[
+        // no file is made
+        ("", Act::CopyRefused(Key, Missing)),
+        (".key", Act::Write(KEYS)),
+        ("", Act::CopyRefused(Image, Missing)),
+        ("", Act::Write(&[3; 2047])),
+        ("", Act::CopyRefused(Counter, Missing)),
+        (".ctr", Act::Is(None)),
+        (".ctr", Act::Write(&[1, 0, 0, 0, 0, 0, 0])),
+        ("", Act::CopyRefused(Image, WrongLength)),
+        ("", Act::Write(&[3; 2048])),
+        ("", Act::CopyRefused(Counter, WrongLength)),
+        (".ctr", Act::Write(&[1, 0, 0, 0, 0, 0, 0, 0])),
+        ("", Act::Copy(COPIED)),
+        ("", Act::Copy(COPIED)),
+        ("", Act::Holds(&[3; 2048])),
+        (".ctr", Act::Holds(&[1, 0, 0, 0, 0, 0, 0, 0])),
+        ("", Act::Remove),
+        (".ctr", Act::Remove),
+        (".key", Act::Remove),
+    ];
+    const HELD: &[Step] = &[("", Act::CopyRefused(Key, InUse))];
+    let image = path_of(&rt, &rt, "copied");
+    go(&rt, &rt, image.as_str(), STEPS);
+    let image = path_of(&rt, &rt, "copied-held");
+    go(&rt, &rt, image.as_str(), &[(".key", Act::Write(KEYS))]);
+    hold(&rt, &rt, image.as_str(), HELD);
+    const LET_GO: &[Step] = &[
+        ("", Act::Remove),
+        (".ctr", Act::Remove),
+        (".key", Act::Remove),
+    ];
     go(&rt, &rt, image.as_str(), LET_GO);
 }

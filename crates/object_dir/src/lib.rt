@@ -7,3 +7,4 @@ mod planned;
 mod region;
 
 pub use directory::ObjectDir;
+pub use region::{IN_USE, Region};

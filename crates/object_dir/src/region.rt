@@ -8,11 +8,11 @@ use store_api::{LeafAnswer, Leaves, StoreAnswer, Volume};
 use tee_base::limits::BLOCK_BYTES;
 
 /// The form of the regions in use.
-pub(crate) const IN_USE: Form = Form::Two;
+pub const IN_USE: Form = Form::Two;
 
 /// One region of a volume.
 #[derive(Drop)]
-pub(crate) struct Region<'v, V> {
+pub struct Region<'v, V> {
     pub volume: &'v mut V,
     pub number: u8,
     ghost fits: { number < MAX_HOSTS },
@@ -53,7 +53,7 @@ impl<V: Volume> Region<'_, V> {
     ghost use Rattle.object_dir.specs.Changing.{CommitsRegion};
 
     /// Replaces these leaves, all or none, and answers as a store does.
-    pub fn commit(&mut self, leaves: &Leaves) -> Result<(), StoreAnswer>
+    pub(crate) fn commit(&mut self, leaves: &Leaves) -> Result<(), StoreAnswer>
         requires { IsTrue (is_above_all leaves.now LEAVES) }
         ensures { CommitsRegion V.keeper leaves.now result self.old self.new }
     {

@@ -1,11 +1,13 @@
 //! The first word of a line that can't stand where it does.
 
-ghost use Rattle.std.specs.Prelude.{◌<◌};
+ghost use Rattle.std.specs.Prelude.{◌≤◌, ◌<◌, ℕ, IsTrue};
+ghost use Rattle.script.specs.Words.{IsNumber};
 
 use crate::wanted::{
     CALLS, CLIENT, COMMAND, INSTANCE, LABEL, MAX_32, Number, OPERATION, PICK, TURNS, Wanted,
 };
 use app_api::Host;
+use script::read_number;
 use std::alloc::{AllocError, Global};
 use std::str;
 use tee_base::limits;
@@ -26,25 +28,12 @@ fn wants(place: usize, wanted: Wanted) -> Option<Misfit> {
     Some(Misfit { place, wanted })
 }
 
-/// The value of decimal digits, below 2^64.
-fn value(digits: &[u8]) -> Option<u64> {
-    if digits.is_empty() {
-        return None;
-    }
-    let mut value = 0u64;
-    for digit in digits {
-        if !digit.is_ascii_digit() {
-            return None;
-        }
-        value = value
-            .checked_mul(10)?
-            .checked_add(u64::from(*digit - b'0'))?;
-    }
-    Some(value)
-}
-
-fn is_within(digits: &[u8], low: u64, high: u64) -> bool {
-    match value(digits) {
+/// Whether the word is a number from `low` to `high`.
+fn is_within(word: &[u8], low: u64, high: u64) -> bool
+    ensures within { IsTrue result → (n : ℕ) × IsNumber word.now n × (low ≤ n) × (n ≤ high) }
+    ensures all { (n : ℕ) → IsNumber word.now n → low ≤ n → n ≤ high → IsTrue result }
+{
+    match read_number(word) {
         Some(value) => low <= value && value <= high,
         None => false,
     }
