@@ -22,11 +22,12 @@ status_with c reports attempts =
     record { lost = c.lost; faults = c.faults; foundation = c.foundation; damage_reports = reports; change_attempts = attempts }
 
 module _ {V : Type 0} (K : VolumeKeeper V) where
-  -- what there is for an answer of damage to tell: two tags that differ on the way to a leaf of the region, or a leaf that breaks a rule
+  -- what there is for an answer of damage to tell: two tags that differ on the way to a leaf of the region, or a leaf that breaks a
+  -- rule; another answer tells of none
   abbrev pub damage_of : Region V → StoreAnswer → Type 0
   damage_of r (Corrupt tags) = IsTrue K.tells_reads → (leaf : ℕ) × (leaf < K.leaves) × (K.damage r.volume.now r.number leaf ≡ Some tags)
   damage_of r (Garbled leaf) = IsBroken (region_keeper K) number_of in_use r leaf
-  damage_of r _ = Unit {0}
+  damage_of r _ = ⊥
 
   -- the objects of a region as a store: there is one where the volume is honest and the region stands for one, its rest is all other
   -- regions, its counts are the volume's, it is lost where the volume is, and it stands where the region stands

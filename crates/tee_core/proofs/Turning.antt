@@ -2,7 +2,7 @@
 use Rattle.app_api.specs.Behaviours.{Behaviour}
 use Rattle.std.proofs.Common.{◌≡◌, ◌≢◌, ◌<◌, ◌≤◌, ◌+◌, ◌==◌, ℕ, Bool, true, false, List, [], ◌∷◌, Option, None, Some, Result, Ok}
 use Rattle.std.proofs.Common.{is_some, set, zero, suc, refl, sym, subst, ◌∙◌, ap, inl, inr, ⊎_elim, arith}
-use Rattle.std.specs.Prelude.{◌⊎◌, slice_get}
+use Rattle.std.specs.Prelude.{◌⊎◌, IsTrue, slice_get}
 use Rattle.std.proofs.lemmas.Bool.{eqb-true, eqb-false}
 use Rattle.alone.proofs.Storage.{damage_leaves_doubt, turn_leaves_doubt}
 use Rattle.alone.specs.declared.reply.Reply.{Reply}
@@ -14,18 +14,22 @@ use Rattle.app_side.specs.Represents.{Represents as Runs_as, event_of as turn_of
 use Rattle.app_side.specs.declared.side.AppSide.{AppSide}
 use Rattle.object_asks.specs.declared.turn.TurnKind.{TurnKind as StoreKind}
 use Rattle.object_asks.specs.declared.turn.TurnKind.TheVariants as store_kinds
-use Rattle.object_asks.specs.Serving.{CrashTurns, IsKind, IsUndamaged, LeftByTurn, UnlessInDoubt}
+use Rattle.object_asks.specs.Serving.{CrashTurns, IsKind, IsUndamaged, LeftByTurn, ShowsDamage, UnlessInDoubt}
 use Rattle.object_dir.specs.Laws.{reads_back}
 use Rattle.object_dir.proofs.HeldLemmas.{own_store as region_store, same_contents, stands_by, still_stands}
 use Rattle.object_dir.proofs.PlaceLemmas.{volume_stays}
-use Rattle.object_dir.specs.Directories.{dir_keeper}
-use Rattle.object_dir.specs.Regions.{HasStore, contents_in, remains_of, region_in, remains_in, rest_of, store_in}
+use Rattle.object_dir.specs.Directories.{IsOver, damage_of, dir_keeper}
+use Rattle.object_dir.specs.Regions.{in_use, HasStore, contents_in, remains_of, region_in, remains_in, rest_of, store_in}
 use Rattle.object_dir.specs.declared.directory.ObjectDir.{ObjectDir}
 use Rattle.store_api.specs.Keeping.{Contents, Keeper, LeavesJust, Remains, Status}
+use Rattle.region_plan.specs.Regions.{breaks}
+use Rattle.store_api.specs.declared.answer.Mismatch.{Mismatch}
+use Rattle.store_api.specs.declared.answer.StoreAnswer.{StoreAnswer}
+use Rattle.store_api.specs.declared.answer.StoreAnswer.TheVariants as stores
 use Rattle.store_api.specs.Stores.{Store}
 use Rattle.store_api.specs.Volumes.{Held, RestsAt, VolumeKeeper}
 use Rattle.tee_core.specs.Represents.{HasDoubt, HasStoresOf, HoldsStores, IsLeftOf, StandFor, StoresFrom, kept_of, none_kept}
-use Rattle.tee_core.specs.Turning.{TurnsOver}
+use Rattle.tee_core.specs.Turning.{HasDamage, MeetsDamage, TurnsOver}
 use Rattle.tee_core.specs.World.{AppEvent, World, met_by_others, moved_at, world_step}
 use Rattle.tee_core.specs.Moments.{IsSound, IsWithin, KeepsCounts, RoseIfLost}
 use Rattle.tee_core.specs.Powers.{all_lost}
@@ -520,3 +524,37 @@ pub below_kept : {V A : Type 0} (K : VolumeKeeper V) (behaviour : Behaviour A) (
     → TurnsOver K behaviour app i kind replies before after old new → K.honest_below old → K.honest_below new
 below_kept K behaviour app i kind replies before after old new t below =
     subst K.honest_below t.over_new.same_volume (t.turn.keeps.below (subst K.honest_below (sym t.over_old.same_volume) below))
+
+-- what an answer of damage tells of a store over a region is damage of the region
+damage_under : {V : Type 0} (K : VolumeKeeper V) (region : ℕ) (volume : V) (d : ObjectDir V) → IsOver region volume d → (answer : StoreAnswer) → damage_of K d.region answer
+    → IsTrue K.tells_reads → HasDamage K region volume
+damage_under K region volume d over stores.NotFound told tells = absurd told
+damage_under K region volume d over stores.Exists told tells = absurd told
+damage_under K region volume d over stores.NoSpace told tells = absurd told
+damage_under K region volume d over stores.Lost told tells = absurd told
+damage_under K region volume d over stores.Failed told tells = absurd told
+damage_under K region volume d over stores.NoMemory told tells = absurd told
+damage_under {V} K region volume d over (stores.Corrupt tags) told tells =
+    let shown = told tells in
+    inl (
+      shown.0,
+      shown.1,
+      tags,
+      ap (λ (v : V). K.damage v region shown.0) (sym over.same_volume) ∙ ap (λ (r : ℕ). K.damage d.region.volume.now r shown.0) (sym over.same_region) ∙ shown.2,
+    )
+damage_under {V} K region volume d over (stores.Garbled leaf) told tells =
+    let text : K.text d.region.volume.now d.region.number ≡ K.text volume region
+    = ap (λ (v : V). K.text v d.region.number) over.same_volume ∙ ap (λ (r : ℕ). K.text volume r) over.same_region in
+    inr (leaf, told.below, subst (λ (leaves : ℕ → List ℕ). IsTrue (breaks in_use leaves leaf)) text (told.breaks tells))
+
+damage_by : {V : Type 0} (K : VolumeKeeper V) (region : ℕ) (volume : V) (d : ObjectDir V) → IsOver region volume d → (kind : TurnKind)
+    → ShowsDamage (store_kind kind) (damage_of K d.region) → MeetsDamage K region kind volume
+damage_by K region volume d over kinds.Plain shown = tt
+damage_by K region volume d over (kinds.Lost changes) shown = tt
+damage_by K region volume d over kinds.Starved shown = tt
+damage_by K region volume d over kinds.Corrupted shown = λ tells. damage_under K region volume d over shown.0 shown.1 tells
+
+-- a turn that met damage met some that there is
+pub damage_met : {V A : Type 0} (K : VolumeKeeper V) (behaviour : Behaviour A) (app i : ℕ) (kind : TurnKind) (replies : List Reply) (before after : AppSide A) (old new : V)
+    → TurnsOver K behaviour app i kind replies before after old new → MeetsDamage K app kind new
+damage_met K behaviour app i kind replies before after old new t = damage_by K app new t.dir_after t.over_new kind t.turn.damage

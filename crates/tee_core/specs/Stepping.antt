@@ -7,6 +7,7 @@ use Rattle.alone.specs.Step.{is_enabled}
 use Rattle.store_api.specs.declared.volume.Volume.{Ghosts}
 use Rattle.tee_core.specs.Moments.{IsSound, IsWithin, KeepsCounts}
 use Rattle.tee_core.specs.Represents.{app_count, boots_of, turns_made, volume_of, Represents}
+use Rattle.tee_core.specs.Turning.{MeetsDamage}
 use Rattle.tee_core.specs.World.{AppEvent, World, world_step}
 use Rattle.tee_core.specs.declared.tee.TeeOver.{TeeOver}
 
@@ -24,6 +25,7 @@ pub record MakesEvent {B V A : Type 0} {G : Ghosts V} (behaviour : Behaviour A) 
   pub sound : (world : World A) → Represents old world → IsSound kind
   -- a crash within it leaves the stores of the world before it or after it
   pub moments : (world : World A) → Represents old world → IsWithin G.keeper world (world_step behaviour world e) (volume_of old) (volume_of new)
-  -- whatever the board: how often it failed, and that no order is made; and what the volume stands on stays honest
+  -- whatever the board: what damage it met, how often it failed, and that no order is made; and what the volume stands on stays honest
+  pub damage : MeetsDamage G.keeper e.app kind (volume_of new)
   pub counts : KeepsCounts kind (G.keeper.condition (volume_of old)) (G.keeper.condition (volume_of new))
   pub below : G.keeper.honest_below (volume_of old) → G.keeper.honest_below (volume_of new)

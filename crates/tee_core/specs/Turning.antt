@@ -1,15 +1,32 @@
 -- A turn of one application over a region of a volume.
 use Rattle.app_api.specs.Behaviours.{Behaviour}
-use Rattle.std.specs.Prelude.{ℕ, List}
+use Rattle.std.specs.Prelude.{ℕ, ◌≡◌, ◌<◌, ◌⊎◌, IsTrue, List, Some}
 use Rattle.alone.specs.declared.reply.Reply.{Reply}
 use Rattle.alone.specs.declared.turn.TurnKind.{TurnKind}
+use Rattle.alone.specs.declared.turn.TurnKind.TheVariants as kinds
 use Rattle.app_side.specs.Serving.{IsTurn}
 use Rattle.app_side.specs.declared.side.AppSide.{AppSide}
 use Rattle.object_dir.specs.Directories.{IsOver, dir_keeper}
+use Rattle.object_dir.specs.Regions.{in_use}
 use Rattle.object_dir.specs.declared.directory.ObjectDir.{ObjectDir}
+use Rattle.region_plan.specs.Regions.{breaks}
 use Rattle.store_api.specs.Volumes.{VolumeKeeper}
+use Rattle.store_api.specs.declared.answer.Mismatch.{Mismatch}
 
 module _ {V : Type 0} (K : VolumeKeeper V) where
+  -- a region of the volume is damaged: two tags differ on the way to a leaf of it, or a leaf of it breaks a rule
+  abbrev pub HasDamage : ℕ → V → Type 0
+  HasDamage region volume =
+      ((leaf : ℕ) × (leaf < K.leaves) × (tags : Mismatch) × (K.damage volume region leaf ≡ Some tags))
+      ⊎ ((leaf : ℕ) × (leaf < in_use.leaves) × IsTrue (breaks in_use (K.text volume region) leaf))
+
+  -- a turn that met damage met some that there is in its region, where what reads give is known
+  abbrev pub MeetsDamage : ℕ → TurnKind → V → Type 0
+  MeetsDamage region kinds.Plain volume = Unit {0}
+  MeetsDamage region (kinds.Lost changes) volume = Unit {0}
+  MeetsDamage region kinds.Starved volume = Unit {0}
+  MeetsDamage region kinds.Corrupted volume = IsTrue K.tells_reads → HasDamage region volume
+
   -- a turn over the store of a region of the volume
   pub record TurnsOver {A : Type 0} (behaviour : Behaviour A) (region instance : ℕ) (kind : TurnKind) (replies : List Reply) (before after : AppSide A) (old new : V) : Type 0 where
     pub dir_before : ObjectDir V

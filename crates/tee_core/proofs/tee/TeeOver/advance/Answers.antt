@@ -4,7 +4,7 @@ use Rattle.app_side.specs.declared.side.AppSide.{AppSide as Side}
 use Rattle.tee_core.proofs.Advancing.{change_all, may_all, moved_lost, moved_plain, replies_all, served_lost, served_plain, sound_all, within_all}
 use Rattle.tee_core.proofs.Counts.{booted_kept, mapped_length, set_length, turns_apart, turns_one}
 use Rattle.tee_core.proofs.SideLemmas.{lost_at, turns_here}
-use Rattle.tee_core.proofs.Turning.{below_kept, counts_kept}
+use Rattle.tee_core.proofs.Turning.{below_kept, counts_kept, damage_met}
 use Rattle.tee_core.proofs.tee.TeeOver.advance.Goals as goal
 
 pub turn_over-kind-requires-clause-loss : goal.turn_over-kind-requires-clause-loss
@@ -117,6 +117,9 @@ returns-in-Lost-clause-made g c =
           within_all g.V.Volume.keeper g.met.V.Volume.rests g.met.V.Volume.since_earlier g.A.Application.behaviour items c.args.app c.args.instance c.turn_over-kind.result
           c.turn_over-kind.new.replies c.index_mut.result.now _ c.turn_over-kind.new.side c.args.self.now.volume c.turn_over-kind.new.volume c.requires.known
           c.index_mut.ensures.value c.turn_over-kind.ensures.turn;
+      damage =
+          damage_met g.V.Volume.keeper g.A.Application.behaviour c.args.app c.args.instance c.turn_over-kind.result c.turn_over-kind.new.replies c.index_mut.result.now
+          c.turn_over-kind.new.side c.args.self.now.volume c.turn_over-kind.new.volume c.turn_over-kind.ensures.turn;
       counts =
           counts_kept g.V.Volume.keeper g.A.Application.behaviour c.args.app c.args.instance c.turn_over-kind.result c.turn_over-kind.new.replies c.index_mut.result.now
           c.turn_over-kind.new.side c.args.self.now.volume c.turn_over-kind.new.volume c.turn_over-kind.ensures.turn;
@@ -155,6 +158,9 @@ returns-in_default-clause-made g c =
           within_all g.V.Volume.keeper g.met.V.Volume.rests g.met.V.Volume.since_earlier g.A.Application.behaviour items c.args.app c.args.instance c.turn_over-kind.result
           c.turn_over-kind.new.replies c.index_mut.result.now _ c.turn_over-kind.new.side c.args.self.now.volume c.turn_over-kind.new.volume c.requires.known
           c.index_mut.ensures.value c.turn_over-kind.ensures.turn;
+      damage =
+          damage_met g.V.Volume.keeper g.A.Application.behaviour c.args.app c.args.instance c.turn_over-kind.result c.turn_over-kind.new.replies c.index_mut.result.now
+          c.turn_over-kind.new.side c.args.self.now.volume c.turn_over-kind.new.volume c.turn_over-kind.ensures.turn;
       counts =
           counts_kept g.V.Volume.keeper g.A.Application.behaviour c.args.app c.args.instance c.turn_over-kind.result c.turn_over-kind.new.replies c.index_mut.result.now
           c.turn_over-kind.new.side c.args.self.now.volume c.turn_over-kind.new.volume c.turn_over-kind.ensures.turn;

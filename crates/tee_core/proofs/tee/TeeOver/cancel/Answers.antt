@@ -29,6 +29,7 @@ returns-clause-made g c =
       stands = λ world m whole here. refl;
       sound = λ world whole. tt;
       moments = λ world whole. moments_still g.V.Volume.keeper tee.sides.items tee.volume tee.volume world _ refl whole;
+      damage = tt;
       counts = counts_still (g.V.Volume.keeper.condition tee.volume);
       below = λ below. below;
     }
