@@ -1,0 +1,10 @@
+pub mod Weights
+pub mod Alike
+pub mod Keeping
+pub mod Called
+pub mod Idle
+pub mod Gone
+pub mod Cancelled
+pub mod Outcomes
+pub mod Turned
+pub mod Replied
