@@ -8,10 +8,10 @@ use store_api::{Leaf, Leaves, Volume};
 use tree_volume::TreeVolume;
 
 /// The block of a round: the first behind the two slots, which no volume uses.
-const UNUSED: u64 = 4;
+pub const UNUSED: u64 = 4;
 
 /// Opens the volume of a board; a blank board is formatted.
-fn opened<B: Board + Drop>(alloc: Global, board: B) -> Result<TreeVolume<B>, OpenAnswer> {
+pub fn opened<B: Board + Drop>(alloc: Global, board: B) -> Result<TreeVolume<B>, OpenAnswer> {
     match TreeVolume::open(alloc, board) {
         Ok(volume) => Ok(volume),
         Err(unopened) => Err(unopened.why),
@@ -37,7 +37,7 @@ fn formatted<B: Board + Drop>(alloc: Global, board: B) -> Result<(B, u64), OpenA
 }
 
 /// Opens the volume again, makes so many commits, and gives the board back.
-fn committed<B: Board + Drop>(alloc: Global, board: B, count: u32) -> Result<B> {
+pub fn committed<B: Board + Drop>(alloc: Global, board: B, count: u32) -> Result<B> {
     let mut volume = opened(alloc, board)?;
     let made = make_commits(alloc, &mut volume, count);
     let board = volume.into_board();

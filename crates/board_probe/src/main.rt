@@ -7,6 +7,8 @@
 //! | `rounds N` | makes N rounds, and tells the number of each |
 //! | `commits N` | opens a volume, which formats a blank board, makes N commits of one leaf each, and tells how many blocks were written |
 //! | `syncs N` | writes a block that no volume uses and syncs, N times, and tells how many blocks were written |
+//! | `reads N` | opens a volume, makes a commit of one leaf, and reads the leaf N times |
+//! | `opens N` | seals a block that no volume uses, and reads and opens it N times |
 //!
 //! A round of number n writes n into block 0, syncs, writes n into block 1, syncs, and raises the counter to n. So
 //! after every end of the program the counter is at most the round of block 1, that at most the round of block 0, and
@@ -14,6 +16,7 @@
 #![tactic(auto)]
 
 mod commits;
+mod reads;
 
 use anyhow::Result;
 use board::{BLOCK, Board, BoardFailed};
@@ -36,6 +39,8 @@ enum Work {
     Rounds(u32),
     Commits(u32),
     Syncs(u32),
+    Reads(u32),
+    Opens(u32),
 }
 
 /// A block that carries this number in each eight bytes.
@@ -145,6 +150,8 @@ fn work_of(word: &str, count: Option<u32>) -> Option<Work> {
         "rounds" => Some(Work::Rounds(count?)),
         "commits" => Some(Work::Commits(count?)),
         "syncs" => Some(Work::Syncs(count?)),
+        "reads" => Some(Work::Reads(count?)),
+        "opens" => Some(Work::Opens(count?)),
         _ => None,
     }
 }
@@ -162,6 +169,8 @@ fn run<R: Input + Print, B: Board + Drop>(
         Work::Rounds(count) => make_rounds(rt, &mut board, count),
         Work::Commits(count) => commits::run(rt, alloc, board, count),
         Work::Syncs(count) => commits::run_syncs(rt, &mut board, count),
+        Work::Reads(count) => reads::run_reads(rt, alloc, board, count),
+        Work::Opens(count) => reads::run_opens(rt, &mut board, count),
     }
 }
 
@@ -170,7 +179,9 @@ fn main(rt: HostRuntime) -> Result<ExitCode> {
     let (image, word) = (words.next(), words.next());
     let count = words.next().and_then(|it| it.as_str().parse::<u32>().ok());
     let (Some(image), Some(work)) = (image, word.and_then(|it| work_of(it.as_str(), count))) else {
-        eprintln!(rt; "usage: board_probe IMAGE look|hold|rounds N|commits N|syncs N")?;
+        eprintln!(rt;
+            "usage: board_probe IMAGE look|hold|rounds N|commits N|syncs N|reads N|opens N"
+        )?;
         return Ok(ExitCode::from(USAGE));
     };
     match FileBoard::open(&rt, rt.alloc(), image.as_str()) {
