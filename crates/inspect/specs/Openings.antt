@@ -1,5 +1,5 @@
 -- What is told of a board before its volume is looked at.
-use Rattle.std.specs.Prelude.{◌≡◌, ℕ, Option, None, Result, Ok, Err}
+use Rattle.std.specs.Prelude.{◌≡◌, None, Result, Ok, Err}
 use Rattle.board.specs.Moment.{View, IsCounter}
 use Rattle.board.specs.declared.Board.{Ghosts}
 use Rattle.epoch.specs.Mounts.{IsKeptFromOpening, IsRefusal}
