@@ -38,11 +38,13 @@ fn is_done(rt: &impl Abort, alloc: Global, call: u64, pick: u8) -> Result<bool, 
 
 /// The same for each call of the run.
 fn sweep(rt: &impl Abort, alloc: Global, pick: u8) -> Result<(), Fail> {
-    let mut call = 0;
-    while call < 512 && !is_done(rt, alloc, call, pick)? {
-        call += 1;
+    for call in 0..512 {
+        if is_done(rt, alloc, call, pick)? {
+            assert!(rt; call > 0);
+            return Ok(());
+        }
     }
-    assert!(rt; call > 0 && call < 512);
+    assert!(rt; false);
     Ok(())
 }
 

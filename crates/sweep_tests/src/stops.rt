@@ -54,11 +54,13 @@ fn is_done(rt: &impl Abort, alloc: Global, calls: u32, pick: u8) -> Result<bool,
 
 /// The same for each number of calls, until no call is stopped.
 fn sweep(rt: &impl Abort, alloc: Global, pick: u8) -> Result<(), Fail> {
-    let mut calls = 0;
-    while calls < 256 && !is_done(rt, alloc, calls, pick)? {
-        calls += 1;
+    for calls in 0..256 {
+        if is_done(rt, alloc, calls, pick)? {
+            assert!(rt; calls > 0);
+            return Ok(());
+        }
     }
-    assert!(rt; calls > 0 && calls < 256);
+    assert!(rt; false);
     Ok(())
 }
 
