@@ -2,35 +2,16 @@
 use Rattle.std.specs.Prelude.{◌≡◌, ◌≤◌, ◌<◌, ◌⊎◌, ◌+◌, ◌^◌, ℕ, Bool, true, false, List, [], ◌∷◌, ◌++◌, length}
 use Rattle.tee_base.specs.declared.limits.TheConstants.{BLOCK_BYTES}
 use Rattle.board.specs.declared.fuse.Fuse.{Fuse}
-use Rattle.tee_base.specs.Words.{Counter, Image, Key}
-
--- what a crash leaves, and how far the counts of faults and orders were
-pub record CrashImage : Type 0 where
-  pub image : Image
-  pub counter : Counter
-  pub faults : ℕ
-  pub orders : ℕ
-
--- a board between two calls
-pub record Moment : Type 0 where
-  -- what a read of each block gives
-  pub reads : ℕ → List ℕ
-  -- what each block holds on the disk
-  pub durable : Image
-  -- the blocks that a crash may change: written, or their write failed, since the last Ok of a sync
-  pub pending : ℕ → Bool
-  -- the least counter that a crash may leave, and how far above it another may be
-  pub counter : Counter
-  pub slack : ℕ
-  pub faults : ℕ
-  pub orders : ℕ
+pub use Rattle.tee_base.specs.Moments.{CrashImage, Moment, Order, sum_of_orders}
+use Rattle.tee_base.specs.Words.{Key}
 
 -- a board as its contracts see it
 pub record View : Type 0 where
   pub size : ℕ
   pub key : Key
   pub writes : ℕ
-  pub ordered : ℕ
+  -- the orders that were made, the last of them first
+  pub ordered : List Order
   pub fuse : Fuse
   pub state : Moment
   -- the moments before, the last of them first

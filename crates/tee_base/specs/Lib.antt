@@ -3,6 +3,7 @@ pub mod Crash
 pub mod Fakes
 pub mod Faults
 pub mod KeySizes
+pub mod Moments
 pub mod Numbers
 pub mod Transfer
 pub mod Words
