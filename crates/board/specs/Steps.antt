@@ -4,7 +4,7 @@ use Rattle.tee_base.specs.Faults.{Rose}
 use Rattle.board.specs.declared.BoardFailed.{BoardFailed}
 use Rattle.board.specs.declared.fuse.Fuse.TheVariants.{Unset}
 use Rattle.board.specs.Fuse.{fate_by, fuse_after_call, passes, is_refused}
-use Rattle.board.specs.Moment.{CrashImage, Moment, View, IsCounter, IsLeft}
+use Rattle.board.specs.Moment.{CrashImage, Moment, Order, View, IsCounter, IsLeft}
 
 -- a count that stays at its type's end
 abbrev pub up_to_limit : ℕ → ℕ
@@ -35,12 +35,13 @@ pub record CallRun (ok : Bool) (old new : View) : Type 0 where
   pub steady : ok ≡ true → new.state.faults ≡ old.state.faults
   pub unset : old.fuse ≡ Unset → new.fuse ≡ Unset
 
--- an order with this number: both counts of orders wrap, and it is no call that could fail
+-- an order with this number, which is made of the board as it is before and behind it: the count of orders wraps, and it is no call that
+-- could fail
 pub record Ordered (number : ℕ) (old new : View) : Type 0 where
   pub size : new.size ≡ old.size
   pub key : new.key ≡ old.key
   pub orders : new.state.orders ≡ (old.state.orders + 1) % 2 ^ 64
-  pub ordered : new.ordered ≡ (old.ordered + number) % 2 ^ 64
+  pub ordered : new.ordered ≡ record { number = number; before = old.state; after = new.state } ∷ old.ordered
   pub faults : new.state.faults ≡ old.state.faults
   pub writes : new.writes ≡ old.writes
 

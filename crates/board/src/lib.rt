@@ -3,7 +3,7 @@
 
 ghost use Rattle.std.specs.Prelude.{◌≡◌, ◌<◌, ◌+◌, Bool, IsTrue, OnOk, is_ok};
 ghost use Rattle.board.specs.Fuse.{fuse_after_set};
-ghost use Rattle.board.specs.Moment.{View, IsConsistent};
+ghost use Rattle.board.specs.Moment.{View, IsConsistent, sum_of_orders};
 ghost use Rattle.board.specs.Steps.{up_to_limit, Called, Ordered, Answered, Passes, Unchanged, Wrote, Synced, Counted, Advanced, Powered};
 ghost use Rattle.board.specs.declared.fuse.Fuse.TheVariants.{Unset};
 
@@ -114,7 +114,7 @@ pub trait Board {
 
     /// The sum of the numbers that were handed to `fuse` and `power`, modulo 2^64.
     fn ordered(&self) -> u64
-        ensures { result ≡ (view self.now).ordered };
+        ensures { result ≡ sum_of_orders (view self.now).ordered };
 
     ghost consistent: { (b : Self) → honest b → IsConsistent (view b) };
 

@@ -1,11 +1,12 @@
 -- What a call of a board over files makes of its view, by its counts.
 use Rattle.std.proofs.Common.{◌≡◌, ◌≤◌, ◌+◌, ℕ, Bool, true, false, cond, List, [], Result, Ok, Err, is_ok, refl, ap, subst, ◌∙◌, arith}
-use Rattle.std.specs.Prelude.{IsErr}
+use Rattle.std.specs.Prelude.{IsErr, map}
 use Rattle.std.proofs.lemmas.Bool.{false≢true}
 use Rattle.tee_base.specs.Faults.{Rose}
 use Rattle.board.specs.Fuse.{fuse_after_call, fate_by, passes}
 use Rattle.board.specs.Moment.{View}
 use Rattle.board.specs.Steps.{up_to_limit, Called}
+use Rattle.boards.specs.Device.{files_at, order_of}
 use Rattle.boards.specs.declared.counts.Counts.{Counts}
 
 -- a board of this size and this key with these counts
@@ -14,17 +15,9 @@ seen size key counts = record {
   size = size;
   key = key;
   writes = counts.writes;
-  ordered = counts.ordered;
+  ordered = map order_of counts.ordered;
   fuse = counts.fuse;
-  state = record {
-    reads = λ k. [];
-    durable = λ k. [];
-    pending = λ k. false;
-    counter = 0;
-    slack = 0;
-    faults = counts.faults;
-    orders = counts.orders;
-  };
+  state = files_at counts.faults counts.orders;
   past = [];
 }
 
@@ -36,7 +29,7 @@ module _ (size : ℕ) (key : List ℕ) (writes : ℕ) (old mid : Counts) where
     size = refl;
     key = refl;
     orders = ap (λ (x : Counts). x.orders) is;
-    ordered = ap (λ (x : Counts). x.ordered) is;
+    ordered = ap (λ (x : Counts). map order_of x.ordered) is;
     faults = later;
     cause = λ failed. rose;
     steady = λ made. absurd (false≢true made);
@@ -54,7 +47,7 @@ module _ (size : ℕ) (key : List ℕ) (writes : ℕ) (old mid : Counts) where
         size = refl;
         key = refl;
         orders = ap (λ (x : Counts). x.orders) is ∙ ap (λ (x : Counts). x.orders) begun;
-        ordered = ap (λ (x : Counts). x.ordered) is ∙ ap (λ (x : Counts). x.ordered) begun;
+        ordered = ap (λ (x : Counts). map order_of x.ordered) is ∙ ap (λ (x : Counts). map order_of x.ordered) begun;
         faults = omega (arith, same, later);
         cause = λ failed. subst (λ n. Rose n new.faults) same (rose failed);
         steady = λ made. ap (λ (x : Counts). x.faults) is ∙ ap (λ b. cond b mid.faults (up_to_limit (mid.faults + 1))) made ∙ same;

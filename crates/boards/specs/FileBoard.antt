@@ -1,7 +1,8 @@
 -- What the contracts of a board over files see of it: its counts, and no contents.
-use Rattle.std.specs.Prelude.{◌≡◌, ℕ, List, [], Option, false}
+use Rattle.std.specs.Prelude.{◌≡◌, ℕ, List, [], Option, map}
 use Rattle.board.specs.declared.fuse.Fuse.TheVariants.{Unset}
 use Rattle.board.specs.Moment.{View}
+use Rattle.boards.specs.Device.{files_at, order_of}
 use Rattle.boards.specs.declared.file.FileBoard.{FileBoard}
 
 -- the bytes of the blocks and the counter are left out
@@ -10,17 +11,9 @@ view_of b = record {
   size = b.blocks;
   key = b.keys.key;
   writes = b.counts.writes;
-  ordered = b.counts.ordered;
+  ordered = map order_of b.counts.ordered;
   fuse = b.counts.fuse;
-  state = record {
-    reads = λ k. [];
-    durable = λ k. [];
-    pending = λ k. false;
-    counter = 0;
-    slack = 0;
-    faults = b.counts.faults;
-    orders = b.counts.orders;
-  };
+  state = files_at b.counts.faults b.counts.orders;
   past = [];
 }
 
@@ -29,7 +22,7 @@ pub record IsOpened (v : View) : Type 0 where
   pub writes : v.writes ≡ 0
   pub faults : v.state.faults ≡ 0
   pub orders : v.state.orders ≡ 0
-  pub ordered : v.ordered ≡ 0
+  pub ordered : v.ordered ≡ []
   pub fuse : v.fuse ≡ Unset
 
 -- the random seed

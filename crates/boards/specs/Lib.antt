@@ -1,4 +1,5 @@
 pub mod BlockList
+pub mod Device
 pub mod Disk
 pub mod FileBoard
 pub mod Image
@@ -7,6 +8,7 @@ pub mod Memory
 pub mod MemoryBoard
 pub mod Offer
 pub mod OfferLog
+pub mod Orders
 pub mod Past
 pub mod Pending
 pub mod Places

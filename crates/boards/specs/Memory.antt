@@ -68,7 +68,7 @@ pub record IsNew (key : Key) (size counter : ℕ) (m : Memory) : Type 0 where
   pub faults : m.view.state.faults ≡ 0
   pub orders : m.view.state.orders ≡ 0
   pub writes : m.view.writes ≡ 0
-  pub ordered : m.view.ordered ≡ 0
+  pub ordered : m.view.ordered ≡ []
   pub fuse : m.view.fuse ≡ Unset
   pub past : m.view.past ≡ []
   pub calls : m.calls ≡ 0

@@ -1,6 +1,7 @@
 -- What the contracts of the board in memory see of it.
 use Rattle.std.specs.Prelude.{map}
 use Rattle.board.specs.Moment.{View}
+use Rattle.boards.specs.Device.{order_of}
 use Rattle.boards.specs.Disk.{size_of, state_of, offered_of}
 use Rattle.boards.specs.Memory.{Memory}
 use Rattle.boards.specs.declared.memory.MemBoard.{MemBoard}
@@ -11,7 +12,7 @@ view_of b = record {
   size = size_of b.disk;
   key = b.key;
   writes = b.writes;
-  ordered = b.ordered;
+  ordered = map order_of b.ordered;
   fuse = b.schedule.fuse;
   state = state_of b.disk;
   past = map state_of b.past;

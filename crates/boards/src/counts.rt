@@ -1,36 +1,38 @@
 //! The counts of a board over files, and its fuse.
-ghost use Rattle.std.specs.Prelude.{◌≡◌, ◌+◌, ◌%◌, ◌^◌, ◌≤◌, false, Ok, is_ok, IfOk, if◌then◌else◌};
+ghost use Rattle.std.specs.Prelude.{◌≡◌, ◌+◌, ◌%◌, ◌^◌, ◌≤◌, false, Ok, is_ok, IfOk, if◌then◌else◌, [], ◌∷◌};
 ghost use Rattle.board.specs.Fuse.{fuse_after_call, fate_by, passes};
 ghost use Rattle.board.specs.Steps.{up_to_limit};
 ghost use Rattle.tee_base.specs.Faults.{Rose};
 ghost use Rattle.board.specs.declared.fuse.Fuse.TheVariants.{Unset};
+ghost use Rattle.boards.specs.Device.{OfFiles};
 
+use crate::orders::{Orders, Seen};
 use board::BoardFailed;
 use board::fuse::{Fate, Fuse};
 use std::io;
 
-/// How many calls failed, were writes, were orders, and the sum of the orders' numbers.
+/// How many calls failed, were writes, were orders, and the orders.
 #[derive(Drop)]
 pub struct Counts {
     pub fuse: Fuse,
     pub faults: u64,
     pub writes: u64,
     pub orders: u64,
-    pub ordered: u64,
+    pub ordered: Orders,
 }
 
 impl Counts {
     /// Before the first call.
     pub fn new() -> Counts
         ensures { result
-            ≡ record { fuse = Unset; faults = 0; writes = 0; orders = 0; ordered = 0 } }
+            ≡ record { fuse = Unset; faults = 0; writes = 0; orders = 0; ordered = [] } }
     {
         Counts {
             fuse: Fuse::Unset,
             faults: 0,
             writes: 0,
             orders: 0,
-            ordered: 0,
+            ordered: Orders::none(),
         }
     }
 
@@ -80,10 +82,16 @@ impl Counts {
     pub fn order(&mut self, number: u64)
         ensures { self.new ≡ record self.old {
           orders = (self.old.orders + 1) % 2 ^ 64;
-          ordered = (self.old.ordered + number) % 2 ^ 64;
+          ordered = record {
+            number = number;
+            before = OfFiles self.old.faults self.old.orders;
+            after = OfFiles self.old.faults ((self.old.orders + 1) % 2 ^ 64);
+          } ∷ self.old.ordered;
         } }
     {
+        let before = Seen::files(self.faults, self.orders);
         self.orders = self.orders.wrapping_add(1);
-        self.ordered = self.ordered.wrapping_add(number);
+        let after = Seen::files(self.faults, self.orders);
+        self.ordered = self.ordered.then(number, &before, &after);
     }
 }

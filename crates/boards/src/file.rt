@@ -190,6 +190,6 @@ impl<F: Read + Write + Seek + OpenFile + Drop> Board for FileBoard<F> {
     }
 
     fn ordered(&self) -> u64 {
-        self.counts.ordered
+        self.counts.ordered.sum()
     }
 }

@@ -12,6 +12,7 @@ mod files;
 mod made;
 mod memory;
 mod offer_log;
+mod orders;
 mod past;
 mod pending;
 mod room;

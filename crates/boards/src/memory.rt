@@ -10,6 +10,7 @@ ghost use Rattle.boards.specs.Memory.{next_fate, image_after, counter_after, IsE
 ghost use Rattle.boards.specs.Row.{IsRow, block_of};
 
 use crate::disk::Disk;
+use crate::orders::{Orders, Seen};
 use crate::past::Past;
 use crate::row::Row;
 use crate::schedule::Schedule;
@@ -28,7 +29,7 @@ pub struct MemBoard {
     schedule: Schedule,
     key: [u8; 32],
     writes: u64,
-    ordered: u64,
+    ordered: Orders,
     ghost whole: { IsWhole disk },
 }
 
@@ -79,7 +80,7 @@ impl MemBoard {
             },
             key,
             writes: 0,
-            ordered: 0,
+            ordered: Orders::none(),
         })
     }
 
@@ -225,8 +226,10 @@ impl Board for MemBoard {
         ensures exact { IsOrder (memory_of self.old) (memory_of self.new) }
     {
         self.past = self.past.then(&self.disk);
+        let before = Seen::disk(&self.disk);
         self.disk.order();
-        self.ordered = self.ordered.wrapping_add(u64::from(calls));
+        let after = Seen::disk(&self.disk);
+        self.ordered = self.ordered.then(u64::from(calls), &before, &after);
         self.schedule.fuse.refit(calls);
     }
 
@@ -243,9 +246,11 @@ impl Board for MemBoard {
             ≡ counter_after pick (memory_of self.old) }
     {
         self.past = self.past.then(&self.disk);
+        let before = Seen::disk(&self.disk);
         self.disk.power(pick);
         self.disk.order();
-        self.ordered = self.ordered.wrapping_add(pick);
+        let after = Seen::disk(&self.disk);
+        self.ordered = self.ordered.then(pick, &before, &after);
         self.schedule.fuse = Fuse::Unset;
     }
 
@@ -262,6 +267,6 @@ impl Board for MemBoard {
     }
 
     fn ordered(&self) -> u64 {
-        self.ordered
+        self.ordered.sum()
     }
 }
