@@ -6,7 +6,7 @@ use Rattle.std.proofs.lemmas.Bool.Decides.{nat_tests}
 use Rattle.tee_base.specs.Crash.{LeavesOnly, read_as}
 use Rattle.tee_base.proofs.Crash.{joined, mapped, weaker}
 use Rattle.store_api.specs.Volumes.{Held}
-use Rattle.board.specs.Moment.{IsConsistent, IsCounter, IsLeft, Moment, CrashImage, View, WasLeft, left_since, moment}
+use Rattle.board.specs.Moment.{IsConsistent, IsCounter, IsLeft, Moment, CrashImage, Order, View, WasLeft, left_since, moment}
 use Rattle.board.specs.Runs.{IsBase, LeavesBase, Rests, RunsOver}
 use Rattle.board.specs.Steps.{Answered, Passes, Powered, SameBlocks, Synced, Unchanged}
 use Rattle.board.proofs.Runs.{goes_on, run_starts, starts}
@@ -460,6 +460,10 @@ module _ (f : Form) (old : View) (is : IsConsistent old) where
               (λ c e. (among_now.0, among_now.1, ap (λ (k : List ℕ). held_of f k c) (sym key) ∙ e ∙ sym among_now.2)) found.leaves);
         }
 
+-- two lists of orders that are equal have the same last order
+last_order : {one other : Order} {earlier : List Order} → one ∷ earlier ≡ other ∷ earlier → one ≡ other
+last_order {one} {other} {earlier} same = cc
+
 -- after a loss of power: what a crash leaves holds what was chosen
 module _ (f : Form) (old mid : View) (key : mid.key ≡ old.key) (time : Passes old mid) (powered : Powered old.state mid.state) where
   power_left : (c : CrashImage) → IsLeft mid.state c → held_of f mid.key c ≡ held_of f old.key powered.left
@@ -478,8 +482,10 @@ module _ (f : Form) (old mid : View) (key : mid.key ≡ old.key) (time : Passes 
   mounted_back h m (Ok found) mounted = subst (λ (k : List ℕ). MountsTo f k h m found) key mounted
   mounted_back h m (Err answer) mounted = tt
 
-  pub after_power : (new : View) (result : Result (Option Header) OpenAnswer) → MountsAgain f result mid new → MountsAfterPower f result old new
-  after_power new result again =
+  pub after_power : (pick : ℕ) (new : View) (result : Result (Option Header) OpenAnswer)
+      → new.ordered ≡ record { number = pick; before = old.state; after = mid.state } ∷ old.ordered → MountsAgain f result mid new
+      → MountsAfterPower f result old new
+  after_power pick new result ordered again =
       let chosen : held_of f old.key powered.left ≡ Some again.chosen = sym (power_left again.among.0 again.among.1) ∙ again.among.2 in
       record {
         again = record {
@@ -492,6 +498,9 @@ module _ (f : Form) (old mid : View) (key : mid.key ≡ old.key) (time : Passes 
               (λ c left. (powered.left, powered.may, ap (λ (k : List ℕ). held_of f k c) (sym key) ∙ power_left c left)))
               (weaker moment left_since mid new (MightBe f mid.key mid.state) (MightBe f old.key old.state) might_be again.leaves);
         };
+        ordered = λ order last c left.
+            let same : order.after ≡ mid.state = ap (λ (o : Order). o.after) (last_order (sym last ∙ ordered)) in
+            ap (λ (k : List ℕ). held_of f k c) (sym key) ∙ power_left c (subst (λ (m : Moment). IsLeft m c) same left) ∙ chosen;
         rests = λ c left.
             let might = again.leaves.each c (inl left) in
             ap (λ (k : List ℕ). held_of f k c) (sym key) ∙ might.2 ∙ power_left might.0 might.1 ∙ chosen;

@@ -6,7 +6,7 @@ use Rattle.store_api.specs.Volumes.{Held}
 use Rattle.board.specs.Moment.{IsCounter, IsLeft, Moment, CrashImage, View, left_since, moment}
 use Rattle.epoch.specs.Commits.{IsMounted}
 use Rattle.epoch.specs.Forms.{Form, IsBlankRoot, Root, held_in, held_of, root_of}
-use Rattle.epoch.specs.Mounts.{IsLeftSound}
+use Rattle.epoch.specs.Mounts.{IsLeftSound, LeftByOrder}
 use Rattle.epoch.specs.Opening.{opening_of}
 use Rattle.epoch.specs.declared.answer.OpenAnswer.{OpenAnswer}
 use Rattle.epoch.specs.declared.answer.OpenAnswer.TheVariants as answers
@@ -68,9 +68,10 @@ pub record MountsAgain (f : Form) (result : Result (Option Header) OpenAnswer)
   pub failed : IfErr result (λ why. why ≡ answers.Failed)
   pub leaves : LeavesOnly moment left_since old new (MightBe f old.key old.state)
 
--- the same after a loss of power: a crash now leaves what was chosen alone
+-- the same after a loss of power: right behind the order a crash leaves what was chosen alone, and so it does now
 pub record MountsAfterPower (f : Form) (result : Result (Option Header) OpenAnswer)
     (old new : View) : Type 0 where
   pub again : MountsAgain f result old new
+  pub ordered : LeftByOrder f old new again.chosen
   pub rests : (c : CrashImage) → IsLeft new.state c
       → held_of f old.key c ≡ Some again.chosen

@@ -4,7 +4,7 @@ use Rattle.std.specs.Prelude.{◌≡◌, ◌≤◌, ◌<◌, ◌⊎◌, ◌+◌,
 use Rattle.tee_base.specs.Crash.{LeavesOnly, read_as}
 use Rattle.tee_base.specs.declared.limits.TheConstants.{MAX_HOSTS}
 use Rattle.store_api.specs.Volumes.{Held, RestsAt, VolumeKeeper}
-use Rattle.board.specs.Moment.{IsBehind, IsCounter, CrashImage, View, left_since, moment}
+use Rattle.board.specs.Moment.{IsBehind, IsCounter, IsLeft, CrashImage, Moment, Order, View, left_since, moment}
 use Rattle.board.specs.Steps.{Passes, Powered}
 use Rattle.epoch.specs.Forms.{Form, Root, held_of, root_of}
 use Rattle.epoch.specs.Opening.{found_header, header_answer, opening_of, opens_as}
@@ -82,21 +82,31 @@ IsRuledBy f view image counter result = IfErr result (λ why. IsRefusal f view i
 abbrev pub IsKeptFromOpening : OpenAnswer → Type 0
 IsKeptFromOpening why = (why ≡ answers.Failed) ⊎ (why ≡ answers.NoMemory)
 
--- a run of calls with one order among them, of this number
+-- a run of calls with one order among them, of this number, which goes before any other call of the run
 pub record OrderRun (number : ℕ) (old new : View) : Type 0 where
   pub size : new.size ≡ old.size
   pub key : new.key ≡ old.key
   pub orders : new.state.orders ≡ (old.state.orders + 1) % 2 ^ 64
-  pub ordered : new.ordered ≡ (old.ordered + number) % 2 ^ 64
-  pub faults : old.state.faults ≤ new.state.faults
+  -- what the board was right behind the order, by which no call failed
+  pub after : Moment
+  pub ordered : new.ordered ≡ record { number = number; before = old.state; after = after } ∷ old.ordered
+  pub counted : after.orders ≡ (old.state.orders + 1) % 2 ^ 64
+  pub steady : after.faults ≡ old.state.faults
+  pub later : after.faults ≤ new.state.faults
 
--- a loss of power of an honest board before any other call; what the calls behind it leave reads as it left it
-pub record PowerFirst (old new : View) : Type 0 where
+-- a loss of power of an honest board, by this number, before any other call; what the calls behind it leave reads as it left it
+pub record PowerFirst (pick : ℕ) (old new : View) : Type 0 where
   pub between : View
+  pub ordered : new.ordered ≡ record { number = pick; before = old.state; after = between.state } ∷ old.ordered
   pub time : Passes old between
   pub powered : Powered old.state between.state
   pub reads : new.state.reads ≡ between.state.reads
   pub behind : IsBehind between new
+
+-- right behind the last order that was made to the board a crash leaves this, and nothing else
+abbrev pub LeftByOrder : Form → View → View → Held → Type 0
+LeftByOrder f old new held = (order : Order) → new.ordered ≡ order ∷ old.ordered
+    → (c : CrashImage) → IsLeft order.after c → held_of f old.key c ≡ Some held
 
 -- within an opening a crash leaves what the board held, or what the opening makes of that
 abbrev pub LeftByOpening : Form → Held → View → CrashImage → Type 0
@@ -149,11 +159,14 @@ module _ {V : Type 0} (K : VolumeKeeper V) where
     pub same : K.honest old → OnErr result (K.held new ≡ K.held old)
     pub leaves : LeavesAsBefore old new
 
-  -- the same after a loss of power, which chose one of all that a crash might have left
-  pub record OpensAfterPower (result : Result ℕ OpenAnswer) (old new : V) : Type 0 where
+  -- the same after a loss of power, which chose one of all that a crash might have left: the order itself left that alone, and so do
+  -- the calls behind it
+  pub record OpensAfterPower (f : Form) (before after : View) (result : Result ℕ OpenAnswer) (old new : V) : Type 0 where
     pub again : OpensAgain result old new
     pub chosen : Held
     pub among : K.left_since old (K.moment old) (Some chosen)
+    pub ordered : LeftByOrder f before after chosen
+    pub opened : IfOk result (λ sequence. K.held new ≡ chosen)
     pub rests : RestsAt K new chosen
 
   -- an order that leaves the volume as it is

@@ -118,7 +118,7 @@ pub fn mount_after_power<B: Board>(
     ensures memory { result ≢ Err answers.NoMemory }
     ensures accepted { IfOk result (λ header. IsAccepted format header) }
     ensures begins { B.honest board.old
-        → PowerFirst (B.view board.old) (B.view board.new) }
+        → PowerFirst pick (B.view board.old) (B.view board.new) }
     ensures writes { (B.view board.new).writes ≡ (B.view board.old).writes }
     ensures fuse { (B.view board.new).fuse ≡ Unset }
     ensures steady { IsTrue (no_failure result)

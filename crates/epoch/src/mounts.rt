@@ -169,7 +169,7 @@ pub trait BoardVolume<B: Board>: Volume + Sized {
             → IfErr result (λ why. IsRefusedNow form (B.view (board_of self.new)) why) }
         // the power goes before any other call, no block is written, and each reads as the power left it
         ensures begins { B.honest (board_of self.old)
-            → PowerFirst (B.view (board_of self.old)) (B.view (board_of self.new)) }
+            → PowerFirst pick (B.view (board_of self.old)) (B.view (board_of self.new)) }
         ensures writes { (B.view (board_of self.new)).writes
             ≡ (B.view (board_of self.old)).writes }
         ensures fuse { (B.view (board_of self.new)).fuse ≡ Unset }
@@ -182,7 +182,8 @@ pub trait BoardVolume<B: Board>: Volume + Sized {
         ensures counter { B.honest (board_of self.old) → IfOk result (λ sequence.
             IsSettledAt sequence (B.view (board_of self.new)).state) }
         ensures opened { B.honest (board_of self.old) → IsAlwaysSound Self.keeper self.old
-            → OpensAfterPower Self.keeper result self.old self.new };
+            → OpensAfterPower Self.keeper form (B.view (board_of self.old))
+            (B.view (board_of self.new)) result self.old self.new };
 
     /// Lets so many calls of the board pass, as the board's `fuse` does. It makes no other call.
     fn fuse(&mut self, calls: u32)

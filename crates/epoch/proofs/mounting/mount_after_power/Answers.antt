@@ -22,7 +22,8 @@ pub returns-clause-again : goal.returns-clause-again
 returns-clause-again g c h f framed same large sound =
     let step = c.power.ensures.honest h in
     let call = c.power.ensures.ordered in
-    after_power f (g.B.Board.view c.args.board.now) (g.B.Board.view c.power.new.self) call.key step.1 step.2 (g.B.Board.view c.mount_again.new.board) c.mount_again.result
+    after_power f (g.B.Board.view c.args.board.now) (g.B.Board.view c.power.new.self) call.key step.1 step.2 c.args.pick (g.B.Board.view c.mount_again.new.board) c.mount_again.result
+    (c.mount_again.ensures.calls.ordered ∙ call.ordered)
     (c.mount_again.ensures.again step.0 f framed same (omega (arith, large, call.size))
     (power_sound f (g.B.Board.view c.args.board.now) (g.B.Board.view c.power.new.self) call.key step.1 step.2 sound))
 
@@ -38,6 +39,7 @@ returns-clause-begins g c h =
     let step = c.power.ensures.honest h in
     record {
       between = g.B.Board.view c.power.new.self;
+      ordered = c.mount_again.ensures.calls.ordered ∙ c.power.ensures.ordered.ordered;
       time = step.1;
       powered = step.2;
       reads = c.mount_again.ensures.reads step.0;
