@@ -6,7 +6,7 @@ use Rattle.board.specs.Moment.{IsLeft, CrashImage, View, left_since, moment}
 use Rattle.epoch.proofs.KeepLemmas.{held_steady, steady_in_use, steady_same}
 use Rattle.epoch.specs.Forms.{held_of}
 use Rattle.epoch.specs.Mounting.{MightBe, MountsTo}
-use Rattle.epoch.specs.Mounts.{IsRefusal, IsRefusedNow, PowerFirst}
+use Rattle.epoch.specs.Mounts.{IsRefusal, IsRefusedNow, LeftByOrder, PowerFirst}
 use Rattle.epoch.specs.Opening.{no_failure}
 use Rattle.epoch.specs.Past.{KeepsPast}
 use Rattle.epoch.specs.declared.answer.OpenAnswer.TheVariants.{Failed}
@@ -70,6 +70,8 @@ returns-in_err-found-clause-opened g c honest sound =
       };
       chosen = again.chosen;
       among = (again.among.0, inl again.among.1, sym again.among.2);
+      ordered = after.ordered;
+      opened = not_ok c.from_residual.result _ c.from_residual.ensures.0;
       rests = record { only = rests_above tree_form v.key w again.chosen key after.rests };
     }
 
@@ -106,6 +108,8 @@ returns-clause-opened g c honest sound =
       };
       chosen = again.chosen;
       among = (again.among.0, inl again.among.1, sym again.among.2);
+      ordered = subst (λ (x : View). LeftByOrder tree_form v x again.chosen) (sym stays) after.ordered;
+      opened = both.1;
       rests = record { only = rests_above tree_form v.key n again.chosen key' rests };
     }
 
@@ -121,7 +125,7 @@ returns-clause-past g c honest =
 
 pub returns-clause-begins : goal.returns-clause-begins
 returns-clause-begins g c honest =
-    subst (PowerFirst (g.B.Board.view c.args.self.now.board)) (sym (ap g.B.Board.view c.resume.ensures.board)) (c.in_ok-found.ensures.begins honest)
+    subst (PowerFirst c.args.pick (g.B.Board.view c.args.self.now.board)) (sym (ap g.B.Board.view c.resume.ensures.board)) (c.in_ok-found.ensures.begins honest)
 
 pub returns-clause-fuse : goal.returns-clause-fuse
 returns-clause-fuse g c = ap (λ (x : View). x.fuse) (ap g.B.Board.view c.resume.ensures.board) ∙ c.in_ok-found.ensures.fuse
