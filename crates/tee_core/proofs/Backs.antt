@@ -1,14 +1,17 @@
 -- A loss of power of all applications, put together of its parts.
 use Rattle.app_api.specs.Behaviours.{Behaviour}
-use Rattle.std.proofs.Common.{◌≡◌, ◌≤◌, ℕ, Bool, true, false, List, Option, None, Some, Ok, sym, subst, ◌∙◌, ap}
+use Rattle.std.proofs.Common.{◌≡◌, ◌≤◌, ℕ, Bool, true, false, List, Option, None, Some, Ok, inl, sym, subst, ◌∙◌, ap}
 use Rattle.std.specs.Prelude.{IfNone, IfSome, nat_lt, slice_get}
 use Rattle.alone.specs.declared.power.Power.{Power}
 use Rattle.app_side.specs.Represents.{has_doubt}
 use Rattle.app_side.specs.declared.side.AppSide.{AppSide}
-use Rattle.epoch.specs.Mounts.{OpensAgain}
+use Rattle.board.specs.Moment.{View}
+use Rattle.epoch.specs.Forms.{Form, held_of}
+use Rattle.epoch.specs.Mounts.{OpensAfterPower, OpensAgain}
 use Rattle.store_api.specs.Volumes.{Held, RestsAt, VolumeKeeper}
 use Rattle.tee_core.specs.Powers.{IsTold, after_power, kept_by, kept_one, restarts_from, told_of}
-use Rattle.tee_core.specs.Represents.{HasDoubt, IsLeftOf, StandFor}
+use Rattle.tee_core.specs.Moments.{OrderLeavesStores}
+use Rattle.tee_core.specs.Represents.{HasDoubt, HasStoresOf, IsLeftOf, StandFor}
 use Rattle.tee_core.specs.Sides.{AreSides, IsNoneInDoubt}
 use Rattle.tee_core.specs.World.{World}
 use Rattle.tee_core.proofs.Powers.{doubt_at, stand_back, told_is}
@@ -18,6 +21,13 @@ pub owner_doubt : {A : Type 0} (ss : List (AppSide A)) (world : World A) (o : Op
     → IfSome o (λ owner. (side : AppSide A) × (slice_get ss owner ≡ Some side) × (has_doubt side ≡ true)) → IfSome o (λ owner. HasDoubt owner world)
 owner_doubt ss world None are some = tt
 owner_doubt ss world (Some owner) are some = doubt_at ss world owner some.0 are some.1 some.2
+
+-- what the order of a power left is what was opened, whose regions have the stores of the world
+pub order_left : {V A : Type 0} (K : VolumeKeeper V) (form : Form) (before after : View) (opened : ℕ) (old new : V) → OpensAfterPower K form before after (Ok opened) old new
+    → (sides : List (AppSide A)) (world : World A) → StandFor K sides new world → OrderLeavesStores form before after world
+order_left K form before after opened old new opens sides world stands order last c left =
+    let held : held_of form before.key c ≡ Some (K.held new) = opens.ordered order last c left ∙ ap (λ (h : Held). Some h) (sym opens.opened) in
+    subst (λ (o : Option Held). HasStoresOf world o) (sym held) (inl stands.stores)
 
 module _ {V A : Type 0} (K : VolumeKeeper V)
     (rests : (v : V) → K.honest v → (K.condition v).lost ≡ false → RestsAt K v (K.held v))

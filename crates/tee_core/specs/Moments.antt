@@ -1,15 +1,18 @@
 -- What a crash leaves within an event, and what an event leaves of the board's counts.
-use Rattle.std.specs.Prelude.{ℕ, ◌≡◌, ◌≤◌, ◌⊎◌, Bool, true, false, List, Option}
+use Rattle.std.specs.Prelude.{ℕ, ◌≡◌, ◌≤◌, ◌⊎◌, Bool, true, false, List, ◌∷◌, Option}
 use Rattle.std.specs.List.{AllByRecursion, list_any}
 use Rattle.tee_base.specs.Faults.{Rose}
 use Rattle.alone.specs.Marks.{Marks}
 use Rattle.alone.specs.declared.turn.TurnKind.{TurnKind}
 use Rattle.alone.specs.declared.turn.TurnKind.TheVariants as kinds
+use Rattle.board.specs.Moment.{CrashImage, IsLeft, Moment, Order, View}
+use Rattle.epoch.specs.Forms.{Form, held_of}
 use Rattle.store_api.specs.Volumes.{Condition, Held, VolumeKeeper}
 use Rattle.tee_core.specs.Happenings.{is_lost_turn}
 use Rattle.tee_core.specs.Represents.{HasStoresOf}
 use Rattle.tee_core.specs.declared.happened.Happened.{Happened}
 use Rattle.tee_core.specs.World.{World}
+use Rattle.tee_base.specs.Words.{Key}
 
 -- a turn that lost the storage did so by a failure of what the volume stands on
 abbrev pub RoseIfLost : TurnKind → ℕ → ℕ → Type 0
@@ -57,6 +60,16 @@ TellsNoDamage told = AllByRecursion (λ h. IsSound h.kind) told
 pub record AreMarkedSoundly (marks : Marks) (old new : Condition) : Type 0 where
   pub sound : (turn : ℕ) → marks.corrupt turn ≡ false
   pub rose : (turn : ℕ) → marks.lost turn ≡ true → Rose old.faults new.faults
+
+-- each image and counter that a crash at this moment of a board may leave opens to the stores of the world, with the change in doubt or
+-- without it
+abbrev pub LeavesStoresAt : {A : Type 0} → Form → Key → Moment → World A → Type 0
+LeavesStoresAt form key m world = (c : CrashImage) → IsLeft m c → HasStoresOf world (held_of form key c)
+
+-- so it is right behind the last order that was made to the board
+abbrev pub OrderLeavesStores : {A : Type 0} → Form → View → View → World A → Type 0
+OrderLeavesStores form old new world =
+    (order : Order) → new.ordered ≡ order ∷ old.ordered → LeavesStoresAt form old.key order.after world
 
 module _ {V : Type 0} (K : VolumeKeeper V) where
   -- the volume stands where it stood, its count of faults didn't fall, and what it stands on stays honest

@@ -18,7 +18,7 @@ ghost use Rattle.epoch.specs.Opening.{is_no_failure, no_failure};
 ghost use Rattle.epoch.specs.Past.{KeepsPast};
 ghost use Rattle.epoch.specs.declared.mounts.TheConstants.{BLANK, FORMATTED};
 ghost use Rattle.epoch.specs.declared.answer.OpenAnswer.TheVariants as answers;
-ghost use Rattle.tee_core.specs.Moments.{IsWithin};
+ghost use Rattle.tee_core.specs.Moments.{IsWithin, OrderLeavesStores};
 ghost use Rattle.tee_core.specs.Opening.{IsOpenedOver, IsSoundFor};
 ghost use Rattle.tee_core.specs.Powers.{IsTold, after_power, all_lost, kept_by, kept_one, told_of};
 ghost use Rattle.tee_core.specs.Represents.{app_count, boots_of, turns_made, volume_of, Represents};
@@ -199,6 +199,10 @@ impl<B: Board, V: BoardVolume<B>, A: Application> TeeOver<B, V, A> {
             (B.view (V.board_of (volume_of self.new))) }
         ensures world { IfOk result (λ told. (world : World A) → Represents self.old world
             → Represents self.new (after_power A.behaviour world told)) }
+        // right behind the order itself a crash leaves the stores of that world
+        ensures left { IfOk result (λ told. (world : World A) → Represents self.old world
+            → OrderLeavesStores V.form (B.view (V.board_of (volume_of self.old)))
+            (B.view (V.board_of (volume_of self.new))) (after_power A.behaviour world told)) }
         ensures told { IfOk result (λ told. (world : World A) → Represents self.old world
             → IsTold told world (V.keeper.held (volume_of self.old)).sequence
             (V.keeper.held (volume_of self.new)).sequence) }
@@ -218,7 +222,7 @@ impl<B: Board, V: BoardVolume<B>, A: Application> TeeOver<B, V, A> {
             (V.root (volume_of self.new))) }
         // the power goes before any other call, no block is written, and each reads as the power left it
         ensures begins { B.honest (V.board_of (volume_of self.old))
-            → PowerFirst (B.view (V.board_of (volume_of self.old)))
+            → PowerFirst pick (B.view (V.board_of (volume_of self.old)))
             (B.view (V.board_of (volume_of self.new))) }
         ensures writes { (B.view (V.board_of (volume_of self.new))).writes
             ≡ (B.view (V.board_of (volume_of self.old))).writes }

@@ -4,7 +4,7 @@ use Rattle.app_side.specs.Represents.{has_doubt}
 use Rattle.app_side.specs.declared.side.AppSide.{AppSide as Side}
 use Rattle.epoch.specs.Mounts.{IsAdmitted}
 use Rattle.tee_core.specs.Sides.{AreBooted, AreLost, IsNoneInDoubt}
-use Rattle.tee_core.proofs.Backs.{power_stands, power_told}
+use Rattle.tee_core.proofs.Backs.{order_left, power_stands, power_told}
 use Rattle.tee_core.proofs.Counts.{mapped_length}
 use Rattle.tee_core.proofs.Powers.{always_sound, stand_refused, within_power}
 use Rattle.tee_core.proofs.SideLemmas.{turns_mapped}
@@ -36,6 +36,20 @@ returns-in-Ok-clause-world g c = λ world whole.
     c.as_slice.ensures.value c.owner_of_doubt-owner.ensures.some)
     c.sequence-acknowledged.result c.in-Ok.opened c.power_of.result after.again c.sequence-acknowledged.ensures c.in-Ok.ensures.back.sequence c.power_of.ensures
     c.owner_kept-taken.result c.restart_all.new.sides.items c.owner_kept-taken.ensures (c.restart_all.ensures.sides world whole.sides_are) c.in-Ok.ensures.back.works
+
+pub returns-in-Ok-clause-left : goal.returns-in-Ok-clause-left
+returns-in-Ok-clause-left g c = λ world whole.
+    let tee = c.args.self.now in
+    let after = c.in-Ok.ensures.opened (g.met.V.BoardVolume.honest_board tee.volume whole.honest)
+    (always_sound g.V.Volume.keeper g.met.V.Volume.rests g.met.V.Volume.since_earlier g.A.Application.behaviour tee.sides.items world tee.volume c.power.new.self whole) in
+    order_left g.V.Volume.keeper g.V.BoardVolume.form _ _ c.in-Ok.opened tee.volume c.power.new.self after c.restart_all.new.sides.items _
+    (power_stands g.V.Volume.keeper g.met.V.Volume.rests g.met.V.Volume.since_earlier g.A.Application.behaviour tee.sides.items world tee.volume c.power.new.self whole
+    c.owner_of_doubt-owner.result
+    (subst (λ (ss : List (Side g.row.A.Denot)). IfNone c.owner_of_doubt-owner.result (IsNoneInDoubt ss)) c.as_slice.ensures.value c.owner_of_doubt-owner.ensures.none)
+    (subst (λ (ss : List (Side g.row.A.Denot)). IfSome c.owner_of_doubt-owner.result (λ o. (side : Side g.row.A.Denot) × (slice_get ss o ≡ Some side) × (has_doubt side ≡ true)))
+    c.as_slice.ensures.value c.owner_of_doubt-owner.ensures.some)
+    c.sequence-acknowledged.result c.in-Ok.opened c.power_of.result after.again c.sequence-acknowledged.ensures c.in-Ok.ensures.back.sequence c.power_of.ensures
+    c.owner_kept-taken.result c.restart_all.new.sides.items c.owner_kept-taken.ensures (c.restart_all.ensures.sides world whole.sides_are) c.in-Ok.ensures.back.works)
 
 pub returns-in-Ok-clause-told : goal.returns-in-Ok-clause-told
 returns-in-Ok-clause-told g c = λ world whole.
