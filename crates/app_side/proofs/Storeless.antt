@@ -4,7 +4,7 @@ use Rattle.std.proofs.Common.{ℕ, ◌≡◌, ◌+◌, ◌-◌, ◌^◌, ◌<◌
 use Rattle.tee_base.specs.Faults.{Rose}
 use Rattle.store_api.specs.declared.answer.StoreAnswer.{StoreAnswer}
 use Rattle.store_api.specs.declared.change.Change.{Change}
-use Rattle.store_api.specs.Keeping.{Answers, Applied, Applies, Contents, IsCall, Keeper, Reads, Status}
+use Rattle.store_api.specs.Keeping.{Answers, Applied, Applies, Contents, IsCall, Keeper, Reads}
 use Rattle.store_api.specs.Limits.{IsWithinLimits}
 use Rattle.store_api.specs.MapStores.{contents_after}
 use Rattle.store_api.specs.Stores.{Store, empty_store}
@@ -20,14 +20,15 @@ use Rattle.alone.proofs.WithoutStore.{turned_over}
 use Rattle.app_side.specs.declared.side.AppSide.{AppSide}
 use Rattle.app_side.specs.Represents.{Represents, event_of, is_lost}
 use Rattle.app_side.specs.Serving.{IsTurn}
-use Rattle.app_side.specs.Storeless.{IsRefusalOf, IsStoreless, wants_store}
+use Rattle.app_side.specs.Storeless.{IsRefusalOf, IsStoreless, status_of, wants_store}
+use Rattle.app_side.specs.declared.no_store.NoStore.{NoStore}
 
 -- what contracts see of a store that serves nothing
-abbrev pub no_keeper : Keeper Status
+abbrev pub no_keeper : Keeper NoStore
 no_keeper = record {
   has_model = λ _. Unit {0};
   contents = λ _. contents_after [] empty_store;
-  status = λ status. status;
+  status = λ s. status_of s;
   honest_below = λ _. ⊥;
   honest = λ _. ⊥;
   damage = λ _ _. ⊥;
@@ -40,7 +41,7 @@ no_keeper = record {
 empty_within : IsWithinLimits empty_store
 empty_within = let none = are_none [] refl in subst IsWithinLimits none.store none.kept.limits
 
-refused_call : {X : Type 0} (b : Bool) (r : Result X StoreAnswer) (n : ℕ) (old new : Status) → old.lost ≡ b → IsRefusalOf b r →
+refused_call : {X : Type 0} (b : Bool) (r : Result X StoreAnswer) (n : ℕ) (old new : NoStore) → old.lost ≡ b → IsRefusalOf b r →
     new ≡ record old { change_attempts = old.change_attempts + n } → IsCall no_keeper n r old new
 refused_call {X} true r n old new lost is same = rw (is, same) (record {
   model = λ h. h;
@@ -79,7 +80,7 @@ refused_applied : {X : Type 0} (b : Bool) (r : Result X StoreAnswer) (stated : R
 refused_applied true r stated kept is = rw is (tt, refl)
 refused_applied false r stated kept is = rw is (tt, refl)
 
-pub refused_reads : {X : Type 0} (stated : Store → Result X StoreAnswer) (Bounds : X → Type 0) (r : Result X StoreAnswer) (s : Status) → IsRefusalOf s.lost r → Reads no_keeper stated Bounds r s s
+pub refused_reads : {X : Type 0} (stated : Store → Result X StoreAnswer) (Bounds : X → Type 0) (r : Result X StoreAnswer) (s : NoStore) → IsRefusalOf s.lost r → Reads no_keeper stated Bounds r s s
 refused_reads {X} stated Bounds r s is = record {
   answer = λ _. refused_answers s.lost r _ is;
   same = λ _. refl;
@@ -88,7 +89,7 @@ refused_reads {X} stated Bounds r s is = record {
   crash = λ h. absurd h;
 }
 
-pub refused_applies : {X : Type 0} (c : Change) (r : Result X StoreAnswer) (old new : Status) → IsRefusalOf old.lost r →
+pub refused_applies : {X : Type 0} (c : Change) (r : Result X StoreAnswer) (old new : NoStore) → IsRefusalOf old.lost r →
     new ≡ record old { change_attempts = old.change_attempts + 1 } → Applies no_keeper c r old new
 refused_applies {X} c r old new is same = record {
   applied = λ _. refused_applied old.lost r _ _ is;
@@ -98,18 +99,20 @@ refused_applies {X} c r old new is same = record {
 
 -- ---- a turn over it
 
-module _ {A : Type 0} (behaviour : Behaviour A) (i : ℕ) (replies : List Reply) (before after : AppSide A) (old new : Status) where
+module _ {A : Type 0} (behaviour : Behaviour A) (i : ℕ) (replies : List Reply) (before after : AppSide A) (old new : NoStore) where
   abbrev Turn : TurnKind → Type 0
   Turn kind = IsTurn no_keeper behaviour i kind replies before after old new
 
   -- no call failed, and none told of damage
-  pub kind_is : (kind : TurnKind) → Turn kind → new.faults ≡ 0 → new.damage_reports ≡ 0 → IsStoreless kind
+  pub kind_is : (kind : TurnKind) → Turn kind → (status_of new).faults ≡ 0 → (status_of new).damage_reports ≡ 0 → IsStoreless kind
   kind_is Plain turn faults reports = tt
   kind_is Starved turn faults reports = tt
   kind_is (Lost changes) turn faults reports = never turn.status.cause.2
     where
-      never : Rose old.faults new.faults → ⊥
-      never rose = ⊎_elim (λ (more : old.faults < new.faults). absurd (omega (arith, more, faults))) (λ (most : new.faults ≡ 2 ^ 64 - 1). absurd (omega (arith, most, faults))) rose
+      never : Rose (status_of old).faults (status_of new).faults → ⊥
+      never rose =
+          ⊎_elim (λ (more : (status_of old).faults < (status_of new).faults). absurd (omega (arith, more, faults)))
+          (λ (most : (status_of new).faults ≡ 2 ^ 64 - 1). absurd (omega (arith, most, faults))) rose
   kind_is Corrupted turn faults reports = let told = turn.status.reports in absurd (omega (arith, told, reports))
 
   -- the objects that a value stands for may be others

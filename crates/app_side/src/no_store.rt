@@ -1,6 +1,5 @@
 //! A store that serves nothing, for turns that need none.
 
-use std::marker::Model;
 use store_api::{AppStore, Change, Facts, Listed, StoreAnswer, Tally};
 use tee_base::Bytes;
 
@@ -11,19 +10,10 @@ pub(crate) struct NoStore {
     change_attempts: Tally,
 }
 
-impl Model for NoStore {
-    ghost use Rattle.store_api.specs.Foundations.{no_foundation};
-    ghost use Rattle.store_api.specs.Keeping.{Status};
-
-    ghost Value = { Status };
-
-    ghost view = { λ s. record { lost = s.lost; faults = 0; foundation = no_foundation; damage_reports = 0; change_attempts = s.change_attempts } };
-}
-
 impl NoStore {
     ghost use Rattle.std.specs.Prelude.{◌≡◌, IsErr};
     ghost use Rattle.store_api.specs.Keeping.{Attempts, HasCause};
-    ghost use Rattle.app_side.specs.Storeless.{IsRefusalOf};
+    ghost use Rattle.app_side.specs.Storeless.{IsRefusalOf, status_of};
 
     /// One that is lost, or not.
     pub(crate) fn new(lost: bool) -> NoStore
@@ -37,8 +27,8 @@ impl NoStore {
 
     /// A law: no call of it fails, and none tells of damage.
     pub(crate) fn bounds(&self)
-        ensures faults { self.now.faults ≡ 0 }
-        ensures damage { self.now.damage_reports ≡ 0 }
+        ensures faults { (status_of self.now).faults ≡ 0 }
+        ensures damage { (status_of self.now).damage_reports ≡ 0 }
     {
         let _ = &self.lost;
     }
@@ -58,12 +48,13 @@ impl AppStore for NoStore {
     ghost use Rattle.std.specs.Prelude.{[]};
     ghost use Rattle.store_api.specs.MapStores.{contents_after};
     ghost use Rattle.store_api.specs.Stores.{empty_store};
+    ghost use Rattle.app_side.specs.Storeless.{status_of};
 
     /// It answers from an empty store, and no crash is spoken of.
     ghost keeper = { record {
       has_model = λ _. Unit {0};
       contents = λ _. contents_after [] empty_store;
-      status = λ status. status;
+      status = λ s. status_of s;
       honest_below = λ _. ⊥;
       honest = λ _. ⊥;
       damage = λ _ _. ⊥;
