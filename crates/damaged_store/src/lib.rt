@@ -4,7 +4,6 @@
 #[cfg(test)]
 mod tests;
 
-use std::marker::Model;
 use store_api::{AppStore, Change, Facts, Listed, Mismatch, StoreAnswer, Tally};
 use tee_base::Bytes;
 
@@ -29,23 +28,14 @@ pub struct Damaged {
     change_attempts: Tally,
 }
 
-impl Model for Damaged {
-    ghost use Rattle.std.specs.Prelude.{false};
-    ghost use Rattle.store_api.specs.Foundations.{no_foundation};
-    ghost use Rattle.store_api.specs.Keeping.{Status};
-
-    ghost Value = { Status };
-
-    ghost view = { λ d. record { lost = false; faults = d.faults; foundation = no_foundation; damage_reports = d.damage_reports; change_attempts = d.change_attempts } };
-}
-
 impl Damaged {
     ghost use Rattle.std.specs.Prelude.{◌≡◌, false, IsErr};
     ghost use Rattle.store_api.specs.Keeping.{Attempts, HasCause};
+    ghost use Rattle.damaged_store.specs.Damages.{status_of};
 
     /// A store whose first call meets this, its second that, and each one behind them the last.
     pub fn new(first: Option<Meets>, second: Option<Meets>, later: Option<Meets>) -> Damaged
-        ensures lost { result.lost ≡ false }
+        ensures lost { (status_of result).lost ≡ false }
         ensures faults { result.faults ≡ 0 }
         ensures reports { result.damage_reports ≡ 0 }
         ensures attempts { result.change_attempts ≡ 0 }
@@ -62,7 +52,7 @@ impl Damaged {
 
     /// A store of which each call meets this damage.
     pub fn always(met: Meets) -> Damaged
-        ensures lost { result.lost ≡ false }
+        ensures lost { (status_of result).lost ≡ false }
         ensures faults { result.faults ≡ 0 }
         ensures reports { result.damage_reports ≡ 0 }
         ensures attempts { result.change_attempts ≡ 0 }
@@ -72,8 +62,8 @@ impl Damaged {
 
     /// What it answers to the call that is made now.
     fn answer<A>(&mut self) -> Result<A, StoreAnswer>
-        ensures cause { HasCause result self.old self.new }
-        ensures attempts { Attempts 0 self.old self.new }
+        ensures cause { HasCause result (status_of self.old) (status_of self.new) }
+        ensures attempts { Attempts 0 (status_of self.old) (status_of self.new) }
         ensures err { IsErr result }
     {
         let met = self.first;
@@ -97,12 +87,13 @@ impl AppStore for Damaged {
     ghost use Rattle.std.specs.Prelude.{[]};
     ghost use Rattle.store_api.specs.MapStores.{contents_after};
     ghost use Rattle.store_api.specs.Stores.{empty_store};
+    ghost use Rattle.damaged_store.specs.Damages.{status_of};
 
     /// It has no store to answer from, and isn't honest.
     ghost keeper = { record {
       has_model = λ _. ⊥;
       contents = λ _. contents_after [] empty_store;
-      status = λ status. status;
+      status = status_of;
       honest_below = λ _. ⊥;
       honest = λ _. ⊥;
       damage = λ _ _. Unit {0};

@@ -3,12 +3,12 @@ use Rattle.app_api.specs.Behaviours.{Behaviour}
 use Rattle.std.proofs.Common.{ℕ, ◌≡◌, ◌+◌, List, [], ◌∷◌, ◌++◌, Option, refl, sym, subst, ◌∙◌, ap, append_assoc, append-nil, arith}
 use Rattle.std.specs.Io.KnownBytes.{Appends}
 use Rattle.std.proofs.KnownBytes.{Appends-nil, Appends-trans}
-use Rattle.board.specs.Moment.{View}
+use Rattle.board.specs.Moment.{Moment, View}
 use Rattle.epoch.specs.Forms.{Form}
 use Rattle.script.specs.declared.line.Line.{Line}
 use Rattle.script.specs.declared.line.Line.TheVariants as lines
 use Rattle.tee_core.specs.World.{World}
-use Rattle.tee_top.specs.Boards.{GoesAlong, LeavesStores}
+use Rattle.tee_top.specs.Boards.{GoesAlong, LeavesStores, RunsAlong}
 use Rattle.tee_top.specs.Logs.{AreKnown}
 use Rattle.tee_top.specs.Parts.{AgreeWith, AreTold, HasNoDamage, IsRefusedIn, IsRunOf, Point, StopsIn, count_powers, log_of, point}
 use Rattle.tee_top.specs.Transcript.{Weather, WorldEvent, after_events, events_of, line_events, text_of}
@@ -23,10 +23,19 @@ abbrev pub Remaining : Type 0 → Type 0
 Remaining A = Weather → World A → List WorldEvent
 
 module _ {A : Type 0} (behaviour : Behaviour A) (form : Form) where
-  -- no event, and no call of the board
-  pub board_none : (w : World A) (view : View) → GoesAlong behaviour form view 0 w [] view
+  along_none : (key : List ℕ) (w : World A) (m : Moment) → GoesAlong behaviour form key m 0 w [] [] m
   unfolding GoesAlong
-  board_none w view = span_none view
+  along_none key w m = span_none m
+
+  -- no event, and no call of the board
+  pub board_none : (w : World A) (view : View) → RunsAlong behaviour form w [] view view
+  board_none w view = record {
+    size = refl;
+    key = refl;
+    made = [];
+    ordered = refl;
+    along = along_none view.key w view.state;
+  }
 
 module _ {A : Type 0} (behaviour : Behaviour A) (form : Form) (names : List (List ℕ)) where
   -- a run of all these events has come to a world that is stood for, before what rest says of it, and was written so far
@@ -37,7 +46,7 @@ module _ {A : Type 0} (behaviour : Behaviour A) (form : Form) (names : List (Lis
     pub undamaged : HasNoDamage made
     pub powers : new.powers ≡ old.powers + count_powers behaviour made
     pub stands : Stands (after_events behaviour w made)
-    pub board : GoesAlong behaviour form old.view 0 w made new.view
+    pub board : RunsAlong behaviour form w made old.view new.view
     pub written : Appends old.written new.written (text_of behaviour names w made)
     pub by_weather : (weather : Weather) → AgreeWith behaviour weather w made → all weather ≡ made ++ rest weather (after_events behaviour w made)
 
@@ -83,7 +92,7 @@ module _ {A : Type 0} (behaviour : Behaviour A) (form : Form) (names : List (Lis
         undamaged = undamaged_both run.made part.made run.undamaged part.undamaged;
         powers = omega (arith, run.powers, part.powers, count_both behaviour run.made part.made);
         stands = subst Then (sym (after_events_both behaviour w run.made part.made)) part.stands;
-        board = board_both behaviour form 0 w old.view mid.view run.made part.made new.view run.board part.board;
+        board = board_both behaviour form w old.view mid.view run.made part.made new.view run.board part.board;
         written = subst (Appends old.written new.written) (sym (text_of_both behaviour names w run.made part.made))
             (Appends-trans old.written mid.written new.written (text_of behaviour names w run.made) (text_of behaviour names now part.made) run.written part.written);
         by_weather = λ weather agree.

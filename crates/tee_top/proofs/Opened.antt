@@ -1,9 +1,8 @@
 -- The board at the beginning of a run: before it is opened, and as its opening leaves it.
 use Rattle.app_api.specs.Behaviours.{Behaviour}
-use Rattle.std.proofs.Common.{ℕ, ◌≡◌, ◌<◌, Bool, List, [], Option, None, Some, Result, Ok, Err, inl, inr, length, refl, sym, subst, ◌∙◌, ap, arith}
-use Rattle.std.specs.Prelude.{◌⊎◌}
+use Rattle.std.proofs.Common.{ℕ, ◌≡◌, ◌<◌, Bool, List, [], Some, Ok, inl, inr, length, refl, sym, subst, ◌∙◌, ap, arith}
 use Rattle.app_api.specs.declared.host.Host.{Host}
-use Rattle.board.specs.Moment.{CrashImage, View}
+use Rattle.board.specs.Moment.{CrashImage, Moment, View}
 use Rattle.board.specs.Steps.{CallRun}
 use Rattle.epoch.specs.Forms.{Form, held_in, held_of}
 use Rattle.epoch.specs.Mounts.{IsOpenedTo, LeavesOpening, LeftByOpening}
@@ -16,21 +15,25 @@ use Rattle.store_api.specs.Volumes.{Held}
 use Rattle.tee_core.specs.Represents.{HasStoresOf, HoldsStores, none_kept}
 use Rattle.tee_core.specs.World.{World, world_of}
 use Rattle.tee_core.proofs.Opens.{stores_started}
-use Rattle.tee_top.specs.Boards.{BeginsWith, HasFirstOrders, HasOrders, IsSpan, LeavesStores, orders_of}
+use Rattle.tee_top.specs.Boards.{BeginsWith, GoesAlong, HasFirstOrders, HasOrders, IsSpan, LeavesStores, RunsAlong, orders_of}
 use Rattle.tee_top.specs.Parts.{IsRefusedIn, IsRunOf, Point, point}
 use Rattle.tee_top.specs.Transcript.{Weather, WorldEvent, events_of}
-use Rattle.tee_top.proofs.Parts.{span_before}
+use Rattle.tee_top.proofs.Parts.{board_both}
 use Rattle.script.specs.declared.line.Line.{Line}
 
--- calls of an opening have no order among them
-pub span_opened : (ok : Bool) (old new : View) → CallRun ok old new → IsSpan 0 old new
-span_opened ok old new run = record {
+along_calls : {A : Type 0} (behaviour : Behaviour A) (form : Form) (key : List ℕ) (w : World A) (old new : Moment) → IsSpan 0 old new
+    → GoesAlong behaviour form key old 0 w [] [] new
+unfolding GoesAlong
+along_calls behaviour form key w old new span = span
+
+-- calls of an opening have no order among them, and no event
+pub along_opened : {A : Type 0} (behaviour : Behaviour A) (form : Form) (w : World A) (ok : Bool) (old new : View) → CallRun ok old new → RunsAlong behaviour form w [] old new
+along_opened behaviour form w ok old new run = record {
   size = run.size;
   key = run.key;
-  orders = run.orders;
+  made = [];
   ordered = run.ordered;
-  later = run.faults;
-  faults = inl (omega (arith, run.faults));
+  along = along_calls behaviour form old.key w old.state new.state (record { orders = run.orders; later = run.faults; faults = inl (omega (arith, run.faults)) });
 }
 
 pub orders_opened : (ok : Bool) (old new : View) → CallRun ok old new → HasOrders [] old new
@@ -38,6 +41,8 @@ orders_opened ok old new run = record {
   size = run.size;
   key = run.key;
   orders = run.orders;
+  made = [];
+  numbered = refl;
   ordered = run.ordered;
   later = run.faults;
 }
@@ -82,29 +87,29 @@ module _ {A : Type 0} (form : Form) (hosts : List (Host A)) (seed : List ℕ) (s
 
 -- a run after calls of the board without an order
 module _ {A : Type 0} (behaviour : Behaviour A) (form : Form) (names : List (List ℕ)) where
-  pub run_behind : (events : Weather → List WorldEvent) (world : World A) (Stands : World A → Type 0) (start : View) (old new : Point) → IsSpan 0 start old.view
+  pub run_behind : (events : Weather → List WorldEvent) (world : World A) (Stands : World A → Type 0) (start : View) (old new : Point) → RunsAlong behaviour form world [] start old.view
       → IsRunOf behaviour form names events world Stands old new → IsRunOf behaviour form names events world Stands (point old.powers start old.written) new
-  run_behind events world Stands start old new span run = record {
+  run_behind events world Stands start old new opened run = record {
     made = run.made;
     known = run.known;
     told = run.told;
     undamaged = run.undamaged;
     powers = run.powers;
     stands = run.stands;
-    board = span_before behaviour form 0 0 world start old.view run.made new.view span run.board;
+    board = board_both behaviour form world start old.view [] run.made new.view opened run.board;
     written = run.written;
     by_weather = run.by_weather;
   }
 
-  pub refused_behind : (script : List Line) (world : World A) (start : View) (old new : Point) → IsSpan 0 start old.view
+  pub refused_behind : (script : List Line) (world : World A) (start : View) (old new : Point) → RunsAlong behaviour form world [] start old.view
       → IsRefusedIn behaviour form names script world old new → IsRefusedIn behaviour form names script world (point old.powers start old.written) new
-  refused_behind script world start old new span part = record {
+  refused_behind script world start old new opened part = record {
     front = part.front;
     pick = part.pick;
     behind = part.behind;
     split = part.split;
     between = part.between;
-    run = run_behind (λ weather. events_of behaviour weather world part.front) world (LeavesStores form new.view) start old part.between span part.run;
+    run = run_behind (λ weather. events_of behaviour weather world part.front) world (LeavesStores form new.view) start old part.between opened part.run;
     order = part.order;
     failed = part.failed;
     written = part.written;

@@ -6,7 +6,7 @@ use Rattle.std.specs.List.{AllByRecursion}
 use Rattle.std.proofs.lemmas.Grind.{flat_map-append}
 use Rattle.alone.specs.Machine.{Machine}
 use Rattle.alone.specs.Step.{Event}
-use Rattle.board.specs.Moment.{View}
+use Rattle.board.specs.Moment.{Moment, Order, View}
 use Rattle.epoch.specs.Forms.{Form}
 use Rattle.tee_base.specs.Faults.{Rose}
 use Rattle.script.specs.declared.line.Line.{Line}
@@ -14,7 +14,7 @@ use Rattle.script.specs.declared.line.Line.TheVariants as lines
 use Rattle.tee_core.specs.World.{World, AppEvent, world_after, world_step}
 use Rattle.tee_core.specs.Powers.{after_power}
 use Rattle.tee_top.specs.BoardLines.{IsOwnerKnown}
-use Rattle.tee_top.specs.Boards.{GoesAlong, HasFirstOrders, HasOrders, HasPower, IsSpan, RoseBy, losses_of, order_of, ordered_after, orders_after, orders_of}
+use Rattle.tee_top.specs.Boards.{GoesAlong, HasFirstOrders, HasOrders, HasPower, IsSpan, RoseBy, RunsAlong, losses_of, numbers_of, order_of, orders_after, orders_of, with_orders}
 use Rattle.tee_top.specs.Logs.{AreKnown, Entry, Item, IsWrittenOf, OfApp, OfBoard, entries_in, item_text, log_text, powers_told}
 use Rattle.tee_top.specs.Parts.{AgreeWith, AreTold, HasNoDamage, IsTextOfAllBut, count_powers, entry_of, items_of, log_of}
 use Rattle.tee_top.specs.Transcript.{Weather, WorldEvent, Fused, Happens, Powered, after_event, after_events, event_lines, happens, machine_lines, power_line, text_of}
@@ -225,49 +225,69 @@ rose_both one other a b c up on (inr h) k = inr (omega (arith, h, on))
 rose_both one other a b c up on (inl h) (inr k) = inr k
 
 -- calls one after the other, without an order among them
-pub span_both : (one other : ℕ) (a b c : View) → IsSpan one a b → IsSpan other b c → IsSpan (one + other) a c
+pub span_both : (one other : ℕ) (a b c : Moment) → IsSpan one a b → IsSpan other b c → IsSpan (one + other) a c
 span_both one other a b c h k = record {
-  size = k.size ∙ h.size;
-  key = k.key ∙ h.key;
   orders = k.orders ∙ h.orders;
-  ordered = k.ordered ∙ h.ordered;
   later = omega (arith, h.later, k.later);
-  faults = rose_both one other a.state.faults b.state.faults c.state.faults h.later k.later h.faults k.faults;
+  faults = rose_both one other a.faults b.faults c.faults h.later k.later h.faults k.faults;
 }
 
 -- no call of the board
-pub span_none : (v : View) → IsSpan 0 v v
-span_none v = record {
-  size = refl;
-  key = refl;
+pub span_none : (m : Moment) → IsSpan 0 m m
+span_none m = record {
   orders = refl;
-  ordered = refl;
   later = omega arith;
   faults = inl (omega arith);
 }
 
-module _ {A : Type 0} (behaviour : Behaviour A) (form : Form) where
+-- orders one after the other
+pub with_both : (xs ys earlier : List Order) → with_orders (xs ++ ys) earlier ≡ with_orders ys (with_orders xs earlier)
+with_both [] ys earlier = refl
+with_both (x ∷ xs) ys earlier = with_both xs ys (x ∷ earlier)
+
+module _ {A : Type 0} (behaviour : Behaviour A) (form : Form) (key : List ℕ) where
   -- calls without an order, and then events
-  pub span_before : (losses more : ℕ) (w : World A) (start mid : View) (ys : List WorldEvent) (end : View)
-      → IsSpan losses start mid → GoesAlong behaviour form mid more w ys end → GoesAlong behaviour form start (losses + more) w ys end
+  pub span_before : (losses more : ℕ) (w : World A) (start mid : Moment) (es : List WorldEvent) (made : List Order) (end : Moment)
+      → IsSpan losses start mid → GoesAlong behaviour form key mid more w es made end → GoesAlong behaviour form key start (losses + more) w es made end
   unfolding GoesAlong
-  span_before losses more w start mid [] end h k = span_both losses more start mid end h k
-  span_before losses more w start mid (Happens e ∷ ys) end h k =
+  span_before losses more w start mid [] [] end h k = span_both losses more start mid end h k
+  span_before losses more w start mid [] (order ∷ made) end h k = absurd k
+  span_before losses more w start mid (Happens e ∷ es) made end h k =
       let same : losses + (more + losses_of e.event) ≡ losses + more + losses_of e.event = omega arith in
       let then : World A = world_step behaviour w e in
-      subst (λ n. GoesAlong behaviour form start n then ys end) same (span_before losses (more + losses_of e.event) then start mid ys end h k)
-  span_before losses more w start mid (Fused calls ∷ ys) end h k = (k.0, k.1, span_both losses more start mid k.0 h k.2, k.3, k.4)
-  span_before losses more w start mid (Powered pick told ∷ ys) end h k = (k.0, k.1, span_both losses more start mid k.0 h k.2, k.3, k.4, k.5)
+      subst (λ n. GoesAlong behaviour form key start n then es made end) same (span_before losses (more + losses_of e.event) then start mid es made end h k)
+  span_before losses more w start mid (Fused calls ∷ es) [] end h k = absurd k
+  span_before losses more w start mid (Fused calls ∷ es) (order ∷ made) end h k = (span_both losses more start mid order.before h k.0, k.1, k.2)
+  span_before losses more w start mid (Powered pick told ∷ es) [] end h k = absurd k
+  span_before losses more w start mid (Powered pick told ∷ es) (order ∷ made) end h k = (span_both losses more start mid order.before h k.0, k.1, k.2, k.3)
 
-  pub board_both : (losses : ℕ) (w : World A) (start mid : View) (xs ys : List WorldEvent) (end : View)
-      → GoesAlong behaviour form start losses w xs mid → GoesAlong behaviour form mid 0 (after_events behaviour w xs) ys end → GoesAlong behaviour form start losses w (xs ++ ys) end
+  along_both : (losses : ℕ) (w : World A) (start mid : Moment) (xs ys : List WorldEvent) (made more : List Order) (end : Moment)
+      → GoesAlong behaviour form key start losses w xs made mid → GoesAlong behaviour form key mid 0 (after_events behaviour w xs) ys more end
+      → GoesAlong behaviour form key start losses w (xs ++ ys) (made ++ more) end
   unfolding GoesAlong
-  board_both losses w start mid [] ys end h k =
+  along_both losses w start mid [] ys [] more end h k =
       let same : losses + 0 ≡ losses = omega arith in
-      subst (λ n. GoesAlong behaviour form start n w ys end) same (span_before losses 0 w start mid ys end h k)
-  board_both losses w start mid (Happens e ∷ xs) ys end h k = board_both (losses + losses_of e.event) (world_step behaviour w e) start mid xs ys end h k
-  board_both losses w start mid (Fused calls ∷ xs) ys end h k = (h.0, h.1, h.2, h.3, board_both 0 w h.1 mid xs ys end h.4 k)
-  board_both losses w start mid (Powered pick told ∷ xs) ys end h k = (h.0, h.1, h.2, h.3, h.4, board_both 0 (after_power behaviour w told) h.1 mid xs ys end h.5 k)
+      subst (λ n. GoesAlong behaviour form key start n w ys more end) same (span_before losses 0 w start mid ys more end h k)
+  along_both losses w start mid [] ys (order ∷ made) more end h k = absurd h
+  along_both losses w start mid (Happens e ∷ xs) ys made more end h k =
+      along_both (losses + losses_of e.event) (world_step behaviour w e) start mid xs ys made more end h k
+  along_both losses w start mid (Fused calls ∷ xs) ys [] more end h k = absurd h
+  along_both losses w start mid (Fused calls ∷ xs) ys (order ∷ made) more end h k = (h.0, h.1, along_both 0 w order.after mid xs ys made more end h.2 k)
+  along_both losses w start mid (Powered pick told ∷ xs) ys [] more end h k = absurd h
+  along_both losses w start mid (Powered pick told ∷ xs) ys (order ∷ made) more end h k =
+      (h.0, h.1, h.2, along_both 0 (after_power behaviour w told) order.after mid xs ys made more end h.3 k)
+
+module _ {A : Type 0} (behaviour : Behaviour A) (form : Form) where
+  pub board_both : (w : World A) (start mid : View) (xs ys : List WorldEvent) (end : View)
+      → RunsAlong behaviour form w xs start mid → RunsAlong behaviour form (after_events behaviour w xs) ys mid end → RunsAlong behaviour form w (xs ++ ys) start end
+  board_both w start mid xs ys end h k = record {
+    size = k.size ∙ h.size;
+    key = k.key ∙ h.key;
+    made = h.made ++ k.made;
+    ordered = k.ordered ∙ ap (with_orders k.made) h.ordered ∙ sym (with_both h.made k.made start.ordered);
+    along = along_both behaviour form start.key 0 w start.state mid.state xs ys h.made k.made end.state h.along
+        (subst (λ key. GoesAlong behaviour form key mid.state 0 (after_events behaviour w xs) ys k.made end.state) h.key k.along);
+  }
 
 -- ---- orders
 
@@ -275,16 +295,18 @@ count_orders : (xs ys : List ℕ) (count : ℕ) → orders_after (xs ++ ys) coun
 count_orders [] ys count = refl
 count_orders (x ∷ xs) ys count = count_orders xs ys ((count + 1) % 2 ^ 64)
 
-sum_orders : (xs ys : List ℕ) (total : ℕ) → ordered_after (xs ++ ys) total ≡ ordered_after ys (ordered_after xs total)
-sum_orders [] ys total = refl
-sum_orders (x ∷ xs) ys total = sum_orders xs ys ((total + x) % 2 ^ 64)
+numbers_both : (xs ys : List Order) → numbers_of (xs ++ ys) ≡ numbers_of xs ++ numbers_of ys
+numbers_both [] ys = refl
+numbers_both (x ∷ xs) ys = ap (λ zs. x.number ∷ zs) (numbers_both xs ys)
 
 pub orders_both : (xs ys : List ℕ) (a b c : View) → HasOrders xs a b → HasOrders ys b c → HasOrders (xs ++ ys) a c
 orders_both xs ys a b c h k = record {
   size = k.size ∙ h.size;
   key = k.key ∙ h.key;
   orders = k.orders ∙ ap (orders_after ys) h.orders ∙ sym (count_orders xs ys a.state.orders);
-  ordered = k.ordered ∙ ap (ordered_after ys) h.ordered ∙ sym (sum_orders xs ys a.ordered);
+  made = h.made ++ k.made;
+  numbered = numbers_both h.made k.made ∙ ap (λ zs. zs ++ numbers_of k.made) h.numbered ∙ ap (λ zs. xs ++ zs) k.numbered;
+  ordered = k.ordered ∙ ap (with_orders k.made) h.ordered ∙ sym (with_both h.made k.made a.ordered);
   later = omega (arith, h.later, k.later);
 }
 
@@ -294,6 +316,8 @@ no_orders v = record {
   size = refl;
   key = refl;
   orders = refl;
+  made = [];
+  numbered = refl;
   ordered = refl;
   later = omega arith;
 }

@@ -15,24 +15,24 @@ use Rattle.alone.specs.declared.power.Power.{Power}
 use Rattle.alone.specs.declared.power.Power.TheVariants.{Clean, Kept, Absent}
 use Rattle.alone.specs.Machine.{Machine}
 use Rattle.app_side.specs.declared.side.AppSide.{AppSide}
-use Rattle.board.specs.Moment.{View}
+use Rattle.board.specs.Moment.{Moment, Order, View}
 use Rattle.epoch.specs.Forms.{Form, held_of}
 use Rattle.epoch.specs.Mounts.{IsSeenOn, OrderRun}
 use Rattle.script.specs.declared.line.Line.{Line}
 use Rattle.script.specs.declared.line.Line.TheVariants as lines
 use Rattle.store_api.specs.Volumes.{VolumeKeeper}
-use Rattle.tee_core.specs.Moments.{IsWithin}
+use Rattle.tee_core.specs.Moments.{IsWithin, LeavesStoresAt, OrderLeavesStores}
 use Rattle.tee_core.specs.Powers.{IsTold, after_power}
 use Rattle.tee_core.specs.Represents.{HasDoubt, HasStoresOf}
 use Rattle.tee_core.specs.Sides.{AreBooted, AreSides}
 use Rattle.tee_core.specs.World.{World}
 use Rattle.tee_core.proofs.SideLemmas.{get_there}
 use Rattle.tee_top.specs.BoardLines.{IsOwnerKnown}
-use Rattle.tee_top.specs.Boards.{FailsAtPower, GoesAlong, HasFirstOrders, HasOrders, LeavesStores, orders_of}
+use Rattle.tee_top.specs.Boards.{FailsAtPower, GoesAlong, HasFirstOrders, HasOrders, IsOrder, IsSpan, LeavesStores, RunsAlong, orders_of}
 use Rattle.tee_top.specs.Parts.{IsRefusedIn, IsRunOf, Point, StopsIn, owner_told}
 use Rattle.tee_top.specs.Transcript.{Fused, Powered, events_of, line_events, owner_in_doubt, power_line, powers_in, text_of}
 use Rattle.tee_top.proofs.Along.{run_none}
-use Rattle.tee_top.proofs.Parts.{no_orders, orders_both, orders_of_both, rose_later, span_none}
+use Rattle.tee_top.proofs.Parts.{orders_both, orders_of_both, rose_later, span_none}
 
 -- ---- whose change is in doubt
 
@@ -108,9 +108,27 @@ order_made number old new order = record {
   size = order.size;
   key = order.key;
   orders = order.orders;
+  made = record { number = number; before = old.state; after = order.after } ∷ [];
+  numbered = refl;
   ordered = order.ordered;
-  later = order.faults;
+  later = omega (arith, order.steady, order.later);
 }
+
+-- it is counted, and no call failed by it
+pub order_is : (number : ℕ) (old new : View) (order : OrderRun number old new) → IsOrder number (record { number = number; before = old.state; after = order.after })
+order_is number old new order = record { its_number = refl; counted = order.counted; steady = order.steady }
+
+-- the calls behind it
+pub order_behind : (number : ℕ) (old new : View) (order : OrderRun number old new) → IsSpan 0 order.after new.state
+order_behind number old new order = record {
+  orders = order.orders ∙ sym order.counted;
+  later = order.later;
+  faults = inl (omega (arith, order.later));
+}
+
+-- one of them failed
+pub order_failed : (number : ℕ) (old new : View) (order : OrderRun number old new) → Rose old.state.faults new.state.faults → Rose order.after.faults new.state.faults
+order_failed number old new order rose = subst (λ n. Rose n new.state.faults) (sym order.steady) rose
 
 -- the orders of lines and of one more
 pub orders_more : (front : List Line) (line : Line) (a b c : View) → HasOrders (orders_of front) a b → HasOrders (orders_of (line ∷ [])) b c → HasOrders (orders_of (front ++ line ∷ [])) a c
@@ -131,10 +149,16 @@ fails_here pick old new order failed = record {
   pick = pick;
   rest = [];
   split = refl;
-  between = old;
-  before = no_orders old;
-  order = order;
-  failed = failed;
+  orders = order_made pick old new order;
+  behind = record {
+    order = record { number = pick; before = old.state; after = order.after };
+    earlier = old.ordered;
+    last = order.ordered;
+    later = omega arith;
+    made = order_is pick old new order;
+    behind = order_behind pick old new order;
+    failed = order_failed pick old new order failed;
+  };
 }
 
 -- behind the first lines
@@ -144,10 +168,18 @@ fails_behind front rest a b c h k = record {
   pick = k.pick;
   rest = k.rest;
   split = ap (λ zs. front ++ zs) k.split ∙ sym (append_assoc front k.front (lines.Power k.pick ∷ k.rest));
-  between = k.between;
-  before = subst (λ zs. HasOrders zs a k.between) (sym (orders_of_both front k.front)) (orders_both (orders_of front) (orders_of k.front) a b k.between h k.before);
-  order = k.order;
-  failed = k.failed;
+  orders = subst (λ zs. HasOrders (orders_of zs) a c) (sym (append_assoc front k.front (lines.Power k.pick ∷ [])))
+      (subst (λ zs. HasOrders zs a c) (sym (orders_of_both front (k.front ++ lines.Power k.pick ∷ [])))
+      (orders_both (orders_of front) (orders_of (k.front ++ lines.Power k.pick ∷ [])) a b c h k.orders));
+  behind = record {
+    order = k.behind.order;
+    earlier = k.behind.earlier;
+    last = k.behind.last;
+    later = omega (arith, h.later, k.behind.later);
+    made = k.behind.made;
+    behind = k.behind.behind;
+    failed = k.behind.failed;
+  };
 }
 
 -- before others
@@ -157,27 +189,49 @@ fails_before xs ys a b h = record {
   pick = h.pick;
   rest = h.rest ++ ys;
   split = ap (λ zs. zs ++ ys) h.split ∙ append_assoc h.front (lines.Power h.pick ∷ h.rest) ys;
-  between = h.between;
-  before = h.before;
-  order = h.order;
-  failed = h.failed;
+  orders = h.orders;
+  behind = h.behind;
 }
 
 -- the count rose
 pub fails_rose : (script : List Line) (a b : View) → FailsAtPower script a b → Rose a.state.faults b.state.faults
-fails_rose script a b h = rose_later a.state.faults h.between.state.faults b.state.faults h.before.later h.failed
+fails_rose script a b h =
+    rose_later a.state.faults h.behind.order.after.faults b.state.faults (omega (arith, h.behind.later, h.behind.made.steady)) h.behind.failed
 
 -- ---- the events of orders
 
 module _ {A : Type 0} (behaviour : Behaviour A) (form : Form) where
-  board_fused : (w : World A) (calls : ℕ) (old new : View) → OrderRun calls old new → GoesAlong behaviour form old 0 w (Fused calls ∷ []) new
+  along_fused : (key : List ℕ) (w : World A) (calls : ℕ) (order : Order) (end : Moment) → IsOrder calls order → IsSpan 0 order.after end
+      → GoesAlong behaviour form key order.before 0 w (Fused calls ∷ []) (order ∷ []) end
   unfolding GoesAlong
-  board_fused w calls old new order = (old, new, span_none old, order, span_none new)
+  along_fused key w calls order end is span = (span_none order.before, is, span)
 
-  board_powered : (w : World A) (pick : ℕ) (told : Power) (old new : View) → OrderRun pick old new → LeavesStores form new (after_power behaviour w told)
-      → GoesAlong behaviour form old 0 w (Powered pick told ∷ []) new
+  board_fused : (w : World A) (calls : ℕ) (old new : View) → OrderRun calls old new → RunsAlong behaviour form w (Fused calls ∷ []) old new
+  board_fused w calls old new order = record {
+    size = order.size;
+    key = order.key;
+    made = record { number = calls; before = old.state; after = order.after } ∷ [];
+    ordered = order.ordered;
+    along = along_fused old.key w calls (record { number = calls; before = old.state; after = order.after }) new.state (order_is calls old new order) (order_behind calls old new order);
+  }
+
+  along_powered : (key : List ℕ) (w : World A) (pick : ℕ) (told : Power) (order : Order) (end : Moment) → IsOrder pick order
+      → LeavesStoresAt form key order.after (after_power behaviour w told) → IsSpan 0 order.after end
+      → GoesAlong behaviour form key order.before 0 w (Powered pick told ∷ []) (order ∷ []) end
   unfolding GoesAlong
-  board_powered w pick told old new order left = (old, new, span_none old, order, left, span_none new)
+  along_powered key w pick told order end is left span = (span_none order.before, is, left, span)
+
+  board_powered : (w : World A) (pick : ℕ) (told : Power) (old new : View) → OrderRun pick old new → OrderLeavesStores form old new (after_power behaviour w told)
+      → RunsAlong behaviour form w (Powered pick told ∷ []) old new
+  board_powered w pick told old new order left =
+      let made : Order = record { number = pick; before = old.state; after = order.after } in
+      record {
+        size = order.size;
+        key = order.key;
+        made = made ∷ [];
+        ordered = order.ordered;
+        along = along_powered old.key w pick told made new.state (order_is pick old new order) (left made order.ordered) (order_behind pick old new order);
+      }
 
   module _ (names : List (List ℕ)) where
     -- a line of a fuse
@@ -201,7 +255,7 @@ module _ {A : Type 0} (behaviour : Behaviour A) (form : Form) where
 
       -- a loss of power that is written whole
       pub power_whole : (Stands : World A → Type 0) (old new : Point) → powers_in w ≡ old.powers → owner_in_doubt w ≡ owner_told told → new.powers ≡ old.powers + 1
-          → OrderRun pick old.view new.view → LeavesStores form new.view (after_power behaviour w told) → Stands (after_power behaviour w told)
+          → OrderRun pick old.view new.view → OrderLeavesStores form old.view new.view (after_power behaviour w told) → Stands (after_power behaviour w told)
           → Appends old.written new.written (power_line names told)
           → IsRunOf behaviour form names (λ weather. line_events behaviour weather w (lines.Power pick)) w Stands old new
       power_whole Stands old new powers owner more order left stands written = record {
@@ -252,6 +306,6 @@ module _ {A : Type 0} (behaviour : Behaviour A) (form : Form) where
       between = old;
       run = run_none behaviour form names (LeavesStores form new.view) w (λ weather. events_of behaviour weather w []) old left (λ weather. refl);
       order = order;
-      failed = failed;
+      failed = order_failed pick old.view new.view order failed;
       written = written;
     }

@@ -4,7 +4,7 @@ use Rattle.std.proofs.Common.{ℕ, suc, ◌≡◌, ◌<◌, ◌≤◌, ◌+◌, 
 use Rattle.std.specs.Prelude.{slice_get, slice_index_or}
 use Rattle.std.specs.Io.KnownBytes.{Appends}
 use Rattle.tee_base.specs.Transfer.{AppendsFront}
-use Rattle.board.specs.Moment.{View}
+use Rattle.board.specs.Moment.{Moment, View}
 use Rattle.epoch.specs.Forms.{Form}
 use Rattle.epoch.specs.Mounts.{IsSeenOn}
 use Rattle.store_api.specs.Foundations.{Foundation}
@@ -26,7 +26,7 @@ use Rattle.tee_core.specs.Represents.{app_of, event_of, machine_event}
 use Rattle.tee_core.specs.World.{World, AppEvent, turn_events, turned_at, world_step}
 use Rattle.tee_core.proofs.Turns.{kind_counts}
 use Rattle.tee_core.proofs.TurnsMade.{at_step}
-use Rattle.tee_top.specs.Boards.{GoesAlong, HasOrders, IsSpan, LeavesStores, RoseBy, losses_of}
+use Rattle.tee_top.specs.Boards.{GoesAlong, HasOrders, IsSpan, LeavesStores, RoseBy, RunsAlong, losses_of}
 use Rattle.tee_top.specs.Logs.{AreKnown, Item, OfApp, log_text}
 use Rattle.tee_top.specs.Parts.{AgreesIn, IsRunOf, IsUndamaged, Point, StopsIn, entry_of, log_of, step_events}
 use Rattle.tee_top.specs.Transcript.{Weather, Happens, after_events, happened_lines, happens, text_of}
@@ -82,6 +82,12 @@ foundation_of view = record { place = view.size ∷ view.key; orders = view.stat
 same_place : (x y : ℕ) (xs ys : List ℕ) → x ∷ xs ≡ y ∷ ys → (x ≡ y) × (xs ≡ ys)
 same_place x y xs ys e = (ap (λ (zs : List ℕ). get_or zs 0 0) e, ap (λ (zs : List ℕ). drop 1 zs) e)
 
+-- the board along one event
+along_one : {A : Type 0} (behaviour : Behaviour A) (form : Form) (key : List ℕ) (w : World A) (e : AppEvent) (old new : Moment) → IsSpan (0 + losses_of e.event) old new
+    → GoesAlong behaviour form key old 0 w (Happens e ∷ []) [] new
+unfolding GoesAlong
+along_one behaviour form key w e old new span = span
+
 -- a volume that is seen on its board, before and after
 module _ {V : Type 0} (K : VolumeKeeper V) (form : Form) (old new : V) (view view_then : View) (seen : IsSeenOn K form old view) (seen_then : IsSeenOn K form new view_then) where
   module _ (same : (K.condition new).foundation ≡ (K.condition old).foundation) (later : (K.condition old).faults ≤ (K.condition new).faults) where
@@ -106,28 +112,31 @@ module _ {V : Type 0} (K : VolumeKeeper V) (form : Form) (old new : V) (view vie
       size = same_board.0;
       key = same_board.1;
       orders = same_orders;
+      made = [];
+      numbered = refl;
       ordered = same_ordered;
       later = later_faults;
     }
 
-  -- the calls of the board within an event
-  pub event_span : (e : TeeEvent) (kind : TurnKind) → KeepsCounts kind (K.condition old) (K.condition new) → IsSpan (0 + losses_of (machine_event e kind)) view view_then
-  event_span e kind counts = record {
-    size = (same_board counts.foundation counts.faults).0;
-    key = (same_board counts.foundation counts.faults).1;
+  span_at : (e : TeeEvent) (kind : TurnKind) → KeepsCounts kind (K.condition old) (K.condition new) → IsSpan (0 + losses_of (machine_event e kind)) view.state view_then.state
+  span_at e kind counts = record {
     orders = same_orders counts.foundation counts.faults;
-    ordered = same_ordered counts.foundation counts.faults;
     later = later_faults counts.foundation counts.faults;
     faults = subst (λ n. RoseBy (0 + losses_of (machine_event e kind)) n view_then.state.faults) seen.faults
         (subst (λ n. RoseBy (0 + losses_of (machine_event e kind)) (K.condition old).faults n) seen_then.faults
         (losses_rose e kind (K.condition old).faults (K.condition new).faults counts.faults counts.rose));
   }
 
-module _ {A : Type 0} (behaviour : Behaviour A) (form : Form) where
-  -- the board along one event
-  board_one : (w : World A) (e : AppEvent) (old new : View) → IsSpan (0 + losses_of e.event) old new → GoesAlong behaviour form old 0 w (Happens e ∷ []) new
-  unfolding GoesAlong
-  board_one w e old new span = span
+  -- the board goes along with an event
+  pub event_along : {A : Type 0} (behaviour : Behaviour A) (w : World A) (e : TeeEvent) (kind : TurnKind) → KeepsCounts kind (K.condition old) (K.condition new)
+      → RunsAlong behaviour form w (Happens (event_of e kind) ∷ []) view view_then
+  event_along behaviour w e kind counts = record {
+    size = (same_board counts.foundation counts.faults).0;
+    key = (same_board counts.foundation counts.faults).1;
+    made = [];
+    ordered = same_ordered counts.foundation counts.faults;
+    along = along_one behaviour form view.key w (event_of e kind) view.state view_then.state (span_at e kind counts);
+  }
 
 -- ---- one event
 
@@ -175,17 +184,17 @@ module _ {A : Type 0} (behaviour : Behaviour A) where
         (record { known = (within, tt); counted = (omega (arith, turn, few_turns m e h.kind few), tt); owners = tt })
 
     pub one_whole : (Stands : World A → Type 0) (old new : Point) → app_of e < length names → m.turns < 2 ^ 63 → is_enabled m (machine_event e h.kind) ≡ true → IsSound h.kind → new.powers ≡ old.powers
-        → IsSpan (0 + losses_of (machine_event e h.kind)) old.view new.view → Stands (world_step behaviour w (event_of e h.kind))
+        → RunsAlong behaviour form w (Happens (event_of e h.kind) ∷ []) old.view new.view → Stands (world_step behaviour w (event_of e h.kind))
         → Appends old.written new.written (happened_lines (slice_index_or names (app_of e) []) h)
         → IsRunOf behaviour form names (λ weather. step_events behaviour weather w e) w Stands old new
-    one_whole Stands old new within few may sound powers span stands written = record {
+    one_whole Stands old new within few may sound powers along stands written = record {
       made = Happens (event_of e h.kind) ∷ [];
       known = one_known within few;
       told = tt;
       undamaged = (undamaged_as e h.kind sound, tt);
       powers = omega (arith, powers);
       stands = stands;
-      board = board_one behaviour form w (event_of e h.kind) old.view new.view span;
+      board = along;
       written = subst (Appends old.written new.written) (sym one_text) written;
       by_weather = λ weather agree. step_is weather w e h.kind m here may agree.0;
     }

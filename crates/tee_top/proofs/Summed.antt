@@ -19,11 +19,11 @@ use Rattle.summary.specs.Summaries.{IsSummary}
 use Rattle.tee_base.specs.Faults.{Rose}
 use Rattle.tee_core.specs.World.{World, world_of}
 use Rattle.tee_top.specs.BoardLines.{begins_with, weather_in, whole_lines, whole_text}
-use Rattle.tee_top.specs.Boards.{BeginsWith, FailsAtFirst, FailsAtPower, HasFirstOrders, HasOrders, HasPower, IsRefusedAt, IsRefusedByRule, LeavesStores, orders_of}
-use Rattle.tee_top.specs.Generated.{IsBroken, IsSummaryOf, IsUnsummed, LeavesSome, RunsCut, RunsGenerated, RunsSummed, WritesAs, calm, calm_end, calm_text}
+use Rattle.tee_top.specs.Boards.{BeginsWith, FailsAtFirst, FailsAtPower, HasFirstOrders, HasPower, IsRefusedAt, IsRefusedByRule, LeavesStores, orders_of}
+use Rattle.tee_top.specs.Generated.{IsBroken, IsSummaryOf, IsUnsummed, LeavesSome, RunsGenerated, WritesAs, calm, calm_end, calm_text}
 use Rattle.tee_top.specs.Isolation.{HasNoLine}
-use Rattle.tee_top.specs.Runs.{IsServed, IsStopped, RunsFront, RunsToPower, RunsWhole, events_by, transcript_by}
-use Rattle.tee_top.specs.Transcript.{Weather, WorldEvent, after_events, events_of, transcript}
+use Rattle.tee_top.specs.Runs.{IsServed, IsStopped, RunsFront, RunsToPower, RunsWhole, events_by}
+use Rattle.tee_top.specs.Transcript.{Weather, after_events, events_of, transcript}
 use Rattle.tee_top.specs.declared.status.Status.{Status}
 use Rattle.tee_top.specs.declared.status.Status.TheVariants.{Done, BadWords, BadLine, TooLong, StoreRefused, NoMemory, ReadFault, WriteFault, BoardFault}
 use Rattle.tee_top.proofs.Calm.{calm_weather, no_power, none_made}
@@ -220,7 +220,7 @@ module _ {A : Type 0} (behaviour : Behaviour A) (form : Form) (hosts : List (Hos
     cut_short = λ is. absurd (subst IsBroken is tt);
     broken = λ is honest stores begins. begin_some stores old (leaves honest stores begins);
     unwritten = λ is. same;
-    orders = record { size = refl; key = refl; orders = refl; ordered = refl; later = omega arith };
+    orders = record { size = refl; key = refl; orders = refl; made = []; numbered = refl; ordered = refl; later = omega arith };
     cause = λ is. absurd (subst IsStopped is tt);
     refused = λ why is. absurd (subst IsBroken is tt);
     rule = λ why is. absurd (subst IsBroken is tt);

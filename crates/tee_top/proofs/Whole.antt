@@ -1,6 +1,6 @@
 -- The text of a run is the transcript in the weather that is read back from it.
 use Rattle.app_api.specs.Behaviours.{Behaviour}
-use Rattle.std.proofs.Common.{ℕ, ◌≡◌, ◌<◌, List, [], ◌++◌, Option, inl, length, refl, sym, subst, ap, arith}
+use Rattle.std.proofs.Common.{ℕ, ◌≡◌, ◌<◌, ◌∙◌, List, [], ◌∷◌, ◌++◌, Option, inl, length, refl, sym, subst, ap, arith}
 use Rattle.std.specs.Io.KnownBytes.{Appends}
 use Rattle.std.proofs.KnownBytes.{Appends-nil}
 use Rattle.std.proofs.lemmas.List.{length-map}
@@ -14,7 +14,7 @@ use Rattle.script.specs.declared.line.Line.{Line}
 use Rattle.script.specs.Grammar.{names_of}
 use Rattle.tee_core.specs.World.{World, world_of}
 use Rattle.tee_top.specs.BoardLines.{weather_in, whole_text}
-use Rattle.tee_top.specs.Boards.{GoesAlong, LeavesStores}
+use Rattle.tee_top.specs.Boards.{GoesAlong, LeavesStores, RunsAlong}
 use Rattle.tee_top.specs.Logs.{Item, SameWeather, log_weather}
 use Rattle.tee_top.specs.Parts.{AreTold, HasNoDamage, IsRefusedIn, IsRunOf, Point, StopsIn, log_of}
 use Rattle.tee_top.specs.Runs.{RunsFront, RunsToPower, RunsWhole, events_by}
@@ -23,6 +23,7 @@ use Rattle.tee_top.proofs.Agreed.{goes}
 use Rattle.tee_top.proofs.Weather.{cut_weather_read_back, weather_read_back}
 use Rattle.tee_top.proofs.Names.{hosts_can_name, not_board}
 use Rattle.tee_top.proofs.Parts.{cut_log, text_is_log}
+use Rattle.tee_top.proofs.Powers.{order_behind, order_is}
 
 module _ {A : Type 0} (behaviour : Behaviour A) (form : Form) (hosts : List (Host A)) (fit : HostsFit hosts) (seed : List ℕ) (stores : ℕ → Store) where
   abbrev names : List (List ℕ)
@@ -58,7 +59,7 @@ module _ {A : Type 0} (behaviour : Behaviour A) (form : Form) (hosts : List (Hos
         appended = run.written;
         all = ap (λ es. text_of behaviour names begin es) is;
         undamaged = subst HasNoDamage is run.undamaged;
-        board = subst (λ es. GoesAlong behaviour form old.view 0 begin es new.view) is run.board;
+        board = subst (λ es. RunsAlong behaviour form begin es old.view new.view) is run.board;
         left = subst (λ es. LeavesStores form new.view (after_events behaviour begin es)) is (leaves (after_events behaviour begin run.made) run.stands);
       }
 
@@ -97,9 +98,14 @@ module _ {A : Type 0} (behaviour : Behaviour A) (form : Form) (hosts : List (Hos
         text = text_of behaviour names begin made;
         appended = subst (λ after. Appends old.written after (text_of behaviour names begin made)) (sym refused.written) refused.run.written;
         all = ap (λ es. text_of behaviour names begin es) is;
-        between = refused.between.view;
-        board = subst (λ es. GoesAlong behaviour form old.view 0 begin es refused.between.view) is refused.run.board;
-        order = refused.order;
+        size = refused.order.size ∙ refused.run.board.size;
+        key = refused.order.key ∙ refused.run.board.key;
+        made = refused.run.board.made;
+        power = record { number = refused.pick; before = refused.between.view.state; after = refused.order.after };
+        ordered = refused.order.ordered ∙ ap (λ os. record { number = refused.pick; before = refused.between.view.state; after = refused.order.after } ∷ os) refused.run.board.ordered;
+        board = subst (λ es. GoesAlong behaviour form old.view.key old.view.state 0 begin es refused.run.board.made refused.between.view.state) is refused.run.board.along;
+        order = order_is refused.pick refused.between.view new.view refused.order;
+        behind = order_behind refused.pick refused.between.view new.view refused.order;
         failed = refused.failed;
         left = subst (λ es. LeavesStores form new.view (after_events behaviour begin es)) is refused.run.stands;
       }

@@ -1,12 +1,12 @@
 -- The board along a run: its counts between two orders, and what a crash may leave of it.
 use Rattle.app_api.specs.Behaviours.{Behaviour}
-use Rattle.std.specs.Prelude.{ℕ, ◌≡◌, ◌≤◌, ◌+◌, ◌-◌, ◌%◌, ◌^◌, ◌⊎◌, List, [], ◌∷◌, ◌++◌, Option, Err}
+use Rattle.std.specs.Prelude.{ℕ, ◌≡◌, ◌≤◌, ◌+◌, ◌-◌, ◌%◌, ◌^◌, ◌⊎◌, List, [], ◌∷◌, ◌++◌, Option, Err, map}
 use Rattle.std.specs.Io.KnownBytes.{Appends}
 use Rattle.alone.specs.Step.{Event, Called, Cancelled, Turned, TurnLost, Corrupted, Lost, Starved, Restarted}
-use Rattle.board.specs.Moment.{CrashImage, View, IsCounter, IsLeft}
+use Rattle.board.specs.Moment.{Moment, Order, View, IsCounter}
 use Rattle.board.specs.Runs.{Rests}
-use Rattle.epoch.specs.Forms.{Form, Root, held_of}
-use Rattle.epoch.specs.Mounts.{IsAdmitted, OrderRun}
+use Rattle.epoch.specs.Forms.{Form, Root}
+use Rattle.epoch.specs.Mounts.{IsAdmitted}
 use Rattle.epoch.specs.Opening.{opens_as}
 use Rattle.epoch.specs.declared.answer.OpenAnswer.{OpenAnswer}
 use Rattle.epoch.specs.declared.answer.OpenAnswer.TheVariants as answers
@@ -16,13 +16,13 @@ use Rattle.script.specs.declared.line.Line.TheVariants as lines
 use Rattle.store_api.specs.Stores.{Store}
 use Rattle.store_api.specs.Volumes.{Held}
 use Rattle.tee_base.specs.Faults.{Rose}
+use Rattle.tee_core.specs.Moments.{LeavesStoresAt}
 use Rattle.tee_core.specs.Opening.{IsSoundFor}
 use Rattle.tee_core.specs.Powers.{after_power}
-use Rattle.tee_core.specs.Represents.{HasStoresOf}
 use Rattle.tee_core.specs.World.{World, world_step}
 use Rattle.tee_top.specs.BoardLines.{lost_lines, whole_text}
 use Rattle.tee_top.specs.Transcript.{WorldEvent, Happens, Fused, Powered}
-use Rattle.tee_base.specs.Words.{Counter, Sequence, Text}
+use Rattle.tee_base.specs.Words.{Counter, Key, Sequence, Text}
 
 -- ---- orders
 
@@ -55,18 +55,24 @@ abbrev pub orders_after : List ℕ → ℕ → ℕ
 orders_after [] count = count
 orders_after (number ∷ more) count = orders_after more ((count + 1) % 2 ^ 64)
 
--- the sum of their numbers after these orders, which wraps too
-abbrev pub ordered_after : List ℕ → ℕ → ℕ
-ordered_after [] total = total
-ordered_after (number ∷ more) total = ordered_after more ((total + number) % 2 ^ 64)
+-- the list of a board's orders, the last of them first, once these were made, one after another
+abbrev pub with_orders : List Order → List Order → List Order
+with_orders [] earlier = earlier
+with_orders (order ∷ more) earlier = with_orders more (order ∷ earlier)
 
--- orders with these numbers were made, and no others; the board is of its size and under its key, and its count of faults doesn't
--- fall
+-- the numbers of orders
+abbrev pub numbers_of : List Order → List ℕ
+numbers_of made = map (λ (order : Order). order.number) made
+
+-- orders with these numbers were made, in this order, and no others; the board is of its size and under its key, and its count of
+-- faults doesn't fall
 pub record HasOrders (numbers : List ℕ) (old new : View) : Type 0 where
   pub size : new.size ≡ old.size
   pub key : new.key ≡ old.key
   pub orders : new.state.orders ≡ orders_after numbers old.state.orders
-  pub ordered : new.ordered ≡ ordered_after numbers old.ordered
+  pub made : List Order
+  pub numbered : numbers_of made ≡ numbers
+  pub ordered : new.ordered ≡ with_orders made old.ordered
   pub later : old.state.faults ≤ new.state.faults
 
 -- the orders of the first of these lines were made, and no others
@@ -80,14 +86,17 @@ HasFirstOrders script old new =
 abbrev pub RoseBy : ℕ → ℕ → ℕ → Type 0
 RoseBy least old new = (old + least ≤ new) ⊎ (2 ^ 64 - 1 ≤ new)
 
--- calls without an order among them, of which at least so many failed; the board is of its size and under its key
-pub record IsSpan (least : ℕ) (old new : View) : Type 0 where
-  pub size : new.size ≡ old.size
-  pub key : new.key ≡ old.key
-  pub orders : new.state.orders ≡ old.state.orders
-  pub ordered : new.ordered ≡ old.ordered
-  pub later : old.state.faults ≤ new.state.faults
-  pub faults : RoseBy least old.state.faults new.state.faults
+-- from a moment of the board to another the count of orders stays, and at least so many calls failed
+pub record IsSpan (least : ℕ) (old new : Moment) : Type 0 where
+  pub orders : new.orders ≡ old.orders
+  pub later : old.faults ≤ new.faults
+  pub faults : RoseBy least old.faults new.faults
+
+-- the order has this number, it is counted, and by it no call failed
+pub record IsOrder (number : ℕ) (order : Order) : Type 0 where
+  pub its_number : order.number ≡ number
+  pub counted : order.after.orders ≡ (order.before.orders + 1) % 2 ^ 64
+  pub steady : order.after.faults ≡ order.before.faults
 
 -- how many turns an event is that lost the storage
 abbrev pub losses_of : Event → ℕ
@@ -113,6 +122,16 @@ pub record FailsAtFirst (old new : View) : Type 0 where
   pub orders : HasOrders [] old new
   pub failed : Rose old.state.faults new.state.faults
 
+-- the last order that was made since the old view has this number, and behind it a call failed
+pub record FailsBehind (number : ℕ) (old new : View) : Type 0 where
+  pub order : Order
+  pub earlier : List Order
+  pub last : new.ordered ≡ order ∷ earlier
+  pub later : old.state.faults ≤ order.before.faults
+  pub made : IsOrder number order
+  pub behind : IsSpan 0 order.after new.state
+  pub failed : Rose order.after.faults new.state.faults
+
 -- the opening at a line that loses the power failed: the orders of the lines before it were made, then its own, and behind that order
 -- a call failed
 pub record FailsAtPower (script : List Line) (old new : View) : Type 0 where
@@ -120,10 +139,8 @@ pub record FailsAtPower (script : List Line) (old new : View) : Type 0 where
   pub pick : ℕ
   pub rest : List Line
   pub split : script ≡ front ++ lines.Power pick ∷ rest
-  pub between : View
-  pub before : HasOrders (orders_of front) old between
-  pub order : OrderRun pick between new
-  pub failed : Rose between.state.faults new.state.faults
+  pub orders : HasOrders (orders_of (front ++ lines.Power pick ∷ [])) old new
+  pub behind : FailsBehind pick old new
 
 -- ---- refusals
 
@@ -167,17 +184,31 @@ pub record BeginsWith (form : Form) (view : View) (hosts : ℕ) (stores : ℕ �
 
 -- each image and counter that a crash of the board may leave opens to the stores of the world, with the change in doubt or without it
 abbrev pub LeavesStores : {A : Type 0} → Form → View → World A → Type 0
-LeavesStores form view world = (c : CrashImage) → IsLeft view.state c → HasStoresOf world (held_of form view.key c)
+LeavesStores form view world = LeavesStoresAt form view.key view.state world
 
-module _ {A : Type 0} (behaviour : Behaviour A) (form : Form) where
-  -- the board along events from a world on: since the last order it was start, and so many turns have lost the storage. Between two
-  -- orders, before the first and behind the last, at least as many of its calls failed as turns lost the storage in them; each order
-  -- is made with its number; and after a loss of power it has the stores of the world, in which what was told is done
-  unfoldable pub GoesAlong : View → ℕ → World A → List WorldEvent → View → Type 0
-  GoesAlong start losses world [] end = IsSpan losses start end
-  GoesAlong start losses world (Happens e ∷ more) end = GoesAlong start (losses + losses_of e.event) (world_step behaviour world e) more end
-  GoesAlong start losses world (Fused calls ∷ more) end =
-      (before after : View) × IsSpan losses start before × OrderRun calls before after × GoesAlong after 0 world more end
-  GoesAlong start losses world (Powered pick told ∷ more) end =
-      (before after : View) × IsSpan losses start before × OrderRun pick before after × LeavesStores form after (after_power behaviour world told)
-      × GoesAlong after 0 (after_power behaviour world told) more end
+module _ {A : Type 0} (behaviour : Behaviour A) (form : Form) (key : Key) where
+  -- the board along events from a world on, with the orders that were made: since this moment, or since the last order, so many turns
+  -- have lost the storage. Between two orders, before the first and behind the last, at least as many of its calls failed as turns lost
+  -- the storage in them; each order has the number that its event has; and what a loss of power leaves to a crash, right behind its
+  -- order, has the stores of the world in which what was told is done
+  unfoldable pub GoesAlong : Moment → ℕ → World A → List WorldEvent → List Order → Moment → Type 0
+  GoesAlong start losses world [] [] end = IsSpan losses start end
+  GoesAlong start losses world [] (order ∷ orders) end = ⊥
+  GoesAlong start losses world (Happens e ∷ more) orders end =
+      GoesAlong start (losses + losses_of e.event) (world_step behaviour world e) more orders end
+  GoesAlong start losses world (Fused calls ∷ more) [] end = ⊥
+  GoesAlong start losses world (Fused calls ∷ more) (order ∷ orders) end =
+      IsSpan losses start order.before × IsOrder calls order × GoesAlong order.after 0 world more orders end
+  GoesAlong start losses world (Powered pick told ∷ more) [] end = ⊥
+  GoesAlong start losses world (Powered pick told ∷ more) (order ∷ orders) end =
+      IsSpan losses start order.before × IsOrder pick order × LeavesStoresAt form key order.after (after_power behaviour world told)
+      × GoesAlong order.after 0 (after_power behaviour world told) more orders end
+
+-- the board goes along with events from a world on, by the orders that were made to it, which are its own: the state before the first
+-- of them is that of the old view or later, and so on to the state of the new one. It is of its size and under its key
+pub record RunsAlong {A : Type 0} (behaviour : Behaviour A) (form : Form) (world : World A) (events : List WorldEvent) (old new : View) : Type 0 where
+  pub size : new.size ≡ old.size
+  pub key : new.key ≡ old.key
+  pub made : List Order
+  pub ordered : new.ordered ≡ with_orders made old.ordered
+  pub along : GoesAlong behaviour form old.key old.state 0 world events made new.state

@@ -20,7 +20,7 @@ use Rattle.tee_core.specs.declared.happened.Event.TheVariants as tee_events
 use Rattle.tee_core.specs.Happenings.{happened_in, is_corrupt_turn, is_lost_turn, is_starved_turn, kind_met}
 use Rattle.tee_core.specs.Powers.{after_power}
 use Rattle.tee_core.specs.World.{World, turn_events, world_step}
-use Rattle.tee_top.specs.Boards.{GoesAlong, LeavesStores}
+use Rattle.tee_top.specs.Boards.{LeavesStores, RunsAlong}
 use Rattle.tee_top.specs.Logs.{AreKnown, Item, OfApp, OfBoard}
 use Rattle.tee_top.specs.Transcript.{Weather, WorldEvent, Fused, Happens, Powered, after_event, after_events, events_of, happens, owner_in_doubt, powers_in, text_of, told_by}
 use Rattle.tee_base.specs.Words.{Text}
@@ -153,7 +153,7 @@ module _ {A : Type 0} (behaviour : Behaviour A) (form : Form) (names : List (Lis
     pub undamaged : HasNoDamage made
     pub powers : new.powers ≡ old.powers + count_powers behaviour made
     pub stands : Stands (after_events behaviour world made)
-    pub board : GoesAlong behaviour form old.view 0 world made new.view
+    pub board : RunsAlong behaviour form world made old.view new.view
     pub written : Appends old.written new.written (text_of behaviour names world made)
     pub by_weather : (weather : Weather) → AgreeWith behaviour weather world made → events weather ≡ made
 
@@ -178,5 +178,5 @@ module _ {A : Type 0} (behaviour : Behaviour A) (form : Form) (names : List (Lis
     pub between : Point
     pub run : IsRunOf (λ weather. events_of behaviour weather world front) world (LeavesStores form new.view) old between
     pub order : OrderRun pick between.view new.view
-    pub failed : Rose between.view.state.faults new.view.state.faults
+    pub failed : Rose order.after.faults new.view.state.faults
     pub written : new.written ≡ between.written

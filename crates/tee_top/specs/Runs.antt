@@ -11,13 +11,12 @@ use Rattle.script.specs.declared.line.Line.{Line}
 use Rattle.script.specs.declared.line.Line.TheVariants as lines
 use Rattle.script.specs.declared.dialect.Dialect.TheVariants.{Whole}
 use Rattle.script.specs.Grammar.{FirstBad, Reads, names_of}
-use Rattle.board.specs.Moment.{View}
+use Rattle.board.specs.Moment.{Order, View}
 use Rattle.epoch.specs.Forms.{Form}
-use Rattle.epoch.specs.Mounts.{OrderRun}
 use Rattle.epoch.specs.declared.answer.OpenAnswer.{OpenAnswer}
 use Rattle.epoch.specs.declared.answer.OpenAnswer.TheVariants as answers
 use Rattle.tee_core.specs.World.{World, world_of}
-use Rattle.tee_top.specs.Boards.{GoesAlong, LeavesStores}
+use Rattle.tee_top.specs.Boards.{GoesAlong, IsOrder, IsSpan, LeavesStores, RunsAlong, with_orders}
 use Rattle.tee_top.specs.BoardLines.{IsBoardLineOrNone, weather_in, whole_text}
 use Rattle.tee_top.specs.Parts.{HasNoDamage, IsTextOfAllBut}
 use Rattle.tee_top.specs.Transcript.{WorldEvent, after_events, events_of, transcript}
@@ -170,7 +169,7 @@ module _ {A : Type 0} (behaviour : Behaviour A) (form : Form) (hosts : List (Hos
     pub appended : Appends before after text
     pub all : text ≡ transcript_by text
     pub undamaged : HasNoDamage (events_by text)
-    pub board : GoesAlong behaviour form old 0 begin (events_by text) new
+    pub board : RunsAlong behaviour form begin (events_by text) old new
     pub left : LeavesStores form new (after_events behaviour begin (events_by text))
 
   -- the first events of the script were made, in the weather that the whole lines of the text that was appended tell, and at most one
@@ -210,8 +209,14 @@ pub record RunsToPower {A : Type 0} (behaviour : Behaviour A) (form : Form) (hos
   pub text : Text
   pub appended : Appends before after text
   pub all : text ≡ transcript_by behaviour form hosts seed stores front text
-  pub between : View
-  pub board : GoesAlong behaviour form old 0 (world_of hosts seed stores) (events_by behaviour form hosts seed stores front text) between
-  pub order : OrderRun pick between new
-  pub failed : Rose between.state.faults new.state.faults
+  pub size : new.size ≡ old.size
+  pub key : new.key ≡ old.key
+  pub made : List Order
+  pub power : Order
+  pub ordered : new.ordered ≡ power ∷ with_orders made old.ordered
+  pub board : GoesAlong behaviour form old.key old.state 0 (world_of hosts seed stores)
+      (events_by behaviour form hosts seed stores front text) made power.before
+  pub order : IsOrder pick power
+  pub behind : IsSpan 0 power.after new.state
+  pub failed : Rose power.after.faults new.state.faults
   pub left : LeavesStores form new (after_events behaviour (world_of hosts seed stores) (events_by behaviour form hosts seed stores front text))

@@ -1,4 +1,4 @@
-use Rattle.std.proofs.Common.{◌≡◌, ◌⊎◌, ℕ, List, [], Some, ⊎_elim, ap, inl, inr, length, refl, subst, sym, ◌∙◌}
+use Rattle.std.proofs.Common.{◌≡◌, ◌⊎◌, List, Some, ⊎_elim, ap, inl, inr, length, refl, subst, sym, ◌∙◌}
 use Rattle.std.specs.List.{AllByRecursion}
 use Rattle.mac_digest.specs.Hash.{digest_of}
 use Rattle.mac_digest.specs.declared.digests.Hash.TheVariants.{Sha256}

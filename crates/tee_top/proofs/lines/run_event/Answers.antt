@@ -14,7 +14,7 @@ use Rattle.tee_top.proofs.Layers.{never_faulty, never_stopped, stop_again}
 use Rattle.tee_top.proofs.Leaves.{stands_leaves}
 use Rattle.tee_top.proofs.Losses.{losses_event}
 use Rattle.tee_top.proofs.Parts.{no_orders}
-use Rattle.tee_top.proofs.Single.{call_told, event_known, event_span, one_stops, one_whole, unordered}
+use Rattle.tee_top.proofs.Single.{call_told, event_known, event_along, one_stops, one_whole, unordered}
 use Rattle.tee_top.proofs.lines.run_event.Goals as goal
 
 -- ---- no turn more may be made
@@ -116,8 +116,8 @@ returns-clause-made g c =
           one_whole behaviour g.V.BoardVolume.form names w e h p.0 p.1 (c.in_ok-happened.ensures.told w p.0 stands p.1) _ _ _ known.within
           (omega (arith, known.room, sides_turns tee.sides.items w (app_of e) p.0 stands.sides_are p.1))
           (c.in_ok-happened.ensures.made.stands w p.0 stands p.1) (c.in_ok-happened.ensures.made.sound w stands) c.in_ok-happened.ensures.kept.boots
-          (event_span g.V.Volume.keeper g.V.BoardVolume.form (volume_of tee) (volume_of then) _ _ (g.met.V.BoardVolume.seen (volume_of tee))
-          (g.met.V.BoardVolume.seen (volume_of then)) e h.kind c.in_ok-happened.ensures.made.counts)
+          (event_along g.V.Volume.keeper g.V.BoardVolume.form (volume_of tee) (volume_of then) _ _ (g.met.V.BoardVolume.seen (volume_of tee))
+          (g.met.V.BoardVolume.seen (volume_of then)) behaviour w e h.kind c.in_ok-happened.ensures.made.counts)
           (c.in_ok-happened.ensures.made.world w stands)
           (subst (λ name. Appends (g.W.Sink.written c.args.sink.now) (g.W.Sink.written c.write_happened-written.new.sink) (happened_lines name h)) known.named c.in_ok-written.ensures.ok);
       stopped = tt;

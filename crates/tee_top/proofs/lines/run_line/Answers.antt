@@ -1,7 +1,6 @@
-use Rattle.std.proofs.Common.{[], refl, subst, arith}
+use Rattle.std.proofs.Common.{refl, subst, arith}
 use Rattle.std.proofs.lemmas.Result.{err_from_is_err_and}
 use Rattle.script.specs.declared.line.Line.{Line}
-use Rattle.script.specs.declared.line.Line.TheVariants as lines
 use Rattle.tee_core.specs.Represents.{app_count}
 use Rattle.tee_core.specs.declared.happened.Event.TheVariants as events
 use Rattle.tee_top.specs.Parts.{step_events}
@@ -60,7 +59,7 @@ returns-in-Fuse g c =
       power = tt;
       orders = order_made c.in-Fuse.calls _ _ order;
       first_orders = tt;
-      losses = losses_none _ _ _ order.faults;
+      losses = losses_none _ _ _ (omega (arith, order.steady, order.later));
       honest = c.fuse.ensures.honest;
       apps = c.fuse.ensures.apps;
       fault = λ is. absurd (never_stopped _ _ is);

@@ -59,7 +59,7 @@ returns-in-Ok g c =
           let many : length w ≡ length names = sym (sides_length tee.sides.items w stands.sides_are) ∙ sym c.requires.names in
           power_whole behaviour g.V.BoardVolume.form names w c.args.pick told (owner_known w told _ _ (length names) is many) _ _ _
           (powers_are tee.sides.items w tee.boots stands.sides_are tee.booted c.requires.some) (owner_is w told _ _ is stands.single) c.in-Ok.ensures.boots c.in-Ok.ensures.order
-          (stands_leaves g.V.Volume.keeper g.V.BoardVolume.form then.sides.items (volume_of then) _ _ (g.met.V.BoardVolume.seen (volume_of then)) after) after written)
+          (c.in-Ok.ensures.left w stands) after written)
           c.write_power.ensures.ok;
       stopped = unless_refused ends _ _
           (λ written w stands.
@@ -75,7 +75,7 @@ returns-in-Ok g c =
       power = no_refusal ends _ served;
       orders = on_ok_known ends _ order;
       first_orders = on_err_known ends _ (all_orders_first (lines.Power c.args.pick ∷ []) _ _ order);
-      losses = on_ok_weaker ends (λ written. losses_power names told _ _ _ _ c.requires.words c.in-Ok.ensures.order.faults written) c.write_power.ensures.ok;
+      losses = on_ok_weaker ends (λ written. losses_power names told _ _ _ _ c.requires.words order.later written) c.write_power.ensures.ok;
       honest = c.in-Ok.ensures.honest;
       apps = c.in-Ok.ensures.apps;
       fault = c.write_power.ensures.fault;

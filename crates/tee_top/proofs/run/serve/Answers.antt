@@ -11,7 +11,7 @@ use Rattle.tee_top.specs.Transcript.{events_of}
 use Rattle.tee_top.proofs.Leaves.{stands_leaves}
 use Rattle.tee_top.proofs.Losses.{losses_both, losses_none}
 use Rattle.tee_top.proofs.Names.{hosts_begin}
-use Rattle.tee_top.proofs.Opened.{begin_leaves, first_orders_none, opening_leaves, orders_opened, refused_behind, run_behind, span_opened}
+use Rattle.tee_top.proofs.Opened.{along_opened, begin_leaves, first_orders_none, opening_leaves, orders_opened, refused_behind, run_behind}
 use Rattle.tee_top.proofs.Parts.{all_orders_first, first_orders_more, orders_both}
 use Rattle.tee_top.proofs.Powers.{fails_behind}
 use Rattle.tee_top.proofs.Refusals.{refused_weaker}
@@ -119,7 +119,7 @@ returns-clause-done g c = λ done honest stores begins.
     (point (boots_of tee) start (g.W.Sink.written c.args.sink.now)) after c.in-Ok-open.ensures.boots
     (λ w is. stands_leaves g.V.Volume.keeper form new.sides.items new.volume left w (g.met.V.BoardVolume.seen new.volume) is)
     (run_behind behaviour form (names_of c.args.hosts.items) (λ weather. events_of behaviour weather world c.args.lines.items) world (λ w. Represents new w) start before after
-    (span_opened _ _ _ c.in-Ok-open.ensures.opened)
+    (along_opened behaviour form world _ _ _ c.in-Ok-open.ensures.opened)
     (subst (λ ns. IsRunOf behaviour form ns (λ weather. events_of behaviour weather world c.args.lines.items) world (λ w. Represents new w) before after) same run)))
 
 pub returns-clause-stopped : goal.returns-clause-stopped
@@ -159,7 +159,7 @@ returns-clause-board_fault g c = λ fault honest stores begins.
     inr (rw c.into_board.ensures
     (power_written behaviour form c.args.hosts.items c.requires.fit c.args.seed stores c.args.lines.items (point (boots_of tee) start (g.W.Sink.written c.args.sink.now)) after
     c.in-Ok-open.ensures.boots
-    (refused_behind behaviour form (names_of c.args.hosts.items) c.args.lines.items world start before after (span_opened _ _ _ c.in-Ok-open.ensures.opened)
+    (refused_behind behaviour form (names_of c.args.hosts.items) c.args.lines.items world start before after (along_opened behaviour form world _ _ _ c.in-Ok-open.ensures.opened)
     (subst (λ ns. IsRefusedIn behaviour form ns c.args.lines.items world before after) same refused.0))))
 
 pub returns-clause-accepted : goal.returns-clause-accepted
