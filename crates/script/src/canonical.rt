@@ -2,7 +2,7 @@
 
 ghost use Rattle.std.specs.Prelude.{◌≡◌, List, ℕ, IfOk};
 ghost use Rattle.app_api.specs.Hosts.{HostsFit};
-ghost use Rattle.script.specs.Canonical.{canonical, client_of, is_none};
+ghost use Rattle.script.specs.Canonical.{behind_spaces, call_words, canonical, client_of, is_none};
 ghost use Rattle.script.specs.Grammar.{Reads};
 ghost use Rattle.script.specs.declared.dialect.Dialect.TheVariants.{Whole};
 
@@ -210,6 +210,15 @@ fn client_of(before: u8, line: &Line) -> u8
         }
         Line::Fuse(_) | Line::Power(_) => before,
     }
+}
+
+/// The canonical words of a call, each behind a space.
+pub fn call_text(alloc: Global, call: &Call) -> Result<Bytes, NoMemory>
+    ensures { IfOk result (λ text. text ≡ behind_spaces (call_words call.now)) }
+{
+    let mut text = Text::new(alloc);
+    text.call(call)?;
+    Ok(text.into_bytes())
 }
 
 /// The text of these lines, a line feed behind each.

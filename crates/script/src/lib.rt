@@ -14,7 +14,7 @@ mod script;
 mod text;
 mod words;
 
-pub use canonical::print;
+pub use canonical::{call_text, print};
 pub use dialect::Dialect;
 pub use generated::workload;
 pub use laws::{fronts_are_read, one_reading, print_reads_back, workloads_are_read};
