@@ -5,11 +5,15 @@ ghost use Rattle.std.specs.Prelude.{◌≡◌, ◌++◌, IfOk, codes};
 ghost use Rattle.std.specs.Fmt.{decimal};
 ghost use Rattle.report.specs.Texts.{happened_text, power_text, reply_text};
 
+mod laws;
 mod line;
+mod log;
 mod summary;
 
 use alone::{Outputs, Power, Reply, Shown, TurnKind};
+pub use laws::calls_have_the_numbers_of_operations;
 pub use line::LineBuffer;
+pub use log::log_lines;
 use std::alloc::Global;
 pub use summary::summary_lines;
 use tee_base::{Bytes, NoMemory};
