@@ -1,3 +1,4 @@
+pub mod OpeningLemmas
 pub mod StepLemmas
 pub mod StorageLemmas
 pub mod StorageSteps

@@ -75,6 +75,11 @@ module _ {V : Type 0} (K : VolumeKeeper V) where
   IsMarked (Opened apps volume) = (app : ℕ) → app < apps → KeepsStore K app volume
   IsMarked (LostBy app faults) = ⊥
 
+  -- the parts of so many applications over a volume that was just opened: each has the store of its region, and no change in doubt
+  pub record AreOpened (apps : ℕ) (volume : V) (parts : List StoragePart) : Type 0 where
+    pub each : length parts ≡ apps
+    pub part : (app : ℕ) → app < apps → part_at parts app ≡ record { store = store_in app (K.held volume); in_doubt = None }
+
   -- the volume keeps just these parts: there are machines that have them, for which it stands. So it is honest, and each thing that a
   -- crash may leave of it has the parts' stores, where the change in doubt may stand in its owner's place
   pub record IsStoredFor (A : Type 0) (parts : List StoragePart) (volume : V) : Type 0 where

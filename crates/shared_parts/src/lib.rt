@@ -4,10 +4,11 @@
 //! it has its place in the log.
 #![tactic(auto)]
 
+mod opening;
 mod recorded;
 mod recording;
 mod storage;
 mod storing;
 
 pub use recorded::{Posted, Recorded, SharedAnswer};
-pub use storage::{Loss, SeenEntry, SeenPart, Storage};
+pub use storage::{Loss, SeenEntry, SeenPart, Storage, Unstored};

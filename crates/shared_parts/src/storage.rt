@@ -7,7 +7,15 @@ use std::alloc::Global;
 use std::marker::{Model, PhantomData};
 use std::snapshot::Snapshot;
 use store_api::Volume;
+use tee_base::NoMemory;
 use turn_cell::Parted;
+
+/// There was no memory for a storage. The volume comes back.
+#[derive(Drop)]
+pub struct Unstored<V> {
+    pub volume: V,
+    pub why: NoMemory,
+}
 
 /// How the storage was lost. Contracts read of it which change is in doubt.
 #[derive(Drop)]
