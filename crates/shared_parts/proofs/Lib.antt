@@ -1,4 +1,7 @@
+pub mod HostedLemmas
 pub mod OpeningLemmas
+pub mod PartLemmas
+pub mod ReplyLemmas
 pub mod StepLemmas
 pub mod StorageLemmas
 pub mod StorageSteps

@@ -1,41 +1,32 @@
 -- A turn of one application over the storage: what is kept of the parts, the volume and the log.
 use Rattle.app_api.specs.Behaviours.{Behaviour}
-use Rattle.std.proofs.Common.{◌≡◌, ◌≢◌, ◌<◌, ◌≤◌, ◌+◌, ◌-◌, ◌^◌, ◌==◌, ◌++◌, ◌||◌, ℕ, zero, suc, Bool, true, false, List, [], ◌∷◌, Option, None, Some, if◌then◌else◌, is_some}
-use Rattle.std.proofs.Common.{length, map, set, get_or, refl, sym, subst, ◌∙◌, ap, inl, inr, ⊎_elim, arith}
-use Rattle.std.specs.Prelude.{◌⊎◌, slice_get}
-use Rattle.std.specs.declared.snapshot.Snapshot.{Snapshot}
+use Rattle.std.proofs.Common.{◌≡◌, ◌≢◌, ◌<◌, ◌≤◌, ◌+◌, ◌==◌, ℕ, zero, suc, Bool, true, false, List, [], ◌∷◌, Option, None, Some, if◌then◌else◌}
+use Rattle.std.proofs.Common.{length, map, set, refl, sym, subst, ◌∙◌, ap, arith}
+use Rattle.std.specs.Prelude.{slice_get}
 use Rattle.std.proofs.lemmas.Bool.{eq-eqb, ne_eqb}
-use Rattle.tee_base.specs.Faults.{Rose}
-use Rattle.store_api.specs.Keeping.{Keeper, Status}
 use Rattle.store_api.specs.Stores.{Store}
-use Rattle.store_api.specs.Volumes.{Condition, Held, RestsAt, VolumeKeeper}
-use Rattle.object_asks.specs.Serving.{IsKind}
+use Rattle.store_api.specs.Volumes.{Held, RestsAt, VolumeKeeper}
 use Rattle.object_dir.proofs.HeldLemmas.{own_store as region_store}
-use Rattle.object_dir.specs.Directories.{dir_keeper}
-use Rattle.object_dir.specs.Regions.{KeepsStore, store_in}
-use Rattle.object_dir.specs.declared.directory.ObjectDir.{ObjectDir}
+use Rattle.object_dir.specs.Regions.{store_in}
 use Rattle.alone.proofs.Storage.{damage_leaves_doubt, turn_leaves_doubt}
 use Rattle.alone.specs.declared.reply.Reply.{Reply}
 use Rattle.alone.specs.declared.turn.TurnKind.{TurnKind}
 use Rattle.alone.specs.declared.turn.TurnKind.TheVariants as kinds
-use Rattle.alone.specs.Logs.{KeptLog, machine_by}
 use Rattle.alone.specs.Machine.{Machine}
 use Rattle.alone.specs.Step.{TurnLost, is_enabled, step}
-use Rattle.app_side.specs.Represents.{Represents, event_of, is_lost, machine_of, over, store_kind}
+use Rattle.app_side.specs.Represents.{Represents, event_of, machine_of, over}
 use Rattle.app_side.specs.declared.side.AppSide.{AppSide}
-use Rattle.tee_core.proofs.SideLemmas.{get_set, get_there, map_set, set_set, set_there, sides_set}
+use Rattle.tee_core.proofs.SideLemmas.{get_set, map_set, set_set, sides_set}
 use Rattle.tee_core.proofs.Stores.{own_at}
-use Rattle.tee_core.proofs.Turning.{after_is, counts_kept, doubt_back, left_stays, may, replies_are, stand_lost, stand_plain, stepped_lost, stepped_plain, stores_after, stores_stay}
+use Rattle.tee_core.proofs.Turning.{after_is, doubt_back, left_stays, may, replies_are, stand_lost, stand_plain, stepped_lost, stepped_plain, stores_after, stores_stay}
 use Rattle.tee_core.specs.Powers.{all_lost}
 use Rattle.tee_core.specs.Represents.{StandFor, none_kept}
 use Rattle.tee_core.specs.Sides.{AreSides}
 use Rattle.tee_core.specs.Turning.{TurnsOver}
 use Rattle.tee_core.specs.World.{World}
-use Rattle.shared_parts.proofs.StepLemmas.{MakesStep, born_few, born_spare, entry_made}
-use Rattle.shared_parts.specs.InStep.{HasPart, IsKeptBy, IsReserved, StoragePart, part_of}
-use Rattle.shared_parts.specs.StorageParts.{AreLosses, IsMarked, IsStorage, IsStoredFor, LostBy, Opened, doubt_by, doubt_left, is_lost_at, loss_after, losses_by, losses_in}
-use Rattle.shared_parts.specs.StorageParts.{no_part, part_at, part_by, parts_by, parts_from, trail_by}
-use Rattle.shared_parts.specs.StorageTurns.{IsPushed, TurnsLogged}
+use Rattle.shared_parts.specs.InStep.{StoragePart, part_of}
+use Rattle.shared_parts.specs.StorageParts.{IsStoredFor, doubt_by, doubt_left}
+use Rattle.shared_parts.specs.StorageParts.{part_by, parts_from}
 use Rattle.shared_parts.specs.declared.storage.Loss.{Loss}
 
 -- a machine in the place of another with the same part

@@ -1,30 +1,27 @@
 -- The value of the storage before a turn and after it.
 use Rattle.app_api.specs.Behaviours.{Behaviour}
-use Rattle.std.proofs.Common.{◌≡◌, ◌≢◌, ◌<◌, ◌≤◌, ◌+◌, ◌-◌, ◌^◌, ◌++◌, ◌||◌, ℕ, zero, suc, Bool, true, false, List, [], ◌∷◌, Option, None, Some, length, map, set, get_or, refl}
+use Rattle.std.proofs.Common.{◌≡◌, ◌≢◌, ◌<◌, ◌≤◌, ◌-◌, ◌^◌, ◌++◌, ℕ, Bool, true, false, List, [], ◌∷◌, Option, None, Some, length, map, set, get_or, refl}
 use Rattle.std.proofs.Common.{sym, subst, ◌∙◌, ap, inl, inr, ⊎_elim, append-nil, arith}
-use Rattle.std.specs.Prelude.{◌⊎◌, slice_get}
+use Rattle.std.specs.Prelude.{slice_get}
 use Rattle.std.specs.declared.snapshot.Snapshot.{Snapshot}
 use Rattle.tee_base.specs.Faults.{Rose}
-use Rattle.tee_base.specs.declared.limits.TheConstants.{MAX_HOSTS}
-use Rattle.store_api.specs.Keeping.{Keeper, Status}
+use Rattle.store_api.specs.Keeping.{Keeper}
 use Rattle.store_api.specs.Volumes.{Condition, Held, RestsAt, VolumeKeeper}
-use Rattle.object_asks.specs.Serving.{IsKind}
 use Rattle.object_dir.specs.Directories.{dir_keeper}
 use Rattle.object_dir.specs.declared.directory.ObjectDir.{ObjectDir}
 use Rattle.alone.specs.declared.reply.Reply.{Reply}
 use Rattle.alone.specs.declared.turn.TurnKind.{TurnKind}
 use Rattle.alone.specs.declared.turn.TurnKind.TheVariants as kinds
-use Rattle.alone.specs.Logs.{Adds, KeptLog, machine_by}
+use Rattle.alone.specs.Logs.{KeptLog, machine_by}
 use Rattle.alone.specs.Machine.{Machine}
 use Rattle.alone.specs.Step.{step}
-use Rattle.app_side.specs.Represents.{Represents, event_of, is_lost, store_kind}
+use Rattle.app_side.specs.Represents.{Represents, event_of, is_lost}
 use Rattle.app_side.specs.declared.side.AppSide.{AppSide}
 use Rattle.tee_core.proofs.SideLemmas.{get_there, map_set, set_there}
 use Rattle.tee_core.proofs.Turning.{counts_kept}
-use Rattle.tee_core.specs.Moments.{KeepsCounts, KeepsFoundation}
 use Rattle.tee_core.specs.Turning.{TurnsOver}
 use Rattle.shared_parts.proofs.StepLemmas.{MakesStep, born_few, born_spare, entry_made}
-use Rattle.shared_parts.proofs.StorageLemmas.{part_here, part_lost, part_plain, parts_length, parts_lost_set, parts_set, stored_lost, stored_plain, turn_may, turn_stands, turn_told}
+use Rattle.shared_parts.proofs.StorageLemmas.{part_here, part_lost, part_plain, parts_lost_set, parts_set, stored_lost, stored_plain, turn_may, turn_stands, turn_told}
 use Rattle.shared_parts.specs.InStep.{HasPart, IsKeptBy, IsReserved, StoragePart, part_of}
 use Rattle.shared_parts.specs.StorageParts.{AreLosses, IsMarked, IsStorage, IsStoredFor, KeepsStorage, LostBy, Opened, StorageEntry, StorageView, first_of, is_lost_at, loss_after}
 use Rattle.shared_parts.specs.StorageParts.{losses_by, losses_in, no_part, part_at, part_by, parts_by, parts_from, trail_by}

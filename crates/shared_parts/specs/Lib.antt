@@ -1,3 +1,4 @@
+pub mod HostedApps
 pub mod InStep
 pub mod StorageParts
 pub mod StorageTurns

@@ -1,6 +1,6 @@
 -- The storage that applications share: the part of each of them, the trail, and what the storage's type keeps of both.
 use Rattle.app_api.specs.Behaviours.{Behaviour}
-use Rattle.std.specs.Prelude.{ℕ, ◌≡◌, ◌<◌, ◌≤◌, ◌+◌, ◌==◌, Bool, true, false, ◌||◌, List, [], ◌∷◌, Option, None, Some, if◌then◌else◌, is_some, length, map, slice_index_or}
+use Rattle.std.specs.Prelude.{ℕ, ◌≡◌, ◌<◌, ◌≤◌, ◌+◌, ◌==◌, Bool, true, false, ◌||◌, List, [], ◌∷◌, Option, None, Some, if◌then◌else◌, length, map, slice_index_or}
 use Rattle.std.specs.declared.snapshot.Snapshot.{Snapshot}
 use Rattle.tee_base.specs.Faults.{Rose}
 use Rattle.tee_base.specs.declared.limits.TheConstants.{MAX_HOSTS}
@@ -9,7 +9,6 @@ use Rattle.store_api.specs.Volumes.{Condition, VolumeKeeper}
 use Rattle.object_dir.specs.Regions.{KeepsStore, store_in}
 use Rattle.alone.specs.declared.turn.TurnKind.{TurnKind}
 use Rattle.alone.specs.declared.turn.TurnKind.TheVariants as kinds
-use Rattle.alone.specs.Machine.{Machine}
 use Rattle.alone.specs.Step.{TurnLost, step}
 use Rattle.app_side.specs.Represents.{machine_of, over}
 use Rattle.app_side.specs.declared.side.AppSide.{AppSide}

@@ -4,11 +4,16 @@
 //! it has its place in the log.
 #![tactic(auto)]
 
+mod hosted;
+mod hosting;
+mod missed;
 mod opening;
 mod recorded;
 mod recording;
 mod storage;
 mod storing;
 
+pub use hosted::{CLIENTS, HostedApp, SeenClient, SeenEvent};
+pub use missed::Missed;
 pub use recorded::{Posted, Recorded, SharedAnswer};
 pub use storage::{Loss, SeenEntry, SeenPart, Storage, Unstored};
