@@ -13,11 +13,12 @@ use Rattle.store_api.specs.declared.leaves.Leaf.{Leaf}
 use Rattle.store_api.specs.Keeping.{Answers}
 use Rattle.store_api.specs.Stores.{Store}
 use Rattle.store_api.specs.Volumes.{Condition, VolumeKeeper, leaf_after}
+use Rattle.region_plan.specs.Entries.{is_inode}
 use Rattle.region_plan.specs.Planning.{IsPlanOf}
 use Rattle.region_plan.specs.Plans.{ChangeMap, ChangesMap, with_leaves}
 use Rattle.region_plan.specs.Reading.{IsBroken, ReadCause, refusal_of}
 use Rattle.region_plan.specs.Regions.{region_of, store_of}
-use Rattle.region_plan.proofs.AgreeLemmas.{region_same}
+use Rattle.region_plan.proofs.AgreeLemmas.{inode_same, region_same}
 use Rattle.region_plan.proofs.RuleLemmas.{region_store}
 use Rattle.region_plan.proofs.SoundLemmas.{and_both}
 use Rattle.object_dir.specs.Changing.{are_there}
@@ -35,6 +36,10 @@ pub record IsLawful {V : Type 0} (K : VolumeKeeper V) : Type 0 where
 -- leaves that agree stand for the same
 alike : (one two : ℕ → List ℕ) → ((i : ℕ) → i < in_use.leaves → one i ≡ two i) → region_of in_use one ≡ region_of in_use two
 alike one two same = region_same in_use two one (record { map = λ i below. same i (let more = laid.more in omega (arith, more, below)); used = λ i below is. same i below }) laid
+
+-- and have the same inodes
+inode_alike : (one two : ℕ → List ℕ) → ((i : ℕ) → i < in_use.leaves → one i ≡ two i) → (i : ℕ) → i < in_use.leaves → is_inode in_use one i ≡ is_inode in_use two i
+inode_alike one two same = inode_same in_use two one (record { map = λ i below. same i (let more = laid.more in omega (arith, more, below)); used = λ i below is. same i below }) laid
 
 -- an answer of a volume that isn't lost
 pub answers_working : {A : Type 0} (result stated : Result A StoreAnswer) (old new : Condition) → ReadCause (refusal_of result) old new
@@ -98,6 +103,9 @@ module _ {V : Type 0} (K : VolumeKeeper V) (laws : IsLawful K) (r : Region V) (h
     stands = after_alike named ∙ plan.stands;
     few = plan.few;
     changed = changes_alike named plan.changed;
+    told = λ i below now unnamed.
+        sym (inode_alike text held agrees i below) ∙ plan.told i below
+        (sym (inode_alike (with_leaves named held) (with_leaves named text) (λ j low. ap (λ (old : List ℕ). leaf_after named j old) (sym (agrees j low))) i below) ∙ now) unnamed;
   }
 
   pub store_found : (store : Store) → region_in r.number (K.held r.volume.now) ≡ Ok store → store_of in_use text ≡ store

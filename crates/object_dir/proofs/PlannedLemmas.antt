@@ -33,6 +33,7 @@ module _ {V : Type 0} (K : VolumeKeeper V) (c : Change) (named : List Leaf) (old
           stands = ap (λ (l : ℕ → List ℕ). region_of in_use l) (sym (there_same named (leaves_of (region_keeper K) number_of old) all)) ∙ made.stands;
           few = omega arith;
           changed = All-nil (λ leaf. ChangesMap in_use (leaves_of (region_keeper K) number_of old) leaf);
+          told = λ i below now unnamed. now;
         };
     sound = plan.sound;
     named = refl;

@@ -9,7 +9,7 @@ ghost use Rattle.region_plan.specs.Reading.{IfGarbled, IsUnread, ReadsOnly, leav
 ghost use Rattle.object_dir.specs.Changing.{ChangesLeaves, are_there, planned_leaves};
 ghost use Rattle.object_dir.specs.Regions.{in_use, number_of, region_keeper};
 
-use crate::region::{IN_USE, Region};
+use crate::region::Region;
 use region_plan::{LeafSource, plan};
 use std::alloc::Global;
 use store_api::{Change, Leaf, Leaves, StoreAnswer, Volume};
@@ -66,7 +66,7 @@ pub(crate) fn plan_change<V: Volume>(
     ensures writes { IfOk result (λ leaves. IfSome leaves
         (λ named. ChangesLeaves V.keeper region.old named)) }
 {
-    let leaves = plan(alloc, region, IN_USE, change)?;
+    let leaves = plan(alloc, region, change)?;
     if are_all_there(region, leaves.as_slice())? {
         return Ok(None);
     }

@@ -14,7 +14,7 @@ use std::process::Abort;
 use std::test::Fail;
 use store_api::{AppStore, Change, MapStore, Volume};
 
-const STEPS: &[Step] = &[
+pub const STEPS: &[Step] = &[
     Step::Delete(b'a'),
     Step::New(b'a', 2500),
     Step::New(b'b', 0),
@@ -62,11 +62,11 @@ pub fn has_same<V: Volume, S: AppStore>(
     requires { region < MAX_HOSTS }
 {
     let mut objects = ObjectDir::of(alloc, volume, region);
-    are_same(alloc, &mut objects, store)
+    are_same(alloc, &mut objects, store, 9)
 }
 
 /// Makes a change in two stores, and says whether they answer alike.
-fn answer_alike<S: AppStore, T: AppStore>(one: &mut S, other: &mut T, change: &Change) -> bool
+pub fn answer_alike<S: AppStore, T: AppStore>(one: &mut S, other: &mut T, change: &Change) -> bool
     requires { IsChange change.now }
 {
     one.apply(change) == other.apply(change)
@@ -90,7 +90,7 @@ fn is_alike<V: Volume, S: AppStore>(
     if !alike {
         return Ok(false);
     }
-    are_same(alloc, &mut objects, store)
+    are_same(alloc, &mut objects, store, 9)
 }
 
 /// The first row where they differ, if there is one.

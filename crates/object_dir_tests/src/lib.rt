@@ -8,6 +8,8 @@ mod damage;
 #[cfg(test)]
 mod losses;
 #[cfg(test)]
+mod many;
+#[cfg(test)]
 mod memory;
 #[cfg(test)]
 mod on_a_board;

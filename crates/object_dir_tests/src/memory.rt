@@ -93,6 +93,13 @@ impl Memory {
     }
 }
 
+/// Writes a leaf of a region, without a commit.
+pub fn write(memory: &mut Memory, region: u8, leaf: Leaf)
+    requires { region < MAX_HOSTS }
+{
+    memory.regions.replace(region, &[leaf]);
+}
+
 impl Volume for Memory {
     ghost keeper = { record {
       tells_reads = false;

@@ -57,14 +57,15 @@ fn is_same_listed(one: &Result<Listed, StoreAnswer>, other: &Result<Listed, Stor
     }
 }
 
-/// Whether both have the same objects.
+/// Whether both have the same objects, and fewer than this many.
 pub fn are_same<S: AppStore, T: AppStore>(
     alloc: Global,
     one: &mut S,
     other: &mut T,
+    most: u32,
 ) -> Result<bool, Fail> {
     let mut last = Bytes::from_slice(alloc, &[])?;
-    for _ in 0..9 {
+    for _ in 0..most {
         let first = one.next_after(Some(last.as_slice()));
         let second = other.next_after(Some(last.as_slice()));
         let alike = is_same_listed(&first, &second);

@@ -36,7 +36,7 @@ fn put(alloc: Global, number: u32) -> Result<Change, NoMemory>
 pub fn make(alloc: Global, memory: &mut Memory, objects: u32) -> Result<(), StoreAnswer> {
     for number in 0..objects {
         let change = put(alloc, number)?;
-        let leaves = plan(alloc, memory, FORM, &change)?;
+        let leaves = plan(alloc, memory, &change)?;
         commit(memory, &leaves);
     }
     Ok(())

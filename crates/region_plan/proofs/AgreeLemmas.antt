@@ -119,7 +119,7 @@ module _ (L : Layout) (leaves others : ℕ → List ℕ) (agree : AgreeInUse L l
   unfolding entry_at
   entry_same i below = ap (λ (n : ℕ). L.entry_of n) (number_same i below)
 
-  inode_same : (i : ℕ) → i < L.leaves → is_inode L others i ≡ is_inode L leaves i
+  pub inode_same : (i : ℕ) → i < L.leaves → is_inode L others i ≡ is_inode L leaves i
   inode_same i below = ap (λ (e : Entry). e.kind == INODE) (entry_same i below)
 
   data_same : (inode index i : ℕ) → i < L.leaves → is_data_at L others inode index i ≡ is_data_at L leaves inode index i

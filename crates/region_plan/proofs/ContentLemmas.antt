@@ -215,10 +215,10 @@ if_ok (Err e) P Q implies is = tt
 pub some_is : {A : Type 0} (r : Option A) (a : A) (P : A → Type 0) → r ≡ Some a → IfSome r (λ a. P a) → P a
 some_is {A = A} r a P is holds = subst (λ (s : Option A). IfSome s (λ a. P a)) is holds
 
-pub if_ok_three : {A : Type 0} (r : Result A StoreAnswer) (P Q R T : A → Type 0) → ((a : A) → P a → Q a → R a → T a) → IfOk r (λ a. P a) → IfOk r (λ a. Q a) → IfOk r (λ a. R a)
-    → IfOk r (λ a. T a)
-if_ok_three (Ok a) P Q R T implies p q u = implies a p q u
-if_ok_three (Err e) P Q R T implies p q u = tt
+pub if_ok_four : {A : Type 0} (r : Result A StoreAnswer) (P Q R S T : A → Type 0) → ((a : A) → P a → Q a → R a → S a → T a) → IfOk r (λ a. P a) → IfOk r (λ a. Q a) → IfOk r (λ a. R a)
+    → IfOk r (λ a. S a) → IfOk r (λ a. T a)
+if_ok_four (Ok a) P Q R S T implies p q u s = implies a p q u s
+if_ok_four (Err e) P Q R S T implies p q u s = tt
 
 pub on_ok : {A : Type 0} (r : Result A StoreAnswer) (P : Type 0) → P → OnOk r P
 on_ok (Ok a) P is = is

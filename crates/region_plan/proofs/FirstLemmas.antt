@@ -1,9 +1,9 @@
 -- Links to the first leaf at each index tell whether the data of an inode is all that it should have.
-use Rattle.std.proofs.Common.{◌≡◌, ℕ, zero, suc, ◌+◌, ◌-◌, ◌<◌, ◌≤◌, Bool, true, false, cond, not, List, [], ◌∷◌, Option, None, Some, find, length, refl, sym, ◌∙◌, ap, subst, arith}
+use Rattle.std.proofs.Common.{◌≡◌, ℕ, zero, suc, ◌+◌, ◌-◌, ◌*◌, ◌/◌, ◌<◌, ◌≤◌, Bool, true, false, cond, not, List, [], ◌∷◌, Option, None, Some, find, length, refl, sym, ◌∙◌, ap, subst, arith}
 use Rattle.std.specs.Prelude.{is_some, ◌&&◌, ◌==◌, nat_lt}
 use Rattle.std.specs.List.{range_with_len, list_all}
 use Rattle.std.proofs.lemmas.Bool.{eqb-true, eqb-false, eq-eqb, ltb-true, ltb-false}
-use Rattle.region_plan.specs.Chains.{is_at, is_first, leaf_from, link_to, links_in}
+use Rattle.region_plan.specs.Chains.{AreBelow, is_at, is_first, leaf_from, link_to, links_in}
 use Rattle.region_plan.specs.Checks.{IfDataInPlace}
 use Rattle.region_plan.specs.Layout.{Layout}
 use Rattle.region_plan.specs.Entries.{entry_at, is_data_of, is_data_at}
@@ -11,6 +11,7 @@ use Rattle.region_plan.specs.Inodes.{length_in}
 use Rattle.region_plan.specs.Places.{IsMapOf, entries_in, is_of}
 use Rattle.region_plan.specs.Regions.{numbers, has_one, has_data, leaf_of, data_leaves}
 use Rattle.region_plan.specs.declared.entry.Entry.{Entry}
+use Rattle.region_plan.proofs.AgreeLemmas.{range_met}
 use Rattle.region_plan.proofs.ChainLemmas.{not_both}
 use Rattle.region_plan.proofs.CheckLemmas.{elsewhere_wrong, index_wrong, past_wrong}
 use Rattle.region_plan.proofs.CompleteLemmas.{complete_has, pigeons}
@@ -49,6 +50,27 @@ link_none (Some k) is = absurd (omega (arith, is))
 link_is : (r : Option ℕ) → (link_to r ≡ 0 → ⊥) → is_some r ≡ true
 link_is None never = absurd (never refl)
 link_is (Some k) never = refl
+
+-- links that are the same lead to the same leaf
+pub link_same : (r s : Option ℕ) → link_to r ≡ link_to s → r ≡ s
+link_same None s is = sym (link_none s (sym is))
+link_same (Some k) s is = sym (link_some s k (sym is))
+
+pub led : (r : Option ℕ) (index : ℕ) (links : List ℕ) (s : Option ℕ) → link_to r ≡ links_in links index → links_in links index ≡ link_to s → r ≡ s
+led r index links s told is = link_same r s (told ∙ is)
+
+-- a place of a content before an end that links reach
+pub inside : (at end count : ℕ) → at < end → end ≤ 1024 * count → at / 1024 < count
+inside at end count low reach = omega (arith, low, reach)
+
+-- a link to a leaf of some
+pub link_below : (entries : ℕ → Entry) (end n x : ℕ) → link_to (leaf_from entries end n x 0) ≤ end
+unfolding leaf_from
+link_below entries end n x = each (find (λ i. is_at n x (entries i)) (range_with_len 0 (end - 0))) refl
+  where
+    each : (r : Option ℕ) → find (λ i. is_at n x (entries i)) (range_with_len 0 (end - 0)) ≡ r → link_to r ≤ end
+    each None is = omega arith
+    each (Some k) is = (let at = range_met (λ i. is_at n x (entries i)) (end - 0) (end - 0) 0 k (omega arith) is in let low = at.0 in omega (arith, low))
 
 module _ (L : Layout) (leaves : ℕ → List ℕ) (map : List Entry) (is : IsMapOf L leaves map) where
   pub first_is : (n x : ℕ) → leaf_from (entries_in map) L.leaves n x 0 ≡ leaf_of L leaves n x
@@ -112,6 +134,25 @@ module _ (L : Layout) (leaves : ℕ → List ℕ) (map : List Entry) (is : IsMap
         found x below few = link_is (leaf_of L leaves n x) (λ none.
             not_both (not (links_in firsts x == 0)) (each_passes (λ link. not (link == 0)) firsts x all (subst (λ (k : ℕ). x < k) (sym long) below))
             (ap not (eq-eqb (links_in firsts x) 0 (link_at x below ∙ none))))
+
+-- links that were found in a map lead to the data leaves of an inode
+pub linked : (L : Layout) (leaves : ℕ → List ℕ) (map : List Entry) (n count : ℕ) (firsts slice : List ℕ) → IsMapOf L leaves map
+    → ((x : ℕ) → x < count → links_in firsts x ≡ link_to (leaf_from (entries_in map) L.leaves n x 0)) → length firsts ≡ count → slice ≡ firsts
+    → (x : ℕ) → x < length slice → links_in slice x ≡ link_to (leaf_of L leaves n x)
+linked L leaves map n count firsts slice is told long same x below =
+    ap (λ (l : List ℕ). links_in l x) same ∙ told x (let size = ap length same in omega (arith, size, long, below)) ∙ ap link_to (first_is L leaves map is n x)
+
+-- and to leaves of the region
+pub linked_below : (L : Layout) (map : List Entry) (n count : ℕ) (firsts slice : List ℕ)
+    → ((x : ℕ) → x < count → links_in firsts x ≡ link_to (leaf_from (entries_in map) L.leaves n x 0)) → length firsts ≡ count → slice ≡ firsts → AreBelow L slice
+linked_below L map n count firsts slice told long same x below =
+    let at = ap (λ (l : List ℕ). links_in l x) same ∙ told x (let size = ap length same in omega (arith, size, long, below)) in
+    let few = link_below (entries_in map) L.leaves n x in
+    omega (arith, at, few)
+
+-- so many links as a content takes leaves reach its end
+pub reach : (end count long : ℕ) → count ≡ data_leaves end → long ≡ count → end ≤ 1024 * long
+reach end count long is size = omega (arith, is, size)
 
 -- more indexes than there are leaves can't all be there
 module _ (L : Layout) (leaves : ℕ → List ℕ) where

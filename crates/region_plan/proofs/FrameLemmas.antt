@@ -77,6 +77,17 @@ module _ (L : Layout) (laid : IsLaid L) where
       pub bytes : (i : ℕ) → i < L.leaves → is_used L leaves i ≡ true → is_own leaves i ≡ false → after i ≡ leaves i
       pub formed : (i : ℕ) → i < L.leaves → is_own after i ≡ true → is_well_formed L after i ≡ true
 
+  -- an inode beside the object was one before
+  pub inode_before : (leaves after : ℕ → List ℕ) (n : ℕ) → Framed n leaves after → (i : ℕ) → i < L.leaves → i ≢ n → is_inode L after i ≡ true → is_inode L leaves i ≡ true
+  inode_before leaves after n frame i below other now =
+      let kind : (entry_at L after i).kind ≡ 1 = eqb-true (entry_at L after i).kind 1 now in
+      let no_data : is_data_of L after n i ≡ false = ap (λ (k : ℕ). (k == DATA) && ((entry_at L after i).inode == n)) kind in
+      let not_own : is_own n after i ≡ false = ap (λ b. (b && is_inode L after i) || is_data_of L after n i) (ne_eqb i n other) ∙ no_data in
+      elim (is_own n leaves i) as (λ b. is_own n leaves i ≡ b → is_inode L leaves i ≡ true) [
+        | true ↦ λ own. absurd (let f : false ≡ true = sym (ap (λ (e : Entry). e.kind == INODE) (frame.freed i below own not_own)) ∙ now in cc)
+        | false ↦ λ own. sym (ap (λ (e : Entry). e.kind == INODE) (frame.others i below own not_own)) ∙ now
+      ] refl
+
   module _ (leaves after : ℕ → List ℕ) (n : ℕ) (sound : Sound L leaves) (frame : Framed n leaves after) where
     abbrev E : ℕ → Entry
     E i = entry_at L leaves i

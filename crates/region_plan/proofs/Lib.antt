@@ -1,3 +1,4 @@
+pub mod AfterLemmas
 pub mod AgreeLemmas
 pub mod BlankLemmas
 pub mod BlockLemmas
@@ -23,6 +24,7 @@ pub mod LimitLemmas
 pub mod MadeLemmas
 pub mod MapLemmas
 pub mod MoveLemmas
+pub mod MovedLemmas
 pub mod NamedLemmas
 pub mod NextLemmas
 pub mod OrderLemmas
@@ -40,3 +42,4 @@ pub mod StoreLemmas
 pub mod TableLemmas
 pub mod Totals
 pub mod WholeLemmas
+pub mod WrittenLemmas

@@ -50,18 +50,20 @@ module _ (L : Layout) (laid : IsLaid L) where
   pub record TakenSoFar (old map : List Entry) (leaf : ℕ) (block : List ℕ) (place : ℕ) : Type 0 where
     pub taken : (k : ℕ) → k < place → L.entry_of (number_in block k) ≡ entries_in map (256 * leaf + k)
     pub before : (i : ℕ) → i < 256 * leaf → entries_in map i ≡ entries_in old i
+    pub behind : (i : ℕ) → 256 * leaf + 256 ≤ i → entries_in map i ≡ entries_in old i
     pub inodes : ((i : ℕ) → (entries_in old i).inode < L.leaves) → (i : ℕ) → (entries_in map i).inode < L.leaves
 
   pub none_taken : (map : List Entry) (leaf : ℕ) (block : List ℕ) → TakenSoFar map map leaf block 0
   none_taken map leaf block = record {
     taken = λ k less. absurd (omega (arith, less));
     before = λ i less. refl;
+    behind = λ i more. refl;
     inodes = λ all. all;
   }
 
-  pub more_taken : (old map next : List Entry) (leaf : ℕ) (block : List ℕ) (place : ℕ) (e : Entry) → TakenSoFar old map leaf block place → e ≡ L.entry_of (number_in block place)
+  pub more_taken : (old map next : List Entry) (leaf : ℕ) (block : List ℕ) (place : ℕ) (e : Entry) → place < 256 → TakenSoFar old map leaf block place → e ≡ L.entry_of (number_in block place)
       → ((i : ℕ) → entries_in next i ≡ with_entry (256 * leaf + place) e (entries_in map) i) → TakenSoFar old next leaf block (place + 1)
-  more_taken old map next leaf block place e so_far is set = record {
+  more_taken old map next leaf block place e inside so_far is set = record {
     taken = λ k less. elim (k == place) as (λ b. (k == place) ≡ b → L.entry_of (number_in block k) ≡ entries_in next (256 * leaf + k)) [
       | true ↦ λ t. (let same = eqb-true k place t in
           ap (λ (j : ℕ). L.entry_of (number_in block j)) same ∙ sym is ∙ sym (set_here map next (256 * leaf + place) e set) ∙ ap (λ (j : ℕ). entries_in next (256 * leaf + j)) (sym same))
@@ -69,6 +71,7 @@ module _ (L : Layout) (laid : IsLaid L) where
           so_far.taken k (omega (arith, less, other)) ∙ sym (set_beside map next (256 * leaf + place) e (256 * leaf + k) set (λ same. omega (arith, same, other))))
     ] refl;
     before = λ i less. set_beside map next (256 * leaf + place) e i set (λ same. omega (arith, same, less)) ∙ so_far.before i less;
+    behind = λ i more. set_beside map next (256 * leaf + place) e i set (λ same. omega (arith, same, more, inside)) ∙ so_far.behind i more;
     inodes = λ all i. elim (i == 256 * leaf + place) as (λ b. (i == 256 * leaf + place) ≡ b → (entries_in next i).inode < L.leaves) [
       | true ↦ λ t. subst (λ (x : Entry). x.inode < L.leaves) (sym (ap (λ (j : ℕ). entries_in next j) (eqb-true i (256 * leaf + place) t)
           ∙ set_here map next (256 * leaf + place) e set ∙ is)) (laid.inode (number_in block place))

@@ -12,7 +12,7 @@ use Rattle.region_plan.specs.Edits.{IsEditedLeaf}
 use Rattle.region_plan.specs.Entries.{entry_at, is_inode, is_data_of}
 use Rattle.region_plan.specs.Inodes.{identifier_in, length_in, IsHead}
 use Rattle.region_plan.specs.Places.{IsMapOf, entries_in, free_entry, is_of, is_free, free_before, place_leaves, with_entry}
-use Rattle.region_plan.specs.Plans.{with_leaves, IsEdited, IsMapLeaf, kept_leaves}
+use Rattle.region_plan.specs.Plans.{NamesInodes, with_leaves, IsEdited, IsMapLeaf, kept_leaves}
 use Rattle.region_plan.specs.Regions.{data_leaves, object_of, content_of, region_of, store_of}
 use Rattle.region_plan.specs.declared.edit.Edit.{Edit}
 use Rattle.region_plan.specs.declared.entry.Entry.{Entry}
@@ -28,7 +28,7 @@ use Rattle.region_plan.proofs.LimitLemmas.{used_later}
 use Rattle.region_plan.proofs.MapLemmas.{map_of, map_of_is, mapped_by, mapped_leaf}
 use Rattle.region_plan.proofs.NamedLemmas.{after_above}
 use Rattle.region_plan.proofs.PlaceLemmas.{IsBase, IsWith, IsTaken, IsFreed, IsKept, ways}
-use Rattle.region_plan.proofs.PlanLemmas.{sound, same_store, inode_entry, content_held, inserted_here, inserted_beside, removed_here, removed_beside}
+use Rattle.region_plan.proofs.PlanLemmas.{names_framed, sound, same_store, inode_entry, content_held, inserted_here, inserted_beside, removed_here, removed_beside}
 use Rattle.region_plan.proofs.SoundLemmas.{Sound, SoundInode, and_both, index_short}
 use Rattle.region_plan.proofs.StoreLemmas.{length_content}
 use Rattle.region_plan.proofs.FormLemmas.{IsLaid}
@@ -199,6 +199,9 @@ module _ (L : Layout) (laid : IsLaid L) where
             ∙ inserted_beside store to q (object_of L leaves m) (λ same. not_now moved_now (same ∙ sym moved_head.is_id)) ∙ ap (λ (s : Store). object_at s q) (same_store L laid leaves store stands);
       }
 
+      pub moved_names : NamesInodes L leaves named
+      moved_names = names_framed L laid leaves named m moved_frame (λ unnamed. found.is)
+
       pub moved_stands : region_of L moved ≡ Ok moved_store
       moved_stands = changed_region L laid leaves moved m found.high whole moved_frame (λ is. moved_own) (λ is. moved_apart) moved_store moved_to
 
@@ -296,6 +299,9 @@ module _ (L : Layout) (laid : IsLaid L) where
         gone = λ is other. ap (object_at (finite.remove store id)) found.named ∙ removed_here store id;
         beside = λ q not_now not_then. removed_beside store id q (λ same. not_then found.is (same ∙ sym found.named)) ∙ ap (λ (s : Store). object_at s q) (same_store L laid leaves store stands);
       }
+
+      pub left_names : NamesInodes L leaves named
+      left_names = names_framed L laid leaves named d left_frame (λ unnamed. found.is)
 
       pub left_stands : region_of L left ≡ Ok (finite.remove store id)
       left_stands = changed_region L laid leaves left d found.high whole left_frame (λ is. absurd (let f : true ≡ false = sym is ∙ no_inode in cc))

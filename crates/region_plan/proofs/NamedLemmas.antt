@@ -1,14 +1,14 @@
 -- Leaves that are named one after another.
 use Rattle.std.proofs.Common.{◌≡◌, ◌≤◌, ◌<◌, ◌+◌, ◌++◌, ◌∙◌, ℕ, suc, true, false, List, [], ◌∷◌, length, length-append, nat_lt, refl, sym, ap, subst, arith}
-use Rattle.std.specs.Prelude.{◌==◌, ◌&&◌, ◌||◌, not, if◌then◌else◌, Option}
+use Rattle.std.specs.Prelude.{◌==◌, ◌&&◌, ◌||◌, not, if◌then◌else◌, Option, None, is_some}
 use Rattle.region_plan.specs.Edits.{is_left}
 use Rattle.region_plan.specs.Places.{entries_in, is_of}
 use Rattle.std.specs.List.{range_with_len, count_by}
-use Rattle.std.proofs.lemmas.Bool.{eqb-true, eqb-false, ne_eqb, ltb-true, lt-ltb, and_from}
+use Rattle.std.proofs.lemmas.Bool.{eq-eqb, eqb-true, eqb-false, ne_eqb, ltb-true, lt-ltb, and_from, true≢false}
 use Rattle.store_api.specs.declared.leaves.Leaf.{Leaf}
 use Rattle.store_api.specs.Ascending.{is_above_all}
 use Rattle.store_api.specs.Volumes.{leaf_after}
-use Rattle.region_plan.specs.Plans.{IsChangedLeaf, IsMapLeaf, with_leaves, leaves_to_change, may_change}
+use Rattle.region_plan.specs.Plans.{IsChangedLeaf, IsMapLeaf, is_named, with_leaves, leaves_to_change, may_change}
 use Rattle.region_plan.specs.declared.edit.Edit.{Edit}
 use Rattle.region_plan.proofs.SoundLemmas.{and_both}
 use Rattle.region_plan.proofs.Totals.{counted, mark, rank_more, total_each}
@@ -49,6 +49,36 @@ above_pushed (leaf ∷ named) last m above is =
     let parts = and_both (nat_lt leaf.number m) (is_above_all named m) above in
     let less : leaf.number < m = ltb-true leaf.number m parts.0 in
     and_from (nat_lt leaf.number (m + 1)) (is_above_all (named ++ last ∷ []) (m + 1)) (lt-ltb leaf.number (m + 1) (omega (arith, less))) (above_pushed named last m parts.1 is)
+
+-- a leaf that was named, and one that is named now
+pub named_before : (named : List Leaf) (last : Leaf) (i : ℕ) → is_named named i ≡ true → is_named (named ++ last ∷ []) i ≡ true
+named_before [] last i is = absurd (true≢false (sym is))
+named_before (leaf ∷ named) last i is =
+    elim (leaf.number == i) as (λ b. (b || is_named named i) ≡ true → (b || is_named (named ++ last ∷ []) i) ≡ true) [
+      | true ↦ λ e. refl
+      | false ↦ λ e. named_before named last i e
+    ] is
+
+pub named_here : (named : List Leaf) (last : Leaf) (i : ℕ) → last.number ≡ i → is_named (named ++ last ∷ []) i ≡ true
+named_here [] last i is = ap (λ b. b || false) (eq-eqb last.number i is)
+named_here (leaf ∷ named) last i is =
+    elim (leaf.number == i) as (λ b. (b || is_named (named ++ last ∷ []) i) ≡ true) [ true ↦ refl | false ↦ named_here named last i is ]
+
+-- a leaf that is named once it is met
+pub own_named : (named : List Leaf) (last : Leaf) (inode n : ℕ) → last.number ≡ n → (inode < n → is_named named inode ≡ true) → inode < n + 1 → is_named (named ++ last ∷ []) inode ≡ true
+own_named named last inode n is before low =
+    elim (inode == n) as (λ b. (inode == n) ≡ b → is_named (named ++ last ∷ []) inode ≡ true) [
+      | true ↦ λ e. named_here named last inode (is ∙ sym (eqb-true inode n e))
+      | false ↦ λ e. (let other = eqb-false inode n e in named_before named last inode (before (omega (arith, low, other))))
+    ] refl
+
+pub own_unnamed : (named : List Leaf) (inode n : ℕ) (head new : Option (List ℕ)) → is_some head ≡ true → new ≡ None → (n ≡ inode → new ≡ head)
+    → (inode < n → is_named named inode ≡ true) → inode < n + 1 → is_named named inode ≡ true
+own_unnamed named inode n head new some' none is before low =
+    elim (n == inode) as (λ b. (n == inode) ≡ b → is_named named inode ≡ true) [
+      | true ↦ λ e. absurd (true≢false (sym some' ∙ ap is_some (sym (is (eqb-true n inode e)) ∙ none)))
+      | false ↦ λ e. (let other = eqb-false n inode e in before (omega (arith, low, other)))
+    ] refl
 
 module _ (P : ℕ → List ℕ → Type 0) (leaves : ℕ → List ℕ) (named : List Leaf) (m : ℕ) (above : is_above_all named m ≡ true) (done : (i : ℕ) → i < m → P i (with_leaves named leaves i)) where
   -- the next leaf is named

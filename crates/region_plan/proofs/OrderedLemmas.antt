@@ -119,12 +119,12 @@ module _ (inodes : List Inode) (order : List ℕ) (is : IsOrder inodes order) wh
   next_is last n place r next low here lent = lent_is inodes place r lent ∙ ap (slice_get inodes) here ∙ sym (next_some last n next low)
 
 -- identifiers with one more inode behind the others
-id_before : (inodes : List Inode) (x : Inode) (k : ℕ) → k < length inodes → id_at (inodes ++ x ∷ []) k ≡ id_at inodes k
+pub id_before : (inodes : List Inode) (x : Inode) (k : ℕ) → k < length inodes → id_at (inodes ++ x ∷ []) k ≡ id_at inodes k
 id_before [] x k low = absurd (omega (arith, low))
 id_before (y ∷ ys) x zero low = refl
 id_before (y ∷ ys) x (suc k) low = id_before ys x k (omega (arith, low))
 
-id_last : (inodes : List Inode) (x : Inode) → id_at (inodes ++ x ∷ []) (length inodes) ≡ x.id
+pub id_last : (inodes : List Inode) (x : Inode) → id_at (inodes ++ x ∷ []) (length inodes) ≡ x.id
 id_last [] x = refl
 id_last (y ∷ ys) x = id_last ys x
 

@@ -5,7 +5,7 @@ use Rattle.std.specs.Ordering.{eq_by_cmp, is_eq}
 use Rattle.std.specs.Cmp.{tied_itself}
 use Rattle.std.specs.Cmp.Lexicographic.{nat_list_cmp_total}
 use Rattle.std.specs.FinMap as finite
-use Rattle.std.proofs.lemmas.Bool.{eqb-true, eq-eqb, ne_eqb, le-ltb, leb-true}
+use Rattle.std.proofs.lemmas.Bool.{eqb-true, eqb-false, eq-eqb, ne_eqb, le-ltb, leb-true, true≢false}
 use Rattle.store_api.specs.declared.answer.StoreAnswer.{StoreAnswer}
 use Rattle.store_api.specs.declared.answer.StoreAnswer.TheVariants as answers
 use Rattle.store_api.specs.declared.change.Change.{Change}
@@ -20,7 +20,7 @@ use Rattle.region_plan.specs.Entries.{entry_at, form_of, is_zero, is_inode, is_d
 use Rattle.region_plan.specs.Inodes.{identifier_in, IsHead}
 use Rattle.region_plan.specs.Places.{IsMapOf, entries_in, is_free, with_entry}
 use Rattle.region_plan.specs.Planning.{IsPlanOf, most_leaves}
-use Rattle.region_plan.specs.Plans.{ChangeMap, bytes_or, with_leaves, leaves_to_change, IsEdited, IsPlanned, IsUnreadOrFull}
+use Rattle.region_plan.specs.Plans.{ChangeMap, NamesInodes, bytes_or, is_named, with_leaves, leaves_to_change, IsEdited, IsPlanned, IsUnreadOrFull}
 use Rattle.region_plan.specs.Regions.{data_leaves, object_of, content_of, region_of, store_of}
 use Rattle.region_plan.specs.declared.edit.Edit.{Edit}
 use Rattle.region_plan.specs.declared.entry.Entry.{Entry}
@@ -31,7 +31,7 @@ use Rattle.region_plan.proofs.ChangedLemmas.{IsChanged, changed_region}
 use Rattle.region_plan.proofs.EditLemmas.{in_map, base_of, each_of, edited_framed, edited_inode, edited_object, inode_now, head_now, each_now}
 use Rattle.region_plan.proofs.FewLemmas.{changing_few}
 use Rattle.region_plan.proofs.FoundLemmas.{IsFound}
-use Rattle.region_plan.proofs.FrameLemmas.{Framed}
+use Rattle.region_plan.proofs.FrameLemmas.{Framed, inode_before}
 use Rattle.region_plan.proofs.HeldLemmas.{held_at}
 use Rattle.region_plan.proofs.LimitLemmas.{within_limits}
 use Rattle.region_plan.proofs.PlaceLemmas.{IsBase, IsWith}
@@ -87,6 +87,15 @@ inode_form i e b kind formed =
 entry_parts : (e : Entry) (kind inode index : ℕ) → e.kind ≡ kind → e.inode ≡ inode → e.index ≡ index → e ≡ record { kind = kind; inode = inode; index = index }
 entry_parts e kind inode index a b c = λ i. record { kind = a i; inode = b i; index = c i }
 
+-- where what changed is of one inode, which is named or was one before, no other inode is new
+pub names_framed : (L : Layout) (laid : IsLaid L) (leaves : ℕ → List ℕ) (named : List Leaf) (n : ℕ) → Framed L laid n leaves (with_leaves named leaves)
+    → (is_named named n ≡ false → is_inode L leaves n ≡ true) → NamesInodes L leaves named
+names_framed L laid leaves named n frame own i below now unnamed =
+    elim (i == n) as (λ b. (i == n) ≡ b → is_inode L leaves i ≡ true) [
+      | true ↦ λ e. (let same = eqb-true i n e in subst (λ (k : ℕ). is_inode L leaves k ≡ true) (sym same) (own (subst (λ (k : ℕ). is_named named k ≡ false) same unnamed)))
+      | false ↦ λ e. inode_before L laid leaves (with_leaves named leaves) n frame i below (eqb-false i n e) now
+    ] refl
+
 module _ (L : Layout) (laid : IsLaid L) where
   module _ (leaves : ℕ → List ℕ) (store : Store) (stands : region_of L leaves ≡ Ok store) where
     pub sound : Sound L leaves
@@ -97,13 +106,14 @@ module _ (L : Layout) (laid : IsLaid L) where
 
     -- leaves after which the region stands for the stated store are a plan
     pub plan_stands : (c : Change) (after : Store) (named : List Leaf) → after_change store c ≡ Ok after → region_of L (with_leaves named leaves) ≡ Ok after →
-        length named ≤ most_leaves L store c → ChangeMap L leaves named → IsPlanOf L leaves store c named
-    plan_stands c after named is now few changed' = record {
+        length named ≤ most_leaves L store c → ChangeMap L leaves named → NamesInodes L leaves named → IsPlanOf L leaves store c named
+    plan_stands c after named is now few changed' told' = record {
       after = after;
       changes = change_fits L laid store after c is (within_limits L laid (with_leaves named leaves) after now).paid;
       stands = now;
       few = few;
       changed = changed';
+      told = told';
     }
 
     form_at : (i : ℕ) → L.map_leaves ≤ i → is_well_formed L leaves i ≡ true
@@ -171,6 +181,9 @@ module _ (L : Layout) (laid : IsLaid L) where
 
       pub edit_stands : region_of L after ≡ Ok (finite.insert store id new_object)
       edit_stands = changed_region L laid leaves after n found.high sound frame (λ is. own) (λ is. named_apart) (finite.insert store id new_object) changed_to
+
+      pub edit_names : NamesInodes L leaves named
+      edit_names = names_framed L laid leaves named n frame (λ unnamed. found.is)
 
       pub edit_few : length named ≤ leaves_to_change L map n edit L.leaves → (least last : ℕ) → ((x : ℕ) → x < data_leaves edit.length → is_left edit x ≡ false → (least ≤ x) × (x < last)) →
           length named ≤ L.map_leaves + 1 + (last - least)
@@ -272,6 +285,9 @@ module _ (L : Layout) (laid : IsLaid L) where
 
       pub new_stands : region_of L grown ≡ Ok (finite.insert store id grown_object)
       new_stands = changed_region L laid leaves grown n high sound new_frame (λ is. new_own) (λ is. new_apart) (finite.insert store id grown_object) new_to
+
+      pub new_names : NamesInodes L leaves named
+      new_names = names_framed L laid leaves named n new_frame (λ unnamed. absurd (true≢false (sym (planned.own refl free_at.0) ∙ unnamed)))
 
       pub new_few : (least last : ℕ) → ((x : ℕ) → x < data_leaves edit.length → is_left edit x ≡ false → (least ≤ x) × (x < last)) → length named ≤ L.map_leaves + 1 + (last - least)
       new_few least last reach =

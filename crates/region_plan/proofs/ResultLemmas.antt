@@ -15,7 +15,7 @@ use Rattle.store_api.specs.declared.object.Object.{Object}
 use Rattle.store_api.specs.Stores.{Store, object_at, has, after_change, resize, with_object, write_at}
 use Rattle.region_plan.specs.Layout.{Layout, quota_of}
 use Rattle.region_plan.specs.Edits.{content_after, is_left}
-use Rattle.region_plan.specs.Entries.{entry_at, is_data_of}
+use Rattle.region_plan.specs.Entries.{entry_at, is_data_of, is_inode}
 use Rattle.region_plan.specs.Inodes.{IsHead}
 use Rattle.region_plan.specs.Places.{IsMapOf, entries_in, free_entry, place_leaves, with_entry}
 use Rattle.region_plan.specs.Planning.{IsPlanOf, Plans, content_length, most_leaves}
@@ -32,8 +32,8 @@ use Rattle.region_plan.proofs.BlockLemmas.{IsLeafOf, after_long}
 use Rattle.region_plan.proofs.EditedLemmas.{after_resized, after_whole, after_written, reach_written, reach_resized}
 use Rattle.region_plan.proofs.FoundLemmas.{IsFound, found_inode, object_found, object_absent, head_as}
 use Rattle.region_plan.proofs.LimitLemmas.{costs_leaves}
-use Rattle.region_plan.proofs.MoveLemmas.{object_told, object_with, moved_stands, left_stands}
-use Rattle.region_plan.proofs.PlanLemmas.{sound, same_store, plan_stands, edit_stands, edit_few, new_stands, new_few, content_held, inserted_same, unread_plans}
+use Rattle.region_plan.proofs.MoveLemmas.{object_told, object_with, moved_names, moved_stands, left_names, left_stands}
+use Rattle.region_plan.proofs.PlanLemmas.{sound, same_store, plan_stands, edit_names, edit_stands, edit_few, new_names, new_stands, new_few, content_held, inserted_same, unread_plans}
 use Rattle.region_plan.proofs.SoundLemmas.{Sound}
 use Rattle.region_plan.proofs.SpaceLemmas.{change_full, edit_full, new_full, free_same}
 use Rattle.region_plan.proofs.StoreLemmas.{length_content, found_id}
@@ -103,6 +103,8 @@ module _ (L : Layout) (laid : IsLaid L) where
             (shorter (edit_few L laid leaves store stands id inode found map first plan.planned.map named plan.head edit plan.planned.edited inode.kind inode.usage inode.secret content long had
             few_kept was
             head plan.planned.few least last reach) most) plan.planned.changed
+            (edit_names L laid leaves store stands id inode found map first plan.planned.map named plan.head edit plan.planned.edited inode.kind inode.usage inode.secret content long had few_kept was
+            head)
 
         full : LacksSpace L map edit → change_in L store c ≡ Err answers.NoSpace
         full lacks =
@@ -161,6 +163,7 @@ module _ (L : Layout) (laid : IsLaid L) where
           (shorter (λ_le (ap length is)) (sym (ap (λ b. if b then 0 else L.map_leaves + 1 + (data_leaves (at + length bytes) - min at (content_length (object_at store id)) / 1024))
           (eq-eqb (length bytes) 0 none))))
           (subst (λ (l : List Leaf). ChangeMap L leaves l) (sym is) (All-nil (λ leaf. ChangesMap L leaves leaf)))
+          (λ i below now unnamed. subst (λ (l : List Leaf). is_inode L (with_leaves l leaves) i ≡ true) is now)
         where
           λ_le : {a b : ℕ} → a ≡ b → a ≤ b
           λ_le e = omega (arith, e)
@@ -200,6 +203,7 @@ module _ (L : Layout) (laid : IsLaid L) where
             (shorter (edit_few L laid leaves store stands id inode found map first planned.map named (Some block) edit planned.edited kind usage secret [] (sym kept) had put_kept put_was head
             planned.few 0 (data_leaves edit.length) (λ x inside isnt. (omega arith, inside)))
             (let e : L.map_leaves + 1 + (data_leaves edit.length - 0) ≡ L.map_leaves + 1 + data_leaves (length content') = omega (arith, long) in e)) planned.changed
+            (edit_names L laid leaves store stands id inode found map first planned.map named (Some block) edit planned.edited kind usage secret [] (sym kept) had put_kept put_was head)
         put_over_plans (Err e) planned space refused =
             unread_plans e (change_in L store (Put id kind usage secret content' true)) refused
             (λ same. change_full L laid store (finite.insert store id put_object) (Put id kind usage secret content' true) put_stated
@@ -227,6 +231,7 @@ module _ (L : Layout) (laid : IsLaid L) where
           (subst (λ (l : List Leaf). ChangeMap L leaves l) (sym named_is) (All-push (λ leaf. ChangesMap L leaves leaf) [] (record { number = inode.number; bytes = block })
           (All-nil (λ leaf. ChangesMap L leaves leaf))
           (λ low. absurd (let later = found.low in omega (arith, later, low)))))
+          (moved_names L laid leaves store stands id to inode found block named named_is some' head absent)
 
       pub rename_exists : (to : List ℕ) (other : Inode) → inode_with to (inodes_of L leaves) ≡ Some other → change_in L store (Rename id to) ≡ Err answers.Exists
       rename_exists to other there =
@@ -243,6 +248,7 @@ module _ (L : Layout) (laid : IsLaid L) where
       delete_plans map mid after named first each above placed_is set few changed' =
           plan_stands L laid leaves store stands (Delete id) (finite.remove store id) named (ap (λ o. with_object o (λ x. Ok (finite.remove store id))) held)
           (left_stands L laid leaves store stands id inode found map mid after first named each above placed_is set) few changed'
+          (left_names L laid leaves store stands id inode found map mid after first named each above placed_is set)
 
     -- where none has
     absent_at : (id : List ℕ) → inode_with id (inodes_of L leaves) ≡ None → object_at store id ≡ None
@@ -289,6 +295,8 @@ module _ (L : Layout) (laid : IsLaid L) where
           head.id.now head.secret.now plan.says had kept (absent_at head.id.now none)
           0 (data_leaves edit.length) (λ x inside isnt. (omega arith, inside)))
           (let e : L.map_leaves + 1 + (data_leaves edit.length - 0) ≡ L.map_leaves + 1 + data_leaves (length content') = omega (arith, long) in e)) plan.planned.changed
+          (new_names L laid leaves store stands plan.leaf map plan.base plan.block first plan.new.high plan.new.free plan.new.set named edit plan.planned head.kind head.usage head.id.now
+          head.secret.now plan.says had kept (absent_at head.id.now none))
       put_new_plans (Err e) plan space refused =
           unread_plans e (change_in L store (Put head.id.now head.kind head.usage head.secret.now content' overwrite)) refused
           (λ same. change_full L laid store (finite.insert store head.id.now new_object) (Put head.id.now head.kind head.usage head.secret.now content' overwrite) new_stated

@@ -249,7 +249,7 @@ module _ (L : Layout) (leaves : ℕ → List ℕ) where
 
   -- and back
   module _ (laid : IsLaid L) (sound : Sound) where
-    doubled_not : (n : ℕ) → n < L.leaves → is_inode L leaves n ≡ true → is_doubled L leaves n ≡ false
+    pub doubled_not : (n : ℕ) → n < L.leaves → is_inode L leaves n ≡ true → is_doubled L leaves n ≡ false
     unfolding is_doubled
     doubled_not n below inode = none_range (λ o. is_inode L leaves o && bytes_eq (identifier_in (leaves o)) (identifier_in (leaves n))) n 0
         (λ o low high. each o (omega arith) (is_inode L leaves o) (bytes_eq (identifier_in (leaves o)) (identifier_in (leaves n))) refl refl)

@@ -1,20 +1,18 @@
 -- The inodes of a region, one after another.
-use Rattle.std.proofs.Common.{◌≡◌, ℕ, zero, suc, ◌+◌, ◌-◌, ◌<◌, Bool, true, false, cond, List, [], ◌∷◌, ◌++◌, map, length, get_or, drop, Option, None, Some, find, refl, sym, ◌∙◌, ap, arith}
-use Rattle.std.specs.Prelude.{not, ◌&&◌, ◌||◌, ◌==◌}
+use Rattle.std.proofs.Common.{◌≡◌, ℕ, zero, suc, ◌+◌, ◌<◌, Bool, true, false, cond, List, [], ◌∷◌, ◌++◌, map, length, get_or, drop, Some, find, refl, sym, ◌∙◌, ap, arith}
+use Rattle.std.specs.Prelude.{not, ◌||◌, ◌==◌}
 use Rattle.std.specs.List.{range_with_len, filter, list_any}
-use Rattle.std.specs.Option.{option_or}
 use Rattle.std.proofs.Math.Seq.{drop-cons}
 use Rattle.std.proofs.lemmas.Bool.{eq-eqb, ne_eqb}
 use Rattle.std.proofs.lemmas.List.{map-append}
 use Rattle.std.proofs.lemmas.List.Elements.{filter-append}
-use Rattle.std.proofs.lemmas.List.Folds.{find-append}
 use Rattle.region_plan.specs.Layout.{Layout}
-use Rattle.region_plan.specs.Entries.{entry_at, is_inode, is_data_at}
+use Rattle.region_plan.specs.Entries.{entry_at, is_inode}
 use Rattle.region_plan.specs.Inodes.{inode_of}
-use Rattle.region_plan.specs.Regions.{numbers, inode_numbers, inodes_of, leaf_of}
+use Rattle.region_plan.specs.Regions.{numbers, inode_numbers, inodes_of}
 use Rattle.region_plan.specs.Tables.{inodes_below}
 use Rattle.region_plan.specs.declared.entry.Entry.{Entry}
-use Rattle.region_plan.specs.declared.entry.TheConstants.{DATA, INODE}
+use Rattle.region_plan.specs.declared.entry.TheConstants.{INODE}
 use Rattle.region_plan.specs.declared.inode.Inode.{Inode}
 use Rattle.region_plan.proofs.FormLemmas.{IsLaid}
 
@@ -53,46 +51,6 @@ module _ (L : Layout) (leaves : ℕ → List ℕ) where
   unfolding inodes_below inodes_of inode_numbers numbers
   inodes_all n is = ap (λ (k : ℕ). map (λ i. inode_of i (leaves i)) (filter (λ i. is_inode L leaves i) (range_with_len 0 k))) is
 
-  -- the leaf below a number that holds the data of an inode at an index
-  unfoldable pub leaf_below : ℕ → ℕ → ℕ → Option ℕ
-  leaf_below inode index n = find (λ i. is_data_at L leaves inode index i) (range_with_len 0 n)
-
-  pub leaf_none : (inode index : ℕ) → leaf_below inode index 0 ≡ None
-  unfolding leaf_below
-  leaf_none inode index = refl
-
-  one_more : (p : ℕ → Bool) (n : ℕ) → find p (range_with_len 0 n) ≡ None → find p (range_with_len 0 (suc n)) ≡ cond (p n) (Some n) None
-  one_more p n none =
-      ap (find p) (range_more 0 n ∙ ap (λ (k : ℕ). range_with_len 0 n ++ k ∷ []) (let e : 0 + n ≡ n = omega arith in e))
-      ∙ find-append p (range_with_len 0 n) (n ∷ []) ∙ ap (λ r. option_or r (cond (p n) (Some n) None)) none
-
-  pub leaf_stays : (inode index n m : ℕ) → m ≡ n + 1 → leaf_below inode index n ≡ None → is_data_at L leaves inode index n ≡ false → leaf_below inode index m ≡ None
-  unfolding leaf_below
-  leaf_stays inode index n m is_m none isnt =
-      let e : m ≡ suc n = omega arith in
-      ap (λ (k : ℕ). find (λ i. is_data_at L leaves inode index i) (range_with_len 0 k)) e
-      ∙ one_more (λ i. is_data_at L leaves inode index i) n none ∙ ap (λ b. cond b (Some n) None) isnt
-
-  beyond : (p : ℕ → Bool) (a n : ℕ) (k : ℕ) → find p (range_with_len 0 n) ≡ Some k → find p (range_with_len 0 (n + a)) ≡ Some k
-  beyond p zero n k is = ap (λ (m : ℕ). find p (range_with_len 0 m)) (let e : n + 0 ≡ n = omega arith in e) ∙ is
-  beyond p (suc a) n k is =
-      let e : n + suc a ≡ suc (n + a) = omega arith in
-      ap (λ (m : ℕ). find p (range_with_len 0 m)) e
-      ∙ ap (find p) (range_more 0 (n + a)) ∙ find-append p (range_with_len 0 (n + a)) ((0 + (n + a)) ∷ [])
-      ∙ ap (λ r. option_or r (find p ((0 + (n + a)) ∷ []))) (beyond p a n k is)
-
-  pub leaf_found : (inode index n : ℕ) → n < L.leaves → leaf_below inode index n ≡ None → is_data_at L leaves inode index n ≡ true → leaf_of L leaves inode index ≡ Some n
-  unfolding leaf_below leaf_of numbers
-  leaf_found inode index n below none is =
-      let e : suc n + (L.leaves - suc n) ≡ L.leaves = omega arith in
-      ap (λ (m : ℕ). find (λ i. is_data_at L leaves inode index i) (range_with_len 0 m)) (sym e)
-      ∙ beyond (λ i. is_data_at L leaves inode index i) (L.leaves - suc n) (suc n) n
-      (one_more (λ i. is_data_at L leaves inode index i) n none ∙ ap (λ b. cond b (Some n) None) is)
-
-  pub leaf_all : (inode index n : ℕ) → n ≡ L.leaves → leaf_below inode index n ≡ leaf_of L leaves inode index
-  unfolding leaf_below leaf_of numbers
-  leaf_all inode index n is = ap (λ (m : ℕ). find (λ i. is_data_at L leaves inode index i) (range_with_len 0 m)) is
-
 -- a look-up from a place on
 pub find_here : {X : Type 0} (p : X → Bool) (xs : List X) (i : ℕ) (x : X) → i < length xs → x ≡ get_or xs i x → find p (drop i xs) ≡ cond (p x) (Some x) (find p (drop (suc i) xs))
 find_here p xs i x below is = ap (find p) (drop-cons xs i x below) ∙ ap (λ y. cond (p y) (Some y) (find p (drop (suc i) xs))) (sym is)
@@ -120,11 +78,6 @@ any_on p xs i j x is_j below is rest fails =
     ap (λ (k : ℕ). list_any p (drop k xs)) e ∙ sym (ap (λ b. b || list_any p (drop (suc i) xs)) fails) ∙ sym (any_here p xs i x below is) ∙ rest
 
 module _ (L : Layout) (laid : IsLaid L) where
-  -- what the code tests of an entry
-  pub data_is : (leaves : ℕ → List ℕ) (inode index n : ℕ) (e : Entry) (r b : Bool) → e ≡ entry_at L leaves n →
-      r ≡ (((e.kind == DATA) && (e.inode == inode)) && (e.index == index)) → r ≡ b → is_data_at L leaves inode index n ≡ b
-  data_is leaves inode index n e r b is told result = ap (λ (x : Entry). ((x.kind == DATA) && (x.inode == inode)) && (x.index == index)) (sym is) ∙ sym told ∙ result
-
   -- one more inode was read
   pub inodes_pushed : (leaves mid : ℕ → List ℕ) (n m : ℕ) (e : Entry) (old new : List Inode) (inode : Inode) → mid ≡ leaves → m ≡ n + 1 → e ≡ entry_at L leaves n →
       e.kind ≡ 1 → old ≡ inodes_below L leaves n

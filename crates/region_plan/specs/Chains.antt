@@ -1,6 +1,7 @@
 -- The data leaves of each inode, one after another from the last one down.
-use Rattle.std.specs.Prelude.{ℕ, zero, suc, ◌≡◌, ◌+◌, ◌-◌, ◌<◌, ◌==◌, nat_lt, Bool, true, ◌&&◌, List, Option, None, Some, slice_index_or, length, if◌then◌else◌}
+use Rattle.std.specs.Prelude.{ℕ, zero, suc, ◌≡◌, ◌+◌, ◌-◌, ◌<◌, ◌≤◌, ◌==◌, nat_lt, Bool, true, ◌&&◌, List, Option, None, Some, slice_index_or, length, if◌then◌else◌}
 use Rattle.std.specs.List.{range_with_len, find}
+use Rattle.region_plan.specs.Layout.{Layout}
 use Rattle.region_plan.specs.Places.{is_of}
 use Rattle.region_plan.specs.declared.entry.Entry.{Entry}
 
@@ -34,3 +35,7 @@ leaf_from entries end inode index from = find (λ i. is_at inode index (entries 
 -- a link to a leaf with this entry is the one at its index in a list
 abbrev pub is_first : List ℕ → Entry → ℕ → Bool
 is_first firsts e link = nat_lt e.index (length firsts) && (links_in firsts e.index == link)
+
+-- links of a list lead to leaves of a region
+abbrev pub AreBelow : Layout → List ℕ → Type 0
+AreBelow L links = (index : ℕ) → index < length links → links_in links index ≤ L.leaves

@@ -1,5 +1,5 @@
 -- Data that is where it should be.
-use Rattle.std.specs.Prelude.{ℕ, ◌≡◌, ◌<◌, true, List, Some}
+use Rattle.std.specs.Prelude.{ℕ, ◌≡◌, ◌<◌, true, Some}
 use Rattle.region_plan.specs.Layout.{Layout}
 use Rattle.region_plan.specs.Entries.{entry_at, is_data_of}
 use Rattle.region_plan.specs.Regions.{leaf_of}

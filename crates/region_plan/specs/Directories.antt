@@ -1,5 +1,5 @@
 -- What the map and the inode leaves of a region say, as one value.
-use Rattle.std.specs.Prelude.{ℕ, ◌≡◌, ◌<◌, true, List, Result, IfOk, IsTrue}
+use Rattle.std.specs.Prelude.{ℕ, ◌≡◌, ◌≤◌, ◌<◌, true, length, Result, IfOk, IsTrue}
 use Rattle.std.specs.List.{All}
 use Rattle.store_api.specs.declared.answer.StoreAnswer.{StoreAnswer}
 use Rattle.store_api.specs.Keeping.{Answers}
@@ -19,6 +19,7 @@ use Rattle.tee_base.specs.Words.{RegionLeaves}
 pub record IsBounded (d : Directory) : Type 0 where
   pub inodes : All (IsWithin (layout d.form)) d.inodes
   pub map : AreWritable (layout d.form) d.map
+  pub few : length d.inodes ≤ (layout d.form).leaves
 
 -- a directory says what the map and the inodes of these leaves say, which keep the rules
 pub record IsDirectoryOf (leaves : RegionLeaves) (d : Directory) : Type 0 where

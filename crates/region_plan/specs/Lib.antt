@@ -16,3 +16,4 @@ pub mod Places
 pub mod Quotas
 pub mod Regions
 pub mod Tables
+pub mod Written

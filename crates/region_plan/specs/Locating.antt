@@ -1,5 +1,5 @@
 -- Where an object is found.
-use Rattle.std.specs.Prelude.{ℕ, ◌≡◌, ◌<◌, List, None, Some, Result, Ok, Err, IsTrue}
+use Rattle.std.specs.Prelude.{ℕ, ◌≡◌, ◌<◌, None, Some, Result, Ok, Err, IsTrue}
 use Rattle.store_api.specs.declared.answer.StoreAnswer.{StoreAnswer}
 use Rattle.store_api.specs.declared.answer.StoreAnswer.TheVariants.{NotFound, Exists, NoSpace}
 use Rattle.store_api.specs.Stores.{Store, object_at}

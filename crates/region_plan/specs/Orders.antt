@@ -1,5 +1,5 @@
 -- The inodes of a region in the order of their identifiers.
-use Rattle.std.specs.Prelude.{ℕ, ◌≡◌, ◌<◌, ◌≤◌, true, false, List, [], map, Option, length, slice_index_or}
+use Rattle.std.specs.Prelude.{ℕ, ◌≡◌, ◌+◌, ◌-◌, ◌<◌, ◌≤◌, ◌==◌, nat_lt, nat_le, ◌&&◌, if◌then◌else◌, true, false, List, [], map, Option, length, slice_index_or}
 use Rattle.std.specs.declared.cmp.Ordering.TheVariants.{Less}
 use Rattle.std.specs.Ordering.{nat_cmp}
 use Rattle.std.specs.Cmp.Lexicographic.{slice_cmp}
@@ -10,6 +10,10 @@ use Rattle.tee_base.specs.Words.{Identifier}
 -- the identifier of the inode at a place of a list
 abbrev pub id_at : List Inode → ℕ → List ℕ
 id_at inodes place = slice_index_or (map (λ inode. inode.id) inodes) place []
+
+-- the leaf of the inode at a place of a list
+abbrev pub leaf_at : List Inode → ℕ → ℕ
+leaf_at inodes place = slice_index_or (map (λ inode. inode.number) inodes) place 0
 
 -- the place at a number of an order
 abbrev pub place_at : List ℕ → ℕ → ℕ
@@ -44,3 +48,11 @@ pub record WouldStandAt (inodes : List Inode) (order id : List ℕ) (n : ℕ) : 
 pub record IsNext (inodes : List Inode) (order : List ℕ) (last : Option (List ℕ)) (n : ℕ) : Type 0 where
   pub before : (m : ℕ) → m < n → m < length order → is_after last (ordered_id inodes order m) ≡ false
   pub behind : (m : ℕ) → n ≤ m → m < length order → is_after last (ordered_id inodes order m) ≡ true
+
+-- the place of an inode where the last one is moved in at another place
+abbrev pub place_in : ℕ → ℕ → ℕ → ℕ
+place_in last to place = if place == last then to else if nat_le to place && nat_lt place last then place + 1 else place
+
+-- the place of an inode where one is moved out, to be the last
+abbrev pub place_out : ℕ → ℕ → ℕ → ℕ
+place_out from last place = if place == from then last else if nat_lt from place && nat_le place last then place - 1 else place

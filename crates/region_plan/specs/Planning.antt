@@ -12,11 +12,12 @@ use Rattle.store_api.specs.Stores.{Store, object_at}
 use Rattle.store_api.specs.Volumes.{VolumeKeeper}
 use Rattle.region_plan.specs.Directories.{IsDirectoryOf}
 use Rattle.region_plan.specs.Layout.{Layout, layout}
-use Rattle.region_plan.specs.Plans.{ChangeMap, with_leaves}
+use Rattle.region_plan.specs.Plans.{ChangeMap, NamesInodes, with_leaves}
 use Rattle.region_plan.specs.Quotas.{change_in}
 use Rattle.region_plan.specs.Reading.{ReadsOnly, IfAnswered, IfGarbled, IsBroken, IsSound, refusal_of, leaves_of}
 use Rattle.region_plan.specs.Regions.{data_leaves, region_of}
 use Rattle.region_plan.specs.declared.directory.Directory.{Directory}
+use Rattle.region_plan.specs.declared.form.Form.TheVariants.{Two}
 use Rattle.tee_base.specs.Words.{Identifier, RegionLeaves}
 
 -- how long a content is, if there is one
@@ -43,17 +44,19 @@ pub record IsPlanOf (L : Layout) (leaves : RegionLeaves) (store : Store) (c : Ch
   pub stands : region_of L (with_leaves named leaves) ≡ Ok after
   pub few : length named ≤ most_leaves L store c
   pub changed : ChangeMap L leaves named
+  pub told : NamesInodes L leaves named
 
 -- a plan of a change, or the change's own refusal; what keeps it from an answer may come instead
 abbrev pub Plans : Layout → RegionLeaves → Store → Change → Result (List Leaf) StoreAnswer → Type 0
 Plans L leaves store c (Ok named) = IsPlanOf L leaves store c named
 Plans L leaves store c (Err refusal) = Answers {A = Store} (Err refusal) (change_in L store c)
 
--- a call that plans a change by a directory, where that is of the leaves as they are found, and changes nothing itself
+-- a call that plans a change by a directory of a region of the second form, where that is of the leaves as they are found, and changes
+-- nothing itself
 pub record PlansFrom {S : Type 0} (K : VolumeKeeper S) (region : S → ℕ) (d : Directory) (c : Change) (result : Result (List Leaf) StoreAnswer) (old new : S) : Type 0 where
-  pub plans : IsTrue K.tells_reads → IsDirectoryOf (leaves_of K region old) d → (store : Store) → region_of (layout d.form) (leaves_of K region old) ≡ Ok store
-      → Plans (layout d.form) (leaves_of K region old) store c result
-  pub named : IfOk result (λ named. IsTrue (is_above_all named (layout d.form).leaves))
+  pub plans : IsTrue K.tells_reads → IsDirectoryOf (leaves_of K region old) d → (store : Store) → region_of (layout Two) (leaves_of K region old) ≡ Ok store
+      → Plans (layout Two) (leaves_of K region old) store c result
+  pub named : IfOk result (λ named. IsTrue (is_above_all named (layout Two).leaves))
   pub garbled : IfGarbled (refusal_of result) (λ leaf. ⊥)
   pub reads : ReadsOnly K region (refusal_of result) old new
 

@@ -1,12 +1,12 @@
 -- Leaves of a region after a change.
-use Rattle.std.specs.Prelude.{ℕ, ◌≡◌, ◌≢◌, ◌+◌, ◌*◌, ◌<◌, ◌≤◌, ◌⊎◌, ◌==◌, nat_lt, min, Bool, true, false, not, ◌&&◌, ◌||◌, List, Option, None, Some, length}
-use Rattle.std.specs.List.{All, range_with_len, count_by}
+use Rattle.std.specs.Prelude.{ℕ, ◌≡◌, ◌≢◌, ◌+◌, ◌*◌, ◌<◌, ◌≤◌, ◌⊎◌, ◌==◌, nat_lt, min, Bool, true, false, not, ◌&&◌, ◌||◌, List, Option, None, Some, is_some, length}
+use Rattle.std.specs.List.{All, list_any, range_with_len, count_by}
 use Rattle.store_api.specs.declared.answer.StoreAnswer.{StoreAnswer}
 use Rattle.store_api.specs.declared.answer.StoreAnswer.TheVariants.{NotFound, Exists, Lost, Failed, Corrupt, Garbled}
 use Rattle.store_api.specs.declared.leaves.Leaf.{Leaf}
 use Rattle.store_api.specs.Volumes.{leaf_after}
 use Rattle.region_plan.specs.Edits.{IsEditedLeaf, is_left}
-use Rattle.region_plan.specs.Entries.{number_in}
+use Rattle.region_plan.specs.Entries.{is_inode, number_in}
 use Rattle.region_plan.specs.Inodes.{inode_of, is_inode_leaf, IsHead}
 use Rattle.region_plan.specs.Layout.{Layout, quota_of}
 use Rattle.region_plan.specs.Places.{entries_in, is_free, is_of, free_before, place_leaves, with_entry}
@@ -45,6 +45,10 @@ IsDecided (Some (Corrupt tags)) = ⊥
 IsDecided (Some (Garbled leaf)) = ⊥
 IsDecided _ = Unit {0}
 
+-- a leaf is among those that are named
+abbrev pub is_named : List Leaf → ℕ → Bool
+is_named named number = list_any (λ leaf. leaf.number == number) named
+
 -- two entries are the same
 abbrev pub same_entry : Entry → Entry → Bool
 same_entry e f = (e.kind == f.kind) && ((e.inode == f.inode) && (e.index == f.index))
@@ -57,6 +61,10 @@ module _ (L : Layout) where
   -- leaves of the map are named only where they change
   abbrev pub ChangeMap : RegionLeaves → List Leaf → Type 0
   ChangeMap leaves named = All (λ leaf. ChangesMap leaves leaf) named
+
+  -- each inode after leaves were written is among them, or was one before
+  abbrev pub NamesInodes : RegionLeaves → List Leaf → Type 0
+  NamesInodes leaves named = (i : ℕ) → i < L.leaves → is_inode L (with_leaves named leaves) i ≡ true → is_named named i ≡ false → is_inode L leaves i ≡ true
 
   -- the bytes of a map leaf have the entries of a map
   abbrev pub IsMapLeaf : List Entry → ℕ → List ℕ → Type 0
@@ -92,6 +100,8 @@ module _ (L : Layout) where
     pub edited : IsEdited leaves (with_leaves named leaves) base map inode edit.had head edit
     pub few : length named ≤ leaves_to_change map inode edit L.leaves
     pub changed : ChangeMap leaves named
+    -- the inode's leaf is among them where it gets new bytes
+    pub own : is_some head ≡ true → L.map_leaves ≤ inode → is_named named inode ≡ true
 
   -- there are too few free leaves for an edit
   abbrev pub LacksSpace : List Entry → Edit → Type 0

@@ -1,5 +1,5 @@
 -- A change of a store as a region keeps it, by the quota of the region's layout.
-use Rattle.std.specs.Prelude.{ℕ, ◌≤◌, nat_le, List, Some, Result, Ok, Err, if◌then◌else◌}
+use Rattle.std.specs.Prelude.{ℕ, ◌≤◌, nat_le, Some, Result, Ok, Err, if◌then◌else◌}
 use Rattle.store_api.specs.declared.answer.StoreAnswer.{StoreAnswer}
 use Rattle.store_api.specs.declared.answer.StoreAnswer.TheVariants.{NoSpace}
 use Rattle.store_api.specs.declared.change.Change.{Change}

@@ -10,8 +10,8 @@ use Rattle.store_api.specs.declared.object.Facts.{Facts}
 use Rattle.region_plan.specs.Layout.{Layout}
 use Rattle.region_plan.specs.Entries.{is_inode}
 use Rattle.region_plan.specs.Inodes.{length_in, inode_of}
-use Rattle.region_plan.specs.Places.{IsMapOf}
-use Rattle.region_plan.specs.declared.entry.Entry.{Entry}
+use Rattle.region_plan.specs.Chains.{link_to, links_in}
+use Rattle.region_plan.specs.Regions.{leaf_of}
 use Rattle.region_plan.specs.declared.inode.Inode.{Inode}
 use Rattle.tee_base.specs.Words.{Identifier, RegionLeaves}
 
@@ -43,8 +43,8 @@ inode_facts inode = record { kind = inode.kind; usage = inode.usage; secret = le
 unfoldable pub inodes_below : Layout → RegionLeaves → ℕ → List Inode
 inodes_below L leaves n = map (λ i. inode_of i (leaves i)) (filter (λ i. is_inode L leaves i) (range_with_len 0 n))
 
--- a leaf is an inode with a content of this length, where this is the map
-pub record IsInode (L : Layout) (leaves : RegionLeaves) (map : List Entry) (number length' : ℕ) : Type 0 where
-  pub first : IsMapOf L leaves map
+-- a leaf is an inode with a content of this length, where these are links to the leaves of its data
+pub record IsInode (L : Layout) (leaves : RegionLeaves) (links : List ℕ) (number length' : ℕ) : Type 0 where
+  pub first : (index : ℕ) → index < length links → links_in links index ≡ link_to (leaf_of L leaves number index)
   pub inode : is_inode L leaves number ≡ true
   pub long : length' ≡ length_in (leaves number)

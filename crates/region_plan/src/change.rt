@@ -5,6 +5,7 @@ ghost use Rattle.store_api.specs.Limits.{IsChange};
 ghost use Rattle.region_plan.specs.Directories.{IsBounded};
 ghost use Rattle.region_plan.specs.Layout.{layout};
 ghost use Rattle.region_plan.specs.Planning.{PlansChange, PlansFrom};
+ghost use Rattle.region_plan.specs.declared.form.Form.TheVariants.{Two};
 
 use crate::directory::Directory;
 use crate::form::Form;
@@ -23,13 +24,13 @@ impl Directory {
         from: &mut L,
         change: &Change,
     ) -> Result<Leaves, StoreAnswer>
-        requires fits { (layout self.now.form).leaves ≤ L.keeper.leaves }
+        requires form { self.now.form ≡ Two }
+        requires fits { (layout Two).leaves ≤ L.keeper.leaves }
         requires works { (L.keeper.condition from.old).lost ≡ false }
         requires bounded { IsBounded self.now }
         requires change { IsChange change.now }
         ensures { PlansFrom L.keeper L.region self.now change.now result from.old from.new }
     {
-        let form = self.form;
         let map = &self.map;
         let inodes = &self.inodes;
         match change {
@@ -48,34 +49,34 @@ impl Directory {
                     secret: secret.as_slice(),
                 };
                 let content = content.as_slice();
-                plan_put(alloc, from, form, map, inodes, head, content, *overwrite)
+                plan_put(alloc, from, map, inodes, head, content, *overwrite)
             }
-            Change::Delete { id } => plan_delete(alloc, form, map, inodes, id.as_slice()),
+            Change::Delete { id } => plan_delete(alloc, map, inodes, id.as_slice()),
             Change::Rename { id, to } => {
-                plan_rename(alloc, form, inodes, id.as_slice(), to.as_slice())
+                plan_rename(alloc, inodes, id.as_slice(), to.as_slice())
             }
             Change::Write { id, at, bytes } => {
                 let bytes = bytes.as_slice();
-                plan_write(alloc, from, form, map, inodes, id.as_slice(), *at, bytes)
+                plan_write(alloc, from, map, inodes, id.as_slice(), *at, bytes)
             }
             Change::Truncate { id, length } => {
-                plan_truncate(alloc, from, form, map, inodes, id.as_slice(), *length)
+                plan_truncate(alloc, from, map, inodes, id.as_slice(), *length)
             }
         }
     }
 }
 
-/// The leaves of a change, in ascending order, after which the region stands for the changed store. It writes nothing.
+/// The leaves of a change of a region of the second form, in ascending order, after which the region stands for the changed
+/// store. It writes nothing.
 pub fn plan<L: LeafSource>(
     alloc: Global,
     from: &mut L,
-    form: Form,
     change: &Change,
 ) -> Result<Leaves, StoreAnswer>
-    requires fits { (layout form).leaves ≤ L.keeper.leaves }
+    requires fits { (layout Two).leaves ≤ L.keeper.leaves }
     requires change { IsChange change.now }
-    ensures { PlansChange L.keeper L.region (layout form) change.now result from.old from.new }
+    ensures { PlansChange L.keeper L.region (layout Two) change.now result from.old from.new }
 {
-    let directory = Directory::read(alloc, from, form)?;
+    let directory = Directory::read(alloc, from, Form::Two)?;
     directory.plan(alloc, from, change)
 }

@@ -5,19 +5,20 @@ ghost use Rattle.std.specs.List.{range_with_len};
 ghost use Rattle.store_api.specs.Limits.{IsIdentifier, IsPart};
 ghost use Rattle.store_api.specs.Stores.{read_at};
 ghost use Rattle.tee_base.specs.declared.limits.TheConstants.{BLOCK_BYTES, MAX_ASK_BYTES};
+ghost use Rattle.region_plan.specs.Chains.{AreBelow, link_to, links_in};
 ghost use Rattle.region_plan.specs.Layout.{layout};
 ghost use Rattle.region_plan.specs.Directories.{IsBounded, IsDirectoryOf, ReadsFrom};
 ghost use Rattle.region_plan.specs.Entries.{is_inode};
 ghost use Rattle.region_plan.specs.Inodes.{length_in};
 ghost use Rattle.region_plan.specs.Parts.{are_zero};
-ghost use Rattle.region_plan.specs.Places.{IsMapOf};
 ghost use Rattle.region_plan.specs.Reading.{IfGarbled, IsReadData, IsReadPart, IsUnread, ReadsOnly, ReadsRegion, leaves_of, refusal_of};
-ghost use Rattle.region_plan.specs.Regions.{breaks, byte_at, leaf_of};
+ghost use Rattle.region_plan.specs.Regions.{breaks, byte_at};
 ghost use Rattle.region_plan.specs.Tables.{IsInode};
 
 use crate::bytes::all_zero;
+use crate::chain::{chains_of, first_links};
 use crate::directory::Directory;
-use crate::entry::{DATA, Entry, Map, entry_in};
+use crate::edit::blocks;
 use crate::form::Form;
 use crate::source::{LeafSource, read};
 use crate::table::find;
@@ -26,25 +27,16 @@ use store_api::StoreAnswer;
 use tee_base::Bytes;
 use tee_base::limits::BLOCK_BYTES;
 
-/// Whether a leaf is the data of an inode at an index.
-fn is_data_at(entry: Entry, inode: u16, index: u32) -> bool
-    ensures { result ≡ ((entry.kind == DATA) && (entry.inode == inode) && (entry.index == index)) }
+/// The leaf that a link at an index leads to.
+fn linked_leaf(links: &[u16], index: u32) -> Option<u16>
+    ensures { link_to result ≡ links_in links.now index }
 {
-    entry.kind == DATA && entry.inode == u32::from(inode) && entry.index == index
-}
-
-/// The leaf that holds the data of an inode at an index.
-pub(crate) fn data_leaf(form: Form, map: &Map, inode: u16, index: u32) -> Option<u16>
-    ensures leaf { (leaves : ℕ → List ℕ) → IsMapOf (layout form) leaves map.now
-        → result ≡ leaf_of (layout form) leaves inode index }
-    ensures below { IfSome result (λ leaf. leaf < (layout form).leaves) }
-{
-    for leaf in 0..form.leaves() {
-        if is_data_at(entry_in(map, leaf), inode, index) {
-            return Some(leaf as u16);
-        }
+    let index = index as usize;
+    if index >= links.len() {
+        return None;
     }
-    None
+    let link = links[index];
+    if link == 0 { None } else { Some(link - 1) }
 }
 
 /// Whether a leaf has zeros behind so many bytes.
@@ -59,7 +51,7 @@ fn is_zero_behind(block: &[u8; BLOCK_BYTES], used: usize) -> bool
 fn read_part<L: LeafSource>(
     from: &mut L,
     form: Form,
-    map: &Map,
+    links: &[u16],
     inode: u16,
     length: u32,
     at: u32,
@@ -69,28 +61,30 @@ fn read_part<L: LeafSource>(
     requires fits { (layout form).leaves ≤ L.keeper.leaves }
     requires works { (L.keeper.condition from.old).lost ≡ false }
     requires inode { inode < (layout form).leaves }
+    requires links { AreBelow (layout form) links.now }
     requires some { at < end }
     requires inside { end ≤ length }
     requires leaf { end ≤ 1024 * (at / 1024) + 1024 }
+    requires reach { end ≤ 1024 * length_of links.now }
     ensures bytes { IsTrue L.keeper.tells_reads
-        → IsInode (layout form) (leaves_of L.keeper L.region from.old) map.now inode length
+        → IsInode (layout form) (leaves_of L.keeper L.region from.old) links.now inode length
         → OnOk result (bytes.new.items ≡ bytes.old.items
         ++ map_of (λ n. byte_at (layout form) (leaves_of L.keeper L.region from.old) inode n)
         (range_with_len at (end - at))) }
     ensures count { OnOk result (vec_len bytes.new ≡ vec_len bytes.old + (end - at)) }
     ensures found { IsTrue L.keeper.tells_reads
-        → IsInode (layout form) (leaves_of L.keeper L.region from.old) map.now inode length
+        → IsInode (layout form) (leaves_of L.keeper L.region from.old) links.now inode length
         → OnOk result (IsReadData L.keeper L.region (layout form) inode at end from.old) }
     ensures few { IfGarbled (refusal_of result) (λ n. n < (layout form).leaves) }
     ensures garbled { IsTrue L.keeper.tells_reads
-        → IsInode (layout form) (leaves_of L.keeper L.region from.old) map.now inode length
+        → IsInode (layout form) (leaves_of L.keeper L.region from.old) links.now inode length
         → IfGarbled (refusal_of result)
         (λ n. IsTrue (breaks (layout form) (leaves_of L.keeper L.region from.old) n)) }
     ensures unread { IsUnread (refusal_of result) }
     ensures reads { ReadsOnly L.keeper L.region (refusal_of result) from.old from.new }
 {
     let index = at / 1024;
-    let Some(leaf) = data_leaf(form, map, inode, index) else {
+    let Some(leaf) = linked_leaf(links, index) else {
         return Err(StoreAnswer::Garbled(inode));
     };
     let mut block = [0; BLOCK_BYTES];
@@ -107,7 +101,7 @@ fn read_between<L: LeafSource>(
     alloc: Global,
     from: &mut L,
     form: Form,
-    map: &Map,
+    links: &[u16],
     inode: u16,
     length: u32,
     start: u32,
@@ -116,21 +110,23 @@ fn read_between<L: LeafSource>(
     requires fits { (layout form).leaves ≤ L.keeper.leaves }
     requires works { (L.keeper.condition from.old).lost ≡ false }
     requires inode { inode < (layout form).leaves }
+    requires links { AreBelow (layout form) links.now }
     requires order { start ≤ end }
     requires inside { end ≤ length }
+    requires reach { end ≤ 1024 * length_of links.now }
     ensures bytes { IsTrue L.keeper.tells_reads
-        → IsInode (layout form) (leaves_of L.keeper L.region from.old) map.now inode length
+        → IsInode (layout form) (leaves_of L.keeper L.region from.old) links.now inode length
         → IfOk result (λ bytes. bytes
         ≡ map_of (λ n. byte_at (layout form) (leaves_of L.keeper L.region from.old) inode n)
         (range_with_len start (end - start))) }
     ensures count { IfOk result (λ bytes. length_of bytes ≡ end - start) }
     ensures found { IsTrue L.keeper.tells_reads
-        → IsInode (layout form) (leaves_of L.keeper L.region from.old) map.now inode length
+        → IsInode (layout form) (leaves_of L.keeper L.region from.old) links.now inode length
         → IfOk result
         (λ bytes. IsReadData L.keeper L.region (layout form) inode start end from.old) }
     ensures few { IfGarbled (refusal_of result) (λ n. n < (layout form).leaves) }
     ensures garbled { IsTrue L.keeper.tells_reads
-        → IsInode (layout form) (leaves_of L.keeper L.region from.old) map.now inode length
+        → IsInode (layout form) (leaves_of L.keeper L.region from.old) links.now inode length
         → IfGarbled (refusal_of result)
         (λ n. IsTrue (breaks (layout form) (leaves_of L.keeper L.region from.old) n)) }
     ensures unread { IsUnread (refusal_of result) }
@@ -141,7 +137,7 @@ fn read_between<L: LeafSource>(
     while at < end {
         let room = 1024 - at % 1024;
         let stop = at + room.min(end - at);
-        read_part(from, form, map, inode, length, at, stop, &mut bytes)?;
+        read_part(from, form, links, inode, length, at, stop, &mut bytes)?;
         at = stop;
     }
     Ok(Bytes::from_vec(bytes))
@@ -173,11 +169,14 @@ impl Directory {
         };
         let start = start.min(inode.length);
         let end = start + count.min(inode.length - start);
+        let chains = chains_of(self.form, &self.map);
+        let count = blocks(end) as usize;
+        let links = first_links(alloc, self.form, &self.map, &chains, inode.number, count)?;
         read_between(
             alloc,
             from,
             self.form,
-            &self.map,
+            links.as_slice(),
             inode.number,
             inode.length,
             start,

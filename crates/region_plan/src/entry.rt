@@ -5,9 +5,10 @@ ghost use Rattle.region_plan.specs.Layout.{layout};
 ghost use Rattle.region_plan.specs.Entries.{follows, form_of, is_zero as has_zeros, number_in};
 ghost use Rattle.region_plan.specs.Places.{AreWritable, entries_in, free_entry, with_entry};
 ghost use Rattle.region_plan.specs.Plans.{IsMapLeaf};
+ghost use Rattle.region_plan.specs.declared.form.Form.TheVariants.{Two};
 
 use crate::bytes::{number_at, put};
-use crate::form::{Form, MOST_LEAVES};
+use crate::form::{Form, MOST_LEAVES, number_of};
 use std::alloc::Global;
 use std::marker::Model;
 use tee_base::NoMemory;
@@ -140,6 +141,8 @@ pub(crate) fn take_entries(form: Form, leaf: usize, block: &[u8; BLOCK_BYTES], m
     requires { leaf < 4 }
     ensures taken { IsMapLeaf (layout form) map.new leaf block.now }
     ensures before { (i : ℕ) → i < 256 * leaf → entries_in map.new i ≡ entries_in map.old i }
+    ensures behind { (i : ℕ) → 256 * leaf + 256 ≤ i
+        → entries_in map.new i ≡ entries_in map.old i }
     ensures inodes { ((i : ℕ) → (entries_in map.old i).inode < (layout form).leaves)
         → (i : ℕ) → (entries_in map.new i).inode < (layout form).leaves }
 {
@@ -150,15 +153,15 @@ pub(crate) fn take_entries(form: Form, leaf: usize, block: &[u8; BLOCK_BYTES], m
 }
 
 /// The bytes of a leaf of the map.
-pub(crate) fn map_leaf(form: Form, map: &Map, leaf: usize) -> [u8; BLOCK_BYTES]
-    requires leaf { leaf < (layout form).map_leaves }
+pub(crate) fn map_leaf(map: &Map, leaf: usize) -> [u8; BLOCK_BYTES]
+    requires leaf { leaf < (layout Two).map_leaves }
     requires few { leaf < 4 }
-    requires writable { AreWritable (layout form) map.now }
-    ensures { IsMapLeaf (layout form) map.now leaf result }
+    requires writable { AreWritable (layout Two) map.now }
+    ensures { IsMapLeaf (layout Two) map.now leaf result }
 {
     let mut block = [0; BLOCK_BYTES];
     for place in 0..MAP_ENTRIES {
-        let number = form.number_of(entry_in(map, MAP_ENTRIES * leaf + place));
+        let number = number_of(entry_in(map, MAP_ENTRIES * leaf + place));
         put(&mut block, ENTRY_BYTES * place, &number.to_le_bytes());
     }
     block

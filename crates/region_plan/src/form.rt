@@ -3,6 +3,7 @@
 ghost use Rattle.std.specs.Prelude.{◌≡◌, ◌≤◌, ◌<◌};
 ghost use Rattle.region_plan.specs.Layout.{layout, quota_of};
 ghost use Rattle.region_plan.specs.Places.{IsWritable};
+ghost use Rattle.region_plan.specs.declared.form.Form.TheVariants.{Two};
 
 use crate::entry::Entry;
 
@@ -43,17 +44,6 @@ impl Form {
         }
     }
 
-    /// The cost in blocks that the objects of a region may reach.
-    #[tactic(auto, unfolding(crate::specs::Layout::layout))]
-    pub fn quota(self) -> u32
-        ensures { result ≡ quota_of (layout self) }
-    {
-        match self {
-            Form::One => 255,
-            Form::Two => 1020,
-        }
-    }
-
     /// What the index of an entry is below.
     #[tactic(auto, unfolding(crate::specs::Layout::layout))]
     pub(crate) fn indexes(self) -> u32
@@ -83,16 +73,21 @@ impl Form {
             },
         }
     }
+}
 
-    /// The number of an entry in the map.
-    #[tactic(auto, unfolding(crate::specs::Layout::layout))]
-    pub(crate) fn number_of(self, entry: Entry) -> u32
-        requires { IsWritable (layout self) entry }
-        ensures { (layout self).entry_of result ≡ entry }
-    {
-        match self {
-            Form::One => entry.kind + 256 * entry.inode + 65_536 * entry.index,
-            Form::Two => entry.kind + 4 * entry.inode + 4096 * entry.index,
-        }
-    }
+/// The cost in blocks that the objects of a region of the second form may reach.
+#[tactic(auto, unfolding(crate::specs::Layout::layout))]
+pub(crate) fn quota() -> u32
+    ensures { result ≡ quota_of (layout Two) }
+{
+    1020
+}
+
+/// The number of an entry in the map of a region of the second form.
+#[tactic(auto, unfolding(crate::specs::Layout::layout))]
+pub(crate) fn number_of(entry: Entry) -> u32
+    requires { IsWritable (layout Two) entry }
+    ensures { (layout Two).entry_of result ≡ entry }
+{
+    entry.kind + 4 * entry.inode + 4096 * entry.index
 }

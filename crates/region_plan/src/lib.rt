@@ -1,6 +1,7 @@
 //! The objects of one region of a volume: which leaves hold them, and how they are read.
 #![tactic(auto)]
 
+mod after;
 mod bytes;
 mod calls;
 mod chain;

@@ -72,7 +72,7 @@ fn read_map<L: LeafSource>(from: &mut L, form: Form, map: &mut Map) -> Result<()
 }
 
 /// Whether each entry of the map follows the rules.
-fn check_map(form: Form, map: &Map) -> Result<(), StoreAnswer>
+pub(crate) fn check_map(form: Form, map: &Map) -> Result<(), StoreAnswer>
     ensures garbled { (leaves : ℕ → List ℕ) → IsMapOf (layout form) leaves map.now
         → IfGarbled (refusal_of result) (λ leaf. IsTrue (breaks (layout form) leaves leaf)) }
     ensures formed { OnOk result ((i : ℕ) → i < (layout form).leaves
@@ -192,6 +192,7 @@ fn read_inodes<L: LeafSource>(
         → IfOk result
         (λ inodes. inodes ≡ inodes_of (layout form) (leaves_of L.keeper L.region from.old)) }
     ensures within { IfOk result (λ inodes. All (IsWithin (layout form)) inodes) }
+    ensures most { IfOk result (λ inodes. length inodes ≤ (layout form).leaves) }
     ensures sound { IsTrue L.keeper.tells_reads
         → IsMapOf (layout form) (leaves_of L.keeper L.region from.old) map.now
         → IfOk result
@@ -230,6 +231,7 @@ pub(crate) fn load<L: LeafSource>(
     ensures inodes { IsTrue L.keeper.tells_reads → IfOk result
         (λ inodes. inodes ≡ inodes_of (layout form) (leaves_of L.keeper L.region from.old)) }
     ensures within { IfOk result (λ inodes. All (IsWithin (layout form)) inodes) }
+    ensures most { IfOk result (λ inodes. length inodes ≤ (layout form).leaves) }
     ensures sound { IsTrue L.keeper.tells_reads
         → IfOk result (λ inodes. IsSound L.keeper L.region (layout form) from.old) }
     ensures garbled { IfGarbled (refusal_of result)

@@ -1,7 +1,6 @@
 //! Every change with its refusals, beside a store in memory.
 
 use super::steps::{Row, Step, Table, Told, run};
-use region_plan::Form;
 use tee_base::NoMemory;
 
 // No object is there.
@@ -110,24 +109,15 @@ const TABLES: &[Table] = &[
     ("rename", RENAME),
     ("write", WRITE),
     ("truncate", TRUNCATE),
+    ("full", FULL),
+    ("no leaf", NO_LEAF),
+    ("no room", NO_ROOM),
 ];
-
-/// The tables that meet the quota of the second form, which is that of the store beside it.
-const UP_TO_THE_QUOTA: &[Table] = &[("full", FULL), ("no leaf", NO_LEAF), ("no room", NO_ROOM)];
 
 #[test]
 fn each_change(rt: HostRuntime) -> Result<(), NoMemory> {
     for table in TABLES {
-        run(&rt, rt.alloc(), Form::One, table)?;
-        run(&rt, rt.alloc(), Form::Two, table)?;
-    }
-    Ok(())
-}
-
-#[test]
-fn each_change_up_to_the_quota(rt: HostRuntime) -> Result<(), NoMemory> {
-    for table in UP_TO_THE_QUOTA {
-        run(&rt, rt.alloc(), Form::Two, table)?;
+        run(&rt, rt.alloc(), table)?;
     }
     Ok(())
 }

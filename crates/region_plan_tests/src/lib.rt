@@ -5,7 +5,11 @@
 #[cfg(test)]
 mod changes;
 #[cfg(test)]
+mod conversion;
+#[cfg(test)]
 mod counted;
+#[cfg(test)]
+mod kept;
 pub mod letters;
 #[cfg(test)]
 mod memory;

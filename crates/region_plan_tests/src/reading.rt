@@ -13,7 +13,7 @@ use tee_base::NoMemory;
 
 /// A question, and what has to be told.
 #[derive(Clone, Copy)]
-enum Row {
+pub enum Row {
     /// The object `a` has its inode in this leaf, or isn't found so.
     Leaf(Result<u16, StoreAnswer>),
     /// The object `a` has these facts.
@@ -92,7 +92,7 @@ fn is_told(alloc: Global, memory: &mut Memory, form: Form, row: &Row) -> bool {
 }
 
 /// Asks the questions in order.
-fn go_through(rt: &impl Abort, alloc: Global, memory: &mut Memory, form: Form, rows: &[Row]) {
+pub fn go_through(rt: &impl Abort, alloc: Global, memory: &mut Memory, form: Form, rows: &[Row]) {
     for (place, row) in rows.iter().enumerate() {
         assert!(rt; is_told(alloc, memory, form, row), "row {place}");
     }
@@ -132,7 +132,7 @@ const FACTS_OF_A: Facts = Facts {
     length: 1026,
 };
 
-const TWO: &[Row] = &[
+pub const TWO: &[Row] = &[
     Row::Leaf(Ok(5)),
     Row::Facts(FACTS_OF_A),
     Row::Secret(b"12"),
@@ -159,7 +159,7 @@ const FACTS_OF_B: Facts = Facts {
     length: 0,
 };
 
-const IN_ORDER: &[Row] = &[
+pub const IN_ORDER: &[Row] = &[
     Row::Next(None, b"a", FACTS_OF_A),
     Row::Next(Some(b"a"), b"b", FACTS_OF_B),
     Row::Last(Some(b"b")),

@@ -11,6 +11,9 @@ use store_api::{AppStore, Change, Listed, MapStore, StoreAnswer};
 use tee_base::limits::MAX_ASK_BYTES;
 use tee_base::{Bytes, NoMemory};
 
+/// The form of the regions that changes are made in.
+const FORM: Form = Form::Two;
+
 /// A change. An object's identifier is one letter, or the longest of that letter where it is a capital.
 #[derive(Clone, Copy)]
 pub enum Step {
@@ -85,7 +88,7 @@ fn put(alloc: Global, letter: u8, count: u32, overwrite: bool) -> Result<Change,
     })
 }
 
-fn change_of(alloc: Global, step: Step) -> Result<Change, NoMemory>
+pub fn change_of(alloc: Global, step: Step) -> Result<Change, NoMemory>
     ensures { IfOk result (λ change. IsChange change) }
 {
     match step {
@@ -122,10 +125,10 @@ fn is_wanted(refusal: &StoreAnswer, wanted: Told) -> bool {
 
 /// Plans a change and commits its leaves, and says whether that came which is wanted.
 #[tactic(auto, using(region_plan::proofs::FormLemmas::most_leaves))]
-fn is_planned(alloc: Global, memory: &mut Memory, form: Form, change: &Change, wanted: Told) -> bool
+fn is_planned(alloc: Global, memory: &mut Memory, change: &Change, wanted: Told) -> bool
     requires { IsChange change.now }
 {
-    match plan(alloc, memory, form, change) {
+    match plan(alloc, memory, change) {
         Ok(leaves) => {
             commit(memory, &leaves);
             matches!(wanted, Told::Done(most) if leaves.as_slice().len() <= most)
@@ -146,32 +149,20 @@ fn is_made(store: &mut MapStore, change: &Change, wanted: Told) -> bool
 
 /// Whether the secret of an object is the same in both.
 #[tactic(auto, using(region_plan::proofs::FormLemmas::most_leaves))]
-fn is_same_secret(
-    alloc: Global,
-    memory: &mut Memory,
-    form: Form,
-    store: &mut MapStore,
-    id: &[u8],
-) -> bool
+fn is_same_secret(alloc: Global, memory: &mut Memory, store: &mut MapStore, id: &[u8]) -> bool
     requires { IsIdentifier id.now }
 {
-    let one = secret(alloc, memory, form, id);
+    let one = secret(alloc, memory, FORM, id);
     let other = store.secret(id);
     are_same_bytes(&one, &other)
 }
 
 /// Whether the content of an object is the same in both.
 #[tactic(auto, using(region_plan::proofs::FormLemmas::most_leaves))]
-fn is_same_content(
-    alloc: Global,
-    memory: &mut Memory,
-    form: Form,
-    store: &mut MapStore,
-    id: &[u8],
-) -> bool
+fn is_same_content(alloc: Global, memory: &mut Memory, store: &mut MapStore, id: &[u8]) -> bool
     requires { IsIdentifier id.now }
 {
-    let one = content(alloc, memory, form, id, 0, MAX_ASK_BYTES);
+    let one = content(alloc, memory, FORM, id, 0, MAX_ASK_BYTES);
     let other = store.read(id, 0, MAX_ASK_BYTES);
     are_same_bytes(&one, &other)
 }
@@ -185,7 +176,10 @@ fn are_same_bytes(one: &Result<Bytes, StoreAnswer>, other: &Result<Bytes, StoreA
 }
 
 /// Whether both list the same object with the same facts, or none.
-fn is_same_listed(one: &Result<Listed, StoreAnswer>, other: &Result<Listed, StoreAnswer>) -> bool {
+pub fn is_same_listed(
+    one: &Result<Listed, StoreAnswer>,
+    other: &Result<Listed, StoreAnswer>,
+) -> bool {
     match (one, other) {
         (Ok(one), Ok(other)) => {
             one.id.as_slice() == other.id.as_slice() && one.facts == other.facts
@@ -197,14 +191,8 @@ fn is_same_listed(one: &Result<Listed, StoreAnswer>, other: &Result<Listed, Stor
 
 /// Whether both list the same behind an identifier.
 #[tactic(auto, using(region_plan::proofs::FormLemmas::most_leaves))]
-fn is_same_next(
-    alloc: Global,
-    memory: &mut Memory,
-    form: Form,
-    store: &mut MapStore,
-    last: &[u8],
-) -> bool {
-    let one = next_after(alloc, memory, form, Some(last));
+fn is_same_next(alloc: Global, memory: &mut Memory, store: &mut MapStore, last: &[u8]) -> bool {
+    let one = next_after(alloc, memory, FORM, Some(last));
     let other = store.next_after(Some(last));
     is_same_listed(&one, &other)
 }
@@ -220,18 +208,18 @@ fn next_in(store: &mut MapStore, last: &[u8]) -> Result<Bytes, StoreAnswer>
 }
 
 /// Whether both have the same objects.
-fn are_same(alloc: Global, memory: &mut Memory, form: Form, store: &mut MapStore) -> bool {
+fn are_same(alloc: Global, memory: &mut Memory, store: &mut MapStore) -> bool {
     let mut last = Bytes::empty(alloc);
     for _ in 0..9 {
-        if !is_same_next(alloc, memory, form, store, last.as_slice()) {
+        if !is_same_next(alloc, memory, store, last.as_slice()) {
             return false;
         }
         let id = match next_in(store, last.as_slice()) {
             Ok(id) => id,
             Err(answer) => return matches!(answer, StoreAnswer::NotFound),
         };
-        if !is_same_secret(alloc, memory, form, store, id.as_slice())
-            || !is_same_content(alloc, memory, form, store, id.as_slice())
+        if !is_same_secret(alloc, memory, store, id.as_slice())
+            || !is_same_content(alloc, memory, store, id.as_slice())
         {
             return false;
         }
@@ -244,14 +232,13 @@ fn are_same(alloc: Global, memory: &mut Memory, form: Form, store: &mut MapStore
 fn holds(
     alloc: Global,
     memory: &mut Memory,
-    form: Form,
     store: &mut MapStore,
     row: &Row,
 ) -> Result<bool, NoMemory> {
     let change = change_of(alloc, row.0)?;
-    let came = is_planned(alloc, memory, form, &change, row.1) && is_made(store, &change, row.1);
+    let came = is_planned(alloc, memory, &change, row.1) && is_made(store, &change, row.1);
     drop(change);
-    Ok(came && are_same(alloc, memory, form, store))
+    Ok(came && are_same(alloc, memory, store))
 }
 
 /// Makes the change of each row.
@@ -259,13 +246,12 @@ fn go_through(
     rt: &impl Abort,
     alloc: Global,
     memory: &mut Memory,
-    form: Form,
     store: &mut MapStore,
     table: &Table,
 ) -> Result<(), NoMemory> {
     for (place, row) in table.1.iter().enumerate() {
         assert!(rt;
-            holds(alloc, memory, form, store, row)?,
+            holds(alloc, memory, store, row)?,
             "{}, row {place}",
             table.0
         );
@@ -278,19 +264,18 @@ fn run_beside(
     rt: &impl Abort,
     alloc: Global,
     memory: &mut Memory,
-    form: Form,
     table: &Table,
 ) -> Result<(), NoMemory> {
     let mut store = MapStore::new(alloc, &[])?;
-    let outcome = go_through(rt, alloc, memory, form, &mut store, table);
+    let outcome = go_through(rt, alloc, memory, &mut store, table);
     drop(store);
     outcome
 }
 
 /// Makes the change of each row, from a region of zeros and an empty store.
-pub fn run(rt: &impl Abort, alloc: Global, form: Form, table: &Table) -> Result<(), NoMemory> {
+pub fn run(rt: &impl Abort, alloc: Global, table: &Table) -> Result<(), NoMemory> {
     let mut memory = with(alloc, &[])?;
-    let outcome = run_beside(rt, alloc, &mut memory, form, table);
+    let outcome = run_beside(rt, alloc, &mut memory, table);
     drop(memory);
     outcome
 }

@@ -33,10 +33,10 @@ loop-at-preserved g c =
           part_joined (layout c.args.form) (laid_by c.args.form) (leaves_of K R c.args.from.now) (leaves_of K R c.loop-at.from) c.args.inode c.args.start c.loop-at.at (c.loop-at.at + c.min.result)
           c.loop-at.bytes.items
           c.read_part.new.bytes.items same kept.from_start (omega arith) (kept.bytes h is)
-          (c.in_ok-read_part.ensures.bytes h (subst (λ (l : ℕ → List ℕ). IsInode (layout c.args.form) l c.args.map.now c.args.inode c.args.length) (sym same) is));
+          (c.in_ok-read_part.ensures.bytes h (subst (λ (l : ℕ → List ℕ). IsInode (layout c.args.form) l c.args.links.now c.args.inode c.args.length) (sym same) is));
       found = λ h is.
           let same = leaves_stay K R c.args.from.now c.loop-at.from kept.reads h in
           parts_read K R (layout c.args.form) c.args.from.now c.args.inode c.args.start c.loop-at.at (c.loop-at.at + c.min.result) (kept.found h is)
           (data_before K R (layout c.args.form) c.args.from.now c.loop-at.from kept.reads h c.args.inode c.loop-at.at (c.loop-at.at + c.min.result)
-          (c.in_ok-read_part.ensures.found h (subst (λ (l : ℕ → List ℕ). IsInode (layout c.args.form) l c.args.map.now c.args.inode c.args.length) (sym same) is)));
+          (c.in_ok-read_part.ensures.found h (subst (λ (l : ℕ → List ℕ). IsInode (layout c.args.form) l c.args.links.now c.args.inode c.args.length) (sym same) is)));
     }

@@ -14,9 +14,9 @@ invariant-loop-at g l = record {
   from_start : l.start ≤ l.at;
   to_end : l.at ≤ l.end;
   count : vec_len l.bytes ≡ l.at - l.start;
-  bytes : IsTrue g.L.LeafSource.keeper.tells_reads → IsInode (layout l.form) (leaves_of g.L.LeafSource.keeper g.L.LeafSource.region l.fn.from) l.map l.inode l.length
+  bytes : IsTrue g.L.LeafSource.keeper.tells_reads → IsInode (layout l.form) (leaves_of g.L.LeafSource.keeper g.L.LeafSource.region l.fn.from) l.links l.inode l.length
       → l.bytes.items ≡ map (λ n. byte_at (layout l.form) (leaves_of g.L.LeafSource.keeper g.L.LeafSource.region l.fn.from) l.inode n) (range_with_len l.start (l.at - l.start));
-  found : IsTrue g.L.LeafSource.keeper.tells_reads → IsInode (layout l.form) (leaves_of g.L.LeafSource.keeper g.L.LeafSource.region l.fn.from) l.map l.inode l.length
+  found : IsTrue g.L.LeafSource.keeper.tells_reads → IsInode (layout l.form) (leaves_of g.L.LeafSource.keeper g.L.LeafSource.region l.fn.from) l.links l.inode l.length
       → IsReadData g.L.LeafSource.keeper g.L.LeafSource.region (layout l.form) l.inode l.start l.at l.fn.from;
 }
 

@@ -9,6 +9,7 @@ use Rattle.region_plan.proofs.planning.plan_content.Goals as goal
 use Rattle.region_plan.proofs.planning.plan_content.Goals.{then-edit-inode, else-edit-inode}
 use Rattle.region_plan.specs.Layout.{layout}
 use Rattle.region_plan.proofs.FormLemmas.{laid_by}
+use Rattle.region_plan.specs.declared.form.Form.TheVariants.{Two}
 
 pub returns-clause-planned : goal.returns-clause-planned
 returns-clause-planned g c h first =
@@ -20,7 +21,7 @@ returns-clause-planned g c h first =
       | then-edit-inode w ↦
           subst (λ (o : Option (List ℕ)). IsHead (bytes_or o (leaves c.args.inode.now.number)) c.args.inode.now.kind c.args.inode.now.usage c.args.inode.now.id
           c.args.inode.now.secret c.args.edit.length) (sym w.head-is)
-          (told_head (layout c.args.form) (laid_by c.args.form) c.args.inode.now.number (leaves c.args.inode.now.number) c.args.inode.now c.args.edit.length told rules w.if-edit-inode.true)
+          (told_head (layout Two) (laid_by Two) c.args.inode.now.number (leaves c.args.inode.now.number) c.args.inode.now c.args.edit.length told rules w.if-edit-inode.true)
       | else-edit-inode w ↦
           subst (λ (o : Option (List ℕ)). IsHead (bytes_or o (leaves c.args.inode.now.number)) c.args.inode.now.kind c.args.inode.now.usage c.args.inode.now.id
           c.args.inode.now.secret c.args.edit.length) (sym w.head-is)
@@ -28,6 +29,6 @@ returns-clause-planned g c h first =
           w.head.result.secret.now c.args.inode.now.secret c.args.edit.length
           w.head.ensures.kind w.head.ensures.usage w.head.ensures.id w.head.ensures.secret w.inode_block.ensures)
     ] in
-    if_ok c.plan_edit.result (λ (named : List Leaf). IsPlanned (layout c.args.form) leaves c.args.map.now c.args.inode.now.number c.if-edit-inode.head c.args.edit named)
-    (λ (named : List Leaf). IsContentPlan (layout c.args.form) leaves c.args.map.now c.args.inode.now c.args.edit named)
+    if_ok c.plan_edit.result (λ (named : List Leaf). IsPlanned (layout Two) leaves c.args.map.now c.args.inode.now.number c.if-edit-inode.head c.args.edit named)
+    (λ (named : List Leaf). IsContentPlan (layout Two) leaves c.args.map.now c.args.inode.now c.args.edit named)
     (λ named planned. record { head = c.if-edit-inode.head; planned = planned; says = says }) (c.plan_edit.ensures.planned h first)

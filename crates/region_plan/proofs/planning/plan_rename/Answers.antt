@@ -6,28 +6,29 @@ use Rattle.region_plan.proofs.StoreLemmas.{looked_none, looked_up}
 use Rattle.region_plan.proofs.planning.plan_rename.Goals as goal
 use Rattle.region_plan.specs.Layout.{layout}
 use Rattle.region_plan.proofs.FormLemmas.{laid_by}
+use Rattle.region_plan.specs.declared.form.Form.TheVariants.{Two}
 
 pub returns-in_default-clause-plans : goal.returns-in_default-clause-plans
 returns-in_default-clause-plans c leaves all store stands =
-    rename_none (layout c.args.form) (laid_by c.args.form) leaves store stands c.args.id.now c.args.to.now
-    (looked_none (layout c.args.form) leaves c.args.id.now c.find.result c.args.inodes.now c.args.inodes.now c.find.ensures.inode
+    rename_none (layout Two) (laid_by Two) leaves store stands c.args.id.now c.args.to.now
+    (looked_none (layout Two) leaves c.args.id.now c.find.result c.args.inodes.now c.args.inodes.now c.find.ensures.inode
     refl all c.in_default.is)
 
 pub returns-then-is_some-clause-plans : goal.returns-then-is_some-clause-plans
 returns-then-is_some-clause-plans c leaves all store stands =
-    let other = some_other (layout c.args.form) (laid_by c.args.form) leaves c.args.to.now c.find-2.result c.args.inodes.now c.find-2.ensures.inode all (sym c.is_some.ensures ∙ c.if-is_some.true) in
-    rename_exists (layout c.args.form) (laid_by c.args.form) leaves store stands c.args.id.now c.in-Some.inode.now
-    (looked_up (layout c.args.form) leaves c.args.id.now c.find.result c.args.inodes.now c.args.inodes.now
+    let other = some_other (layout Two) (laid_by Two) leaves c.args.to.now c.find-2.result c.args.inodes.now c.find-2.ensures.inode all (sym c.is_some.ensures ∙ c.if-is_some.true) in
+    rename_exists (layout Two) (laid_by Two) leaves store stands c.args.id.now c.in-Some.inode.now
+    (looked_up (layout Two) leaves c.args.id.now c.find.result c.args.inodes.now c.args.inodes.now
     c.in-Some.inode c.find.ensures.inode refl all c.in-Some.is)
     c.args.to.now other.0 other.1
 
 pub returns-clause-plans : goal.returns-clause-plans
 returns-clause-plans c leaves all store stands =
     let last : Leaf = record { number = c.in-Some.inode.now.number; bytes = c.inode_block.result } in
-    rename_plans (layout c.args.form) (laid_by c.args.form) leaves store stands c.args.id.now c.in-Some.inode.now
-    (looked_up (layout c.args.form) leaves c.args.id.now c.find.result c.args.inodes.now c.args.inodes.now c.in-Some.inode
+    rename_plans (layout Two) (laid_by Two) leaves store stands c.args.id.now c.in-Some.inode.now
+    (looked_up (layout Two) leaves c.args.id.now c.find.result c.args.inodes.now c.args.inodes.now c.in-Some.inode
     c.find.ensures.inode refl all c.in-Some.is)
-    c.args.to.now c.push.new.self c.inode_block.result c.args.to (none_other (layout c.args.form) (laid_by c.args.form) leaves c.args.to.now c.find-2.result c.args.inodes.now c.find-2.ensures.inode
+    c.args.to.now c.push.new.self c.inode_block.result c.args.to (none_other (layout Two) (laid_by Two) leaves c.args.to.now c.find-2.result c.args.inodes.now c.find-2.ensures.inode
     all
     (sym c.is_some.ensures ∙ c.if-is_some.false))
     (c.in_ok-push.ensures.ok ∙ ap (λ (l : List Leaf). l ++ last ∷ []) c.none-leaves.ensures)

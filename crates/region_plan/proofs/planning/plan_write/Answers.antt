@@ -6,20 +6,21 @@ use Rattle.region_plan.proofs.StoreLemmas.{looked_none, looked_up}
 use Rattle.region_plan.proofs.planning.plan_write.Goals as goal
 use Rattle.region_plan.specs.Layout.{layout}
 use Rattle.region_plan.proofs.FormLemmas.{laid_by}
+use Rattle.region_plan.specs.declared.form.Form.TheVariants.{Two}
 
 pub returns-in_default-clause-plans : goal.returns-in_default-clause-plans
 returns-in_default-clause-plans g c h first all store stands =
     let leaves = leaves_of g.L.LeafSource.keeper g.L.LeafSource.region c.args.from.now in
-    write_absent (layout c.args.form) (laid_by c.args.form) leaves store stands c.args.id.now c.args.at c.args.bytes.now
-    (looked_none (layout c.args.form) leaves c.args.id.now c.find.result c.args.inodes.now c.args.inodes.now
+    write_absent (layout Two) (laid_by Two) leaves store stands c.args.id.now c.args.at c.args.bytes.now
+    (looked_none (layout Two) leaves c.args.id.now c.find.result c.args.inodes.now c.args.inodes.now
     c.find.ensures.inode refl all c.in_default.is)
 
 pub returns-then-is_empty-clause-plans : goal.returns-then-is_empty-clause-plans
 returns-then-is_empty-clause-plans g c h first all store stands =
     let leaves = leaves_of g.L.LeafSource.keeper g.L.LeafSource.region c.args.from.now in
     let none : length c.args.bytes.now ≡ 0 = eqb-true (length c.args.bytes.now) 0 (sym c.if-is_empty.ensures) in
-    write_none (layout c.args.form) (laid_by c.args.form) leaves store stands c.args.id.now c.in-Some.inode.now
-    (looked_up (layout c.args.form) leaves c.args.id.now c.find.result c.args.inodes.now c.args.inodes.now c.in-Some.inode
+    write_none (layout Two) (laid_by Two) leaves store stands c.args.id.now c.in-Some.inode.now
+    (looked_up (layout Two) leaves c.args.id.now c.find.result c.args.inodes.now c.args.inodes.now c.in-Some.inode
     c.find.ensures.inode refl all c.in-Some.is)
     c.args.at c.args.bytes.now c.none.result none c.none.ensures
 
@@ -27,8 +28,8 @@ pub returns-clause-plans : goal.returns-clause-plans
 returns-clause-plans g c h first all store stands =
     let leaves = leaves_of g.L.LeafSource.keeper g.L.LeafSource.region c.args.from.now in
     let some' : length c.args.bytes.now ≢ 0 = eqb-false (length c.args.bytes.now) 0 (sym c.if-is_empty.ensures) in
-    write_plans (layout c.args.form) (laid_by c.args.form) leaves store stands c.args.id.now c.in-Some.inode.now
-    (looked_up (layout c.args.form) leaves c.args.id.now c.find.result c.args.inodes.now c.args.inodes.now c.in-Some.inode
+    write_plans (layout Two) (laid_by Two) leaves store stands c.args.id.now c.in-Some.inode.now
+    (looked_up (layout Two) leaves c.args.id.now c.find.result c.args.inodes.now c.args.inodes.now c.in-Some.inode
     c.find.ensures.inode refl all c.in-Some.is)
     c.args.map.now _ c.args.at c.args.bytes.now first refl refl refl refl some' c.max.ensures c.plan_content.result (c.plan_content.ensures.planned h first)
     c.plan_content.ensures.space c.plan_content.ensures.refused

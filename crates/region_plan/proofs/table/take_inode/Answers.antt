@@ -1,12 +1,11 @@
-use Rattle.std.proofs.Common.{◌≡◌, ◌∙◌, List, true, false, not, sym, subst}
-use Rattle.std.specs.Prelude.{is_none}
+use Rattle.std.proofs.Common.{◌∙◌, List, sym, subst}
 use Rattle.std.specs.List.{All}
 use Rattle.std.proofs.lemmas.Bool.{not-false, not-true}
 use Rattle.std.proofs.lemmas.List.Elements.{All-push}
 use Rattle.region_plan.specs.Layout.{layout}
 use Rattle.region_plan.specs.Reading.{leaves_of}
 use Rattle.region_plan.specs.Regions.{is_doubled}
-use Rattle.region_plan.specs.Tables.{IsWithin, inode_with}
+use Rattle.region_plan.specs.Tables.{IsWithin}
 use Rattle.region_plan.specs.declared.inode.Inode.{Inode}
 use Rattle.region_plan.proofs.CheckLemmas.{known_is}
 use Rattle.region_plan.proofs.FormLemmas.{laid_by}
