@@ -11,7 +11,7 @@ use Rattle.store_api.specs.declared.leaves.LeafAnswer.TheVariants as answers
 use Rattle.epoch.specs.Opening.{no_failure}
 use Rattle.epoch.specs.Reading.{no_fault}
 use Rattle.epoch.specs.declared.answer.OpenAnswer.{OpenAnswer}
-use Rattle.epoch.specs.declared.answer.OpenAnswer.TheVariants.{Failed}
+use Rattle.epoch.specs.declared.answer.OpenAnswer.TheVariants.{Ahead, BadHeader, Failed, NoMemory, NoVolume, Rollback, TooSmall, UnknownVersion}
 
 -- a fault that rose later rose
 pub rose_later : (a b c : ℕ) → a ≤ b → Rose b c → Rose a c
@@ -76,3 +76,15 @@ run_failed r old new is run = run_as false (no_failure r) old new (ap no_failure
 -- the same of leaves
 pub run_lost : {A : Type 0} (r : Result A LeafAnswer) (old new : View) → r ≡ Err answers.Failed → CallRun false old new → CallRun (no_fault r) old new
 run_lost r old new is run = run_as false (no_fault r) old new (ap no_fault is) run
+
+-- a call of the board failed only where that is answered
+pub failed_is : {A : Type 0} (r : Result A OpenAnswer) → no_failure r ≡ false → r ≡ Err Failed
+failed_is (Ok done) failed = absurd (false≢true (sym failed))
+failed_is (Err Failed) failed = refl
+failed_is (Err NoMemory) failed = absurd (false≢true (sym failed))
+failed_is (Err (TooSmall blocks)) failed = absurd (false≢true (sym failed))
+failed_is (Err (NoVolume counter)) failed = absurd (false≢true (sym failed))
+failed_is (Err (BadHeader slot found kept)) failed = absurd (false≢true (sym failed))
+failed_is (Err (UnknownVersion version)) failed = absurd (false≢true (sym failed))
+failed_is (Err (Rollback sequence counter)) failed = absurd (false≢true (sym failed))
+failed_is (Err (Ahead sequence counter)) failed = absurd (false≢true (sym failed))

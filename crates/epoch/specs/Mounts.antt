@@ -6,9 +6,14 @@ use Rattle.tee_base.specs.declared.limits.TheConstants.{MAX_HOSTS}
 use Rattle.store_api.specs.Volumes.{Held, RestsAt, VolumeKeeper}
 use Rattle.board.specs.Moment.{IsBehind, IsCounter, IsLeft, CrashImage, Moment, Order, View, left_since, moment}
 use Rattle.board.specs.Steps.{Passes, Powered}
+use Rattle.tee_base.specs.Faults.{Rose}
+use Rattle.board.specs.declared.fuse.Fuse.TheVariants.{Unset}
+use Rattle.epoch.specs.Finding.{IsSettledAt}
 use Rattle.epoch.specs.Forms.{Form, Root, held_of, root_of}
 use Rattle.epoch.specs.Opening.{found_header, header_answer, opening_of, opens_as}
+use Rattle.epoch.specs.Past.{KeepsPast}
 use Rattle.epoch.specs.declared.answer.OpenAnswer.{OpenAnswer}
+use Rattle.epoch.specs.declared.mounts.TheConstants.{BLANK}
 use Rattle.epoch.specs.declared.answer.OpenAnswer.TheVariants as answers
 use Rattle.epoch.specs.declared.header.Header.{Header}
 use Rattle.epoch.specs.declared.rule.Found.{Found}
@@ -102,6 +107,25 @@ pub record PowerFirst (pick : ℕ) (old new : View) : Type 0 where
   pub powered : Powered old.state between.state
   pub reads : new.state.reads ≡ between.state.reads
   pub behind : IsBehind between new
+
+-- whatever the board: a loss of power and the calls that opened the board again, of which one failed where this is false. No block is
+-- written, and no fuse is set afterwards
+pub record LosesPower (pick : ℕ) (ok : Bool) (old new : View) : Type 0 where
+  pub order : OrderRun pick old new
+  pub cause : ok ≡ false → Rose old.state.faults new.state.faults
+  pub steady : ok ≡ true → new.state.faults ≡ old.state.faults
+  pub writes : new.writes ≡ old.writes
+  pub fuse : new.fuse ≡ Unset
+
+-- the same of an honest board: nothing of the past is forgotten; by the rule over what a crash might have left it was opened, with the
+-- sequence and the root of what counts there, or refused; the counter is then that sequence, and a refusal is of the board as it is now
+pub record LosesPowerByRule {A : Type 0} (f : Form) (pick : ℕ) (result : Result A OpenAnswer) (sequence : A → Sequence) (root : Root) (old new : View) : Type 0 where
+  pub begins : PowerFirst pick old new
+  pub past : KeepsPast old new
+  pub exact : (c : CrashImage) × IsLeft old.state c × IfErr result (λ why. IsRefusal f old c.image c.counter why)
+      × IfOk result (λ x. IsAdmitted f old c.image c.counter BLANK (sequence x) root)
+  pub counter : IfOk result (λ x. IsSettledAt (sequence x) new.state)
+  pub refusal : IfErr result (λ why. IsRefusedNow f new why)
 
 -- right behind the last order that was made to the board a crash leaves this, and nothing else
 abbrev pub LeftByOrder : Form → View → View → Held → Type 0

@@ -2,15 +2,14 @@
 ghost use Rattle.std.specs.Prelude.{◌≡◌, ◌≢◌, ◌≤◌, ◌<◌, ◌↔◌, ◌⊎◌, ℕ, List, true, false, Some, Err, IsTrue, IfOk, IfErr, OnOk, OnErr};
 ghost use Rattle.tee_base.specs.Faults.{Rose};
 ghost use Rattle.store_api.specs.Volumes.{Held};
-ghost use Rattle.board.specs.Moment.{IsCounter, IsLeft, CrashImage};
+ghost use Rattle.board.specs.Moment.{IsCounter};
 ghost use Rattle.board.specs.Runs.{Rests};
 ghost use Rattle.board.specs.Fuse.{fuse_after_set};
 ghost use Rattle.board.specs.Steps.{CallRun, Passes, SameBlocks, Unchanged};
-ghost use Rattle.board.specs.declared.fuse.Fuse.TheVariants.{Unset};
 ghost use Rattle.epoch.specs.Alone.{LeavesAlone};
 ghost use Rattle.epoch.specs.Finding.{IsSettledAt};
 ghost use Rattle.epoch.specs.Forms.{Form, Root, held_in};
-ghost use Rattle.epoch.specs.Mounts.{IsAdmitted, IsAlwaysSound, IsBack, IsFormed, IsKeptFromOpening, IsOpenedTo, IsOrdered, IsRefusal, IsRefusedNow, IsSeenOn, LeavesOpening, OpensAfterPower, OpensAgain, OrderRun, PowerFirst};
+ghost use Rattle.epoch.specs.Mounts.{IsAdmitted, IsAlwaysSound, IsBack, IsFormed, IsKeptFromOpening, IsOpenedTo, IsOrdered, IsRefusal, IsRefusedNow, IsSeenOn, LeavesOpening, LosesPower, LosesPowerByRule, OpensAfterPower, OpensAgain, OrderRun};
 ghost use Rattle.epoch.specs.Opening.{is_no_failure, no_failure};
 ghost use Rattle.epoch.specs.Past.{KeepsPast};
 ghost use Rattle.epoch.specs.declared.answer.OpenAnswer.TheVariants as answers;
@@ -149,38 +148,15 @@ pub trait BoardVolume<B: Board>: Volume + Sized {
     ///
     /// As `reopen`.
     fn power(&mut self, pick: u64) -> Result<u64, OpenAnswer>
-        ensures ordered { OrderRun pick (B.view (board_of self.old))
+        // the order goes before any other call, no block is written, and a call failed exactly where the answer says so
+        ensures calls { LosesPower pick (no_failure result) (B.view (board_of self.old))
             (B.view (board_of self.new)) }
-        ensures cause { result ≡ Err answers.Failed
-            → Rose (B.view (board_of self.old)).state.faults
-            (B.view (board_of self.new)).state.faults }
         ensures back { IsBack Self.keeper result self.new }
-        ensures honest { B.honest (board_of self.old) → B.honest (board_of self.new) }
-        ensures exact { B.honest (board_of self.old) → (c : CrashImage)
-            × IsLeft (B.view (board_of self.old)).state c
-            × IfErr result (λ why. IsRefusal form (B.view (board_of self.old)) c.image c.counter
-            why)
-            × IfOk result (λ sequence. IsAdmitted form (B.view (board_of self.old)) c.image
-            c.counter BLANK sequence (root self.new)) }
+        ensures honest { B.honest (board_of self.old) → B.honest (board_of self.new)
+            × LosesPowerByRule form pick result (λ sequence. sequence) (root self.new)
+            (B.view (board_of self.old)) (B.view (board_of self.new)) }
         ensures root { OnErr result (root self.new ≡ root self.old) }
         ensures bare { OnOk result ((image : ℕ → List ℕ) → keeps self.new image) }
-        // a refusal is of the board as it is then
-        ensures refusal { B.honest (board_of self.old)
-            → IfErr result (λ why. IsRefusedNow form (B.view (board_of self.new)) why) }
-        // the power goes before any other call, no block is written, and each reads as the power left it
-        ensures begins { B.honest (board_of self.old)
-            → PowerFirst pick (B.view (board_of self.old)) (B.view (board_of self.new)) }
-        ensures writes { (B.view (board_of self.new)).writes
-            ≡ (B.view (board_of self.old)).writes }
-        ensures fuse { (B.view (board_of self.new)).fuse ≡ Unset }
-        ensures steady { IsTrue (no_failure result)
-            → (B.view (board_of self.new)).state.faults
-            ≡ (B.view (board_of self.old)).state.faults }
-        ensures past { B.honest (board_of self.old)
-            → KeepsPast (B.view (board_of self.old)) (B.view (board_of self.new)) }
-        // at Ok the counter is the sequence, whatever the image, and no other is left open
-        ensures counter { B.honest (board_of self.old) → IfOk result (λ sequence.
-            IsSettledAt sequence (B.view (board_of self.new)).state) }
         ensures opened { B.honest (board_of self.old) → IsAlwaysSound Self.keeper self.old
             → OpensAfterPower Self.keeper form (B.view (board_of self.old))
             (B.view (board_of self.new)) result self.old self.new };
@@ -190,17 +166,17 @@ pub trait BoardVolume<B: Board>: Volume + Sized {
         ensures root { root self.new ≡ root self.old }
         ensures fuse { (B.view (board_of self.new)).fuse
             ≡ fuse_after_set (B.view (board_of self.old)).fuse calls }
-        ensures alone { B.honest (board_of self.old)
-            → Passes (B.view (board_of self.old)) (B.view (board_of self.new))
-            × Unchanged (B.view (board_of self.old)).state
-            (B.view (board_of self.new)).state }
         ensures ordered { OrderRun calls (B.view (board_of self.old))
             (B.view (board_of self.new)) }
         ensures lost { (Self.keeper.condition self.new).lost
             ≡ (Self.keeper.condition self.old).lost }
         ensures sequence { (Self.keeper.held self.new).sequence
             ≡ (Self.keeper.held self.old).sequence }
-        ensures honest { B.honest (board_of self.old) → B.honest (board_of self.new) }
+        // on an honest board the clock goes on by one moment, and nothing else changes
+        ensures honest { B.honest (board_of self.old) → B.honest (board_of self.new)
+            × Passes (B.view (board_of self.old)) (B.view (board_of self.new))
+            × Unchanged (B.view (board_of self.old)).state
+            (B.view (board_of self.new)).state }
         ensures same { Self.keeper.honest self.old → IsOrdered Self.keeper self.old self.new };
 
     /// The board.

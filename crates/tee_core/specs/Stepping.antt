@@ -1,11 +1,16 @@
--- What an event of an application leaves of the value: of each world that it represents, of the board, and of the other applications.
+-- What an event of an application leaves of the value, and what an order of the board does: of each world that it represents, of the
+-- board, and of the other applications.
 use Rattle.app_api.specs.Behaviours.{Behaviour}
 use Rattle.std.specs.Prelude.{ℕ, ◌≡◌, ◌≢◌, true, Some, slice_get}
+use Rattle.alone.specs.declared.power.Power.{Power}
 use Rattle.alone.specs.declared.turn.TurnKind.{TurnKind}
 use Rattle.alone.specs.Machine.{Machine}
 use Rattle.alone.specs.Step.{is_enabled}
+use Rattle.board.specs.Moment.{View}
+use Rattle.epoch.specs.Forms.{Form}
 use Rattle.store_api.specs.declared.volume.Volume.{Ghosts}
-use Rattle.tee_core.specs.Moments.{IsSound, IsWithin, KeepsCounts}
+use Rattle.tee_core.specs.Moments.{IsSound, IsWithin, KeepsCounts, OrderLeavesStores}
+use Rattle.tee_core.specs.Powers.{IsTold, after_power}
 use Rattle.tee_core.specs.Represents.{app_count, boots_of, turns_made, volume_of, Represents}
 use Rattle.tee_core.specs.Turning.{MeetsDamage}
 use Rattle.tee_core.specs.World.{AppEvent, World, world_step}
@@ -29,3 +34,16 @@ pub record MakesEvent {B V A : Type 0} {G : Ghosts V} (behaviour : Behaviour A) 
   pub damage : MeetsDamage G.keeper e.app kind (volume_of new)
   pub counts : KeepsCounts kind (G.keeper.condition (volume_of old)) (G.keeper.condition (volume_of new))
   pub below : G.keeper.honest_below (volume_of old) → G.keeper.honest_below (volume_of new)
+
+-- no application makes a turn, comes or goes
+pub record KeepsTurns {B V A : Type 0} {G : Ghosts V} (old new : TeeOver B V A G) : Type 0 where
+  pub apps : app_count new ≡ app_count old
+  pub turns : (app : ℕ) → turns_made new app ≡ turns_made old app
+
+-- the power was lost and came back, of which this was told: the value represents the world in which every machine began anew, what was
+-- told is so by the sequences, and right behind the order itself a crash leaves the stores of that world
+pub record Restarts {B V A : Type 0} {G : Ghosts V} (behaviour : Behaviour A) (form : Form) (before after : View) (start : World A) (tells : Power) (old new : TeeOver B V A G)
+    : Type 0 where
+  pub world : Represents new (after_power behaviour start tells)
+  pub told : IsTold tells start (G.keeper.held (volume_of old)).sequence (G.keeper.held (volume_of new)).sequence
+  pub left : OrderLeavesStores form before after (after_power behaviour start tells)

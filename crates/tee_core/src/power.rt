@@ -7,20 +7,20 @@ ghost use Rattle.tee_base.specs.Faults.{Rose};
 ghost use Rattle.tee_base.specs.declared.limits.TheConstants.{MAX_HOSTS};
 ghost use Rattle.store_api.specs.Stores.{Store};
 ghost use Rattle.store_api.specs.Volumes.{Held};
-ghost use Rattle.board.specs.Moment.{IsCounter, IsLeft, CrashImage};
+ghost use Rattle.board.specs.Moment.{IsCounter};
 ghost use Rattle.board.specs.Runs.{Rests};
 ghost use Rattle.board.specs.Fuse.{fuse_after_set};
 ghost use Rattle.board.specs.Steps.{Passes, SameBlocks, Unchanged};
-ghost use Rattle.board.specs.declared.fuse.Fuse.TheVariants.{Unset};
 ghost use Rattle.epoch.specs.Forms.{held_in};
-ghost use Rattle.epoch.specs.Mounts.{IsAdmitted, IsKeptFromOpening, IsRefusal, IsRefusedNow, LeavesOpening, OrderRun, PowerFirst};
+ghost use Rattle.epoch.specs.Mounts.{IsAdmitted, IsKeptFromOpening, IsRefusal, IsRefusedNow, LeavesOpening, LosesPower, LosesPowerByRule, OrderRun};
 ghost use Rattle.epoch.specs.Opening.{is_no_failure, no_failure};
 ghost use Rattle.epoch.specs.Past.{KeepsPast};
-ghost use Rattle.epoch.specs.declared.mounts.TheConstants.{BLANK, FORMATTED};
+ghost use Rattle.epoch.specs.declared.mounts.TheConstants.{FORMATTED};
 ghost use Rattle.epoch.specs.declared.answer.OpenAnswer.TheVariants as answers;
-ghost use Rattle.tee_core.specs.Moments.{IsWithin, OrderLeavesStores};
+ghost use Rattle.tee_core.specs.Moments.{IsWithin};
 ghost use Rattle.tee_core.specs.Opening.{IsOpenedOver, IsSoundFor};
-ghost use Rattle.tee_core.specs.Powers.{IsTold, after_power, all_lost, kept_by, kept_one, told_of};
+ghost use Rattle.tee_core.specs.Powers.{all_lost, kept_by, kept_one, told_of};
+ghost use Rattle.tee_core.specs.Stepping.{KeepsTurns, Restarts};
 ghost use Rattle.tee_core.specs.Represents.{app_count, boots_of, turns_made, volume_of, Represents};
 ghost use Rattle.tee_core.specs.Sides.{AreBooted, AreLost, AreSides};
 ghost use Rattle.tee_core.specs.World.{World, world_of};
@@ -165,23 +165,22 @@ impl<B: Board, V: BoardVolume<B>, A: Application> TeeOver<B, V, A> {
 
     /// Lets so many calls of the board pass, as the board's `fuse` does.
     pub fn fuse(&mut self, calls: u32)
+        ensures order { OrderRun calls (B.view (V.board_of (volume_of self.old)))
+            (B.view (V.board_of (volume_of self.new))) }
         ensures fuse { (B.view (V.board_of (volume_of self.new))).fuse
             ≡ fuse_after_set (B.view (V.board_of (volume_of self.old))).fuse calls }
-        ensures alone { B.honest (V.board_of (volume_of self.old))
-            → Passes (B.view (V.board_of (volume_of self.old)))
+        // on an honest board the clock goes on by one moment, and nothing else changes
+        ensures honest { B.honest (V.board_of (volume_of self.old))
+            → B.honest (V.board_of (volume_of self.new))
+            × Passes (B.view (V.board_of (volume_of self.old)))
             (B.view (V.board_of (volume_of self.new)))
             × Unchanged (B.view (V.board_of (volume_of self.old))).state
             (B.view (V.board_of (volume_of self.new))).state }
-        ensures order { OrderRun calls (B.view (V.board_of (volume_of self.old)))
-            (B.view (V.board_of (volume_of self.new))) }
         ensures world { (world : World A) → Represents self.old world
             → Represents self.new world }
         ensures moments { (world : World A) → Represents self.old world
             → IsWithin V.keeper world world (volume_of self.old) (volume_of self.new) }
-        ensures honest { B.honest (V.board_of (volume_of self.old))
-            → B.honest (V.board_of (volume_of self.new)) }
-        ensures apps { app_count self.new ≡ app_count self.old }
-        ensures turns { (app : ℕ) → turns_made self.new app ≡ turns_made self.old app }
+        ensures kept { KeepsTurns self.old self.new }
         ensures boots { boots_of self.new ≡ boots_of self.old }
     {
         self.volume.fuse(calls);
@@ -195,54 +194,24 @@ impl<B: Board, V: BoardVolume<B>, A: Application> TeeOver<B, V, A> {
     /// The volume isn't opened again: every application is lost, and is otherwise as before.
     pub fn power(&mut self, pick: u64) -> Result<Power, OpenAnswer>
         requires { boots_of self.old < 2 ^ 32 - 1 }
-        ensures order { OrderRun pick (B.view (V.board_of (volume_of self.old)))
-            (B.view (V.board_of (volume_of self.new))) }
-        ensures world { IfOk result (λ told. (world : World A) → Represents self.old world
-            → Represents self.new (after_power A.behaviour world told)) }
-        // right behind the order itself a crash leaves the stores of that world
-        ensures left { IfOk result (λ told. (world : World A) → Represents self.old world
-            → OrderLeavesStores V.form (B.view (V.board_of (volume_of self.old)))
-            (B.view (V.board_of (volume_of self.new))) (after_power A.behaviour world told)) }
-        ensures told { IfOk result (λ told. (world : World A) → Represents self.old world
-            → IsTold told world (V.keeper.held (volume_of self.old)).sequence
-            (V.keeper.held (volume_of self.new)).sequence) }
+        // the order goes before any other call, no block is written, and a call failed exactly where the answer says so
+        ensures calls { LosesPower pick (no_failure result)
+            (B.view (V.board_of (volume_of self.old))) (B.view (V.board_of (volume_of self.new))) }
+        ensures honest { B.honest (V.board_of (volume_of self.old))
+            → B.honest (V.board_of (volume_of self.new))
+            × LosesPowerByRule V.form pick result
+            (λ told. (V.keeper.held (volume_of self.new)).sequence) (V.root (volume_of self.new))
+            (B.view (V.board_of (volume_of self.old))) (B.view (V.board_of (volume_of self.new))) }
+        // every machine restarts, over what the order itself left to a crash
+        ensures restarted { IfOk result (λ told. (world : World A) → Represents self.old world
+            → Restarts A.behaviour V.form (B.view (V.board_of (volume_of self.old)))
+            (B.view (V.board_of (volume_of self.new))) world told self.old self.new) }
+        // on an honest board with a sound image it is refused only where a call of the board failed
+        ensures refused { IfErr result (λ why. (world : World A) → Represents self.old world
+            → (why ≡ answers.Failed) × Represents self.new (all_lost world)) }
         ensures moments { (world : World A) → Represents self.old world
             → IsWithin V.keeper world world (volume_of self.old) (volume_of self.new) }
-        // on an honest board with a sound image it is refused only where a call of the board failed
-        ensures failed { IfErr result (λ why. (world : World A) → Represents self.old world
-            → why ≡ answers.Failed) }
-        ensures refused { OnErr result ((world : World A) → Represents self.old world
-            → Represents self.new (all_lost world)) }
-        ensures exact { B.honest (V.board_of (volume_of self.old)) → (c : CrashImage)
-            × IsLeft (B.view (V.board_of (volume_of self.old))).state c
-            × IfErr result (λ why. IsRefusal V.form (B.view (V.board_of (volume_of self.old)))
-            c.image c.counter why)
-            × IfOk result (λ told. IsAdmitted V.form (B.view (V.board_of (volume_of self.old)))
-            c.image c.counter BLANK (V.keeper.held (volume_of self.new)).sequence
-            (V.root (volume_of self.new))) }
-        // the power goes before any other call, no block is written, and each reads as the power left it
-        ensures begins { B.honest (V.board_of (volume_of self.old))
-            → PowerFirst pick (B.view (V.board_of (volume_of self.old)))
-            (B.view (V.board_of (volume_of self.new))) }
-        ensures writes { (B.view (V.board_of (volume_of self.new))).writes
-            ≡ (B.view (V.board_of (volume_of self.old))).writes }
-        ensures fuse { (B.view (V.board_of (volume_of self.new))).fuse ≡ Unset }
-        ensures steady { IsTrue (no_failure result)
-            → (B.view (V.board_of (volume_of self.new))).state.faults
-            ≡ (B.view (V.board_of (volume_of self.old))).state.faults }
-        ensures past { B.honest (V.board_of (volume_of self.old))
-            → KeepsPast (B.view (V.board_of (volume_of self.old)))
-            (B.view (V.board_of (volume_of self.new))) }
-        // a refusal is of the board as it is then
-        ensures refusal { B.honest (V.board_of (volume_of self.old)) → IfErr result (λ why.
-            IsRefusedNow V.form (B.view (V.board_of (volume_of self.new))) why) }
-        ensures honest { B.honest (V.board_of (volume_of self.old))
-            → B.honest (V.board_of (volume_of self.new)) }
-        ensures cause { IfErr result (λ why. why ≡ answers.Failed
-            → Rose (B.view (V.board_of (volume_of self.old))).state.faults
-            (B.view (V.board_of (volume_of self.new))).state.faults) }
-        ensures apps { app_count self.new ≡ app_count self.old }
-        ensures turns { (app : ℕ) → turns_made self.new app ≡ turns_made self.old app }
+        ensures kept { KeepsTurns self.old self.new }
         ensures boots { OnOk result (boots_of self.new ≡ boots_of self.old + 1) }
         ensures same_boots { OnErr result (boots_of self.new ≡ boots_of self.old) }
     {

@@ -60,8 +60,8 @@ returns-in-Fuse g c =
       orders = order_made c.in-Fuse.calls _ _ order;
       first_orders = tt;
       losses = losses_none _ _ _ (omega (arith, order.steady, order.later));
-      honest = c.fuse.ensures.honest;
-      apps = c.fuse.ensures.apps;
+      honest = λ h. (c.fuse.ensures.honest h).0;
+      apps = c.fuse.ensures.kept.apps;
       fault = λ is. absurd (never_stopped _ _ is);
       later = omega arith;
     })

@@ -1,5 +1,7 @@
-use Rattle.std.proofs.Common.{◌≡◌, ◌∙◌, [], ◌∷◌, length, refl, sym, arith}
+use Rattle.std.proofs.Common.{◌≡◌, ◌∙◌, [], ◌∷◌, length, refl, sym, ap, arith}
 use Rattle.std.proofs.lemmas.Result.{on_ok_weaker}
+use Rattle.epoch.specs.Opening.{is_no_failure}
+use Rattle.epoch.specs.declared.answer.OpenAnswer.TheVariants.{Failed}
 use Rattle.script.specs.declared.line.Line.TheVariants as lines
 use Rattle.tee_core.specs.Represents.{volume_of}
 use Rattle.tee_core.proofs.SideLemmas.{sides_length}
@@ -50,24 +52,25 @@ returns-in-Ok g c =
     let names = c.args.names.now in
     let ends = c.write_power.result in
     let served = c.write_power.ensures.served in
-    let order = order_made c.args.pick _ _ c.in-Ok.ensures.order in
+    let order = order_made c.args.pick _ _ c.in-Ok.ensures.calls.order in
     record {
       whole = on_ok_weaker ends
           (λ written w stands.
-          let is = c.in-Ok.ensures.told w stands in
-          let after = c.in-Ok.ensures.world w stands in
+          let begins = c.in-Ok.ensures.restarted w stands in
+          let is = begins.told in
           let many : length w ≡ length names = sym (sides_length tee.sides.items w stands.sides_are) ∙ sym c.requires.names in
           power_whole behaviour g.V.BoardVolume.form names w c.args.pick told (owner_known w told _ _ (length names) is many) _ _ _
-          (powers_are tee.sides.items w tee.boots stands.sides_are tee.booted c.requires.some) (owner_is w told _ _ is stands.single) c.in-Ok.ensures.boots c.in-Ok.ensures.order
-          (c.in-Ok.ensures.left w stands) after written)
+          (powers_are tee.sides.items w tee.boots stands.sides_are tee.booted c.requires.some) (owner_is w told _ _ is stands.single) c.in-Ok.ensures.boots c.in-Ok.ensures.calls.order
+          begins.left begins.world written)
           c.write_power.ensures.ok;
       stopped = unless_refused ends _ _
           (λ written w stands.
-          let is = c.in-Ok.ensures.told w stands in
+          let begins = c.in-Ok.ensures.restarted w stands in
+          let is = begins.told in
           let many : length w ≡ length names = sym (sides_length tee.sides.items w stands.sides_are) ∙ sym c.requires.names in
           power_stops behaviour g.V.BoardVolume.form names w c.args.pick told (owner_known w told _ _ (length names) is many) _ _
           (powers_are tee.sides.items w tee.boots stands.sides_are tee.booted c.requires.some) (owner_is w told _ _ is stands.single)
-          (stands_leaves g.V.Volume.keeper g.V.BoardVolume.form then.sides.items (volume_of then) _ _ (g.met.V.BoardVolume.seen (volume_of then)) (c.in-Ok.ensures.world w stands)) written)
+          (stands_leaves g.V.Volume.keeper g.V.BoardVolume.form then.sides.items (volume_of then) _ _ (g.met.V.BoardVolume.seen (volume_of then)) begins.world) written)
           c.write_power.ensures.err;
       refused = no_refusal ends _ served;
       refusal = no_refusal ends _ served;
@@ -76,8 +79,8 @@ returns-in-Ok g c =
       orders = on_ok_known ends _ order;
       first_orders = on_err_known ends _ (all_orders_first (lines.Power c.args.pick ∷ []) _ _ order);
       losses = on_ok_weaker ends (λ written. losses_power names told _ _ _ _ c.requires.words order.later written) c.write_power.ensures.ok;
-      honest = c.in-Ok.ensures.honest;
-      apps = c.in-Ok.ensures.apps;
+      honest = λ h. (c.in-Ok.ensures.honest h).0;
+      apps = c.in-Ok.ensures.kept.apps;
       fault = c.write_power.ensures.fault;
       later = c.write_power.ensures.later;
     }
@@ -88,23 +91,24 @@ pub returns-in-Err : goal.returns-in-Err
 returns-in-Err g c =
     let tee = c.args.tee.now in
     let then = c.power.new.self in
-    let order = c.in-Err.ensures.order in
+    let order = c.in-Err.ensures.calls.order in
+    let rose = λ (is : c.in-Err.why ≡ Failed). c.in-Err.ensures.calls.cause (ap is_no_failure is) in
     record {
       whole = tt;
       stopped = tt;
       refused = λ w stands. (
-        power_refused g.A.Application.behaviour g.V.BoardVolume.form c.args.names.now w c.args.pick _ _ order (c.in-Err.ensures.cause (c.in-Err.ensures.failed w stands))
+        power_refused g.A.Application.behaviour g.V.BoardVolume.form c.args.names.now w c.args.pick _ _ order (rose (c.in-Err.ensures.refused w stands).0)
             (within_leaves g.V.Volume.keeper g.V.BoardVolume.form (volume_of tee) (volume_of then) _ w (g.met.V.BoardVolume.seen (volume_of then)) (c.in-Err.ensures.moments w stands)) refl,
-        c.in-Err.ensures.failed w stands,
+        (c.in-Err.ensures.refused w stands).0,
       );
-      refusal = λ honest. c.in-Err.ensures.refusal honest;
-      cause = λ is. fails_here c.args.pick _ _ order (c.in-Err.ensures.cause is);
+      refusal = λ honest. (c.in-Err.ensures.honest honest).1.refusal;
+      cause = λ is. fails_here c.args.pick _ _ order (rose is);
       power = power_here c.args.pick [];
       orders = tt;
       first_orders = all_orders_first (lines.Power c.args.pick ∷ []) _ _ (order_made c.args.pick _ _ order);
       losses = tt;
-      honest = c.in-Err.ensures.honest;
-      apps = c.in-Err.ensures.apps;
+      honest = λ h. (c.in-Err.ensures.honest h).0;
+      apps = c.in-Err.ensures.kept.apps;
       fault = λ is. absurd (never_refused _ is);
       later = omega arith;
     }

@@ -1,4 +1,4 @@
-use Rattle.std.proofs.Common.{◌≡◌, ◌∙◌, ℕ, List, Err, Option, Some, refl, sym, ap, subst, inl, rules}
+use Rattle.std.proofs.Common.{◌≡◌, ◌∙◌, ℕ, List, Err, Option, Some, true, refl, sym, ap, subst, inl, rules}
 use Rattle.std.proofs.lemmas.Bool.{false≢true}
 use Rattle.tee_base.specs.Crash.{LeavesOnly}
 use Rattle.store_api.specs.Volumes.{Held}
@@ -6,10 +6,11 @@ use Rattle.board.specs.Moment.{IsLeft, CrashImage, View, left_since, moment}
 use Rattle.epoch.proofs.KeepLemmas.{held_steady, steady_in_use, steady_same}
 use Rattle.epoch.specs.Forms.{held_of}
 use Rattle.epoch.specs.Mounting.{MightBe, MountsTo}
-use Rattle.epoch.specs.Mounts.{IsRefusal, IsRefusedNow, LeftByOrder, PowerFirst}
+use Rattle.epoch.specs.Mounts.{IsRefusal, IsRefusedNow, LeftByOrder, LosesPower, PowerFirst}
 use Rattle.epoch.specs.Opening.{no_failure}
 use Rattle.epoch.specs.Past.{KeepsPast}
 use Rattle.epoch.specs.declared.answer.OpenAnswer.TheVariants.{Failed}
+use Rattle.epoch.proofs.CallLemmas.{failed_is}
 use Rattle.epoch.proofs.CommitLemmas.{on_err}
 use Rattle.epoch.proofs.MountLemmas.{admitted_by, before_above, board_sound, past_above, rests_above, taken_counter}
 use Rattle.epoch.specs.Finding.{IsSettledAt, sequence_of}
@@ -18,31 +19,6 @@ use Rattle.tree_paths.specs.Frame.{tree_format, form_framed}
 use Rattle.tree_volume.specs.Keeping.{held_now}
 use Rattle.epoch.proofs.OpenLemmas.{not_ok, told_so}
 use Rattle.tree_volume.proofs.opening.TreeVolumeBoardVolume.power.Goals as goal
-
-pub returns-in_err-found-clause-exact : goal.returns-in_err-found-clause-exact
-returns-in_err-found-clause-exact g c honest =
-    let v = g.B.Board.view c.args.self.now.board in
-    let is : c.from_residual.result ≡ Err c.in_err-found.field-0.0 = search rules in
-    let told = c.in_err-found.ensures.exact honest in (
-      told.0,
-      told.1,
-      told_so c.from_residual.result c.in_err-found.field-0.0 (λ why. IsRefusal tree_form v told.0.image told.0.counter why) is (told.2 tree_form tree_format).0,
-      not_ok c.from_residual.result _ c.from_residual.ensures.0,
-    )
-
-pub returns-clause-exact : goal.returns-clause-exact
-returns-clause-exact g c honest =
-    let v = g.B.Board.view c.args.self.now.board in
-    let told = c.in_ok-found.ensures.exact honest in
-    let taken = admitted_by tree_form v told.0.image told.0.counter 0 c.resume.result (form_root c.resume.new.self.root) c.in_ok-found.found (told.2 tree_form tree_format).1
-    c.resume.ensures.found in
-    (told.0, told.1, tt, taken)
-
-pub returns-in_err-found-clause-refusal : goal.returns-in_err-found-clause-refusal
-returns-in_err-found-clause-refusal g c honest =
-    let w = g.B.Board.view c.mount_after_power.new.board in
-    let is : c.from_residual.result ≡ Err c.in_err-found.field-0.0 = search rules in
-    told_so c.from_residual.result c.in_err-found.field-0.0 (λ why. IsRefusedNow tree_form w why) is (c.in_err-found.ensures.refusal honest tree_form tree_format)
 
 pub returns-in_err-found-clause-opened : goal.returns-in_err-found-clause-opened
 returns-in_err-found-clause-opened g c honest sound =
@@ -116,35 +92,66 @@ returns-clause-opened g c honest sound =
 pub returns-in_err-found-clause-root : goal.returns-in_err-found-clause-root
 returns-in_err-found-clause-root g c = on_err c.from_residual.result _ refl
 
-pub returns-clause-writes : goal.returns-clause-writes
-returns-clause-writes g c = ap (λ (x : View). x.writes) (ap g.B.Board.view c.resume.ensures.board) ∙ c.in_ok-found.ensures.writes
-
-pub returns-clause-past : goal.returns-clause-past
-returns-clause-past g c honest =
-    subst (KeepsPast (g.B.Board.view c.args.self.now.board)) (sym (ap g.B.Board.view c.resume.ensures.board)) (c.in_ok-found.ensures.past honest)
-
-pub returns-clause-begins : goal.returns-clause-begins
-returns-clause-begins g c honest =
-    subst (PowerFirst c.args.pick (g.B.Board.view c.args.self.now.board)) (sym (ap g.B.Board.view c.resume.ensures.board)) (c.in_ok-found.ensures.begins honest)
-
-pub returns-clause-fuse : goal.returns-clause-fuse
-returns-clause-fuse g c = ap (λ (x : View). x.fuse) (ap g.B.Board.view c.resume.ensures.board) ∙ c.in_ok-found.ensures.fuse
-
-pub returns-in_err-found-clause-steady : goal.returns-in_err-found-clause-steady
-returns-in_err-found-clause-steady g c made =
-    let is : c.from_residual.result ≡ Err c.in_err-found.field-0.0 = search rules in
-    c.in_err-found.ensures.steady (ap no_failure (sym is) ∙ made)
-
-pub returns-clause-steady : goal.returns-clause-steady
-returns-clause-steady g c made = ap (λ (x : View). x.state.faults) (ap g.B.Board.view c.resume.ensures.board) ∙ c.in_ok-found.ensures.steady refl
-
-pub returns-in_err-found-clause-counter : goal.returns-in_err-found-clause-counter
-returns-in_err-found-clause-counter g c honest = not_ok c.from_residual.result _ c.from_residual.ensures.0
-
-pub returns-clause-counter : goal.returns-clause-counter
-returns-clause-counter g c honest =
-    taken_counter tree_form c.in_ok-found.found c.resume.result (form_root c.resume.new.self.root) _ c.resume.ensures.found
-    (subst (λ (x : View). IsSettledAt (sequence_of c.in_ok-found.found) x.state) (sym (ap g.B.Board.view c.resume.ensures.board)) (c.in_ok-found.ensures.counter honest))
-
 pub returns-clause-bare : goal.returns-clause-bare
 returns-clause-bare g c = λ image. tt
+
+pub returns-in_err-found-clause-calls : goal.returns-in_err-found-clause-calls
+returns-in_err-found-clause-calls g c =
+    let is : c.from_residual.result ≡ Err c.in_err-found.field-0.0 = search rules in
+    record {
+      order = c.in_err-found.ensures.ordered;
+      cause = λ failed. c.in_err-found.ensures.cause (failed_is _ (ap no_failure (sym is) ∙ failed));
+      steady = λ made. c.in_err-found.ensures.steady (ap no_failure (sym is) ∙ made);
+      writes = c.in_err-found.ensures.writes;
+      fuse = c.in_err-found.ensures.fuse;
+    }
+
+pub returns-clause-calls : goal.returns-clause-calls
+returns-clause-calls g c =
+    let v = g.B.Board.view c.args.self.now.board in
+    subst (LosesPower c.args.pick true v) (sym (ap g.B.Board.view c.resume.ensures.board)) (record {
+      order = c.in_ok-found.ensures.ordered;
+      cause = λ failed. absurd (false≢true (sym failed));
+      steady = λ made. c.in_ok-found.ensures.steady refl;
+      writes = c.in_ok-found.ensures.writes;
+      fuse = c.in_ok-found.ensures.fuse;
+    })
+
+pub returns-in_err-found-clause-honest : goal.returns-in_err-found-clause-honest
+returns-in_err-found-clause-honest g c honest =
+    let v = g.B.Board.view c.args.self.now.board in
+    let w = g.B.Board.view c.mount_after_power.new.board in
+    let is : c.from_residual.result ≡ Err c.in_err-found.field-0.0 = search rules in
+    let told = c.in_err-found.ensures.exact honest in (
+      c.in_err-found.ensures.honest honest,
+      record {
+        begins = c.in_err-found.ensures.begins honest;
+        past = c.in_err-found.ensures.past honest;
+        exact = (
+          told.0,
+          told.1,
+          told_so c.from_residual.result c.in_err-found.field-0.0 (λ why. IsRefusal tree_form v told.0.image told.0.counter why) is (told.2 tree_form tree_format).0,
+          not_ok c.from_residual.result _ c.from_residual.ensures.0,
+        );
+        counter = not_ok c.from_residual.result _ c.from_residual.ensures.0;
+        refusal = told_so c.from_residual.result c.in_err-found.field-0.0 (λ why. IsRefusedNow tree_form w why) is (c.in_err-found.ensures.refusal honest tree_form tree_format);
+      },
+    )
+
+pub returns-clause-honest : goal.returns-clause-honest
+returns-clause-honest g c honest =
+    let v = g.B.Board.view c.args.self.now.board in
+    let stays : g.B.Board.view c.resume.new.self.board ≡ g.B.Board.view c.mount_after_power.new.board = ap g.B.Board.view c.resume.ensures.board in
+    let told = c.in_ok-found.ensures.exact honest in
+    let taken = admitted_by tree_form v told.0.image told.0.counter 0 c.resume.result (form_root c.resume.new.self.root) c.in_ok-found.found (told.2 tree_form tree_format).1
+    c.resume.ensures.found in (
+      subst g.B.Board.honest (sym c.resume.ensures.board) (c.in_ok-found.ensures.honest honest),
+      record {
+        begins = subst (PowerFirst c.args.pick v) (sym stays) (c.in_ok-found.ensures.begins honest);
+        past = subst (KeepsPast v) (sym stays) (c.in_ok-found.ensures.past honest);
+        exact = (told.0, told.1, tt, taken);
+        counter = taken_counter tree_form c.in_ok-found.found c.resume.result (form_root c.resume.new.self.root) _ c.resume.ensures.found
+            (subst (λ (x : View). IsSettledAt (sequence_of c.in_ok-found.found) x.state) (sym stays) (c.in_ok-found.ensures.counter honest));
+        refusal = tt;
+      },
+    )
