@@ -1,16 +1,17 @@
 -- What the opening of a volume on a board promises, and its reopening, a loss of power and a fuse, over the form of the
 -- leaves.
-use Rattle.std.specs.Prelude.{◌≡◌, ◌≤◌, ◌<◌, ◌⊎◌, ◌+◌, ◌%◌, ◌^◌, ◌==◌, ℕ, Bool, List, ◌∷◌, false, true, Option, Some, None, Result, Ok, Err, IfErr, IfOk, OnErr}
+use Rattle.std.specs.Prelude.{◌≡◌, ◌≢◌, ◌≤◌, ◌<◌, ◌⊎◌, ◌+◌, ◌%◌, ◌^◌, ◌==◌, ℕ, Bool, List, ◌∷◌, false, true, Option, Some, None, Result, Ok, Err, IfErr, IfOk, OnErr}
 use Rattle.tee_base.specs.Crash.{LeavesOnly, read_as}
 use Rattle.tee_base.specs.declared.limits.TheConstants.{MAX_HOSTS}
 use Rattle.store_api.specs.Volumes.{Held, RestsAt, VolumeKeeper}
 use Rattle.board.specs.Moment.{IsBehind, IsCounter, IsLeft, CrashImage, Moment, Order, View, left_since, moment}
-use Rattle.board.specs.Steps.{Passes, Powered}
+use Rattle.board.specs.Steps.{CallRun, Passes, Powered, SameBlocks}
 use Rattle.tee_base.specs.Faults.{Rose}
 use Rattle.board.specs.declared.fuse.Fuse.TheVariants.{Unset}
 use Rattle.epoch.specs.Finding.{IsSettledAt}
 use Rattle.epoch.specs.Forms.{Form, Root, held_of, root_of}
-use Rattle.epoch.specs.Opening.{found_header, header_answer, opening_of, opens_as}
+use Rattle.epoch.specs.Alone.{LeavesAlone}
+use Rattle.epoch.specs.Opening.{found_header, header_answer, is_no_failure, opening_of, opens_as}
 use Rattle.epoch.specs.Past.{KeepsPast}
 use Rattle.epoch.specs.declared.answer.OpenAnswer.{OpenAnswer}
 use Rattle.epoch.specs.declared.mounts.TheConstants.{BLANK}
@@ -131,6 +132,38 @@ pub record LosesPowerByRule {A : Type 0} (f : Form) (pick : ℕ) (result : Resul
 abbrev pub LeftByOrder : Form → View → View → Held → Type 0
 LeftByOrder f old new held = (order : Order) → new.ordered ≡ order ∷ old.ordered
     → (c : CrashImage) → IsLeft order.after c → held_of f old.key c ≡ Some held
+
+-- whatever the board: it wasn't opened, and is handed back as the calls left it. A call failed only where that is answered, and where
+-- none did, no block was written
+pub record HandsBack (why : OpenAnswer) (old new : View) : Type 0 where
+  pub calls : CallRun (is_no_failure why) old new
+  pub cause : why ≡ answers.Failed → Rose old.state.faults new.state.faults
+  pub unwritten : why ≢ answers.Failed → new.writes ≡ old.writes
+
+-- the same of an honest board: nothing of the past is forgotten, and of these blocks none changes at any moment; where no call failed,
+-- none at all did; and a refusal is the rule's, of the board that is handed back
+pub record HandsBackByRule (f : Form) (Stays : ℕ → Type 0) (why : OpenAnswer) (old new : View) : Type 0 where
+  pub past : KeepsPast old new
+  pub alone : LeavesAlone Stays old new
+  pub unchanged : why ≢ answers.Failed → SameBlocks old.state new.state
+  pub refusal : IsRefusedNow f new why
+
+-- an honest board that was opened: nothing of the past is forgotten, of these blocks none changes at any moment, and the counter is the
+-- sequence, whatever the image, and no crash may leave another
+pub record OpensHonestly (Stays : ℕ → Type 0) (sequence : Sequence) (old new : View) : Type 0 where
+  pub past : KeepsPast old new
+  pub alone : LeavesAlone Stays old new
+  pub counter : IsSettledAt sequence new.state
+
+-- an honest board that was opened again: it reads as before, and nothing of the past is forgotten; by the rule over what it read as, at
+-- a counter that it may have told, it was opened or refused; the counter is then the sequence, and a refusal is of the board as it is now
+pub record ReopensByRule (f : Form) (result : Result ℕ OpenAnswer) (root : Root) (old new : View) : Type 0 where
+  pub reads : new.state.reads ≡ old.state.reads
+  pub past : KeepsPast old new
+  pub exact : (counter : Counter) × IsCounter old.state counter × IfErr result (λ why. IsRefusal f old old.state.reads counter why)
+      × IfOk result (λ sequence. IsAdmitted f old old.state.reads counter BLANK sequence root)
+  pub counter : IfOk result (λ sequence. IsSettledAt sequence new.state)
+  pub refusal : IfErr result (λ why. IsRefusedNow f new why)
 
 -- within an opening a crash leaves what the board held, or what the opening makes of that
 abbrev pub LeftByOpening : Form → Held → View → CrashImage → Type 0

@@ -1,18 +1,14 @@
 //! A volume on a board: how it is opened, and what happens to its board beside the leaves.
 ghost use Rattle.std.specs.Prelude.{◌≡◌, ◌≢◌, ◌≤◌, ◌<◌, ◌↔◌, ◌⊎◌, ℕ, List, true, false, Some, Err, IsTrue, IfOk, IfErr, OnOk, OnErr};
-ghost use Rattle.tee_base.specs.Faults.{Rose};
 ghost use Rattle.store_api.specs.Volumes.{Held};
 ghost use Rattle.board.specs.Moment.{IsCounter};
 ghost use Rattle.board.specs.Runs.{Rests};
 ghost use Rattle.board.specs.Fuse.{fuse_after_set};
-ghost use Rattle.board.specs.Steps.{CallRun, Passes, SameBlocks, Unchanged};
-ghost use Rattle.epoch.specs.Alone.{LeavesAlone};
+ghost use Rattle.board.specs.Steps.{CallRun, Passes, Unchanged};
 ghost use Rattle.epoch.specs.Finding.{IsSettledAt};
 ghost use Rattle.epoch.specs.Forms.{Form, Root, held_in};
-ghost use Rattle.epoch.specs.Mounts.{IsAdmitted, IsAlwaysSound, IsBack, IsFormed, IsKeptFromOpening, IsOpenedTo, IsOrdered, IsRefusal, IsRefusedNow, IsSeenOn, LeavesOpening, LosesPower, LosesPowerByRule, OpensAfterPower, OpensAgain, OrderRun};
-ghost use Rattle.epoch.specs.Opening.{is_no_failure, no_failure};
-ghost use Rattle.epoch.specs.Past.{KeepsPast};
-ghost use Rattle.epoch.specs.declared.answer.OpenAnswer.TheVariants as answers;
+ghost use Rattle.epoch.specs.Mounts.{HandsBack, HandsBackByRule, IsAdmitted, IsAlwaysSound, IsBack, IsFormed, IsKeptFromOpening, IsOpenedTo, IsOrdered, IsRefusal, IsSeenOn, LeavesOpening, LosesPower, LosesPowerByRule, OpensAfterPower, OpensAgain, OpensHonestly, OrderRun, ReopensByRule};
+ghost use Rattle.epoch.specs.Opening.{no_failure};
 
 use crate::answer::{OpenAnswer, Unopened};
 use board::Board;
@@ -50,24 +46,14 @@ pub trait BoardVolume<B: Board>: Volume + Sized {
     fn open(alloc: Global, board: B) -> Result<Self, Unopened<B>>
         ensures fresh { IfOk result (λ v. (Self.keeper.condition v).lost ≡ false) }
         ensures calls { IfOk result (λ v. CallRun true (B.view board) (B.view (board_of v))) }
-        ensures back { IfErr result (λ u.
-            CallRun (is_no_failure u.why) (B.view board) (B.view u.board)) }
-        ensures cause { IfErr result (λ u. u.why ≡ answers.Failed
-            → Rose (B.view board).state.faults (B.view u.board).state.faults) }
-        ensures past { B.honest board
-            → IfOk result (λ v. KeepsPast (B.view board) (B.view (board_of v))) }
-        ensures past_back { B.honest board
-            → IfErr result (λ u. KeepsPast (B.view board) (B.view u.board)) }
-        // a board that is refused, or for which there was no memory, is as it was
-        ensures unwritten { IfErr result (λ u. u.why ≢ answers.Failed
-            → (B.view u.board).writes ≡ (B.view board).writes) }
-        ensures unchanged { B.honest board → IfErr result (λ u. u.why ≢ answers.Failed
-            → SameBlocks (B.view board).state (B.view u.board).state) }
+        ensures back { IfErr result (λ u. HandsBack u.why (B.view board) (B.view u.board)) }
         // behind the slots what it never writes stays, at every moment too
-        ensures alone { B.honest board → IfOk result (λ v.
-            LeavesAlone (λ k. (3 < k) × untouched k) (B.view board) (B.view (board_of v))) }
-        ensures alone_back { B.honest board → IfErr result (λ u.
-            LeavesAlone (λ k. (3 < k) × untouched k) (B.view board) (B.view u.board)) }
+        ensures honest { B.honest board → IfOk result (λ v. B.honest (board_of v)
+            × OpensHonestly (λ k. (3 < k) × untouched k) (Self.keeper.held v).sequence
+            (B.view board) (B.view (board_of v))) }
+        ensures honest_back { B.honest board → IfErr result (λ u. B.honest u.board
+            × HandsBackByRule form (λ k. (3 < k) × untouched k) u.why
+            (B.view board) (B.view u.board)) }
         // whatever the board: by the rule over what it tells, at some counter
         ensures rule { IsTrue B.tells_reads → (counter : ℕ)
             × IfErr result (λ u. IsRefusal form (B.view board)
@@ -79,14 +65,6 @@ pub trait BoardVolume<B: Board>: Volume + Sized {
             (B.view board).state.reads counter u.why)
             × IfOk result (λ v. IsAdmitted form (B.view board) (B.view board).state.reads counter
             FORMATTED (Self.keeper.held v).sequence (root v)) }
-        // at Ok the counter is the sequence, whatever the image, and no other is left open
-        ensures counter { B.honest board → IfOk result (λ v.
-            IsSettledAt (Self.keeper.held v).sequence (B.view (board_of v)).state) }
-        ensures honest { B.honest board → IfOk result (λ v. B.honest (board_of v)) }
-        ensures honest_back { B.honest board → IfErr result (λ u. B.honest u.board) }
-        // a refusal is of the board that is handed back
-        ensures refusal { B.honest board
-            → IfErr result (λ u. IsRefusedNow form (B.view u.board) u.why) }
         // nothing is kept but what the formatting wrote
         ensures bare { IfOk result (λ v. ((image : ℕ → List ℕ) → keeps v image)
             ⊎ ((Self.keeper.held v).sequence ≡ FORMATTED)) }
@@ -112,33 +90,15 @@ pub trait BoardVolume<B: Board>: Volume + Sized {
     fn reopen(&mut self) -> Result<u64, OpenAnswer>
         ensures calls { CallRun (no_failure result) (B.view (board_of self.old))
             (B.view (board_of self.new)) }
-        ensures cause { result ≡ Err answers.Failed
-            → Rose (B.view (board_of self.old)).state.faults
-            (B.view (board_of self.new)).state.faults }
-        ensures back { IsBack Self.keeper result self.new }
-        ensures honest { B.honest (board_of self.old) → B.honest (board_of self.new) }
-        ensures exact { B.honest (board_of self.old) → (counter : ℕ)
-            × IsCounter (B.view (board_of self.old)).state counter
-            × IfErr result (λ why. IsRefusal form (B.view (board_of self.old))
-            (B.view (board_of self.old)).state.reads counter why)
-            × IfOk result (λ sequence. IsAdmitted form (B.view (board_of self.old))
-            (B.view (board_of self.old)).state.reads counter BLANK sequence (root self.new)) }
-        ensures root { OnErr result (root self.new ≡ root self.old) }
-        ensures bare { OnOk result ((image : ℕ → List ℕ) → keeps self.new image) }
-        // a refusal is of the board as it is then
-        ensures refusal { B.honest (board_of self.old)
-            → IfErr result (λ why. IsRefusedNow form (B.view (board_of self.new)) why) }
-        // no block is written, and each reads as before
+        // no block is written
         ensures writes { (B.view (board_of self.new)).writes
             ≡ (B.view (board_of self.old)).writes }
-        ensures reads { B.honest (board_of self.old)
-            → (B.view (board_of self.new)).state.reads
-            ≡ (B.view (board_of self.old)).state.reads }
-        ensures past { B.honest (board_of self.old)
-            → KeepsPast (B.view (board_of self.old)) (B.view (board_of self.new)) }
-        // at Ok the counter is the sequence, whatever the image, and no other is left open
-        ensures counter { B.honest (board_of self.old) → IfOk result (λ sequence.
-            IsSettledAt sequence (B.view (board_of self.new)).state) }
+        ensures back { IsBack Self.keeper result self.new }
+        ensures honest { B.honest (board_of self.old) → B.honest (board_of self.new)
+            × ReopensByRule form result (root self.new)
+            (B.view (board_of self.old)) (B.view (board_of self.new)) }
+        ensures root { OnErr result (root self.new ≡ root self.old) }
+        ensures bare { OnOk result ((image : ℕ → List ℕ) → keeps self.new image) }
         ensures opened { B.honest (board_of self.old) → IsAlwaysSound Self.keeper self.old
             → OpensAgain Self.keeper result self.old self.new };
 

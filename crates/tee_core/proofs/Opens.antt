@@ -1,7 +1,7 @@
 -- The world over a board that was opened.
 use Rattle.std.proofs.Common.{◌≡◌, ◌<◌, ◌≤◌, ◌+◌, ℕ, zero, suc, true, false, List, [], ◌∷◌, Option, None, Some, Result, Ok, Err}
 use Rattle.std.proofs.Common.{drop, is_some, length, refl, sym, subst, ◌∙◌, ap, inl, ⊎_elim, arith}
-use Rattle.std.specs.Prelude.{◌⊎◌, slice_get}
+use Rattle.std.specs.Prelude.{◌⊎◌, IfErr, slice_get}
 use Rattle.app_api.specs.declared.host.Host.{Host}
 use Rattle.alone.specs.Machine.{Machine, start}
 use Rattle.app_side.specs.declared.side.AppSide.{AppSide}
@@ -112,3 +112,7 @@ none_left [] same = refl
 none_left {X} (x ∷ xs) same =
     let fewer : length (x ∷ xs) ≡ length xs = ap (λ (ys : List X). length ys) same in
     absurd (omega (arith, fewer))
+
+-- what is known of an error is so of what ends in it
+pub told_err : {A E : Type 0} (r : Result A E) (e : E) (P : E → Type 0) → r ≡ Err e → P e → IfErr r P
+told_err {A} {E} r e P is known = subst (λ (x : Result A E). IfErr x P) (sym is) known

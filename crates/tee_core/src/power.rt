@@ -12,7 +12,7 @@ ghost use Rattle.board.specs.Runs.{Rests};
 ghost use Rattle.board.specs.Fuse.{fuse_after_set};
 ghost use Rattle.board.specs.Steps.{Passes, SameBlocks, Unchanged};
 ghost use Rattle.epoch.specs.Forms.{held_in};
-ghost use Rattle.epoch.specs.Mounts.{IsAdmitted, IsKeptFromOpening, IsRefusal, IsRefusedNow, LeavesOpening, LosesPower, LosesPowerByRule, OrderRun};
+ghost use Rattle.epoch.specs.Mounts.{HandsBack, HandsBackByRule, IsAdmitted, IsKeptFromOpening, IsRefusal, LeavesOpening, LosesPower, LosesPowerByRule, OpensHonestly, OrderRun};
 ghost use Rattle.epoch.specs.Opening.{is_no_failure, no_failure};
 ghost use Rattle.epoch.specs.Past.{KeepsPast};
 ghost use Rattle.epoch.specs.declared.mounts.TheConstants.{FORMATTED};
@@ -110,24 +110,14 @@ impl<B: Board, V: BoardVolume<B>, A: Application> TeeOver<B, V, A> {
         ensures turns { IfOk result (λ tee. (app : ℕ) → turns_made tee app ≡ 0) }
         ensures boots { IfOk result (λ tee. boots_of tee ≡ 0) }
         // a refusal hands the board back, as its calls left it
-        ensures back { IfErr result (λ u.
-            IsOpenedOver (is_no_failure u.why) (B.view board) (B.view u.board)) }
-        // a board that is refused, or for which there was no memory, is as it was
-        ensures unwritten { IfErr result (λ u. u.why ≢ answers.Failed
-            → (B.view u.board).writes ≡ (B.view board).writes) }
-        ensures unchanged { B.honest board → IfErr result (λ u. u.why ≢ answers.Failed
-            → SameBlocks (B.view board).state (B.view u.board).state) }
-        ensures past { B.honest board
-            → IfOk result (λ tee. KeepsPast (B.view board) (B.view (V.board_of (volume_of tee)))) }
-        ensures past_back { B.honest board
-            → IfErr result (λ u. KeepsPast (B.view board) (B.view u.board)) }
-        ensures refusal { B.honest board
-            → IfErr result (λ u. IsRefusedNow V.form (B.view u.board) u.why) }
-        ensures honest { B.honest board
-            → IfOk result (λ tee. B.honest (V.board_of (volume_of tee))) }
-        ensures honest_back { B.honest board → IfErr result (λ u. B.honest u.board) }
-        ensures cause { IfErr result (λ u. u.why ≡ answers.Failed
-            → Rose (B.view board).state.faults (B.view u.board).state.faults) }
+        ensures back { IfErr result (λ u. HandsBack u.why (B.view board) (B.view u.board)) }
+        ensures honest { B.honest board → IfOk result (λ tee. B.honest (V.board_of (volume_of tee))
+            × OpensHonestly (λ k. (3 < k) × V.untouched k)
+            (V.keeper.held (volume_of tee)).sequence (B.view board)
+            (B.view (V.board_of (volume_of tee)))) }
+        ensures honest_back { B.honest board → IfErr result (λ u. B.honest u.board
+            × HandsBackByRule V.form (λ k. (3 < k) × V.untouched k) u.why (B.view board)
+            (B.view u.board)) }
         // whatever the board: by the rule over what it tells, at some counter
         ensures rule { IsTrue B.tells_reads → (counter : ℕ)
             × IfErr result (λ u. IsRefusal V.form (B.view board)

@@ -35,14 +35,14 @@ returns-in-Err-clause-stopped g c = λ stopped honest stores begins.
     let kept = c.in-Err.ensures.unopened honest begins.counter begins.held begins.rests begins.size begins.sound.opens in
     nothing_written g.A.Application.behaviour g.V.BoardVolume.form c.args.hosts.items c.requires.fit c.args.seed stores c.args.lines.items (g.B.Board.view c.in-Err.field-0.board)
     (g.W.Sink.written c.args.sink.now)
-    (opening_leaves g.V.BoardVolume.form c.args.hosts.items c.args.seed stores (g.B.Board.view c.args.board) begins (g.B.Board.view c.in-Err.field-0.board) c.in-Err.ensures.back.key kept.1)
+    (opening_leaves g.V.BoardVolume.form c.args.hosts.items c.args.seed stores (g.B.Board.view c.args.board) begins (g.B.Board.view c.in-Err.field-0.board) c.in-Err.ensures.back.calls.key kept.1)
 
 pub returns-in-Err-clause-board_fault : goal.returns-in-Err-clause-board_fault
 returns-in-Err-clause-board_fault g c = λ fault honest stores begins.
     let kept = c.in-Err.ensures.unopened honest begins.counter begins.held begins.rests begins.size begins.sound.opens in
     inl (
       refl,
-      opening_leaves g.V.BoardVolume.form c.args.hosts.items c.args.seed stores (g.B.Board.view c.args.board) begins (g.B.Board.view c.in-Err.field-0.board) c.in-Err.ensures.back.key kept.1,
+      opening_leaves g.V.BoardVolume.form c.args.hosts.items c.args.seed stores (g.B.Board.view c.args.board) begins (g.B.Board.view c.in-Err.field-0.board) c.in-Err.ensures.back.calls.key kept.1,
     )
 
 pub returns-in-Err-clause-accepted : goal.returns-in-Err-clause-accepted
@@ -52,7 +52,7 @@ returns-in-Err-clause-accepted g c = λ why same honest stores begins.
 
 pub returns-in-Err-clause-refusal : goal.returns-in-Err-clause-refusal
 returns-in-Err-clause-refusal g c = λ why same honest.
-    refused_told g.V.BoardVolume.form (g.B.Board.view c.in-Err.field-0.board) c.in-Err.field-0.why why (sym c.refusal_status.ensures ∙ same) (c.in-Err.ensures.refusal honest)
+    refused_told g.V.BoardVolume.form (g.B.Board.view c.in-Err.field-0.board) c.in-Err.field-0.why why (sym c.refusal_status.ensures ∙ same) (c.in-Err.ensures.honest_back honest).1.refusal
 
 pub returns-in-Err-clause-refused : goal.returns-in-Err-clause-refused
 returns-in-Err-clause-refused g c = λ why same honest.
@@ -79,13 +79,13 @@ returns-in-Err-clause-cause g c = λ fault.
     inl (
       refl,
       record {
-        orders = orders_opened _ _ _ c.in-Err.ensures.back;
-        failed = c.in-Err.ensures.cause (failed_told c.in-Err.field-0.why (sym c.refusal_status.ensures ∙ fault));
+        orders = orders_opened _ _ _ c.in-Err.ensures.back.calls;
+        failed = c.in-Err.ensures.back.cause (failed_told c.in-Err.field-0.why (sym c.refusal_status.ensures ∙ fault));
       },
     )
 
 pub returns-in-Err-clause-first_orders : goal.returns-in-Err-clause-first_orders
-returns-in-Err-clause-first_orders g c = first_orders_none c.args.lines.items _ _ (orders_opened _ _ _ c.in-Err.ensures.back)
+returns-in-Err-clause-first_orders g c = first_orders_none c.args.lines.items _ _ (orders_opened _ _ _ c.in-Err.ensures.back.calls)
 
 pub returns-in-Err-clause-opened : goal.returns-in-Err-clause-opened
 returns-in-Err-clause-opened g c = λ honest. inl (refl, subst IsUnopened (sym c.refusal_status.ensures) (never_opened c.in-Err.field-0.why))
@@ -190,7 +190,7 @@ pub returns-clause-refusal : goal.returns-clause-refusal
 returns-clause-refusal g c = λ why same honest.
     let left = g.B.Board.view (g.V.BoardVolume.board_of (volume_of c.run_lines.new.tee)) in
     let refused = ended_refused c.run_lines.result _ why (sym c.run_status-status.ensures ∙ same) c.run_lines.ensures.refusal in
-    rw c.into_board.ensures (refused_told g.V.BoardVolume.form left refused.0 why refused.2 (refused.1 (c.in-Ok-open.ensures.honest honest)))
+    rw c.into_board.ensures (refused_told g.V.BoardVolume.form left refused.0 why refused.2 (refused.1 (c.in-Ok-open.ensures.honest honest).0))
 
 pub returns-clause-opened : goal.returns-clause-opened
 returns-clause-opened g c = λ honest.

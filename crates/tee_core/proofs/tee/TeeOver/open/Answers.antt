@@ -1,13 +1,13 @@
-use Rattle.std.proofs.Common.{inr, refl, arith, rules}
+use Rattle.std.proofs.Common.{◌≡◌, ◌<◌, ℕ, Err, inr, refl, arith, rules}
 use Rattle.store_api.specs.Stores.{empty_store}
+use Rattle.epoch.specs.declared.answer.OpenAnswer.TheVariants.{Failed, NoMemory}
+use Rattle.epoch.proofs.AloneLemmas.{alone_none}
+use Rattle.epoch.proofs.OpenLemmas.{blocks_none}
 use Rattle.epoch.proofs.PastLemmas.{itself}
-use Rattle.tee_core.proofs.Opens.{leaves_resting, run_of_none, stand_opened, turns_started}
+use Rattle.tee_core.proofs.Opens.{leaves_resting, run_of_none, stand_opened, told_err, turns_started}
 use Rattle.tee_core.proofs.tee.TeeOver.open.Goals as goal
 
 -- ---- there is no memory for the hosts
-
-pub returns-in_default-clause-back : goal.returns-in_default-clause-back
-returns-in_default-clause-back g c = run_of_none (g.B.Board.view c.args.board)
 
 pub returns-in_default-clause-exact : goal.returns-in_default-clause-exact
 returns-in_default-clause-exact g c = λ honest.
@@ -56,8 +56,25 @@ returns-clause-rule g c = c.in_ok-volume.ensures.rule
 pub returns-clause-exact : goal.returns-clause-exact
 returns-clause-exact g c = c.in_ok-volume.ensures.exact
 
-pub returns-in_default-clause-past_back : goal.returns-in_default-clause-past_back
-returns-in_default-clause-past_back g c = λ honest. itself (g.B.Board.view c.args.board)
+pub returns-in_default-clause-back : goal.returns-in_default-clause-back
+returns-in_default-clause-back g c = record {
+  calls = run_of_none (g.B.Board.view c.args.board);
+  cause = λ failed. absurd (let e : NoMemory ≡ Failed = failed in cc);
+  unwritten = λ other. refl;
+}
 
-pub returns-clause-past : goal.returns-clause-past
-returns-clause-past g c = c.in_ok-volume.ensures.past
+pub returns-in_default-clause-honest_back : goal.returns-in_default-clause-honest_back
+returns-in_default-clause-honest_back g c = λ honest. (
+  honest,
+  record {
+    past = itself (g.B.Board.view c.args.board);
+    alone = alone_none (λ (k : ℕ). (3 < k) × g.V.BoardVolume.untouched k) _ (g.met.B.Board.consistent c.args.board honest);
+    unchanged = λ other. blocks_none _;
+    refusal = tt;
+  },
+)
+
+pub returns-in_err-volume-clause-honest_back : goal.returns-in_err-volume-clause-honest_back
+returns-in_err-volume-clause-honest_back g c = λ honest.
+    let is : c.from_residual.result ≡ Err c.in_err-volume.field-0.0 = search rules in
+    told_err c.from_residual.result c.in_err-volume.field-0.0 _ is (c.in_err-volume.ensures.honest_back honest)

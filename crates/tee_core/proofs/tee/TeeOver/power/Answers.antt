@@ -66,7 +66,12 @@ returns-in-Ok-clause-honest g c = λ honest.
       record {
         begins = is.1.begins;
         past = is.1.past;
-        exact = (left.0, left.1, tt, subst (λ n. IsAdmitted g.V.BoardVolume.form view left.0.image left.0.counter 0 n (g.V.BoardVolume.root c.power.new.self)) (sym c.in-Ok.ensures.back.sequence) left.3);
+        exact = (
+          left.0,
+          left.1,
+          tt,
+          subst (λ n. IsAdmitted g.V.BoardVolume.form view left.0.image left.0.counter 0 n (g.V.BoardVolume.root c.power.new.self)) (sym c.in-Ok.ensures.back.sequence) left.3,
+        );
         counter = subst (λ n. IsSettledAt n then.state) (sym c.in-Ok.ensures.back.sequence) is.1.counter;
         refusal = tt;
       },

@@ -1,4 +1,5 @@
-use Rattle.std.proofs.Common.{◌<◌, ℕ, inl, inr, refl, sym, subst, arith}
+use Rattle.std.proofs.Common.{◌≡◌, ◌<◌, ℕ, Err, inl, inr, refl, sym, ap, subst, arith}
+use Rattle.epoch.specs.declared.answer.OpenAnswer.TheVariants.{Failed, NoMemory}
 use Rattle.epoch.proofs.AloneLemmas.{alone_none}
 use Rattle.epoch.specs.Mounting.{after_opening}
 use Rattle.epoch.specs.Mounts.{IsOpenedTo}
@@ -34,15 +35,6 @@ returns-in-Err-clause-unopened g c honest n h rests large is =
 pub returns-in-Ok-open_board-clause-bare : goal.returns-in-Ok-open_board-clause-bare
 returns-in-Ok-open_board-clause-bare g c = inl (λ image. tt)
 
-pub returns-in_default-clause-back : goal.returns-in_default-clause-back
-returns-in_default-clause-back g c = run_none _
-
-pub returns-in_default-clause-past_back : goal.returns-in_default-clause-past_back
-returns-in_default-clause-past_back g c honest = itself _
-
-pub returns-in_default-clause-unchanged : goal.returns-in_default-clause-unchanged
-returns-in_default-clause-unchanged g c honest = (λ other. blocks_none _)
-
 pub returns-in_default-clause-rule : goal.returns-in_default-clause-rule
 returns-in_default-clause-rule g c tells = (0, tt, tt)
 
@@ -54,11 +46,35 @@ returns-in_default-clause-exact g c honest =
 pub returns-in_default-clause-unopened : goal.returns-in_default-clause-unopened
 returns-in_default-clause-unopened g c honest n h rests large is = (inr refl, leaves_resting tree_form (g.B.Board.view c.args.board) n h rests is)
 
-pub returns-in_default-clause-alone_back : goal.returns-in_default-clause-alone_back
-returns-in_default-clause-alone_back g c honest = alone_none (λ (k : ℕ). (3 < k) × (k < 8742)) _ (g.met.B.Board.consistent c.args.board honest)
+pub returns-in_default-clause-back : goal.returns-in_default-clause-back
+returns-in_default-clause-back g c = record {
+  calls = run_none _;
+  cause = λ failed. absurd (let e : NoMemory ≡ Failed = failed in cc);
+  unwritten = λ other. refl;
+}
 
-pub returns-in-Ok-open_board-clause-alone : goal.returns-in-Ok-open_board-clause-alone
-returns-in-Ok-open_board-clause-alone g c honest = c.in-Ok-open_board.ensures.alone honest
+pub returns-in_default-clause-honest_back : goal.returns-in_default-clause-honest_back
+returns-in_default-clause-honest_back g c honest = (
+  honest,
+  record {
+    past = itself _;
+    alone = alone_none (λ (k : ℕ). (3 < k) × (k < 8742)) _ (g.met.B.Board.consistent c.args.board honest);
+    unchanged = λ other. blocks_none _;
+    refusal = tt;
+  },
+)
 
-pub returns-in-Err-clause-alone_back : goal.returns-in-Err-clause-alone_back
-returns-in-Err-clause-alone_back g c honest = c.in-Err.ensures.alone honest
+pub returns-in-Ok-open_board-clause-honest : goal.returns-in-Ok-open_board-clause-honest
+returns-in-Ok-open_board-clause-honest g c honest =
+    let e = c.in-Ok-open_board.ensures in
+    (e.honest honest, record { past = e.past honest; alone = e.alone honest; counter = e.counter honest })
+
+pub returns-in-Err-clause-back : goal.returns-in-Err-clause-back
+returns-in-Err-clause-back g c =
+    let e = c.in-Err.ensures in
+    record { calls = e.calls; cause = λ failed. e.cause (ap Err failed); unwritten = e.unwritten }
+
+pub returns-in-Err-clause-honest_back : goal.returns-in-Err-clause-honest_back
+returns-in-Err-clause-honest_back g c honest =
+    let e = c.in-Err.ensures in
+    (e.honest honest, record { past = e.past honest; alone = e.alone honest; unchanged = e.unchanged honest; refusal = e.refusal honest })

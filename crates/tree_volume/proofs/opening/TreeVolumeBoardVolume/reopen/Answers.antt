@@ -20,29 +20,6 @@ use Rattle.tree_volume.specs.Keeping.{held_now}
 use Rattle.epoch.proofs.OpenLemmas.{not_ok, told_so}
 use Rattle.tree_volume.proofs.opening.TreeVolumeBoardVolume.reopen.Goals as goal
 
-pub returns-in_err-found-clause-exact : goal.returns-in_err-found-clause-exact
-returns-in_err-found-clause-exact g c honest =
-    let v = g.B.Board.view c.args.self.now.board in
-    let is : c.from_residual.result ≡ Err c.in_err-found.field-0.0 = search rules in
-    let told = c.in_err-found.ensures.exact honest in (
-      told.0,
-      told.1,
-      told_so c.from_residual.result c.in_err-found.field-0.0 (λ why. IsRefusal tree_form v v.state.reads told.0 why) is (told.2 tree_form tree_format).0,
-      not_ok c.from_residual.result _ c.from_residual.ensures.0,
-    )
-
-pub returns-clause-exact : goal.returns-clause-exact
-returns-clause-exact g c honest =
-    let v = g.B.Board.view c.args.self.now.board in
-    let told = c.in_ok-found.ensures.exact honest in
-    (told.0, told.1, tt, admitted_by tree_form v v.state.reads told.0 0 c.resume.result (form_root c.resume.new.self.root) c.in_ok-found.found (told.2 tree_form tree_format).1 c.resume.ensures.found)
-
-pub returns-in_err-found-clause-refusal : goal.returns-in_err-found-clause-refusal
-returns-in_err-found-clause-refusal g c honest =
-    let w = g.B.Board.view c.mount_again.new.board in
-    let is : c.from_residual.result ≡ Err c.in_err-found.field-0.0 = search rules in
-    told_so c.from_residual.result c.in_err-found.field-0.0 (λ why. IsRefusedNow tree_form w why) is (c.in_err-found.ensures.refusal honest tree_form tree_format)
-
 pub returns-in_err-found-clause-opened : goal.returns-in_err-found-clause-opened
 returns-in_err-found-clause-opened g c honest sound =
     let v = g.B.Board.view c.args.self.now.board in
@@ -100,13 +77,6 @@ returns-in_err-found-clause-root g c = on_err c.from_residual.result _ refl
 pub returns-clause-writes : goal.returns-clause-writes
 returns-clause-writes g c = ap (λ (x : View). x.writes) (ap g.B.Board.view c.resume.ensures.board) ∙ c.in_ok-found.ensures.writes
 
-pub returns-clause-past : goal.returns-clause-past
-returns-clause-past g c honest =
-    subst (KeepsPast (g.B.Board.view c.args.self.now.board)) (sym (ap g.B.Board.view c.resume.ensures.board)) (c.in_ok-found.ensures.past honest)
-
-pub returns-clause-reads : goal.returns-clause-reads
-returns-clause-reads g c honest = ap (λ (x : View). x.state.reads) (ap g.B.Board.view c.resume.ensures.board) ∙ c.in_ok-found.ensures.reads honest
-
 pub returns-in_err-found-clause-calls : goal.returns-in_err-found-clause-calls
 returns-in_err-found-clause-calls g c =
     let is : c.from_residual.result ≡ Err c.in_err-found.field-0.0 = search rules in
@@ -115,13 +85,47 @@ returns-in_err-found-clause-calls g c =
 pub returns-clause-calls : goal.returns-clause-calls
 returns-clause-calls g c = subst (CallRun true (g.B.Board.view c.args.self.now.board)) (sym (ap g.B.Board.view c.resume.ensures.board)) c.in_ok-found.ensures.calls
 
-pub returns-in_err-found-clause-counter : goal.returns-in_err-found-clause-counter
-returns-in_err-found-clause-counter g c honest = not_ok c.from_residual.result _ c.from_residual.ensures.0
-
-pub returns-clause-counter : goal.returns-clause-counter
-returns-clause-counter g c honest =
-    taken_counter tree_form c.in_ok-found.found c.resume.result (form_root c.resume.new.self.root) _ c.resume.ensures.found
-    (subst (λ (x : View). IsSettledAt (sequence_of c.in_ok-found.found) x.state) (sym (ap g.B.Board.view c.resume.ensures.board)) (c.in_ok-found.ensures.counter honest))
-
 pub returns-clause-bare : goal.returns-clause-bare
 returns-clause-bare g c = λ image. tt
+
+pub returns-in_err-found-clause-honest : goal.returns-in_err-found-clause-honest
+returns-in_err-found-clause-honest g c honest =
+    let v = g.B.Board.view c.args.self.now.board in
+    let w = g.B.Board.view c.mount_again.new.board in
+    let is : c.from_residual.result ≡ Err c.in_err-found.field-0.0 = search rules in
+    let told = c.in_err-found.ensures.exact honest in (
+      c.in_err-found.ensures.honest honest,
+      record {
+        reads = c.in_err-found.ensures.reads honest;
+        past = c.in_err-found.ensures.past honest;
+        exact = (
+          told.0,
+          told.1,
+          told_so c.from_residual.result c.in_err-found.field-0.0 (λ why. IsRefusal tree_form v v.state.reads told.0 why) is (told.2 tree_form tree_format).0,
+          not_ok c.from_residual.result _ c.from_residual.ensures.0,
+        );
+        counter = not_ok c.from_residual.result _ c.from_residual.ensures.0;
+        refusal = told_so c.from_residual.result c.in_err-found.field-0.0 (λ why. IsRefusedNow tree_form w why) is (c.in_err-found.ensures.refusal honest tree_form tree_format);
+      },
+    )
+
+pub returns-clause-honest : goal.returns-clause-honest
+returns-clause-honest g c honest =
+    let v = g.B.Board.view c.args.self.now.board in
+    let stays : g.B.Board.view c.resume.new.self.board ≡ g.B.Board.view c.mount_again.new.board = ap g.B.Board.view c.resume.ensures.board in
+    let told = c.in_ok-found.ensures.exact honest in (
+      subst g.B.Board.honest (sym c.resume.ensures.board) (c.in_ok-found.ensures.honest honest),
+      record {
+        reads = ap (λ (x : View). x.state.reads) stays ∙ c.in_ok-found.ensures.reads honest;
+        past = subst (KeepsPast v) (sym stays) (c.in_ok-found.ensures.past honest);
+        exact = (
+          told.0,
+          told.1,
+          tt,
+          admitted_by tree_form v v.state.reads told.0 0 c.resume.result (form_root c.resume.new.self.root) c.in_ok-found.found (told.2 tree_form tree_format).1 c.resume.ensures.found,
+        );
+        counter = taken_counter tree_form c.in_ok-found.found c.resume.result (form_root c.resume.new.self.root) _ c.resume.ensures.found
+            (subst (λ (x : View). IsSettledAt (sequence_of c.in_ok-found.found) x.state) (sym stays) (c.in_ok-found.ensures.counter honest));
+        refusal = tt;
+      },
+    )
