@@ -6,7 +6,8 @@ use Rattle.alone.specs.Machine.{Machine}
 use Rattle.alone.specs.Step.{after_call}
 use Rattle.app_side.specs.declared.side.AppSide.{AppSide}
 use Rattle.app_side.specs.declared.side.Called.{Called}
-use Rattle.app_side.specs.Represents.{IsCalled, Represents, machine_of}
+use Rattle.app_side.specs.declared.side.Taken.{Taken}
+use Rattle.app_side.specs.Represents.{called_of, IsCalled, Represents, machine_of}
 use Rattle.app_side.proofs.Stored.{called_lost, called_over, step_instance, step_replies, step_stands}
 
 pub call_stands : {A : Type 0} (old new : AppSide A) (made : Called) (number client : ℕ) (call : Call) → IsCalled new made number (after_call (machine_of old) client call) →
@@ -25,7 +26,7 @@ pub call_lost : {A : Type 0} (old new : AppSide A) (made : Called) (number clien
 call_lost {A} old new made number client call is = ap (λ (m : Machine A). m.lost) is.machine ∙ called_lost (machine_of old) client call
 
 -- whether it was answered or not
-pub either_lost : {A : Type 0} (old new : AppSide A) (r : Result Called NoMemory) (number client : ℕ) (call : Call) →
-    IfOk r (λ made. IsCalled new made number (after_call (machine_of old) client call)) → OnErr r (machine_of new ≡ machine_of old) → new.lost ≡ old.lost
-either_lost old new (Ok made) number client call is same = call_lost old new made number client call is
+pub either_lost : {A : Type 0} (old new : AppSide A) (r : Result Taken NoMemory) (number client : ℕ) (call : Call) →
+    IfOk r (λ taken. IsCalled new (called_of taken) number (after_call (machine_of old) client call)) → OnErr r (machine_of new ≡ machine_of old) → new.lost ≡ old.lost
+either_lost old new (Ok taken) number client call is same = call_lost old new (called_of taken) number client call is
 either_lost {A} old new (Err none) number client call is same = ap (λ (m : Machine A). m.lost) same

@@ -1,7 +1,9 @@
 -- Which machines a running application stands for.
-use Rattle.std.specs.Prelude.{ℕ, ◌≡◌, Bool, true, ◌||◌, List, [], Option, None, Some, if◌then◌else◌}
+use Rattle.std.specs.Prelude.{ℕ, ◌≡◌, Bool, true, ◌||◌, List, [], ◌∷◌, Option, None, Some, if◌then◌else◌}
 use Rattle.store_api.specs.Stores.{Store, empty_store}
+use Rattle.alone.specs.Replies.{no_outputs}
 use Rattle.alone.specs.declared.reply.Reply.{Reply}
+use Rattle.instances.specs.declared.instances.Refusal.{Refusal}
 use Rattle.object_asks.specs.declared.turn.TurnKind.{TurnKind as StoreKind}
 use Rattle.object_asks.specs.declared.turn.TurnKind.TheVariants as store_kinds
 use Rattle.operation_asks.specs.Kept.{state_of}
@@ -11,11 +13,12 @@ use Rattle.alone.specs.declared.turn.TurnKind.{TurnKind}
 use Rattle.alone.specs.declared.turn.TurnKind.TheVariants as kinds
 use Rattle.object_asks.specs.Asks.{Outcome, Answered, Returned, Panicked}
 use Rattle.alone.specs.Machine.{Machine}
-use Rattle.alone.specs.Step.{Stepped, Event, Turned, TurnLost, Corrupted, Starved, torn_down}
+use Rattle.alone.specs.Step.{Stepped, Event, Turned, TurnLost, Corrupted, Starved, reply_of, torn_down}
 use Rattle.object_asks.specs.declared.outcome.Outcome.{Outcome as Result_of}
 use Rattle.object_asks.specs.declared.outcome.Outcome.TheVariants as outcomes
 use Rattle.app_side.specs.declared.side.AppSide.{AppSide}
 use Rattle.app_side.specs.declared.side.Called.{Called}
+use Rattle.app_side.specs.declared.side.Taken.{Taken}
 use Rattle.tee_base.specs.Words.{InstanceNumber}
 
 -- a store in doubt, where there is one
@@ -83,6 +86,15 @@ store_kind kinds.Plain = store_kinds.Plain
 store_kind (kinds.Lost changes) = store_kinds.Lost changes
 store_kind kinds.Starved = store_kinds.Plain
 store_kind kinds.Corrupted = store_kinds.Corrupted
+
+-- the reply of a call that is refused, and none of one that waits
+abbrev pub replies_at_once : ℕ → Option Refusal → List Reply
+replies_at_once op None = []
+replies_at_once op (Some refusal) = reply_of op refusal.code refusal.origin no_outputs ∷ []
+
+-- what becomes of a call that was taken in
+abbrev pub called_of : Taken → Called
+called_of taken = record { op = taken.op; instance = taken.instance; replies = replies_at_once taken.op taken.refusal }
 
 -- the value and what became of the call are those of a step
 pub record IsCalled {A : Type 0} (side : AppSide A) (called : Called) (number : ℕ) (s : Stepped A) : Type 0 where

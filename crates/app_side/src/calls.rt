@@ -5,12 +5,12 @@ ghost use Rattle.std.specs.Prelude.{◌≡◌, ◌<◌, ◌^◌, ◌++◌, [], �
 ghost use Rattle.instances.specs.Instances.{admission_of};
 ghost use Rattle.op_queue.specs.Queue.{is_full, is_close_call};
 ghost use Rattle.alone.specs.Step.{answered_at_once, after_call, called_open, called_invoke, closed_in, facts_of_label, new_instance, opened_as, after_queueing};
-ghost use Rattle.app_side.specs.Represents.{machine_of, IsCalled};
+ghost use Rattle.app_side.specs.Represents.{called_of, machine_of, IsCalled};
 
-use crate::side::{AppSide, Called};
-use alone::{Call, Instance, Outputs, Replies, Reply};
+use crate::side::{AppSide, Taken};
+use alone::{Call, Instance};
 use app_api::{Application, Params};
-use instances::{Admission, SessionState};
+use instances::{Admission, Refusal, SessionState};
 use op_queue::QueueAnswer;
 use std::alloc::Global;
 use tee_base::{Code, NoMemory, Origin};
@@ -38,21 +38,15 @@ fn add_instance<A: Application>(
 
 impl<A: Application> AppSide<A> {
     /// A call that is answered at once.
-    fn refuse(&mut self, code: Code, origin: Origin) -> Called
+    fn refuse(&mut self, code: Code, origin: Origin) -> Taken
         requires { self.old.queue.next < MAX_NUMBER }
-        ensures { IsCalled self.new result self.old.queue.next
+        ensures { IsCalled self.new (called_of result) self.old.queue.next
             (answered_at_once (machine_of self.old) code origin) }
     {
-        let op = self.queue.skip();
-        Called {
-            op,
+        Taken {
+            op: self.queue.skip(),
             instance: 0,
-            replies: Replies::one(Reply {
-                op,
-                code,
-                origin,
-                outputs: Outputs::nothing(),
-            }),
+            refusal: Some(Refusal { code, origin }),
         }
     }
 
@@ -63,19 +57,19 @@ impl<A: Application> AppSide<A> {
         instance: u8,
         session: u8,
         call: Call,
-    ) -> Result<Called, NoMemory>
+    ) -> Result<Taken, NoMemory>
         requires room { self.old.queue.next < MAX_NUMBER }
         requires accepted { (is_full self.old.queue && not (is_close_call call)) ≡ false }
         ensures ok { IfOk result (λ waiting.
-            IsCalled self.new waiting self.old.queue.next
+            IsCalled self.new (called_of waiting) self.old.queue.next
             (after_queueing (machine_of self.old) client instance session call)) }
         ensures err { OnErr result (self.new ≡ self.old) }
     {
         match self.queue.submit(client, instance, session, call) {
-            Ok(op) => Ok(Called {
+            Ok(op) => Ok(Taken {
                 op,
                 instance,
-                replies: Replies::none(),
+                refusal: None,
             }),
             Err(QueueAnswer::Full) => unreachable!(),
             Err(QueueAnswer::NoMemory) => Err(NoMemory),
@@ -89,13 +83,13 @@ impl<A: Application> AppSide<A> {
         label: u32,
         params: Params,
         admission: Admission,
-    ) -> Result<Called, NoMemory>
+    ) -> Result<Taken, NoMemory>
         requires room { self.old.queue.next < MAX_NUMBER }
         requires accepted { is_full self.old.queue ≡ false }
         requires admitted { admission_of self.old.sessions client label ≡ Ok admission }
         requires shared { admission.new_instance ≡ false }
         ensures ok { IfOk result (λ waiting.
-            IsCalled self.new waiting self.old.queue.next
+            IsCalled self.new (called_of waiting) self.old.queue.next
             (opened_as (machine_of self.old) client label params (Ok admission))) }
         ensures err { OnErr result (machine_of self.new ≡ machine_of self.old) }
     {
@@ -112,13 +106,13 @@ impl<A: Application> AppSide<A> {
         label: u32,
         params: Params,
         admission: Admission,
-    ) -> Result<Called, NoMemory>
+    ) -> Result<Taken, NoMemory>
         requires room { self.old.queue.next < MAX_NUMBER }
         requires accepted { is_full self.old.queue ≡ false }
         requires admitted { admission_of self.old.sessions client label ≡ Ok admission }
         requires own { admission.new_instance ≡ true }
         ensures ok { IfOk result (λ waiting.
-            IsCalled self.new waiting self.old.queue.next
+            IsCalled self.new (called_of waiting) self.old.queue.next
             (opened_as (machine_of self.old) client label params (Ok admission))) }
         ensures err { OnErr result (machine_of self.new ≡ machine_of self.old) }
     {
@@ -141,11 +135,11 @@ impl<A: Application> AppSide<A> {
     }
 
     /// An open that is refused for want of a session or an instance, or that is admitted.
-    fn enter(&mut self, client: u8, label: u32, params: Params) -> Result<Called, NoMemory>
+    fn enter(&mut self, client: u8, label: u32, params: Params) -> Result<Taken, NoMemory>
         requires room { self.old.queue.next < MAX_NUMBER }
         requires accepted { is_full self.old.queue ≡ false }
         ensures ok { IfOk result (λ waiting.
-            IsCalled self.new waiting self.old.queue.next
+            IsCalled self.new (called_of waiting) self.old.queue.next
             (opened_as (machine_of self.old) client label params
             (admission_of self.old.sessions client label))) }
         ensures err { OnErr result (machine_of self.new ≡ machine_of self.old) }
@@ -162,10 +156,10 @@ impl<A: Application> AppSide<A> {
         }
     }
 
-    fn open(&mut self, client: u8, label: u32, params: Params) -> Result<Called, NoMemory>
+    fn open(&mut self, client: u8, label: u32, params: Params) -> Result<Taken, NoMemory>
         requires { self.old.queue.next < MAX_NUMBER }
         ensures ok { IfOk result (λ waiting.
-            IsCalled self.new waiting self.old.queue.next
+            IsCalled self.new (called_of waiting) self.old.queue.next
             (called_open (machine_of self.old) client label params)) }
         ensures err { OnErr result (machine_of self.new ≡ machine_of self.old) }
     {
@@ -190,10 +184,10 @@ impl<A: Application> AppSide<A> {
         label: u32,
         command: u32,
         params: Params,
-    ) -> Result<Called, NoMemory>
+    ) -> Result<Taken, NoMemory>
         requires { self.old.queue.next < MAX_NUMBER }
         ensures ok { IfOk result (λ waiting.
-            IsCalled self.new waiting self.old.queue.next
+            IsCalled self.new (called_of waiting) self.old.queue.next
             (called_invoke (machine_of self.old) client label command params)) }
         ensures err { OnErr result (machine_of self.new ≡ machine_of self.old) }
     {
@@ -229,11 +223,12 @@ impl<A: Application> AppSide<A> {
         }
     }
 
-    fn close(&mut self, client: u8, label: u32) -> Result<Called, NoMemory>
+    fn close(&mut self, client: u8, label: u32) -> Result<Taken, NoMemory>
         requires { self.old.queue.next < MAX_NUMBER }
         ensures ok { IfOk result (λ waiting.
-            IsCalled self.new waiting self.old.queue.next (closed_in (machine_of self.old)
-            client label (facts_of_label (machine_of self.old) client label))) }
+            IsCalled self.new (called_of waiting) self.old.queue.next
+            (closed_in (machine_of self.old) client label
+            (facts_of_label (machine_of self.old) client label))) }
         ensures err { OnErr result (machine_of self.new ≡ machine_of self.old) }
     {
         let Some(known) = self.sessions.find(client, label) else {
@@ -263,10 +258,11 @@ impl<A: Application> AppSide<A> {
 
     /// A client's call.
     #[tactic(auto, unfolding(alone::specs::Step::after_call))]
-    pub(crate) fn serve(&mut self, client: u8, call: Call) -> Result<Called, NoMemory>
+    #[inline(never)]
+    pub(crate) fn serve(&mut self, client: u8, call: Call) -> Result<Taken, NoMemory>
         requires { self.old.queue.next < MAX_NUMBER }
         ensures ok { IfOk result (λ waiting.
-            IsCalled self.new waiting self.old.queue.next
+            IsCalled self.new (called_of waiting) self.old.queue.next
             (after_call (machine_of self.old) client call)) }
         ensures err { OnErr result (machine_of self.new ≡ machine_of self.old) }
     {

@@ -66,6 +66,7 @@ impl<A: Application> AppSide<A> {
 
     /// A client asks for the operation to be cancelled.
     #[tactic(auto, unfolding(alone::specs::Step::after_cancellation))]
+    #[inline(never)]
     pub(crate) fn request(&mut self, op: u64) -> Replies
         ensures { IsTurned self.new result (after_cancellation (machine_of self.old) op) }
     {

@@ -76,7 +76,10 @@ impl<A: Application> AppSide<A> {
             drop(call);
             return Err(NoMemory);
         }
-        self.serve(client, call)
+        match self.serve(client, call) {
+            Ok(taken) => Ok(taken.called()),
+            Err(NoMemory) => Err(NoMemory),
+        }
     }
 
     /// A client asks for the operation of this number to be cancelled. One that has not begun is answered, and an open among

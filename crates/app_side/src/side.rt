@@ -1,8 +1,11 @@
 //! What is kept of a running application.
 
-use alone::{Instance, Replies, TurnKind};
+ghost use Rattle.std.specs.Prelude.{◌≡◌};
+ghost use Rattle.app_side.specs.Represents.{called_of, replies_at_once};
+
+use alone::{Instance, Outputs, Replies, Reply, TurnKind};
 use app_api::{Application, Host};
-use instances::Instances;
+use instances::{Instances, Refusal};
 use object_asks::Held;
 use op_queue::OpQueue;
 use operation_asks::Operations;
@@ -38,6 +41,46 @@ pub struct Called {
     /// The instance for which it waits, 0 where it is answered already.
     pub instance: u8,
     pub replies: Replies,
+}
+
+/// A call as it was taken in, without a table of replies: only a refusal is answered at once.
+#[derive(Clone, Copy, Debug)]
+pub(crate) struct Taken {
+    /// The number of its operation.
+    pub(crate) op: u64,
+    /// The instance for which it waits, 0 where it is refused.
+    pub(crate) instance: u8,
+    pub(crate) refusal: Option<Refusal>,
+}
+
+impl Taken {
+    /// Its reply, where it has one.
+    #[inline(never)]
+    fn replies(&self) -> Replies
+        ensures { result ≡ replies_at_once self.now.op self.now.refusal }
+    {
+        match self.refusal {
+            None => Replies::none(),
+            Some(Refusal { code, origin }) => Replies::one(Reply {
+                op: self.op,
+                code,
+                origin,
+                outputs: Outputs::nothing(),
+            }),
+        }
+    }
+
+    /// What became of it.
+    #[inline(never)]
+    pub(crate) fn called(self) -> Called
+        ensures { result ≡ called_of self }
+    {
+        Called {
+            op: self.op,
+            instance: self.instance,
+            replies: self.replies(),
+        }
+    }
 }
 
 /// What became of a turn.

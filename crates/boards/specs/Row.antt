@@ -1,5 +1,5 @@
--- A row of blocks: the bytes of those that were written, and the same bytes in all others.
-use Rattle.std.specs.Prelude.{◌≡◌, ◌≢◌, ◌≤◌, ℕ, List, length, slice_index_or, vec_len, vec_capacity}
+-- A row of blocks: the bytes of those that were written, and zeros in all others.
+use Rattle.std.specs.Prelude.{◌≡◌, ◌≢◌, ◌≤◌, ℕ, List, length, replicate, slice_index_or, vec_len, vec_capacity}
 use Rattle.tee_base.specs.declared.limits.TheConstants.{BLOCK_BYTES}
 use Rattle.boards.specs.BlockList.{IsBlockList}
 use Rattle.boards.specs.Places.{place_in}
@@ -7,7 +7,7 @@ use Rattle.boards.specs.declared.row.Row.{Row}
 
 -- the bytes of a block
 abbrev pub block_of : Row → ℕ → List ℕ
-block_of r k = slice_index_or r.blocks.items (place_in r.written.blocks.items k) r.blank
+block_of r k = slice_index_or r.blocks.items (place_in r.written.blocks.items k) (replicate BLOCK_BYTES 0)
 
 -- each written block has its bytes, 1,024 of them, and there is room for every block
 pub record IsRow (r : Row) : Type 0 where

@@ -33,10 +33,23 @@ fn leads_to<R: Files>(rt: &R, path: &str, file: &R::File) -> io::Result<bool> {
     Ok(named.dev() == held.dev() && named.ino() == held.ino())
 }
 
+/// Removes the file of this path. The library's call holds the path twice in buffers of 4,096 bytes, so it stands in a function
+/// that makes this call alone.
+#[inline(never)]
+fn remove<R: Files>(rt: &R, path: &str) -> io::Result<()> {
+    fs::remove_file(rt, path)
+}
+
+/// Gives the file of this name another one, where nothing has that. It stands alone for the same reason, with two paths.
+#[inline(never)]
+fn link<R: Files>(rt: &R, name: &str, path: &str) -> io::Result<()> {
+    fs::hard_link(rt, name, path)
+}
+
 /// Takes away a file that this call made and holds. What can't be taken away is left.
 pub fn take_away<R: Files>(rt: &R, path: &str, file: &R::File) {
     if let Ok(true) = leads_to(rt, path, file) {
-        let _ = fs::remove_file(rt, path);
+        let _ = remove(rt, path);
     }
 }
 
@@ -95,7 +108,7 @@ fn put_at<R: Files>(
     let written = file.write_all(&[0; COUNTER_BYTES]);
     blame(role, FileFault::Unwritable, written)?;
     blame(role, FileFault::Unsynced, file.sync_all())?;
-    blame(role, FileFault::Unwritable, fs::hard_link(rt, name, path))
+    blame(role, FileFault::Unwritable, link(rt, name, path))
 }
 
 /// Makes a counter file of the number 0, held by this process. It has its name only once it is whole and on the disk.

@@ -42,7 +42,7 @@ impl MemBoard {
         ensures zero { IfOk result (λ b.
             (k : ℕ) → k < blocks → (view_of b).state.reads k ≡ replicate BLOCK_BYTES 0) }
     {
-        let zeros = Row::repeated(alloc, [0; 1024], blocks as usize)?;
+        let zeros = Row::zeros(alloc, blocks as usize)?;
         MemBoard::of_row(alloc, zeros, 0, key)
     }
 

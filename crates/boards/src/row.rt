@@ -1,5 +1,5 @@
 //! A row of blocks, each of which is made at its first write.
-ghost use Rattle.std.specs.Prelude.{◌≡◌, ◌≢◌, ◌*◌, ◌/◌, ◌%◌, ◌<◌, ℕ, IfOk, length, vec_len};
+ghost use Rattle.std.specs.Prelude.{◌≡◌, ◌≢◌, ◌*◌, ◌/◌, ◌%◌, ◌<◌, ℕ, IfOk, length, replicate, vec_len};
 ghost use Rattle.tee_base.specs.declared.limits.TheConstants.{BLOCK_BYTES};
 ghost use Rattle.boards.specs.Image.{block_at};
 ghost use Rattle.boards.specs.Places.{place_in};
@@ -14,28 +14,22 @@ use tee_base::{Bytes, NoMemory};
 pub struct Row {
     /// The blocks that were written, in the order of their first writes.
     written: BlockList,
-    /// The bytes of each of them.
+    /// The bytes of each of them. Every other block is zeros.
     blocks: Vec<[u8; 1024]>,
-    /// The bytes of every other block.
-    blank: [u8; 1024],
 }
 
 impl Row {
     ghost use Rattle.boards.specs.Row.{IsRow, Sets, block_of};
 
-    /// So many blocks with these bytes.
-    pub fn repeated(alloc: Global, block: [u8; 1024], count: usize) -> Result<Row, NoMemory>
+    /// So many zero blocks.
+    pub fn zeros(alloc: Global, count: usize) -> Result<Row, NoMemory>
         ensures row { IfOk result IsRow }
         ensures count { IfOk result (λ r. r.written.count ≡ count) }
-        ensures blocks { IfOk result (λ r. (k : ℕ) → block_of r k ≡ block) }
+        ensures blocks { IfOk result (λ r. (k : ℕ) → block_of r k ≡ replicate BLOCK_BYTES 0) }
     {
         let written = BlockList::new(alloc, count)?;
         let blocks = Vec::with_capacity(alloc, count)?;
-        Ok(Row {
-            written,
-            blocks,
-            blank: block,
-        })
+        Ok(Row { written, blocks })
     }
 
     /// The blocks of an image.
@@ -47,7 +41,7 @@ impl Row {
             → block_of r k ≡ block_at image.now k) }
     {
         let count = image.len() / 1024;
-        let mut row = Row::repeated(alloc, [0; 1024], count)?;
+        let mut row = Row::zeros(alloc, count)?;
         for at in 0..count {
             let mut block = [0; 1024];
             block.copy_from_slice(&image[1024 * at..1024 * at + 1024]);
@@ -85,7 +79,7 @@ impl Row {
     {
         match self.written.find(at) {
             Some(place) => self.blocks[place],
-            None => self.blank,
+            None => [0; 1024],
         }
     }
 

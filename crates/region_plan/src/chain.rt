@@ -47,6 +47,7 @@ fn add(chains: &mut Chains, inode: usize, leaf: usize)
 }
 
 /// The chains of all inodes.
+#[inline(never)]
 pub(crate) fn chains_of(form: Form, map: &Map) -> Chains
     ensures { AreChains (entries_in map.now) (layout form).leaves result.last result.next }
 {

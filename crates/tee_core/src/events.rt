@@ -44,6 +44,7 @@ impl<B, V: Volume, A: Application> TeeOver<B, V, A> {
     /// # Errors
     ///
     /// There is no memory for a call, which changes nothing. No other event ends so.
+    #[inline(never)]
     pub fn event(&mut self, event: Event) -> Result<Happened, NoMemory>
         requires known { app_of event < app_count self.old }
         requires room { turns_made self.old (app_of event) < MAX_NUMBER }
@@ -63,12 +64,13 @@ impl<B, V: Volume, A: Application> TeeOver<B, V, A> {
     {
         match event {
             Event::Call { app, client, call } => self.call(app, client, call),
-            Event::Cancel { app, op } => Ok(self.cancel(app, op)),
+            Event::Cancel { app, op } => self.cancel(app, op),
             Event::Turn { app, instance } => Ok(self.turn(app, instance)),
         }
     }
 
     /// A client's call. Want of memory changes nothing.
+    #[inline(never)]
     pub(crate) fn call(&mut self, app: u8, client: u8, call: Call) -> Result<Happened, NoMemory>
         requires known { app < app_count self.old }
         ensures made { IfOk result (λ told. MakesEvent A.behaviour
@@ -97,27 +99,31 @@ impl<B, V: Volume, A: Application> TeeOver<B, V, A> {
     }
 
     /// A client asks for the operation of this number to be cancelled. It takes no memory.
-    fn cancel(&mut self, app: u8, op: u64) -> Happened
+    #[inline(never)]
+    fn cancel(&mut self, app: u8, op: u64) -> Result<Happened, NoMemory>
         requires known { app < app_count self.old }
-        ensures made { MakesEvent A.behaviour (record { app = app; event = Cancelled op })
-            result.kind self.old self.new }
-        ensures told { (world : World A) (m : Machine A) → Represents self.old world
-            → slice_get world app ≡ Some m → result ≡ happened_in A.behaviour m (Cancelled op) }
+        ensures made { IfOk result (λ told. MakesEvent A.behaviour
+            (record { app = app; event = Cancelled op }) told.kind self.old self.new) }
+        ensures told { IfOk result (λ told.
+            (world : World A) (m : Machine A) → Represents self.old world
+            → slice_get world app ≡ Some m → told ≡ happened_in A.behaviour m (Cancelled op)) }
+        ensures never { OnErr result ⊥ }
         ensures kept { KeepsOthers app self.old self.new }
         ensures turns { turns_made self.new app ≡ turns_made self.old app }
     {
         let side = &mut self.sides[app as usize];
         let replies = side.cancel(op);
-        Happened {
+        Ok(Happened {
             kind: TurnKind::Plain,
             turn: side.turns(),
             op,
             instance: 0,
             replies,
-        }
+        })
     }
 
     /// A turn of the instance.
+    #[inline(never)]
     fn turn(&mut self, app: u8, instance: u8) -> Happened
         requires known { app < app_count self.old }
         requires room { turns_made self.old app < MAX_NUMBER }
@@ -142,6 +148,7 @@ impl<B, V: Volume, A: Application> TeeOver<B, V, A> {
     }
 
     /// A turn of the instance, with its replies. One that lost the storage is told to every other application.
+    #[inline(never)]
     pub(crate) fn advance(&mut self, app: u8, instance: u8, replies: &mut Replies) -> TurnKind
         requires known { app < app_count self.old }
         requires room { turns_made self.old app < MAX_NUMBER }

@@ -38,6 +38,7 @@ use std::marker::PhantomData;
 use tee_base::NoMemory;
 
 /// The hosts' applications, none of which has run anything yet.
+#[inline(never)]
 fn start_all<A: Application>(
     alloc: Global,
     hosts: Vec<Host<A>>,

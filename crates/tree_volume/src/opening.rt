@@ -234,6 +234,7 @@ impl<B: Board + Drop> BoardVolume<B> for TreeVolume<B> {
 
     ghost below = { λ v. (λ h. h, λ h. h) };
 
+    #[inline(never)]
     fn open(alloc: Global, board: B) -> Result<TreeVolume<B>, Unopened<B>> {
         let mut board = board;
         let Ok(nodes) = Nodes::new(alloc) else {

@@ -1,4 +1,5 @@
 use Rattle.std.proofs.Common.{arith}
+use Rattle.std.proofs.lemmas.Result.{on_err_weaker}
 use Rattle.tee_core.proofs.tee.TeeOver.event.Goals as goal
 
 pub returns-in-Call-clause-made : goal.returns-in-Call-clause-made
@@ -36,3 +37,9 @@ returns-in-Turn-clause-kept g c = rw c.in-Turn.is c.turn.ensures.kept
 
 pub returns-in-Turn-clause-turns : goal.returns-in-Turn-clause-turns
 returns-in-Turn-clause-turns g c = rw c.in-Turn.is (omega (arith, c.turn.ensures.turns))
+
+pub returns-in-Cancel-clause-err : goal.returns-in-Cancel-clause-err
+returns-in-Cancel-clause-err g c = on_err_weaker c.cancel.result (λ none. absurd none) c.cancel.ensures.never
+
+pub returns-in-Cancel-clause-same : goal.returns-in-Cancel-clause-same
+returns-in-Cancel-clause-same g c = on_err_weaker c.cancel.result (λ none. absurd none) c.cancel.ensures.never
