@@ -122,6 +122,7 @@ fn run_status(run: Result<(), Stop>) -> Status
 }
 
 /// Runs the lines for these hosts over the objects of a board, and hands it back.
+#[inline(never)]
 pub fn serve<B: Board, V: BoardVolume<B>, W: Sink, A: Application>(
     alloc: Global,
     lines: Vec<Line>,

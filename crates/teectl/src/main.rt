@@ -43,8 +43,9 @@ fn ended(alloc: Global, status: Status, text: Option<&[u8]>, explains: bool) -> 
 }
 
 /// Runs the words over a board, and says how it ended.
-fn run_over<R: Input + Print, B: Board + Drop>(
-    rt: &R,
+#[inline(never)]
+fn run_over<B: Board + Drop>(
+    rt: &HostRuntime,
     alloc: Global,
     words: &[String],
     (board, seed): (B, [u8; 32]),
@@ -53,23 +54,19 @@ fn run_over<R: Input + Print, B: Board + Drop>(
     let Ok(hosts) = sample_hosts(alloc) else {
         return Ended::plain(Status::NoMemory);
     };
-    let mut source = KeptSource::new(alloc, StdSource::new(rt.reader()), explains);
+    let mut source = KeptSource::new(alloc, StdSource::new(rt.stdin()), explains);
     let mut sink = StdSink::new(io::writer(rt));
     let (status, _board) = run_tee(alloc, words, &mut source, &mut sink, board, hosts, seed);
     ended(alloc, status, source.kept(), explains)
 }
 
 /// Runs the words over a blank board in memory.
-fn run_in_memory<R: Input + Print>(
-    rt: &R,
-    alloc: Global,
-    words: &[String],
-    explains: bool,
-) -> Ended {
+#[inline(never)]
+fn run_in_memory(rt: &HostRuntime, alloc: Global, words: &[String], explains: bool) -> Ended {
     let Ok(hosts) = sample_hosts(alloc) else {
         return Ended::plain(Status::NoMemory);
     };
-    let mut source = KeptSource::new(alloc, StdSource::new(rt.reader()), explains);
+    let mut source = KeptSource::new(alloc, StdSource::new(rt.stdin()), explains);
     let mut sink = StdSink::new(io::writer(rt));
     let status = run_blank(alloc, words, &mut source, &mut sink, hosts, BLANK_SEED);
     ended(alloc, status, source.kept(), explains)
@@ -97,11 +94,12 @@ fn run_over_files(
 }
 
 /// Checks the script on standard input. A check is asked for its reasons.
-fn check_input<R: Input>(rt: &R, alloc: Global) -> Ended {
+#[inline(never)]
+fn check_input(rt: &HostRuntime, alloc: Global) -> Ended {
     let Ok(hosts) = sample_hosts(alloc) else {
         return Ended::plain(Status::NoMemory);
     };
-    let mut source = KeptSource::new(alloc, StdSource::new(rt.reader()), true);
+    let mut source = KeptSource::new(alloc, StdSource::new(rt.stdin()), true);
     let status = check_script(alloc, &mut source, hosts.as_slice());
     ended(alloc, status, source.kept(), true)
 }
