@@ -47,6 +47,10 @@ fn words_for<A>(
             format!(in alloc; "a script has at most {most} bytes")?
         }
         Status::BadWords => String::from_str(alloc, "teectl --help tells the words")?,
+        Status::ReadFault => String::from_str(
+            alloc,
+            "standard input can't be read: it may be a folder, or closed",
+        )?,
         Status::StoreRefused(why) => String::from_str(alloc, refusal_reason(why))?,
         Status::BoardFault => String::from_str(
             alloc,
