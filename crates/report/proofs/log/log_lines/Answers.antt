@@ -23,11 +23,13 @@ loop-entry-preserved c =
     let i = c.loop-entry.entry-index in
     let here = c.loop-entry.invariant in
     let numbered = c.op_after-op.ensures in
-    let few = one_number (is_call (event_by e.client e.event)) in
+    let event = event_by e.client e.event in
+    let taken = cond (is_call event) 1 0 in
+    let few = one_number (is_call event) in
     let left = drop (i + 1) c.parts.result.0.now in
     record {
       text = ap (λ (op : ℕ). c.replies.new.self ++ text_from name (c.loop-entry.place + 1) op (log_with_replies left c.split.result.1.now)) numbered
-          ∙ ap (λ rs. c.replies.new.self ++ text_from name (c.loop-entry.place + 1) (c.loop-entry.op + cond (is_call (event_by e.client e.event)) 1 0) (log_with_replies left rs)) c.split.ensures.others
+          ∙ ap (λ rs. c.replies.new.self ++ text_from name (c.loop-entry.place + 1) (c.loop-entry.op + taken) (log_with_replies left rs)) c.split.ensures.others
           ∙ one_more name c.loop-entry.text c.entry_line.new.self c.replies.new.self c.loop-entry.place c.loop-entry.op c.parts.result.0.now c.loop-entry.left.now i e
           c.loop-entry-test.true c.entry-item.is c.in_ok-entry_line.ensures
           (c.in_ok-replies.ensures ∙ ap (λ rs. c.entry_line.new.self ++ flat_map (reply_text name) rs) c.split.ensures.first)
