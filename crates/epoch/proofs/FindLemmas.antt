@@ -15,7 +15,7 @@ use Rattle.epoch.specs.Opening.{IsRuled, answer_at, header_answer, is_no_failure
 use Rattle.epoch.specs.Slots.{slot_of}
 use Rattle.epoch.specs.Steps.{outcome_opening}
 use Rattle.epoch.specs.declared.answer.OpenAnswer.{OpenAnswer}
-use Rattle.epoch.specs.declared.answer.OpenAnswer.TheVariants.{Ahead, NoVolume, TooSmall, Rollback, UnknownVersion, Failed}
+use Rattle.epoch.specs.declared.answer.OpenAnswer.TheVariants.{Ahead, BadHeader, Failed, NoMemory, NoVolume, Rollback, TooSmall, UnknownVersion}
 use Rattle.epoch.specs.declared.header.Header.{Header}
 use Rattle.epoch.specs.declared.rule.Found.{Found}
 use Rattle.epoch.specs.declared.slots.Slot.{Slot}
@@ -107,9 +107,25 @@ pub judged_opening : (knows : ℕ → Bool) (key : List ℕ) (image : ℕ → Li
 unfolding opening_of
 judged_opening knows key image first second n r one two is = is ∙ rw (one, two) refl
 
--- the rule never answers that a call failed
+-- an answer by which the rule refuses: neither a failed call nor want of memory
+abbrev is_ruled : OpenAnswer → Bool
+is_ruled Failed = false
+is_ruled NoMemory = false
+is_ruled _ = true
+
+ruled_made : (why : OpenAnswer) → is_ruled why ≡ true → is_no_failure why ≡ true
+ruled_made Failed is = is
+ruled_made NoMemory is = refl
+ruled_made (TooSmall blocks) is = refl
+ruled_made (NoVolume counter) is = refl
+ruled_made (BadHeader slot found kept) is = refl
+ruled_made (UnknownVersion version) is = refl
+ruled_made (Rollback sequence counter) is = refl
+ruled_made (Ahead sequence counter) is = refl
+
+-- the rule never answers otherwise
 abbrev IsAnswered : Result (Option Found) OpenAnswer → Type 0
-IsAnswered r = IfErr r (λ why. is_no_failure why ≡ true)
+IsAnswered r = IfErr r (λ why. is_ruled why ≡ true)
 
 -- so a header is judged, by the three tests
 tests_answered : (old low high : Bool) (version slot : ℕ) (header : Header) (n : ℕ)
@@ -143,7 +159,14 @@ by_answered knows (Good header) (Good other) n =
     newer_answered (nat_lt header.sequence other.sequence) (answer_at knows 1 other n) (answer_at knows 0 header n) (at_answered knows 1 other n) (at_answered knows 0 header n)
 
 pub judged_so : (knows : ℕ → Bool) (first second : Slot) (n : ℕ) (answer : OpenAnswer) → opening_by knows first second n ≡ Err answer → is_no_failure answer ≡ true
-judged_so knows first second n answer e = subst IsAnswered e (by_answered knows first second n)
+judged_so knows first second n answer e = ruled_made answer (subst IsAnswered e (by_answered knows first second n))
+
+pub judged_memory : (knows : ℕ → Bool) (first second : Slot) (n : ℕ) → opening_by knows first second n ≡ Err NoMemory → ⊥
+judged_memory knows first second n e = let same : false ≡ true = subst IsAnswered e (by_answered knows first second n) in cc
+
+-- what is Ok is no error
+pub ok_never : {A E : Type 0} (x : A) (e : E) → (let ok : Result A E = Ok x in ok ≡ Err e) → ⊥
+ok_never x e is = cc
 
 -- an answer that is what was judged, on a board that is large enough
 pub ruled_answer : (knows : ℕ → Bool) (blocks size : ℕ) (key : List ℕ) (image : ℕ → List ℕ) (n : ℕ) (r : Result (Option Found) OpenAnswer) (result : Result (Option Header) OpenAnswer)

@@ -1,13 +1,20 @@
 -- What is found by a search for the header that counts, over the form of the leaves: on a board that holds this, after a
 -- sync, and after a loss of power.
-use Rattle.std.specs.Prelude.{◌≡◌, ℕ, false, List, Option, Some, None, Result, Ok, Err, IfErr, IfOk}
+use Rattle.std.specs.Prelude.{◌≡◌, ◌≢◌, ℕ, false, List, Option, Some, None, Result, Ok, Err, IfErr, IfOk}
 use Rattle.tee_base.specs.Crash.{LeavesOnly}
+use Rattle.tee_base.specs.Faults.{Rose}
 use Rattle.store_api.specs.Volumes.{Held}
 use Rattle.board.specs.Moment.{IsCounter, IsLeft, Moment, CrashImage, View, left_since, moment}
+use Rattle.board.specs.Steps.{CallRun, SameBlocks}
+use Rattle.epoch.specs.Alone.{LeavesAlone}
 use Rattle.epoch.specs.Commits.{IsMounted}
+use Rattle.epoch.specs.Finding.{IsSettledAt, sequence_of}
+use Rattle.epoch.specs.Formats.{IsAccepted}
 use Rattle.epoch.specs.Forms.{Form, IsBlankRoot, Root, held_in, held_of, root_of}
 use Rattle.epoch.specs.Mounts.{IsLeftSound, LeftByOrder}
-use Rattle.epoch.specs.Opening.{opening_of}
+use Rattle.epoch.specs.Opening.{no_failure, opening_of}
+use Rattle.epoch.specs.Past.{KeepsPast}
+use Rattle.epoch.specs.declared.format.Format.{Format}
 use Rattle.epoch.specs.declared.answer.OpenAnswer.{OpenAnswer}
 use Rattle.epoch.specs.declared.answer.OpenAnswer.TheVariants as answers
 use Rattle.epoch.specs.declared.header.Header.{Header}
@@ -75,3 +82,20 @@ pub record MountsAfterPower (f : Form) (result : Result (Option Header) OpenAnsw
   pub ordered : LeftByOrder f old new again.chosen
   pub rests : (c : CrashImage) → IsLeft new.state c
       → held_of f old.key c ≡ Some again.chosen
+
+-- a search for the header that counts, of a volume of this format, whatever the board: a call failed only where that is answered, there
+-- is never want of memory, a header that is found is accepted, and no block is written
+pub record Searches (format : Format) (result : Result (Option Header) OpenAnswer) (old new : View) : Type 0 where
+  pub calls : CallRun (no_failure result) old new
+  pub cause : result ≡ Err answers.Failed → Rose old.state.faults new.state.faults
+  pub memory : result ≢ Err answers.NoMemory
+  pub accepted : IfOk result (λ header. IsAccepted format header)
+  pub writes : new.writes ≡ old.writes
+
+-- the same of an honest board: nothing of the past is forgotten, the blocks stay, at every moment too, and at Ok the counter is settled
+-- at the sequence, and at 0 where the board is blank
+pub record SearchesHonestly (result : Result (Option Header) OpenAnswer) (old new : View) : Type 0 where
+  pub past : KeepsPast old new
+  pub blocks : SameBlocks old.state new.state
+  pub alone : LeavesAlone (λ k. Unit {0}) old new
+  pub counter : IfOk result (λ header. IsSettledAt (sequence_of header) new.state)

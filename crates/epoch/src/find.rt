@@ -6,8 +6,9 @@ ghost use Rattle.board.specs.Moment.{View, IsCounter, moment, left_since};
 ghost use Rattle.board.specs.Runs.{Rests, RunsOver};
 ghost use Rattle.board.specs.Steps.{CallRun, SameBlocks};
 ghost use Rattle.epoch.specs.Alone.{LeavesAlone};
-ghost use Rattle.epoch.specs.Formats.{IsAccepted, accepts};
-ghost use Rattle.epoch.specs.Finding.{Finds, OpensBelow, IsSettledAt, RefusesOlder, sequence_of};
+ghost use Rattle.epoch.specs.Formats.{accepts};
+ghost use Rattle.epoch.specs.Finding.{Finds, OpensBelow, IsSettledAt, RefusesOlder};
+ghost use Rattle.epoch.specs.Mounting.{Searches, SearchesHonestly};
 ghost use Rattle.epoch.specs.Opening.{IsRuled, no_failure, opening_of, opens_as};
 ghost use Rattle.epoch.specs.Past.{KeepsPast};
 ghost use Rattle.epoch.specs.Steps.{outcome_opening};
@@ -31,19 +32,10 @@ use seal::Keys;
 /// As the opening rule refuses, and `Failed` where a call of the board failed. No block is written.
 pub fn find_header<B: Board>(board: &mut B, format: Format) -> Result<Option<Header>, OpenAnswer>
     requires slots { 4 ≤ format.blocks }
-    ensures calls { CallRun (no_failure result) (B.view board.old) (B.view board.new) }
-    ensures cause { result ≡ Err answers.Failed
-        → Rose (B.view board.old).state.faults (B.view board.new).state.faults }
-    ensures memory { result ≢ Err answers.NoMemory }
-    ensures accepted { IfOk result (λ header. IsAccepted format header) }
+    ensures search { Searches format result (B.view board.old) (B.view board.new) }
+    ensures honest { B.honest board.old → B.honest board.new
+        × SearchesHonestly result (B.view board.old) (B.view board.new) }
     ensures size { OnOk result (format.blocks ≤ (B.view board.old).size) }
-    ensures writes { (B.view board.new).writes ≡ (B.view board.old).writes }
-    ensures honest { B.honest board.old → B.honest board.new }
-    ensures past { B.honest board.old → KeepsPast (B.view board.old) (B.view board.new) }
-    ensures blocks { B.honest board.old
-        → SameBlocks (B.view board.old).state (B.view board.new).state }
-    ensures alone { B.honest board.old
-        → LeavesAlone (λ k. Unit {0}) (B.view board.old) (B.view board.new) }
     // whatever the board: by the rule over what it tells, at some counter
     ensures rule { IsTrue B.tells_reads → (counter : ℕ) × IsRuled result
         (opens_as (accepts format) format.blocks (B.view board.old).size (B.view board.old).key
@@ -51,9 +43,6 @@ pub fn find_header<B: Board>(board: &mut B, format: Format) -> Result<Option<Hea
     ensures exact { B.honest board.old → let old = B.view board.old in
         Finds (accepts format) format.blocks old.size old.key old.state
         (B.view board.new).state result }
-    // the counter is settled at the sequence, and at 0 where the board is blank
-    ensures counter { B.honest board.old
-        → IfOk result (λ header. IsSettledAt (sequence_of header) (B.view board.new).state) }
     // the counter rises no higher than the sequences of headers that may count
     ensures run { B.honest board.old
         → (open_at : ℕ → Bool) (base : ℕ → List ℕ) (low high : ℕ) (first : View)

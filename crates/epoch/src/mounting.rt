@@ -1,17 +1,13 @@
 //! What a board holds that is opened, over the form of the leaves: found at first, after a sync, after a loss of power.
-ghost use Rattle.std.specs.Prelude.{◌≡◌, ◌≢◌, ◌≤◌, ℕ, true, Err, IfErr, IfOk, IsTrue, OnOk};
-ghost use Rattle.tee_base.specs.Faults.{Rose};
+ghost use Rattle.std.specs.Prelude.{◌≡◌, ◌≢◌, ◌≤◌, ℕ, Err, IfErr, IfOk, IsTrue, OnOk};
 ghost use Rattle.store_api.specs.Volumes.{Held};
 ghost use Rattle.board.specs.Moment.{IsCounter, IsLeft, CrashImage};
-ghost use Rattle.board.specs.Steps.{CallRun, SameBlocks};
-ghost use Rattle.board.specs.declared.fuse.Fuse.TheVariants.{Unset};
-ghost use Rattle.epoch.specs.Alone.{LeavesAlone};
 ghost use Rattle.epoch.specs.Commits.{StaysSettled};
 ghost use Rattle.epoch.specs.Finding.{IsSettledAt, sequence_of};
 ghost use Rattle.epoch.specs.Formats.{IsAccepted, IsFormatOf};
 ghost use Rattle.epoch.specs.Forms.{Form, IsFramed};
-ghost use Rattle.epoch.specs.Mounting.{AreSound, IsHolding, Mounts, MountsAfterPower, MountsAgain};
-ghost use Rattle.epoch.specs.Mounts.{IsRefusedNow, IsRuledBy, OrderRun, PowerFirst};
+ghost use Rattle.epoch.specs.Mounting.{AreSound, IsHolding, Mounts, MountsAfterPower, MountsAgain, Searches, SearchesHonestly};
+ghost use Rattle.epoch.specs.Mounts.{IsRefusedNow, IsRuledBy, LosesPower, PowerFirst};
 ghost use Rattle.epoch.specs.Opening.{no_failure};
 ghost use Rattle.epoch.specs.Past.{KeepsPast};
 ghost use Rattle.epoch.specs.declared.answer.OpenAnswer.TheVariants as answers;
@@ -29,22 +25,10 @@ use board::Board;
 /// As `find_header`.
 pub fn mount<B: Board>(board: &mut B, format: Format) -> Result<Option<Header>, OpenAnswer>
     requires slots { 4 ≤ format.blocks }
-    ensures calls { CallRun (no_failure result) (B.view board.old) (B.view board.new) }
-    ensures cause { result ≡ Err answers.Failed
-        → Rose (B.view board.old).state.faults (B.view board.new).state.faults }
-    ensures memory { result ≢ Err answers.NoMemory }
-    ensures accepted { IfOk result (λ header. IsAccepted format header) }
+    ensures search { Searches format result (B.view board.old) (B.view board.new) }
+    ensures honest { B.honest board.old → B.honest board.new
+        × SearchesHonestly result (B.view board.old) (B.view board.new) }
     ensures size { OnOk result (format.blocks ≤ (B.view board.old).size) }
-    ensures writes { (B.view board.new).writes ≡ (B.view board.old).writes }
-    ensures blocks { B.honest board.old
-        → SameBlocks (B.view board.old).state (B.view board.new).state }
-    ensures alone { B.honest board.old
-        → LeavesAlone (λ k. Unit {0}) (B.view board.old) (B.view board.new) }
-    // at Ok the counter is the sequence, and no other is left open
-    ensures counter { B.honest board.old
-        → IfOk result (λ header. IsSettledAt (sequence_of header) (B.view board.new).state) }
-    ensures honest { B.honest board.old → B.honest board.new }
-    ensures past { B.honest board.old → KeepsPast (B.view board.old) (B.view board.new) }
     ensures settled { B.honest board.old
         → StaysSettled (B.view board.old).state (B.view board.new).state }
     // whatever the board: by the rule over what it tells, at some counter
@@ -71,12 +55,7 @@ pub fn mount<B: Board>(board: &mut B, format: Format) -> Result<Option<Header>, 
 /// As `find_header`, and `Failed` where the sync failed.
 pub fn mount_again<B: Board>(board: &mut B, format: Format) -> Result<Option<Header>, OpenAnswer>
     requires slots { 4 ≤ format.blocks }
-    ensures calls { CallRun (no_failure result) (B.view board.old) (B.view board.new) }
-    ensures cause { result ≡ Err answers.Failed
-        → Rose (B.view board.old).state.faults (B.view board.new).state.faults }
-    ensures memory { result ≢ Err answers.NoMemory }
-    ensures accepted { IfOk result (λ header. IsAccepted format header) }
-    ensures writes { (B.view board.new).writes ≡ (B.view board.old).writes }
+    ensures search { Searches format result (B.view board.old) (B.view board.new) }
     ensures reads { B.honest board.old
         → (B.view board.new).state.reads ≡ (B.view board.old).state.reads }
     // at Ok the counter is the sequence, and no other is left open
@@ -112,22 +91,16 @@ pub fn mount_after_power<B: Board>(
     format: Format,
 ) -> Result<Option<Header>, OpenAnswer>
     requires slots { 4 ≤ format.blocks }
-    ensures ordered { OrderRun pick (B.view board.old) (B.view board.new) }
-    ensures cause { result ≡ Err answers.Failed
-        → Rose (B.view board.old).state.faults (B.view board.new).state.faults }
+    ensures calls { LosesPower pick (no_failure result) (B.view board.old) (B.view board.new) }
     ensures memory { result ≢ Err answers.NoMemory }
     ensures accepted { IfOk result (λ header. IsAccepted format header) }
-    ensures begins { B.honest board.old
-        → PowerFirst pick (B.view board.old) (B.view board.new) }
-    ensures writes { (B.view board.new).writes ≡ (B.view board.old).writes }
-    ensures fuse { (B.view board.new).fuse ≡ Unset }
-    ensures steady { IsTrue (no_failure result)
-        → (B.view board.new).state.faults ≡ (B.view board.old).state.faults }
+    // the power goes before any other call, and nothing of the past is forgotten
+    ensures honest { B.honest board.old → B.honest board.new
+        × PowerFirst pick (B.view board.old) (B.view board.new)
+        × KeepsPast (B.view board.old) (B.view board.new) }
     // at Ok the counter is the sequence, and no other is left open
     ensures counter { B.honest board.old
         → IfOk result (λ header. IsSettledAt (sequence_of header) (B.view board.new).state) }
-    ensures honest { B.honest board.old → B.honest board.new }
-    ensures past { B.honest board.old → KeepsPast (B.view board.old) (B.view board.new) }
     ensures settled { B.honest board.old
         → StaysSettled (B.view board.old).state (B.view board.new).state }
     ensures exact { B.honest board.old → (c : CrashImage) × IsLeft (B.view board.old).state c

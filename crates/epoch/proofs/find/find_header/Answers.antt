@@ -1,14 +1,16 @@
 use Rattle.epoch.proofs.AloneLemmas.{alone_more, alone_none, alone_still}
 use Rattle.epoch.proofs.CallLemmas.{run_as, run_failed, run_more, run_none}
 use Rattle.epoch.proofs.PastLemmas.{itself, followed}
-use Rattle.std.proofs.Common.{◌≡◌, ◌≢◌, ◌≤◌, ◌∙◌, ℕ, List, false, Some, None, Ok, Err, refl, sym, subst, arith, rules}
+use Rattle.std.proofs.Common.{◌≡◌, ◌≢◌, ◌≤◌, ◌∙◌, ℕ, List, false, Some, None, Ok, Err, refl, sym, ap, subst, arith, rules}
 use Rattle.std.proofs.lemmas.Bool.{ltb-false}
 use Rattle.seal.specs.Keys.{AreKeysOf}
-use Rattle.epoch.specs.Opening.{header_answer}
-use Rattle.epoch.specs.declared.answer.OpenAnswer.TheVariants.{Failed}
+use Rattle.epoch.specs.Opening.{header_answer, no_failure}
+use Rattle.epoch.specs.declared.answer.OpenAnswer.TheVariants.{Failed, NoMemory}
+use Rattle.epoch.proofs.MountLemmas.{failed_ok}
+use Rattle.epoch.proofs.OpenLemmas.{blocks_more}
 use Rattle.epoch.specs.Formats.{accepts}
 use Rattle.epoch.proofs.RuleLemmas.{asked}
-use Rattle.epoch.proofs.FindLemmas.{accepted_answer, blank_counter, settled_answer, told_counter, find_starts, find_crash, opens_below, judged_opening, judged_so, refuses_older, ruled_answer, between}
+use Rattle.epoch.proofs.FindLemmas.{accepted_answer, blank_counter, settled_answer, told_counter, find_starts, find_crash, opens_below, judged_memory, judged_opening, judged_so, ok_never, refuses_older, ruled_answer, between}
 use Rattle.epoch.proofs.find.find_header.Goals as goal
 use Rattle.epoch.proofs.find.find_header.Goals.{in-Err, in-Ok-None, in-Ok-Some}
 
@@ -86,81 +88,108 @@ returns-clause-crash g c h n rests =
     find_crash (accepts c.args.format) n _ _ (returns-clause-run g c h (λ k. false) v.state.reads n _ _ (opens_below (accepts c.args.format) v.key v.state.reads n)
     (find_starts (accepts c.args.format) n _ rests))
 
-pub returns-clause-counter : goal.returns-clause-counter
-returns-clause-counter g c h =
-    let seen = c.in_ok-seen.seen in
-    let counted = c.in_ok-seen.ensures.counter h in
-    elim c.match-judge.branch [
-      | in-Err w ↦ rw w.result-is tt
-      | in-Ok-None w ↦
-          let e : c.judge.result ≡ Ok None = cc in
-          let zero = blank_counter (accepts c.args.format) seen.first seen.second seen.counter (sym c.judge.ensures ∙ e) in
-          rw (w.result-is, w.board-is) (record { counter = counted.counter ∙ zero; slack = counted.slack })
-      | in-Ok-Some w ↦
-          let e : c.judge.result ≡ Ok (Some w.in-Ok-Some.found) = cc in
-          let two = (asked (accepts c.args.format) seen.first seen.second seen.counter w.in-Ok-Some.found (sym c.judge.ensures ∙ e)).counts in
-          let settled = w.raise.ensures.counter (c.in_ok-seen.ensures.honest h) (record { counter = counted.counter; slack = counted.slack })
-          (ltb-false _ _ two.least) (ltb-false _ _ two.most) in
-          rw (w.result-is, w.board-is) (settled_answer w.raise.result w.in-Ok-Some.found.header _ w.raise.ensures.answer settled)
-    ]
-
-pub returns-then-blocks-format-clause-past : goal.returns-then-blocks-format-clause-past
-returns-then-blocks-format-clause-past g c h = itself _
-
-pub returns-clause-past : goal.returns-clause-past
-returns-clause-past g c h =
-    let one = c.in_ok-seen.ensures.past h in
-    elim c.match-judge.branch [
-      | in-Err w ↦ rw w.board-is one
-      | in-Ok-None w ↦ rw w.board-is one
-      | in-Ok-Some w ↦ rw w.board-is (followed _ _ _ one (w.raise.ensures.past (c.in_ok-seen.ensures.honest h)))
-    ]
-
-pub returns-then-blocks-format-clause-calls : goal.returns-then-blocks-format-clause-calls
-returns-then-blocks-format-clause-calls g c = run_none _
-
-pub returns-in_err-seen-clause-calls : goal.returns-in_err-seen-clause-calls
-returns-in_err-seen-clause-calls g c = run_failed c.from_residual.result _ _ (search rules) c.in_err-seen.ensures.calls
-
-pub returns-clause-calls : goal.returns-clause-calls
-returns-clause-calls g c =
-    let one = c.in_ok-seen.ensures.calls in
-    elim c.match-judge.branch [
-      | in-Err w ↦
-          rw (w.result-is, w.board-is) (run_as _ _ _ _ (judged_so (accepts c.args.format) c.in_ok-seen.seen.first c.in_ok-seen.seen.second c.in_ok-seen.seen.counter w.in-Err.answer
-          (sym c.judge.ensures ∙ w.in-Err.is)) one)
-      | in-Ok-None w ↦ rw (w.result-is, w.board-is) one
-      | in-Ok-Some w ↦ rw (w.result-is, w.board-is) (run_more _ _ _ _ one w.raise.ensures.calls)
-    ]
-
 pub returns-clause-rollback : goal.returns-clause-rollback
 returns-clause-rollback g c h = refuses_older _ _ _ _ _ _ _ (returns-clause-exact g c h)
 
-pub returns-clause-accepted : goal.returns-clause-accepted
-returns-clause-accepted g c =
+pub returns-then-blocks-format-clause-search : goal.returns-then-blocks-format-clause-search
+returns-then-blocks-format-clause-search g c = record {
+  calls = run_none _;
+  cause = λ failed. absurd (cc);
+  memory = λ none. cc;
+  accepted = tt;
+  writes = refl;
+}
+
+pub returns-then-blocks-format-clause-honest : goal.returns-then-blocks-format-clause-honest
+returns-then-blocks-format-clause-honest g c h = (
+  h,
+  record {
+    past = itself _;
+    blocks = record { reads = refl; durable = refl; pending = refl };
+    alone = alone_none (λ (k : ℕ). Unit {0}) _ (g.met.B.Board.consistent c.args.board.now h);
+    counter = tt;
+  },
+)
+
+pub returns-in_err-seen-clause-search : goal.returns-in_err-seen-clause-search
+returns-in_err-seen-clause-search g c =
+    let is : c.from_residual.result ≡ Err Failed = search rules in
+    record {
+      calls = run_failed c.from_residual.result _ _ is c.in_err-seen.ensures.calls;
+      cause = λ failed. c.in_err-seen.ensures.calls.cause refl;
+      memory = λ none. let e : Err Failed ≡ Err NoMemory = sym is ∙ none in cc;
+      accepted = failed_ok c.from_residual.result _ is;
+      writes = c.in_err-seen.ensures.writes;
+    }
+
+pub returns-in_err-seen-clause-honest : goal.returns-in_err-seen-clause-honest
+returns-in_err-seen-clause-honest g c h = (
+  c.in_err-seen.ensures.honest h,
+  record {
+    past = c.in_err-seen.ensures.past h;
+    blocks = c.in_err-seen.ensures.blocks h;
+    alone = alone_still (λ (k : ℕ). Unit {0}) _ _ (g.met.B.Board.consistent c.args.board.now h) (c.in_err-seen.ensures.blocks h) (c.in_err-seen.ensures.run h);
+    counter = failed_ok c.from_residual.result _ (search rules);
+  },
+)
+
+pub returns-clause-search : goal.returns-clause-search
+returns-clause-search g c =
     let seen = c.in_ok-seen.seen in
+    let one = c.in_ok-seen.ensures.calls in
     elim c.match-judge.branch [
-      | in-Err w ↦ rw w.result-is tt
-      | in-Ok-None w ↦ rw w.result-is tt
+      | in-Err w ↦
+          let judged : c.judge.result ≡ Err w.in-Err.answer = w.in-Err.is in
+          let calls = run_as _ _ _ _ (judged_so (accepts c.args.format) seen.first seen.second seen.counter w.in-Err.answer (sym c.judge.ensures ∙ judged)) one in
+          rw (w.result-is, w.board-is) (record {
+            calls = calls;
+            cause = λ failed. calls.cause (ap no_failure failed);
+            memory = λ none.
+                let same : w.in-Err.answer ≡ NoMemory = cc in
+                judged_memory (accepts c.args.format) seen.first seen.second seen.counter (sym c.judge.ensures ∙ judged ∙ ap Err same);
+            accepted = tt;
+            writes = c.in_ok-seen.ensures.writes;
+          })
+      | in-Ok-None w ↦ rw (w.result-is, w.board-is) (record { calls = one; cause = λ failed. one.cause (ap no_failure failed); memory = ok_never _ _; accepted = tt; writes = c.in_ok-seen.ensures.writes })
       | in-Ok-Some w ↦
           let e : c.judge.result ≡ Ok (Some w.in-Ok-Some.found) = cc in
-          rw w.result-is (accepted_answer c.args.format seen.first seen.second seen.counter w.in-Ok-Some.found w.raise.result (sym c.judge.ensures ∙ e) w.raise.ensures.answer)
+          rw (w.result-is, w.board-is) (record {
+            calls = run_more _ _ _ _ one w.raise.ensures.calls;
+            cause = λ failed. (run_more _ _ _ _ one w.raise.ensures.calls).cause (ap no_failure failed);
+            memory = w.raise.ensures.memory;
+            accepted = accepted_answer c.args.format seen.first seen.second seen.counter w.in-Ok-Some.found w.raise.result (sym c.judge.ensures ∙ e) w.raise.ensures.answer;
+            writes = w.raise.ensures.writes ∙ c.in_ok-seen.ensures.writes;
+          })
     ]
 
-pub returns-then-blocks-format-clause-alone : goal.returns-then-blocks-format-clause-alone
-returns-then-blocks-format-clause-alone g c h = alone_none _ _ (g.met.B.Board.consistent c.args.board.now h)
-
-pub returns-in_err-seen-clause-alone : goal.returns-in_err-seen-clause-alone
-returns-in_err-seen-clause-alone g c h =
-    alone_still _ _ _ (g.met.B.Board.consistent c.args.board.now h) (c.in_err-seen.ensures.blocks h) (c.in_err-seen.ensures.run h)
-
-pub returns-clause-alone : goal.returns-clause-alone
-returns-clause-alone g c h =
+pub returns-clause-honest : goal.returns-clause-honest
+returns-clause-honest g c h =
+    let seen = c.in_ok-seen.seen in
+    let hon = c.in_ok-seen.ensures.honest h in
+    let counted = c.in_ok-seen.ensures.counter h in
+    let past = c.in_ok-seen.ensures.past h in
+    let blocks = c.in_ok-seen.ensures.blocks h in
     let P = λ (k : ℕ). Unit {0} in
-    let one = alone_still P (g.B.Board.view c.args.board.now) (g.B.Board.view c.gather.new.board) (g.met.B.Board.consistent c.args.board.now h) (c.in_ok-seen.ensures.blocks h)
-    (c.in_ok-seen.ensures.run h) in
+    let alone = alone_still P (g.B.Board.view c.args.board.now) (g.B.Board.view c.gather.new.board) (g.met.B.Board.consistent c.args.board.now h) blocks (c.in_ok-seen.ensures.run h) in
     elim c.match-judge.branch [
-      | in-Err w ↦ rw w.board-is one
-      | in-Ok-None w ↦ rw w.board-is one
-      | in-Ok-Some w ↦ rw w.board-is (alone_more P _ _ _ one (w.raise.ensures.alone (c.in_ok-seen.ensures.honest h)))
+      | in-Err w ↦ rw (w.result-is, w.board-is) (hon, record { past = past; blocks = blocks; alone = alone; counter = tt })
+      | in-Ok-None w ↦
+          let e : c.judge.result ≡ Ok None = cc in
+          let zero = blank_counter (accepts c.args.format) seen.first seen.second seen.counter (sym c.judge.ensures ∙ e) in
+          rw (w.result-is, w.board-is)
+          (hon, record { past = past; blocks = blocks; alone = alone; counter = record { counter = counted.counter ∙ zero; slack = counted.slack } })
+      | in-Ok-Some w ↦
+          let e : c.judge.result ≡ Ok (Some w.in-Ok-Some.found) = cc in
+          let two = (asked (accepts c.args.format) seen.first seen.second seen.counter w.in-Ok-Some.found (sym c.judge.ensures ∙ e)).counts in
+          let settled = w.raise.ensures.counter hon (record { counter = counted.counter; slack = counted.slack })
+          (ltb-false _ _ two.least) (ltb-false _ _ two.most) in
+          rw (w.result-is, w.board-is) (
+            w.raise.ensures.honest hon,
+            record {
+              past = followed _ _ _ past (w.raise.ensures.past hon);
+              blocks = blocks_more _ _ _ blocks (w.raise.ensures.blocks hon);
+              alone = alone_more P _ _ _ alone (w.raise.ensures.alone hon);
+              counter = settled_answer w.raise.result w.in-Ok-Some.found.header _ w.raise.ensures.answer settled;
+            },
+          )
     ]

@@ -5,7 +5,7 @@ use Rattle.epoch.proofs.mounting.mount.Goals as goal
 pub returns-clause-holds : goal.returns-clause-holds
 returns-clause-holds g c honest f h framed serves large holding =
     mounts_found f framed c.args.format serves h (g.B.Board.view c.args.board.now) (g.B.Board.view c.find_header.new.board) holding (g.met.B.Board.consistent c.args.board.now honest).counter large
-    c.find_header.result (c.find_header.ensures.exact honest) (c.find_header.ensures.blocks honest) (c.find_header.ensures.counter honest) (c.find_header.ensures.run honest)
+    c.find_header.result (c.find_header.ensures.exact honest) (c.find_header.ensures.honest honest).1.blocks (c.find_header.ensures.honest honest).1.counter (c.find_header.ensures.run honest)
 
 pub returns-clause-rule : goal.returns-clause-rule
 returns-clause-rule g c tells =
@@ -21,13 +21,11 @@ returns-clause-exact g c honest =
 
 pub returns-clause-refusal : goal.returns-clause-refusal
 returns-clause-refusal g c honest =
-    let calls = c.find_header.ensures.calls in
+    let calls = c.find_header.ensures.search.calls in
     found_refused c.args.format (g.B.Board.view c.args.board.now) (g.B.Board.view c.find_header.new.board) c.find_header.result calls.size calls.key
-    (c.find_header.ensures.blocks honest).reads (c.find_header.ensures.exact honest)
+    (c.find_header.ensures.honest honest).1.blocks.reads (c.find_header.ensures.exact honest)
 
 pub returns-clause-settled : goal.returns-clause-settled
 returns-clause-settled g c honest =
-    settled_blocks (g.B.Board.view c.args.board.now).state (g.B.Board.view c.find_header.new.board).state (c.find_header.ensures.blocks honest)
+    settled_blocks (g.B.Board.view c.args.board.now).state (g.B.Board.view c.find_header.new.board).state (c.find_header.ensures.honest honest).1.blocks
 
-pub returns-clause-alone : goal.returns-clause-alone
-returns-clause-alone g c honest = c.find_header.ensures.alone honest

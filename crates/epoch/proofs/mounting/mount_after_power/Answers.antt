@@ -1,4 +1,5 @@
-use Rattle.std.proofs.Common.{◌≡◌, ◌∙◌, arith}
+use Rattle.std.proofs.Common.{◌≡◌, ◌∙◌, subst, arith}
+use Rattle.tee_base.specs.Faults.{Rose}
 use Rattle.epoch.proofs.MountLemmas.{after_power, power_sound, ruled_so}
 use Rattle.epoch.proofs.SettledLemmas.{settled_on, settled_power}
 use Rattle.epoch.proofs.PastLemmas.{followed, passed}
@@ -23,7 +24,7 @@ returns-clause-again g c h f framed same large sound =
     let step = c.power.ensures.honest h in
     let call = c.power.ensures.ordered in
     after_power f (g.B.Board.view c.args.board.now) (g.B.Board.view c.power.new.self) call.key step.1 step.2 c.args.pick (g.B.Board.view c.mount_again.new.board) c.mount_again.result
-    (c.mount_again.ensures.calls.ordered ∙ call.ordered)
+    (c.mount_again.ensures.search.calls.ordered ∙ call.ordered)
     (c.mount_again.ensures.again step.0 f framed same (omega (arith, large, call.size))
     (power_sound f (g.B.Board.view c.args.board.now) (g.B.Board.view c.power.new.self) call.key step.1 step.2 sound))
 
@@ -34,31 +35,47 @@ returns-clause-settled g c h =
     let mid = (g.B.Board.view c.power.new.self).state in
     settled_on v.state mid (g.B.Board.view c.mount_again.new.board).state (settled_power v mid (g.met.B.Board.consistent c.args.board.now h) step.2) (c.mount_again.ensures.settled step.0)
 
-pub returns-clause-begins : goal.returns-clause-begins
-returns-clause-begins g c h =
-    let step = c.power.ensures.honest h in
-    record {
-      between = g.B.Board.view c.power.new.self;
-      ordered = c.mount_again.ensures.calls.ordered ∙ c.power.ensures.ordered.ordered;
-      time = step.1;
-      powered = step.2;
-      reads = c.mount_again.ensures.reads step.0;
-      behind = (c.mount_again.ensures.past step.0).behind;
-    }
-
-pub returns-clause-writes : goal.returns-clause-writes
-returns-clause-writes g c = c.mount_again.ensures.writes ∙ c.power.ensures.ordered.writes
-
-pub returns-clause-fuse : goal.returns-clause-fuse
-returns-clause-fuse g c = c.mount_again.ensures.calls.unset c.power.ensures.fuse
-
-pub returns-clause-steady : goal.returns-clause-steady
-returns-clause-steady g c made = c.mount_again.ensures.calls.steady made ∙ c.power.ensures.ordered.faults
-
-pub returns-clause-past : goal.returns-clause-past
-returns-clause-past g c h =
-    let step = c.power.ensures.honest h in
-    followed _ _ _ (passed _ _ step.1) (c.mount_again.ensures.past step.0)
-
 pub returns-clause-counter : goal.returns-clause-counter
 returns-clause-counter g c h = c.mount_again.ensures.counter (c.power.ensures.honest h).0
+
+pub returns-clause-calls : goal.returns-clause-calls
+returns-clause-calls g c =
+    let order = c.power.ensures.ordered in
+    let calls = c.mount_again.ensures.search.calls in
+    record {
+      order = record {
+        size = calls.size ∙ order.size;
+        key = calls.key ∙ order.key;
+        orders = calls.orders ∙ order.orders;
+        after = (g.B.Board.view c.power.new.self).state;
+        ordered = calls.ordered ∙ order.ordered;
+        counted = order.orders;
+        steady = order.faults;
+        later = calls.faults;
+      };
+      cause = λ failed. subst (λ n. Rose n (g.B.Board.view c.mount_again.new.board).state.faults) order.faults (calls.cause failed);
+      steady = λ made. calls.steady made ∙ order.faults;
+      writes = c.mount_again.ensures.search.writes ∙ order.writes;
+      fuse = calls.unset c.power.ensures.fuse;
+    }
+
+pub returns-clause-memory : goal.returns-clause-memory
+returns-clause-memory g c = c.mount_again.ensures.search.memory
+
+pub returns-clause-accepted : goal.returns-clause-accepted
+returns-clause-accepted g c = c.mount_again.ensures.search.accepted
+
+pub returns-clause-honest : goal.returns-clause-honest
+returns-clause-honest g c h =
+    let step = c.power.ensures.honest h in (
+      c.mount_again.ensures.honest step.0,
+      record {
+        between = g.B.Board.view c.power.new.self;
+        ordered = c.mount_again.ensures.search.calls.ordered ∙ c.power.ensures.ordered.ordered;
+        time = step.1;
+        powered = step.2;
+        reads = c.mount_again.ensures.reads step.0;
+        behind = (c.mount_again.ensures.past step.0).behind;
+      },
+      followed _ _ _ (passed _ _ step.1) (c.mount_again.ensures.past step.0),
+    )

@@ -1,4 +1,6 @@
-use Rattle.std.proofs.Common.{refl, arith, rules, true, false}
+use Rattle.std.proofs.Common.{◌≡◌, ◌∙◌, Err, refl, sym, ap, arith, rules, true, false}
+use Rattle.epoch.specs.Opening.{no_failure}
+use Rattle.epoch.specs.declared.answer.OpenAnswer.TheVariants.{Failed, NoMemory}
 use Rattle.epoch.proofs.CallLemmas.{run_failed, run_more, run_once}
 use Rattle.epoch.proofs.MountLemmas.{again_failed, again_found, failed_ok, ruled_so, stopped}
 use Rattle.epoch.proofs.SettledLemmas.{settled_on, settled_sync}
@@ -44,22 +46,46 @@ returns-clause-settled g c h =
     let mid = (g.B.Board.view c.sync.new.self).state in
     settled_on v mid (g.B.Board.view c.mount.new.board).state (settled_sync _ v mid step.2) (c.mount.ensures.settled step.0)
 
-pub returns-in_err-sync-clause-calls : goal.returns-in_err-sync-clause-calls
-returns-in_err-sync-clause-calls g c = run_failed c.from_residual.result _ _ (search rules) (run_once false _ _ c.in_err-sync.ensures.call)
-
-pub returns-clause-calls : goal.returns-clause-calls
-returns-clause-calls g c = run_more _ _ _ _ (run_once true _ _ c.in_ok-sync.ensures.call) c.mount.ensures.calls
-
 pub returns-in_err-sync-clause-past : goal.returns-in_err-sync-clause-past
 returns-in_err-sync-clause-past g c h = once _ _ (c.in_err-sync.ensures.honest h).1
 
 pub returns-clause-past : goal.returns-clause-past
 returns-clause-past g c h =
     let step = c.in_ok-sync.ensures.honest h in
-    followed _ _ _ (once _ _ step.1) (c.mount.ensures.past step.0)
+    followed _ _ _ (once _ _ step.1) (c.mount.ensures.honest step.0).1.past
 
 pub returns-in_err-sync-clause-counter : goal.returns-in_err-sync-clause-counter
 returns-in_err-sync-clause-counter g c h = failed_ok c.from_residual.result _ (search rules)
 
 pub returns-clause-counter : goal.returns-clause-counter
-returns-clause-counter g c h = c.mount.ensures.counter (c.in_ok-sync.ensures.honest h).0
+returns-clause-counter g c h = (c.mount.ensures.honest (c.in_ok-sync.ensures.honest h).0).1.counter
+
+pub returns-in_err-sync-clause-search : goal.returns-in_err-sync-clause-search
+returns-in_err-sync-clause-search g c =
+    let is : c.from_residual.result ≡ Err Failed = search rules in
+    record {
+      calls = run_failed c.from_residual.result _ _ is (run_once false _ _ c.in_err-sync.ensures.call);
+      cause = λ failed. c.in_err-sync.ensures.call.cause refl;
+      memory = λ none. let e : Err Failed ≡ Err NoMemory = sym is ∙ none in cc;
+      accepted = failed_ok c.from_residual.result _ is;
+      writes = c.in_err-sync.ensures.writes;
+    }
+
+pub returns-clause-search : goal.returns-clause-search
+returns-clause-search g c =
+    let calls = run_more _ _ _ _ (run_once true _ _ c.in_ok-sync.ensures.call) c.mount.ensures.search.calls in
+    record {
+      calls = calls;
+      cause = λ failed. calls.cause (ap no_failure failed);
+      memory = c.mount.ensures.search.memory;
+      accepted = c.mount.ensures.search.accepted;
+      writes = c.mount.ensures.search.writes ∙ c.in_ok-sync.ensures.writes;
+    }
+
+pub returns-clause-honest : goal.returns-clause-honest
+returns-clause-honest g c h = (c.mount.ensures.honest (c.in_ok-sync.ensures.honest h).0).0
+
+pub returns-clause-reads : goal.returns-clause-reads
+returns-clause-reads g c h =
+    let step = c.in_ok-sync.ensures.honest h in
+    (c.mount.ensures.honest step.0).1.blocks.reads ∙ step.2.reads

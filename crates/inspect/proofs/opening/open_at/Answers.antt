@@ -30,16 +30,16 @@ returns-in-Ok-clause-sound g c honest n h rests large is =
     let w = g.B.Board.view c.mount.new.board in
     let found = c.in-Ok-Some.ensures in
     let mounts = found.holds honest tree_form h form_framed tree_format large (rests_holding tree_form v.key h n v.state rests is) in
-    let still = found_holds tree_form v w h c.in-Ok-Some.field-0 c.in-Ok-Some.header form_framed found.calls.size found.calls.key large c.in-Ok-Some.field-0-is mounts.mounted.0 in
-    (c.in-Ok.ensures.opened (found.honest honest) h.sequence h still.rests still.large still.holds).0
+    let still = found_holds tree_form v w h c.in-Ok-Some.field-0 c.in-Ok-Some.header form_framed found.search.calls.size found.search.calls.key large c.in-Ok-Some.field-0-is mounts.mounted.0 in
+    (c.in-Ok.ensures.opened (found.honest honest).0 h.sequence h still.rests still.large still.holds).0
 
 pub returns-in-Err-open-clause-unread : goal.returns-in-Err-open-clause-unread
 returns-in-Err-open-clause-unread g c honest =
     let v = g.B.Board.view c.args.board in
     let w = g.B.Board.view c.mount.new.board in
     let found = c.in-Ok-Some.ensures in
-    let told = c.in-Err-open.ensures.exact (found.honest honest) in
-    (told.0, refusal_so tree_form v w told.0 c.in-Err-open.unopened.why found.calls.size found.calls.key (found.blocks honest).reads told.2)
+    let told = c.in-Err-open.ensures.exact (found.honest honest).0 in
+    (told.0, refusal_so tree_form v w told.0 c.in-Err-open.unopened.why found.search.calls.size found.search.calls.key (found.honest honest).1.blocks.reads told.2)
 
 pub returns-in-Err-open-clause-sound : goal.returns-in-Err-open-clause-sound
 returns-in-Err-open-clause-sound g c honest n h rests large is =
@@ -47,5 +47,5 @@ returns-in-Err-open-clause-sound g c honest n h rests large is =
     let w = g.B.Board.view c.mount.new.board in
     let found = c.in-Ok-Some.ensures in
     let mounts = found.holds honest tree_form h form_framed tree_format large (rests_holding tree_form v.key h n v.state rests is) in
-    let still = found_holds tree_form v w h c.in-Ok-Some.field-0 c.in-Ok-Some.header form_framed found.calls.size found.calls.key large c.in-Ok-Some.field-0-is mounts.mounted.0 in
-    (c.in-Err-open.ensures.unopened (found.honest honest) h.sequence h still.rests still.large still.holds).0
+    let still = found_holds tree_form v w h c.in-Ok-Some.field-0 c.in-Ok-Some.header form_framed found.search.calls.size found.search.calls.key large c.in-Ok-Some.field-0-is mounts.mounted.0 in
+    (c.in-Err-open.ensures.unopened (found.honest honest).0 h.sequence h still.rests still.large still.holds).0

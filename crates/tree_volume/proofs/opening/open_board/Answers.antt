@@ -70,52 +70,52 @@ returns-clause-opens g c honest n h rests large is =
     let v = g.B.Board.view c.args.board.now in
     let mounts = c.in_ok-found.ensures.holds honest tree_form h form_framed tree_format large (rests_holding tree_form v.key h n v.state rests is) in
     opens_joined tree_form IsOpenAs held_after v (g.B.Board.view c.mount.new.board) (g.B.Board.view c.take_up.new.board) c.in_ok-found.found c.take_up.result h
-    c.in_ok-found.ensures.calls.key mounts.mounted mounts.leaves
-    (c.take_up.ensures.opens (c.in_ok-found.ensures.honest honest) h)
+    c.in_ok-found.ensures.search.calls.key mounts.mounted mounts.leaves
+    (c.take_up.ensures.opens (c.in_ok-found.ensures.honest honest).0 h)
 
 pub returns-in_err-found-clause-calls : goal.returns-in_err-found-clause-calls
 returns-in_err-found-clause-calls g c =
     let is : c.from_residual.result ≡ Err c.in_err-found.field-0.0 = search rules in
-    run_as _ _ _ _ (ap no_failure is) c.in_err-found.ensures.calls
+    run_as _ _ _ _ (ap no_failure is) c.in_err-found.ensures.search.calls
 
 pub returns-clause-calls : goal.returns-clause-calls
-returns-clause-calls g c = run_more _ _ _ _ c.in_ok-found.ensures.calls c.take_up.ensures.calls
+returns-clause-calls g c = run_more _ _ _ _ c.in_ok-found.ensures.search.calls c.take_up.ensures.calls
 
 pub returns-clause-cause : goal.returns-clause-cause
-returns-clause-cause g c failed = rose_later _ _ _ c.in_ok-found.ensures.calls.faults (c.take_up.ensures.cause failed)
+returns-clause-cause g c failed = rose_later _ _ _ c.in_ok-found.ensures.search.calls.faults (c.take_up.ensures.cause failed)
 
 pub returns-in_err-found-clause-unwritten : goal.returns-in_err-found-clause-unwritten
 returns-in_err-found-clause-unwritten g c =
     let is : c.from_residual.result ≡ Err c.in_err-found.field-0.0 = search rules in
-    told_so c.from_residual.result c.in_err-found.field-0.0 _ is (λ made. c.in_err-found.ensures.writes)
+    told_so c.from_residual.result c.in_err-found.field-0.0 _ is (λ made. c.in_err-found.ensures.search.writes)
 
 pub returns-in_err-found-clause-unchanged : goal.returns-in_err-found-clause-unchanged
 returns-in_err-found-clause-unchanged g c honest =
     let is : c.from_residual.result ≡ Err c.in_err-found.field-0.0 = search rules in
-    told_so c.from_residual.result c.in_err-found.field-0.0 _ is (λ made. c.in_err-found.ensures.blocks honest)
+    told_so c.from_residual.result c.in_err-found.field-0.0 _ is (λ made. (c.in_err-found.ensures.honest honest).1.blocks)
 
 pub returns-clause-unwritten : goal.returns-clause-unwritten
-returns-clause-unwritten g c = err_so c.take_up.result _ _ (λ why still made. still made ∙ c.in_ok-found.ensures.writes) c.take_up.ensures.unwritten
+returns-clause-unwritten g c = err_so c.take_up.result _ _ (λ why still made. still made ∙ c.in_ok-found.ensures.search.writes) c.take_up.ensures.unwritten
 
 pub returns-clause-unchanged : goal.returns-clause-unchanged
 returns-clause-unchanged g c honest =
-    err_so c.take_up.result _ _ (λ why still made. blocks_more _ _ _ (c.in_ok-found.ensures.blocks honest) (still made))
-    (c.take_up.ensures.unchanged (c.in_ok-found.ensures.honest honest))
+    err_so c.take_up.result _ _ (λ why still made. blocks_more _ _ _ (c.in_ok-found.ensures.honest honest).1.blocks (still made))
+    (c.take_up.ensures.unchanged (c.in_ok-found.ensures.honest honest).0)
 
 pub returns-clause-past : goal.returns-clause-past
-returns-clause-past g c honest = followed _ _ _ (c.in_ok-found.ensures.past honest) (c.take_up.ensures.past (c.in_ok-found.ensures.honest honest))
+returns-clause-past g c honest = followed _ _ _ (c.in_ok-found.ensures.honest honest).1.past (c.take_up.ensures.past (c.in_ok-found.ensures.honest honest).0)
 
 pub returns-in_err-found-clause-counter : goal.returns-in_err-found-clause-counter
 returns-in_err-found-clause-counter g c honest = not_ok c.from_residual.result _ c.from_residual.ensures.0
 
 pub returns-clause-counter : goal.returns-clause-counter
-returns-clause-counter g c honest = c.take_up.ensures.counter (c.in_ok-found.ensures.honest honest) (c.in_ok-found.ensures.counter honest)
+returns-clause-counter g c honest = c.take_up.ensures.counter (c.in_ok-found.ensures.honest honest).0 (c.in_ok-found.ensures.honest honest).1.counter
 
 pub returns-in_err-found-clause-alone : goal.returns-in_err-found-clause-alone
-returns-in_err-found-clause-alone g c h = alone_fewer (λ (k : ℕ). Unit {0}) (λ (k : ℕ). (3 < k) × (k < 8742)) _ _ (λ k is. tt) (c.in_err-found.ensures.alone h)
+returns-in_err-found-clause-alone g c h = alone_fewer (λ (k : ℕ). Unit {0}) (λ (k : ℕ). (3 < k) × (k < 8742)) _ _ (λ k is. tt) (c.in_err-found.ensures.honest h).1.alone
 
 pub returns-clause-alone : goal.returns-clause-alone
 returns-clause-alone g c h =
     alone_more (λ (k : ℕ). (3 < k) × (k < 8742)) _ _ _
-    (alone_fewer (λ (k : ℕ). Unit {0}) (λ (k : ℕ). (3 < k) × (k < 8742)) _ _ (λ k is. tt) (c.in_ok-found.ensures.alone h))
-    (c.take_up.ensures.alone (c.in_ok-found.ensures.honest h))
+    (alone_fewer (λ (k : ℕ). Unit {0}) (λ (k : ℕ). (3 < k) × (k < 8742)) _ _ (λ k is. tt) (c.in_ok-found.ensures.honest h).1.alone)
+    (c.take_up.ensures.alone (c.in_ok-found.ensures.honest h).0)

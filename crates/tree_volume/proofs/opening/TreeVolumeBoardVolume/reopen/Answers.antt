@@ -25,7 +25,7 @@ returns-in_err-found-clause-opened g c honest sound =
     let v = g.B.Board.view c.args.self.now.board in
     let is : c.from_residual.result ≡ Err c.in_err-found.field-0.0 = search rules in
     let again = c.in_err-found.ensures.again honest tree_form form_framed tree_format c.args.self.now.large (board_sound tree_form v sound) in
-    let key = c.in_err-found.ensures.calls.key in
+    let key = c.in_err-found.ensures.search.calls.key in
     record {
       opened = not_ok c.from_residual.result _ c.from_residual.ensures.0;
       failed = told_so c.from_residual.result c.in_err-found.field-0.0 (λ why. why ≡ Failed) is again.failed;
@@ -50,7 +50,7 @@ returns-clause-opened g c honest sound =
     let n = g.B.Board.view c.resume.new.self.board in
     let stays : n ≡ w = ap g.B.Board.view c.resume.ensures.board in
     let again = c.in_ok-found.ensures.again honest tree_form form_framed tree_format c.args.self.now.large (board_sound tree_form v sound) in
-    let key = c.in_ok-found.ensures.calls.key in
+    let key = c.in_ok-found.ensures.search.calls.key in
     let mounted = subst (λ (k : List ℕ). MountsTo tree_form k again.chosen w.state c.in_ok-found.found) (sym key) again.mounted in
     let both = c.resume.ensures.opened again.chosen mounted in
     let key' : n.key ≡ v.key = ap (λ (x : View). x.key) stays ∙ key in
@@ -75,15 +75,15 @@ pub returns-in_err-found-clause-root : goal.returns-in_err-found-clause-root
 returns-in_err-found-clause-root g c = on_err c.from_residual.result _ refl
 
 pub returns-clause-writes : goal.returns-clause-writes
-returns-clause-writes g c = ap (λ (x : View). x.writes) (ap g.B.Board.view c.resume.ensures.board) ∙ c.in_ok-found.ensures.writes
+returns-clause-writes g c = ap (λ (x : View). x.writes) (ap g.B.Board.view c.resume.ensures.board) ∙ c.in_ok-found.ensures.search.writes
 
 pub returns-in_err-found-clause-calls : goal.returns-in_err-found-clause-calls
 returns-in_err-found-clause-calls g c =
     let is : c.from_residual.result ≡ Err c.in_err-found.field-0.0 = search rules in
-    run_as _ _ _ _ (ap no_failure is) c.in_err-found.ensures.calls
+    run_as _ _ _ _ (ap no_failure is) c.in_err-found.ensures.search.calls
 
 pub returns-clause-calls : goal.returns-clause-calls
-returns-clause-calls g c = subst (CallRun true (g.B.Board.view c.args.self.now.board)) (sym (ap g.B.Board.view c.resume.ensures.board)) c.in_ok-found.ensures.calls
+returns-clause-calls g c = subst (CallRun true (g.B.Board.view c.args.self.now.board)) (sym (ap g.B.Board.view c.resume.ensures.board)) c.in_ok-found.ensures.search.calls
 
 pub returns-clause-bare : goal.returns-clause-bare
 returns-clause-bare g c = λ image. tt
