@@ -10,7 +10,8 @@ use Rattle.epoch.proofs.MountLemmas.{failed_ok}
 use Rattle.epoch.proofs.OpenLemmas.{blocks_more}
 use Rattle.epoch.specs.Formats.{accepts}
 use Rattle.epoch.proofs.RuleLemmas.{asked}
-use Rattle.epoch.proofs.FindLemmas.{accepted_answer, blank_counter, settled_answer, told_counter, find_starts, find_crash, opens_below, judged_memory, judged_opening, judged_so, ok_never, refuses_older, ruled_answer, between}
+use Rattle.epoch.proofs.FindLemmas.{accepted_answer, blank_counter, settled_answer, told_counter, find_starts, find_crash, opens_below}
+use Rattle.epoch.proofs.FindLemmas.{judged_memory, judged_opening, judged_so, ok_never, refuses_older, ruled_answer, between}
 use Rattle.epoch.proofs.find.find_header.Goals as goal
 use Rattle.epoch.proofs.find.find_header.Goals.{in-Err, in-Ok-None, in-Ok-Some}
 
@@ -150,7 +151,14 @@ returns-clause-search g c =
             accepted = tt;
             writes = c.in_ok-seen.ensures.writes;
           })
-      | in-Ok-None w ↦ rw (w.result-is, w.board-is) (record { calls = one; cause = λ failed. one.cause (ap no_failure failed); memory = ok_never _ _; accepted = tt; writes = c.in_ok-seen.ensures.writes })
+      | in-Ok-None w ↦
+          rw (w.result-is, w.board-is) (record {
+            calls = one;
+            cause = λ failed. one.cause (ap no_failure failed);
+            memory = ok_never _ _;
+            accepted = tt;
+            writes = c.in_ok-seen.ensures.writes;
+          })
       | in-Ok-Some w ↦
           let e : c.judge.result ≡ Ok (Some w.in-Ok-Some.found) = cc in
           rw (w.result-is, w.board-is) (record {

@@ -28,4 +28,3 @@ returns-clause-refusal g c honest =
 pub returns-clause-settled : goal.returns-clause-settled
 returns-clause-settled g c honest =
     settled_blocks (g.B.Board.view c.args.board.now).state (g.B.Board.view c.find_header.new.board).state (c.find_header.ensures.honest honest).1.blocks
-
