@@ -12,6 +12,7 @@ ghost use Rattle.board.specs.Steps.{CallRun};
 ghost use Rattle.epoch.specs.Alone.{LeavesAlone};
 ghost use Rattle.epoch.specs.Forms.{is_sealed, leaves_of};
 ghost use Rattle.epoch.specs.Opening.{opening_of};
+ghost use Rattle.epoch.specs.Finding.{IsSettledAt};
 ghost use Rattle.epoch.specs.Past.{KeepsPast};
 ghost use Rattle.epoch.specs.Reading.{no_fault};
 ghost use Rattle.epoch.specs.declared.answer.OpenAnswer.TheVariants.{Rollback};
@@ -107,6 +108,9 @@ fn replace<B: Board>(
         (root_after result opened) nodes.new.kept }
     ensures honest { B.honest board.old → B.honest board.new }
     ensures past { B.honest board.old → KeepsPast (B.view board.old) (B.view board.new) }
+    ensures counter { B.honest board.old
+        → IsSettledAt opened.sequence (B.view board.old).state
+        → IfOk result (λ after. IsSettledAt after.sequence (B.view board.new).state) }
     ensures alone { B.honest board.old → LeavesAlone (λ k. (3 < k) × (k < FIRST_BLOCK))
         (B.view board.old) (B.view board.new) }
     ensures replaced { B.honest board.old
@@ -209,6 +213,10 @@ impl<B: Board + Drop> Volume for TreeVolume<B> {
         ensures sealed_for { IfOk result (λ sequence. self.new.root.sequence ≡ sequence) }
         ensures made { IfOk result (λ sequence. IsMade B.tells_reads (B.view self.old.board)
             sequence region leaves.now self.old.root self.new.root) }
+        // whatever the image: where the counter was the sequence, at Ok it is the new one, and no other is left open
+        ensures counter { B.honest self.old.board
+            → IsSettledAt self.old.sequence (B.view self.old.board).state
+            → IfOk result (λ sequence. IsSettledAt sequence (B.view self.new.board).state) }
         // the blocks of the first version stay, whatever the image, and a crash leaves them as they were
         ensures alone { B.honest self.old.board → LeavesAlone (λ k. (3 < k) × (k < FIRST_BLOCK))
             (B.view self.old.board) (B.view self.new.board) }

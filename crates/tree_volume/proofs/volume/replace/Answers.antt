@@ -6,7 +6,9 @@ use Rattle.store_api.specs.declared.leaves.LeafAnswer.TheVariants as answers
 use Rattle.store_api.specs.Volumes.{Held, IfMismatch, after_commit}
 use Rattle.seal.specs.Keys.{AreKeysOf}
 use Rattle.epoch.proofs.AloneLemmas.{alone_more, alone_read}
+use Rattle.std.specs.Prelude.{IfOk}
 use Rattle.epoch.specs.Commits.{IsBegun, IsSteady}
+use Rattle.epoch.specs.Finding.{IsSettledAt}
 use Rattle.epoch.proofs.KeepLemmas.{commit_crash, held_same, in_use_same, leaves_held, mounted_held, mounted_in_use}
 use Rattle.epoch.proofs.PastLemmas.{followed}
 use Rattle.epoch.proofs.SettledLemmas.{steady_rests}
@@ -186,3 +188,13 @@ returns-clause-alone g c h =
     let read = c.in_ok-touched.ensures.honest h in
     alone_more (λ (k : ℕ). (3 < k) × (k < 8742)) _ _ _
     (alone_read (λ (k : ℕ). (3 < k) × (k < 8742)) _ _ (g.met.B.Board.consistent c.args.board.now h) read.1) (c.in-Err.ensures.alone read.0)
+
+pub returns-in_err-touched-clause-counter : goal.returns-in_err-touched-clause-counter
+returns-in_err-touched-clause-counter g c h settled =
+    let is_err : c.from_residual.result ≡ Err c.in_err-touched.field-0.0 = search rules in
+    subst (λ (r : Result Opened LeafAnswer). IfOk r (λ after. IsSettledAt after.sequence (g.B.Board.view c.gather.new.board).state)) (sym is_err) tt
+
+pub returns-in-Ok-clause-counter : goal.returns-in-Ok-clause-counter
+returns-in-Ok-clause-counter g c h settled =
+    let read = c.in_ok-touched.ensures.honest h in
+    c.in-Ok.ensures.counter read.0 (record { counter = read.1.state.counter ∙ settled.counter; slack = read.1.state.slack ∙ settled.slack })
