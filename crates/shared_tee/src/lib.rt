@@ -1,0 +1,13 @@
+//! Applications that threads share: passes, and the calls that clients make with them, each answer one entry of one legal log.
+//!
+//! Each application has a cell of its own, and the storage has one. A call of an application holds its cell, and only a turn in
+//! whose instance an ask waits that may need the storage takes the storage's cell too.
+#![tactic(auto)]
+
+mod calls;
+mod looking;
+mod pass;
+mod shared;
+
+pub use pass::Pass;
+pub use shared::SharedTeeOver;
