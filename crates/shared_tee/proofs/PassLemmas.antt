@@ -1,9 +1,9 @@
 -- A pass that gives an application back: what it knows then.
 use Rattle.app_api.specs.Behaviours.{Behaviour}
-use Rattle.std.proofs.Common.{◌≡◌, ◌≢◌, ◌<◌, ◌≤◌, ◌+◌, ◌++◌, ◌==◌, ℕ, zero, suc, true, false, List, [], ◌∷◌, Option, None, Some, Result, Ok, Err}
-use Rattle.std.proofs.Common.{length, map, set, get_or, filter, refl, sym, subst, ◌∙◌, ap, inl, inr, ⊎_elim, arith}
-use Rattle.std.proofs.Common.{append-nil, append_assoc, length-append, length-set}
-use Rattle.std.proofs.lemmas.Bool.{eq-eqb, ne_eqb}
+use Rattle.std.proofs.Common.{◌≡◌, ◌≢◌, ◌<◌, ◌≤◌, ◌+◌, ◌++◌, ◌==◌, ◌^◌, ℕ, zero, suc, Bool, true, false, List, [], ◌∷◌, Option, None, Some, Result, Ok, Err}
+use Rattle.std.proofs.Common.{length, map, set, get_or, filter, refl, sym, subst, ◌∙◌, ap, inr, ⊎_elim, arith}
+use Rattle.std.proofs.Common.{append-nil, length-set}
+use Rattle.std.proofs.lemmas.Bool.{ne_eqb}
 use Rattle.std.proofs.lemmas.List.{get_or-set_same, set-get_or}
 use Rattle.std.proofs.lemmas.List.Elements.{filter-append}
 use Rattle.std.specs.Prelude.{IfErr, IfOk, OnErr, OnOk, slice_get}
@@ -16,9 +16,13 @@ use Rattle.turn_cell.specs.declared.view.Turn.{Turn}
 use Rattle.store_api.specs.Volumes.{VolumeKeeper}
 use Rattle.app_api.specs.declared.call.Call.{Call}
 use Rattle.alone.specs.declared.reply.Reply.{Reply}
+use Rattle.alone.specs.declared.turn.TurnKind.{TurnKind}
+use Rattle.app_side.specs.Represents.{event_of}
 use Rattle.alone.specs.Logs.{Adds, IsLegal, Logged, bytes_of_call, entries_by, entry, is_full, machine_by}
-use Rattle.alone.specs.Step.{Event, Called, Lost}
+use Rattle.alone.specs.Step.{Event, Called, Lost, needs_store}
 use Rattle.shared_parts.proofs.PartLemmas.{found_here, gives_part, own_after, segment_is}
+use Rattle.shared_parts.specs.StorageTurns.{MakesTurn, MakesTurnOver}
+use Rattle.shared_parts.specs.HostedApps.{IsTurnRefusal, WantsStorage, missed_more}
 use Rattle.shared_parts.specs.HostedApps.{Begins, ClientPart, HostedEvent, HostedView, KeepsHosted, Made, Origin, missed_by, no_client, none_missed, parts_for, reply_in, trail_with}
 use Rattle.shared_parts.specs.InStep.{IsPosted, IsRefusal}
 use Rattle.shared_parts.specs.StorageParts.{IsMarked}
@@ -26,7 +30,8 @@ use Rattle.shared_parts.specs.declared.missed.Missed.{Missed}
 use Rattle.shared_parts.specs.declared.recorded.Posted.{Posted}
 use Rattle.shared_parts.specs.declared.recorded.SharedAnswer.{SharedAnswer}
 use Rattle.shared_parts.specs.declared.recorded.SharedAnswer.TheVariants as answers
-use Rattle.shared_tee.specs.Passes.{FindsNothing, GoesOn, IsPass, IsPassOf, IsRefused, Makes, MakesNothing, MissesOwnCell, OthersWentOn, PassView, Places, Posts, log_in, log_of, origin_in, own_of}
+use Rattle.shared_tee.specs.Passes.{FindsNothing, GoesOn, IsPass, IsPassOf, IsRefused, IsTurnRefused, Makes, MakesOneTurn, MakesNothing, MissesOwnCell, OthersWentOn, PassView, Places, Posts}
+use Rattle.shared_tee.specs.Passes.{STORAGE_CELL, log_in, log_of, origin_in, own_of}
 
 -- ---- trails
 
@@ -143,6 +148,19 @@ module _ {V A : Type 0} (K : VolumeKeeper V) (behaviour : Behaviour A) (p : Pass
     goes_on = (trails_apart t.is.origin h.origin (log_of p) h.log begins).1;
     none_own = sym (ap (λ (c : ClientPart). c.made) own_found) ∙ t.is.made;
   }
+
+  -- the storage's cell is the one that the application's origin names
+  pub storage_of : (places : Places) → IsPassOf places p → places.storage ≡ h.origin.storage
+  storage_of places of =
+      let first : Some of.origin ≡ Some t.is.origin = sym of.origin_is ∙ ap (λ (x : List (HostedEvent V A)). origin_in x) t.is.trail in
+      let own : of.origin ≡ t.is.origin = cc (first) in
+      sym of.storage ∙ ap (λ (o : Origin V A). o.storage) (own ∙ sym same_origin)
+
+  pub few_missed : p.calls < 2 ^ 60 → (missed_by h.misses p.client).count < 2 ^ 60
+  few_missed few =
+      let own = ap (λ (c : ClientPart). c.missed.count) own_found in
+      let counted = t.is.counted in
+      omega (arith, own, counted, few)
 
 -- it is given back: the log has entries of the pass's client more, and the client missed this
 pub record GivesBack {V A : Type 0} (K : VolumeKeeper V) (behaviour : Behaviour A) (p : PassView V A) (h now : HostedView V A) (m : Missed) : Type 0 where
@@ -441,3 +459,147 @@ module _ {V A : Type 0} where
   pub finds_why : {X : Type 0} (r : Result X SharedAnswer) (old new : PassView V A) → MakesNothing old new → IfErr r (λ why. why ≡ answers.NoMemory) → IfErr r (λ why. FindsNothing why old new)
   finds_why (Ok x) old new none why = tt
   finds_why (Err e) old new none why = subst (λ (x : SharedAnswer). FindsNothing x old new) (sym why) none
+
+-- ---- a turn
+
+-- the entries of a turn are the client's
+pub turn_others : (lost : Bool) (client other : ℕ) (event : Event) (old new : List Logged) → MakesTurnOver lost client event old new → other ≢ client → entries_by other new ≡ entries_by other old
+turn_others lost client other event old new made not_this =
+    other_entry client other event made.before new made.adds not_this
+    ∙ ⊎_elim
+    (λ (same : made.before ≡ old). ap (λ (ls : List Logged). entries_by other ls) same)
+    (λ (t : (lost ≡ true) × (made.before ≡ old ++ entry client Lost [] ∷ [])). other_entry client other Lost old made.before (record { replies = []; more = t.1 }) not_this)
+    made.found
+
+pub turn_grows : (lost : Bool) (client : ℕ) (event : Event) (old new : List Logged) → MakesTurnOver lost client event old new → IsPrefix old new
+turn_grows lost client event old new made =
+    prefix_trans old made.before new
+    (⊎_elim
+    (λ (same : made.before ≡ old). subst (λ (ls : List Logged). IsPrefix old ls) (sym same) (prefix_refl old))
+    (λ (t : (lost ≡ true) × (made.before ≡ old ++ entry client Lost [] ∷ [])). (entry client Lost [] ∷ [], sym t.1))
+    made.found)
+    (adds_grows client event made.before new made.adds)
+
+module _ {V A : Type 0} (K : VolumeKeeper V) (behaviour : Behaviour A) (p : PassView V A) (h now : HostedView V A) (takes : Takes K behaviour p h)
+    (origin : now.origin ≡ h.origin) (keeps : KeepsHosted K behaviour now) (name i : ℕ) where
+  within_misses : p.client < length h.misses
+  within_misses = let n = takes.eight in let lt = takes.is.client in omega (arith, n, lt)
+
+  same_misses : now.misses ≡ h.misses → now.misses ≡ set h.misses p.client (missed_by now.misses p.client)
+  same_misses same =
+      same ∙ sym (set-get_or h.misses p.client none_missed) ∙ ap (λ (m : Missed). set h.misses p.client m) (ap (λ (ms : List Missed). missed_by ms p.client) (sym same))
+
+  same_counted : now.misses ≡ h.misses → (missed_by now.misses p.client).count ≤ (own_of p).missed.count + 1
+  same_counted same =
+      let own = ap (λ (c : ClientPart). c.missed.count) (own_found K behaviour p h takes) in
+      let now_is = ap (λ (ms : List Missed). (missed_by ms p.client).count) same in
+      omega (arith, own, now_is)
+
+  unmade : now.log ≡ h.log → now.misses ≡ set h.misses p.client (missed_by now.misses p.client) → (missed_by now.misses p.client).count ≤ (own_of p).missed.count + 1
+      → GivesBack K behaviour p h now (missed_by now.misses p.client)
+  unmade same misses counted = record {
+    takes = takes;
+    origin = origin;
+    grows = subst (λ (log : List Logged). IsPrefix h.log log) (sym same) (prefix_refl h.log);
+    others = λ other not_this. ap (λ (log : List Logged). entries_by other log) same;
+    misses = misses;
+    counted = counted;
+    legal = keeps.legal;
+  }
+
+  -- the client's miss, where the storage was taken
+  missed_here : (word : ℕ) → now.misses ≡ set h.misses p.client (missed_more (missed_by h.misses p.client) word) → missed_by now.misses p.client ≡ missed_more (missed_by h.misses p.client) word
+  missed_here word more =
+      ap (λ (ms : List Missed). missed_by ms p.client) more
+      ∙ get_or-set_same h.misses p.client (missed_more (missed_by h.misses p.client) word) none_missed within_misses
+
+  -- what it gives back
+  pub turn_gives : (r : Result TurnKind SharedAnswer) → IfOk r (λ kind. MakesTurn p.client (event_of kind i) h.log now.log) → OnOk r (now.misses ≡ h.misses) → OnErr r (now.log ≡ h.log)
+      → IfErr r (λ why. IsTurnRefusal why name p.client h.log h.misses now.misses) → GivesBack K behaviour p h now (missed_by now.misses p.client)
+  turn_gives (Ok kind) made same none why = record {
+    takes = takes;
+    origin = origin;
+    grows = turn_grows made.0 p.client (event_of kind i) h.log now.log made.1;
+    others = λ other not_this. turn_others made.0 p.client other (event_of kind i) h.log now.log made.1 not_this;
+    misses = same_misses same;
+    counted = same_counted same;
+    legal = keeps.legal;
+  }
+  turn_gives (Err (answers.Busy busy)) made same none why =
+      let here = missed_here busy.word why.2 in
+      let own = ap (λ (c : ClientPart). c.missed.count) (own_found K behaviour p h takes) in
+      let count = ap (λ (m : Missed). m.count) here in
+      unmade none (why.2 ∙ ap (λ (m : Missed). set h.misses p.client m) (sym here)) (omega (arith, own, count))
+  turn_gives (Err answers.LogFull) made same none why = unmade none (same_misses why.1) (same_counted why.1)
+  turn_gives (Err answers.NoMemory) made same none why = unmade none (same_misses why) (same_counted why)
+
+  module _ (g : GivesBack K behaviour p h now (missed_by now.misses p.client)) (id : TableId) (same_cell : id ≡ p.cell) (u w : SeatView ClientPart (HostedEvent V A))
+      (turn : Turn ClientPart (HostedEvent V A)) (taken : u ≡ with_turn p.seat turn 0)
+      (given : w ≡ view_after_give u (parts_for now.log 0 now.misses) (trail_with now.origin now.log)) where
+    abbrev turned : PassView V A
+    turned = record { app = p.app; client = p.client; calls = p.calls + 1; cell = id; seat = w }
+
+    log_turned : log_of turned ≡ now.log
+    log_turned = log_then K behaviour p h now (missed_by now.misses p.client) g id same_cell u w turn taken given
+
+    part_turned : own_of turned ≡ (let c : ClientPart = record { made = entries_by p.client now.log; missed = missed_by now.misses p.client } in c)
+    part_turned = part_then K behaviour p h now (missed_by now.misses p.client) g id same_cell u w turn taken given
+
+    part_before : own_of p ≡ (let c : ClientPart = record { made = entries_by p.client h.log; missed = missed_by h.misses p.client } in c)
+    part_before = own_found K behaviour p h takes
+
+    others_turned : now.log ≡ h.log → OthersWentOn p (log_of turned)
+    others_turned same = subst (λ (x : List Logged). OthersWentOn p x) (sym (log_turned ∙ same)) (went_on K behaviour p h takes)
+
+    missed_turned : now.misses ≡ h.misses → (own_of turned).missed ≡ (own_of p).missed
+    missed_turned same =
+        ap (λ (c : ClientPart). c.missed) part_turned ∙ ap (λ (ms : List Missed). missed_by ms p.client) same ∙ sym (ap (λ (c : ClientPart). c.missed) part_before)
+
+    nothing_turned : now.log ≡ h.log → now.misses ≡ h.misses → MakesNothing p turned
+    nothing_turned same misses = record {
+      others = others_turned same;
+      own = part_turned
+          ∙ ap (λ (ls : List Logged). (let c : ClientPart = record { made = entries_by p.client ls; missed = missed_by now.misses p.client } in c)) same
+          ∙ ap (λ (ms : List Missed). (let c : ClientPart = record { made = entries_by p.client h.log; missed = missed_by ms p.client } in c)) misses
+          ∙ sym part_before;
+    }
+
+    -- a turn that was made
+    pub turned_ok : (r : Result TurnKind SharedAnswer) → IfOk r (λ kind. MakesTurn p.client (event_of kind i) h.log now.log) → OnOk r (is_full h.log 0 ≡ false) → OnOk r (now.misses ≡ h.misses)
+        → IfOk r (λ kind. MakesOneTurn (event_of kind i) p turned)
+    turned_ok (Ok kind) made room same = record {
+      before = h.log;
+      others = went_on K behaviour p h takes;
+      room = room;
+      makes = subst (λ (log : List Logged). MakesTurn p.client (event_of kind i) h.log log) (sym log_turned) made;
+      missed = missed_turned same;
+    }
+    turned_ok (Err e) made room same = tt
+
+    -- one that wasn't
+    pub turned_err : (r : Result TurnKind SharedAnswer) → name ≡ STORAGE_CELL → OnErr r (now.log ≡ h.log) → IfErr r (λ why. IsTurnRefusal why name p.client h.log h.misses now.misses)
+        → IfErr r (λ why. IsMarked K h.origin.opened → WantsStorage why (machine_by behaviour h.origin.machine h.log) i) → IfErr r (λ why. IsTurnRefused K behaviour why i p turned)
+    turned_err (Ok kind) named same why wants = tt
+    turned_err (Err (answers.Busy busy)) named same why wants = (
+      why.1,
+      inr (
+        why.0 ∙ named,
+        record {
+          misses = record {
+            others = others_turned same;
+            made =
+                ap (λ (c : ClientPart). c.made) part_turned ∙ ap (λ (ls : List Logged). entries_by p.client ls) same ∙ sym (ap (λ (c : ClientPart). c.made) part_before);
+            missed =
+                ap (λ (c : ClientPart). c.missed) part_turned ∙ missed_here busy.word why.2
+                ∙ ap (λ (m : Missed). missed_more m busy.word) (sym (ap (λ (c : ClientPart). c.missed) part_before));
+          };
+          origin = h.origin;
+          origin_is =
+              origin_then K behaviour p h now (missed_by now.misses p.client) g id same_cell u w turn taken given ∙ ap (λ (o : Origin V A). Some o) origin;
+          wants = λ marked. subst (λ (log : List Logged). needs_store (machine_by behaviour h.origin.machine log) i ≡ true) (sym (log_turned ∙ same)) (wants marked);
+        },
+      ),
+    )
+    turned_err (Err answers.LogFull) named same why wants =
+        (subst (λ (log : List Logged). is_full log 0 ≡ true) (sym (log_turned ∙ same)) why.0, nothing_turned same why.1)
+    turned_err (Err answers.NoMemory) named same why wants = nothing_turned same why

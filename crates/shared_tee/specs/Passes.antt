@@ -1,6 +1,6 @@
 -- What a pass knows, and what a call of the runtime leaves of it.
 use Rattle.app_api.specs.Behaviours.{Behaviour}
-use Rattle.std.specs.Prelude.{ℕ, ◌≡◌, ◌≢◌, ◌<◌, ◌≤◌, ◌+◌, true, false, List, [], ◌∷◌, Option, None, Some, length, map, slice_get, slice_index_or}
+use Rattle.std.specs.Prelude.{ℕ, ◌≡◌, ◌≢◌, ◌<◌, ◌≤◌, ◌+◌, ◌⊎◌, true, false, List, [], ◌∷◌, Option, None, Some, length, slice_get, slice_index_or}
 use mathlib.Core.List.{IsPrefix}
 use Rattle.turn_cell.specs.View.{with_miss}
 use Rattle.turn_cell.specs.Words.{TableId}
@@ -9,7 +9,7 @@ use Rattle.turn_cell.specs.declared.view.Turn.TheVariants.{Free}
 use Rattle.store_api.specs.Volumes.{VolumeKeeper}
 use Rattle.app_api.specs.declared.call.Call.{Call}
 use Rattle.alone.specs.Logs.{Adds, IsLegal, Logged, bytes_of_call, entries_by, is_full, machine_by}
-use Rattle.alone.specs.Step.{Event, Called}
+use Rattle.alone.specs.Step.{Event, Called, needs_store}
 use Rattle.shared_parts.specs.HostedApps.{Begins, ClientPart, HostedEvent, Made, Origin, missed_more, no_client, trail_with}
 use Rattle.shared_parts.specs.InStep.{IsPosted}
 use Rattle.shared_parts.specs.StorageParts.{IsMarked}
@@ -140,3 +140,27 @@ module _ {V A : Type 0} where
   FindsNothing (answers.Busy busy) old new = (busy.cell ≡ old.app) × (busy.word ≢ 0) × MissesOwnCell busy.word old new
   FindsNothing answers.LogFull old new = ⊥
   FindsNothing answers.NoMemory old new = MakesNothing old new
+
+module _ {V A : Type 0} where
+  -- its turn found the storage's cell taken, by this word, which is counted in its part
+  pub record MissesStorage (word : ℕ) (old new : PassView V A) : Type 0 where
+    pub others : OthersWentOn old (log_of new)
+    pub made : (own_of new).made ≡ (own_of old).made
+    pub missed : (own_of new).missed ≡ missed_more (own_of old).missed word
+
+-- behaviour has the applications' two stated functions
+module _ {V A : Type 0} (K : VolumeKeeper V) (behaviour : Behaviour A) where
+  -- the storage's cell was taken, and an ask waited that may need it in the machine that the log leads to
+  pub record WaitsForStorage (word instance : ℕ) (old new : PassView V A) : Type 0 where
+    pub misses : MissesStorage word old new
+    pub origin : Origin V A
+    pub origin_is : origin_in new.seat.trail ≡ Some origin
+    pub wants : IsMarked K origin.opened → needs_store (machine_by behaviour origin.machine (log_of new)) instance ≡ true
+
+  -- why a turn isn't made: its one try found the application's cell taken, or the storage's; the log is full; there is no memory.
+  -- It changes no entry
+  abbrev pub IsTurnRefused : SharedAnswer → ℕ → PassView V A → PassView V A → Type 0
+  IsTurnRefused (answers.Busy busy) instance old new =
+      (busy.word ≢ 0) × (((busy.cell ≡ old.app) × MissesOwnCell busy.word old new) ⊎ ((busy.cell ≡ STORAGE_CELL) × WaitsForStorage busy.word instance old new))
+  IsTurnRefused answers.LogFull instance old new = (is_full (log_of new) 0 ≡ true) × MakesNothing old new
+  IsTurnRefused answers.NoMemory instance old new = MakesNothing old new

@@ -8,6 +8,7 @@ mod calls;
 mod looking;
 mod pass;
 mod shared;
+mod turning;
 
 pub use pass::Pass;
 pub use shared::SharedTeeOver;

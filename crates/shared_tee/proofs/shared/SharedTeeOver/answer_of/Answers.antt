@@ -1,7 +1,5 @@
 use Rattle.std.proofs.Common.{◌≡◌, ◌∙◌, ◌+◌, refl, subst, sym}
-use Rattle.std.specs.Prelude.{IfErr, IfOk, OnOk}
 use Rattle.turn_cell.specs.Words.{cell_id, cell_id_of, view as known}
-use Rattle.shared_parts.specs.HostedApps.{reply_in}
 use Rattle.shared_parts.specs.declared.recorded.SharedAnswer.TheVariants as answers
 use Rattle.shared_tee.proofs.PassLemmas.{Takes, cell_at, cell_there, cell_within, finds_log, finds_same, finds_why, gives_parts, gives_trail, goes_then, goes_tried, is_pass_then, is_pass_tried}
 use Rattle.shared_tee.proofs.PassLemmas.{log_then, look_gives, makes_nothing, misses_tried, of_then, of_tried}

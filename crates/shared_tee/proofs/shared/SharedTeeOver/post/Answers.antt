@@ -1,11 +1,11 @@
-use Rattle.std.proofs.Common.{◌≡◌, ◌∙◌, ◌+◌, ap, subst, sym}
-use Rattle.std.specs.Prelude.{IfErr, IfOk, OnOk}
-use Rattle.turn_cell.specs.Words.{TableId, cell_id, cell_id_of, view as known}
+use Rattle.std.proofs.Common.{◌≡◌, ◌∙◌, ◌+◌, subst, sym}
+use Rattle.std.specs.Prelude.{IfErr, IfOk}
+use Rattle.turn_cell.specs.Words.{cell_id, cell_id_of, view as known}
 use Rattle.alone.specs.Logs.{bytes_of_call}
-use Rattle.alone.specs.Step.{Called, Cancelled}
-use Rattle.shared_tee.proofs.PassLemmas.{Takes, call_gives, cell_at, cell_there, cell_within, gives_parts, gives_trail, goes_then, goes_tried, is_pass_then, is_pass_tried, makes_ok}
+use Rattle.alone.specs.Step.{Called}
+use Rattle.shared_tee.proofs.PassLemmas.{Takes, call_gives, cell_at, cell_there, cell_within, gives_parts, gives_trail, goes_then, goes_tried, is_pass_then, is_pass_tried}
 use Rattle.shared_tee.proofs.PassLemmas.{misses_tried, of_then, of_tried, posts, refused}
-use Rattle.shared_tee.specs.Passes.{GoesOn, IsPassOf, IsRefused, Makes, PassView, Places, Posts}
+use Rattle.shared_tee.specs.Passes.{GoesOn, IsPassOf, IsRefused, PassView, Places, Posts}
 use Rattle.shared_parts.specs.declared.recorded.SharedAnswer.TheVariants as answers
 use Rattle.shared_tee.proofs.shared.SharedTeeOver.post.Goals as goal
 
