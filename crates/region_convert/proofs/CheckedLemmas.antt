@@ -30,6 +30,11 @@ module _ (found leaves : ℕ → List ℕ) (same : (i : ℕ) → i < 256 → fou
   unfolding region_of
   whole_told is = sym one_region ∙ ap (λ r. unless_broken (layout One) found r) (sym is)
 
+-- the least leaf that breaks a rule is what the leaves stand for
+pub broken_is : (found : ℕ → List ℕ) (leaf : ℕ) → Some leaf ≡ first_broken (layout One) found → region_of (layout One) found ≡ Err leaf
+unfolding region_of
+broken_is found leaf is = ap (λ r. unless_broken (layout One) found r) (sym is)
+
 pub whole_stands : (found : ℕ → List ℕ) → None ≡ first_broken (layout One) found → Stand found
 unfolding region_of
 whole_stands found is = ap (λ r. unless_broken (layout One) found r) (sym is)

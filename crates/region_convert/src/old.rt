@@ -30,6 +30,30 @@ impl Model for OldRegion {
 }
 
 impl OldRegion {
+    ghost use Rattle.std.specs.Prelude.{◌≡◌, ◌<◌, Err, IfErr, IfOk, length};
+    ghost use Rattle.region_plan.specs.Layout.{layout};
+    ghost use Rattle.region_plan.specs.Regions.{region_of};
+    ghost use Rattle.region_plan.specs.declared.form.Form.TheVariants.{One};
+    ghost use Rattle.region_convert.specs.Checking.{Stand, leaf_in};
+
+    /// The region of these leaves.
+    ///
+    /// # Errors
+    ///
+    /// The least leaf that breaks a rule, where one does.
+    pub fn of(leaves: Vec<[u8; BLOCK_BYTES]>) -> Result<OldRegion, u8>
+        requires { length leaves.items ≡ 256 }
+        ensures same { IfOk result (λ region. region ≡ leaves.items) }
+        ensures stand { IfOk result (λ region. Stand (leaf_in region)) }
+        ensures broken { IfErr result (λ leaf.
+            region_of (layout One) (leaf_in leaves.items) ≡ Err leaf) }
+    {
+        match first_broken(leaves.as_slice()) {
+            Some(leaf) => Err(leaf as u8),
+            None => Ok(OldRegion { leaves }),
+        }
+    }
+
     /// The leaves.
     pub(crate) fn as_slice(&self) -> &[[u8; BLOCK_BYTES]]
         ensures leaves { result.now ≡ self.now }

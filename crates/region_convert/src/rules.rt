@@ -1,6 +1,6 @@
 //! The rules of a region of the first form, leaf by leaf, where all of its leaves are in memory.
 
-ghost use Rattle.std.specs.Prelude.{◌≡◌, ◌<◌, ◌&&◌, not, length, take, drop};
+ghost use Rattle.std.specs.Prelude.{◌≡◌, ◌<◌, ◌&&◌, not, IfSome, length, take, drop};
 ghost use Rattle.std.specs.List.{list_any};
 ghost use Rattle.std.specs.Str.{bytes_eq};
 ghost use Rattle.region_plan.specs.Layout.{layout};
@@ -166,7 +166,8 @@ fn is_broken(leaves: &[[u8; BLOCK_BYTES]], leaf: usize) -> bool
 /// The least leaf that breaks a rule.
 pub(crate) fn first_broken(leaves: &[[u8; BLOCK_BYTES]]) -> Option<u16>
     requires { length leaves.now ≡ 256 }
-    ensures { result ≡ least_broken (layout One) (leaf_in leaves.now) }
+    ensures least { result ≡ least_broken (layout One) (leaf_in leaves.now) }
+    ensures below { IfSome result (λ leaf. leaf < 256) }
 {
     for leaf in 0..OLD_LEAVES {
         if is_broken(leaves, leaf) {

@@ -1,4 +1,9 @@
 //! Where the nodes and the leaves of the first version stand, which is never written.
+ghost use Rattle.std.specs.Prelude.{◌≡◌, ◌<◌};
+ghost use Rattle.tee_base.specs.declared.limits.TheConstants.{MAX_HOSTS};
+ghost use Rattle.tree_paths.specs.Shape.{first_shape};
+
+use crate::places::FAN;
 
 /// The version that its header has.
 pub const FIRST_VERSION: u32 = 1;
@@ -20,3 +25,33 @@ pub const REGION_LEAVES: u16 = 256;
 
 /// How many places there are.
 pub const PLACES: u64 = 4_369;
+
+/// How many blocks a volume of it has.
+pub const BLOCKS: u64 = 8_742;
+
+/// The place that a place is an entry of.
+pub fn parent(place: u64) -> u64
+    requires { 0 < place }
+    ensures { result ≡ first_shape.parent place }
+{
+    (place - 1) / FAN
+}
+
+/// The number of the entry that a place is.
+pub fn slot(place: u64) -> usize
+    requires { 0 < place }
+    ensures slot { result ≡ first_shape.slot place }
+    ensures below { result < FAN }
+{
+    ((place - 1) % FAN) as usize
+}
+
+/// The place of a leaf of a region.
+pub fn leaf_place(region: u8, leaf: u8) -> u64
+    requires { region < MAX_HOSTS }
+    ensures place { result ≡ first_shape.leaf_place region leaf }
+    ensures below { result < PLACES }
+    ensures level { first_shape.level result ≡ DEPTH }
+{
+    FIRST_LEAF + u64::from(REGION_LEAVES) * u64::from(region) + u64::from(leaf)
+}

@@ -1,7 +1,7 @@
 //! The places of a tree of sealed blocks, and how what stands at them is read and verified.
 #![tactic(auto)]
 
-mod first_version;
+pub mod first_version;
 mod laws;
 mod layout;
 mod load_place;

@@ -18,7 +18,7 @@ returns-in-Some g c =
       stand = tt;
       stands = λ h. tt;
       garbled = λ h. broken_told (leaf_in c.as_slice.result.now) (leaves_of K R c.args.from.now)
-          (λ i low. ap (λ (l : List (List ℕ)). leaf_in l i) c.as_slice.ensures.value ∙ c.in_ok-read_leaves.ensures.leaves h i low) c.in-Some.leaf c.in-Some.ensures;
+          (λ i low. ap (λ (l : List (List ℕ)). leaf_in l i) c.as_slice.ensures.value ∙ c.in_ok-read_leaves.ensures.leaves h i low) c.in-Some.leaf c.in-Some.ensures.least;
       unread = tt;
       reads = reads_garbled K R c.in-Some.leaf c.args.from.now c.read_leaves.new.from c.in_ok-read_leaves.ensures.reads;
     }
@@ -30,10 +30,10 @@ returns-in-None g c =
     record {
       leaves = λ h. c.in_ok-read_leaves.ensures.leaves h;
       undamaged = λ h. c.in_ok-read_leaves.ensures.undamaged h;
-      stand = subst (λ (l : List (List ℕ)). Stand (leaf_in l)) c.as_slice.ensures.value (whole_stands (leaf_in c.as_slice.result.now) c.in-None.ensures);
+      stand = subst (λ (l : List (List ℕ)). Stand (leaf_in l)) c.as_slice.ensures.value (whole_stands (leaf_in c.as_slice.result.now) c.in-None.ensures.least);
       stands = λ h. subst (λ (l : List (List ℕ)). region_of (layout One) (leaves_of K R c.args.from.now) ≡ Ok (store_of (layout One) (leaf_in l))) c.as_slice.ensures.value
           (whole_told (leaf_in c.as_slice.result.now) (leaves_of K R c.args.from.now)
-          (λ i low. ap (λ (l : List (List ℕ)). leaf_in l i) c.as_slice.ensures.value ∙ c.in_ok-read_leaves.ensures.leaves h i low) c.in-None.ensures);
+          (λ i low. ap (λ (l : List (List ℕ)). leaf_in l i) c.as_slice.ensures.value ∙ c.in_ok-read_leaves.ensures.leaves h i low) c.in-None.ensures.least);
       garbled = λ h. tt;
       unread = tt;
       reads = c.in_ok-read_leaves.ensures.reads;
