@@ -1,5 +1,5 @@
 //! Where the nodes and the leaves of the first version stand, which is never written.
-ghost use Rattle.std.specs.Prelude.{◌≡◌, ◌<◌};
+ghost use Rattle.std.specs.Prelude.{◌≡◌, ◌<◌, ◌+◌, ◌*◌};
 ghost use Rattle.tee_base.specs.declared.limits.TheConstants.{MAX_HOSTS};
 ghost use Rattle.tree_paths.specs.Shape.{first_shape};
 
@@ -44,6 +44,17 @@ pub fn slot(place: u64) -> usize
     ensures below { result < FAN }
 {
     ((place - 1) % FAN) as usize
+}
+
+/// The place of the node of a group of a region.
+pub fn group_place(region: u8, group: u8) -> u64
+    requires region { region < MAX_HOSTS }
+    requires group { group < FAN }
+    ensures place { result ≡ FIRST_GROUP + FAN * region + group }
+    ensures below { result < PLACES }
+    ensures level { first_shape.level result ≡ 2 }
+{
+    FIRST_GROUP + FAN * u64::from(region) + u64::from(group)
 }
 
 /// The place of a leaf of a region.

@@ -1,0 +1,3 @@
+pub mod MigrateLemmas
+pub mod PlantLemmas
+pub mod WrittenLemmas

@@ -1,0 +1,106 @@
+-- What a migration leaves: a volume of the first version is read, and then one commit is made.
+use Rattle.std.proofs.Common.{◌≡◌, ◌⊎◌, ◌-◌, ◌^◌, ◌∙◌, ℕ, true, List, Option, Some, Result, Ok, Err, IfErr, refl, sym, ap, subst, inl, inr}
+use Rattle.tee_base.specs.Crash.{LeavesOnly}
+use Rattle.tee_base.proofs.Crash.{joined, weaker}
+use Rattle.store_api.specs.Volumes.{Held}
+use Rattle.store_api.specs.declared.leaves.LeafAnswer.TheVariants as leaf_answers
+use Rattle.board.specs.Moment.{View, left_since, moment}
+use Rattle.board.specs.Steps.{SameBlocks}
+use Rattle.seal.specs.Keys.{AreKeysOf}
+use Rattle.seal.specs.declared.keys.Keys.{Keys}
+use Rattle.epoch.specs.Commits.{BeforeOrAfter, IsMounted}
+use Rattle.epoch.specs.Forms.{held_of}
+use Rattle.epoch.specs.Keeping.{Exhausts, IsInUse, held_now}
+use Rattle.epoch.specs.Reading.{OnlyReads}
+use Rattle.epoch.specs.declared.header.TreeEntry.{TreeEntry}
+use Rattle.epoch.proofs.KeepLemmas.{held_same, in_use_same, mounted_held, mounted_in_use, reads_crash}
+use Rattle.old_volume.specs.Versions.{old_root, volume_form}
+use Rattle.old_volume.specs.declared.answer.OldAnswer.{OldAnswer}
+use Rattle.old_volume.specs.declared.answer.OldAnswer.TheVariants as answers
+use Rattle.old_volume.proofs.FramedLemmas.{volume_framed}
+use Rattle.old_volume.specs.Old.{old_leaves}
+use Rattle.tree_commits.specs.Touched.{AreOrdered}
+use Rattle.tree_commits.specs.declared.touched.Node.{Node}
+use Rattle.tree_paths.specs.Shape.{first_shape, shape}
+use Rattle.tree_paths.specs.Tree.{on_image}
+use Rattle.migration.specs.Migrating.{FitsOld, Migrates, taken_over}
+use Rattle.migration.specs.Planting.{ArePlanted}
+
+-- what was gathered of a reading fits the board as it is then
+pub fits_read : (old mid : View) (keys : Keys) (nodes : List Node) (entry : TreeEntry) → mid.key ≡ old.key → mid.state.reads ≡ old.state.reads → AreKeysOf keys old.key
+    → AreOrdered shape nodes → ArePlanted nodes (old_leaves (on_image first_shape old.key old.state.reads) entry) → FitsOld keys nodes (old_root entry) mid.key mid.state.reads
+fits_read old mid keys nodes entry key reads keyed ordered planted = record {
+  keyed = subst (λ (k : List ℕ). AreKeysOf keys k) (sym key) keyed;
+  old = refl;
+  ordered = ordered;
+  planted = subst (λ (k : List ℕ). ArePlanted nodes (old_leaves (on_image first_shape k mid.state.reads) entry)) (sym key)
+      (subst (λ (r : ℕ → List ℕ). ArePlanted nodes (old_leaves (on_image first_shape old.key r) entry)) (sym reads) planted);
+}
+
+-- a reading, and a call that leaves the blocks
+pub same_blocks : (old mid new : View) → OnlyReads old mid → SameBlocks mid.state new.state → SameBlocks old.state new.state
+same_blocks old mid new only same = record {
+  reads = same.reads ∙ only.state.reads;
+  durable = same.durable ∙ only.state.durable;
+  pending = same.pending ∙ only.state.pending;
+}
+
+module _ (old mid new : View) (entry : TreeEntry) (held : Held) (is : IsMounted volume_form old.key (old_root entry) held old.state) (key : mid.key ≡ old.key) (only : OnlyReads old mid) where
+  in_use : IsInUse volume_form old (old_root entry) held.sequence
+  in_use = mounted_in_use volume_form volume_framed old old.key (old_root entry) held refl is
+
+  held_is : held_now volume_form old (old_root entry) held.sequence ≡ held
+  held_is = mounted_held volume_form volume_framed old old.key (old_root entry) held refl is
+
+  -- what a crash leaves of the reading
+  read_crash : LeavesOnly moment left_since old mid (λ c. held_of volume_form old.key c ≡ Some held)
+  read_crash =
+      subst (λ (h : Held). LeavesOnly moment left_since old mid (λ c. held_of volume_form old.key c ≡ Some h)) held_is
+      (reads_crash volume_form volume_framed old mid (old_root entry) held.sequence in_use only)
+
+  -- the board is mounted still
+  use_mid : IsInUse volume_form mid (old_root entry) held.sequence
+  use_mid = in_use_same volume_form volume_framed old mid (old_root entry) held.sequence key only.state in_use
+
+  held_mid : held_now volume_form mid (old_root entry) held.sequence ≡ held
+  held_mid = held_same volume_form volume_framed old mid (old_root entry) held.sequence key only.state.reads ∙ held_is
+
+  pub mounted_mid : IsMounted volume_form mid.key (old_root entry) held mid.state
+  mounted_mid = subst (λ (h : Held). IsMounted volume_form mid.key (old_root entry) h mid.state) held_mid use_mid
+
+  -- what isn't read is left as it was
+  pub read_migrates : (e : OldAnswer) → (e ≡ answers.Failed) ⊎ (e ≡ answers.NoMemory) → Migrates held (Err e) old mid
+  read_migrates e why = record {
+    mounted = tt;
+    failed = why;
+    leaves = weaker moment left_since old mid (λ c. held_of volume_form old.key c ≡ Some held) (BeforeOrAfter volume_form old.key held (taken_over held)) (λ c same. inl same) read_crash;
+  }
+
+  -- a commit behind the reading
+  whole_crash : LeavesOnly moment left_since mid new (BeforeOrAfter volume_form mid.key held (taken_over held))
+      → LeavesOnly moment left_since old new (BeforeOrAfter volume_form old.key held (taken_over held))
+  whole_crash run =
+      joined moment left_since old mid new (BeforeOrAfter volume_form old.key held (taken_over held))
+      (weaker moment left_since old mid (λ c. held_of volume_form old.key c ≡ Some held) (BeforeOrAfter volume_form old.key held (taken_over held)) (λ c same. inl same) read_crash)
+      (subst (λ (k : List ℕ). LeavesOnly moment left_since mid new (BeforeOrAfter volume_form k held (taken_over held))) key run)
+
+  pub failed_migrates : LeavesOnly moment left_since mid new (BeforeOrAfter volume_form mid.key held (taken_over held)) → Migrates held (Err answers.Failed) old new
+  failed_migrates run = record { mounted = tt; failed = inl refl; leaves = whole_crash run }
+
+  pub done_migrates : (after : TreeEntry) → IsMounted volume_form mid.key (record { version = 2; entry = after }) (taken_over held) new.state
+      → LeavesOnly moment left_since mid new (BeforeOrAfter volume_form mid.key held (taken_over held)) → Migrates held (Ok after) old new
+  done_migrates after mounted run = record {
+    mounted = subst (λ (k : List ℕ). IsMounted volume_form k (record { version = 2; entry = after }) (taken_over held) new.state) key mounted;
+    failed = tt;
+    leaves = whole_crash run;
+  }
+
+  -- at the last sequence the counter is advanced in vain
+  pub last_migrates : (e : OldAnswer) → held.sequence ≡ 2 ^ 64 - 1
+      → (IsInUse volume_form mid (old_root entry) (2 ^ 64 - 1) → (e ≡ answers.Failed) × Exhausts volume_form (old_root entry) leaf_answers.Failed mid new) → Migrates held (Err e) old new
+  last_migrates e last does =
+      let gone = does (subst (IsInUse volume_form mid (old_root entry)) last use_mid) in
+      let same : held_now volume_form mid (old_root entry) (2 ^ 64 - 1) ≡ held = ap (held_now volume_form mid (old_root entry)) (sym last) ∙ held_mid in
+      subst (λ (a : OldAnswer). Migrates held (Err a) old new) (sym gone.0)
+      (failed_migrates (weaker moment left_since mid new (λ c. held_of volume_form mid.key c ≡ Some (held_now volume_form mid (old_root entry) (2 ^ 64 - 1)))
+      (BeforeOrAfter volume_form mid.key held (taken_over held)) (λ c left. inl (left ∙ ap (λ (h : Held). let o : Option Held = Some h in o) same)) gone.1.crash))

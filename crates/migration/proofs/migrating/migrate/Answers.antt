@@ -1,0 +1,123 @@
+use Rattle.std.proofs.Common.{◌≡◌, ◌≢◌, ◌<◌, ◌-◌, ◌^◌, ◌⊎◌, ◌∙◌, ℕ, true, List, Result, Ok, Err, IfErr, refl, sym, ap, subst, inl, inr, arith, rules}
+use Rattle.seal.specs.Keys.{AreKeysOf}
+use Rattle.store_api.specs.Volumes.{Held}
+use Rattle.board.specs.Steps.{SameBlocks}
+use Rattle.epoch.proofs.AloneLemmas.{alone_more, alone_read}
+use Rattle.epoch.proofs.PastLemmas.{followed}
+use Rattle.epoch.specs.Commits.{IsBegun, IsMounted}
+use Rattle.epoch.specs.Forms.{Root}
+use Rattle.epoch.specs.declared.header.TreeEntry.{TreeEntry}
+use Rattle.tree_commits.specs.declared.touched.Node.{Node}
+use Rattle.tree_commits.proofs.GatherLemmas.{gathered}
+use Rattle.tree_paths.specs.Shape.{first_shape, shape}
+use Rattle.tree_paths.specs.Tree.{on_image}
+use Rattle.old_volume.specs.Old.{old_leaves}
+use Rattle.old_volume.specs.Versions.{old_root, volume_form}
+use Rattle.old_volume.specs.declared.answer.OldAnswer.{OldAnswer}
+use Rattle.old_volume.specs.declared.answer.OldAnswer.TheVariants as answers
+use Rattle.migration.specs.Migrating.{FitsOld, Migrates}
+use Rattle.migration.specs.Planting.{ArePlanted}
+use Rattle.migration.proofs.MigrateLemmas.{done_migrates, failed_migrates, fits_read, last_migrates, mounted_mid, read_migrates, same_blocks}
+use Rattle.migration.proofs.migrating.migrate.Goals as goal
+
+pub returns-in_err-touched-clause-alone : goal.returns-in_err-touched-clause-alone
+returns-in_err-touched-clause-alone g c h =
+    alone_read (λ (k : ℕ). (3 < k) × (k < 8742)) _ _ (g.met.B.Board.consistent c.args.board.now h) (c.in_err-touched.ensures.honest h).1
+
+pub returns-in_err-touched-clause-migrates : goal.returns-in_err-touched-clause-migrates
+returns-in_err-touched-clause-migrates g c h held at is =
+    let v = g.B.Board.view c.args.board.now in
+    let mid = g.B.Board.view c.read_leaves.new.board in
+    let told = c.in_err-touched.ensures in
+    let e : OldAnswer = c.in_err-touched.field-0.0 in
+    let tells = g.met.B.Board.honest_reads c.args.board.now h in
+    let keyed : AreKeysOf c.args.keys.now v.key = c.requires.keyed in
+    let is_err : c.from_residual.result ≡ Err e = search rules in
+    subst (λ (r : Result TreeEntry OldAnswer). Migrates held r v mid) (sym is_err)
+    (read_migrates v mid mid c.args.root.now held is told.calls.key (told.honest h).1 e (told.sound tells v.key keyed is.sealed))
+
+pub returns-then-sequence-eq18446744073709551615-clause-unchanged : goal.returns-then-sequence-eq18446744073709551615-clause-unchanged
+returns-then-sequence-eq18446744073709551615-clause-unchanged g c h other =
+    let read = c.in_ok-touched.ensures.honest h in
+    same_blocks (g.B.Board.view c.args.board.now) (g.B.Board.view c.read_leaves.new.board) (g.B.Board.view c.advance_last.new.board) read.1
+    (c.advance_last.ensures.blocks read.0)
+
+pub returns-then-sequence-eq18446744073709551615-clause-past : goal.returns-then-sequence-eq18446744073709551615-clause-past
+returns-then-sequence-eq18446744073709551615-clause-past g c h =
+    let read = c.in_ok-touched.ensures.honest h in
+    followed _ _ _ read.1.past (c.advance_last.ensures.past read.0)
+
+pub returns-then-sequence-eq18446744073709551615-clause-alone : goal.returns-then-sequence-eq18446744073709551615-clause-alone
+returns-then-sequence-eq18446744073709551615-clause-alone g c h =
+    let read = c.in_ok-touched.ensures.honest h in
+    alone_more (λ (k : ℕ). (3 < k) × (k < 8742)) _ _ _
+    (alone_read (λ (k : ℕ). (3 < k) × (k < 8742)) _ _ (g.met.B.Board.consistent c.args.board.now h) read.1) (c.advance_last.ensures.alone read.0)
+
+pub returns-then-sequence-eq18446744073709551615-clause-migrates : goal.returns-then-sequence-eq18446744073709551615-clause-migrates
+returns-then-sequence-eq18446744073709551615-clause-migrates g c h held at is =
+    let v = g.B.Board.view c.args.board.now in
+    let mid = g.B.Board.view c.read_leaves.new.board in
+    let new = g.B.Board.view c.advance_last.new.board in
+    let told = c.in_ok-touched.ensures in
+    let read = told.honest h in
+    last_migrates v mid new c.args.root.now held is told.calls.key read.1 c.advance_last.result (omega (arith, at, c.if-sequence-eq18446744073709551615.true))
+    (c.advance_last.ensures.last read.0 (old_root c.args.root.now))
+
+pub invariant_of-change : goal.invariant_of-change
+invariant_of-change g c = record { gathered = gathered shape c.in_ok-touched.touched c.in_ok-touched.ensures.ordered }
+
+pub returns-in-Ok-clause-past : goal.returns-in-Ok-clause-past
+returns-in-Ok-clause-past g c h =
+    let read = c.in_ok-touched.ensures.honest h in
+    followed _ _ _ read.1.past (c.in-Ok.ensures.past read.0)
+
+pub returns-clause-past : goal.returns-clause-past
+returns-clause-past g c h =
+    let read = c.in_ok-touched.ensures.honest h in
+    followed _ _ _ read.1.past (c.in-Err.ensures.past read.0)
+
+pub returns-in-Ok-clause-alone : goal.returns-in-Ok-clause-alone
+returns-in-Ok-clause-alone g c h =
+    let read = c.in_ok-touched.ensures.honest h in
+    alone_more (λ (k : ℕ). (3 < k) × (k < 8742)) _ _ _
+    (alone_read (λ (k : ℕ). (3 < k) × (k < 8742)) _ _ (g.met.B.Board.consistent c.args.board.now h) read.1) (c.in-Ok.ensures.alone read.0)
+
+pub returns-clause-alone : goal.returns-clause-alone
+returns-clause-alone g c h =
+    let read = c.in_ok-touched.ensures.honest h in
+    alone_more (λ (k : ℕ). (3 < k) × (k < 8742)) _ _ _
+    (alone_read (λ (k : ℕ). (3 < k) × (k < 8742)) _ _ (g.met.B.Board.consistent c.args.board.now h) read.1) (c.in-Err.ensures.alone read.0)
+
+pub returns-in-Ok-clause-migrates : goal.returns-in-Ok-clause-migrates
+returns-in-Ok-clause-migrates g c h held at is =
+    let v = g.B.Board.view c.args.board.now in
+    let mid = g.B.Board.view c.read_leaves.new.board in
+    let new = g.B.Board.view c.commit.new.board in
+    let told = c.in_ok-touched.ensures in
+    let read = told.honest h in
+    let tells = g.met.B.Board.honest_reads c.args.board.now h in
+    let keyed : AreKeysOf c.args.keys.now v.key = c.requires.keyed in
+    let begun : IsBegun volume_form (λ key reads. FitsOld c.args.keys.now c.in_ok-touched.touched (old_root c.args.root.now) key reads) mid (old_root c.args.root.now) c.args.sequence held
+    = record {
+      last = at;
+      mounted = mounted_mid v mid new c.args.root.now held is told.calls.key read.1;
+      fits = fits_read v mid c.args.keys.now c.in_ok-touched.touched c.args.root.now told.calls.key read.1.state.reads keyed told.ordered (told.planted tells v.key keyed);
+    } in
+    done_migrates v mid new c.args.root.now held is told.calls.key read.1 c.in-Ok.root (c.in-Ok.ensures.done read.0 held begun).0 (c.in-Ok.ensures.crash read.0 held begun)
+
+pub returns-clause-migrates : goal.returns-clause-migrates
+returns-clause-migrates g c h held at is =
+    let v = g.B.Board.view c.args.board.now in
+    let mid = g.B.Board.view c.read_leaves.new.board in
+    let new = g.B.Board.view c.commit.new.board in
+    let told = c.in_ok-touched.ensures in
+    let read = told.honest h in
+    let tells = g.met.B.Board.honest_reads c.args.board.now h in
+    let keyed : AreKeysOf c.args.keys.now v.key = c.requires.keyed in
+    let begun : IsBegun volume_form (λ key reads. FitsOld c.args.keys.now c.in_ok-touched.touched (old_root c.args.root.now) key reads) mid (old_root c.args.root.now) c.args.sequence held
+    = record {
+      last = at;
+      mounted = mounted_mid v mid new c.args.root.now held is told.calls.key read.1;
+      fits = fits_read v mid c.args.keys.now c.in_ok-touched.touched c.args.root.now told.calls.key read.1.state.reads keyed told.ordered (told.planted tells v.key keyed);
+    } in
+    failed_migrates v mid new c.args.root.now held is told.calls.key read.1 (c.in-Err.ensures.crash read.0 held begun)

@@ -1,0 +1,4 @@
+pub mod FramedLemmas
+pub mod GroupLemmas
+pub mod OldLemmas
+pub mod ReadLemmas

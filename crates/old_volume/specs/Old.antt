@@ -1,0 +1,67 @@
+-- What stands under a root of the first version, and what its regions become.
+use Rattle.std.specs.Prelude.{◌≡◌, ◌<◌, ◌+◌, ◌*◌, ℕ, nat_lt, if◌then◌else◌, List, [], Option, None, Result, Err, IsTrue, replicate, slice_index_or}
+use Rattle.tee_base.specs.Words.{RegionLeaves}
+use Rattle.tee_base.specs.declared.limits.TheConstants.{BLOCK_BYTES, MAX_HOSTS}
+use Rattle.store_api.specs.Ascending.{is_above_all}
+use Rattle.store_api.specs.declared.answer.Mismatch.{Mismatch}
+use Rattle.store_api.specs.declared.leaves.Leaf.{Leaf}
+use Rattle.epoch.specs.declared.header.TreeEntry.{TreeEntry}
+use Rattle.region_plan.specs.Layout.{layout}
+use Rattle.region_plan.specs.Plans.{with_leaves}
+use Rattle.region_plan.specs.Regions.{region_of}
+use Rattle.region_plan.specs.declared.form.Form.TheVariants.{One}
+use Rattle.region_convert.specs.Checking.{Stand, leaf_in}
+use Rattle.region_convert.specs.Renumbering.{converted_leaf}
+use Rattle.tree_paths.specs.Shape.{first_shape}
+use Rattle.tree_paths.specs.Tree.{Look, damage_of, text_of}
+use Rattle.tree_paths.specs.Walk.{Visit, first_children, visits}
+use Rattle.tree_paths.specs.declared.first_version.TheConstants.{DEPTH, FIRST_GROUP, REGION_LEAVES}
+use Rattle.tree_paths.specs.declared.places.TheConstants as now
+
+-- the place of the node of a group of leaves
+abbrev pub group_of : ℕ → ℕ → ℕ
+group_of region group = FIRST_GROUP + now.FAN * region + group
+
+module _ (look : Look) (root : TreeEntry) where
+  -- the leaves of a region, as the ways to them decrypt them; there is nothing where there is no leaf
+  unfoldable pub old_leaves : ℕ → RegionLeaves
+  old_leaves region leaf =
+      if nat_lt leaf REGION_LEAVES then text_of first_shape look root (first_shape.leaf_place region leaf) else []
+
+  -- the first two tags that differ on the way to a leaf
+  unfoldable pub old_damage : ℕ → ℕ → Option Mismatch
+  old_damage region leaf =
+      if nat_lt leaf REGION_LEAVES then damage_of first_shape look root (first_shape.leaf_place region leaf) else None
+
+  -- so many leaves of a region were read
+  abbrev pub AreRead : ℕ → ℕ → List (List ℕ) → Type 0
+  AreRead region count leaves = (leaf : ℕ) → leaf < count
+      → leaf_in leaves leaf ≡ text_of first_shape look root (first_shape.leaf_place region leaf)
+
+  -- the places that a walk over all regions comes to, in its order
+  abbrev pub old_visits : List Visit
+  old_visits = visits first_children look DEPTH 0 root
+
+-- these leaves of the second form are what a region of the first one becomes, which stands for a store
+pub record IsConverted (leaves : RegionLeaves) (named : List Leaf) : Type 0 where
+  pub stand : Stand leaves
+  -- leaves of zeros with these in place of their own
+  pub converted : (i : ℕ) → with_leaves named (λ number. replicate BLOCK_BYTES 0) i ≡ converted_leaf leaves i
+
+-- a region is the first that breaks a rule of its form, and the leaf is the least of it that does
+pub record IsFirstBroken (regions : ℕ → RegionLeaves) (region leaf : ℕ) : Type 0 where
+  pub below : region < MAX_HOSTS
+  pub broken : region_of (layout One) (regions region) ≡ Err leaf
+  pub first : (r : ℕ) → r < region → Stand (regions r)
+
+-- what is named of a region, where the regions stand in a list
+abbrev pub named_of : List (List Leaf) → ℕ → List Leaf
+named_of named region = slice_index_or named region []
+
+-- each region becomes the leaves that are named of it
+abbrev pub AreConverted : (ℕ → RegionLeaves) → List (List Leaf) → Type 0
+AreConverted regions named = (region : ℕ) → region < MAX_HOSTS → IsConverted (regions region) (named_of named region)
+
+-- and the numbers of these are below those of the leaves of a region
+abbrev pub AreNumbered : List (List Leaf) → Type 0
+AreNumbered named = (region : ℕ) → region < MAX_HOSTS → IsTrue (is_above_all (named_of named region) now.REGION_LEAVES)
