@@ -102,6 +102,25 @@ pub(crate) fn first_links(
     Ok(firsts)
 }
 
+/// The same by the map alone. The chains of all inodes are in no other place while a content is read.
+#[inline(never)]
+pub(crate) fn links_of(
+    alloc: Global,
+    form: Form,
+    map: &Map,
+    inode: u16,
+    count: usize,
+) -> Result<Vec<u16>, NoMemory>
+    requires inode { inode < (layout form).leaves }
+    ensures first { IfOk result (λ firsts. (index : ℕ) → index < count
+        → links_in firsts.items index
+        ≡ link_to (leaf_from (entries_in map.now) (layout form).leaves inode index 0)) }
+    ensures long { IfOk result (λ firsts. length_of firsts.items ≡ count) }
+{
+    let chains = chains_of(form, map);
+    first_links(alloc, form, map, &chains, inode, count)
+}
+
 /// Whether a link to a leaf with this entry is the one at its index.
 fn is_first(firsts: &[u16], entry: Entry, link: u16) -> bool
     ensures { result ≡ leads_back firsts.now entry link }

@@ -16,7 +16,7 @@ ghost use Rattle.region_plan.specs.Regions.{breaks, byte_at};
 ghost use Rattle.region_plan.specs.Tables.{IsInode};
 
 use crate::bytes::all_zero;
-use crate::chain::{chains_of, first_links};
+use crate::chain::links_of;
 use crate::directory::Directory;
 use crate::edit::blocks;
 use crate::form::Form;
@@ -169,9 +169,8 @@ impl Directory {
         };
         let start = start.min(inode.length);
         let end = start + count.min(inode.length - start);
-        let chains = chains_of(self.form, &self.map);
         let count = blocks(end) as usize;
-        let links = first_links(alloc, self.form, &self.map, &chains, inode.number, count)?;
+        let links = links_of(alloc, self.form, &self.map, inode.number, count)?;
         read_between(
             alloc,
             from,
