@@ -4,10 +4,9 @@ ghost use Rattle.tee_base.specs.Faults.{Rose};
 ghost use Rattle.store_api.specs.declared.leaves.LeafAnswer.TheVariants as answers;
 ghost use Rattle.board.specs.Fuse.{fuse_after_call};
 ghost use Rattle.board.specs.Steps.{CallRun};
-ghost use Rattle.epoch.specs.Alone.{LeavesAlone};
+ghost use Rattle.epoch.specs.Alone.{StaysAlone};
 ghost use Rattle.epoch.specs.Forms.{Form, IsFramed, Root};
 ghost use Rattle.epoch.specs.Keeping.{Exhausts, IsInUse};
-ghost use Rattle.epoch.specs.Past.{KeepsPast};
 ghost use Rattle.epoch.specs.Reading.{is_failure};
 
 use board::Board;
@@ -21,11 +20,9 @@ pub fn exhaust<B: Board>(board: &mut B) -> LeafAnswer
     ensures answer { (result ≡ answers.Failed) ⊎ (result ≡ answers.NoMemory) }
     ensures writes { (B.view board.new).writes ≡ (B.view board.old).writes }
     ensures called { (B.view board.new).fuse ≡ fuse_after_call (B.view board.old).fuse }
-    ensures honest { B.honest board.old → B.honest board.new }
-    ensures past { B.honest board.old → KeepsPast (B.view board.old) (B.view board.new) }
     // no block is written
-    ensures alone { B.honest board.old
-        → LeavesAlone (λ k. Unit {0}) (B.view board.old) (B.view board.new) }
+    ensures honest { B.honest board.old → B.honest board.new
+        × StaysAlone (λ k. Unit {0}) (B.view board.old) (B.view board.new) }
     ensures failed { B.honest board.old → (f : Form) (root : Root) → IsFramed f
         → IsInUse f (B.view board.old) root (2 ^ 64 - 1)
         → Exhausts f root result (B.view board.old) (B.view board.new) }

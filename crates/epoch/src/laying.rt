@@ -7,7 +7,7 @@ ghost use Rattle.board.specs.Steps.{up_to_limit, CallRun};
 ghost use Rattle.epoch.specs.Gates.{gate_at, header_at, gate_open};
 ghost use Rattle.epoch.specs.Header.{IsHeaderBlock};
 ghost use Rattle.epoch.specs.Opening.{opening_of};
-ghost use Rattle.epoch.specs.Past.{KeepsPast};
+ghost use Rattle.epoch.specs.Alone.{TouchesBlock};
 ghost use Rattle.epoch.specs.Slots.{header_slot};
 ghost use Rattle.epoch.specs.Steps.{SyncedBut, outcome_opening};
 ghost use Rattle.epoch.specs.declared.slots.Slot.TheVariants as slot_holds;
@@ -26,10 +26,9 @@ pub fn lay<B: Board>(board: &mut B, header: &Header) -> Result<(), BoardFailed>
     requires { 4 ≤ (B.view board.old).size }
     ensures calls { CallRun (is_ok result) (B.view board.old) (B.view board.new) }
     ensures writes { (B.view board.new).writes ≡ up_to_limit ((B.view board.old).writes + 1) }
-    ensures honest { B.honest board.old → B.honest board.new }
-    ensures past { B.honest board.old → KeepsPast (B.view board.old) (B.view board.new) }
-    ensures elsewhere { B.honest board.old → (k : ℕ) → k ≢ header_at (header.now.sequence % 2)
-        → (B.view board.new).state.reads k ≡ (B.view board.old).state.reads k }
+    ensures honest { B.honest board.old → B.honest board.new
+        × TouchesBlock (header_at (header.now.sequence % 2)) (B.view board.old)
+        (B.view board.new) }
     ensures laid { B.honest board.old → let slot = header.now.sequence % 2 in
         OnOk result (SyncedBut (header_at slot) (B.view board.old).state (B.view board.new).state
         × IsHeaderBlock (B.view board.old).key slot header.now

@@ -5,10 +5,9 @@ ghost use Rattle.tee_base.specs.Crash.{LeavesOnly};
 ghost use Rattle.board.specs.Moment.{View, moment, left_since};
 ghost use Rattle.board.specs.Runs.{Rests, RunsOver};
 ghost use Rattle.board.specs.Steps.{up_to_limit, CallRun};
-ghost use Rattle.epoch.specs.Alone.{LeavesAlone};
+ghost use Rattle.epoch.specs.Alone.{StaysAlone, TouchesBlock};
 ghost use Rattle.epoch.specs.Gates.{gate_at, gate_open, shut_gate};
 ghost use Rattle.epoch.specs.Opening.{opening_of};
-ghost use Rattle.epoch.specs.Past.{KeepsPast};
 ghost use Rattle.epoch.specs.Steps.{CountsElsewhere, IsFlipped, IsLaid, LeavesFlip, SyncedBut, outcome_opening};
 ghost use Rattle.epoch.specs.declared.header.Header.{Header as HeaderValue};
 
@@ -31,10 +30,8 @@ pub fn shut<B: Board>(board: &mut B, slot: u8) -> Result<(), BoardFailed>
     ensures unwritten { IsTrue B.tells_reads
         → gate_open ((B.view board.old).state.reads (gate_at slot)) ≡ false
         → (B.view board.new).writes ≡ (B.view board.old).writes }
-    ensures honest { B.honest board.old → B.honest board.new }
-    ensures past { B.honest board.old → KeepsPast (B.view board.old) (B.view board.new) }
-    ensures elsewhere { B.honest board.old → (k : ℕ) → k ≢ gate_at slot
-        → (B.view board.new).state.reads k ≡ (B.view board.old).state.reads k }
+    ensures honest { B.honest board.old → B.honest board.new
+        × TouchesBlock (gate_at slot) (B.view board.old) (B.view board.new) }
     ensures shut { B.honest board.old
         → OnOk result (SyncedBut (gate_at slot) (B.view board.old).state (B.view board.new).state
         × (gate_open ((B.view board.new).state.reads (gate_at slot)) ≡ false)) }
@@ -76,15 +73,9 @@ pub fn flip<B: Board>(board: &mut B, slot: u8) -> Result<u64, BoardFailed>
     requires size { 4 ≤ (B.view board.old).size }
     ensures calls { CallRun (is_ok result) (B.view board.old) (B.view board.new) }
     ensures writes { (B.view board.new).writes ≡ up_to_limit ((B.view board.old).writes + 1) }
-    ensures honest { B.honest board.old → B.honest board.new }
-    ensures past { B.honest board.old → KeepsPast (B.view board.old) (B.view board.new) }
-    ensures elsewhere { B.honest board.old → (k : ℕ) → k ≢ gate_at slot
-        → (B.view board.new).state.reads k ≡ (B.view board.old).state.reads k }
-    ensures pending { B.honest board.old → (k : ℕ) → k ≢ gate_at slot
-        → (B.view board.old).state.pending k ≡ false
-        → (B.view board.new).state.pending k ≡ false }
-    ensures alone { B.honest board.old
-        → LeavesAlone (λ k. k ≢ gate_at slot) (B.view board.old) (B.view board.new) }
+    // every other block stays, at every moment too
+    ensures honest { B.honest board.old → B.honest board.new
+        × StaysAlone (λ k. k ≢ gate_at slot) (B.view board.old) (B.view board.new) }
     ensures flipped { B.honest board.old
         → IfOk result (λ m. IsFlipped slot m (B.view board.old).state (B.view board.new).state) }
     ensures run { B.honest board.old → (n : ℕ) → Rests n (B.view board.old).state

@@ -2,6 +2,7 @@ use Rattle.std.proofs.Common.{refl, true, false}
 use Rattle.epoch.proofs.AloneLemmas.{alone_blocks}
 use Rattle.epoch.proofs.CallLemmas.{run_once}
 use Rattle.epoch.proofs.KeepLemmas.{exhausted}
+use Rattle.epoch.proofs.PastLemmas.{once}
 use Rattle.epoch.proofs.last.exhaust.Goals as goal
 
 pub returns-in-Err-clause-failed : goal.returns-in-Err-clause-failed
@@ -24,12 +25,12 @@ returns-in-Ok-clause-called g c = c.in-Ok.ensures.call.fuse
 pub returns-in-Err-clause-called : goal.returns-in-Err-clause-called
 returns-in-Err-clause-called g c = c.in-Err.ensures.call.fuse
 
-pub returns-in-Ok-clause-alone : goal.returns-in-Ok-clause-alone
-returns-in-Ok-clause-alone g c h =
+pub returns-in-Ok-clause-honest : goal.returns-in-Ok-clause-honest
+returns-in-Ok-clause-honest g c h =
     let told = c.in-Ok.ensures.honest h in
-    alone_blocks _ _ _ (g.met.B.Board.consistent c.args.board.now h) told.1 told.2.blocks
+    (told.0, record { past = once _ _ told.1; alone = alone_blocks _ _ _ (g.met.B.Board.consistent c.args.board.now h) told.1 told.2.blocks })
 
-pub returns-in-Err-clause-alone : goal.returns-in-Err-clause-alone
-returns-in-Err-clause-alone g c h =
+pub returns-in-Err-clause-honest : goal.returns-in-Err-clause-honest
+returns-in-Err-clause-honest g c h =
     let told = c.in-Err.ensures.honest h in
-    alone_blocks _ _ _ (g.met.B.Board.consistent c.args.board.now h) told.1 told.2.blocks
+    (told.0, record { past = once _ _ told.1; alone = alone_blocks _ _ _ (g.met.B.Board.consistent c.args.board.now h) told.1 told.2.blocks })

@@ -40,15 +40,6 @@ returns-clause-crash g c h knows n rests shut =
     (returns-clause-run g c h (λ k. k == header_at (c.args.header.now.sequence % 2)) _ n n _ (is_itself (header_at (c.args.header.now.sequence % 2)))
     (rest_starts n _ rests (λ k. k == header_at (c.args.header.now.sequence % 2))))
 
-pub returns-in_err-write-clause-past : goal.returns-in_err-write-clause-past
-returns-in_err-write-clause-past g c h = once _ _ (c.in_err-write.ensures.honest h).1
-
-pub returns-clause-past : goal.returns-clause-past
-returns-clause-past g c h =
-    let w = c.in_ok-write.ensures.honest h in
-    let s = c.sync.ensures.honest w.0 in
-    followed _ _ _ (once _ _ w.1) (once _ _ s.1)
-
 pub returns-in_err-write-clause-calls : goal.returns-in_err-write-clause-calls
 returns-in_err-write-clause-calls g c = run_stops c.from_residual.result _ _ c.from_residual.ensures.0 (run_once false _ _ c.in_err-write.ensures.call)
 
@@ -61,22 +52,6 @@ returns-in_err-write-clause-writes g c = c.in_err-write.ensures.writes
 pub returns-clause-writes : goal.returns-clause-writes
 returns-clause-writes g c = c.sync.ensures.writes ∙ c.in_ok-write.ensures.writes
 
-pub returns-in_err-write-clause-honest : goal.returns-in_err-write-clause-honest
-returns-in_err-write-clause-honest g c h = (c.in_err-write.ensures.honest h).0
-
-pub returns-clause-honest : goal.returns-clause-honest
-returns-clause-honest g c h = (c.sync.ensures.honest (c.in_ok-write.ensures.honest h).0).0
-
-pub returns-in_err-write-clause-elsewhere : goal.returns-in_err-write-clause-elsewhere
-returns-in_err-write-clause-elsewhere g c h k ne =
-    (c.in_err-write.ensures.honest h).2.elsewhere k (λ e. ne (e ∙ c.header_block.ensures ∙ ap header_at c.slot_for-slot.ensures.slot))
-
-pub returns-clause-elsewhere : goal.returns-clause-elsewhere
-returns-clause-elsewhere g c h k ne =
-    let w = c.in_ok-write.ensures.honest h in
-    let s = c.sync.ensures.honest w.0 in
-    ap (λ (f : ℕ → List ℕ). f k) s.2.reads ∙ w.2.elsewhere k (λ e. ne (e ∙ c.header_block.ensures ∙ ap header_at c.slot_for-slot.ensures.slot))
-
 pub returns-clause-good : goal.returns-clause-good
 returns-clause-good g c h =
     let w = c.in_ok-write.ensures.honest h in
@@ -86,3 +61,22 @@ returns-clause-good g c h =
     (c.header_block.ensures ∙ ap header_at c.slot_for-slot.ensures.slot) w.2 s.2
     (subst (λ (k : List ℕ). header_slot k (c.args.header.now.sequence % 2) c.block_of_header.result ≡ Good c.args.header.now) c.key.ensures
     (subst (λ (s : ℕ). header_slot c.key.result s c.block_of_header.result ≡ Good c.args.header.now) c.slot_for-slot.ensures.slot (c.block_of_header.ensures.good c.key.result c.of-keys.ensures)))
+
+pub returns-in_err-write-clause-honest : goal.returns-in_err-write-clause-honest
+returns-in_err-write-clause-honest g c h =
+    let w = c.in_err-write.ensures.honest h in (
+      w.0,
+      record { past = once _ _ w.1; elsewhere = λ k ne. w.2.elsewhere k (λ e. ne (e ∙ c.header_block.ensures ∙ ap header_at c.slot_for-slot.ensures.slot)) },
+    )
+
+pub returns-clause-honest : goal.returns-clause-honest
+returns-clause-honest g c h =
+    let w = c.in_ok-write.ensures.honest h in
+    let s = c.sync.ensures.honest w.0 in (
+      s.0,
+      record {
+        past = followed _ _ _ (once _ _ w.1) (once _ _ s.1);
+        elsewhere = λ k ne.
+            ap (λ (f : ℕ → List ℕ). f k) s.2.reads ∙ w.2.elsewhere k (λ e. ne (e ∙ c.header_block.ensures ∙ ap header_at c.slot_for-slot.ensures.slot));
+      },
+    )

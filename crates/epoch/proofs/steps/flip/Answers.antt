@@ -3,7 +3,6 @@ use Rattle.epoch.proofs.AloneLemmas.{alone_blocks, alone_more, alone_synced, alo
 use Rattle.epoch.proofs.CallLemmas.{call_more, run_once, run_stops}
 use Rattle.epoch.proofs.PastLemmas.{once, followed}
 use Rattle.epoch.proofs.RunLemmas.{flip_wrote, flip_before, flip_advanced, flip_answers, opened_answers, flip_crash, over_sync}
-use Rattle.epoch.proofs.SettledLemmas.{settled_blocks, settled_sync, settled_wrote}
 use Rattle.epoch.specs.Gates.{gate_at}
 use Rattle.epoch.proofs.steps.flip.Goals as goal
 
@@ -47,40 +46,6 @@ returns-clause-crash g c h knows n header laid =
 pub returns-clause-opened : goal.returns-clause-opened
 returns-clause-opened g c h = opened_answers _ c.args.slot _ _ c.advance.result c.requires.slot (returns-clause-flipped g c h)
 
-pub returns-in_err-write-clause-past : goal.returns-in_err-write-clause-past
-returns-in_err-write-clause-past g c h = once _ _ (c.in_err-write.ensures.honest h).1
-
-pub returns-in_err-sync-clause-past : goal.returns-in_err-sync-clause-past
-returns-in_err-sync-clause-past g c h =
-    let w = c.in_ok-write.ensures.honest h in
-    let s = c.in_err-sync.ensures.honest w.0 in
-    followed _ _ _ (once _ _ w.1) (once _ _ s.1)
-
-pub returns-clause-past : goal.returns-clause-past
-returns-clause-past g c h =
-    let w = c.in_ok-write.ensures.honest h in
-    let s = c.in_ok-sync.ensures.honest w.0 in
-    let a = c.advance.ensures.honest s.0 in
-    followed _ _ _ (once _ _ w.1) (followed _ _ _ (once _ _ s.1) (once _ _ a.1))
-
-pub returns-in_err-write-clause-pending : goal.returns-in_err-write-clause-pending
-returns-in_err-write-clause-pending g c h k ne was =
-    let w = c.in_err-write.ensures.honest h in
-    settled_wrote _ _ _ _ _ _ c.gate_block.ensures w.2 k ne was
-
-pub returns-in_err-sync-clause-pending : goal.returns-in_err-sync-clause-pending
-returns-in_err-sync-clause-pending g c h k ne was =
-    let w = c.in_ok-write.ensures.honest h in
-    let s = c.in_err-sync.ensures.honest w.0 in
-    (settled_sync _ _ _ s.2 k (settled_wrote _ _ _ _ _ _ c.gate_block.ensures w.2 k ne was)).1
-
-pub returns-clause-pending : goal.returns-clause-pending
-returns-clause-pending g c h k ne was =
-    let w = c.in_ok-write.ensures.honest h in
-    let s = c.in_ok-sync.ensures.honest w.0 in
-    let a = c.advance.ensures.honest s.0 in
-    (settled_blocks _ _ a.2.blocks k (settled_sync _ _ _ s.2 k (settled_wrote _ _ _ _ _ _ c.gate_block.ensures w.2 k ne was)).1).1
-
 pub returns-in_err-write-clause-calls : goal.returns-in_err-write-clause-calls
 returns-in_err-write-clause-calls g c = run_stops c.from_residual.result _ _ c.from_residual.ensures.0 (run_once false _ _ c.in_err-write.ensures.call)
 
@@ -91,28 +56,37 @@ returns-in_err-sync-clause-calls g c =
 pub returns-clause-calls : goal.returns-clause-calls
 returns-clause-calls g c = call_more _ _ _ _ (call_more true _ _ _ (run_once true _ _ c.in_ok-write.ensures.call) c.in_ok-sync.ensures.call) c.advance.ensures.call
 
-pub returns-in_err-write-clause-alone : goal.returns-in_err-write-clause-alone
-returns-in_err-write-clause-alone g c h =
-    let w = c.in_err-write.ensures.honest h in
-    alone_wrote (λ (k : ℕ). k ≢ gate_at c.args.slot) _ _ _ _ _ (g.met.B.Board.consistent c.args.board.now h) w.1 (λ k ne e. ne (e ∙ c.gate_block.ensures)) w.2
+pub returns-in_err-write-clause-honest : goal.returns-in_err-write-clause-honest
+returns-in_err-write-clause-honest g c h =
+    let w = c.in_err-write.ensures.honest h in (
+      w.0,
+      record {
+        past = once _ _ w.1;
+        alone = alone_wrote (λ (k : ℕ). k ≢ gate_at c.args.slot) _ _ _ _ _ (g.met.B.Board.consistent c.args.board.now h) w.1 (λ k ne e. ne (e ∙ c.gate_block.ensures)) w.2;
+      },
+    )
 
-pub returns-in_err-sync-clause-alone : goal.returns-in_err-sync-clause-alone
-returns-in_err-sync-clause-alone g c h =
+pub returns-in_err-sync-clause-honest : goal.returns-in_err-sync-clause-honest
+returns-in_err-sync-clause-honest g c h =
     let P = λ (k : ℕ). k ≢ gate_at c.args.slot in
     let w = c.in_ok-write.ensures.honest h in
-    let s = c.in_err-sync.ensures.honest w.0 in
-    alone_more P _ _ _
-    (alone_wrote P _ _ _ _ _ (g.met.B.Board.consistent c.args.board.now h) w.1 (λ k ne e. ne (e ∙ c.gate_block.ensures)) w.2)
-    (alone_synced P _ _ _ (g.met.B.Board.consistent c.write.new.self w.0) s.1 s.2)
+    let s = c.in_err-sync.ensures.honest w.0 in (
+      s.0,
+      record {
+        past = followed _ _ _ (once _ _ w.1) (once _ _ s.1);
+        alone = alone_more P _ _ _ (alone_wrote P _ _ _ _ _ (g.met.B.Board.consistent c.args.board.now h) w.1 (λ k ne e. ne (e ∙ c.gate_block.ensures)) w.2) (alone_synced P _ _ _ (g.met.B.Board.consistent c.write.new.self w.0) s.1 s.2);
+      },
+    )
 
-pub returns-clause-alone : goal.returns-clause-alone
-returns-clause-alone g c h =
+pub returns-clause-honest : goal.returns-clause-honest
+returns-clause-honest g c h =
     let P = λ (k : ℕ). k ≢ gate_at c.args.slot in
     let w = c.in_ok-write.ensures.honest h in
     let s = c.in_ok-sync.ensures.honest w.0 in
-    let a = c.advance.ensures.honest s.0 in
-    alone_more P _ _ _
-    (alone_more P _ _ _
-    (alone_wrote P _ _ _ _ _ (g.met.B.Board.consistent c.args.board.now h) w.1 (λ k ne e. ne (e ∙ c.gate_block.ensures)) w.2)
-    (alone_synced P _ _ _ (g.met.B.Board.consistent c.write.new.self w.0) s.1 s.2))
-    (alone_blocks P _ _ (g.met.B.Board.consistent c.sync.new.self s.0) a.1 a.2.blocks)
+    let a = c.advance.ensures.honest s.0 in (
+      a.0,
+      record {
+        past = followed _ _ _ (once _ _ w.1) (followed _ _ _ (once _ _ s.1) (once _ _ a.1));
+        alone = alone_more P _ _ _ (alone_more P _ _ _ (alone_wrote P _ _ _ _ _ (g.met.B.Board.consistent c.args.board.now h) w.1 (λ k ne e. ne (e ∙ c.gate_block.ensures)) w.2) (alone_synced P _ _ _ (g.met.B.Board.consistent c.write.new.self w.0) s.1 s.2)) (alone_blocks P _ _ (g.met.B.Board.consistent c.sync.new.self s.0) a.1 a.2.blocks);
+      },
+    )

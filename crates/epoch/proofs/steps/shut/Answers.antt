@@ -1,6 +1,6 @@
 use Rattle.epoch.proofs.CallLemmas.{call_more, run_once, run_stops}
 use Rattle.epoch.proofs.PastLemmas.{once, followed}
-use Rattle.std.proofs.Common.{◌≡◌, ◌∙◌, true, false, sym, rules}
+use Rattle.std.proofs.Common.{◌≡◌, ◌∙◌, ℕ, List, true, false, sym, ap, rules}
 use Rattle.epoch.specs.Steps.{shut_writes}
 use Rattle.epoch.proofs.RunLemmas.{rest_starts, over_read, over_sync, over_write, shut_crash, shut_answers, zeros_answers, still_answers, shut_itself, gate_was}
 use Rattle.epoch.proofs.steps.shut.Goals as goal
@@ -73,28 +73,6 @@ returns-clause-crash g c h knows n rests other =
     shut_crash knows n c.args.slot _ _ c.requires.slot other (returns-clause-run g c h _ _ n n _ (shut_itself c.args.slot (g.B.Board.view c.args.board.now).state.reads)
     (rest_starts n _ rests (shut_writes c.args.slot (g.B.Board.view c.args.board.now).state.reads)))
 
-pub returns-in_err-read-clause-past : goal.returns-in_err-read-clause-past
-returns-in_err-read-clause-past g c h = once _ _ (c.in_err-read.ensures.honest h).1
-
-pub returns-then-not-is_open-clause-past : goal.returns-then-not-is_open-clause-past
-returns-then-not-is_open-clause-past g c h =
-    let r = c.in_ok-read.ensures.honest h in
-    let s = c.sync.ensures.honest r.0 in
-    followed _ _ _ (once _ _ r.1) (once _ _ s.1)
-
-pub returns-in_err-write-clause-past : goal.returns-in_err-write-clause-past
-returns-in_err-write-clause-past g c h =
-    let r = c.in_ok-read.ensures.honest h in
-    let w = c.in_err-write.ensures.honest r.0 in
-    followed _ _ _ (once _ _ r.1) (once _ _ w.1)
-
-pub returns-clause-past : goal.returns-clause-past
-returns-clause-past g c h =
-    let r = c.in_ok-read.ensures.honest h in
-    let w = c.in_ok-write.ensures.honest r.0 in
-    let s = c.sync-2.ensures.honest w.0 in
-    followed _ _ _ (once _ _ r.1) (followed _ _ _ (once _ _ w.1) (once _ _ s.1))
-
 pub returns-in_err-read-clause-calls : goal.returns-in_err-read-clause-calls
 returns-in_err-read-clause-calls g c = run_stops c.from_residual.result _ _ c.from_residual.ensures.0 (run_once false _ _ c.in_err-read.ensures.call)
 
@@ -121,3 +99,38 @@ returns-clause-unwritten g c tells shut =
     let was = gate_was c.gate_block.result _ (g.B.Board.view c.args.board.now).state.reads _ c.is_open.result true c.gate_block.ensures
     (c.in_ok-read.ensures.bytes tells) c.is_open.ensures told in
     absurd (let e : true ≡ false = sym was ∙ shut in cc)
+
+pub returns-in_err-read-clause-honest : goal.returns-in_err-read-clause-honest
+returns-in_err-read-clause-honest g c h =
+    let r = c.in_err-read.ensures.honest h in
+    (r.0, record { past = once _ _ r.1; elsewhere = λ k ne. ap (λ (f : ℕ → List ℕ). f k) r.2.reads })
+
+pub returns-then-not-is_open-clause-honest : goal.returns-then-not-is_open-clause-honest
+returns-then-not-is_open-clause-honest g c h =
+    let r = c.in_ok-read.ensures.honest h in
+    let s = c.sync.ensures.honest r.0 in
+    (s.0, record { past = followed _ _ _ (once _ _ r.1) (once _ _ s.1); elsewhere = λ k ne. ap (λ (f : ℕ → List ℕ). f k) (s.2.reads ∙ r.2.reads) })
+
+pub returns-in_err-write-clause-honest : goal.returns-in_err-write-clause-honest
+returns-in_err-write-clause-honest g c h =
+    let r = c.in_ok-read.ensures.honest h in
+    let w = c.in_err-write.ensures.honest r.0 in (
+      w.0,
+      record {
+        past = followed _ _ _ (once _ _ r.1) (once _ _ w.1);
+        elsewhere = λ k ne. w.2.elsewhere k (λ e. ne (e ∙ c.gate_block-2.ensures)) ∙ ap (λ (f : ℕ → List ℕ). f k) r.2.reads;
+      },
+    )
+
+pub returns-clause-honest : goal.returns-clause-honest
+returns-clause-honest g c h =
+    let r = c.in_ok-read.ensures.honest h in
+    let w = c.in_ok-write.ensures.honest r.0 in
+    let s = c.sync-2.ensures.honest w.0 in (
+      s.0,
+      record {
+        past = followed _ _ _ (once _ _ r.1) (followed _ _ _ (once _ _ w.1) (once _ _ s.1));
+        elsewhere = λ k ne.
+            ap (λ (f : ℕ → List ℕ). f k) s.2.reads ∙ w.2.elsewhere k (λ e. ne (e ∙ c.gate_block-2.ensures)) ∙ ap (λ (f : ℕ → List ℕ). f k) r.2.reads;
+      },
+    )

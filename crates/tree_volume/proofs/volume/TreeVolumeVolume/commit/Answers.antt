@@ -109,14 +109,14 @@ returns-then-self-2-clause-commits g c =
           unfailed = unless_failed ℕ e _ (λ made. told.calls.steady made);
           foundation = foundation_same v w told.calls;
         };
-        below = told.honest;
+        below = λ b. (told.honest b).0;
         honest = λ h.
             let gone = does h.0 (h.1 c.if-self.false) in (
-              (told.honest h.0, λ live. absurd (still_failed e gone.failed (sym c.is_failed-self.ensures ∙ live)), gone.steady),
+              ((told.honest h.0).0, λ live. absurd (still_failed e gone.failed (sym c.is_failed-self.ensures ∙ live)), gone.steady),
               no_mismatch ℕ e _ told.answer,
             );
         quiet = λ lost. absurd (let f : true ≡ false = sym lost ∙ c.if-self.false in cc);
-        past = λ h. past_read tree_form v w told.calls.key (told.past h.0);
+        past = λ h. past_read tree_form v w told.calls.key (told.honest h.0).1.past;
       };
       crash = λ h live. mapped moment left_since (λ x. g.B.Board.view x.board) (λ x. held_of tree_form (g.B.Board.view x.board).key) _ _ (LeftByCommit (Err e) before after)
           (λ o. ap (λ (k : List ℕ). held_of tree_form k o) told.calls.key)
@@ -130,7 +130,7 @@ returns-then-self-clause-alone g c h = alone_none (λ (k : ℕ). (3 < k) × (k <
 
 pub returns-then-self-2-clause-alone : goal.returns-then-self-2-clause-alone
 returns-then-self-2-clause-alone g c h =
-    alone_fewer (λ (k : ℕ). Unit {0}) (λ (k : ℕ). (3 < k) × (k < 8742)) _ _ (λ k is. tt) (c.exhaust-answer.ensures.alone h)
+    alone_fewer (λ (k : ℕ). Unit {0}) (λ (k : ℕ). (3 < k) × (k < 8742)) _ _ (λ k is. tt) (c.exhaust-answer.ensures.honest h).1.alone
 
 pub returns-in-Ok-clause-alone : goal.returns-in-Ok-clause-alone
 returns-in-Ok-clause-alone g c h = c.in-Ok.ensures.alone h
