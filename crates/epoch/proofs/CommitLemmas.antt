@@ -1,6 +1,7 @@
 -- What an image holds within a commit, over the form of the leaves.
 use Rattle.std.proofs.Common.{◌≡◌, ◌≢◌, ◌≤◌, ◌<◌, ◌+◌, ◌^◌, ◌%◌, ◌==◌, ◌&&◌, ◌∙◌, if◌then◌else◌, ℕ, zero, suc, Bool, true, false, List, [], Option, Some}
 use Rattle.std.proofs.Common.{None, Result, Ok, Err, OnErr, nat_lt, is_none, replicate, refl, sym, ap, subst, inl, inr, ⊎_elim, arith}
+use Rattle.std.specs.Prelude.{IfOk, IsErr}
 use Rattle.std.proofs.lemmas.Bool.{cases_lt, false≢true}
 use Rattle.std.proofs.lemmas.Bool.Decides.{nat_tests}
 use Rattle.tee_base.specs.Crash.{LeavesOnly}
@@ -509,3 +510,8 @@ sealed_each f key root image sealed r l hr hl =
 pub on_err : {A E : Type 0} (r : Result A E) (P : Type 0) → P → OnErr r P
 on_err (Ok a) P p = tt
 on_err (Err e) P p = p
+
+-- what is no Ok has no value
+pub never_ok : {A E : Type 0} (r : Result A E) (P : A → Type 0) → IsErr r → IfOk r P
+never_ok (Ok a) P fails = absurd (false≢true fails)
+never_ok (Err e) P fails = tt

@@ -1,12 +1,15 @@
 -- What a commit finds and leaves, over the form of the leaves.
-use Rattle.std.specs.Prelude.{◌≡◌, ◌⊎◌, ℕ, ◌+◌, ◌%◌, ◌==◌, ◌&&◌, ◌||◌, not, nat_lt, Bool, true, false, List, Option, Some, None, Result, Ok, Err}
+use Rattle.std.specs.Prelude.{◌≡◌, ◌⊎◌, ℕ, ◌+◌, ◌%◌, ◌==◌, ◌&&◌, ◌||◌, not, nat_lt, Bool, true, false, List, Option, Some, None, Result, Ok, Err, IfOk, OnErr}
+use Rattle.tee_base.specs.Crash.{LeavesOnly}
 use Rattle.store_api.specs.Volumes.{Held}
-use Rattle.board.specs.Moment.{CrashImage, Moment, View}
+use Rattle.board.specs.Moment.{CrashImage, Moment, View, left_since, moment}
+use Rattle.board.specs.declared.BoardFailed.{BoardFailed}
 use Rattle.board.specs.Runs.{Rests}
-use Rattle.epoch.specs.Forms.{Form, SameUsed, IsBlankRoot, Root, held_of, is_sealed, leaves_of, root_of}
+use Rattle.epoch.specs.Forms.{Form, SameUsed, IsBlankRoot, Root, held_of, is_sealed, leaves_of, root_of, root_written}
 use Rattle.epoch.specs.Gates.{header_at}
 use Rattle.epoch.specs.Opening.{opening_of}
 use Rattle.epoch.specs.declared.answer.OpenAnswer.{OpenAnswer}
+use Rattle.epoch.specs.declared.header.TreeEntry.{TreeEntry}
 use Rattle.epoch.specs.declared.rule.Found.{Found}
 use Rattle.tee_base.specs.Words.{Image, Key, Leaves, Sequence}
 
@@ -63,3 +66,17 @@ pub record IsSteady (f : Form) (key : Key) (root : Root) (m : Moment) : Type 0 w
 abbrev pub StaysSettled : Moment → Moment → Type 0
 StaysSettled old new = (k : ℕ) → old.pending k ≡ false
     → (new.reads k ≡ old.reads k) × (new.pending k ≡ false)
+
+-- the root is that of this entry, for the version that is written, and the entry is of this sequence
+pub record IsRootFor (f : Form) (sequence : Sequence) (root : Root) (entry : TreeEntry) : Type 0 where
+  pub written : root ≡ root_written f entry
+  pub sealed_for : entry.sequence ≡ sequence
+
+-- a commit over a board that is mounted with what was held before, under this root: at every moment since its start all that a crash
+-- leaves holds that, or what is held after. At Ok it is the latter, and the counter is its sequence; after an error the leaves under
+-- the root read as before, and no crash may change a block that it uses
+pub record CommitsOver (f : Form) (Keeps : List ℕ → (ℕ → List ℕ) → Type 0) (root : Root) (before after : Held) (result : Result TreeEntry BoardFailed) (old new : View) : Type 0 where
+  pub crash : LeavesOnly moment left_since old new (BeforeOrAfter f old.key before after)
+  pub done : IfOk result (λ entry. IsMounted f old.key (root_written f entry) after new.state × Keeps old.key new.state.reads)
+  pub kept : OnErr result (leaves_of f old.key new.state.reads root ≡ before.leaves)
+  pub steady : OnErr result (IsSteady f old.key root new.state)

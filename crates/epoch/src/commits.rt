@@ -1,15 +1,13 @@
 //! The commit that every volume makes: its copies and a header in the spare slot, and then the gate and the counter.
 ghost use Rattle.std.specs.Prelude.{◌≡◌, ◌≤◌, ◌<◌, ◌+◌, ◌^◌, ℕ, true, List, IfOk, OnOk, OnErr, is_ok};
-ghost use Rattle.tee_base.specs.Crash.{LeavesOnly};
 ghost use Rattle.store_api.specs.Volumes.{Held};
-ghost use Rattle.board.specs.Moment.{View, moment, left_since};
+ghost use Rattle.board.specs.Moment.{View};
 ghost use Rattle.board.specs.Runs.{RunsOver};
 ghost use Rattle.board.specs.Steps.{CallRun};
-ghost use Rattle.epoch.specs.Alone.{LeavesAlone};
-ghost use Rattle.epoch.specs.Commits.{BeforeOrAfter, IsBegun, IsMounted, IsSteady, IsWritten, next_held, spare};
+ghost use Rattle.epoch.specs.Alone.{StaysAlone};
+ghost use Rattle.epoch.specs.Commits.{CommitsOver, IsBegun, IsRootFor, IsWritten, next_held, spare};
 ghost use Rattle.epoch.specs.Finding.{IsSettledAt};
 ghost use Rattle.epoch.specs.Forms.{Form, IsFramed, Root, SameUsed, is_sealed, leaves_of, root_written};
-ghost use Rattle.epoch.specs.Past.{KeepsPast};
 
 use crate::gates::slot_for;
 use crate::header::{Header, TreeEntry};
@@ -61,15 +59,13 @@ pub trait Change {
         requires sequence { 0 < sequence }
         ensures calls { CallRun (is_ok result) (B.view board.old) (B.view board.new) }
         ensures writes { (B.view board.new).writes ≤ (B.view board.old).writes + cost self.old }
-        ensures root { IfOk result (λ entry. root self.new ≡ root_written form entry) }
-        ensures sealed_for { IfOk result (λ entry. entry.sequence ≡ sequence) }
+        ensures root { IfOk result (λ entry. IsRootFor form sequence (root self.new) entry) }
         ensures entries { (key : List ℕ) → checks self.old key
-            → OnOk result (seals self.old self.new key sequence) }
-        ensures checked { (key : List ℕ) → checks self.old key → OnOk result (checks self.new key) }
+            → OnOk result (seals self.old self.new key sequence × checks self.new key) }
         ensures counter { B.honest board.old → (n : ℕ) → IsSettledAt n (B.view board.old).state
             → OnOk result (IsSettledAt n (B.view board.new).state) }
-        ensures honest { B.honest board.old → B.honest board.new }
-        ensures past { B.honest board.old → KeepsPast (B.view board.old) (B.view board.new) }
+        ensures honest { B.honest board.old → B.honest board.new
+            × StaysAlone untouched (B.view board.old) (B.view board.new) }
         ensures run { B.honest board.old → (slot low high : ℕ) (first : View)
             → fits self.old (B.view board.old).key (B.view board.old).state.reads
             → RunsOver (spare form (B.view board.old).key (B.view board.old).state.reads
@@ -89,9 +85,7 @@ pub trait Change {
         ensures keeps { B.honest board.old
             → fits self.old (B.view board.old).key (B.view board.old).state.reads
             → OnOk result (keeps self.new (B.view board.old).key
-            (B.view board.new).state.reads) }
-        ensures alone { B.honest board.old
-            → LeavesAlone untouched (B.view board.old) (B.view board.new) };
+            (B.view board.new).state.reads) };
 
     ghost framed: { IsFramed form };
 
@@ -121,42 +115,22 @@ pub fn commit<B: Board, C: Change>(
     // beside what the change writes a gate is shut, the header laid, and a gate opened
     ensures writes { (B.view board.new).writes
         ≤ (B.view board.old).writes + C.cost change.old + 3 }
-    ensures root { IfOk result (λ entry. C.root change.new ≡ root_written C.form entry) }
-    ensures sealed_for { IfOk result (λ entry. entry.sequence ≡ sequence + 1) }
+    ensures root { IfOk result (λ entry.
+        IsRootFor C.form (sequence + 1) (C.root change.new) entry) }
     ensures entries { (key : List ℕ) → C.checks change.old key
-        → OnOk result (C.seals change.old change.new key (sequence + 1)) }
-    ensures checked { (key : List ℕ) → C.checks change.old key
-        → OnOk result (C.checks change.new key) }
+        → OnOk result (C.seals change.old change.new key (sequence + 1)
+        × C.checks change.new key) }
     // at Ok the counter is the new sequence, whatever the image
     ensures counter { B.honest board.old → IsSettledAt sequence (B.view board.old).state
         → OnOk result (IsSettledAt (sequence + 1) (B.view board.new).state) }
-    ensures honest { B.honest board.old → B.honest board.new }
-    ensures past { B.honest board.old → KeepsPast (B.view board.old) (B.view board.new) }
     // behind the slots what the change never writes stays, at every moment too
-    ensures alone { B.honest board.old
-        → LeavesAlone (λ k. (3 < k) × C.untouched k) (B.view board.old) (B.view board.new) }
-    // at every moment since the start all that a crash leaves holds what was held before, or after
-    ensures crash { B.honest board.old → (before : Held)
+    ensures honest { B.honest board.old → B.honest board.new
+        × StaysAlone (λ k. (3 < k) × C.untouched k) (B.view board.old) (B.view board.new) }
+    ensures commits { B.honest board.old → (before : Held)
         → IsBegun C.form (C.fits change.old) (B.view board.old) (C.root change.old) sequence before
-        → LeavesOnly moment left_since (B.view board.old) (B.view board.new)
-        (BeforeOrAfter C.form (B.view board.old).key before
-        (next_held C.form (C.after change.old before.leaves) before.sequence)) }
-    // at Ok it is what is held after, and the counter is its sequence
-    ensures done { B.honest board.old → (before : Held)
-        → IsBegun C.form (C.fits change.old) (B.view board.old) (C.root change.old) sequence before
-        → IfOk result (λ entry. IsMounted C.form (B.view board.old).key
-        (root_written C.form entry)
-        (next_held C.form (C.after change.old before.leaves) before.sequence)
-        (B.view board.new).state
-        × C.keeps change.new (B.view board.old).key (B.view board.new).state.reads) }
-    ensures kept { B.honest board.old → (before : Held)
-        → IsBegun C.form (C.fits change.old) (B.view board.old) (C.root change.old) sequence before
-        → OnErr result (leaves_of C.form (B.view board.old).key (B.view board.new).state.reads
-        (C.root change.old) ≡ before.leaves) }
-    ensures steady { B.honest board.old → (before : Held)
-        → IsBegun C.form (C.fits change.old) (B.view board.old) (C.root change.old) sequence before
-        → OnErr result (IsSteady C.form (B.view board.old).key (C.root change.old)
-        (B.view board.new).state) }
+        → CommitsOver C.form (C.keeps change.new) (C.root change.old) before
+        (next_held C.form (C.after change.old before.leaves) before.sequence) result
+        (B.view board.old) (B.view board.new) }
 {
     let slot = slot_for(sequence + 1);
     let version = change.version();

@@ -69,24 +69,24 @@ invariant_of-change g c = record { gathered = gathered shape c.in_ok-touched.tou
 pub returns-in-Ok-clause-past : goal.returns-in-Ok-clause-past
 returns-in-Ok-clause-past g c h =
     let read = c.in_ok-touched.ensures.honest h in
-    followed _ _ _ read.1.past (c.in-Ok.ensures.past read.0)
+    followed _ _ _ read.1.past (c.in-Ok.ensures.honest read.0).1.past
 
 pub returns-clause-past : goal.returns-clause-past
 returns-clause-past g c h =
     let read = c.in_ok-touched.ensures.honest h in
-    followed _ _ _ read.1.past (c.in-Err.ensures.past read.0)
+    followed _ _ _ read.1.past (c.in-Err.ensures.honest read.0).1.past
 
 pub returns-in-Ok-clause-alone : goal.returns-in-Ok-clause-alone
 returns-in-Ok-clause-alone g c h =
     let read = c.in_ok-touched.ensures.honest h in
     alone_more (λ (k : ℕ). (3 < k) × (k < 8742)) _ _ _
-    (alone_read (λ (k : ℕ). (3 < k) × (k < 8742)) _ _ (g.met.B.Board.consistent c.args.board.now h) read.1) (c.in-Ok.ensures.alone read.0)
+    (alone_read (λ (k : ℕ). (3 < k) × (k < 8742)) _ _ (g.met.B.Board.consistent c.args.board.now h) read.1) (c.in-Ok.ensures.honest read.0).1.alone
 
 pub returns-clause-alone : goal.returns-clause-alone
 returns-clause-alone g c h =
     let read = c.in_ok-touched.ensures.honest h in
     alone_more (λ (k : ℕ). (3 < k) × (k < 8742)) _ _ _
-    (alone_read (λ (k : ℕ). (3 < k) × (k < 8742)) _ _ (g.met.B.Board.consistent c.args.board.now h) read.1) (c.in-Err.ensures.alone read.0)
+    (alone_read (λ (k : ℕ). (3 < k) × (k < 8742)) _ _ (g.met.B.Board.consistent c.args.board.now h) read.1) (c.in-Err.ensures.honest read.0).1.alone
 
 pub returns-in-Ok-clause-migrates : goal.returns-in-Ok-clause-migrates
 returns-in-Ok-clause-migrates g c h held at is =
@@ -103,7 +103,7 @@ returns-in-Ok-clause-migrates g c h held at is =
       mounted = mounted_mid v mid new c.args.root.now held is told.calls.key read.1;
       fits = fits_read v mid c.args.keys.now c.in_ok-touched.touched c.args.root.now told.calls.key read.1.state.reads keyed told.ordered (told.planted tells v.key keyed);
     } in
-    done_migrates v mid new c.args.root.now held is told.calls.key read.1 c.in-Ok.root (c.in-Ok.ensures.done read.0 held begun).0 (c.in-Ok.ensures.crash read.0 held begun)
+    done_migrates v mid new c.args.root.now held is told.calls.key read.1 c.in-Ok.root (c.in-Ok.ensures.commits read.0 held begun).done.0 (c.in-Ok.ensures.commits read.0 held begun).crash
 
 pub returns-clause-migrates : goal.returns-clause-migrates
 returns-clause-migrates g c h held at is =
@@ -120,4 +120,13 @@ returns-clause-migrates g c h held at is =
       mounted = mounted_mid v mid new c.args.root.now held is told.calls.key read.1;
       fits = fits_read v mid c.args.keys.now c.in_ok-touched.touched c.args.root.now told.calls.key read.1.state.reads keyed told.ordered (told.planted tells v.key keyed);
     } in
-    failed_migrates v mid new c.args.root.now held is told.calls.key read.1 (c.in-Err.ensures.crash read.0 held begun)
+    failed_migrates v mid new c.args.root.now held is told.calls.key read.1 (c.in-Err.ensures.commits read.0 held begun).crash
+
+pub returns-in-Ok-clause-honest : goal.returns-in-Ok-clause-honest
+returns-in-Ok-clause-honest g c h = (c.in-Ok.ensures.honest (c.in_ok-touched.ensures.honest h).0).0
+
+pub returns-clause-honest : goal.returns-clause-honest
+returns-clause-honest g c h = (c.in-Err.ensures.honest (c.in_ok-touched.ensures.honest h).0).0
+
+pub returns-in-Ok-clause-sealed_for : goal.returns-in-Ok-clause-sealed_for
+returns-in-Ok-clause-sealed_for g c = c.in-Ok.ensures.root.sealed_for

@@ -33,11 +33,11 @@ returns-in_err-root-clause-opens g c honest h mounts =
     format_failed tree_form IsOpenAs held_after v (g.B.Board.view c.commit.new.board) c.from_residual-in_err-root.result h
     mounts.0 (mounts.1 (form_root NO_ROOT) blank).version
     c.from_residual-in_err-root.ensures.0 kept
-    (c.in_err-root.ensures.crash honest h (record {
+    (c.in_err-root.ensures.commits honest h (record {
       last = mounts.0;
       mounted = mounts.1 (form_root NO_ROOT) blank;
       fits = blank_fits c.args.keys.now c.in_ok-blank_node.field-0 v.key v.state.reads keyed c.in_ok-blank_node.ensures.node;
-    }))
+    })).crash
 
 pub returns-clause-opens : goal.returns-clause-opens
 returns-clause-opens g c honest h mounts =
@@ -49,8 +49,8 @@ returns-clause-opens g c honest h mounts =
       mounted = mounted;
       fits = blank_fits c.args.keys.now c.in_ok-blank_node.field-0 v.key v.state.reads keyed c.in_ok-blank_node.ensures.node;
     } in
-    format_done v (g.B.Board.view c.commit.new.board) c.in_ok-root.root h mounts.0 mounted.version c.in_ok-root.ensures.calls.key (c.in_ok-root.ensures.crash honest h begun)
-    (c.in_ok-root.ensures.done honest h begun).0
+    format_done v (g.B.Board.view c.commit.new.board) c.in_ok-root.root h mounts.0 mounted.version c.in_ok-root.ensures.calls.key (c.in_ok-root.ensures.commits honest h begun).crash
+    (c.in_ok-root.ensures.commits honest h begun).done.0
 
 pub returns-in_err-blank_node-clause-calls : goal.returns-in_err-blank_node-clause-calls
 returns-in_err-blank_node-clause-calls g c = run_as true _ _ _ (search rules) (run_none _)
@@ -71,7 +71,19 @@ pub returns-in_err-blank_node-clause-alone : goal.returns-in_err-blank_node-clau
 returns-in_err-blank_node-clause-alone g c h = alone_none (λ (k : ℕ). (3 < k) × (k < 8742)) _ (g.met.B.Board.consistent c.args.board.now h)
 
 pub returns-in_err-root-clause-alone : goal.returns-in_err-root-clause-alone
-returns-in_err-root-clause-alone g c h = c.in_err-root.ensures.alone h
+returns-in_err-root-clause-alone g c h = (c.in_err-root.ensures.honest h).1.alone
 
 pub returns-clause-alone : goal.returns-clause-alone
-returns-clause-alone g c h = c.in_ok-root.ensures.alone h
+returns-clause-alone g c h = (c.in_ok-root.ensures.honest h).1.alone
+
+pub returns-in_err-root-clause-honest : goal.returns-in_err-root-clause-honest
+returns-in_err-root-clause-honest g c h = (c.in_err-root.ensures.honest h).0
+
+pub returns-clause-honest : goal.returns-clause-honest
+returns-clause-honest g c h = (c.in_ok-root.ensures.honest h).0
+
+pub returns-in_err-root-clause-past : goal.returns-in_err-root-clause-past
+returns-in_err-root-clause-past g c h = (c.in_err-root.ensures.honest h).1.past
+
+pub returns-clause-past : goal.returns-clause-past
+returns-clause-past g c h = (c.in_ok-root.ensures.honest h).1.past

@@ -79,12 +79,12 @@ invariant_of-change g c = record {
 pub returns-in-Ok-clause-past : goal.returns-in-Ok-clause-past
 returns-in-Ok-clause-past g c h =
     let read = c.in_ok-touched.ensures.honest h in
-    followed _ _ _ read.1.past (c.in-Ok.ensures.past read.0)
+    followed _ _ _ read.1.past (c.in-Ok.ensures.honest read.0).1.past
 
 pub returns-clause-past : goal.returns-clause-past
 returns-clause-past g c h =
     let read = c.in_ok-touched.ensures.honest h in
-    followed _ _ _ read.1.past (c.in-Err.ensures.past read.0)
+    followed _ _ _ read.1.past (c.in-Err.ensures.honest read.0).1.past
 
 pub returns-in-Ok-clause-made : goal.returns-in-Ok-clause-made
 returns-in-Ok-clause-made g c =
@@ -99,8 +99,8 @@ returns-in-Ok-clause-made g c =
       ordered = told.ordered;
       named = record { here = λ l below. told.leaves l below ∙ ap (λ (ls : List Leaf). leaf_among ls l) c.as_slice.ensures.leaves; elsewhere = told.elsewhere };
       stood = λ tells. told.nodes tells v.key keyed (c.requires.cached tells);
-      sealed = subst (AreSealed shape 4 v.key (c.args.opened.sequence + 1) c.in_ok-touched.touched) (ap (λ (r : Root). r.entry) c.in-Ok.ensures.root)
-          (c.in-Ok.ensures.entries v.key keyed told.ordered);
+      sealed = subst (AreSealed shape 4 v.key (c.args.opened.sequence + 1) c.in_ok-touched.touched) (ap (λ (r : Root). r.entry) c.in-Ok.ensures.root.written)
+          ((c.in-Ok.ensures.entries v.key keyed).0 told.ordered);
     }
 
 pub returns-in-Ok-clause-replaced : goal.returns-in-Ok-clause-replaced
@@ -128,7 +128,7 @@ returns-in-Ok-clause-replaced g c h is =
     = record { last = refl; mounted = is'; fits = fits } in
     let after : Held = after_commit c.args.region leaves before in
     let held = held_same tree_form form_framed v mid (form_root root) sequence told.calls.key read.1.state.reads in
-    let done = c.in-Ok.ensures.done read.0 before begins in
+    let done = (c.in-Ok.ensures.commits read.0 before begins).done in
     subst (λ (l : List Leaf). Replaces c.args.region l (Ok (record { root = c.in-Ok.root; sequence = sequence + 1 })) c.args.opened v new) c.as_slice-2.ensures.leaves (record {
       undamaged = tt;
       stays = mounted_in_use tree_form form_framed new mid.key (form_root c.in-Ok.root) after c.in-Ok.ensures.calls.key done.0;
@@ -137,7 +137,7 @@ returns-in-Ok-clause-replaced g c h is =
         mounted_held tree_form form_framed new mid.key (form_root c.in-Ok.root) after c.in-Ok.ensures.calls.key done.0 ∙ ap (after_commit c.args.region leaves) held,
         refl,
       );
-      crash = commit_crash tree_form form_framed v mid new (form_root root) sequence c.args.region leaves is told.calls.key read.1 (c.in-Ok.ensures.crash read.0 before begins);
+      crash = commit_crash tree_form form_framed v mid new (form_root root) sequence c.args.region leaves is told.calls.key read.1 (c.in-Ok.ensures.commits read.0 before begins).crash;
     })
 
 pub returns-clause-replaced : goal.returns-clause-replaced
@@ -168,9 +168,9 @@ returns-clause-replaced g c h is =
     subst (λ (l : List Leaf). Replaces c.args.region l (Err answers.Failed) c.args.opened v new) c.as_slice-2.ensures.leaves (record {
       undamaged = tt;
       stays = tt;
-      steady = subst (λ (k : List ℕ). IsSteady tree_form k (form_root root) new.state) (sym c.in-Err.ensures.calls.key) (c.in-Err.ensures.steady read.0 before begins);
-      commits = leaves_held tree_form form_framed new mid.key (form_root root) before c.in-Err.ensures.calls.key (c.in-Err.ensures.kept read.0 before begins) refl ∙ held;
-      crash = commit_crash tree_form form_framed v mid new (form_root root) sequence c.args.region leaves is told.calls.key read.1 (c.in-Err.ensures.crash read.0 before begins);
+      steady = subst (λ (k : List ℕ). IsSteady tree_form k (form_root root) new.state) (sym c.in-Err.ensures.calls.key) (c.in-Err.ensures.commits read.0 before begins).steady;
+      commits = leaves_held tree_form form_framed new mid.key (form_root root) before c.in-Err.ensures.calls.key (c.in-Err.ensures.commits read.0 before begins).kept refl ∙ held;
+      crash = commit_crash tree_form form_framed v mid new (form_root root) sequence c.args.region leaves is told.calls.key read.1 (c.in-Err.ensures.commits read.0 before begins).crash;
     })
 
 pub returns-in_err-touched-clause-alone : goal.returns-in_err-touched-clause-alone
@@ -181,13 +181,13 @@ pub returns-in-Ok-clause-alone : goal.returns-in-Ok-clause-alone
 returns-in-Ok-clause-alone g c h =
     let read = c.in_ok-touched.ensures.honest h in
     alone_more (λ (k : ℕ). (3 < k) × (k < 8742)) _ _ _
-    (alone_read (λ (k : ℕ). (3 < k) × (k < 8742)) _ _ (g.met.B.Board.consistent c.args.board.now h) read.1) (c.in-Ok.ensures.alone read.0)
+    (alone_read (λ (k : ℕ). (3 < k) × (k < 8742)) _ _ (g.met.B.Board.consistent c.args.board.now h) read.1) (c.in-Ok.ensures.honest read.0).1.alone
 
 pub returns-clause-alone : goal.returns-clause-alone
 returns-clause-alone g c h =
     let read = c.in_ok-touched.ensures.honest h in
     alone_more (λ (k : ℕ). (3 < k) × (k < 8742)) _ _ _
-    (alone_read (λ (k : ℕ). (3 < k) × (k < 8742)) _ _ (g.met.B.Board.consistent c.args.board.now h) read.1) (c.in-Err.ensures.alone read.0)
+    (alone_read (λ (k : ℕ). (3 < k) × (k < 8742)) _ _ (g.met.B.Board.consistent c.args.board.now h) read.1) (c.in-Err.ensures.honest read.0).1.alone
 
 pub returns-in_err-touched-clause-counter : goal.returns-in_err-touched-clause-counter
 returns-in_err-touched-clause-counter g c h settled =
@@ -198,3 +198,12 @@ pub returns-in-Ok-clause-counter : goal.returns-in-Ok-clause-counter
 returns-in-Ok-clause-counter g c h settled =
     let read = c.in_ok-touched.ensures.honest h in
     c.in-Ok.ensures.counter read.0 (record { counter = read.1.state.counter ∙ settled.counter; slack = read.1.state.slack ∙ settled.slack })
+
+pub returns-in-Ok-clause-honest : goal.returns-in-Ok-clause-honest
+returns-in-Ok-clause-honest g c h = (c.in-Ok.ensures.honest (c.in_ok-touched.ensures.honest h).0).0
+
+pub returns-clause-honest : goal.returns-clause-honest
+returns-clause-honest g c h = (c.in-Err.ensures.honest (c.in_ok-touched.ensures.honest h).0).0
+
+pub returns-in-Ok-clause-sealed_for : goal.returns-in-Ok-clause-sealed_for
+returns-in-Ok-clause-sealed_for g c = c.in-Ok.ensures.root.sealed_for

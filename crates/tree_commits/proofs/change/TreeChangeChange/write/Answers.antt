@@ -1,4 +1,4 @@
-use Rattle.std.proofs.Common.{◌<◌, ℕ, true}
+use Rattle.std.proofs.Common.{◌<◌, ℕ, true, refl}
 use Rattle.epoch.proofs.AloneLemmas.{alone_run}
 use Rattle.epoch.specs.Commits.{spare}
 use Rattle.epoch.proofs.SettledLemmas.{settled_run, settled_starts}
@@ -36,14 +36,28 @@ returns-clause-counter g c h n settled =
     settled_run n v.state.reads v (g.B.Board.view c.write_all.new.board)
     (c.in_ok-self.ensures.run h (λ k. true) v.state.reads n n v (all_spare shape c.args.self.now.touched) (settled_starts n v settled))
 
-pub returns-in_err-self-clause-alone : goal.returns-in_err-self-clause-alone
-returns-in_err-self-clause-alone g c h =
-    let touched = c.args.self.now.touched in
-    alone_run (λ (k : ℕ). k < 8742) (λ open_at. AreSpare shape open_at touched) _ _ (g.met.B.Board.consistent c.args.board.now h)
-    (λ k low. apart_spare k low touched) (c.in_err-self.ensures.before h) (c.in_err-self.ensures.run h)
+pub returns-in_err-self-clause-honest : goal.returns-in_err-self-clause-honest
+returns-in_err-self-clause-honest g c h =
+    let touched = c.args.self.now.touched in (
+      c.in_err-self.ensures.honest h,
+      record {
+        past = c.in_err-self.ensures.past h;
+        alone = alone_run (λ (k : ℕ). k < 8742) (λ open_at. AreSpare shape open_at touched) _ _ (g.met.B.Board.consistent c.args.board.now h) (λ k low. apart_spare k low touched) (c.in_err-self.ensures.before h) (c.in_err-self.ensures.run h);
+      },
+    )
 
-pub returns-clause-alone : goal.returns-clause-alone
-returns-clause-alone g c h =
-    let touched = c.args.self.now.touched in
-    alone_run (λ (k : ℕ). k < 8742) (λ open_at. AreSpare shape open_at touched) _ _ (g.met.B.Board.consistent c.args.board.now h)
-    (λ k low. apart_spare k low touched) (c.in_ok-self.ensures.before h) (c.in_ok-self.ensures.run h)
+pub returns-clause-honest : goal.returns-clause-honest
+returns-clause-honest g c h =
+    let touched = c.args.self.now.touched in (
+      c.in_ok-self.ensures.honest h,
+      record {
+        past = c.in_ok-self.ensures.past h;
+        alone = alone_run (λ (k : ℕ). k < 8742) (λ open_at. AreSpare shape open_at touched) _ _ (g.met.B.Board.consistent c.args.board.now h) (λ k low. apart_spare k low touched) (c.in_ok-self.ensures.before h) (c.in_ok-self.ensures.run h);
+      },
+    )
+
+pub returns-clause-root : goal.returns-clause-root
+returns-clause-root g c = record { written = refl; sealed_for = c.in_ok-self.ensures.sealed_for }
+
+pub returns-clause-entries : goal.returns-clause-entries
+returns-clause-entries g c key keyed = (λ ordered. c.in_ok-self.ensures.sealed ordered key keyed, keyed)
