@@ -35,6 +35,12 @@ pub record MakesEvent {B V A : Type 0} {G : Ghosts V} (behaviour : Behaviour A) 
   pub counts : KeepsCounts kind (G.keeper.condition (volume_of old)) (G.keeper.condition (volume_of new))
   pub below : G.keeper.honest_below (volume_of old) → G.keeper.honest_below (volume_of new)
 
+-- values that were just made: so many applications, none of which has made a turn, and no power was lost
+pub record HasBegun {B V A : Type 0} {G : Ghosts V} (count : ℕ) (tee : TeeOver B V A G) : Type 0 where
+  pub apps : app_count tee ≡ count
+  pub turns : (app : ℕ) → turns_made tee app ≡ 0
+  pub boots : boots_of tee ≡ 0
+
 -- no application makes a turn, comes or goes
 pub record KeepsTurns {B V A : Type 0} {G : Ghosts V} (old new : TeeOver B V A G) : Type 0 where
   pub apps : app_count new ≡ app_count old

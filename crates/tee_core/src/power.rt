@@ -20,8 +20,8 @@ ghost use Rattle.epoch.specs.declared.answer.OpenAnswer.TheVariants as answers;
 ghost use Rattle.tee_core.specs.Moments.{IsWithin};
 ghost use Rattle.tee_core.specs.Opening.{IsOpenedOver, IsSoundFor};
 ghost use Rattle.tee_core.specs.Powers.{all_lost, kept_by, kept_one, told_of};
-ghost use Rattle.tee_core.specs.Stepping.{KeepsTurns, Restarts};
-ghost use Rattle.tee_core.specs.Represents.{app_count, boots_of, turns_made, volume_of, Represents};
+ghost use Rattle.tee_core.specs.Stepping.{HasBegun, KeepsTurns, Restarts};
+ghost use Rattle.tee_core.specs.Represents.{boots_of, volume_of, Represents};
 ghost use Rattle.tee_core.specs.Sides.{AreBooted, AreLost, AreSides};
 ghost use Rattle.tee_core.specs.World.{World, world_of};
 
@@ -107,9 +107,7 @@ impl<B: Board, V: BoardVolume<B>, A: Application> TeeOver<B, V, A> {
             × LeavesOpening V.form h (B.view board) (B.view (V.board_of (volume_of tee)))) }
         ensures opened { IfOk result (λ tee.
             IsOpenedOver true (B.view board) (B.view (V.board_of (volume_of tee)))) }
-        ensures apps { IfOk result (λ tee. app_count tee ≡ length hosts.items) }
-        ensures turns { IfOk result (λ tee. (app : ℕ) → turns_made tee app ≡ 0) }
-        ensures boots { IfOk result (λ tee. boots_of tee ≡ 0) }
+        ensures begun { IfOk result (λ tee. HasBegun (length hosts.items) tee) }
         // a refusal hands the board back, as its calls left it
         ensures back { IfErr result (λ u. HandsBack u.why (B.view board) (B.view u.board)) }
         ensures honest { B.honest board → IfOk result (λ tee. B.honest (V.board_of (volume_of tee))

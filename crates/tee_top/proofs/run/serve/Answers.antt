@@ -93,7 +93,7 @@ returns-in-Err-clause-opened g c = λ honest. inl (refl, subst IsUnopened (sym c
 -- ---- the lines were run
 
 pub run_lines-requires-clause-known : goal.run_lines-requires-clause-known
-run_lines-requires-clause-known g c = subst (λ n. AllByRecursion (IsKnown n) c.args.lines.items) (sym c.in-Ok-open.ensures.apps) c.requires.known
+run_lines-requires-clause-known g c = subst (λ n. AllByRecursion (IsKnown n) c.args.lines.items) (sym c.in-Ok-open.ensures.begun.apps) c.requires.known
 
 pub run_lines-requires-clause-words : goal.run_lines-requires-clause-words
 run_lines-requires-clause-words g c =
@@ -116,7 +116,7 @@ returns-clause-done g c = λ done honest stores begins.
     let run = ended_done c.run_lines.result _ (sym c.run_status-status.ensures ∙ done) c.run_lines.ensures.whole world stands in
     rw c.into_board.ensures
     (all_written behaviour form c.args.hosts.items c.requires.fit c.args.seed stores c.args.lines.items (λ w. Represents new w)
-    (point (boots_of tee) start (g.W.Sink.written c.args.sink.now)) after c.in-Ok-open.ensures.boots
+    (point (boots_of tee) start (g.W.Sink.written c.args.sink.now)) after c.in-Ok-open.ensures.begun.boots
     (λ w is. stands_leaves g.V.Volume.keeper form new.sides.items new.volume left w (g.met.V.BoardVolume.seen new.volume) is)
     (run_behind behaviour form (names_of c.args.hosts.items) (λ weather. events_of behaviour weather world c.args.lines.items) world (λ w. Represents new w) start before after
     (along_opened behaviour form world _ _ _ c.in-Ok-open.ensures.opened)
@@ -138,7 +138,7 @@ returns-clause-stopped g c = λ stopped honest stores begins.
     let run = ended_stopped c.run_lines.result _ c.run_status-status.result c.run_status-status.ensures stopped c.run_lines.ensures.stopped
     (refused_weaker c.run_lines.result _ _ (λ why part. (part world stands).1) c.run_lines.ensures.refused) world stands in
     rw c.into_board.ensures
-    (front_written behaviour form c.args.hosts.items c.requires.fit c.args.seed stores c.args.lines.items before after c.in-Ok-open.ensures.boots
+    (front_written behaviour form c.args.hosts.items c.requires.fit c.args.seed stores c.args.lines.items before after c.in-Ok-open.ensures.begun.boots
     (subst (λ ns. StopsIn behaviour form ns (λ weather. events_of behaviour weather world c.args.lines.items) world before after) same run))
 
 pub returns-clause-board_fault : goal.returns-clause-board_fault
@@ -158,7 +158,7 @@ returns-clause-board_fault g c = λ fault honest stores begins.
     let refused = (ended_fault c.run_lines.result _ (sym c.run_status-status.ensures ∙ fault) c.run_lines.ensures.refused).1 world stands in
     inr (rw c.into_board.ensures
     (power_written behaviour form c.args.hosts.items c.requires.fit c.args.seed stores c.args.lines.items (point (boots_of tee) start (g.W.Sink.written c.args.sink.now)) after
-    c.in-Ok-open.ensures.boots
+    c.in-Ok-open.ensures.begun.boots
     (refused_behind behaviour form (names_of c.args.hosts.items) c.args.lines.items world start before after (along_opened behaviour form world _ _ _ c.in-Ok-open.ensures.opened)
     (subst (λ ns. IsRefusedIn behaviour form ns c.args.lines.items world before after) same refused.0))))
 

@@ -38,14 +38,8 @@ returns-clause-world g c = λ honest n h stores at_rest size sound.
       made.2,
     )
 
-pub returns-clause-turns : goal.returns-clause-turns
-returns-clause-turns g c = λ app. turns_started 0 c.args.hosts.items c.args.seed (λ k. empty_store) c.in-Ok.sides.items (c.in-Ok.ensures.world (λ k. empty_store)) app
-
 pub returns-clause-opened : goal.returns-clause-opened
 returns-clause-opened g c = c.in_ok-volume.ensures.calls
-
-pub returns-clause-apps : goal.returns-clause-apps
-returns-clause-apps g c = c.in-Ok.ensures.count
 
 pub returns-clause-honest : goal.returns-clause-honest
 returns-clause-honest g c = c.in_ok-volume.ensures.honest
@@ -78,3 +72,10 @@ pub returns-in_err-volume-clause-honest_back : goal.returns-in_err-volume-clause
 returns-in_err-volume-clause-honest_back g c = λ honest.
     let is : c.from_residual.result ≡ Err c.in_err-volume.field-0.0 = search rules in
     told_err c.from_residual.result c.in_err-volume.field-0.0 _ is (c.in_err-volume.ensures.honest_back honest)
+
+pub returns-clause-begun : goal.returns-clause-begun
+returns-clause-begun g c = record {
+  apps = c.in-Ok.ensures.count;
+  turns = λ app. turns_started 0 c.args.hosts.items c.args.seed (λ k. empty_store) c.in-Ok.sides.items (c.in-Ok.ensures.world (λ k. empty_store)) app;
+  boots = refl;
+}
