@@ -74,7 +74,9 @@ returns-in_err-sync-clause-honest g c h =
       s.0,
       record {
         past = followed _ _ _ (once _ _ w.1) (once _ _ s.1);
-        alone = alone_more P _ _ _ (alone_wrote P _ _ _ _ _ (g.met.B.Board.consistent c.args.board.now h) w.1 (λ k ne e. ne (e ∙ c.gate_block.ensures)) w.2) (alone_synced P _ _ _ (g.met.B.Board.consistent c.write.new.self w.0) s.1 s.2);
+        alone = alone_more P _ _ _
+            (alone_wrote P _ _ _ _ _ (g.met.B.Board.consistent c.args.board.now h) w.1 (λ k ne e. ne (e ∙ c.gate_block.ensures)) w.2)
+            (alone_synced P _ _ _ (g.met.B.Board.consistent c.write.new.self w.0) s.1 s.2);
       },
     )
 
@@ -87,6 +89,10 @@ returns-clause-honest g c h =
       a.0,
       record {
         past = followed _ _ _ (once _ _ w.1) (followed _ _ _ (once _ _ s.1) (once _ _ a.1));
-        alone = alone_more P _ _ _ (alone_more P _ _ _ (alone_wrote P _ _ _ _ _ (g.met.B.Board.consistent c.args.board.now h) w.1 (λ k ne e. ne (e ∙ c.gate_block.ensures)) w.2) (alone_synced P _ _ _ (g.met.B.Board.consistent c.write.new.self w.0) s.1 s.2)) (alone_blocks P _ _ (g.met.B.Board.consistent c.sync.new.self s.0) a.1 a.2.blocks);
+        alone = alone_more P _ _ _
+            (alone_more P _ _ _
+            (alone_wrote P _ _ _ _ _ (g.met.B.Board.consistent c.args.board.now h) w.1 (λ k ne e. ne (e ∙ c.gate_block.ensures)) w.2)
+            (alone_synced P _ _ _ (g.met.B.Board.consistent c.write.new.self w.0) s.1 s.2))
+            (alone_blocks P _ _ (g.met.B.Board.consistent c.sync.new.self s.0) a.1 a.2.blocks);
       },
     )

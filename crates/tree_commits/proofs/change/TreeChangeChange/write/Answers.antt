@@ -42,7 +42,8 @@ returns-in_err-self-clause-honest g c h =
       c.in_err-self.ensures.honest h,
       record {
         past = c.in_err-self.ensures.past h;
-        alone = alone_run (λ (k : ℕ). k < 8742) (λ open_at. AreSpare shape open_at touched) _ _ (g.met.B.Board.consistent c.args.board.now h) (λ k low. apart_spare k low touched) (c.in_err-self.ensures.before h) (c.in_err-self.ensures.run h);
+        alone = alone_run (λ (k : ℕ). k < 8742) (λ open_at. AreSpare shape open_at touched) _ _ (g.met.B.Board.consistent c.args.board.now h)
+            (λ k low. apart_spare k low touched) (c.in_err-self.ensures.before h) (c.in_err-self.ensures.run h);
       },
     )
 
@@ -52,7 +53,8 @@ returns-clause-honest g c h =
       c.in_ok-self.ensures.honest h,
       record {
         past = c.in_ok-self.ensures.past h;
-        alone = alone_run (λ (k : ℕ). k < 8742) (λ open_at. AreSpare shape open_at touched) _ _ (g.met.B.Board.consistent c.args.board.now h) (λ k low. apart_spare k low touched) (c.in_ok-self.ensures.before h) (c.in_ok-self.ensures.run h);
+        alone = alone_run (λ (k : ℕ). k < 8742) (λ open_at. AreSpare shape open_at touched) _ _ (g.met.B.Board.consistent c.args.board.now h)
+            (λ k low. apart_spare k low touched) (c.in_ok-self.ensures.before h) (c.in_ok-self.ensures.run h);
       },
     )
 
