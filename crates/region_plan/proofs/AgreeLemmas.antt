@@ -14,9 +14,10 @@ use Rattle.region_plan.specs.Layout.{Layout}
 use Rattle.region_plan.specs.Parts.{are_zero}
 use Rattle.region_plan.proofs.FormLemmas.{IsLaid}
 use Rattle.region_plan.specs.Entries.{entry_at, entry_number, number_in, form_of, is_zero, is_inode, is_data_of, is_data_at, is_well_formed}
-use Rattle.region_plan.specs.Inodes.{four_at, length_in, identifier_in, secret_in, is_inode_leaf}
+use Rattle.region_plan.specs.Inodes.{four_at, length_in, identifier_in, inode_of, secret_in, is_inode_leaf}
 use Rattle.region_plan.specs.Laws.{AgreeInUse}
-use Rattle.region_plan.specs.Regions.{numbers, is_doubled, has_one, is_past, has_data, is_padded, breaks, leaf_of, byte_in, byte_at, content_of}
+use Rattle.region_plan.specs.Reading.{IsWhole}
+use Rattle.region_plan.specs.Regions.{inodes_of, numbers, is_doubled, has_one, is_past, has_data, is_padded, breaks, leaf_of, byte_in, byte_at, content_of}
 use Rattle.region_plan.specs.Regions.{object_of, inode_numbers, store_of, first_broken, unless_broken, region_of, data_leaves}
 use Rattle.region_plan.specs.declared.entry.Entry.{Entry}
 use Rattle.region_plan.specs.declared.entry.TheConstants.{INODE, DATA}
@@ -115,7 +116,7 @@ module _ (L : Layout) (leaves others : ℕ → List ℕ) (agree : AgreeInUse L l
   number_same : (i : ℕ) → i < L.leaves → entry_number L others i ≡ entry_number L leaves i
   number_same i below = ap (λ (bytes : List ℕ). number_in bytes (i % 256)) (agree.map (i / 256) (mapped i below))
 
-  entry_same : (i : ℕ) → i < L.leaves → entry_at L others i ≡ entry_at L leaves i
+  pub entry_same : (i : ℕ) → i < L.leaves → entry_at L others i ≡ entry_at L leaves i
   unfolding entry_at
   entry_same i below = ap (λ (n : ℕ). L.entry_of n) (number_same i below)
 
@@ -129,7 +130,7 @@ module _ (L : Layout) (leaves others : ℕ → List ℕ) (agree : AgreeInUse L l
   unfolding entry_at
   owner_below i = laid.inode (entry_number L leaves i)
 
-  formed_same : (i : ℕ) → i < L.leaves → is_well_formed L others i ≡ is_well_formed L leaves i
+  pub formed_same : (i : ℕ) → i < L.leaves → is_well_formed L others i ≡ is_well_formed L leaves i
   unfolding is_well_formed
   formed_same i below =
       ap (λ (e : Entry). if nat_lt i L.map_leaves then is_zero e else form_of i e (is_inode L others e.inode && nat_lt e.index L.indexes)) (entry_same i below)
@@ -286,3 +287,18 @@ module _ (L : Layout) (leaves others : ℕ → List ℕ) (agree : AgreeInUse L l
       each : (r : Option ℕ) → unless_broken L others r ≡ unless_broken L leaves r
       each None = ap (λ (s : Store). Ok s) store_same
       each (Some i) = refl
+
+  -- what the inode leaves tell, and their rules
+  pub inodes_told : inodes_of L others ≡ inodes_of L leaves
+  unfolding inodes_of
+  inodes_told =
+      ap (map (λ i. inode_of i (others i))) inodes_same
+      ∙ map_agree (λ i. inode_of i (leaves i)) (λ i. inode_of i (others i)) (λ i. (i < L.leaves) × (is_inode L leaves i ≡ true)) (inode_numbers L leaves) all_inodes
+      (λ i met. ap (λ (b : List ℕ). inode_of i b) (at_inode i met.0 met.1))
+
+  pub whole_same : (i : ℕ) → i < L.leaves → is_inode L leaves i ≡ true → IsWhole L leaves i → IsWhole L others i
+  whole_same i below is whole = record {
+    bytes = ap (λ (b : List ℕ). is_inode_leaf b) (at_inode i below is) ∙ whole.bytes;
+    new = doubled_same i below is ∙ whole.new;
+    placed = has_data_same i (at_inode i below is) ∙ whole.placed;
+  }
