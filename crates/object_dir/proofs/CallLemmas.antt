@@ -4,7 +4,7 @@ use Rattle.std.specs.Prelude.{IsTrue}
 use Rattle.tee_base.specs.Crash.{LeavesOnly}
 use Rattle.tee_base.proofs.Crash.{mapped}
 use Rattle.store_api.specs.declared.answer.StoreAnswer.{StoreAnswer}
-use Rattle.store_api.specs.Keeping.{Contents, IsCall, LeavesJust, Remains}
+use Rattle.store_api.specs.Keeping.{Contents, HasCause, IsCall, LeavesJust, LeavesNothingNew, Remains, TellsDamage}
 use Rattle.store_api.specs.Volumes.{Held, VolumeKeeper}
 use Rattle.region_plan.specs.Reading.{IfGarbled, IsBroken, ReadsOnly, leaves_of, refusal_of}
 use Rattle.region_plan.specs.Regions.{breaks}
@@ -27,7 +27,8 @@ module _ {V : Type 0} (K : VolumeKeeper V) where
           | false ↦ λ e. (run.crash h e).later
         ] refl
 
-    found_still : IsTrue K.tells_reads → leaves_of (region_keeper K) number_of new ≡ leaves_of (region_keeper K) number_of old
+    -- what is found stays
+    pub found_still : IsTrue K.tells_reads → leaves_of (region_keeper K) number_of new ≡ leaves_of (region_keeper K) number_of old
     found_still t = ap (λ (text : ℕ → ℕ → List ℕ). text new.number) (run.text t) ∙ ap (λ (r : ℕ). K.text old.volume.now r) run.same_region
 
     -- reads are a call on a region
@@ -63,6 +64,25 @@ module _ {V : Type 0} (K : VolumeKeeper V) where
     same_outcome : (o : Option Held) → remains_in new.region.number o ≡ remains_in old.region.number o
     same_outcome o = ap (λ (k : ℕ). remains_in k o) (same_number K old.region new.region call.foundation)
 
+    -- when it comes, what it tells, and what a crash may leave over a lost volume, whatever the leaves stand for
+    pub call_cause : new.damage_reports ≡ old.damage_reports + damage_reports (refusal_of result) → HasCause result ((dir_keeper K).status old) ((dir_keeper K).status new)
+    call_cause reports = record {
+      cause = cause_of result ((region_keeper K).condition old.region) ((region_keeper K).condition new.region) old.damage_reports old.change_attempts new.damage_reports
+          new.change_attempts call.cause;
+      later = call.later;
+      unfailed = unfailed_of result _ call.unfailed;
+      foundation = call.foundation;
+      reports = reports ∙ ap (λ (k : ℕ). old.damage_reports + k) (reports_of result);
+    }
+
+    pub call_damage : TellsDamage result (damage_of K new.region)
+    call_damage =
+        tells_of result (damage_of K new.region)
+        (corrupt_under (refusal_of result) K.tells_reads (λ tags. (leaf : ℕ) × (leaf < K.leaves) × (K.damage new.region.volume.now new.region.number leaf ≡ Some tags)) call.shows) call.broken
+
+    pub call_quiet : IsTrue (K.condition old.region.volume.now).lost → LeavesNothingNew (dir_keeper K) old new
+    call_quiet lost = record { same = (call.quiet lost).same; none = λ t o left. (left.0, (call.quiet lost).none t left.0 left.1, left.2 ∙ same_outcome left.0) }
+
     -- a call on a region is a call of its store
     pub store_call : IsLawful K → (HasStore K old.region → HasStore K new.region) → (HasStore K old.region → IsTrue (K.condition new.region.volume.now).lost →
         kept_in K new.region ≡ kept_in K old.region)
@@ -71,17 +91,9 @@ module _ {V : Type 0} (K : VolumeKeeper V) where
       model = stands;
       still = still;
       limits = λ has. (kept_limits K old.region has, kept_limits K new.region (stands has));
-      cause = record {
-        cause = cause_of result ((region_keeper K).condition old.region) ((region_keeper K).condition new.region) old.damage_reports old.change_attempts new.damage_reports
-            new.change_attempts call.cause;
-        later = call.later;
-        unfailed = unfailed_of result _ call.unfailed;
-        foundation = call.foundation;
-        reports = reports ∙ ap (λ (k : ℕ). old.damage_reports + k) (reports_of result);
-      };
+      cause = call_cause reports;
       attempts = attempts;
-      damage = tells_of result (damage_of K new.region)
-          (corrupt_under (refusal_of result) K.tells_reads (λ tags. (leaf : ℕ) × (leaf < K.leaves) × (K.damage new.region.volume.now new.region.number leaf ≡ Some tags)) call.shows) call.broken;
+      damage = call_damage;
       below = call.below;
       honest = λ has. (
         stands has,
@@ -91,7 +103,7 @@ module _ {V : Type 0} (K : VolumeKeeper V) where
             (λ leaf works broken. broken_never K laws old.region has.honest works (store_in old.region.number (K.held old.region.volume.now)) has.stands leaf broken)
             call.garbled),
       );
-      quiet = λ lost. record { same = (call.quiet lost).same; none = λ t o left. (left.0, (call.quiet lost).none t left.0 left.1, left.2 ∙ same_outcome left.0) };
+      quiet = call_quiet;
       past = λ has. record { later = call.goes_on has.honest; past = λ t o le left. (left.0, call.past has.honest t left.0 le left.1, left.2 ∙ sym (same_outcome left.0)) };
     }
 

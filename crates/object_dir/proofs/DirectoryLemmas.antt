@@ -1,5 +1,6 @@
 -- What the calls of the objects of a region promise as a store.
 use Rattle.std.proofs.Common.{◌≡◌, ◌≤◌, ◌+◌, ℕ, true, false, Option, Some, Result, Ok, Err, refl, sym, ap, ◌∙◌, subst, arith}
+use Rattle.std.specs.Prelude.{IfOk}
 use Rattle.tee_base.specs.Crash.{LeavesOnly}
 use Rattle.tee_base.proofs.Crash.{weaker}
 use Rattle.store_api.specs.declared.answer.StoreAnswer.{StoreAnswer}
@@ -8,7 +9,7 @@ use Rattle.store_api.specs.declared.change.Change.{Change}
 use Rattle.store_api.specs.Keeping.{Answers, Applied, Applies, Contents, CrashChanges, CrashLeaves, LeavesJust, LeftByChange, Reads, UnlessFailed}
 use Rattle.store_api.specs.Stores.{Store, change}
 use Rattle.store_api.specs.Volumes.{Condition, Held, RestsAt, VolumeKeeper}
-use Rattle.region_plan.specs.Reading.{ReadCause, ReadsRegion, refusal_of}
+use Rattle.region_plan.specs.Reading.{IfGarbled, IsBroken, ReadCause, ReadsOnly, ReadsRegion, refusal_of}
 use Rattle.object_dir.specs.Changing.{ChangesRegion, IsRegionCall}
 use Rattle.object_dir.specs.Directories.{damage_reports, dir_keeper}
 use Rattle.object_dir.specs.Regions.{in_use, HasStore, kept_in, number_of, region_keeper, remains_in, store_in}
@@ -60,18 +61,20 @@ module _ {V : Type 0} (K : VolumeKeeper V) (laws : IsLawful K) where
   module _ (earlier : (v : V) (t u : ℕ) (o : Option Held) → t ≤ u → K.left_since v u o → K.left_since v t o) {A : Type 0} (stated : Store → Result A StoreAnswer) (Bounds : A → Type 0)
       (result : Result A StoreAnswer) (old new : ObjectDir V)
       (reports : new.damage_reports ≡ old.damage_reports + damage_reports (refusal_of result)) (attempts : new.change_attempts ≡ old.change_attempts)
-      (read : ReadsRegion (region_keeper K) number_of in_use stated Bounds result old.region new.region) where
+      (answer : HasStore K old.region → Answers result (stated (kept_in K old.region).store)) (bounds : IfOk result (λ a. Bounds a))
+      (garbled : IfGarbled (refusal_of result) (λ leaf. IsBroken (region_keeper K) number_of in_use old.region leaf))
+      (reads : ReadsOnly (region_keeper K) number_of (refusal_of result) old.region new.region) where
     read_call : IsRegionCall K (refusal_of result) old.region new.region
-    read_call = from_reads K (refusal_of result) old.region new.region read.reads read.garbled
+    read_call = from_reads K (refusal_of result) old.region new.region reads garbled
 
     read_leaves : HasStore K old.region → (K.condition old.region.volume.now).lost ≡ false → LeavesOnly (dir_keeper K).moment (dir_keeper K).left_since old new (λ o. o ≡ Some (kept_in K old.region))
     read_leaves has works =
         of_store K result 0 old new read_call (λ o. o ≡ Some (kept_in K old.region))
         (weaker (region_keeper K).moment (region_keeper K).left_since old.region new.region (λ o. o ≡ Some (K.held old.region.volume.now))
         (λ o. remains_in new.region.number o ≡ Some (kept_in K old.region))
-        (λ o is. ap (λ (k : ℕ). remains_in k o) read.reads.same_region
+        (λ o is. ap (λ (k : ℕ). remains_in k o) reads.same_region
         ∙ (ap (λ (x : Option Held). remains_in old.region.number x) is ∙ reads_back old.region.number (K.held old.region.volume.now) has.stands))
-        (read.reads.crash has.honest works))
+        (reads.crash has.honest works))
 
     read_crash : HasStore K old.region → LeavesJust (dir_keeper K) old (kept_in K old.region) → CrashLeaves (dir_keeper K) (kept_in K old.region) old new
     read_crash has just =
@@ -92,16 +95,12 @@ module _ {V : Type 0} (K : VolumeKeeper V) (laws : IsLawful K) where
 
     pub store_reads : Reads (dir_keeper K) stated Bounds result old new
     store_reads = record {
-      answer = λ has.
-          let store = store_in old.region.number (K.held old.region.volume.now) in
-          answers_working result (stated store) ((region_keeper K).condition old.region) ((region_keeper K).condition new.region) read.reads.cause
-          (λ works. subst (λ (s : Store). Answers result (stated s)) (store_found K laws old.region has.honest works store has.stands)
-          (read.answer (laws.tells old.region.volume.now has.honest)));
-      same = λ has. same_contents new.region.number old.region.number (K.held new.region.volume.now) (K.held old.region.volume.now) read.reads.same_region (read.reads.same has.honest);
-      bounds = read.bounds;
-      call = store_call K result 0 old new read_call laws (reads_stand K (refusal_of result) old.region new.region read.reads)
-          (λ has lost. same_contents new.region.number old.region.number (K.held new.region.volume.now) (K.held old.region.volume.now) read.reads.same_region
-          (read.reads.same has.honest)) reports (let e = attempts in omega arith);
+      answer = answer;
+      same = λ has. same_contents new.region.number old.region.number (K.held new.region.volume.now) (K.held old.region.volume.now) reads.same_region (reads.same has.honest);
+      bounds = bounds;
+      call = store_call K result 0 old new read_call laws (reads_stand K (refusal_of result) old.region new.region reads)
+          (λ has lost. same_contents new.region.number old.region.number (K.held new.region.volume.now) (K.held old.region.volume.now) reads.same_region
+          (reads.same has.honest)) reports (let e = attempts in omega arith);
       crash = read_crash;
     }
 
@@ -154,7 +153,12 @@ module _ {V : Type 0} (K : VolumeKeeper V) (laws : IsLawful K) where
       → ReadsRegion (region_keeper K) number_of in_use stated Bounds result old.region new.region → Reads (dir_keeper K) stated Bounds result old new
   reads_noted earlier stated Bounds result old new why is reports attempts read =
       store_reads earlier stated Bounds result old new
-      (reports ∙ ap (λ (w : Option StoreAnswer). old.damage_reports + damage_reports w) is) attempts read
+      (reports ∙ ap (λ (w : Option StoreAnswer). old.damage_reports + damage_reports w) is) attempts
+      (λ has.
+      let store = store_in old.region.number (K.held old.region.volume.now) in
+      answers_working result (stated store) ((region_keeper K).condition old.region) ((region_keeper K).condition new.region) read.reads.cause
+      (λ works. subst (λ (s : Store). Answers result (stated s)) (store_found K laws old.region has.honest works store has.stands)
+      (read.answer (laws.tells old.region.volume.now has.honest)))) read.bounds read.garbled read.reads
 
   pub applies_noted : (rests : (v : V) → K.honest v → (K.condition v).lost ≡ false → RestsAt K v (K.held v)) (c : Change) (result : Result (Unit {0}) StoreAnswer) (old new : ObjectDir V)
       (why : Option StoreAnswer)

@@ -6,6 +6,11 @@ pub mod DirectoryLemmas
 pub mod FoundLemmas
 pub mod HeldLemmas
 pub mod IdleLemmas
+pub mod KeptChangeLemmas
+pub mod KeptDirLemmas
+pub mod KeptFoundLemmas
+pub mod KeptLemmas
+pub mod KeptReadLemmas
 pub mod PlaceLemmas
 pub mod PlannedLemmas
 pub mod UseLemmas

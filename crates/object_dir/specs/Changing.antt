@@ -89,6 +89,21 @@ module _ {V : Type 0} (K : VolumeKeeper V) where
     pub past : K.honest old.volume.now → (t : ℕ) (o : Option Held) → t ≤ K.moment old.volume.now → K.left_since old.volume.now t o → K.left_since new.volume.now t o
     pub goes_on : K.honest old.volume.now → K.moment old.volume.now ≤ K.moment new.volume.now
 
+  -- leaves of the region alone are replaced, by one commit at most, whatever they stand for
+  pub record CommitsOnce (result : Result (Unit {0}) StoreAnswer) (old new : Region V) : Type 0 where
+    pub call : IsRegionCall (refusal_of result) old new
+    -- every answer but Ok and Failed leaves all that is held, and nothing was written; other regions stay in any case
+    pub kept : K.honest old.volume.now → IfKept result (K.held new.volume.now ≡ K.held old.volume.now)
+    pub unwritten : IfKept result ((K.condition new.volume.now).writes ≡ (K.condition old.volume.now).writes)
+    pub others : K.honest old.volume.now → (region : ℕ) → region ≢ old.number → (K.held new.volume.now).leaves region ≡ (K.held old.volume.now).leaves region
+    -- a crash leaves what was held, or that with leaves of the region replaced
+    pub leaves : K.honest old.volume.now → (K.condition old.volume.now).lost ≡ false
+        → LeavesOnly (region_keeper K).moment (region_keeper K).left_since old new (LeftOfRegion result old.number (K.held old.volume.now))
+    pub one : AddsOne result (K.held old.volume.now).sequence (K.held new.volume.now).sequence
+    -- and none where each leaf of the region is as it was
+    pub idle : K.honest old.volume.now → (K.held new.volume.now).leaves old.number ≡ (K.held old.volume.now).leaves old.number
+        → (K.held new.volume.now).sequence ≡ (K.held old.volume.now).sequence
+
   -- the objects of a region are changed, all at once or not at all
   pub record ChangesRegion (c : Change) (result : Result (Unit {0}) StoreAnswer) (old new : Region V) : Type 0 where
     pub call : IsRegionCall (refusal_of result) old new

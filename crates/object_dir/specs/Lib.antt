@@ -1,4 +1,6 @@
 pub mod Changing
 pub mod Directories
+pub mod Kept
+pub mod KeptDirs
 pub mod Laws
 pub mod Regions

@@ -20,7 +20,7 @@ use store_api::{AppStore, Change, Facts, Listed, StoreAnswer, Tally, Volume};
 use tee_base::Bytes;
 
 /// Why a call is refused, if it is.
-fn refusal<A>(answer: &Result<A, StoreAnswer>) -> Option<StoreAnswer>
+pub(crate) fn refusal<A>(answer: &Result<A, StoreAnswer>) -> Option<StoreAnswer>
     ensures { result ≡ refusal_of answer.now }
 {
     match answer {
@@ -30,7 +30,7 @@ fn refusal<A>(answer: &Result<A, StoreAnswer>) -> Option<StoreAnswer>
 }
 
 /// Counts a refusal that tells of damage.
-fn note(reports: &mut Tally, why: Option<StoreAnswer>)
+pub(crate) fn note(reports: &mut Tally, why: Option<StoreAnswer>)
     ensures { reports.new ≡ reports.old + damage_reports why }
 {
     match why {

@@ -3,8 +3,12 @@
 
 mod changing;
 mod directory;
+mod kept;
+mod kept_dir;
 mod planned;
 mod region;
 
 pub use directory::ObjectDir;
+pub use kept::Kept;
+pub use kept_dir::KeptDir;
 pub use region::{IN_USE, Region};

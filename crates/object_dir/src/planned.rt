@@ -4,13 +4,14 @@ ghost use Rattle.std.specs.Prelude.{◌≡◌, ◌<◌, false, IfOk, IfSome, IsT
 ghost use Rattle.tee_base.specs.declared.limits.TheConstants.{LEAVES};
 ghost use Rattle.store_api.specs.Ascending.{is_above_all};
 ghost use Rattle.store_api.specs.Limits.{IsChange};
-ghost use Rattle.region_plan.specs.Planning.{PlansChange};
+ghost use Rattle.region_plan.specs.Planning.{PlansChange, PlansFrom};
 ghost use Rattle.region_plan.specs.Reading.{IfGarbled, IsUnread, ReadsOnly, leaves_of, refusal_of};
 ghost use Rattle.object_dir.specs.Changing.{ChangesLeaves, are_there, planned_leaves};
+ghost use Rattle.object_dir.specs.Kept.{IsKept};
 ghost use Rattle.object_dir.specs.Regions.{in_use, number_of, region_keeper};
 
 use crate::region::Region;
-use region_plan::{LeafSource, plan};
+use region_plan::{Directory, LeafSource, plan};
 use std::alloc::Global;
 use store_api::{Change, Leaf, Leaves, StoreAnswer, Volume};
 use tee_base::limits::BLOCK_BYTES;
@@ -67,6 +68,28 @@ pub(crate) fn plan_change<V: Volume>(
         (λ named. ChangesLeaves V.keeper region.old named)) }
 {
     let leaves = plan(alloc, region, change)?;
+    if are_all_there(region, leaves.as_slice())? {
+        return Ok(None);
+    }
+    Ok(Some(leaves))
+}
+
+/// The same by a directory of the region.
+pub(crate) fn plan_in<V: Volume>(
+    alloc: Global,
+    region: &mut Region<'_, V>,
+    directory: &Directory,
+    change: &Change,
+) -> Result<Option<Leaves>, StoreAnswer>
+    requires works { (V.keeper.condition region.old.volume.now).lost ≡ false }
+    requires kept { IsKept directory.now }
+    requires change { IsChange change.now }
+    ensures plans { PlansFrom (region_keeper V.keeper) number_of directory.now change.now
+        (planned_leaves result) region.old region.new }
+    ensures writes { IfOk result (λ leaves. IfSome leaves
+        (λ named. ChangesLeaves V.keeper region.old named)) }
+{
+    let leaves = directory.plan(alloc, region, change)?;
     if are_all_there(region, leaves.as_slice())? {
         return Ok(None);
     }

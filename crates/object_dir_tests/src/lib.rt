@@ -18,3 +18,5 @@ pub mod over;
 mod same;
 #[cfg(test)]
 mod steps;
+#[cfg(test)]
+mod turns;

@@ -8,10 +8,10 @@ use super::changes::{STEPS, answer_alike};
 use super::memory::{Memory, blank, write};
 use super::same::are_same;
 use super::steps::{Step, change_of};
-use object_dir::ObjectDir;
+use object_dir::{KeptDir, ObjectDir};
 use std::alloc::Global;
 use std::test::Fail;
-use store_api::{AppStore, Change, Leaf, MapStore, Volume};
+use store_api::{AppStore, Change, Leaf, MapStore};
 use tee_base::Bytes;
 use tee_base::limits::BLOCK_BYTES;
 
@@ -94,41 +94,58 @@ fn fill_store(alloc: Global, store: &mut MapStore) -> Result<(), Fail> {
     Ok(())
 }
 
-/// Whether a region and another store answer alike at each step, and have the same objects behind the last one.
-fn go_alike<V: Volume, S: AppStore>(
+/// Whether two stores answer alike at each step, and have the same objects behind the last one.
+fn go_alike<S: AppStore, T: AppStore>(
     alloc: Global,
-    volume: &mut V,
-    store: &mut S,
+    objects: &mut S,
+    store: &mut T,
     steps: &[Step],
 ) -> Result<bool, Fail> {
-    let mut objects = ObjectDir::of(alloc, volume, REGION);
     for step in steps {
         let change = change_of(alloc, *step)?;
-        let alike = answer_alike(&mut objects, store, &change);
+        let alike = answer_alike(objects, store, &change);
         drop(change);
         if !alike {
             return Ok(false);
         }
     }
-    are_same(alloc, &mut objects, store, 1020)
+    are_same(alloc, objects, store, 1020)
 }
 
 /// The last rows of the table, which delete what the others made.
 const REMOVALS: usize = 2;
 
 /// Whether both go through the table alike, and have the same objects before the last rows and behind them.
-fn is_alike(alloc: Global, volume: &mut Memory, store: &mut MapStore) -> Result<bool, Fail> {
+fn go_through<S: AppStore, T: AppStore>(
+    alloc: Global,
+    objects: &mut S,
+    store: &mut T,
+) -> Result<bool, Fail> {
+    let (changes, removals) = STEPS.split_at(STEPS.len() - REMOVALS);
+    Ok(go_alike(alloc, objects, store, changes)? && go_alike(alloc, objects, store, removals)?)
+}
+
+/// Whether the objects of a region go through the table as a store in memory does, with a directory that is kept or without.
+fn is_alike(
+    alloc: Global,
+    volume: &mut Memory,
+    store: &mut MapStore,
+    keeps: bool,
+) -> Result<bool, Fail> {
     fill(volume);
     fill_store(alloc, store)?;
-    let (changes, removals) = STEPS.split_at(STEPS.len() - REMOVALS);
-    Ok(go_alike(alloc, volume, store, changes)? && go_alike(alloc, volume, store, removals)?)
+    if keeps {
+        go_through(alloc, &mut KeptDir::of(alloc, volume, REGION, None), store)
+    } else {
+        go_through(alloc, &mut ObjectDir::of(alloc, volume, REGION), store)
+    }
 }
 
 /// Whether it is so over a volume and a store of their own.
-fn are_alike(alloc: Global) -> Result<bool, Fail> {
+fn are_alike(alloc: Global, keeps: bool) -> Result<bool, Fail> {
     let mut volume = blank(alloc)?;
     let mut store = MapStore::new(alloc, &[])?;
-    let alike = is_alike(alloc, &mut volume, &mut store);
+    let alike = is_alike(alloc, &mut volume, &mut store, keeps);
     drop(store);
     drop(volume);
     alike
@@ -136,6 +153,12 @@ fn are_alike(alloc: Global) -> Result<bool, Fail> {
 
 #[test]
 fn among_a_thousand(rt: HostRuntime) -> Result<(), Fail> {
-    assert!(rt; are_alike(rt.alloc())?);
+    assert!(rt; are_alike(rt.alloc(), false)?);
+    Ok(())
+}
+
+#[test]
+fn kept_among_a_thousand(rt: HostRuntime) -> Result<(), Fail> {
+    assert!(rt; are_alike(rt.alloc(), true)?);
     Ok(())
 }

@@ -1,0 +1,14 @@
+use Rattle.std.proofs.Common.{refl, option_copied}
+use Rattle.store_api.specs.Stores.{next_after}
+use Rattle.store_api.specs.Limits.{IsListed}
+use Rattle.object_dir.proofs.KeptDirLemmas.{kept_reads}
+use Rattle.object_dir.proofs.kept_dir.KeptDirAppStore.next_after.Goals as goal
+
+pub returns-clause-reads : goal.returns-clause-reads
+returns-clause-reads g c = kept_reads g.V.Volume.keeper
+    (record { whole = g.met.V.Volume.whole; tells = g.met.V.Volume.honest_tells; found = g.met.V.Volume.found })
+    g.met.V.Volume.sound g.met.V.Volume.since_earlier (λ store. next_after store (option_copied c.args.last)) IsListed c.next_in-answer.result c.args.self.now _
+    c.refusal.result c.refusal.ensures c.note.ensures refl c.next_in-answer.ensures
+
+pub returns-clause-region : goal.returns-clause-region
+returns-clause-region g c = c.next_in-answer.ensures
