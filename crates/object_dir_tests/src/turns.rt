@@ -10,8 +10,8 @@ use std::alloc::Global;
 use std::test::Fail;
 use store_api::{AppStore, MapStore, StoreAnswer, Volume};
 
-/// One turn with a change, and what is kept behind it, unless the region and another store answer otherwise or have other
-/// objects then.
+/// A turn with a change and one with look-ups, and what is kept behind them, unless nothing is kept behind the change, or the
+/// region and another store answer otherwise or have other objects then.
 fn turn<V: Volume, S: AppStore>(
     alloc: Global,
     volume: &mut V,
@@ -23,9 +23,17 @@ fn turn<V: Volume, S: AppStore>(
     let mut objects = KeptDir::of(alloc, volume, REGION, kept);
     let alike = answer_alike(&mut objects, store, &change);
     drop(change);
+    // what is kept is taken up right behind the change, before a look-up could read it anew
+    let (volume, changed) = objects.into_parts();
+    let is_kept = changed.is_some();
+    let mut objects = KeptDir::of(alloc, volume, REGION, changed);
     let same = are_same(alloc, &mut objects, store, 9);
     let (_volume, left) = objects.into_parts();
-    if same? && alike { Ok(left) } else { Ok(None) }
+    if same? && alike && is_kept {
+        Ok(left)
+    } else {
+        Ok(None)
+    }
 }
 
 /// Whether a region goes through the table as another store does, and keeps its directory over all turns.
