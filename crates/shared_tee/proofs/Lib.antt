@@ -1,1 +1,2 @@
+mod DealLemmas
 pub mod PassLemmas

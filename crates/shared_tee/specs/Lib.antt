@@ -1,2 +1,3 @@
+pub mod Dealing
 pub mod Passes
 pub mod Shared

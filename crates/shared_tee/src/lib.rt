@@ -5,6 +5,7 @@
 #![tactic(auto)]
 
 mod calls;
+mod dealing;
 mod looking;
 mod pass;
 mod shared;
