@@ -11,7 +11,7 @@ use Rattle.store_api.specs.declared.leaves.LeafAnswer.TheVariants as answers
 use Rattle.epoch.specs.Opening.{no_failure}
 use Rattle.epoch.specs.Reading.{no_fault}
 use Rattle.epoch.specs.declared.answer.OpenAnswer.{OpenAnswer}
-use Rattle.epoch.specs.declared.answer.OpenAnswer.TheVariants.{Ahead, BadHeader, Failed, NoMemory, NoVolume, Rollback, TooSmall, UnknownVersion}
+use Rattle.epoch.specs.declared.answer.OpenAnswer.TheVariants.{Ahead, BadHeader, Failed, NoMemory, NoVolume, OldGarbled, OldMismatch, Rollback, TooSmall, UnknownVersion}
 
 -- a fault that rose later rose
 pub rose_later : (a b c : ℕ) → a ≤ b → Rose b c → Rose a c
@@ -88,3 +88,5 @@ failed_is (Err (BadHeader slot found kept)) failed = absurd (false≢true (sym f
 failed_is (Err (UnknownVersion version)) failed = absurd (false≢true (sym failed))
 failed_is (Err (Rollback sequence counter)) failed = absurd (false≢true (sym failed))
 failed_is (Err (Ahead sequence counter)) failed = absurd (false≢true (sym failed))
+failed_is (Err (OldMismatch tags)) failed = absurd (false≢true (sym failed))
+failed_is (Err (OldGarbled region leaf)) failed = absurd (false≢true (sym failed))

@@ -15,7 +15,7 @@ use Rattle.epoch.specs.Opening.{IsRuled, answer_at, header_answer, is_no_failure
 use Rattle.epoch.specs.Slots.{slot_of}
 use Rattle.epoch.specs.Steps.{outcome_opening}
 use Rattle.epoch.specs.declared.answer.OpenAnswer.{OpenAnswer}
-use Rattle.epoch.specs.declared.answer.OpenAnswer.TheVariants.{Ahead, BadHeader, Failed, NoMemory, NoVolume, Rollback, TooSmall, UnknownVersion}
+use Rattle.epoch.specs.declared.answer.OpenAnswer.TheVariants.{Ahead, BadHeader, Failed, NoMemory, NoVolume, OldGarbled, OldMismatch, Rollback, TooSmall, UnknownVersion}
 use Rattle.epoch.specs.declared.header.Header.{Header}
 use Rattle.epoch.specs.declared.rule.Found.{Found}
 use Rattle.epoch.specs.declared.slots.Slot.{Slot}
@@ -122,6 +122,8 @@ ruled_made (BadHeader slot found kept) is = refl
 ruled_made (UnknownVersion version) is = refl
 ruled_made (Rollback sequence counter) is = refl
 ruled_made (Ahead sequence counter) is = refl
+ruled_made (OldMismatch tags) is = refl
+ruled_made (OldGarbled region leaf) is = refl
 
 -- the rule never answers otherwise
 abbrev IsAnswered : Result (Option Found) OpenAnswer → Type 0

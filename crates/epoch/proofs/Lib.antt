@@ -1,3 +1,4 @@
+pub mod AdmitLemmas
 pub mod AloneLemmas
 pub mod CallLemmas
 pub mod CommitLemmas

@@ -1,5 +1,5 @@
 -- What a board holds that is opened, over the form of the leaves.
-use Rattle.std.proofs.Common.{◌≡◌, ◌≢◌, ◌≤◌, ◌<◌, ◌+◌, ◌^◌, ◌%◌, ◌==◌, ◌&&◌, ◌∙◌, ◌⊎◌, not, if◌then◌else◌, ℕ, Bool, true, false, List, [], ◌∷◌, length, Option}
+use Rattle.std.proofs.Common.{◌≡◌, ◌≢◌, ◌≤◌, ◌<◌, ◌+◌, ◌^◌, ◌%◌, ◌==◌, ◌&&◌, ◌∙◌, ◌⊎◌, if◌then◌else◌, ℕ, Bool, true, false, List, [], ◌∷◌, length, Option}
 use Rattle.std.proofs.Common.{Some, None, Result, Ok, Err, IfOk, IfErr, nat_lt, refl, sym, ap, subst, inl, inr, ⊎_elim, arith}
 use Rattle.std.proofs.lemmas.Bool.{cases_lt}
 use Rattle.std.proofs.lemmas.Bool.Decides.{nat_tests}
@@ -13,14 +13,14 @@ use Rattle.board.proofs.Runs.{goes_on, run_starts, starts}
 use Rattle.epoch.specs.Commits.{IsMounted, OpensTo}
 use Rattle.epoch.specs.Finding.{Finds, IsSettledAt, OpensBelow, sequence_of}
 use Rattle.epoch.specs.Formats.{IsFormatOf, accepts}
-use Rattle.epoch.specs.Forms.{Form, IsBlankRoot, IsFramed, Root, blank_leaves, held_in, held_by, held_of, is_sealed, leaves_of, root_of}
-use Rattle.epoch.specs.Mounting.{AreSound, IsHolding, MightBe, Mounts, MountsAfterPower, MountsAgain, MountsTo, after_found, after_opening, opened_by}
-use Rattle.epoch.specs.Mounts.{IsAdmitted, IsKeptFromOpening, IsLeftSound, IsRefusal, IsRefusedNow, IsRuledBy, IsOpenedTo, IsRewritten, LeavesOpening, LeftByOpening, MakesBy, MakesOf, TakesUp}
-use Rattle.epoch.specs.Opening.{IsRuled, answer_at, found_header, header_answer, opening_by, opening_of, opens_as}
+use Rattle.epoch.specs.Forms.{Form, IsFramed, Root, blank_leaves, held_in, held_by, held_of, is_sealed, leaves_of, root_of}
+use Rattle.epoch.specs.Mounting.{AreSound, IsHolding, MightBe, Mounts, MountsAfterPower, MountsAgain, MountsTo, after_found, after_opening, after_version, opened_by}
+use Rattle.epoch.specs.Mounts.{IsLeftSound, IsOpenedTo, LeavesOpening, LeftByOpening, MakesBy, MakesOf}
+use Rattle.epoch.specs.Opening.{answer_at, header_answer, opening_by, opening_of, opens_as}
 use Rattle.epoch.specs.Past.{KeepsPast}
 use Rattle.epoch.specs.Slots.{slot_of}
 use Rattle.epoch.specs.declared.answer.OpenAnswer.{OpenAnswer}
-use Rattle.epoch.specs.declared.answer.OpenAnswer.TheVariants.{Ahead, BadHeader, Failed, NoMemory, NoVolume, Rollback, TooSmall, UnknownVersion}
+use Rattle.epoch.specs.declared.answer.OpenAnswer.TheVariants.{Ahead, BadHeader, Failed, NoMemory, NoVolume, OldGarbled, OldMismatch, Rollback, TooSmall, UnknownVersion}
 use Rattle.epoch.specs.declared.format.Format.{Format}
 use Rattle.epoch.specs.declared.header.Header.{Header}
 use Rattle.epoch.specs.declared.rule.Found.{Found}
@@ -270,6 +270,8 @@ is_failure (BadHeader slot found kept) not_other = absurd (not_other (λ w. cc))
 is_failure (UnknownVersion n) not_other = absurd (not_other (λ w. cc))
 is_failure (Rollback s c) not_other = absurd (not_other (λ w. cc))
 is_failure (Ahead s c) not_other = absurd (not_other (λ w. cc))
+is_failure (OldMismatch tags) not_other = absurd (not_other (λ w. cc))
+is_failure (OldGarbled region leaf) not_other = absurd (not_other (λ w. cc))
 is_failure Failed not_other = refl
 is_failure NoMemory not_other = absurd (not_other (λ w. cc))
 
@@ -288,28 +290,29 @@ module _ (f : Form) (framed : IsFramed f) (format : Format) (serves : IsFormatOf
       rw enough (ap (λ (knows : ℕ → Bool). opening_of knows old.key old.state.reads counter) (sym serves.known))
 
   after_least : (o : Result (Option Found) OpenAnswer) → opening_of f.known old.key old.state.reads old.state.counter ≡ o → HeldAs f old.key old.state.reads h o
-      → (n : ℕ) (found : Found) → opening_of f.known old.key old.state.reads n ≡ Ok (Some found) → opened_by o h ≡ h
+      → (n : ℕ) (found : Found) → opening_of f.known old.key old.state.reads n ≡ Ok (Some found) → opened_by f o h ≡ after_found f (Some found.header) h
   after_least (Ok None) e is n found opens = absurd (never_found f.known old.key old.state.reads old.state.counter n found e opens)
-  after_least (Ok (Some other)) e is n found opens = refl
+  after_least (Ok (Some other)) e is n found opens =
+      ap (λ (w : Found). after_found f (Some w.header) h) (same_found f.known old.key old.state.reads n old.state.counter found other opens e)
   after_least (Err answer) e is n found opens = absurd is
 
   after_by : (n : ℕ) → IsCounter old.state n → (o : Result (Option Found) OpenAnswer) → opening_of f.known old.key old.state.reads n ≡ o → HeldAs f old.key old.state.reads h o
-      → (found : Option Header) → Ok found ≡ header_answer o → after_found found h ≡ after_opening f old h
+      → (found : Option Header) → Ok found ≡ header_answer o → after_found f found h ≡ after_opening f old h
   after_by n among (Ok None) e is found answers =
       let none : found ≡ None = cc in
       let zero : n ≡ 0 = blank_at f.known old.key old.state.reads n e in
       let least : old.state.counter ≡ n = omega (arith, zero, among.least) in
       let at : opening_of f.known old.key old.state.reads old.state.counter ≡ Ok None = ap (opening_of f.known old.key old.state.reads) least ∙ e in
-      ap (λ (w : Option Header). after_found w h) none ∙ sym (ap (λ (o : Result (Option Found) OpenAnswer). opened_by o h) at)
+      ap (λ (w : Option Header). after_found f w h) none ∙ sym (ap (λ (o : Result (Option Found) OpenAnswer). opened_by f o h) at)
   after_by n among (Ok (Some v)) e is found answers =
       let some : found ≡ Some v.header = cc in
-      ap (λ (w : Option Header). after_found w h) some
+      ap (λ (w : Option Header). after_found f w h) some
       ∙ sym (after_least (opening_of f.known old.key old.state.reads old.state.counter) refl (opens_least f old.key h old.state holding fits) n v e)
   after_by n among (Err answer) e is found answers = absurd is
 
   found_by : (result : Result (Option Header) OpenAnswer) → Finds (accepts format) format.blocks old.size old.key old.state new.state result → SameBlocks old.state new.state
       → IfOk result (λ found. IsSettledAt (sequence_of found) new.state)
-      → IfOk result (λ found. MountsTo f old.key h new.state found × (after_found found h ≡ after_opening f old h)) × IfErr result (λ why. why ≡ Failed)
+      → IfOk result (λ found. MountsTo f old.key h new.state found × (after_found f found h ≡ after_opening f old h)) × IfErr result (λ why. why ≡ Failed)
   found_by (Ok found) finds blocks settled =
       let opening = opening_of f.known old.key old.state.reads finds.counter in
       let answers : Ok found ≡ header_answer (opening_of f.known old.key old.state.reads finds.counter) = finds.ruled (λ w. cc) ∙ ap header_answer (opens_large finds.counter) in
@@ -453,7 +456,7 @@ module _ (f : Form) (old : View) (is : IsConsistent old) where
         record {
           chosen = now_held.0;
           among = among_now;
-          mounted = mounted_under mid.key new.state result (λ header. after_found header now_held.0 ≡ after_opening f mid now_held.0) key found.mounted;
+          mounted = mounted_under mid.key new.state result (λ header. after_found f header now_held.0 ≡ after_opening f mid now_held.0) key found.mounted;
           failed = found.failed;
           leaves = joined moment left_since old mid new (MightBe f old.key old.state) (after_sync true mid answered synced)
               (weaker moment left_since mid new (λ c. held_of f mid.key c ≡ Some now_held.0) (MightBe f old.key old.state)
@@ -506,115 +509,21 @@ module _ (f : Form) (old mid : View) (key : mid.key ≡ old.key) (time : Passes 
             ap (λ (k : List ℕ). held_of f k c) (sym key) ∙ might.2 ∙ power_left might.0 might.1 ∙ chosen;
       }
 
--- what the rule says of a board that has the same size and key, and reads so
-module _ (f : Form) (old mid : View) (size : mid.size ≡ old.size) (key : mid.key ≡ old.key) (image base : ℕ → List ℕ) (counter n : ℕ) (reads : image ≡ base) (count : counter ≡ n) where
-  same_rule : opens_as f.known f.blocks old.size old.key base n ≡ opens_as f.known f.blocks mid.size mid.key image counter
-  same_rule = rw (sym size, sym key, sym reads, sym count) refl
-
-  refusal_moved : (why : OpenAnswer) → IsRefusal f mid image counter why → IsRefusal f old base n why
-  refusal_moved (TooSmall m) e = same_rule ∙ e
-  refusal_moved (NoVolume m) e = same_rule ∙ e
-  refusal_moved (BadHeader slot found kept) e = same_rule ∙ e
-  refusal_moved (UnknownVersion m) e = same_rule ∙ e
-  refusal_moved (Rollback s m) e = same_rule ∙ e
-  refusal_moved (Ahead s m) e = same_rule ∙ e
-  refusal_moved Failed e = tt
-  refusal_moved NoMemory e = tt
-
-  pub ruled_so : (result : Result (Option Header) OpenAnswer) → IsRuledBy f mid image counter result → IsRuledBy f old base n result
-  ruled_so (Ok found) ruled = (tt, ap header_answer same_rule ∙ ruled.1)
-  ruled_so (Err why) ruled = (refusal_moved why ruled.0, tt)
-
--- a refusal told without the slot is the rule's
-refused_as : (rule : Result (Option Found) OpenAnswer) (why : OpenAnswer) → (let refused : Result (Option Header) OpenAnswer = Err why in refused ≡ header_answer rule) → rule ≡ Err why
-refused_as (Ok found) why e = absurd (cc)
-refused_as (Err other) why e = cc
-
--- an answer that is the rule's, where no call of the board failed
-module _ (f : Form) (format : Format) (serves : IsFormatOf f format) (view : View) (image : ℕ → List ℕ) (counter : ℕ) where
-  format_as : opens_as (accepts format) format.blocks view.size view.key image counter ≡ opens_as f.known f.blocks view.size view.key image counter
-  format_as = λ i. opens_as (sym serves.known i) (sym serves.blocks i) view.size view.key image counter
-
-  refusal_as : (why : OpenAnswer)
-      → (let refused : Result (Option Header) OpenAnswer = Err why in IsRuled refused (opens_as f.known f.blocks view.size view.key image counter)) → IsRefusal f view image counter why
-  refusal_as (TooSmall m) ruled = refused_as _ _ (ruled (λ w. cc))
-  refusal_as (NoVolume m) ruled = refused_as _ _ (ruled (λ w. cc))
-  refusal_as (BadHeader slot found kept) ruled = refused_as _ _ (ruled (λ w. cc))
-  refusal_as (UnknownVersion m) ruled = refused_as _ _ (ruled (λ w. cc))
-  refusal_as (Rollback s m) ruled = refused_as _ _ (ruled (λ w. cc))
-  refusal_as (Ahead s m) ruled = refused_as _ _ (ruled (λ w. cc))
-  refusal_as Failed ruled = tt
-  refusal_as NoMemory ruled = tt
-
-  ruled_as : (result : Result (Option Header) OpenAnswer) → IsRuled result (opens_as f.known f.blocks view.size view.key image counter) → IsRuledBy f view image counter result
-  ruled_as (Ok found) ruled = (tt, sym (ruled (λ w. cc)))
-  ruled_as (Err why) ruled = (refusal_as why ruled, tt)
-
-  pub ruled_by : (result : Result (Option Header) OpenAnswer) → IsRuled result (opens_as (accepts format) format.blocks view.size view.key image counter) → IsRuledBy f view image counter result
-  ruled_by result ruled = ruled_as result (subst (IsRuled result) format_as ruled)
-
--- a refusal is of the board as it reads then
-module _ (f : Form) (old new : View) (size : new.size ≡ old.size) (key : new.key ≡ old.key) (reads : new.state.reads ≡ old.state.reads) (counter : ℕ) where
-  now_refused : (why : OpenAnswer) → (let refused : Result (Option Header) OpenAnswer = Err why in refused ≢ Err Failed → IsCounter new.state counter)
-      → IsRefusal f old old.state.reads counter why → IsRefusedNow f new why
-  now_refused (TooSmall m) among e = (counter, among (λ w. cc), rw (size, key, reads) e)
-  now_refused (NoVolume m) among e = (counter, among (λ w. cc), rw (size, key, reads) e)
-  now_refused (BadHeader slot found kept) among e = (counter, among (λ w. cc), rw (size, key, reads) e)
-  now_refused (UnknownVersion m) among e = (counter, among (λ w. cc), rw (size, key, reads) e)
-  now_refused (Rollback s m) among e = (counter, among (λ w. cc), rw (size, key, reads) e)
-  now_refused (Ahead s m) among e = (counter, among (λ w. cc), rw (size, key, reads) e)
-  now_refused Failed among e = tt
-  now_refused NoMemory among e = tt
-
--- the same of what a search answers
-pub found_refused : (format : Format) (old new : View) (result : Result (Option Header) OpenAnswer) → new.size ≡ old.size → new.key ≡ old.key → new.state.reads ≡ old.state.reads
-    → Finds (accepts format) format.blocks old.size old.key old.state new.state result → IfErr result (λ why. (f : Form) → IsFormatOf f format → IsRefusedNow f new why)
-found_refused format old new (Ok found) size key reads finds = tt
-found_refused format old new (Err why) size key reads finds = λ f serves.
-    now_refused f old new size key reads finds.counter why finds.still (ruled_by f format serves old old.state.reads finds.counter (Err why) finds.ruled).0
-
--- what only keeps a board from being opened is no refusal
-pub kept_refused : {A : Type 0} (f : Form) (view : View) (result : Result A OpenAnswer) → IfErr result (λ why. IsKeptFromOpening why) → IfErr result (λ why. IsRefusedNow f view why)
-kept_refused f view (Ok a) kept = tt
-kept_refused f view (Err why) kept = ⊎_elim
-    (λ (e : why ≡ Failed). subst (IsRefusedNow f view) (sym e) tt)
-    (λ (e : why ≡ NoMemory). subst (IsRefusedNow f view) (sym e) tt)
-    kept
-
--- where the rule opens with this header, or with none, what takes it up is admitted
-admitted_as : (f : Form) (rule : Result (Option Found) OpenAnswer) (blank sequence : ℕ) (root : Root) (found : Option Header) → header_answer rule ≡ Ok found → TakesUp f found blank sequence root
-    → (one : Option Found) × (rule ≡ Ok one) × TakesUp f (found_header one) blank sequence root
-admitted_as f (Ok one) blank sequence root found answers is =
-    let same : found ≡ found_header one = cc in
-    (one, refl, subst (λ (h : Option Header). TakesUp f h blank sequence root) same is)
-admitted_as f (Err answer) blank sequence root found answers is = absurd (cc)
-
-pub admitted_by : (f : Form) (view : View) (image : ℕ → List ℕ) (counter blank sequence : ℕ) (root : Root) (found : Option Header)
-    → header_answer (opens_as f.known f.blocks view.size view.key image counter) ≡ Ok found → TakesUp f found blank sequence root
-    → IsAdmitted f view image counter blank sequence root
-admitted_by f view image counter blank sequence root found answers is =
-    admitted_as f (opens_as f.known f.blocks view.size view.key image counter) blank sequence root found answers is
-
 -- a board that is mounted at a sequence is refused at every greater counter
 pub mounted_refuses : (f : Form) (key : List ℕ) (root : Root) (h : Held) (m : Moment) → IsMounted f key root h m → 0 < h.sequence → (c : ℕ) → h.sequence < c
     → opening_of f.known key m.reads c ≡ Err (Rollback h.sequence c)
-mounted_refuses f key root h m mounted some c above = refused_by (opening_of f.known key m.reads h.sequence) refl mounted.opens where
-  refused_by : (o : Result (Option Found) OpenAnswer) → opening_of f.known key m.reads h.sequence ≡ o → OpensTo f h.sequence root o
+mounted_refuses f key root h m mounted some c above = refuses_by (opening_of f.known key m.reads h.sequence) refl mounted.opens where
+  refuses_by : (o : Result (Option Found) OpenAnswer) → opening_of f.known key m.reads h.sequence ≡ o → OpensTo f h.sequence root o
       → opening_of f.known key m.reads c ≡ Err (Rollback h.sequence c)
-  refused_by (Ok None) e opens = absurd (omega (arith, some, opens.0))
-  refused_by (Ok (Some found)) e opens =
+  refuses_by (Ok None) e opens = absurd (omega (arith, some, opens.0))
+  refuses_by (Ok (Some found)) e opens =
       refuses_rollback f.known key m.reads h.sequence c found e (omega (arith, above, opens.0))
       ∙ ap (λ (n : ℕ). let r : Result (Option Found) OpenAnswer = Err (Rollback n c) in r) opens.0
-  refused_by (Err answer) e opens = absurd opens
+  refuses_by (Err answer) e opens = absurd opens
 
 -- what fails is no Ok
 pub failed_ok : {A : Type 0} (r : Result A OpenAnswer) (P : A → Type 0) → r ≡ Err Failed → IfOk r P
 failed_ok r P is = subst (λ (x : Result _ OpenAnswer). IfOk x P) (sym is) tt
-
--- a counter that is settled at what was found is settled at what is taken up
-pub taken_counter : (f : Form) (found : Option Header) (sequence : ℕ) (root : Root) (m : Moment) → TakesUp f found 0 sequence root → IsSettledAt (sequence_of found) m → IsSettledAt sequence m
-taken_counter f None sequence root m takes settled = subst (λ (n : ℕ). IsSettledAt n m) (sym takes.0) settled
-taken_counter f (Some header) sequence root m takes settled = subst (λ (n : ℕ). IsSettledAt n m) takes.0 settled
 
 -- a reopening that ends before its sync is done
 pub stopped : {f : Form} {result failed : Result (Option Header) OpenAnswer} {old new : View} → result ≡ failed → MountsAgain f failed old new → MountsAgain f result old new
@@ -698,26 +607,19 @@ rests_above f key view h same each o left =
     (none_now view.past (moment view) left.0 (omega arith) was)) left.1 in
     left.2 ∙ ap (λ (k : List ℕ). held_of f k left.0) same ∙ each left.0 now
 
--- what the opening of a form of one version makes
-module _ (f : Form) (single : (version : ℕ) → f.known version ≡ true → (version == f.version) ≡ true) where
-  not_known : (b : Bool) → not b ≡ false → b ≡ true
-  not_known true e = refl
-  not_known false e = absurd (cc)
+-- what an opening makes of what is held
+module _ (f : Form) where
+  made_by : (b : Bool) (h : Held) → MakesBy f b h (after_version f b h)
+  made_by true h = refl
+  made_by false h = record { leaves = refl; sequence = refl; version = refl }
 
-  makes_of : (key : List ℕ) (image : ℕ → List ℕ) (n : ℕ) (h : Held) (r : Result (Option Found) OpenAnswer) → opening_of f.known key image n ≡ r → HeldAs f key image h r
-      → MakesOf f r h (opened_by r h)
-  unfolding opening_of
-  makes_of key image n h (Ok None) e is = record { leaves = refl; sequence = omega (arith, is.1); version = is.2 }
-  makes_of key image n h (Ok (Some w)) e is =
-      let known = (asked f.known (slot_of key image 0) (slot_of key image 1) n w e).counts.known in
-      subst (λ (b : Bool). MakesBy f b h h) (sym (single w.header.version (not_known (f.known w.header.version) known))) refl
-  makes_of key image n h (Err answer) e is = absurd is
+  makes_of : (r : Result (Option Found) OpenAnswer) (h : Held) → MakesOf f r h (opened_by f r h)
+  makes_of (Ok None) h = record { leaves = refl; sequence = refl; version = refl }
+  makes_of (Ok (Some w)) h = made_by (w.header.version == f.version) h
+  makes_of (Err answer) h = refl
 
-  pub opened_to : (view : View) (n : ℕ) (h : Held) → Rests n view.state → held_in f view.key view.state.reads n ≡ Some h → IsOpenedTo f view h (after_opening f view h)
-  opened_to view n h rests is =
-      let here : held_in f view.key view.state.reads view.state.counter ≡ Some h = ap (held_in f view.key view.state.reads) rests.counter ∙ is in
-      makes_of view.key view.state.reads view.state.counter h (opening_of f.known view.key view.state.reads view.state.counter) refl
-      (holds_as f view.key view.state.reads view.state.counter h here)
+  pub opened_to : (view : View) (h : Held) → IsOpenedTo f view h (after_opening f view h)
+  opened_to view h = makes_of (opening_of f.known view.key view.state.reads view.state.counter) h
 
 -- a crash that leaves what was held, or what an opening makes of it
 pub leaves_opening : (f : Form) (old new : View) (h after : Held) → IsOpenedTo f old h after

@@ -1,5 +1,5 @@
 -- What the opening of a volume leaves, over what was found on its board, whatever the form.
-use Rattle.std.proofs.Common.{◌≡◌, ◌+◌, ◌⊎◌, ◌==◌, ◌∙◌, if◌then◌else◌, ℕ, Bool, true, false, List, [], Option, Some, None, Result}
+use Rattle.std.proofs.Common.{◌≡◌, ◌+◌, ◌⊎◌, ◌==◌, ◌∙◌, not, if◌then◌else◌, ℕ, Bool, true, false, List, [], Option, Some, None, Result}
 use Rattle.std.proofs.Common.{Ok, Err, IfErr, IfOk, refl, sym, ap, subst, inl, arith, ⊎_elim}
 use Rattle.std.specs.Result.{IsErr}
 use Rattle.std.proofs.lemmas.Bool.{false≢true}
@@ -11,20 +11,20 @@ use Rattle.board.specs.Moment.{Moment, View, left_since, moment}
 use Rattle.board.specs.Steps.{SameBlocks}
 use Rattle.board.proofs.Runs.{starts}
 use Rattle.epoch.specs.Commits.{BeforeOrAfter, IsMounted, next_held}
-use Rattle.epoch.specs.Finding.{sequence_of}
-use Rattle.epoch.specs.Formats.{IsAccepted, IsFormatOf, accepts}
+use Rattle.epoch.specs.Reopening.{reopened_of, sequence_after}
 use Rattle.epoch.specs.Forms.{Form, IsBlankRoot, IsFramed, Root, held_of, root_of, root_written}
 use Rattle.epoch.specs.Keeping.{IsInUse, held_now}
-use Rattle.epoch.specs.Mounting.{MountsTo, after_found, after_opening}
-use Rattle.epoch.specs.Mounts.{IsAdmitted, IsKeptFromOpening, IsRefusal, IsRuledBy, TakesUp}
-use Rattle.epoch.specs.Opens.{Opens, entry_found}
+use Rattle.epoch.specs.Mounting.{MountsTo, after_found, after_opening, after_version}
+use Rattle.epoch.specs.Mounts.{IsAdmittedTo, IsKeptFromOpening, IsRefusal, IsRuledBy, RefusesBy, TakesHeader, TakesUp, admission_over, refusal_of}
+use Rattle.epoch.specs.Opens.{Opens}
 use Rattle.epoch.specs.declared.answer.OpenAnswer.{OpenAnswer}
 use Rattle.epoch.specs.declared.answer.OpenAnswer.TheVariants.{Failed, NoMemory}
-use Rattle.epoch.specs.declared.format.Format.{Format}
+use Rattle.epoch.specs.declared.rule.Found.{Found}
 use Rattle.epoch.specs.declared.header.Header.{Header}
 use Rattle.epoch.specs.declared.header.TreeEntry.{TreeEntry}
 use Rattle.epoch.specs.declared.taking.TheConstants.{NO_ROOT}
-use Rattle.epoch.proofs.MountLemmas.{admitted_by, mounted_left}
+use Rattle.epoch.proofs.AdmitLemmas.{admitted_by, refused_over}
+use Rattle.epoch.proofs.MountLemmas.{mounted_left}
 
 -- what is told of an answer is told of the result
 pub told_so : {A : Type 0} (result : Result A OpenAnswer) (why : OpenAnswer) (P : OpenAnswer → Type 0) → result ≡ Err why → P why → IfErr result P
@@ -79,25 +79,15 @@ module _ (f : Form) where
       starts view (λ c. (held_of f view.key c ≡ Some h) ⊎ (held_of f view.key c ≡ Some after)) (λ c left. inl (mounted_left f framed root h view mounted c left))
 
   -- what a commit of no leaf makes of a blank board
-  pub formatted : (h : Held) → h.sequence ≡ 0 → h.version ≡ f.version → next_held f (with_named_leaves 0 [] h.leaves) h.sequence ≡ after_found None h
-  formatted h zero version =
-      let next : h.sequence + 1 ≡ 1 = omega (arith, zero) in
-      λ i. record { leaves = same_leaves h.leaves i; sequence = next i; version = (sym version) i }
+  pub formatted : (h : Held) → next_held f (with_named_leaves 0 [] h.leaves) h.sequence ≡ after_found f None h
+  formatted h = ap (λ (leaves : ℕ → ℕ → List ℕ). next_held f leaves h.sequence) (same_leaves h.leaves)
 
   -- what a crash leaves within the formatting
-  pub leaves_format : (old new : View) (h : Held) → h.sequence ≡ 0 → h.version ≡ f.version
+  pub leaves_format : (old new : View) (h : Held)
       → LeavesOnly moment left_since old new (BeforeOrAfter f old.key h (next_held f (with_named_leaves 0 [] h.leaves) h.sequence))
-      → LeavesOnly moment left_since old new (λ c. (held_of f old.key c ≡ Some h) ⊎ (held_of f old.key c ≡ Some (after_found None h)))
-  leaves_format old new h zero version run =
-      subst (λ (after : Held). LeavesOnly moment left_since old new (λ c. (held_of f old.key c ≡ Some h) ⊎ (held_of f old.key c ≡ Some after))) (formatted h zero version) run
-
-  -- why a board isn't opened once the rule opens it is no refusal
-  kept_refusal : (view : View) (image : ℕ → List ℕ) (n : ℕ) (why : OpenAnswer) → IsKeptFromOpening why → IsRefusal f view image n why
-  kept_refusal view image n why kept =
-      ⊎_elim
-      (λ (e : why ≡ Failed). subst (IsRefusal f view image n) (sym e) tt)
-      (λ (e : why ≡ NoMemory). subst (IsRefusal f view image n) (sym e) tt)
-      kept
+      → LeavesOnly moment left_since old new (λ c. (held_of f old.key c ≡ Some h) ⊎ (held_of f old.key c ≡ Some (after_found f None h)))
+  leaves_format old new h run =
+      subst (λ (after : Held). LeavesOnly moment left_since old new (λ c. (held_of f old.key c ≡ Some h) ⊎ (held_of f old.key c ≡ Some after))) (formatted h) run
 
   module _ {A : Type 0} (IsOpenAs : A → View → Type 0) (holding : A → View → Held) where
     -- a blank board that wasn't formatted, since there was no memory
@@ -108,22 +98,22 @@ module _ (f : Form) where
 
     -- a blank board that was to be formatted
     pub opens_none : (old new : View) (result : Result A OpenAnswer) (found : Option Header) (h : Held) → found ≡ None
-        → (MountsTo f old.key h old.state None → Opens f IsOpenAs holding h (after_found None h) result old new) → MountsTo f old.key h old.state found
-        → Opens f IsOpenAs holding h (after_found found h) result old new
+        → (MountsTo f old.key h old.state None → Opens f IsOpenAs holding h (after_found f None h) result old new) → MountsTo f old.key h old.state found
+        → Opens f IsOpenAs holding h (after_found f found h) result old new
     opens_none old new result found h is opens mounts =
-        subst (λ (x : Option Header). Opens f IsOpenAs holding h (after_found x h) result old new) (sym is) (opens (subst (MountsTo f old.key h old.state) is mounts))
+        subst (λ (x : Option Header). Opens f IsOpenAs holding h (after_found f x h) result old new) (sym is) (opens (subst (MountsTo f old.key h old.state) is mounts))
 
-    pub format_failed : (old new : View) (result : Result A OpenAnswer) (h : Held) → h.sequence ≡ 0 → h.version ≡ f.version → IsErr result → IfErr result (λ why. IsKeptFromOpening why)
+    pub format_failed : (old new : View) (result : Result A OpenAnswer) (h : Held) → IsErr result → IfErr result (λ why. IsKeptFromOpening why)
         → LeavesOnly moment left_since old new (BeforeOrAfter f old.key h (next_held f (with_named_leaves 0 [] h.leaves) h.sequence))
-        → Opens f IsOpenAs holding h (after_found None h) result old new
-    format_failed old new (Ok o) h zero version fails kept run = absurd (false≢true fails)
-    format_failed old new (Err why) h zero version fails kept run = record { opened = tt; failed = kept; leaves = leaves_format old new h zero version run }
+        → Opens f IsOpenAs holding h (after_found f None h) result old new
+    format_failed old new (Ok o) h fails kept run = absurd (false≢true fails)
+    format_failed old new (Err why) h fails kept run = record { opened = tt; failed = kept; leaves = leaves_format old new h run }
 
     -- a search and what is then made of what it found
     pub opens_joined : (old mid new : View) (found : Option Header) (result : Result A OpenAnswer) (h : Held) → mid.key ≡ old.key
-        → MountsTo f old.key h mid.state found × (after_found found h ≡ after_opening f old h)
+        → MountsTo f old.key h mid.state found × (after_found f found h ≡ after_opening f old h)
         → LeavesOnly moment left_since old mid (λ c. held_of f old.key c ≡ Some h)
-        → (MountsTo f mid.key h mid.state found → Opens f IsOpenAs holding h (after_found found h) result mid new) → Opens f IsOpenAs holding h (after_opening f old h) result old new
+        → (MountsTo f mid.key h mid.state found → Opens f IsOpenAs holding h (after_found f found h) result mid new) → Opens f IsOpenAs holding h (after_opening f old h) result old new
     opens_joined old mid new found result h key mounts run opens =
         let last = opens (subst (λ (k : List ℕ). MountsTo f k h mid.state found) (sym key) mounts.0) in
         let last' : Opens f IsOpenAs holding h (after_opening f old h) result mid new = subst (λ (x : Held). Opens f IsOpenAs holding h x result mid new) mounts.1 last in
@@ -146,40 +136,66 @@ module _ (f : Form) where
           leaves = weaker moment left_since old new (λ c. held_of f old.key c ≡ Some h) (λ c. (held_of f old.key c ≡ Some h) ⊎ (held_of f old.key c ≡ Some after)) (λ c e. inl e) run;
         })
 
-  -- what was found by the rule, and then taken up or not, is so by the rule
-  module _ {A : Type 0} (root_in : A → Root) (sequence_in : A → ℕ) where
-    pub ruled_opening : (view : View) (image : ℕ → List ℕ) (n blank : ℕ) (found : Option Header) (result : Result A OpenAnswer) → IsRuledBy f view image n (Ok found)
-        → IfErr result (λ why. IsKeptFromOpening why) → IfOk result (λ o. TakesUp f found blank (sequence_in o) (root_in o))
-        → IfErr result (λ why. IsRefusal f view image n why) × IfOk result (λ o. IsAdmitted f view image n blank (sequence_in o) (root_in o))
-    ruled_opening view image n blank found (Ok o) ruled kept at = (tt, admitted_by f view image n blank (sequence_in o) (root_in o) found ruled.1 at)
-    ruled_opening view image n blank found (Err why) ruled kept at = (kept_refusal view image n why kept, tt)
+  -- why a board isn't opened once the rule of the header opens it: what keeps it from that, or what the form refuses
+  kept_refusal : (rule : Result (Option Found) OpenAnswer) (why : OpenAnswer) → IsKeptFromOpening why → RefusesBy rule why
+  kept_refusal rule why kept =
+      ⊎_elim
+      (λ (e : why ≡ Failed). subst (RefusesBy rule) (sym e) tt)
+      (λ (e : why ≡ NoMemory). subst (RefusesBy rule) (sym e) tt)
+      kept
 
--- of a form of one version
-module _ (f : Form) (format : Format) (serves : IsFormatOf f format) (single : (version : ℕ) → f.known version ≡ true → (version == f.version) ≡ true) where
+  pub refused_or_kept : (view : View) (image walked : ℕ → List ℕ) (n : ℕ) (found : Option Header) (why : OpenAnswer) → IsRuledBy f view image n (Ok found)
+      → IsKeptFromOpening why ⊎ (refusal_of f view.key walked found ≡ Some why) → RefusesBy (admission_over f view image walked n) why
+  refused_or_kept view image walked n found why ruled is =
+      ⊎_elim
+      (λ (kept : IsKeptFromOpening why). kept_refusal (admission_over f view image walked n) why kept)
+      (λ (some : refusal_of f view.key walked found ≡ Some why). refused_over f view image walked n found why ruled.1 some)
+      is
+
+  -- what was found by the rule of the header, and then taken up or not, is so by the whole rule
+  module _ {A : Type 0} (view : View) (image : ℕ → List ℕ) (n : ℕ) (found : Option Header) (Takes : A → Option Header → Type 0) where
+    pub ruled_found : (result : Result A OpenAnswer) → IsRuledBy f view image n (Ok found)
+        → IfErr result (λ why. IsKeptFromOpening why ⊎ (refusal_of f view.key image found ≡ Some why))
+        → IfOk result (λ o. refusal_of f view.key image found ≡ None) → IfOk result (λ o. Takes o found)
+        → IfErr result (λ why. IsRefusal f view image n why) × IfOk result (λ o. IsAdmittedTo f view image n (Takes o))
+    ruled_found (Ok o) ruled refused admitted takes = (tt, admitted_by f view image n (Takes o) found ruled.1 admitted takes)
+    ruled_found (Err why) ruled refused admitted takes = (refused_or_kept view image image n found why ruled refused, tt)
+
+-- a header of the version that is written is taken up as it is
+module _ (f : Form) where
   pub blank_root : IsBlankRoot f (root_written f NO_ROOT)
   blank_root = record { version = refl; sequence = refl }
 
-  -- the root of a header of an accepted version
-  root_is : (header : Header) → accepts format header.version ≡ true → root_of header ≡ root_written f header.root
-  root_is header accepted =
-      let same : (header.version == f.version) ≡ true = single header.version (ap (λ (knows : ℕ → Bool). knows header.version) serves.known ∙ accepted) in
-      let is : header.version ≡ f.version = grind (arith, nat_tests, same) in
+  pub root_is : (header : Header) → (header.version == f.version) ≡ true → root_of header ≡ root_written f header.root
+  root_is header written =
+      let is : header.version ≡ f.version = grind (arith, nat_tests, written) in
       λ i. record { version = is i; entry = header.root }
 
-  -- a board is mounted with the root of what was found, and with its sequence
-  pub mounted_found : (view : View) (h : Held) (found : Option Header) → IsAccepted format found → MountsTo f view.key h view.state found
-      → IsMounted f view.key (root_written f (entry_found found)) h view.state × (sequence_of found ≡ h.sequence)
-  mounted_found view h None accepted mounts = (mounts.1 (root_written f NO_ROOT) blank_root, sym mounts.0)
-  mounted_found view h (Some header) accepted mounts = (subst (λ (r : Root). IsMounted f view.key r h view.state) (root_is header accepted) mounts.1, sym mounts.0)
+  pub takes_written : (header : Header) → (header.version == f.version) ≡ true → (blank : ℕ) → TakesUp f (Some header) blank header.sequence (root_written f header.root)
+  takes_written header written blank =
+      subst (λ (b : Bool). TakesHeader f b header header.sequence (root_written f header.root)) (sym written) (refl, root_is header written)
 
-  -- what an opening takes up of what was found: its sequence and its root
-  pub taken_up : (found : Option Header) (root : TreeEntry) (sequence : ℕ) → IsAccepted format found → root ≡ entry_found found → sequence ≡ sequence_of found
-      → TakesUp f found 0 sequence (root_written f root)
-  taken_up None root sequence accepted is e = (e, refl, ap (λ (x : TreeEntry). x.sequence) is)
-  taken_up (Some header) root sequence accepted is e = (sym e, root_is header accepted ∙ ap (root_written f) (sym is))
+  -- and one of another version anew
+  pub takes_other : (header : Header) → (header.version == f.version) ≡ false → (blank : ℕ) (entry : TreeEntry) → entry.sequence ≡ header.sequence + 1
+      → TakesUp f (Some header) blank entry.sequence (root_written f entry)
+  takes_other header other blank entry next =
+      subst (λ (b : Bool). TakesHeader f b header entry.sequence (root_written f entry)) (sym other) (next, refl, refl)
 
-  -- the same of a header, whatever a blank board is taken up with
-  pub takes_header : (found : Option Header) (header : Header) (root : TreeEntry) (sequence blank : ℕ) → found ≡ Some header → IsAccepted format found
-      → root ≡ entry_found found → sequence ≡ sequence_of found → TakesUp f found blank sequence (root_written f root)
-  takes_header None header root sequence blank is accepted at e = absurd (cc)
-  takes_header (Some other) header root sequence blank is accepted at e = (sym e, root_is other accepted ∙ ap (root_written f) (sym at))
+  -- a board is mounted with the root of such a header, and with its sequence
+  pub mounted_written : (view : View) (h : Held) (header : Header) → (header.version == f.version) ≡ true → MountsTo f view.key h view.state (Some header)
+      → IsMounted f view.key (root_written f header.root) h view.state
+  mounted_written view h header written mounts = subst (λ (r : Root). IsMounted f view.key r h view.state) (root_is header written) mounts.1
+
+  -- what is held once it was taken up
+  pub after_written : (header : Header) (h : Held) → (header.version == f.version) ≡ true → after_found f (Some header) h ≡ h
+  after_written header h written = ap (λ (b : Bool). after_version f b h) written
+
+  pub after_other : (header : Header) (h : Held) → (header.version == f.version) ≡ false → after_found f (Some header) h ≡ next_held f h.leaves h.sequence
+  after_other header h other = ap (λ (b : Bool). after_version f b h) other
+
+  -- what is told of it, and the sequence then
+  pub told_written : (header : Header) → (header.version == f.version) ≡ true → sequence_after (reopened_of f.version (Some header)) ≡ header.sequence
+  told_written header written = ap (λ (b : Bool). if not b then header.sequence + 1 else header.sequence) written
+
+  pub told_other : (header : Header) → (header.version == f.version) ≡ false → sequence_after (reopened_of f.version (Some header)) ≡ header.sequence + 1
+  told_other header other = ap (λ (b : Bool). if not b then header.sequence + 1 else header.sequence) other

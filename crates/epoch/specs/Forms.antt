@@ -37,6 +37,8 @@ pub record Form : Type 0 where
   pub sound : List ℕ → (ℕ → List ℕ) → Root → Bool
   -- the blocks on the ways to all leaves
   pub uses : List ℕ → (ℕ → List ℕ) → Root → ℕ → Bool
+  -- why an image is refused although its header counts
+  pub refuses : List ℕ → (ℕ → List ℕ) → Root → Option OpenAnswer
 
 -- the root of a header that is written with this entry
 abbrev pub root_written : Form → TreeEntry → Root
@@ -124,3 +126,6 @@ pub record IsFramed (f : Form) : Type 0 where
       → f.leaf key image root region leaf ≡ replicate BLOCK_BYTES 0
   pub blank_sound : (key : Key) (root : Root) (image : Image)
       → IsBlankRoot f root → f.sound key image root ≡ true
+  -- no image is refused whose leaves the root seals
+  pub no_refusal : (key : Key) (root : Root) (image : Image)
+      → is_sealed f key image root ≡ true → f.refuses key image root ≡ None

@@ -15,5 +15,6 @@ pub mod Opens
 pub mod Parts
 pub mod Past
 pub mod Reading
+pub mod Reopening
 pub mod Slots
 pub mod Steps

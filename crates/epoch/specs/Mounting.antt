@@ -1,18 +1,18 @@
 -- What is found by a search for the header that counts, over the form of the leaves: on a board that holds this, after a
 -- sync, and after a loss of power.
-use Rattle.std.specs.Prelude.{◌≡◌, ◌≢◌, ℕ, false, List, Option, Some, None, Result, Ok, Err, IfErr, IfOk}
+use Rattle.std.specs.Prelude.{◌≡◌, ◌≢◌, ◌==◌, ℕ, Bool, true, false, List, Option, Some, None, Result, Ok, Err, IfErr, IfOk}
 use Rattle.tee_base.specs.Crash.{LeavesOnly}
 use Rattle.tee_base.specs.Faults.{Rose}
 use Rattle.store_api.specs.Volumes.{Held}
 use Rattle.board.specs.Moment.{IsCounter, IsLeft, Moment, CrashImage, View, left_since, moment}
 use Rattle.board.specs.Steps.{CallRun, SameBlocks}
 use Rattle.epoch.specs.Alone.{LeavesAlone}
-use Rattle.epoch.specs.Commits.{IsMounted}
+use Rattle.epoch.specs.Commits.{IsMounted, next_held}
 use Rattle.epoch.specs.Finding.{IsSettledAt, sequence_of}
 use Rattle.epoch.specs.Formats.{IsAccepted}
 use Rattle.epoch.specs.Forms.{Form, IsBlankRoot, Root, held_in, held_of, root_of}
 use Rattle.epoch.specs.Mounts.{IsLeftSound, LeftByOrder}
-use Rattle.epoch.specs.Opening.{no_failure, opening_of}
+use Rattle.epoch.specs.Opening.{found_header, no_failure, opening_of}
 use Rattle.epoch.specs.Past.{KeepsPast}
 use Rattle.epoch.specs.declared.format.Format.{Format}
 use Rattle.epoch.specs.declared.answer.OpenAnswer.{OpenAnswer}
@@ -27,21 +27,26 @@ pub record IsHolding (f : Form) (key : Key) (h : Held) (m : Moment) : Type 0 whe
   pub pending : (k : ℕ) → m.pending k ≡ false
   pub each : (n : ℕ) → IsCounter m n → held_in f key m.reads n ≡ Some h
 
--- what is held once a header was found, or where none was, the board was formatted
-abbrev pub after_found : Option Header → Held → Held
-after_found None h = record h { sequence = 1 }
-after_found (Some header) h = h
+-- what is held once a header was taken up: where it isn't of the version that is written, one that is was written for the same
+-- leaves
+abbrev pub after_version : Form → Bool → Held → Held
+after_version f true h = h
+after_version f false h = next_held f h.leaves h.sequence
 
--- what an opening makes of what is held, for a form of one version: a board that was blank is formatted, to the sequence 1
-abbrev pub opened_by : Result (Option Found) OpenAnswer → Held → Held
-opened_by (Ok None) held = record held { sequence = 1 }
-opened_by (Ok (Some found)) held = held
-opened_by (Err answer) held = held
+-- what is held once a header was found and taken up, or where none was, the board was formatted
+abbrev pub after_found : Form → Option Header → Held → Held
+after_found f None h = next_held f h.leaves h.sequence
+after_found f (Some header) h = after_version f (header.version == f.version) h
+
+-- what an opening makes of what is held, by how the board opens
+abbrev pub opened_by : Form → Result (Option Found) OpenAnswer → Held → Held
+opened_by f (Ok found) held = after_found f (found_header found) held
+opened_by f (Err answer) held = held
 
 -- the same of a board that holds this
 abbrev pub after_opening : Form → View → Held → Held
 after_opening f view held =
-    opened_by (opening_of f.known view.key view.state.reads view.state.counter) held
+    opened_by f (opening_of f.known view.key view.state.reads view.state.counter) held
 
 -- the board is mounted with this under the root of the header, and where there is none, under each root of a blank board
 abbrev pub MountsTo : Form → Key → Held → Moment → Option Header → Type 0
@@ -54,7 +59,7 @@ MountsTo f key h m (Some header) =
 pub record Mounts (f : Form) (h : Held) (result : Result (Option Header) OpenAnswer)
     (old new : View) : Type 0 where
   pub mounted : IfOk result (λ found. MountsTo f old.key h new.state found
-      × (after_found found h ≡ after_opening f old h))
+      × (after_found f found h ≡ after_opening f old h))
   pub failed : IfErr result (λ why. why ≡ answers.Failed)
   pub leaves : LeavesOnly moment left_since old new (λ c. held_of f old.key c ≡ Some h)
 

@@ -13,12 +13,14 @@ use Rattle.epoch.specs.Forms.{Form, Root, held_of, root_of}
 use Rattle.epoch.specs.Alone.{LeavesAlone}
 use Rattle.epoch.specs.Opening.{found_header, header_answer, is_no_failure, opening_of, opens_as}
 use Rattle.epoch.specs.Past.{KeepsPast}
+use Rattle.epoch.specs.Reopening.{reopened_of, sequence_after, shows_kept}
 use Rattle.epoch.specs.declared.answer.OpenAnswer.{OpenAnswer}
 use Rattle.epoch.specs.declared.mounts.TheConstants.{BLANK}
 use Rattle.epoch.specs.declared.answer.OpenAnswer.TheVariants as answers
 use Rattle.epoch.specs.declared.header.Header.{Header}
 use Rattle.epoch.specs.declared.rule.Found.{Found}
-use Rattle.tee_base.specs.Words.{Counter, Image, Sequence}
+use Rattle.epoch.specs.declared.taking.Reopened.{Reopened}
+use Rattle.tee_base.specs.Words.{Counter, Image, Key, Sequence}
 
 -- an opening that writes a header keeps the leaves, so that each region stands for the same store; the sequence is the next
 -- one, and the version the one that is written
@@ -49,38 +51,96 @@ abbrev pub IsLeftSound : Option Held → Type 0
 IsLeftSound (Some held) = Unit {0}
 IsLeftSound None = ⊥
 
--- a refusal is the opening rule's, of a board over this image and this counter; a failure and want of memory are no such
--- refusals
-abbrev pub IsRefusal : Form → View → Image → Counter → OpenAnswer → Type 0
-IsRefusal f view image counter answers.Failed = Unit {0}
-IsRefusal f view image counter answers.NoMemory = Unit {0}
-IsRefusal f view image counter why =
-    opens_as f.known f.blocks view.size view.key image counter ≡ Err why
+-- why an image is refused although this header counts
+abbrev pub refusal_of : Form → Key → Image → Option Header → Option OpenAnswer
+refusal_of f key image None = None
+refusal_of f key image (Some header) = f.refuses key image (root_of header)
 
--- the same of the board as it reads now, at a counter that it may tell
+-- what was found, unless the image is refused
+abbrev pub unless_refused : Option OpenAnswer → Option Found → Result (Option Found) OpenAnswer
+unless_refused None found = Ok found
+unless_refused (Some why) found = Err why
+
+-- what is made of what the rule of the header answers, for what the form refuses of an image
+abbrev pub admitted_of : Form → Key → Image → Result (Option Found) OpenAnswer
+    → Result (Option Found) OpenAnswer
+admitted_of f key image (Ok found) = unless_refused (refusal_of f key image (found_header found)) found
+admitted_of f key image (Err why) = Err why
+
+-- the whole opening rule over two images: which header counts is by the first, and whether the image is refused besides by the one
+-- that was walked then
+abbrev pub admission_over : Form → View → Image → Image → Counter → Result (Option Found) OpenAnswer
+admission_over f view image walked counter =
+    admitted_of f view.key walked (opens_as f.known f.blocks view.size view.key image counter)
+
+-- the whole opening rule
+abbrev pub admission : Form → View → Image → Counter → Result (Option Found) OpenAnswer
+admission f view image counter = admission_over f view image image counter
+
+-- an answer is the refusal of a rule; a failure and want of memory are no such refusals
+abbrev pub RefusesBy : Result (Option Found) OpenAnswer → OpenAnswer → Type 0
+RefusesBy rule answers.Failed = Unit {0}
+RefusesBy rule answers.NoMemory = Unit {0}
+RefusesBy rule why = rule ≡ Err why
+
+-- a refusal is the opening rule's, of a board over this image and this counter
+abbrev pub IsRefusal : Form → View → Image → Counter → OpenAnswer → Type 0
+IsRefusal f view image counter why = RefusesBy (admission f view image counter) why
+
+-- the same of a board that reads so, and of an image that it read as once the header was found
+abbrev pub IsRefusalOver : Form → View → Image → Counter → OpenAnswer → Type 0
+IsRefusalOver f view walked counter why =
+    RefusesBy (admission_over f view view.state.reads walked counter) why
+
+-- a refusal is that of the board as it reads now, at a counter that it may tell
 abbrev pub IsRefusedNow : Form → View → OpenAnswer → Type 0
 IsRefusedNow f view answers.Failed = Unit {0}
 IsRefusedNow f view answers.NoMemory = Unit {0}
 IsRefusedNow f view why = (counter : Counter) × IsCounter view.state counter
-    × (opens_as f.known f.blocks view.size view.key view.state.reads counter ≡ Err why)
+    × (admission f view view.state.reads counter ≡ Err why)
 
--- what is taken up is the header that counts, with its sequence and its root; where none does, the board has this sequence, and a
--- root of the same and of the version that is written
+-- a header is taken up: one of the version that is written as it is, with its sequence and its root; of another one its leaves, with
+-- the next sequence, and a root of the version that is written, whose entry is sealed for that sequence
+abbrev pub TakesHeader : Form → Bool → Header → Sequence → Root → Type 0
+TakesHeader f true header sequence root = (header.sequence ≡ sequence) × (root_of header ≡ root)
+TakesHeader f false header sequence root =
+    (sequence ≡ header.sequence + 1) × (root.version ≡ f.version) × (root.entry.sequence ≡ sequence)
+
+-- what is taken up is the header that counts; where none does, the board has this sequence, and a root of the same and of the version
+-- that is written
 abbrev pub TakesUp : Form → Option Header → ℕ → Sequence → Root → Type 0
 TakesUp f None blank sequence root =
     (sequence ≡ blank) × (root.version ≡ f.version) × (root.entry.sequence ≡ blank)
-TakesUp f (Some header) blank sequence root = (header.sequence ≡ sequence) × (root_of header ≡ root)
+TakesUp f (Some header) blank sequence root =
+    TakesHeader f (header.version == f.version) header sequence root
 
--- the opening rule opens a board over this image and this counter, and what counts there is taken up
-abbrev pub IsAdmitted : Form → View → Image → Counter → ℕ → Sequence → Root → Type 0
-IsAdmitted f view image counter blank sequence root = (found : Option Found)
+-- the rule of the header opens a board over this image and this counter, and what counts there is taken up
+abbrev pub IsFound : Form → View → Image → Counter → ℕ → Sequence → Root → Type 0
+IsFound f view image counter blank sequence root = (found : Option Found)
     × (opens_as f.known f.blocks view.size view.key image counter ≡ Ok found)
     × TakesUp f (found_header found) blank sequence root
 
--- what a search for the header answers is the rule's, over this image and this counter
+-- the opening rule opens a board over this image and this counter, and this is so of the header that counts there
+abbrev pub IsAdmittedTo : Form → View → Image → Counter → (Option Header → Type 0) → Type 0
+IsAdmittedTo f view image counter Takes = (found : Option Found)
+    × (admission f view image counter ≡ Ok found) × Takes (found_header found)
+
+-- what counts there is taken up
+abbrev pub IsAdmitted : Form → View → Image → Counter → ℕ → Sequence → Root → Type 0
+IsAdmitted f view image counter blank sequence root =
+    IsAdmittedTo f view image counter (λ header. TakesUp f header blank sequence root)
+
+-- what is told of a volume that was opened again is of the header that was found, which is taken up; a board on which none counts has
+-- the sequence 0
+abbrev pub IsReopened : Form → Reopened → Root → Option Header → Type 0
+IsReopened f told root header = (told ≡ reopened_of f.version header)
+    × TakesUp f header BLANK (sequence_after told) root
+
+-- what a search for the header answers is the rule's of the header, over this image and this counter
 abbrev pub IsRuledBy : Form → View → Image → Counter → Result (Option Header) OpenAnswer
     → Type 0
-IsRuledBy f view image counter result = IfErr result (λ why. IsRefusal f view image counter why)
+IsRuledBy f view image counter result =
+    IfErr result (λ why. RefusesBy (opens_as f.known f.blocks view.size view.key image counter) why)
     × IfOk result (λ found. header_answer
     (opens_as f.known f.blocks view.size view.key image counter) ≡ Ok found)
 
@@ -100,31 +160,33 @@ pub record OrderRun (number : ℕ) (old new : View) : Type 0 where
   pub steady : after.faults ≡ old.state.faults
   pub later : after.faults ≤ new.state.faults
 
--- a loss of power of an honest board, by this number, before any other call; what the calls behind it leave reads as it left it
-pub record PowerFirst (pick : ℕ) (old new : View) : Type 0 where
+-- a loss of power of an honest board, by this number, before any other call; of these blocks the calls behind it change none at any
+-- moment, and where nothing is said to be taken over, what they leave reads as it left it
+pub record PowerFirst (pick : ℕ) (kept : Bool) (Stays : ℕ → Type 0) (old new : View) : Type 0 where
   pub between : View
   pub ordered : new.ordered ≡ record { number = pick; before = old.state; after = between.state } ∷ old.ordered
   pub time : Passes old between
   pub powered : Powered old.state between.state
-  pub reads : new.state.reads ≡ between.state.reads
+  pub alone : LeavesAlone Stays between new
+  pub reads : kept ≡ true → new.state.reads ≡ between.state.reads
   pub behind : IsBehind between new
 
--- whatever the board: a loss of power and the calls that opened the board again, of which one failed where this is false. No block is
--- written, and no fuse is set afterwards
+-- whatever the board: a loss of power and the calls that opened the board again, of which one failed where this is false. No fuse is
+-- set afterwards
 pub record LosesPower (pick : ℕ) (ok : Bool) (old new : View) : Type 0 where
   pub order : OrderRun pick old new
   pub cause : ok ≡ false → Rose old.state.faults new.state.faults
   pub steady : ok ≡ true → new.state.faults ≡ old.state.faults
-  pub writes : new.writes ≡ old.writes
   pub fuse : new.fuse ≡ Unset
 
--- the same of an honest board: nothing of the past is forgotten; by the rule over what a crash might have left it was opened, with the
--- sequence and the root of what counts there, or refused; the counter is then that sequence, and a refusal is of the board as it is now
-pub record LosesPowerByRule {A : Type 0} (f : Form) (pick : ℕ) (result : Result A OpenAnswer) (sequence : A → Sequence) (root : Root) (old new : View) : Type 0 where
-  pub begins : PowerFirst pick old new
+-- the same of an honest board: nothing of the past is forgotten; by the rule over what a crash might have left it was opened, and what
+-- is told takes up what counts there so, or refused; the counter is then the sequence, and a refusal is of the board as it is now
+pub record LosesPowerByRule {A : Type 0} (f : Form) (Stays : ℕ → Type 0) (pick : ℕ) (kept : Bool) (result : Result A OpenAnswer)
+    (Takes : A → Option Header → Type 0) (sequence : A → Sequence) (old new : View) : Type 0 where
+  pub begins : PowerFirst pick kept Stays old new
   pub past : KeepsPast old new
   pub exact : (c : CrashImage) × IsLeft old.state c × IfErr result (λ why. IsRefusal f old c.image c.counter why)
-      × IfOk result (λ x. IsAdmitted f old c.image c.counter BLANK (sequence x) root)
+      × IfOk result (λ x. IsAdmittedTo f old c.image c.counter (Takes x))
   pub counter : IfOk result (λ x. IsSettledAt (sequence x) new.state)
   pub refusal : IfErr result (λ why. IsRefusedNow f new why)
 
@@ -155,14 +217,16 @@ pub record OpensHonestly (Stays : ℕ → Type 0) (sequence : Sequence) (old new
   pub alone : LeavesAlone Stays old new
   pub counter : IsSettledAt sequence new.state
 
--- an honest board that was opened again: it reads as before, and nothing of the past is forgotten; by the rule over what it read as, at
--- a counter that it may have told, it was opened or refused; the counter is then the sequence, and a refusal is of the board as it is now
-pub record ReopensByRule (f : Form) (result : Result ℕ OpenAnswer) (root : Root) (old new : View) : Type 0 where
-  pub reads : new.state.reads ≡ old.state.reads
+-- an honest board that was opened again: it reads as before where the answer shows that nothing was taken over, of these blocks none
+-- changes at any moment, and nothing of the past is forgotten; by the rule over what it read as, at a counter that it may have told, it
+-- was opened or refused; the counter is then the sequence, and a refusal is of the board as it is now
+pub record ReopensByRule (f : Form) (Stays : ℕ → Type 0) (result : Result Reopened OpenAnswer) (root : Root) (old new : View) : Type 0 where
+  pub reads : shows_kept result ≡ true → new.state.reads ≡ old.state.reads
   pub past : KeepsPast old new
+  pub alone : LeavesAlone Stays old new
   pub exact : (counter : Counter) × IsCounter old.state counter × IfErr result (λ why. IsRefusal f old old.state.reads counter why)
-      × IfOk result (λ sequence. IsAdmitted f old old.state.reads counter BLANK sequence root)
-  pub counter : IfOk result (λ sequence. IsSettledAt sequence new.state)
+      × IfOk result (λ told. IsAdmittedTo f old old.state.reads counter (IsReopened f told root))
+  pub counter : IfOk result (λ told. IsSettledAt (sequence_after told) new.state)
   pub refusal : IfErr result (λ why. IsRefusedNow f new why)
 
 -- within an opening a crash leaves what the board held, or what the opening makes of that
@@ -193,10 +257,15 @@ module _ {V : Type 0} (K : VolumeKeeper V) where
     pub text : (region leaf : ℕ) → region < MAX_HOSTS → leaf < K.leaves
         → K.text volume region leaf ≡ f.leaf view.key view.state.reads root region leaf
 
-  -- all that a crash may leave now is sound
-  abbrev pub IsAlwaysSound : V → Type 0
-  IsAlwaysSound volume =
-      (o : Option Held) → K.left_since volume (K.moment volume) o → IsLeftSound o
+  -- each sound thing that a crash may leave now is of the version that is written
+  abbrev pub IsWrittenAnew : Form → V → Type 0
+  IsWrittenAnew f volume =
+      (held : Held) → K.left_since volume (K.moment volume) (Some held) → held.version ≡ f.version
+
+  -- all that a crash may leave now is sound, and of the version that is written
+  pub record IsAlwaysSound (f : Form) (volume : V) : Type 0 where
+    pub sound : (o : Option Held) → K.left_since volume (K.moment volume) o → IsLeftSound o
+    pub written : IsWrittenAnew f volume
 
   -- a crash leaves nothing that it might not have left before, and nothing of the past is forgotten
   pub record LeavesAsBefore (old new : V) : Type 0 where
@@ -205,12 +274,15 @@ module _ {V : Type 0} (K : VolumeKeeper V) where
     pub past : (t : ℕ) (o : Option Held) → t ≤ K.moment old
         → K.left_since old t o → K.left_since new t o
 
-  -- a volume was opened again: it holds what a crash might have left, or is lost, since a call of the board failed
-  pub record OpensAgain (result : Result ℕ OpenAnswer) (old new : V) : Type 0 where
-    pub opened : IfOk result (λ sequence. K.left_since old (K.moment old) (Some (K.held new)))
+  -- a volume was opened again: it holds what a crash might have left, or is lost, since a call of the board failed. Nothing was taken
+  -- over, and no block was written
+  pub record OpensAgain (result : Result Reopened OpenAnswer) (old new : V) : Type 0 where
+    pub opened : IfOk result (λ told. K.left_since old (K.moment old) (Some (K.held new)))
+    pub kept : IfOk result (λ told. told.rewritten ≡ false)
+    pub writes : (K.condition new).writes ≡ (K.condition old).writes
     pub failed : IfErr result (λ why. why ≡ answers.Failed)
     -- one that is opened is honest, and what was honest stays so
-    pub fresh : IfOk result (λ sequence. K.honest new)
+    pub fresh : IfOk result (λ told. K.honest new)
     pub honest : K.honest old → K.honest new
     -- what isn't opened again keeps what it kept
     pub same : K.honest old → OnErr result (K.held new ≡ K.held old)
@@ -218,12 +290,12 @@ module _ {V : Type 0} (K : VolumeKeeper V) where
 
   -- the same after a loss of power, which chose one of all that a crash might have left: the order itself left that alone, and so do
   -- the calls behind it
-  pub record OpensAfterPower (f : Form) (before after : View) (result : Result ℕ OpenAnswer) (old new : V) : Type 0 where
+  pub record OpensAfterPower (f : Form) (before after : View) (result : Result Reopened OpenAnswer) (old new : V) : Type 0 where
     pub again : OpensAgain result old new
     pub chosen : Held
     pub among : K.left_since old (K.moment old) (Some chosen)
     pub ordered : LeftByOrder f before after chosen
-    pub opened : IfOk result (λ sequence. K.held new ≡ chosen)
+    pub opened : IfOk result (λ told. K.held new ≡ chosen)
     pub rests : RestsAt K new chosen
 
   -- an order that leaves the volume as it is
@@ -232,8 +304,9 @@ module _ {V : Type 0} (K : VolumeKeeper V) where
     pub same : K.held new ≡ K.held old
     pub leaves : LeavesAsBefore old new
 
-  -- a volume is in use again where the call went well, with this sequence, and lost otherwise
-  pub record IsBack (result : Result ℕ OpenAnswer) (new : V) : Type 0 where
-    pub works : IfOk result (λ sequence. (K.condition new).lost ≡ false)
+  -- a volume is in use again where the call went well, with the sequence that was told, or one more where it was taken over; and lost
+  -- otherwise
+  pub record IsBack (result : Result Reopened OpenAnswer) (new : V) : Type 0 where
+    pub works : IfOk result (λ told. (K.condition new).lost ≡ false)
     pub lost : OnErr result ((K.condition new).lost ≡ true)
-    pub sequence : IfOk result (λ sequence. (K.held new).sequence ≡ sequence)
+    pub sequence : IfOk result (λ told. (K.held new).sequence ≡ sequence_after told)

@@ -1,19 +1,11 @@
 -- What the opening of a volume takes up, and what it leaves, whatever the volume keeps beside its root.
-use Rattle.std.specs.Prelude.{◌≡◌, ◌⊎◌, Option, None, Some, Result, IfErr, IfOk}
+use Rattle.std.specs.Prelude.{◌≡◌, ◌⊎◌, Some, Result, IfErr, IfOk}
 use Rattle.tee_base.specs.Crash.{LeavesOnly}
 use Rattle.store_api.specs.Volumes.{Held}
 use Rattle.board.specs.Moment.{View, left_since, moment}
 use Rattle.epoch.specs.Forms.{Form, held_of}
 use Rattle.epoch.specs.Mounts.{IsKeptFromOpening}
 use Rattle.epoch.specs.declared.answer.OpenAnswer.{OpenAnswer}
-use Rattle.epoch.specs.declared.header.Header.{Header}
-use Rattle.epoch.specs.declared.header.TreeEntry.{TreeEntry}
-use Rattle.epoch.specs.declared.taking.TheConstants.{NO_ROOT}
-
--- the entry of the header that was found; where there is none, what a blank board has in place of it
-abbrev pub entry_found : Option Header → TreeEntry
-entry_found None = NO_ROOT
-entry_found (Some header) = header.root
 
 module _ (f : Form) {A : Type 0} (IsOpenAs : A → View → Type 0) (holding : A → View → Held) where
   -- a board that held this is open with that, or a call failed, or there was no memory; a crash leaves one of the two

@@ -1,6 +1,7 @@
 //! Why a board isn't opened.
 
 use board::BoardFailed;
+use store_api::Mismatch;
 use thiserror::Error;
 
 /// Why a volume isn't opened.
@@ -36,6 +37,14 @@ pub enum OpenAnswer {
         sequence: u64,
         counter: u64,
     },
+    /// On the walk over all places of a volume of an older version, in the order of a verification, these are the first two
+    /// tags that differ.
+    #[error("the volume of an older version is damaged")]
+    OldMismatch(Mismatch),
+    /// No tag differs, and this region is the first that breaks a rule of the older version. The leaf is the least of it that
+    /// does.
+    #[error("region {region} of an older version breaks a rule at leaf {leaf}")]
+    OldGarbled { region: u8, leaf: u8 },
     /// A call of the board failed.
     #[error("the board failed")]
     Failed,

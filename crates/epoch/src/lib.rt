@@ -33,4 +33,4 @@ pub use laying::lay;
 pub use mounting::{mount, mount_after_power, mount_again};
 pub use mounts::{BLANK, BoardVolume, FORMATTED};
 pub use steps::{flip, shut};
-pub use taking::{NO_ROOT, taken_from};
+pub use taking::{NO_ROOT, Reopened, reopened_from};

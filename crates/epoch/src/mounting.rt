@@ -1,7 +1,8 @@
 //! What a board holds that is opened, over the form of the leaves: found at first, after a sync, after a loss of power.
-ghost use Rattle.std.specs.Prelude.{◌≡◌, ◌≢◌, ◌≤◌, ℕ, Err, IfErr, IfOk, IsTrue, OnOk};
+ghost use Rattle.std.specs.Prelude.{◌≡◌, ◌≢◌, ◌≤◌, ℕ, true, Err, IfErr, IfOk, IsTrue, OnOk};
 ghost use Rattle.store_api.specs.Volumes.{Held};
 ghost use Rattle.board.specs.Moment.{IsCounter, IsLeft, CrashImage};
+ghost use Rattle.epoch.specs.Alone.{LeavesAlone};
 ghost use Rattle.epoch.specs.Commits.{StaysSettled};
 ghost use Rattle.epoch.specs.Finding.{IsSettledAt, sequence_of};
 ghost use Rattle.epoch.specs.Formats.{IsAccepted, IsFormatOf};
@@ -58,6 +59,9 @@ pub fn mount_again<B: Board>(board: &mut B, format: Format) -> Result<Option<Hea
     ensures search { Searches format result (B.view board.old) (B.view board.new) }
     ensures reads { B.honest board.old
         → (B.view board.new).state.reads ≡ (B.view board.old).state.reads }
+    // no block changes, at any moment
+    ensures alone { B.honest board.old
+        → LeavesAlone (λ k. Unit {0}) (B.view board.old) (B.view board.new) }
     // at Ok the counter is the sequence, and no other is left open
     ensures counter { B.honest board.old
         → IfOk result (λ header. IsSettledAt (sequence_of header) (B.view board.new).state) }
@@ -92,19 +96,21 @@ pub fn mount_after_power<B: Board>(
 ) -> Result<Option<Header>, OpenAnswer>
     requires slots { 4 ≤ format.blocks }
     ensures calls { LosesPower pick (no_failure result) (B.view board.old) (B.view board.new) }
+    ensures writes { (B.view board.new).writes ≡ (B.view board.old).writes }
     ensures memory { result ≢ Err answers.NoMemory }
     ensures accepted { IfOk result (λ header. IsAccepted format header) }
     // the power goes before any other call, and nothing of the past is forgotten
     ensures honest { B.honest board.old → B.honest board.new
-        × PowerFirst pick (B.view board.old) (B.view board.new)
+        × PowerFirst pick true (λ k. Unit {0}) (B.view board.old) (B.view board.new)
         × KeepsPast (B.view board.old) (B.view board.new) }
     // at Ok the counter is the sequence, and no other is left open
     ensures counter { B.honest board.old
         → IfOk result (λ header. IsSettledAt (sequence_of header) (B.view board.new).state) }
     ensures settled { B.honest board.old
         → StaysSettled (B.view board.old).state (B.view board.new).state }
+    // by the rule over what the power left, which reads give still
     ensures exact { B.honest board.old → (c : CrashImage) × IsLeft (B.view board.old).state c
-        × ((f : Form) → IsFormatOf f format
+        × ((B.view board.new).state.reads ≡ c.image) × ((f : Form) → IsFormatOf f format
         → IsRuledBy f (B.view board.old) c.image c.counter result) }
     // a refusal is the rule's over what the board then holds
     ensures refusal { B.honest board.old → IfErr result (λ why. (f : Form) → IsFormatOf f format

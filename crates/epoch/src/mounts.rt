@@ -7,10 +7,12 @@ ghost use Rattle.board.specs.Fuse.{fuse_after_set};
 ghost use Rattle.board.specs.Steps.{CallRun, Passes, Unchanged};
 ghost use Rattle.epoch.specs.Finding.{IsSettledAt};
 ghost use Rattle.epoch.specs.Forms.{Form, Root, held_in};
-ghost use Rattle.epoch.specs.Mounts.{HandsBack, HandsBackByRule, IsAdmitted, IsAlwaysSound, IsBack, IsFormed, IsKeptFromOpening, IsOpenedTo, IsOrdered, IsRefusal, IsSeenOn, LeavesOpening, LosesPower, LosesPowerByRule, OpensAfterPower, OpensAgain, OpensHonestly, OrderRun, ReopensByRule};
+ghost use Rattle.epoch.specs.Mounts.{HandsBack, HandsBackByRule, IsAdmitted, IsAlwaysSound, IsBack, IsFormed, IsFound, IsKeptFromOpening, IsOpenedTo, IsOrdered, IsRefusal, IsRefusalOver, IsReopened, IsSeenOn, IsWrittenAnew, LeavesOpening, LosesPower, LosesPowerByRule, OpensAfterPower, OpensAgain, OpensHonestly, OrderRun, ReopensByRule};
 ghost use Rattle.epoch.specs.Opening.{no_failure};
+ghost use Rattle.epoch.specs.Reopening.{sequence_after, shows_kept};
 
 use crate::answer::{OpenAnswer, Unopened};
+use crate::taking::Reopened;
 use board::Board;
 use std::alloc::Global;
 use store_api::Volume;
@@ -38,7 +40,8 @@ pub trait BoardVolume<B: Board>: Volume + Sized {
     /// Blocks that it never writes.
     ghost untouched: { ℕ → Type 0 };
 
-    /// Opens a board; one that is blank is formatted.
+    /// Opens a board; one that is blank is formatted. A volume of an older version is taken over: a commit to the next
+    /// sequence writes the same leaves anew, in the version that is written.
     ///
     /// # Errors
     ///
@@ -54,11 +57,12 @@ pub trait BoardVolume<B: Board>: Volume + Sized {
         ensures honest_back { B.honest board → IfErr result (λ u. B.honest u.board
             × HandsBackByRule form (λ k. (3 < k) × untouched k) u.why
             (B.view board) (B.view u.board)) }
-        // whatever the board: by the rule over what it tells, at some counter
+        // whatever the board: by the rule over what it tells, at some counter; what is refused of the leaves behind the
+        // header is by what the board that is handed back tells
         ensures rule { IsTrue B.tells_reads → (counter : ℕ)
-            × IfErr result (λ u. IsRefusal form (B.view board)
-            (B.view board).state.reads counter u.why)
-            × IfOk result (λ v. IsAdmitted form (B.view board) (B.view board).state.reads counter
+            × IfErr result (λ u. IsRefusalOver form (B.view board)
+            (B.view u.board).state.reads counter u.why)
+            × IfOk result (λ v. IsFound form (B.view board) (B.view board).state.reads counter
             FORMATTED (Self.keeper.held v).sequence (root v)) }
         ensures exact { B.honest board → (counter : ℕ) × IsCounter (B.view board).state counter
             × IfErr result (λ u. IsRefusal form (B.view board)
@@ -82,24 +86,25 @@ pub trait BoardVolume<B: Board>: Volume + Sized {
             × LeavesOpening form h (B.view board) (B.view u.board)) };
 
     /// Opens the board again, after what a failed commit may have left pending is made durable, and answers the
-    /// sequence. It formats nothing, and so leaves what is held as it was found.
+    /// sequence that was found. It formats nothing. A volume of an older version is taken over, as `open` does; only a
+    /// board that lost what it acknowledged has one here.
     ///
     /// # Errors
     ///
     /// As `open`. The volume is lost then.
-    fn reopen(&mut self) -> Result<u64, OpenAnswer>
+    fn reopen(&mut self) -> Result<Reopened, OpenAnswer>
         ensures calls { CallRun (no_failure result) (B.view (board_of self.old))
             (B.view (board_of self.new)) }
-        // no block is written
-        ensures writes { (B.view (board_of self.new)).writes
+        // no block is written where the answer shows that nothing was taken over
+        ensures writes { shows_kept result ≡ true → (B.view (board_of self.new)).writes
             ≡ (B.view (board_of self.old)).writes }
         ensures back { IsBack Self.keeper result self.new }
         ensures honest { B.honest (board_of self.old) → B.honest (board_of self.new)
-            × ReopensByRule form result (root self.new)
+            × ReopensByRule form (λ k. (3 < k) × untouched k) result (root self.new)
             (B.view (board_of self.old)) (B.view (board_of self.new)) }
         ensures root { OnErr result (root self.new ≡ root self.old) }
         ensures bare { OnOk result ((image : ℕ → List ℕ) → keeps self.new image) }
-        ensures opened { B.honest (board_of self.old) → IsAlwaysSound Self.keeper self.old
+        ensures opened { B.honest (board_of self.old) → IsAlwaysSound Self.keeper form self.old
             → OpensAgain Self.keeper result self.old self.new };
 
     /// A loss of power of the board, which is then opened again, as `reopen` does.
@@ -107,17 +112,21 @@ pub trait BoardVolume<B: Board>: Volume + Sized {
     /// # Errors
     ///
     /// As `reopen`.
-    fn power(&mut self, pick: u64) -> Result<u64, OpenAnswer>
-        // the order goes before any other call, no block is written, and a call failed exactly where the answer says so
+    fn power(&mut self, pick: u64) -> Result<Reopened, OpenAnswer>
+        // the order goes before any other call, and a call failed exactly where the answer says so
         ensures calls { LosesPower pick (no_failure result) (B.view (board_of self.old))
             (B.view (board_of self.new)) }
+        // no block is written where the answer shows that nothing was taken over
+        ensures writes { shows_kept result ≡ true → (B.view (board_of self.new)).writes
+            ≡ (B.view (board_of self.old)).writes }
         ensures back { IsBack Self.keeper result self.new }
         ensures honest { B.honest (board_of self.old) → B.honest (board_of self.new)
-            × LosesPowerByRule form pick result (λ sequence. sequence) (root self.new)
+            × LosesPowerByRule form (λ k. (3 < k) × untouched k) pick (shows_kept result) result
+            (λ told. IsReopened form told (root self.new)) sequence_after
             (B.view (board_of self.old)) (B.view (board_of self.new)) }
         ensures root { OnErr result (root self.new ≡ root self.old) }
         ensures bare { OnOk result ((image : ℕ → List ℕ) → keeps self.new image) }
-        ensures opened { B.honest (board_of self.old) → IsAlwaysSound Self.keeper self.old
+        ensures opened { B.honest (board_of self.old) → IsAlwaysSound Self.keeper form self.old
             → OpensAfterPower Self.keeper form (B.view (board_of self.old))
             (B.view (board_of self.new)) result self.old self.new };
 
@@ -156,6 +165,9 @@ pub trait BoardVolume<B: Board>: Volume + Sized {
 
     /// An honest volume stands on an honest board.
     ghost honest_board: { (v : Self) → Self.keeper.honest v → B.honest (board_of v) };
+
+    /// Each sound thing that a crash may leave of an honest volume is of the version that is written.
+    ghost written: { (v : Self) → Self.keeper.honest v → IsWrittenAnew Self.keeper form v };
 
     /// The counter of the board of an honest volume that isn't lost is its sequence, and no crash may leave another.
     ghost settled: { (v : Self) → Self.keeper.honest v → (Self.keeper.condition v).lost ≡ false

@@ -1,7 +1,6 @@
 //! What an opening takes up of the header that counts.
 ghost use Rattle.std.specs.Prelude.{◌≡◌};
-ghost use Rattle.epoch.specs.Finding.{sequence_of};
-ghost use Rattle.epoch.specs.Opens.{entry_found};
+ghost use Rattle.epoch.specs.Reopening.{reopened_of};
 
 use crate::header::{Header, TreeEntry};
 
@@ -13,13 +12,27 @@ pub const NO_ROOT: TreeEntry = TreeEntry {
     tag: [0; 32],
 };
 
-/// The entry of the root and the sequence of the header that was found; where none counts, no root, at the sequence 0.
-pub fn taken_from(found: Option<Header>) -> (TreeEntry, u64)
-    ensures root { result.0 ≡ entry_found found }
-    ensures sequence { result.1 ≡ sequence_of found }
+/// What is told of a volume that was opened again.
+#[derive(Clone, Copy, Debug, PartialEq, Eq)]
+pub struct Reopened {
+    /// The sequence of the header that was found, 0 where none counts.
+    pub sequence: u64,
+    /// The header was of an older version, and the volume was then taken over by a commit to the next sequence.
+    pub rewritten: bool,
+}
+
+/// What is told of the header that was found, where a header of this version is taken up as it is.
+pub fn reopened_from(found: Option<Header>, version: u32) -> Reopened
+    ensures { result ≡ reopened_of version found }
 {
     match found {
-        Some(header) => (header.root, header.sequence),
-        None => (NO_ROOT, 0),
+        Some(header) => Reopened {
+            sequence: header.sequence,
+            rewritten: header.version != version,
+        },
+        None => Reopened {
+            sequence: 0,
+            rewritten: false,
+        },
     }
 }

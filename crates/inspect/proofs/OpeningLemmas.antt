@@ -1,22 +1,12 @@
 -- What is told of a board that was searched, before its volume is opened.
-use Rattle.std.proofs.Common.{◌≡◌, ◌≤◌, ◌∙◌, ℕ, List, Option, Some, Result, Err, refl, ap, subst, arith}
+use Rattle.std.proofs.Common.{◌≡◌, ◌≤◌, ◌∙◌, ℕ, List, Option, Some, ap, subst, arith}
 use Rattle.store_api.specs.Volumes.{Held}
 use Rattle.board.specs.Moment.{View}
 use Rattle.board.specs.Runs.{Rests}
 use Rattle.epoch.specs.Forms.{Form, IsFramed, held_in, root_of}
 use Rattle.epoch.specs.Mounting.{MountsTo}
-use Rattle.epoch.specs.Mounts.{IsRefusal}
-use Rattle.epoch.specs.declared.answer.OpenAnswer.{OpenAnswer}
 use Rattle.epoch.specs.declared.header.Header.{Header}
 use Rattle.epoch.proofs.CommitLemmas.{mounted_holds}
-use Rattle.epoch.proofs.MountLemmas.{ruled_so}
-
--- a refusal is of each board that has the same size and key, and reads so
-pub refusal_so : (f : Form) (old new : View) (counter : ℕ) (why : OpenAnswer) → new.size ≡ old.size → new.key ≡ old.key → new.state.reads ≡ old.state.reads
-    → IsRefusal f new new.state.reads counter why → IsRefusal f old old.state.reads counter why
-refusal_so f old new counter why size key reads refusal =
-    let none : Result (Option Header) OpenAnswer = Err why in
-    (ruled_so f old new size key new.state.reads old.state.reads counter counter reads refl none (refusal, tt)).0
 
 -- a board on which a header was found rests, and holds what it held
 pub record HoldsStill (f : Form) (h : Held) (view : View) : Type 0 where

@@ -4,7 +4,7 @@ use Rattle.board.specs.Moment.{View, IsCounter}
 use Rattle.board.specs.declared.Board.{Ghosts}
 use Rattle.epoch.specs.Mounts.{IsKeptFromOpening, IsRefusal}
 use Rattle.epoch.specs.Opening.{header_answer, opens_as}
-use Rattle.tree_paths.specs.Form.{tree_form}
+use Rattle.old_volume.specs.Versions.{volume_form}
 use Rattle.tree_volume.specs.Keepers.{tree_keeper}
 use Rattle.inspect.specs.declared.opening.Opened.{Opened}
 use Rattle.inspect.specs.declared.opening.Unread.{Unread}
@@ -14,12 +14,12 @@ use Rattle.tee_base.specs.Words.{Counter}
 -- no header counts, at a counter that the board may have
 abbrev pub IsBlank : View → Type 0
 IsBlank v = (counter : Counter) × IsCounter v.state counter
-    × (header_answer (opens_as tree_form.known tree_form.blocks v.size v.key v.state.reads counter) ≡ Ok None)
+    × (header_answer (opens_as volume_form.known volume_form.blocks v.size v.key v.state.reads counter) ≡ Ok None)
 
 -- why there is no volume to look at
 abbrev pub IsUnread : View → Unread → Type 0
 IsUnread v Blank = IsBlank v
-IsUnread v (Refused why) = (counter : Counter) × IsRefusal tree_form v v.state.reads counter why
+IsUnread v (Refused why) = (counter : Counter) × IsRefusal volume_form v v.state.reads counter why
 
 -- a sound image is opened to an honest volume, unless it is blank, a call failed or there was no memory
 abbrev pub IsFoundSound : {B : Type 0} {G : Ghosts B} → Result (Opened B G) Unread → Type 0

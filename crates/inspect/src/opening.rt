@@ -6,21 +6,23 @@ ghost use Rattle.board.specs.Runs.{Rests};
 ghost use Rattle.epoch.specs.Forms.{held_in};
 ghost use Rattle.inspect.specs.Openings.{IsFoundSound, IsUnread};
 ghost use Rattle.store_api.specs.Volumes.{Held};
-ghost use Rattle.tree_paths.specs.Form.{tree_form};
+ghost use Rattle.old_volume.specs.Versions.{volume_form};
 ghost use Rattle.tree_paths.specs.declared.places.TheConstants.{TREE_BLOCKS};
 ghost use Rattle.tree_volume.specs.Keepers.{tree_keeper};
 
 use board::Board;
 use epoch::{BoardVolume, OpenAnswer, mount};
+use old_volume::VERSIONS;
 use std::alloc::Global;
 use store_api::Volume;
-use tree_paths::places::TREE;
 use tree_volume::TreeVolume;
 
 /// What the header that counts and the counter say of a volume.
 #[derive(Clone, Copy, Debug, PartialEq, Eq)]
 pub struct Facts {
+    /// Of the header that was found.
     pub version: u32,
+    /// Of the volume as it was opened: one more than that of the header where a volume of version 1 was taken over.
     pub sequence: u64,
     /// The counter as it was before the opening. It may be one behind the sequence.
     pub counter: u64,
@@ -57,11 +59,11 @@ fn open_at<B: Board + Drop>(alloc: Global, board: B, counter: u64) -> Result<Ope
     ensures works { IfOk result (λ o. (tree_keeper.condition o.volume).lost ≡ false) }
     ensures sound { B.honest board → (n : ℕ) (h : Held) → Rests n (B.view board).state
         → TREE_BLOCKS ≤ (B.view board).size
-        → held_in tree_form (B.view board).key (B.view board).state.reads n ≡ Some h
+        → held_in volume_form (B.view board).key (B.view board).state.reads n ≡ Some h
         → IsFoundSound result }
 {
     let mut board = board;
-    let header = match mount(&mut board, TREE) {
+    let header = match mount(&mut board, VERSIONS) {
         Ok(Some(header)) => header,
         Ok(None) => return Err(Unread::Blank),
         Err(why) => return Err(Unread::Refused(why)),
@@ -79,7 +81,7 @@ fn open_at<B: Board + Drop>(alloc: Global, board: B, counter: u64) -> Result<Ope
     }
 }
 
-/// Opens the volume of a board. A blank board isn't formatted.
+/// Opens the volume of a board. A blank board isn't formatted; a volume of version 1 is taken over.
 pub fn open_volume<B: Board + Drop>(alloc: Global, board: B) -> Result<Opened<B>, Unread>
     ensures unread { B.honest board → IfErr result (λ why. IsUnread (B.view board) why) }
     ensures counter { B.honest board
@@ -91,7 +93,7 @@ pub fn open_volume<B: Board + Drop>(alloc: Global, board: B) -> Result<Opened<B>
     // failed or there was no memory
     ensures sound { B.honest board → (n : ℕ) (h : Held) → Rests n (B.view board).state
         → TREE_BLOCKS ≤ (B.view board).size
-        → held_in tree_form (B.view board).key (B.view board).state.reads n ≡ Some h
+        → held_in volume_form (B.view board).key (B.view board).state.reads n ≡ Some h
         → IsFoundSound result }
 {
     let mut board = board;

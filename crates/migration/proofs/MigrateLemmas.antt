@@ -1,5 +1,6 @@
 -- What a migration leaves: a volume of the first version is read, and then one commit is made.
-use Rattle.std.proofs.Common.{◌≡◌, ◌⊎◌, ◌-◌, ◌^◌, ◌∙◌, ℕ, true, List, Option, Some, Result, Ok, Err, IfErr, refl, sym, ap, subst, inl, inr}
+use Rattle.std.proofs.Common.{◌≡◌, ◌⊎◌, ◌-◌, ◌^◌, ◌∙◌, ℕ, true, List, Option, Some, Result, Ok, Err, IfErr, refl, sym, ap, subst, inl, inr, ⊎_elim}
+use Rattle.std.proofs.lemmas.Bool.{false≢true}
 use Rattle.tee_base.specs.Crash.{LeavesOnly}
 use Rattle.tee_base.proofs.Crash.{joined, weaker}
 use Rattle.store_api.specs.Volumes.{Held}
@@ -14,6 +15,7 @@ use Rattle.epoch.specs.Keeping.{Exhausts, IsInUse, held_now}
 use Rattle.epoch.specs.Reading.{OnlyReads}
 use Rattle.epoch.specs.declared.header.TreeEntry.{TreeEntry}
 use Rattle.epoch.proofs.KeepLemmas.{held_same, in_use_same, mounted_held, mounted_in_use, reads_crash}
+use Rattle.old_volume.specs.Answers.{is_of_image}
 use Rattle.old_volume.specs.Versions.{old_root, volume_form}
 use Rattle.old_volume.specs.declared.answer.OldAnswer.{OldAnswer}
 use Rattle.old_volume.specs.declared.answer.OldAnswer.TheVariants as answers
@@ -36,6 +38,19 @@ fits_read old mid keys nodes entry key reads keyed ordered planted = record {
   planted = subst (λ (k : List ℕ). ArePlanted nodes (old_leaves (on_image first_shape k mid.state.reads) entry)) (sym key)
       (subst (λ (r : ℕ → List ℕ). ArePlanted nodes (old_leaves (on_image first_shape old.key r) entry)) (sym reads) planted);
 }
+
+-- a failed call and want of memory are no answers of what was read
+pub of_no_image : (e : OldAnswer) → (e ≡ answers.Failed) ⊎ (e ≡ answers.NoMemory) → is_of_image e ≡ true → ⊥
+of_no_image answers.Failed is of_image = absurd (false≢true of_image)
+of_no_image answers.NoMemory is of_image = absurd (false≢true of_image)
+of_no_image (answers.Mismatch tags) is of_image =
+    ⊎_elim (λ (e : answers.Mismatch tags ≡ answers.Failed). absurd (cc)) (λ (e : answers.Mismatch tags ≡ answers.NoMemory). absurd (cc)) is
+of_no_image (answers.Garbled region leaf) is of_image =
+    ⊎_elim (λ (e : answers.Garbled region leaf ≡ answers.Failed). absurd (cc)) (λ (e : answers.Garbled region leaf ≡ answers.NoMemory). absurd (cc)) is
+
+-- what is told of an answer is told of the result
+pub told_of : {A : Type 0} (result : Result A OldAnswer) (why : OldAnswer) (P : OldAnswer → Type 0) → result ≡ Err why → P why → IfErr result P
+told_of {A} result why P is fact = subst (λ (r : Result A OldAnswer). IfErr r P) (sym is) fact
 
 -- a reading, and a call that leaves the blocks
 pub same_blocks : (old mid new : View) → OnlyReads old mid → SameBlocks mid.state new.state → SameBlocks old.state new.state

@@ -2,7 +2,7 @@
 ghost use Rattle.std.specs.Prelude.{◌≡◌, ◌≢◌, ◌≤◌, ◌<◌, ◌+◌, ◌-◌, ◌^◌, ◌⊎◌, not, ℕ, true, List, Err, IsTrue, IfErr, IfOk};
 ghost use Rattle.tee_base.specs.Faults.{Rose};
 ghost use Rattle.store_api.specs.Volumes.{Held};
-ghost use Rattle.board.specs.Steps.{CallRun, SameBlocks};
+ghost use Rattle.board.specs.Steps.{CallRun, SameBlocks, Unchanged};
 ghost use Rattle.seal.specs.Keys.{AreKeysOf};
 ghost use Rattle.epoch.specs.Alone.{LeavesAlone};
 ghost use Rattle.epoch.specs.Commits.{IsMounted};
@@ -14,7 +14,7 @@ ghost use Rattle.epoch.specs.Past.{KeepsPast};
 ghost use Rattle.tree_paths.specs.Shape.{first_shape};
 ghost use Rattle.tree_paths.specs.Tree.{on_image};
 ghost use Rattle.tree_paths.specs.declared.places.TheConstants.{FIRST_BLOCK};
-ghost use Rattle.old_volume.specs.Answers.{has_failed, no_fault};
+ghost use Rattle.old_volume.specs.Answers.{has_failed, is_of_image, no_fault};
 ghost use Rattle.old_volume.specs.Old.{old_leaves};
 ghost use Rattle.old_volume.specs.Versions.{old_root, volume_form};
 ghost use Rattle.old_volume.specs.declared.answer.OldAnswer.TheVariants as answers;
@@ -115,6 +115,11 @@ pub fn migrate<B: Board>(
         → (B.view board.new).writes ≡ (B.view board.old).writes) }
     ensures unchanged { B.honest board.old → IfErr result (λ why. why ≢ answers.Failed
         → SameBlocks (B.view board.old).state (B.view board.new).state) }
+    // an answer of what was read leaves the board as it was, and a board that tells its reads tells the same
+    ensures same { IsTrue B.tells_reads → IfErr result (λ why. is_of_image why ≡ true
+        → (B.view board.new).state.reads ≡ (B.view board.old).state.reads) }
+    ensures still { B.honest board.old → IfErr result (λ why. is_of_image why ≡ true
+        → Unchanged (B.view board.old).state (B.view board.new).state) }
     // the first two tags that differ on the walk over all places; else the first region that breaks a rule
     ensures answer { IsTrue B.tells_reads → (key : List ℕ) → AreKeysOf keys.now key
         → AnswersOld (on_image first_shape key (B.view board.old).state.reads) root.now result }

@@ -105,7 +105,7 @@ fn stop<V: BoardVolume<MemBoard>>(
     if answer.is_ok() {
         return Ok(Ending::Made);
     }
-    let both = volume.power(pick)? == 3;
+    let both = volume.power(pick)?.sequence == 3;
     let is_there = has_objects(alloc, volume, both)?;
     if is_there && answer == Err(StoreAnswer::Failed) {
         return Ok(Ending::Stopped);

@@ -23,6 +23,7 @@ use Rattle.old_volume.specs.Old.{old_damage, old_leaves}
 use Rattle.old_volume.specs.Versions.{all_stand, is_old, old_uses, volume_form}
 use Rattle.old_volume.specs.declared.versions.TheConstants.{VERSIONS}
 use Rattle.old_volume.proofs.OldLemmas.{no_damage, no_leaf, old_damaged, old_leaf}
+use Rattle.old_volume.proofs.RefusalLemmas.{sealed_taken}
 
 is_itself : (k : ℕ) → (k == k) ≡ true
 is_itself k = grind arith
@@ -152,6 +153,7 @@ volume_framed = record {
       subst (λ (b : Bool).
       (if b then all_stand (old_leaves (on_image first_shape key image) root.entry) else tree_form.sound key image root) ≡ true)
       (sym (blank_new root none)) (form_framed.blank_sound key root image (blank_tree root none));
+  no_refusal = sealed_taken;
 }
 
 -- the versions and the blocks that an opening takes are those of the form

@@ -153,7 +153,7 @@ not_ok (Err e) leaf ok is = absurd (false≢true ok)
 
 module _ (key : List ℕ) (image : ℕ → List ℕ) (root : TreeEntry) (sealed : is_sealed volume_form key image (old_root root) ≡ true) where
   -- the walk finds nothing wrong, since no leaf has a damage
-  sealed_walk : first_wrong (on_image first_shape key image) (old_visits (on_image first_shape key image) root) ≡ None
+  pub sealed_walk : first_wrong (on_image first_shape key image) (old_visits (on_image first_shape key image) root) ≡ None
   sealed_walk =
       walked_right first_shape is_first_shape first_children 3 are_first_children (on_image first_shape key image) (image_skips first_shape key image) root (omega arith)
       (λ r l hr hl.
@@ -161,7 +161,7 @@ module _ (key : List ℕ) (image : ℕ → List ℕ) (root : TreeEntry) (sealed 
       ∙ sealed_each volume_form key (old_root root) image sealed r l hr (omega (arith, hl)))
 
   -- and no region breaks a rule
-  sealed_stands : (region leaf : ℕ) → region < 16 → region_of (layout One) (old_leaves (on_image first_shape key image) root region) ≡ Err leaf → ⊥
+  pub sealed_stands : (region leaf : ℕ) → region < 16 → region_of (layout One) (old_leaves (on_image first_shape key image) root region) ≡ Err leaf → ⊥
   sealed_stands region leaf low broken =
       let stands : all_stand (old_leaves (on_image first_shape key image) root) ≡ true = sealed_sound volume_form key image (old_root root) sealed in
       not_ok (region_of (layout One) (old_leaves (on_image first_shape key image) root region)) leaf

@@ -6,6 +6,8 @@ use Rattle.store_api.specs.declared.answer.Mismatch.{Mismatch}
 use Rattle.store_api.specs.declared.leaves.Leaf.{Leaf}
 use Rattle.store_api.specs.declared.leaves.LeafAnswer.{LeafAnswer}
 use Rattle.store_api.specs.declared.leaves.LeafAnswer.TheVariants as leaf
+use Rattle.epoch.specs.declared.answer.OpenAnswer.{OpenAnswer}
+use Rattle.epoch.specs.declared.answer.OpenAnswer.TheVariants as refusals
 use Rattle.region_plan.specs.Layout.{layout}
 use Rattle.region_plan.specs.Regions.{region_of}
 use Rattle.region_plan.specs.declared.form.Form.TheVariants.{One}
@@ -22,6 +24,19 @@ old_answer (leaf.Mismatch tags) = answers.Mismatch tags
 old_answer leaf.NoMemory = answers.NoMemory
 old_answer leaf.Lost = answers.Failed
 old_answer leaf.Failed = answers.Failed
+
+-- what is answered of a volume of the first version, told of the opening
+abbrev pub open_answer : OldAnswer → OpenAnswer
+open_answer answers.Failed = refusals.Failed
+open_answer answers.NoMemory = refusals.NoMemory
+open_answer (answers.Mismatch tags) = refusals.OldMismatch tags
+open_answer (answers.Garbled region leaf) = refusals.OldGarbled region leaf
+
+-- the answer is of what was read: two tags that differ, or a broken rule
+abbrev pub is_of_image : OldAnswer → Bool
+is_of_image answers.Failed = false
+is_of_image answers.NoMemory = false
+is_of_image _ = true
 
 -- the answer is that a call of the board failed
 abbrev pub has_failed : OldAnswer → Bool

@@ -1,10 +1,13 @@
 -- What stands under a root of the first version, and what its regions become.
-use Rattle.std.specs.Prelude.{◌≡◌, ◌<◌, ◌+◌, ◌*◌, ℕ, nat_lt, if◌then◌else◌, List, [], Option, None, Result, Err, IsTrue, replicate, slice_index_or}
+use Rattle.std.specs.Prelude.{◌≡◌, ◌<◌, ◌+◌, ◌*◌, ℕ, zero, suc, nat_lt, if◌then◌else◌, List, [], Option, None, Some, Result, Ok, Err, IsTrue, replicate, slice_index_or}
 use Rattle.tee_base.specs.Words.{RegionLeaves}
 use Rattle.tee_base.specs.declared.limits.TheConstants.{BLOCK_BYTES, MAX_HOSTS}
 use Rattle.store_api.specs.Ascending.{is_above_all}
 use Rattle.store_api.specs.declared.answer.Mismatch.{Mismatch}
 use Rattle.store_api.specs.declared.leaves.Leaf.{Leaf}
+use Rattle.store_api.specs.Stores.{Store}
+use Rattle.epoch.specs.declared.answer.OpenAnswer.{OpenAnswer}
+use Rattle.epoch.specs.declared.answer.OpenAnswer.TheVariants.{OldGarbled, OldMismatch}
 use Rattle.epoch.specs.declared.header.TreeEntry.{TreeEntry}
 use Rattle.region_plan.specs.Layout.{layout}
 use Rattle.region_plan.specs.Plans.{with_leaves}
@@ -14,7 +17,7 @@ use Rattle.region_convert.specs.Checking.{Stand, leaf_in}
 use Rattle.region_convert.specs.Renumbering.{converted_leaf}
 use Rattle.tree_paths.specs.Shape.{first_shape}
 use Rattle.tree_paths.specs.Tree.{Look, damage_of, text_of}
-use Rattle.tree_paths.specs.Walk.{Visit, first_children, visits}
+use Rattle.tree_paths.specs.Walk.{Visit, Wrong, first_children, first_wrong, visits}
 use Rattle.tree_paths.specs.declared.first_version.TheConstants.{DEPTH, FIRST_GROUP, REGION_LEAVES}
 use Rattle.tree_paths.specs.declared.places.TheConstants as now
 
@@ -41,6 +44,33 @@ module _ (look : Look) (root : TreeEntry) where
   -- the places that a walk over all regions comes to, in its order
   abbrev pub old_visits : List Visit
   old_visits = visits first_children look DEPTH 0 root
+
+-- the least leaf of a region that breaks a rule of the first form, as a refusal; none where the region stands for a store
+abbrev pub garbled_at : ℕ → Result Store ℕ → Option OpenAnswer
+garbled_at region (Ok store) = None
+garbled_at region (Err leaf) = Some (OldGarbled region leaf)
+
+-- two tags that differ, as a refusal
+abbrev pub mismatch_of : Option Wrong → Option OpenAnswer
+mismatch_of (Some wrong) = Some (OldMismatch wrong.tags)
+mismatch_of None = None
+
+-- the first of two refusals
+abbrev pub first_refusal : Option OpenAnswer → Option OpenAnswer → Option OpenAnswer
+first_refusal (Some why) rest = Some why
+first_refusal None rest = rest
+
+-- the first of so many regions that breaks a rule, with the least leaf that does
+unfoldable pub first_garbled : ℕ → (ℕ → RegionLeaves) → Option OpenAnswer
+first_garbled zero regions = None
+first_garbled (suc n) regions =
+    first_refusal (first_garbled n regions) (garbled_at n (region_of (layout One) (regions n)))
+
+-- why a volume of the first version isn't taken over: the first two tags that differ on the walk over all places; where none do, the
+-- first region that breaks a rule, with the least leaf that does
+unfoldable pub old_refusal : Look → TreeEntry → Option OpenAnswer
+old_refusal look root =
+    first_refusal (mismatch_of (first_wrong look (old_visits look root))) (first_garbled MAX_HOSTS (old_leaves look root))
 
 -- these leaves of the second form are what a region of the first one becomes, which stands for a store
 pub record IsConverted (leaves : RegionLeaves) (named : List Leaf) : Type 0 where

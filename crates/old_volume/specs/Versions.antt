@@ -1,5 +1,5 @@
 -- The form of a volume over both versions: the second one is written, and one of the first holds what its regions become.
-use Rattle.std.specs.Prelude.{◌≡◌, ◌+◌, ◌*◌, ◌==◌, ◌&&◌, ◌||◌, ℕ, Bool, true, false, not, nat_lt, is_ok, if◌then◌else◌, List, Option}
+use Rattle.std.specs.Prelude.{◌≡◌, ◌+◌, ◌*◌, ◌==◌, ◌&&◌, ◌||◌, ℕ, Bool, true, false, not, nat_lt, is_ok, if◌then◌else◌, List, Option, None}
 use Rattle.tee_base.specs.Words.{Image, Key, RegionLeaves}
 use Rattle.tee_base.specs.declared.limits.TheConstants.{MAX_HOSTS}
 use Rattle.epoch.specs.Forms.{Form, Root, all_below}
@@ -13,7 +13,7 @@ use Rattle.tree_paths.specs.Shape.{first_shape}
 use Rattle.tree_paths.specs.Tree.{Look, on_image}
 use Rattle.tree_paths.specs.declared.first_version.TheConstants as old
 use Rattle.tree_paths.specs.declared.places.TheConstants as now
-use Rattle.old_volume.specs.Old.{old_damage, old_leaves}
+use Rattle.old_volume.specs.Old.{old_damage, old_leaves, old_refusal}
 
 -- each region stands for a store
 abbrev pub all_stand : (ℕ → RegionLeaves) → Bool
@@ -32,7 +32,7 @@ abbrev pub old_uses : Look → TreeEntry → ℕ → Bool
 old_uses look root k = nat_lt k old.BLOCKS && tree_uses first_shape look root k
 
 -- the form of a volume of either version: under a root of the first one its leaves are those that the regions become, and it is
--- sound where each region stands for a store
+-- sound where each region stands for a store; an image that isn't sound is refused then
 abbrev pub volume_form : Form
 volume_form = record {
   version = now.TREE_VERSION;
@@ -51,4 +51,6 @@ volume_form = record {
   uses = λ key image root k.
       if is_old root then old_uses (on_image first_shape key image) root.entry k
       else tree_form.uses key image root k;
+  refuses = λ key image root.
+      if is_old root then old_refusal (on_image first_shape key image) root.entry else None;
 }

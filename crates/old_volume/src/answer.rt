@@ -2,6 +2,7 @@
 ghost use Rattle.std.specs.Prelude.{◌≡◌};
 ghost use Rattle.old_volume.specs.Answers.{old_answer};
 
+use epoch::OpenAnswer;
 use store_api::{LeafAnswer, Mismatch};
 use tee_base::NoMemory;
 use thiserror::Error;
@@ -45,6 +46,22 @@ impl From<LeafAnswer> for OldAnswer {
             LeafAnswer::Mismatch(tags) => OldAnswer::Mismatch(tags),
             LeafAnswer::NoMemory => OldAnswer::NoMemory,
             LeafAnswer::Lost | LeafAnswer::Failed => OldAnswer::Failed,
+        }
+    }
+}
+
+impl From<OldAnswer> for OpenAnswer {
+    ghost use Rattle.std.specs.Prelude.{◌≡◌};
+    ghost use Rattle.old_volume.specs.Answers.{open_answer};
+
+    ghost from_gives = { λ old answer. answer ≡ open_answer old };
+
+    fn from(answer: OldAnswer) -> OpenAnswer {
+        match answer {
+            OldAnswer::Failed => OpenAnswer::Failed,
+            OldAnswer::NoMemory => OpenAnswer::NoMemory,
+            OldAnswer::Mismatch(tags) => OpenAnswer::OldMismatch(tags),
+            OldAnswer::Garbled { region, leaf } => OpenAnswer::OldGarbled { region, leaf },
         }
     }
 }

@@ -1,5 +1,5 @@
 -- The form of a volume whose entries stand in a tree: the ways from the root down to the leaves.
-use Rattle.std.specs.Prelude.{ℕ, ◌+◌, ◌-◌, ◌*◌, ◌/◌, ◌%◌, ◌==◌, ◌&&◌, nat_lt, Bool, true}
+use Rattle.std.specs.Prelude.{ℕ, ◌+◌, ◌-◌, ◌*◌, ◌/◌, ◌%◌, ◌==◌, ◌&&◌, nat_lt, Bool, true, None}
 use Rattle.epoch.specs.Forms.{Form, Root}
 use Rattle.epoch.specs.declared.header.TreeEntry.{TreeEntry}
 use Rattle.tree_paths.specs.Shape.{Shape, shape}
@@ -25,6 +25,7 @@ tree s = record {
       text_of s (on_image s key image) root.entry (s.leaf_place region leaf);
   sound = λ key image root. true;
   uses = λ key image root. tree_uses s (on_image s key image) root.entry;
+  refuses = λ key image root. None;
 }
 
 -- the root of a tree with this entry

@@ -1,19 +1,16 @@
 -- The laws of the form of a tree: what its leaves rest on, and what a root of sequence 0 stands for.
-use Rattle.std.proofs.Common.{◌≡◌, ◌≢◌, ◌≤◌, ◌<◌, ◌+◌, ◌-◌, ◌*◌, ◌/◌, ◌%◌, ◌==◌, ◌||◌, ◌∙◌, if◌then◌else◌, not, ℕ}
-use Rattle.std.proofs.Common.{zero, suc, true, false, nat_lt, List, Option, None, take, replicate, refl, ap, subst, ⊎_elim, arith}
+use Rattle.std.proofs.Common.{◌≡◌, ◌≤◌, ◌<◌, ◌+◌, ◌-◌, ◌*◌, ◌/◌, ◌%◌, ◌==◌, ◌∙◌, if◌then◌else◌, ℕ}
+use Rattle.std.proofs.Common.{zero, suc, true, false, nat_lt, List, Option, None, take, replicate, refl, ap, subst, arith}
 use Rattle.std.specs.Int.{w64, from_le_bytes}
-use Rattle.std.proofs.lemmas.Bool.{cases_eq, cases_lt}
 use Rattle.std.proofs.lemmas.Bool.Decides.{nat_tests}
 use Rattle.std.proofs.lemmas.List.{drop-replicate, take-replicate}
 use Rattle.tee_base.specs.declared.limits.TheConstants.{BLOCK_BYTES}
 use Rattle.store_api.specs.declared.answer.Mismatch.{Mismatch}
-use Rattle.epoch.specs.Formats.{IsFormatOf}
 use Rattle.epoch.specs.Forms.{IsFramed}
 use Rattle.epoch.specs.Header.{entry_at}
 use Rattle.epoch.specs.Parts.{part}
 use Rattle.epoch.specs.declared.header.TreeEntry.{TreeEntry}
 use Rattle.tree_paths.specs.Form.{tree, tree_form, tree_uses}
-use Rattle.tree_paths.specs.declared.places.TheConstants.{TREE}
 use Rattle.tree_paths.specs.Shape.{IsShape, Shape, shape}
 use Rattle.epoch.specs.Copies.{copy_of, difference, first_damage}
 use Rattle.tree_paths.specs.Tree.{Found, Look, block_at, damage_at, damage_below, entry_below, entry_of, on_image}
@@ -151,35 +148,9 @@ tree_framed s is = record {
       (found_zero s key image place (entry_of s (on_image s key image) root.entry place)
       (zero_below s is key root.entry image none.sequence (s.level place) place (is.leaf_inside region leaf r l) refl)));
   blank_sound = λ key root image none. refl;
+  no_refusal = λ key root image sealed. refl;
 }
 
--- one version alone is accepted
-pub one_alone : (n version : ℕ) → (version == n) ≡ not (nat_lt version n || nat_lt n version)
-one_alone n version =
-    ⊎_elim
-    (λ (same : version ≡ n).
-    let yes : (version == n) ≡ true = grind (arith, nat_tests) in
-    let below : nat_lt version n ≡ false = grind (arith, nat_tests) in
-    let above : nat_lt n version ≡ false = grind (arith, nat_tests) in
-    rw (yes, below, above) refl)
-    (λ (ne : version ≢ n).
-    let no : (version == n) ≡ false = grind arith in
-    ⊎_elim
-    (λ (less : version < n). let below : nat_lt version n ≡ true = grind (arith, nat_tests) in rw (no, below) refl)
-    (λ (more : n ≤ version).
-    let below : nat_lt version n ≡ false = grind (arith, nat_tests) in
-    let above : nat_lt n version ≡ true = grind (arith, nat_tests) in
-    rw (no, below, above) refl)
-    (cases_lt version n))
-    (cases_eq version n)
-
--- the form that is written, and what an opening takes of it
+-- the form that is written
 pub form_framed : IsFramed tree_form
 form_framed = tree_framed shape is_shape
-
-pub tree_format : IsFormatOf tree_form TREE
-tree_format = record { known = λ i version. one_alone 2 version i; blocks = refl }
-
--- what is accepted is what is written
-pub tree_single : (version : ℕ) → (version == 2) ≡ true → (version == 2) ≡ true
-tree_single version is = is

@@ -4,7 +4,7 @@ ghost use Rattle.tee_base.specs.declared.limits.TheConstants.{MAX_HOSTS};
 ghost use Rattle.tree_paths.specs.Shape.{shape};
 ghost use Rattle.tree_paths.specs.Tree.{block_at as block_of_copy};
 
-use epoch::{Format, named_copy};
+use epoch::named_copy;
 
 /// The version that the header of a volume has.
 pub const TREE_VERSION: u32 = 2;
@@ -14,13 +14,6 @@ pub const FIRST_BLOCK: u64 = 8_742;
 
 /// How many blocks a volume has.
 pub const TREE_BLOCKS: u64 = 43_720;
-
-/// What an opening takes of the form.
-pub const TREE: Format = Format {
-    oldest: TREE_VERSION,
-    newest: TREE_VERSION,
-    blocks: TREE_BLOCKS,
-};
 
 /// How many entries fit into a node.
 pub const FAN: u64 = 16;

@@ -1,2 +1,5 @@
+pub mod AnewLemmas
 pub mod OpenLemmas
+pub mod ReopenLemmas
+pub mod TakeLemmas
 pub mod VolumeLemmas

@@ -1,6 +1,6 @@
 -- The calls of a volume: what its leaves are, what a read leaves, and what a commit leaves that came no further than its reads.
 use Rattle.std.proofs.Common.{◌≡◌, ◌≢◌, ◌≤◌, ◌<◌, ◌∙◌, if◌then◌else◌, ℕ, zero, suc, true, false, nat_lt, List, [], ◌∷◌}
-use Rattle.std.proofs.Common.{Option, None, Some, Err, All, replicate, refl, sym, ap, subst, ⊎_elim, arith}
+use Rattle.std.proofs.Common.{Option, None, Some, Result, Ok, OnOk, Err, All, replicate, refl, sym, ap, subst, ⊎_elim, arith}
 use Rattle.std.specs.List.{list_all}
 use Rattle.std.proofs.lemmas.Bool.{cases_eq}
 use Rattle.std.proofs.lemmas.Bool.Decides.{nat_tests}
@@ -15,14 +15,16 @@ use Rattle.store_api.specs.Volumes.{Held, IfMismatch, LeftByCommit, after_commit
 use Rattle.board.specs.Moment.{View, left_since, moment}
 use Rattle.seal.specs.Keys.{AreKeysOf}
 use Rattle.seal.specs.declared.keys.Keys.{Keys}
-use Rattle.epoch.specs.Forms.{held_of, is_leaf, leaves_of}
+use Rattle.epoch.specs.Forms.{held_of, is_leaf, is_sealed, leaves_of}
 use Rattle.epoch.specs.Reading.{OnlyReads, is_failure}
 use Rattle.epoch.specs.declared.header.TreeEntry.{TreeEntry}
 use Rattle.epoch.proofs.CommitLemmas.{first_true, sealed_each, second_true}
 use Rattle.epoch.proofs.KeepLemmas.{held_same, in_use_same, leaf_is, left_before, reads_crash, steady_in_use, steady_read}
 use Rattle.tree_commits.specs.Change.{FitsTree}
 use Rattle.tree_paths.specs.Form.{form_root, tree_form}
-use Rattle.tree_paths.specs.Frame.{form_framed}
+use Rattle.old_volume.proofs.NewLemmas.{new_sealed}
+use Rattle.old_volume.specs.Versions.{volume_form}
+use Rattle.old_volume.proofs.FramedLemmas.{volume_framed}
 use Rattle.tree_commits.specs.Gather.{AreTrue}
 use Rattle.tree_volume.specs.Keeping.{IsOpen, Replaces, StaysOpen, damage_now, held_now, text_now}
 use Rattle.tree_volume.specs.Opens.{IsBlankNode}
@@ -47,7 +49,7 @@ damage_is view root region leaf r l =
 
 -- and its bytes
 pub leaf_text_is : (key : List ℕ) (image : ℕ → List ℕ) (root : TreeEntry) (region leaf : ℕ) → region < MAX_HOSTS → leaf < 1024
-    → text_of shape (on_image shape key image) root (shape.leaf_place region leaf) ≡ leaves_of tree_form key image (form_root root) region leaf
+    → text_of shape (on_image shape key image) root (shape.leaf_place region leaf) ≡ leaves_of volume_form key image (form_root root) region leaf
 unfolding leaves_of
 leaf_text_is key image root region leaf r l =
     let there : is_leaf 1024 region leaf ≡ true = leaf_is 1024 region leaf r l in
@@ -65,7 +67,7 @@ damage_same old new root key reads = λ i region leaf.
 
 -- and the same leaves
 pub text_same : (old new : View) (root : TreeEntry) → new.key ≡ old.key → new.state.reads ≡ old.state.reads → text_now new root ≡ text_now old root
-text_same old new root key reads = λ i. leaves_of tree_form (key i) (reads i) (form_root root)
+text_same old new root key reads = λ i. leaves_of volume_form (key i) (reads i) (form_root root)
 
 -- leaves whose numbers are all below one
 pub above_all : (leaves : List Leaf) (n m : ℕ) → is_above_all leaves n ≡ true → n ≤ m → All (λ leaf. leaf.number < m) leaves
@@ -99,7 +101,7 @@ pub no_damage : (A B : Type 0) (e : LeafAnswer) (view : View) (root : TreeEntry)
 no_damage A B e view root sequence region is r shows =
     mismatch_told A B e (IsOfLeaf view root region) (λ (tags : Mismatch). ⊥)
     (λ tags shown. (
-    let none = sealed_each tree_form view.key (form_root root) view.state.reads is.sealed region shown.0 r shown.1 in
+    let none = sealed_each volume_form view.key (form_root root) view.state.reads is.sealed region shown.0 r shown.1 in
     let both : Some tags ≡ None = sym shown.2 ∙ none in
     absurd (cc)
     )) shows
@@ -119,13 +121,13 @@ read_replaces region named e before old new is key only r shows =
     let held : Held = held_now old before.root before.sequence in
     record {
       undamaged = no_damage Touched Opened e old before.root before.sequence region is r shows;
-      stays = stays_read e before new (in_use_same tree_form form_framed old new (form_root before.root) before.sequence key only.state is);
-      steady = steady_read tree_form form_framed old new (form_root before.root) key only.state (steady_in_use tree_form form_framed old (form_root before.root) before.sequence is);
-      commits = held_same tree_form form_framed old new (form_root before.root) before.sequence key only.state.reads;
-      crash = weaker moment left_since old new (λ c. held_of tree_form old.key c ≡ Some held)
-          (λ c. LeftByCommit (Err e) held (after_commit region named held) (held_of tree_form old.key c))
-          (λ c same. left_before (Err e) held (after_commit region named held) (held_of tree_form old.key c) same)
-          (reads_crash tree_form form_framed old new (form_root before.root) before.sequence is only);
+      stays = stays_read e before new (in_use_same volume_form volume_framed old new (form_root before.root) before.sequence key only.state is);
+      steady = steady_read volume_form volume_framed old new (form_root before.root) key only.state (steady_in_use volume_form volume_framed old (form_root before.root) before.sequence is);
+      commits = held_same volume_form volume_framed old new (form_root before.root) before.sequence key only.state.reads;
+      crash = weaker moment left_since old new (λ c. held_of volume_form old.key c ≡ Some held)
+          (λ c. LeftByCommit (Err e) held (after_commit region named held) (held_of volume_form old.key c))
+          (λ c same. left_before (Err e) held (after_commit region named held) (held_of volume_form old.key c) same)
+          (reads_crash volume_form volume_framed old new (form_root before.root) before.sequence is only);
     }
 
 -- a volume that isn't lost by what a commit answers is open
@@ -183,3 +185,9 @@ module _ (key : List ℕ) (reads : ℕ → List ℕ) where
 
 pub blank_fits : (keys : Keys) (nodes : List Node) (key : List ℕ) (reads : ℕ → List ℕ) → AreKeysOf keys key → IsBlankNode nodes → FitsTree keys nodes 0 [] NO_ROOT key reads
 blank_fits keys nodes key reads keyed is = subst (λ (l : List Node). FitsTree keys l 0 [] NO_ROOT key reads) (sym is) (blank_stands key reads keys keyed)
+
+-- where a verification is Ok the root seals the leaves
+pub on_new : {A E : Type 0} (key : List ℕ) (image : ℕ → List ℕ) (root : TreeEntry) (r : Result A E) → OnOk r (is_sealed tree_form key image (form_root root) ≡ true)
+    → OnOk r (is_sealed volume_form key image (form_root root) ≡ true)
+on_new key image root (Ok done) is = new_sealed key image root ∙ is
+on_new key image root (Err why) is = tt

@@ -7,8 +7,9 @@ use Rattle.board.specs.declared.Board.{Ghosts}
 use Rattle.epoch.specs.Commits.{IsSteady}
 use Rattle.epoch.specs.Forms.{held_of}
 use Rattle.tree_paths.specs.declared.places.TheConstants.{REGION_LEAVES}
-use Rattle.tree_paths.specs.Form.{form_root, tree_form}
-use Rattle.tree_volume.specs.Keeping.{IsOpen, damage_now, held_now, text_now}
+use Rattle.tree_paths.specs.Form.{form_root}
+use Rattle.old_volume.specs.Versions.{volume_form}
+use Rattle.tree_volume.specs.Keeping.{IsAnew, IsOpen, damage_now, held_now, text_now}
 use Rattle.tree_volume.specs.declared.volume.TreeVolume.{TreeVolume}
 
 -- what it holds, finds and leaves to a crash is by its board and its root; of the leaves of a region those are read and written that
@@ -31,9 +32,10 @@ tree_keeper {B} {G} = record {
   honest_below = λ v. G.honest v.board;
   honest = λ v. G.honest v.board
       × (v.lost ≡ false → IsOpen (G.view v.board) v.root v.sequence)
-      × IsSteady tree_form (G.view v.board).key (form_root v.root) (G.view v.board).state;
+      × IsSteady volume_form (G.view v.board).key (form_root v.root) (G.view v.board).state
+      × IsAnew (G.view v.board);
   text = λ v. text_now (G.view v.board) v.root;
   damage = λ v. damage_now (G.view v.board) v.root;
   moment = λ v. moment (G.view v.board);
-  left_since = λ v. read_as (held_of tree_form (G.view v.board).key) (left_since (G.view v.board));
+  left_since = λ v. read_as (held_of volume_form (G.view v.board).key) (left_since (G.view v.board));
 }

@@ -4,4 +4,5 @@ pub mod Keyed
 pub mod Made
 pub mod Opens
 pub mod Soundness
+pub mod Taking
 pub mod Verify

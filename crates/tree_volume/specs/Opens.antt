@@ -6,7 +6,7 @@ use Rattle.board.specs.Moment.{View}
 use Rattle.epoch.specs.Opens.{Opens as OpensAs}
 use Rattle.epoch.specs.declared.answer.OpenAnswer.{OpenAnswer}
 use Rattle.epoch.specs.declared.taking.TheConstants.{NO_ROOT}
-use Rattle.tree_paths.specs.Form.{tree_form}
+use Rattle.old_volume.specs.Versions.{volume_form}
 use Rattle.tree_volume.specs.Keeping.{IsOpen, held_now}
 use Rattle.tree_commits.specs.declared.touched.Node.{Node}
 use Rattle.tree_volume.specs.declared.volume.Opened.{Opened}
@@ -26,4 +26,4 @@ held_after o view = held_now view o.root o.sequence
 
 -- a board that held this is open with that, or a call failed, or there was no memory; a crash leaves one of the two
 abbrev pub Opens : Held → Held → Result Opened OpenAnswer → View → View → Type 0
-Opens = OpensAs tree_form IsOpenAs held_after
+Opens = OpensAs volume_form IsOpenAs held_after

@@ -1,42 +1,46 @@
 //! How a volume is opened and formatted, and opened again.
-ghost use Rattle.std.specs.Prelude.{◌≡◌, ◌≢◌, ◌≤◌, ◌<◌, ℕ, true, false, None, Some, Err, IsTrue, IfOk, IfErr, OnOk, OnErr, refl};
+ghost use Rattle.std.specs.Prelude.{◌≡◌, ◌≢◌, ◌≤◌, ◌<◌, ◌==◌, ℕ, true, false, None, Some, Err, IsTrue, IfOk, IfErr, OnOk, OnErr, refl};
 ghost use Rattle.tee_base.specs.Faults.{Rose};
 ghost use Rattle.store_api.specs.Volumes.{Held};
 ghost use Rattle.board.specs.Moment.{IsCounter};
 ghost use Rattle.board.specs.Runs.{Rests};
 ghost use Rattle.board.specs.Steps.{CallRun, SameBlocks};
 ghost use Rattle.epoch.specs.Alone.{LeavesAlone};
-ghost use Rattle.epoch.specs.Finding.{IsSettledAt, sequence_of};
-ghost use Rattle.epoch.specs.Formats.{IsAccepted};
+ghost use Rattle.epoch.specs.Finding.{IsSettledAt};
 ghost use Rattle.epoch.specs.Forms.{held_in};
 ghost use Rattle.epoch.specs.Mounting.{MountsTo, after_found, after_opening};
-ghost use Rattle.epoch.specs.Mounts.{IsAdmitted, IsKeptFromOpening, IsRefusal, IsRefusedNow, TakesUp};
+ghost use Rattle.epoch.specs.Mounts.{IsAdmitted, IsFound, IsKeptFromOpening, IsRefusal, IsRefusalOver, IsRefusedNow, TakesUp};
+ghost use Rattle.epoch.specs.Reopening.{reopened_of, sequence_after};
+ghost use Rattle.epoch.specs.Formats.{IsAccepted, accepts};
+ghost use Rattle.old_volume.specs.Answers.{open_answer};
 ghost use Rattle.epoch.specs.Opening.{no_failure};
-ghost use Rattle.epoch.specs.Opens.{entry_found};
 ghost use Rattle.epoch.specs.Past.{KeepsPast};
 ghost use Rattle.epoch.specs.declared.answer.OpenAnswer.TheVariants as refusals;
-ghost use Rattle.epoch.specs.declared.header.Header.{Header as Kept};
 ghost use Rattle.node_cache.specs.Kept.{HoldsNothing};
 ghost use Rattle.seal.specs.Keys.{AreKeysOf};
 ghost use Rattle.tree_paths.specs.declared.places.TheConstants.{FIRST_BLOCK};
-ghost use Rattle.tree_paths.specs.Form.{form_root, tree_form};
+ghost use Rattle.tree_paths.specs.Form.{form_root};
+ghost use Rattle.old_volume.specs.Versions.{volume_form};
 ghost use Rattle.tree_volume.specs.Keeping.{IsOpen, held_now};
 ghost use Rattle.tree_volume.specs.Soundness.{damage_formed, text_formed};
 ghost use Rattle.tree_volume.specs.Opens.{IsBlankNode, Opens};
+ghost use Rattle.tree_volume.specs.Taking.{Takes, TakesByForm, TakesHonestly};
 
 use crate::volume::{Opened, TreeVolume};
 use board::Board;
 use epoch::{
-    BLANK, BoardVolume, FORMATTED, Header, NO_ROOT, OpenAnswer, Unopened, commit, mount,
-    mount_after_power, mount_again, taken_from,
+    BLANK, BoardVolume, FORMATTED, Header, NO_ROOT, OpenAnswer, Reopened, Unopened, commit, mount,
+    mount_after_power, mount_again, reopened_from,
 };
+use migration::migrate;
+use old_volume::{OldAnswer, VERSIONS};
 use seal::Keys;
 use std::alloc::Global;
 use tree_commits::{Node, Touched, TreeChange};
 use tree_paths::Nodes;
-use tree_paths::places::{TREE, TREE_BLOCKS};
+use tree_paths::places::{TREE_BLOCKS, TREE_VERSION};
 
-/// Opens a board; one that is blank is formatted.
+/// Opens a board; one that is blank is formatted, and a volume of version 1 is taken over.
 fn open_board<B: Board>(alloc: Global, board: &mut B, keys: &Keys) -> Result<Opened, OpenAnswer>
     requires keyed { AreKeysOf keys.now (B.view board.old).key }
     ensures calls { CallRun (no_failure result) (B.view board.old) (B.view board.new) }
@@ -56,24 +60,24 @@ fn open_board<B: Board>(alloc: Global, board: &mut B, keys: &Keys) -> Result<Ope
     ensures alone { B.honest board.old → LeavesAlone (λ k. (3 < k) × (k < FIRST_BLOCK))
         (B.view board.old) (B.view board.new) }
     ensures rule { IsTrue B.tells_reads → (counter : ℕ)
-        × IfErr result (λ why. IsRefusal tree_form (B.view board.old)
-        (B.view board.old).state.reads counter why)
-        × IfOk result (λ o. IsAdmitted tree_form (B.view board.old)
+        × IfErr result (λ why. IsRefusalOver volume_form (B.view board.old)
+        (B.view board.new).state.reads counter why)
+        × IfOk result (λ o. IsFound volume_form (B.view board.old)
         (B.view board.old).state.reads counter FORMATTED o.sequence (form_root o.root)) }
     ensures exact { B.honest board.old → (counter : ℕ) × IsCounter (B.view board.old).state counter
-        × IfErr result (λ why. IsRefusal tree_form (B.view board.old)
+        × IfErr result (λ why. IsRefusal volume_form (B.view board.old)
         (B.view board.old).state.reads counter why)
-        × IfOk result (λ o. IsAdmitted tree_form (B.view board.old)
+        × IfOk result (λ o. IsAdmitted volume_form (B.view board.old)
         (B.view board.old).state.reads counter FORMATTED o.sequence (form_root o.root)) }
     ensures refusal { B.honest board.old
-        → IfErr result (λ why. IsRefusedNow tree_form (B.view board.new) why) }
+        → IfErr result (λ why. IsRefusedNow volume_form (B.view board.new) why) }
     ensures opens { B.honest board.old → (n : ℕ) (h : Held) → Rests n (B.view board.old).state
         → TREE_BLOCKS ≤ (B.view board.old).size
-        → held_in tree_form (B.view board.old).key (B.view board.old).state.reads n ≡ Some h
-        → Opens h (after_opening tree_form (B.view board.old) h) result (B.view board.old)
+        → held_in volume_form (B.view board.old).key (B.view board.old).state.reads n ≡ Some h
+        → Opens h (after_opening volume_form (B.view board.old) h) result (B.view board.old)
         (B.view board.new) }
 {
-    let found = mount(board, TREE)?;
+    let found = mount(board, VERSIONS)?;
     take_up(alloc, board, keys, found)
 }
 
@@ -86,44 +90,110 @@ fn take_up<B: Board>(
 ) -> Result<Opened, OpenAnswer>
     requires size { TREE_BLOCKS ≤ (B.view board.old).size }
     requires keyed { AreKeysOf keys.now (B.view board.old).key }
-    requires accepted { IsAccepted TREE found }
-    ensures calls { CallRun (no_failure result) (B.view board.old) (B.view board.new) }
-    ensures cause { result ≡ Err refusals.Failed
-        → Rose (B.view board.old).state.faults (B.view board.new).state.faults }
-    ensures kept { IfErr result (λ why. IsKeptFromOpening why) }
-    // what isn't opened for another cause than a failed call is as it was
-    ensures unwritten { IfErr result (λ why. why ≢ refusals.Failed
-        → (B.view board.new).writes ≡ (B.view board.old).writes) }
-    ensures unchanged { B.honest board.old → IfErr result (λ why. why ≢ refusals.Failed
-        → SameBlocks (B.view board.old).state (B.view board.new).state) }
-    ensures honest { B.honest board.old → B.honest board.new }
-    ensures past { B.honest board.old → KeepsPast (B.view board.old) (B.view board.new) }
-    ensures alone { B.honest board.old → LeavesAlone (λ k. (3 < k) × (k < FIRST_BLOCK))
+    requires accepted { IsAccepted VERSIONS found }
+    ensures takes { Takes found result (B.view board.old) (B.view board.new) }
+    ensures told { IsTrue B.tells_reads → TakesByForm found result
         (B.view board.old) (B.view board.new) }
-    ensures counter { B.honest board.old
-        → IsSettledAt (sequence_of found) (B.view board.old).state
-        → IfOk result (λ o. IsSettledAt o.sequence (B.view board.new).state) }
-    ensures same { (header : Kept) → found ≡ Some header
-        → (B.view board.new ≡ B.view board.old) × OnErr result ⊥ }
+    ensures honest { B.honest board.old → B.honest board.new
+        × TakesHonestly found result (B.view board.old) (B.view board.new) }
     ensures taken { IfOk result (λ o.
-        TakesUp tree_form found FORMATTED o.sequence (form_root o.root)) }
+        TakesUp volume_form found FORMATTED o.sequence (form_root o.root)) }
     ensures opens { B.honest board.old → (h : Held)
-        → MountsTo tree_form (B.view board.old).key h (B.view board.old).state found
-        → Opens h (after_found found h) result (B.view board.old) (B.view board.new) }
+        → MountsTo volume_form (B.view board.old).key h (B.view board.old).state found
+        → Opens h (after_found volume_form found h) result (B.view board.old) (B.view board.new) }
 {
     match found {
-        Some(_) => Ok(opened_at(found)),
+        Some(header) => take_header(alloc, board, keys, header),
         None => format_board(alloc, board, keys),
     }
 }
 
-/// The root and the sequence of the header that was found; where none counts, no root, at the sequence 0.
-fn opened_at(found: Option<Header>) -> Opened
-    ensures root { result.root ≡ entry_found found }
-    ensures sequence { result.sequence ≡ sequence_of found }
+/// Takes up the header that was found; where there is none, the volume is empty, at the sequence 0, and nothing is written.
+fn take_again<B: Board>(
+    alloc: Global,
+    board: &mut B,
+    keys: &Keys,
+    found: Option<Header>,
+) -> Result<Opened, OpenAnswer>
+    requires size { TREE_BLOCKS ≤ (B.view board.old).size }
+    requires keyed { AreKeysOf keys.now (B.view board.old).key }
+    requires accepted { IsAccepted VERSIONS found }
+    ensures takes { Takes found result (B.view board.old) (B.view board.new) }
+    ensures told { IsTrue B.tells_reads → TakesByForm found result
+        (B.view board.old) (B.view board.new) }
+    ensures honest { B.honest board.old → B.honest board.new
+        × TakesHonestly found result (B.view board.old) (B.view board.new) }
+    ensures taken { IfOk result (λ o.
+        TakesUp volume_form found BLANK o.sequence (form_root o.root)) }
+    ensures sequence { IfOk result (λ o.
+        o.sequence ≡ sequence_after (reopened_of TREE_VERSION found)) }
+    // nothing is called where no header counts, or it is of the version that is written
+    ensures same { (reopened_of TREE_VERSION found).rewritten ≡ false
+        → (B.view board.new ≡ B.view board.old) × OnErr result ⊥ }
+    ensures opened { (reopened_of TREE_VERSION found).rewritten ≡ false → (h : Held)
+        → MountsTo volume_form (B.view board.old).key h (B.view board.old).state found
+        → IfOk result (λ o. IsOpen (B.view board.old) o.root o.sequence
+        × (held_now (B.view board.old) o.root o.sequence ≡ h)) }
 {
-    let (root, sequence) = taken_from(found);
-    Opened { root, sequence }
+    match found {
+        Some(header) => take_header(alloc, board, keys, header),
+        None => Ok(Opened {
+            root: NO_ROOT,
+            sequence: BLANK,
+        }),
+    }
+}
+
+/// Takes up a header: one of the version that is written as it is, and a volume of version 1 is taken over.
+fn take_header<B: Board>(
+    alloc: Global,
+    board: &mut B,
+    keys: &Keys,
+    header: Header,
+) -> Result<Opened, OpenAnswer>
+    requires size { TREE_BLOCKS ≤ (B.view board.old).size }
+    requires keyed { AreKeysOf keys.now (B.view board.old).key }
+    requires accepted { accepts VERSIONS header.version ≡ true }
+    ensures takes { Takes (Some header) result (B.view board.old) (B.view board.new) }
+    ensures told { IsTrue B.tells_reads → TakesByForm (Some header) result
+        (B.view board.old) (B.view board.new) }
+    ensures honest { B.honest board.old → B.honest board.new
+        × TakesHonestly (Some header) result (B.view board.old) (B.view board.new) }
+    ensures taken { IfOk result (λ o. (blank : ℕ)
+        → TakesUp volume_form (Some header) blank o.sequence (form_root o.root)) }
+    ensures sequence { IfOk result (λ o.
+        o.sequence ≡ sequence_after (reopened_of TREE_VERSION (Some header))) }
+    ensures same { (header.version == TREE_VERSION) ≡ true
+        → (B.view board.new ≡ B.view board.old) × OnErr result ⊥ }
+    ensures opens { B.honest board.old → (h : Held)
+        → MountsTo volume_form (B.view board.old).key h (B.view board.old).state (Some header)
+        → Opens h (after_found volume_form (Some header) h) result
+        (B.view board.old) (B.view board.new) }
+    ensures opened { (header.version == TREE_VERSION) ≡ true → (h : Held)
+        → MountsTo volume_form (B.view board.old).key h (B.view board.old).state (Some header)
+        → IfOk result (λ o. IsOpen (B.view board.old) o.root o.sequence
+        × (held_now (B.view board.old) o.root o.sequence ≡ h)) }
+{
+    if header.version == TREE_VERSION {
+        return Ok(Opened {
+            root: header.root,
+            sequence: header.sequence,
+        });
+    }
+    match migrate(alloc, board, keys, &header.root, header.sequence) {
+        Ok(root) => Ok(Opened {
+            root,
+            sequence: root.sequence,
+        }),
+        Err(why) => Err(refusal_from(why)),
+    }
+}
+
+/// What is answered of a volume of version 1, told of the opening.
+fn refusal_from(why: OldAnswer) -> OpenAnswer
+    ensures { result ≡ open_answer why }
+{
+    OpenAnswer::from(why)
 }
 
 /// Formats a blank board: a commit of no leaf to the sequence 1.
@@ -148,8 +218,8 @@ fn format_board<B: Board>(alloc: Global, board: &mut B, keys: &Keys) -> Result<O
     ensures alone { B.honest board.old → LeavesAlone (λ k. (3 < k) × (k < FIRST_BLOCK))
         (B.view board.old) (B.view board.new) }
     ensures opens { B.honest board.old → (h : Held)
-        → MountsTo tree_form (B.view board.old).key h (B.view board.old).state None
-        → Opens h (after_found None h) result (B.view board.old) (B.view board.new) }
+        → MountsTo volume_form (B.view board.old).key h (B.view board.old).state None
+        → Opens h (after_found volume_form None h) result (B.view board.old) (B.view board.new) }
 {
     let mut change = TreeChange {
         keys,
@@ -180,30 +250,23 @@ fn blank_node(alloc: Global) -> Result<Touched, OpenAnswer>
 }
 
 impl<B: Board + Drop> TreeVolume<B> {
-    /// Takes up what was found on the board of a lost volume, and gives the sequence. Where no header counts, the volume is
-    /// empty, at the sequence 0, and nothing is written.
-    fn resume(&mut self, found: Option<Header>) -> u64
-        requires accepted { IsAccepted TREE found }
+    /// Takes up what was opened on the board of a lost volume.
+    fn resume(&mut self, opened: Opened)
         requires nothing { HoldsNothing self.old.nodes.kept }
         ensures board { self.new.board ≡ self.old.board }
         ensures works { self.new.lost ≡ false }
-        ensures sequence { self.new.sequence ≡ result }
-        ensures found { TakesUp tree_form found BLANK result (form_root self.new.root) }
-        ensures opened { (h : Held)
-            → MountsTo tree_form (B.view self.old.board).key h (B.view self.old.board).state found
-            → IsOpen (B.view self.new.board) self.new.root self.new.sequence
-            × (held_now (B.view self.new.board) self.new.root self.new.sequence ≡ h) }
+        ensures root { self.new.root ≡ opened.root }
+        ensures sequence { self.new.sequence ≡ opened.sequence }
     {
-        let Opened { root, sequence } = opened_at(found);
+        let Opened { root, sequence } = opened;
         self.root = root;
         self.sequence = sequence;
         self.lost = false;
-        sequence
     }
 }
 
 impl<B: Board + Drop> BoardVolume<B> for TreeVolume<B> {
-    ghost form = { tree_form };
+    ghost form = { volume_form };
 
     ghost board_of = { λ v. v.board };
 
@@ -229,6 +292,8 @@ impl<B: Board + Drop> BoardVolume<B> for TreeVolume<B> {
     } };
 
     ghost honest_board = { λ v h. h.0 };
+
+    ghost written = { λ v h. h.3 };
 
     ghost settled = { λ v h live. record { counter = (h.1 live).rests.counter; slack = (h.1 live).rests.slack } };
 
@@ -258,18 +323,22 @@ impl<B: Board + Drop> BoardVolume<B> for TreeVolume<B> {
         }
     }
 
-    fn reopen(&mut self) -> Result<u64, OpenAnswer> {
+    fn reopen(&mut self) -> Result<Reopened, OpenAnswer> {
         self.lost = true;
         self.nodes.clear();
-        let found = mount_again(&mut self.board, TREE)?;
-        Ok(self.resume(found))
+        let found = mount_again(&mut self.board, VERSIONS)?;
+        let opened = take_again(self.alloc, &mut self.board, &self.keys, found)?;
+        self.resume(opened);
+        Ok(reopened_from(found, TREE_VERSION))
     }
 
-    fn power(&mut self, pick: u64) -> Result<u64, OpenAnswer> {
+    fn power(&mut self, pick: u64) -> Result<Reopened, OpenAnswer> {
         self.lost = true;
         self.nodes.clear();
-        let found = mount_after_power(&mut self.board, pick, TREE)?;
-        Ok(self.resume(found))
+        let found = mount_after_power(&mut self.board, pick, VERSIONS)?;
+        let opened = take_again(self.alloc, &mut self.board, &self.keys, found)?;
+        self.resume(opened);
+        Ok(reopened_from(found, TREE_VERSION))
     }
 
     fn fuse(&mut self, calls: u32) {

@@ -3,7 +3,8 @@ ghost use Rattle.std.specs.Prelude.{◌≡◌, ◌↔◌, not, true, false, Err,
 ghost use Rattle.tee_base.specs.Faults.{Rose};
 ghost use Rattle.board.specs.Steps.{CallRun};
 ghost use Rattle.epoch.specs.Forms.{is_sealed};
-ghost use Rattle.tree_paths.specs.Form.{form_root, tree_form};
+ghost use Rattle.tree_paths.specs.Form.{form_root};
+ghost use Rattle.old_volume.specs.Versions.{volume_form};
 ghost use Rattle.tree_paths.specs.Shape.{shape};
 ghost use Rattle.tree_paths.specs.Tree.{on_image};
 ghost use Rattle.tree_paths.specs.Walk.{children, visits};
@@ -50,7 +51,7 @@ impl<B: Board + Drop> TreeVolume<B> {
             AnswersWalk look (visits children look DEPTH 0 self.old.root) result }
         // at Ok the root seals the leaves that reads give
         ensures sealed { IsTrue B.tells_reads → OnOk result
-            (is_sealed tree_form (B.view self.old.board).key
+            (is_sealed volume_form (B.view self.old.board).key
             (B.view self.old.board).state.reads (form_root self.old.root) ≡ true) }
         // where the image is sound it is Ok, unless a call failed
         ensures sound { tree_keeper.honest self.old → self.old.lost ≡ false

@@ -20,8 +20,9 @@ ghost use Rattle.epoch.proofs.LeftLemmas.{left_in_use, rests_in_use, since_earli
 ghost use Rattle.seal.specs.Keys.{AreKeysOf};
 ghost use Rattle.tree_paths.specs.declared.places.TheConstants.{FIRST_BLOCK, REGION_LEAVES, TREE_BLOCKS};
 ghost use Rattle.tree_volume.specs.Keyed.{AreKeysOf-prop};
-ghost use Rattle.tree_paths.specs.Form.{form_root, tree_form};
-ghost use Rattle.tree_paths.specs.Frame.{form_framed};
+ghost use Rattle.tree_paths.specs.Form.{form_root};
+ghost use Rattle.old_volume.specs.Versions.{volume_form};
+ghost use Rattle.old_volume.proofs.FramedLemmas.{volume_framed};
 ghost use Rattle.tree_paths.specs.Identify.{ImagesIdentify};
 ghost use Rattle.tree_paths.specs.Kept.{AreKept};
 ghost use Rattle.tree_paths.specs.Shape.{shape};
@@ -149,11 +150,11 @@ impl<B: Board + Drop> Volume for TreeVolume<B> {
 
     ghost keeper = { tree_keeper };
 
-    ghost rests = { λ v h live. record { only = rests_in_use tree_form form_framed (B.view v.board) (form_root v.root) v.sequence (h.1 live) } };
+    ghost rests = { λ v h live. record { only = rests_in_use volume_form volume_framed (B.view v.board) (form_root v.root) v.sequence (h.1 live) } };
 
     ghost whole = { Prim.omega arith };
 
-    ghost left_now = { λ v h live. left_in_use tree_form form_framed (B.view v.board) (form_root v.root) v.sequence (h.1 live) (B.consistent v.board h.0) };
+    ghost left_now = { λ v h live. left_in_use volume_form volume_framed (B.view v.board) (form_root v.root) v.sequence (h.1 live) (B.consistent v.board h.0) };
 
     ghost found = { λ v h live region leaf r l. refl };
 
@@ -161,7 +162,7 @@ impl<B: Board + Drop> Volume for TreeVolume<B> {
 
     ghost honest_tells = { λ v h. B.honest_reads v.board h.0 };
 
-    ghost since_earlier = { λ v t u o le left. since_earlier tree_form (B.view v.board) t u o le left };
+    ghost since_earlier = { λ v t u o le left. since_earlier volume_form (B.view v.board) t u o le left };
 
     fn read_leaf(
         &mut self,
@@ -176,11 +177,11 @@ impl<B: Board + Drop> Volume for TreeVolume<B> {
         // an Ok is the leaf of each image that the kept root seals, where equal tags come from equal messages
         ensures identified { IsTrue B.tells_reads → (image : ℕ → List ℕ)
             → let key = (B.view self.old.board).key in
-            is_sealed tree_form key image (form_root self.old.root) ≡ true
+            is_sealed volume_form key image (form_root self.old.root) ≡ true
             → ImagesIdentify shape key (B.view self.old.board).state.reads image self.old.root
             (shape.leaf_place region leaf)
             → OnOk result (into.new
-            ≡ leaves_of tree_form key image (form_root self.old.root) region leaf) }
+            ≡ leaves_of volume_form key image (form_root self.old.root) region leaf) }
     {
         if self.lost {
             return Err(LeafAnswer::Lost);
@@ -223,7 +224,7 @@ impl<B: Board + Drop> Volume for TreeVolume<B> {
         // from then on the board is refused at every greater counter
         ensures rollback { tree_keeper.honest self.old → IfOk result (λ sequence.
             (counter : ℕ) → sequence < counter
-            → opening_of tree_form.known (B.view self.new.board).key
+            → opening_of volume_form.known (B.view self.new.board).key
             (B.view self.new.board).state.reads counter ≡ Err (Rollback sequence counter)) }
         // at the last sequence the counter is advanced in vain, and nothing else is called
         ensures exhausted { self.old.lost ≡ false → self.old.sequence ≡ 2 ^ 64 - 1

@@ -7,7 +7,7 @@ ghost use Rattle.tree_volume_tests.specs.declared.filling.TheConstants.{MOST};
 
 use crate::filling::{MOST, OLD, byte_at, number_of};
 use boards::MemBoard;
-use epoch::{BoardVolume, OpenAnswer};
+use epoch::{BoardVolume, OpenAnswer, Reopened};
 use std::alloc::Global;
 use std::process::Abort;
 use std::test::Fail;
@@ -149,10 +149,21 @@ fn is_met(
             volume.fuse(*calls);
             true
         }
-        Row::Reopen(sequence) => volume.reopen() == Ok(*sequence),
-        Row::Power(pick, sequence) => volume.power(*pick) == Ok(*sequence),
-        Row::AnyPower(pick) => volume.power(*pick) == Ok(volume.sequence()),
+        Row::Reopen(sequence) => is_found(volume.reopen(), *sequence),
+        Row::Power(pick, sequence) => is_found(volume.power(*pick), *sequence),
+        Row::AnyPower(pick) => match volume.power(*pick) {
+            Ok(told) => told.sequence == volume.sequence() && !told.rewritten,
+            Err(_) => false,
+        },
         Row::GoOn(count) => goes_on(rt, alloc, volume, *count)?,
+    })
+}
+
+/// Whether a volume of the version that is written was found at this sequence.
+fn is_found(told: Result<Reopened, OpenAnswer>, sequence: u64) -> bool {
+    told == Ok(Reopened {
+        sequence,
+        rewritten: false,
     })
 }
 

@@ -1,4 +1,5 @@
-use Rattle.epoch.proofs.MountLemmas.{found_refused, mounts_found, ruled_by}
+use Rattle.epoch.proofs.AdmitLemmas.{found_refused, ruled_by}
+use Rattle.epoch.proofs.MountLemmas.{mounts_found}
 use Rattle.epoch.proofs.SettledLemmas.{settled_blocks}
 use Rattle.epoch.proofs.mounting.mount.Goals as goal
 

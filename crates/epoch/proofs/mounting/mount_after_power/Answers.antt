@@ -1,6 +1,7 @@
 use Rattle.std.proofs.Common.{◌≡◌, ◌∙◌, subst, arith}
 use Rattle.tee_base.specs.Faults.{Rose}
-use Rattle.epoch.proofs.MountLemmas.{after_power, power_sound, ruled_so}
+use Rattle.epoch.proofs.AdmitLemmas.{ruled_so}
+use Rattle.epoch.proofs.MountLemmas.{after_power, power_sound}
 use Rattle.epoch.proofs.SettledLemmas.{settled_on, settled_power}
 use Rattle.epoch.proofs.PastLemmas.{followed, passed}
 use Rattle.epoch.proofs.mounting.mount_after_power.Goals as goal
@@ -15,6 +16,7 @@ returns-clause-exact g c h =
     let counter : told.0 ≡ powered.left.counter = omega (arith, told.1.least, told.1.greatest, powered.counter, powered.slack) in (
       powered.left,
       powered.may,
+      c.mount_again.ensures.reads step.0 ∙ image,
       λ f same.
           ruled_so f (g.B.Board.view c.args.board.now) (g.B.Board.view c.power.new.self) call.size call.key _ _ _ _ image counter c.mount_again.result (told.2 f same),
     )
@@ -55,9 +57,11 @@ returns-clause-calls g c =
       };
       cause = λ failed. subst (λ n. Rose n (g.B.Board.view c.mount_again.new.board).state.faults) order.faults (calls.cause failed);
       steady = λ made. calls.steady made ∙ order.faults;
-      writes = c.mount_again.ensures.search.writes ∙ order.writes;
       fuse = calls.unset c.power.ensures.fuse;
     }
+
+pub returns-clause-writes : goal.returns-clause-writes
+returns-clause-writes g c = c.mount_again.ensures.search.writes ∙ c.power.ensures.ordered.writes
 
 pub returns-clause-memory : goal.returns-clause-memory
 returns-clause-memory g c = c.mount_again.ensures.search.memory
@@ -74,7 +78,8 @@ returns-clause-honest g c h =
         ordered = c.mount_again.ensures.search.calls.ordered ∙ c.power.ensures.ordered.ordered;
         time = step.1;
         powered = step.2;
-        reads = c.mount_again.ensures.reads step.0;
+        alone = c.mount_again.ensures.alone step.0;
+        reads = λ kept. c.mount_again.ensures.reads step.0;
         behind = (c.mount_again.ensures.past step.0).behind;
       },
       followed _ _ _ (passed _ _ step.1) (c.mount_again.ensures.past step.0),

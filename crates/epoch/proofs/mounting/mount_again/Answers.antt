@@ -1,8 +1,10 @@
-use Rattle.std.proofs.Common.{◌≡◌, ◌∙◌, Err, refl, sym, ap, arith, rules, true, false}
+use Rattle.std.proofs.Common.{◌≡◌, ◌∙◌, ℕ, Err, refl, sym, ap, arith, rules, true, false}
 use Rattle.epoch.specs.Opening.{no_failure}
 use Rattle.epoch.specs.declared.answer.OpenAnswer.TheVariants.{Failed, NoMemory}
+use Rattle.epoch.proofs.AloneLemmas.{alone_more, alone_synced}
 use Rattle.epoch.proofs.CallLemmas.{run_failed, run_more, run_once}
-use Rattle.epoch.proofs.MountLemmas.{again_failed, again_found, failed_ok, ruled_so, stopped}
+use Rattle.epoch.proofs.AdmitLemmas.{ruled_so}
+use Rattle.epoch.proofs.MountLemmas.{again_failed, again_found, failed_ok, stopped}
 use Rattle.epoch.proofs.SettledLemmas.{settled_on, settled_sync}
 use Rattle.epoch.proofs.PastLemmas.{followed, once}
 use Rattle.epoch.proofs.mounting.mount_again.Goals as goal
@@ -53,6 +55,17 @@ pub returns-clause-past : goal.returns-clause-past
 returns-clause-past g c h =
     let step = c.in_ok-sync.ensures.honest h in
     followed _ _ _ (once _ _ step.1) (c.mount.ensures.honest step.0).1.past
+
+pub returns-in_err-sync-clause-alone : goal.returns-in_err-sync-clause-alone
+returns-in_err-sync-clause-alone g c h =
+    let step = c.in_err-sync.ensures.honest h in
+    alone_synced (λ (k : ℕ). Unit {0}) false _ _ (g.met.B.Board.consistent c.args.board.now h) step.1 step.2
+
+pub returns-clause-alone : goal.returns-clause-alone
+returns-clause-alone g c h =
+    let step = c.in_ok-sync.ensures.honest h in
+    alone_more (λ (k : ℕ). Unit {0}) _ _ _ (alone_synced (λ (k : ℕ). Unit {0}) true _ _ (g.met.B.Board.consistent c.args.board.now h) step.1 step.2)
+    (c.mount.ensures.honest step.0).1.alone
 
 pub returns-in_err-sync-clause-counter : goal.returns-in_err-sync-clause-counter
 returns-in_err-sync-clause-counter g c h = failed_ok c.from_residual.result _ (search rules)

@@ -17,7 +17,7 @@ use Rattle.old_volume.specs.declared.answer.OldAnswer.{OldAnswer}
 use Rattle.old_volume.specs.declared.answer.OldAnswer.TheVariants as answers
 use Rattle.migration.specs.Migrating.{FitsOld, Migrates}
 use Rattle.migration.specs.Planting.{ArePlanted}
-use Rattle.migration.proofs.MigrateLemmas.{done_migrates, failed_migrates, fits_read, last_migrates, mounted_mid, read_migrates, same_blocks}
+use Rattle.migration.proofs.MigrateLemmas.{done_migrates, told_of, failed_migrates, fits_read, last_migrates, of_no_image, mounted_mid, read_migrates, same_blocks}
 use Rattle.migration.proofs.migrating.migrate.Goals as goal
 
 pub returns-in_err-touched-clause-alone : goal.returns-in_err-touched-clause-alone
@@ -130,3 +130,18 @@ returns-clause-honest g c h = (c.in-Err.ensures.honest (c.in_ok-touched.ensures.
 
 pub returns-in-Ok-clause-sealed_for : goal.returns-in-Ok-clause-sealed_for
 returns-in-Ok-clause-sealed_for g c = c.in-Ok.ensures.root.sealed_for
+
+-- what was read leaves the board as it was
+pub returns-in_err-touched-clause-same : goal.returns-in_err-touched-clause-same
+returns-in_err-touched-clause-same g c tells =
+    told_of c.from_residual.result c.in_err-touched.field-0.0 _ (search rules) (λ of_image. c.in_err-touched.ensures.same tells)
+
+pub returns-in_err-touched-clause-still : goal.returns-in_err-touched-clause-still
+returns-in_err-touched-clause-still g c h =
+    told_of c.from_residual.result c.in_err-touched.field-0.0 _ (search rules) (λ of_image. (c.in_err-touched.ensures.honest h).1.state)
+
+pub returns-then-sequence-eq18446744073709551615-clause-same : goal.returns-then-sequence-eq18446744073709551615-clause-same
+returns-then-sequence-eq18446744073709551615-clause-same g c tells = λ of_image. absurd (of_no_image c.advance_last.result c.advance_last.ensures.answer of_image)
+
+pub returns-then-sequence-eq18446744073709551615-clause-still : goal.returns-then-sequence-eq18446744073709551615-clause-still
+returns-then-sequence-eq18446744073709551615-clause-still g c h = λ of_image. absurd (of_no_image c.advance_last.result c.advance_last.ensures.answer of_image)

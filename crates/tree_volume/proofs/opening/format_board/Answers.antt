@@ -5,24 +5,24 @@ use Rattle.epoch.proofs.CallLemmas.{run_as, run_failed, run_none}
 use Rattle.epoch.specs.Commits.{IsBegun}
 use Rattle.epoch.specs.Mounts.{IsKeptFromOpening}
 use Rattle.tree_commits.specs.Change.{FitsTree}
-use Rattle.tree_paths.specs.Form.{form_root, tree_form}
+use Rattle.tree_paths.specs.Form.{form_root}
+use Rattle.old_volume.specs.Versions.{volume_form}
 use Rattle.tree_volume.specs.Opens.{IsOpenAs, held_after}
-use Rattle.tree_paths.specs.declared.places.TheConstants.{TREE}
 use Rattle.epoch.specs.declared.taking.TheConstants.{NO_ROOT}
 use Rattle.epoch.specs.Forms.{IsBlankRoot}
-use Rattle.tree_paths.specs.Frame.{form_framed, tree_format, tree_single}
+use Rattle.old_volume.proofs.FramedLemmas.{volume_framed}
 use Rattle.epoch.proofs.OpenLemmas.{blank_root, format_failed, opens_without}
 use Rattle.tree_volume.proofs.OpenLemmas.{format_done}
 use Rattle.tree_volume.proofs.VolumeLemmas.{blank_fits}
 use Rattle.tree_volume.proofs.opening.format_board.Goals as goal
 
-blank : IsBlankRoot tree_form (form_root NO_ROOT)
-blank = blank_root tree_form TREE tree_format tree_single
+blank : IsBlankRoot volume_form (form_root NO_ROOT)
+blank = blank_root volume_form
 
 pub returns-in_err-blank_node-clause-opens : goal.returns-in_err-blank_node-clause-opens
 returns-in_err-blank_node-clause-opens g c honest h mounts =
     let kept : IfErr c.from_residual.result (λ why. IsKeptFromOpening why) = search rules in
-    opens_without tree_form IsOpenAs held_after form_framed (g.B.Board.view c.args.board.now) (form_root NO_ROOT) c.from_residual.result h _
+    opens_without volume_form IsOpenAs held_after volume_framed (g.B.Board.view c.args.board.now) (form_root NO_ROOT) c.from_residual.result h _
     (mounts.1 (form_root NO_ROOT) blank) c.from_residual.ensures.0 kept
 
 pub returns-in_err-root-clause-opens : goal.returns-in_err-root-clause-opens
@@ -30,8 +30,7 @@ returns-in_err-root-clause-opens g c honest h mounts =
     let v = g.B.Board.view c.args.board.now in
     let keyed : AreKeysOf c.args.keys.now v.key = c.requires.keyed in
     let kept : IfErr c.from_residual-in_err-root.result (λ why. IsKeptFromOpening why) = search rules in
-    format_failed tree_form IsOpenAs held_after v (g.B.Board.view c.commit.new.board) c.from_residual-in_err-root.result h
-    mounts.0 (mounts.1 (form_root NO_ROOT) blank).version
+    format_failed volume_form IsOpenAs held_after v (g.B.Board.view c.commit.new.board) c.from_residual-in_err-root.result h
     c.from_residual-in_err-root.ensures.0 kept
     (c.in_err-root.ensures.commits honest h (record {
       last = mounts.0;
@@ -44,12 +43,12 @@ returns-clause-opens g c honest h mounts =
     let v = g.B.Board.view c.args.board.now in
     let keyed : AreKeysOf c.args.keys.now v.key = c.requires.keyed in
     let mounted = mounts.1 (form_root NO_ROOT) blank in
-    let begun : IsBegun tree_form (λ key reads. FitsTree c.args.keys.now c.in_ok-blank_node.field-0 0 [] NO_ROOT key reads) v (form_root NO_ROOT) 0 h = record {
+    let begun : IsBegun volume_form (λ key reads. FitsTree c.args.keys.now c.in_ok-blank_node.field-0 0 [] NO_ROOT key reads) v (form_root NO_ROOT) 0 h = record {
       last = mounts.0;
       mounted = mounted;
       fits = blank_fits c.args.keys.now c.in_ok-blank_node.field-0 v.key v.state.reads keyed c.in_ok-blank_node.ensures.node;
     } in
-    format_done v (g.B.Board.view c.commit.new.board) c.in_ok-root.root h mounts.0 mounted.version c.in_ok-root.ensures.calls.key (c.in_ok-root.ensures.commits honest h begun).crash
+    format_done v (g.B.Board.view c.commit.new.board) c.in_ok-root.root h mounts.0 c.in_ok-root.ensures.calls.key (c.in_ok-root.ensures.commits honest h begun).crash
     (c.in_ok-root.ensures.commits honest h begun).done.0
 
 pub returns-in_err-blank_node-clause-calls : goal.returns-in_err-blank_node-clause-calls

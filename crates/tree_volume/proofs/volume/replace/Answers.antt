@@ -13,8 +13,9 @@ use Rattle.epoch.proofs.KeepLemmas.{commit_crash, held_same, in_use_same, leaves
 use Rattle.epoch.proofs.PastLemmas.{followed}
 use Rattle.epoch.proofs.SettledLemmas.{steady_rests}
 use Rattle.tree_commits.specs.Change.{FitsTree}
-use Rattle.tree_paths.specs.Form.{form_root, tree_form}
-use Rattle.tree_paths.specs.Frame.{form_framed}
+use Rattle.tree_paths.specs.Form.{form_root}
+use Rattle.old_volume.specs.Versions.{volume_form}
+use Rattle.old_volume.proofs.FramedLemmas.{volume_framed}
 use Rattle.epoch.specs.Forms.{Root}
 use Rattle.epoch.specs.declared.header.TreeEntry.{TreeEntry}
 use Rattle.tree_commits.specs.Gather.{leaf_among}
@@ -122,22 +123,22 @@ returns-in-Ok-clause-replaced g c h is =
       named = record { here = λ l below. told.leaves l below ∙ ap (λ (ls : List Leaf). leaf_among ls l) (c.as_slice.ensures.leaves ∙ sym c.as_slice-2.ensures.leaves); elsewhere = told.elsewhere };
       stands = true_as v mid root touched told.calls.key read.1.state.reads (told.nodes tells v.key keyed (c.requires.cached tells));
     } in
-    let is' : IsOpen mid root sequence = in_use_same tree_form form_framed v mid (form_root root) sequence told.calls.key read.1.state is in
+    let is' : IsOpen mid root sequence = in_use_same volume_form volume_framed v mid (form_root root) sequence told.calls.key read.1.state is in
     let before : Held = held_now mid root sequence in
-    let begins : IsBegun tree_form (λ key reads. FitsTree c.args.keys.now touched c.args.region leaves root key reads) mid (form_root root) sequence before
+    let begins : IsBegun volume_form (λ key reads. FitsTree c.args.keys.now touched c.args.region leaves root key reads) mid (form_root root) sequence before
     = record { last = refl; mounted = is'; fits = fits } in
     let after : Held = after_commit c.args.region leaves before in
-    let held = held_same tree_form form_framed v mid (form_root root) sequence told.calls.key read.1.state.reads in
+    let held = held_same volume_form volume_framed v mid (form_root root) sequence told.calls.key read.1.state.reads in
     let done = (c.in-Ok.ensures.commits read.0 before begins).done in
     subst (λ (l : List Leaf). Replaces c.args.region l (Ok (record { root = c.in-Ok.root; sequence = sequence + 1 })) c.args.opened v new) c.as_slice-2.ensures.leaves (record {
       undamaged = tt;
-      stays = mounted_in_use tree_form form_framed new mid.key (form_root c.in-Ok.root) after c.in-Ok.ensures.calls.key done.0;
-      steady = steady_rests tree_form new.key (form_root c.in-Ok.root) new.state done.0.rests.pending;
+      stays = mounted_in_use volume_form volume_framed new mid.key (form_root c.in-Ok.root) after c.in-Ok.ensures.calls.key done.0;
+      steady = steady_rests volume_form new.key (form_root c.in-Ok.root) new.state done.0.rests.pending;
       commits = (
-        mounted_held tree_form form_framed new mid.key (form_root c.in-Ok.root) after c.in-Ok.ensures.calls.key done.0 ∙ ap (after_commit c.args.region leaves) held,
+        mounted_held volume_form volume_framed new mid.key (form_root c.in-Ok.root) after c.in-Ok.ensures.calls.key done.0 ∙ ap (after_commit c.args.region leaves) held,
         refl,
       );
-      crash = commit_crash tree_form form_framed v mid new (form_root root) sequence c.args.region leaves is told.calls.key read.1 (c.in-Ok.ensures.commits read.0 before begins).crash;
+      crash = commit_crash volume_form volume_framed v mid new (form_root root) sequence c.args.region leaves is told.calls.key read.1 (c.in-Ok.ensures.commits read.0 before begins).crash;
     })
 
 pub returns-clause-replaced : goal.returns-clause-replaced
@@ -159,18 +160,18 @@ returns-clause-replaced g c h is =
       named = record { here = λ l below. told.leaves l below ∙ ap (λ (ls : List Leaf). leaf_among ls l) (c.as_slice.ensures.leaves ∙ sym c.as_slice-2.ensures.leaves); elsewhere = told.elsewhere };
       stands = true_as v mid root touched told.calls.key read.1.state.reads (told.nodes tells v.key keyed (c.requires.cached tells));
     } in
-    let is' : IsOpen mid root sequence = in_use_same tree_form form_framed v mid (form_root root) sequence told.calls.key read.1.state is in
+    let is' : IsOpen mid root sequence = in_use_same volume_form volume_framed v mid (form_root root) sequence told.calls.key read.1.state is in
     let before : Held = held_now mid root sequence in
-    let begins : IsBegun tree_form (λ key reads. FitsTree c.args.keys.now touched c.args.region leaves root key reads) mid (form_root root) sequence before
+    let begins : IsBegun volume_form (λ key reads. FitsTree c.args.keys.now touched c.args.region leaves root key reads) mid (form_root root) sequence before
     = record { last = refl; mounted = is'; fits = fits } in
     let after : Held = after_commit c.args.region leaves before in
-    let held = held_same tree_form form_framed v mid (form_root root) sequence told.calls.key read.1.state.reads in
+    let held = held_same volume_form volume_framed v mid (form_root root) sequence told.calls.key read.1.state.reads in
     subst (λ (l : List Leaf). Replaces c.args.region l (Err answers.Failed) c.args.opened v new) c.as_slice-2.ensures.leaves (record {
       undamaged = tt;
       stays = tt;
-      steady = subst (λ (k : List ℕ). IsSteady tree_form k (form_root root) new.state) (sym c.in-Err.ensures.calls.key) (c.in-Err.ensures.commits read.0 before begins).steady;
-      commits = leaves_held tree_form form_framed new mid.key (form_root root) before c.in-Err.ensures.calls.key (c.in-Err.ensures.commits read.0 before begins).kept refl ∙ held;
-      crash = commit_crash tree_form form_framed v mid new (form_root root) sequence c.args.region leaves is told.calls.key read.1 (c.in-Err.ensures.commits read.0 before begins).crash;
+      steady = subst (λ (k : List ℕ). IsSteady volume_form k (form_root root) new.state) (sym c.in-Err.ensures.calls.key) (c.in-Err.ensures.commits read.0 before begins).steady;
+      commits = leaves_held volume_form volume_framed new mid.key (form_root root) before c.in-Err.ensures.calls.key (c.in-Err.ensures.commits read.0 before begins).kept refl ∙ held;
+      crash = commit_crash volume_form volume_framed v mid new (form_root root) sequence c.args.region leaves is told.calls.key read.1 (c.in-Err.ensures.commits read.0 before begins).crash;
     })
 
 pub returns-in_err-touched-clause-alone : goal.returns-in_err-touched-clause-alone

@@ -1,8 +1,10 @@
 use Rattle.epoch.proofs.KeepLemmas.{held_same, in_use_same, steady_read}
 use Rattle.epoch.proofs.MountLemmas.{after_order, before_above, past_above}
 use Rattle.epoch.proofs.PastLemmas.{passed}
-use Rattle.tree_paths.specs.Frame.{form_framed}
-use Rattle.tree_paths.specs.Form.{tree_form, form_root}
+use Rattle.old_volume.proofs.FramedLemmas.{volume_framed}
+use Rattle.tree_paths.specs.Form.{form_root}
+use Rattle.old_volume.specs.Versions.{volume_form}
+use Rattle.tree_volume.proofs.AnewLemmas.{anew_before}
 use Rattle.tree_volume.proofs.opening.TreeVolumeBoardVolume.fuse.Goals as goal
 
 pub returns-clause-same : goal.returns-clause-same
@@ -15,12 +17,13 @@ returns-clause-same g c is =
     record {
       honest = (
         step.0,
-        λ live. in_use_same tree_form form_framed v n (form_root root) c.args.self.now.sequence key step.2 (is.1 live),
-        steady_read tree_form form_framed v n (form_root root) key step.2 is.2,
+        λ live. in_use_same volume_form volume_framed v n (form_root root) c.args.self.now.sequence key step.2 (is.1 live),
+        steady_read volume_form volume_framed v n (form_root root) key step.2 is.2,
+        anew_before v n key (after_order volume_form v n step.1 step.2) is.3,
       );
-      same = held_same tree_form form_framed v n (form_root root) c.args.self.now.sequence key step.2.reads;
+      same = held_same volume_form volume_framed v n (form_root root) c.args.self.now.sequence key step.2.reads;
       leaves = record {
-        crash = before_above tree_form (λ x. g.B.Board.view x.board) _ _ key (after_order tree_form v n step.1 step.2);
-        past = past_above tree_form v n key (passed v n step.1);
+        crash = before_above volume_form (λ x. g.B.Board.view x.board) _ _ key (after_order volume_form v n step.1 step.2);
+        past = past_above volume_form v n key (passed v n step.1);
       };
     }

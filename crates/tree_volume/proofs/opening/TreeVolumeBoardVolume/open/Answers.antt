@@ -7,9 +7,10 @@ use Rattle.epoch.proofs.CallLemmas.{run_none}
 use Rattle.epoch.proofs.KeepLemmas.{steady_in_use}
 use Rattle.epoch.proofs.MountLemmas.{leaves_opening, opened_to}
 use Rattle.epoch.proofs.PastLemmas.{itself}
-use Rattle.tree_paths.specs.Form.{tree_form}
-use Rattle.tree_paths.specs.Frame.{form_framed, tree_single}
+use Rattle.old_volume.specs.Versions.{volume_form}
+use Rattle.old_volume.proofs.FramedLemmas.{volume_framed}
 use Rattle.epoch.proofs.OpenLemmas.{blocks_none}
+use Rattle.tree_volume.proofs.AnewLemmas.{anew_open}
 use Rattle.tree_volume.proofs.OpenLemmas.{leaves_resting}
 use Rattle.tree_volume.proofs.opening.TreeVolumeBoardVolume.open.Goals as goal
 
@@ -18,10 +19,10 @@ returns-in-Ok-open_board-clause-opened g c honest n h rests large is =
     let v = g.B.Board.view c.args.board in
     let w = g.B.Board.view c.open_board.new.board in
     let opens = c.in-Ok-open_board.ensures.opens honest n h rests large is in
-    let makes = opened_to tree_form tree_single v n h rests is in (
-      (c.in-Ok-open_board.ensures.honest honest, λ live. opens.opened.0, steady_in_use tree_form form_framed w _ _ opens.opened.0),
-      subst (IsOpenedTo tree_form v h) (sym opens.opened.1) makes,
-      leaves_opening tree_form v w h (after_opening tree_form v h) makes opens.leaves,
+    let makes = opened_to volume_form v h in (
+      (c.in-Ok-open_board.ensures.honest honest, λ live. opens.opened.0, steady_in_use volume_form volume_framed w _ _ opens.opened.0, anew_open w _ _ opens.opened.0),
+      subst (IsOpenedTo volume_form v h) (sym opens.opened.1) makes,
+      leaves_opening volume_form v w h (after_opening volume_form v h) makes opens.leaves,
     )
 
 pub returns-in-Err-clause-unopened : goal.returns-in-Err-clause-unopened
@@ -29,7 +30,7 @@ returns-in-Err-clause-unopened g c honest n h rests large is =
     let v = g.B.Board.view c.args.board in
     let opens = c.in-Err.ensures.opens honest n h rests large is in (
       opens.failed,
-      leaves_opening tree_form v (g.B.Board.view c.open_board.new.board) h (after_opening tree_form v h) (opened_to tree_form tree_single v n h rests is) opens.leaves,
+      leaves_opening volume_form v (g.B.Board.view c.open_board.new.board) h (after_opening volume_form v h) (opened_to volume_form v h) opens.leaves,
     )
 
 pub returns-in-Ok-open_board-clause-bare : goal.returns-in-Ok-open_board-clause-bare
@@ -44,7 +45,7 @@ returns-in_default-clause-exact g c honest =
     (v.state.counter, record { least = omega arith; greatest = omega arith; fits = (g.met.B.Board.consistent c.args.board honest).counter }, tt, tt)
 
 pub returns-in_default-clause-unopened : goal.returns-in_default-clause-unopened
-returns-in_default-clause-unopened g c honest n h rests large is = (inr refl, leaves_resting tree_form (g.B.Board.view c.args.board) n h rests is)
+returns-in_default-clause-unopened g c honest n h rests large is = (inr refl, leaves_resting volume_form (g.B.Board.view c.args.board) n h rests is)
 
 pub returns-in_default-clause-back : goal.returns-in_default-clause-back
 returns-in_default-clause-back g c = record {

@@ -1,12 +1,16 @@
-use Rattle.std.proofs.Common.{◌≡◌, ◌||◌, ℕ, List, Bool, Some, refl, sym, ap, subst}
+use Rattle.std.proofs.Common.{◌≡◌, ◌∙◌, ◌||◌, ℕ, List, Bool, Some, refl, sym, ap, subst}
 use Rattle.tee_base.proofs.Crash.{mapped}
 use Rattle.seal.specs.Keys.{AreKeysOf}
 use Rattle.board.specs.Moment.{moment, left_since}
 use Rattle.epoch.proofs.KeepLemmas.{crash_read, held_same, in_use_same, steady_read}
 use Rattle.epoch.specs.Forms.{held_of}
-use Rattle.tree_paths.specs.Form.{form_root, tree_form}
-use Rattle.tree_paths.specs.Frame.{form_framed}
+use Rattle.tree_paths.specs.Form.{form_root}
+use Rattle.old_volume.specs.Versions.{volume_form}
+use Rattle.old_volume.proofs.FramedLemmas.{volume_framed}
+use Rattle.old_volume.proofs.NewLemmas.{new_sealed}
 use Rattle.tree_volume.specs.Keeping.{held_now}
+use Rattle.tree_volume.proofs.AnewLemmas.{anew_open}
+use Rattle.tree_volume.proofs.VolumeLemmas.{on_new}
 use Rattle.tree_paths.specs.WalkAnswers.{has_failed}
 use Rattle.tree_paths.proofs.VerifyLemmas.{answer_sealed, answer_sound}
 use Rattle.tree_volume.proofs.volume.TreeVolume.verify.Goals as goal
@@ -27,13 +31,14 @@ returns-clause-leaves g c =
       below = λ h. (told.honest h).0;
       honest = λ h. (
         (told.honest h.0).0,
-        λ live. in_use_same tree_form form_framed v w (form_root old.root) old.sequence told.calls.key (told.honest h.0).1.state (h.1 c.if-self.false),
-        steady_read tree_form form_framed v w (form_root old.root) told.calls.key (told.honest h.0).1.state h.2,
+        λ live. in_use_same volume_form volume_framed v w (form_root old.root) old.sequence told.calls.key (told.honest h.0).1.state (h.1 c.if-self.false),
+        steady_read volume_form volume_framed v w (form_root old.root) told.calls.key (told.honest h.0).1.state h.2,
+        anew_open w old.root old.sequence (in_use_same volume_form volume_framed v w (form_root old.root) old.sequence told.calls.key (told.honest h.0).1.state (h.1 c.if-self.false)),
       );
-      held = λ h. held_same tree_form form_framed v w (form_root old.root) old.sequence told.calls.key (told.honest h.0).1.state.reads;
-      crash = λ h live. mapped moment left_since (λ x. g.B.Board.view x.board) (λ x. held_of tree_form (g.B.Board.view x.board).key) _ _ (λ o. o ≡ Some (held_now v old.root old.sequence))
-          (λ o. ap (λ (k : List ℕ). held_of tree_form k o) told.calls.key)
-          (crash_read tree_form form_framed v w (form_root old.root) old.sequence (h.1 live) told.calls.key (told.honest h.0).1);
+      held = λ h. held_same volume_form volume_framed v w (form_root old.root) old.sequence told.calls.key (told.honest h.0).1.state.reads;
+      crash = λ h live. mapped moment left_since (λ x. g.B.Board.view x.board) (λ x. held_of volume_form (g.B.Board.view x.board).key) _ _ (λ o. o ≡ Some (held_now v old.root old.sequence))
+          (λ o. ap (λ (k : List ℕ). held_of volume_form k o) told.calls.key)
+          (crash_read volume_form volume_framed v w (form_root old.root) old.sequence (h.1 live) told.calls.key (told.honest h.0).1);
     }
 
 pub returns-clause-sealed : goal.returns-clause-sealed
@@ -41,7 +46,7 @@ returns-clause-sealed g c tells =
     let old = c.args.self.now in
     let v = g.B.Board.view old.board in
     let keyed : AreKeysOf old.keys v.key = old.keyed in
-    answer_sealed v.key v.state.reads old.root c.check-answer.result (c.check-answer.ensures.walk tells v.key keyed)
+    on_new v.key v.state.reads old.root c.check-answer.result (answer_sealed v.key v.state.reads old.root c.check-answer.result (c.check-answer.ensures.walk tells v.key keyed))
 
 pub returns-clause-sound : goal.returns-clause-sound
 returns-clause-sound g c h live =
@@ -49,4 +54,5 @@ returns-clause-sound g c h live =
     let v = g.B.Board.view old.board in
     let tells = g.met.B.Board.honest_reads old.board h.0 in
     let keyed : AreKeysOf old.keys v.key = old.keyed in
-    answer_sound v.key v.state.reads old.root c.check-answer.result (h.1 live).sealed c.check-answer.ensures.answer (c.check-answer.ensures.walk tells v.key keyed)
+    answer_sound v.key v.state.reads old.root c.check-answer.result (sym (new_sealed v.key v.state.reads old.root) ∙ (h.1 live).sealed)
+    c.check-answer.ensures.answer (c.check-answer.ensures.walk tells v.key keyed)

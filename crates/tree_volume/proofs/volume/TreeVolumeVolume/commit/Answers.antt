@@ -1,4 +1,4 @@
-use Rattle.std.proofs.Common.{◌≡◌, ◌≢◌, ◌<◌, ◌∙◌, ℕ, true, false, List, Some, Err, refl, sym, ap, subst, arith}
+use Rattle.std.proofs.Common.{◌≡◌, ◌≢◌, ◌<◌, ◌∙◌, ℕ, true, false, List, Some, Ok, Err, refl, sym, ap, subst, arith}
 use Rattle.tee_base.specs.Crash.{LeavesOnly}
 use Rattle.tee_base.proofs.Crash.{mapped, weaker}
 use Rattle.store_api.specs.Volumes.{Held, LeftByCommit, after_commit}
@@ -8,11 +8,13 @@ use Rattle.epoch.proofs.KeepLemmas.{err_cause, exhausts_at, foundation_same, if_
 use Rattle.epoch.proofs.MountLemmas.{mounted_refuses}
 use Rattle.epoch.specs.Forms.{held_of}
 use Rattle.seal.specs.Keys.{AreKeysOf}
-use Rattle.tree_paths.specs.Form.{form_root, tree_form}
-use Rattle.tree_paths.specs.Frame.{form_framed}
+use Rattle.tree_paths.specs.Form.{form_root}
+use Rattle.old_volume.specs.Versions.{volume_form}
+use Rattle.old_volume.proofs.FramedLemmas.{volume_framed}
 use Rattle.tree_volume.specs.Keeping.{IsOpen, held_now}
 use Rattle.tree_volume.specs.Made.{IsMade}
 use Rattle.tree_volume.specs.declared.volume.Opened.{Opened}
+use Rattle.tree_volume.proofs.AnewLemmas.{anew_commit, anew_exhausted, anew_open}
 use Rattle.tree_volume.proofs.VolumeLemmas.{still_open}
 use Rattle.tree_volume.proofs.volume.TreeVolumeVolume.commit.Goals as goal
 
@@ -42,15 +44,20 @@ returns-in-Err-clause-commits g c =
         below = told.honest;
         honest = λ h.
             let does = told.replaced h.0 (h.1 c.if-self.false) in (
-              (told.honest h.0, λ live. still_open e opened w (sym c.is_failed-self-in-Err.ensures ∙ live) does.stays, does.steady),
+              (
+                told.honest h.0,
+                λ live. still_open e opened w (sym c.is_failed-self-in-Err.ensures ∙ live) does.stays,
+                does.steady,
+                anew_commit e before c.args.region c.args.leaves.now v w refl told.calls.key does.crash,
+              ),
               still_tags Opened ℕ (λ tags. ⊥) e does.undamaged,
             );
         quiet = λ lost. absurd (let f : true ≡ false = sym lost ∙ c.if-self.false in cc);
-        past = λ h. past_read tree_form v w told.calls.key (told.past h.0);
+        past = λ h. past_read volume_form v w told.calls.key (told.past h.0);
       };
-      crash = λ h live. mapped moment left_since (λ x. g.B.Board.view x.board) (λ x. held_of tree_form (g.B.Board.view x.board).key) _ _ (LeftByCommit (Err e) before after)
-          (λ o. ap (λ (k : List ℕ). held_of tree_form k o) told.calls.key)
-          (subst (λ (k : List ℕ). LeavesOnly moment left_since v w (λ o. LeftByCommit (Err e) before after (held_of tree_form k o))) (sym told.calls.key)
+      crash = λ h live. mapped moment left_since (λ x. g.B.Board.view x.board) (λ x. held_of volume_form (g.B.Board.view x.board).key) _ _ (LeftByCommit (Err e) before after)
+          (λ o. ap (λ (k : List ℕ). held_of volume_form k o) told.calls.key)
+          (subst (λ (k : List ℕ). LeavesOnly moment left_since v w (λ o. LeftByCommit (Err e) before after (held_of volume_form k o))) (sym told.calls.key)
           (told.replaced h.0 (h.1 live)).crash);
     }
 
@@ -77,7 +84,7 @@ returns-in-Ok-clause-rollback g c h counter above =
     let w = g.B.Board.view c.replace.new.board in
     let o = c.in-Ok.field-0 in
     let stays = (c.in-Ok.ensures.replaced h.0 (h.1 c.if-self.false)).stays in
-    mounted_refuses tree_form w.key (form_root o.root) (held_now w o.root o.sequence) w.state stays (omega (arith, c.in-Ok.ensures.sequence)) counter above
+    mounted_refuses volume_form w.key (form_root o.root) (held_now w o.root o.sequence) w.state stays (omega (arith, c.in-Ok.ensures.sequence)) counter above
 
 pub returns-in-Ok-clause-made : goal.returns-in-Ok-clause-made
 returns-in-Ok-clause-made g c =
@@ -96,7 +103,7 @@ returns-then-self-2-clause-commits g c =
     let before : Held = held_now v old.root old.sequence in
     let after : Held = after_commit c.args.region c.args.leaves.now before in
     let does = λ (h : g.B.Board.honest old.board) (is : IsOpen v old.root old.sequence).
-    exhausts_at tree_form (form_root old.root) old.sequence e v w c.if-self-2.true (told.failed h tree_form (form_root old.root) form_framed) is in
+    exhausts_at volume_form (form_root old.root) old.sequence e v w c.if-self-2.true (told.failed h volume_form (form_root old.root) volume_framed) is in
     record {
       committed = λ h. (does h.0 (h.1 c.if-self.false)).held;
       sequence = refl;
@@ -112,16 +119,21 @@ returns-then-self-2-clause-commits g c =
         below = λ b. (told.honest b).0;
         honest = λ h.
             let gone = does h.0 (h.1 c.if-self.false) in (
-              ((told.honest h.0).0, λ live. absurd (still_failed e gone.failed (sym c.is_failed-self.ensures ∙ live)), gone.steady),
+              (
+                (told.honest h.0).0,
+                λ live. absurd (still_failed e gone.failed (sym c.is_failed-self.ensures ∙ live)),
+                gone.steady,
+                anew_exhausted before v w refl told.calls.key gone.crash,
+              ),
               no_mismatch ℕ e _ told.answer,
             );
         quiet = λ lost. absurd (let f : true ≡ false = sym lost ∙ c.if-self.false in cc);
-        past = λ h. past_read tree_form v w told.calls.key (told.honest h.0).1.past;
+        past = λ h. past_read volume_form v w told.calls.key (told.honest h.0).1.past;
       };
-      crash = λ h live. mapped moment left_since (λ x. g.B.Board.view x.board) (λ x. held_of tree_form (g.B.Board.view x.board).key) _ _ (LeftByCommit (Err e) before after)
-          (λ o. ap (λ (k : List ℕ). held_of tree_form k o) told.calls.key)
-          (weaker moment left_since v w (λ c. held_of tree_form v.key c ≡ Some before) (λ o. LeftByCommit (Err e) before after (held_of tree_form w.key o))
-          (λ o same. left_before (Err e) before after (held_of tree_form w.key o) (ap (λ (k : List ℕ). held_of tree_form k o) told.calls.key ∙ same))
+      crash = λ h live. mapped moment left_since (λ x. g.B.Board.view x.board) (λ x. held_of volume_form (g.B.Board.view x.board).key) _ _ (LeftByCommit (Err e) before after)
+          (λ o. ap (λ (k : List ℕ). held_of volume_form k o) told.calls.key)
+          (weaker moment left_since v w (λ c. held_of volume_form v.key c ≡ Some before) (λ o. LeftByCommit (Err e) before after (held_of volume_form w.key o))
+          (λ o same. left_before (Err e) before after (held_of volume_form w.key o) (ap (λ (k : List ℕ). held_of volume_form k o) told.calls.key ∙ same))
           (does h.0 (h.1 live)).crash);
     }
 
@@ -137,3 +149,32 @@ returns-in-Ok-clause-alone g c h = c.in-Ok.ensures.alone h
 
 pub returns-in-Err-clause-alone : goal.returns-in-Err-clause-alone
 returns-in-Err-clause-alone g c h = c.in-Err.ensures.alone h
+
+pub returns-in-Ok-clause-commits : goal.returns-in-Ok-clause-commits
+returns-in-Ok-clause-commits g c =
+    let old = c.args.self.now in
+    let v = g.B.Board.view old.board in
+    let w = g.B.Board.view c.replace.new.board in
+    let o : Opened = c.in-Ok.field-0 in
+    let told = c.in-Ok.ensures in
+    let before : Held = held_now v old.root old.sequence in
+    let after : Held = after_commit c.args.region c.args.leaves.now before in
+    record {
+      committed = λ h. (told.replaced h.0 (h.1 c.if-self.false)).commits;
+      sequence = (told.sequence, told.sequence);
+      unwritten = tt;
+      shows = λ tells. tt;
+      call = record {
+        cause = record { cause = (c.if-self.false, c.if-self.false); later = told.calls.faults; unfailed = told.calls.steady refl; foundation = foundation_same v w told.calls };
+        below = told.honest;
+        honest = λ h.
+            let does = told.replaced h.0 (h.1 c.if-self.false) in
+            ((told.honest h.0, λ live. does.stays, does.steady, anew_open w o.root o.sequence does.stays), tt);
+        quiet = λ lost. absurd (let f : true ≡ false = sym lost ∙ c.if-self.false in cc);
+        past = λ h. past_read volume_form v w told.calls.key (told.past h.0);
+      };
+      crash = λ h live. mapped moment left_since (λ x. g.B.Board.view x.board) (λ x. held_of volume_form (g.B.Board.view x.board).key) _ _ (LeftByCommit (Ok o.sequence) before after)
+          (λ o. ap (λ (k : List ℕ). held_of volume_form k o) told.calls.key)
+          (subst (λ (k : List ℕ). LeavesOnly moment left_since v w (λ c. LeftByCommit (Ok o.sequence) before after (held_of volume_form k c))) (sym told.calls.key)
+          (told.replaced h.0 (h.1 live)).crash);
+    }

@@ -5,9 +5,11 @@ use Rattle.seal.specs.Keys.{AreKeysOf}
 use Rattle.board.specs.Moment.{moment, left_since}
 use Rattle.epoch.proofs.KeepLemmas.{crash_read, err_cause, err_undamaged, foundation_same, held_same, in_use_same, past_read, steady_read, unless_failed}
 use Rattle.epoch.specs.Forms.{held_of}
-use Rattle.tree_paths.specs.Form.{form_root, tree_form}
-use Rattle.tree_paths.specs.Frame.{form_framed}
+use Rattle.tree_paths.specs.Form.{form_root}
+use Rattle.old_volume.specs.Versions.{volume_form}
+use Rattle.old_volume.proofs.FramedLemmas.{volume_framed}
 use Rattle.tree_volume.specs.Keeping.{held_now}
+use Rattle.tree_volume.proofs.AnewLemmas.{anew_open}
 use Rattle.tree_volume.specs.Soundness.{sound_open}
 use Rattle.epoch.proofs.CommitLemmas.{sealed_each}
 use Rattle.tree_volume.proofs.VolumeLemmas.{damage_is, damage_same, leaf_text_is, text_is, text_same}
@@ -24,7 +26,7 @@ returns-in-Ok-clause-reads g c =
     record {
       leaf = λ tells. told.text tells v.key keyed (old.cached tells) ∙ text_is v old.root c.args.region c.args.leaf c.requires.region small;
       text = λ tells. text_same v w old.root told.calls.key (told.same tells);
-      same = λ h. held_same tree_form form_framed v w (form_root old.root) old.sequence told.calls.key (told.honest h.0).1.state.reads;
+      same = λ h. held_same volume_form volume_framed v w (form_root old.root) old.sequence told.calls.key (told.honest h.0).1.state.reads;
       sequence = refl;
       writes = told.writes;
       shows = λ tells. sym (damage_is v old.root c.args.region c.args.leaf c.requires.region small) ∙ told.damage tells v.key keyed (old.cached tells);
@@ -35,17 +37,18 @@ returns-in-Ok-clause-reads g c =
         honest = λ h. (
           (
             (told.honest h.0).0,
-            λ live. in_use_same tree_form form_framed v w (form_root old.root) old.sequence told.calls.key (told.honest h.0).1.state (h.1 c.if-self.false),
-            steady_read tree_form form_framed v w (form_root old.root) told.calls.key (told.honest h.0).1.state h.2,
+            λ live. in_use_same volume_form volume_framed v w (form_root old.root) old.sequence told.calls.key (told.honest h.0).1.state (h.1 c.if-self.false),
+            steady_read volume_form volume_framed v w (form_root old.root) told.calls.key (told.honest h.0).1.state h.2,
+            anew_open w old.root old.sequence (in_use_same volume_form volume_framed v w (form_root old.root) old.sequence told.calls.key (told.honest h.0).1.state (h.1 c.if-self.false)),
           ),
           tt,
         );
         quiet = λ lost. absurd (let f : true ≡ false = sym lost ∙ c.if-self.false in cc);
-        past = λ h. past_read tree_form v w told.calls.key (told.honest h.0).1.past;
+        past = λ h. past_read volume_form v w told.calls.key (told.honest h.0).1.past;
       };
-      crash = λ h live. mapped moment left_since (λ x. g.B.Board.view x.board) (λ x. held_of tree_form (g.B.Board.view x.board).key) _ _ (λ o. o ≡ Some (held_now v old.root old.sequence))
-          (λ o. ap (λ (k : List ℕ). held_of tree_form k o) told.calls.key)
-          (crash_read tree_form form_framed v w (form_root old.root) old.sequence (h.1 live) told.calls.key (told.honest h.0).1);
+      crash = λ h live. mapped moment left_since (λ x. g.B.Board.view x.board) (λ x. held_of volume_form (g.B.Board.view x.board).key) _ _ (λ o. o ≡ Some (held_now v old.root old.sequence))
+          (λ o. ap (λ (k : List ℕ). held_of volume_form k o) told.calls.key)
+          (crash_read volume_form volume_framed v w (form_root old.root) old.sequence (h.1 live) told.calls.key (told.honest h.0).1);
     }
 
 pub returns-in-Err-clause-reads : goal.returns-in-Err-clause-reads
@@ -60,7 +63,7 @@ returns-in-Err-clause-reads g c =
     record {
       leaf = λ tells. tt;
       text = λ tells. text_same v w old.root told.calls.key (told.same tells);
-      same = λ h. held_same tree_form form_framed v w (form_root old.root) old.sequence told.calls.key (told.honest h.0).1.state.reads;
+      same = λ h. held_same volume_form volume_framed v w (form_root old.root) old.sequence told.calls.key (told.honest h.0).1.state.reads;
       sequence = refl;
       writes = told.writes;
       shows = λ tells. subst (ShowsLeaf {A = Unit {0}} (Err c.in-Err.answer)) damage (told.damage tells v.key keyed (old.cached tells));
@@ -78,17 +81,18 @@ returns-in-Err-clause-reads g c =
             let is = h.1 c.if-self.false in (
               (
                 (told.honest h.0).0,
-                λ live. in_use_same tree_form form_framed v w (form_root old.root) old.sequence told.calls.key (told.honest h.0).1.state is,
-                steady_read tree_form form_framed v w (form_root old.root) told.calls.key (told.honest h.0).1.state h.2,
+                λ live. in_use_same volume_form volume_framed v w (form_root old.root) old.sequence told.calls.key (told.honest h.0).1.state is,
+                steady_read volume_form volume_framed v w (form_root old.root) told.calls.key (told.honest h.0).1.state h.2,
+                anew_open w old.root old.sequence (in_use_same volume_form volume_framed v w (form_root old.root) old.sequence told.calls.key (told.honest h.0).1.state is),
               ),
               err_undamaged (Unit {0}) (Unit {0}) c.in-Err.answer _ (told.damage tells v.key keyed (old.cached tells)) (damage ∙ sound_open v old.root old.sequence is c.args.region c.args.leaf),
             );
         quiet = λ lost. absurd (let f : true ≡ false = sym lost ∙ c.if-self.false in cc);
-        past = λ h. past_read tree_form v w told.calls.key (told.honest h.0).1.past;
+        past = λ h. past_read volume_form v w told.calls.key (told.honest h.0).1.past;
       };
-      crash = λ h live. mapped moment left_since (λ x. g.B.Board.view x.board) (λ x. held_of tree_form (g.B.Board.view x.board).key) _ _ (λ o. o ≡ Some (held_now v old.root old.sequence))
-          (λ o. ap (λ (k : List ℕ). held_of tree_form k o) told.calls.key)
-          (crash_read tree_form form_framed v w (form_root old.root) old.sequence (h.1 live) told.calls.key (told.honest h.0).1);
+      crash = λ h live. mapped moment left_since (λ x. g.B.Board.view x.board) (λ x. held_of volume_form (g.B.Board.view x.board).key) _ _ (λ o. o ≡ Some (held_now v old.root old.sequence))
+          (λ o. ap (λ (k : List ℕ). held_of volume_form k o) told.calls.key)
+          (crash_read volume_form volume_framed v w (form_root old.root) old.sequence (h.1 live) told.calls.key (told.honest h.0).1);
     }
 
 pub returns-in-Ok-clause-identified : goal.returns-in-Ok-clause-identified
@@ -97,5 +101,5 @@ returns-in-Ok-clause-identified g c tells image sealed identify =
     let v = g.B.Board.view old.board in
     let keyed : AreKeysOf old.keys v.key = old.keyed in
     let small : c.args.leaf < 1024 = c.requires.leaf in
-    c.in-Ok.ensures.kept tells v.key keyed (old.cached tells) image (sealed_each tree_form v.key (form_root old.root) image sealed c.args.region c.args.leaf c.requires.region small) identify
+    c.in-Ok.ensures.kept tells v.key keyed (old.cached tells) image (sealed_each volume_form v.key (form_root old.root) image sealed c.args.region c.args.leaf c.requires.region small) identify
     ∙ leaf_text_is v.key image old.root c.args.region c.args.leaf c.requires.region small
