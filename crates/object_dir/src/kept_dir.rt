@@ -30,7 +30,7 @@ pub struct KeptDir<'v, V> {
 }
 
 impl<'v, V: Volume> KeptDir<'v, V> {
-    /// The objects of a region of a volume, with what `into_parts` gave back of this region and this volume, or nothing. It
+    /// The objects of a region of a volume, with what `into_volume` left of this region and this volume, or nothing. It
     /// takes no memory; its calls take theirs from this allocator.
     pub fn of(alloc: Global, volume: &'v mut V, region: u8, kept: Option<Kept>) -> KeptDir<'v, V>
         requires { region < MAX_HOSTS }
@@ -53,16 +53,17 @@ impl<'v, V: Volume> KeptDir<'v, V> {
         }
     }
 
-    /// The volume that it was made of, and what is kept. Who ends it so knows that the volume holds what it held at the last
-    /// call.
-    pub fn into_parts(self) -> (&'v mut V, Option<Kept>)
-        ensures volume { result.0.now ≡ self.entry.region.volume.now }
-        ensures same_reference { result.0.ghost_name ≡ self.entry.region.volume.ghost_name }
-        ensures kept { result.1 ≡ self.entry.kept }
+    /// The volume that it was made of; what is kept goes into this place. Who ends it so knows that the volume holds what it
+    /// held at the last call.
+    pub fn into_volume(self, left: &mut Option<Kept>) -> &'v mut V
+        ensures volume { result.now ≡ self.entry.region.volume.now }
+        ensures same_reference { result.ghost_name ≡ self.entry.region.volume.ghost_name }
+        ensures kept { left.new ≡ self.entry.kept }
     {
         let KeptDir { region, kept, .. } = self;
         let Region { volume, .. } = region;
-        (volume, kept)
+        *left = kept;
+        volume
     }
 }
 

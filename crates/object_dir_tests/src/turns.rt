@@ -24,11 +24,13 @@ fn turn<V: Volume, S: AppStore>(
     let alike = answer_alike(&mut objects, store, &change);
     drop(change);
     // what is kept is taken up right behind the change, before a look-up could read it anew
-    let (volume, changed) = objects.into_parts();
+    let mut changed = None;
+    let volume = objects.into_volume(&mut changed);
     let is_kept = changed.is_some();
     let mut objects = KeptDir::of(alloc, volume, REGION, changed);
     let same = are_same(alloc, &mut objects, store, 9);
-    let (_volume, left) = objects.into_parts();
+    let mut left = None;
+    let _volume = objects.into_volume(&mut left);
     if same? && alike && is_kept {
         Ok(left)
     } else {
@@ -69,7 +71,8 @@ fn kept_over_turns(rt: HostRuntime) -> Result<(), Fail> {
 fn look(alloc: Global, volume: &mut Memory) -> Result<Option<Kept>, Fail> {
     let mut objects = KeptDir::of(alloc, volume, REGION, None);
     let found = objects.find(b"a");
-    let (_volume, kept) = objects.into_parts();
+    let mut kept = None;
+    let _volume = objects.into_volume(&mut kept);
     found?;
     Ok(kept)
 }
@@ -84,7 +87,8 @@ fn is_dropped(alloc: Global, volume: &mut Memory, ending: Ending) -> Result<bool
     let failed = objects.apply(&second) == Err(StoreAnswer::Failed);
     drop(second);
     let lost = objects.find(b"a") == Err(StoreAnswer::Lost);
-    let (_volume, left) = objects.into_parts();
+    let mut left = None;
+    let _volume = objects.into_volume(&mut left);
     Ok(had && failed && lost && left.is_none())
 }
 
@@ -94,7 +98,8 @@ fn is_lost_first(alloc: Global, volume: &mut Memory) -> Result<bool, Fail> {
     volume.lost = true;
     let mut objects = KeptDir::of(alloc, volume, REGION, kept);
     let lost = objects.find(b"z") == Err(StoreAnswer::Lost);
-    let (_volume, left) = objects.into_parts();
+    let mut left = None;
+    let _volume = objects.into_volume(&mut left);
     Ok(lost && left.is_none())
 }
 

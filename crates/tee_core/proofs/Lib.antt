@@ -1,6 +1,7 @@
 pub mod Advancing
 pub mod Backs
 pub mod Counts
+pub mod DirectoryLemmas
 pub mod Doubts
 pub mod EventLemmas
 pub mod Losing

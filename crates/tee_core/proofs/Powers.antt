@@ -8,7 +8,8 @@ use Rattle.alone.specs.Step.{after_restart}
 use Rattle.app_side.proofs.Numbered.{doubt_told}
 use Rattle.app_side.specs.Represents.{has_doubt}
 use Rattle.app_side.specs.declared.side.AppSide.{AppSide}
-use Rattle.epoch.specs.Mounts.{IsAlwaysSound, IsLeftSound, LeavesAsBefore}
+use Rattle.epoch.specs.Forms.{Form}
+use Rattle.epoch.specs.Mounts.{IsAlwaysSound, IsLeftSound, IsWrittenAnew, LeavesAsBefore}
 use Rattle.store_api.specs.Volumes.{Held, RestsAt, VolumeKeeper}
 use Rattle.tee_core.specs.Moments.{IsWithin}
 use Rattle.tee_core.specs.Powers.{IsTold, after_power, all_lost, kept_by, restarts_from, told_of}
@@ -67,8 +68,8 @@ module _ {V A : Type 0} (K : VolumeKeeper V)
   is_sound (Some held) left = tt
 
   -- all that a crash may leave is sound
-  pub always_sound : IsAlwaysSound K old
-  always_sound o left = is_sound o (whole.left o left)
+  pub always_sound : (f : Form) → IsWrittenAnew K f old → IsAlwaysSound K f old
+  always_sound f written = record { sound = λ o left. is_sound o (whole.left o left); written = written }
 
   -- the call leaves nothing else
   module _ (as_before : LeavesAsBefore K old new) where

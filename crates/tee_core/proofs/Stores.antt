@@ -21,7 +21,7 @@ own_store store (Some doubt) = refl
 
 -- ---- one region
 
-others_at : (app other : ℕ) (leaves : ℕ → ℕ → List ℕ) → other ≢ app → others app leaves other ≡ leaves other
+pub others_at : (app other : ℕ) (leaves : ℕ → ℕ → List ℕ) → other ≢ app → others app leaves other ≡ leaves other
 others_at app other leaves apart = ap (λ (b : Bool). (λ (l : ℕ). cond b [] (leaves other l))) (ne_eqb other app apart)
 
 -- the regions beside one are the same where the rest is

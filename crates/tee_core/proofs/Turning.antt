@@ -18,24 +18,30 @@ use Rattle.object_asks.specs.Serving.{CrashTurns, IsKind, IsUndamaged, LeftByTur
 use Rattle.object_dir.specs.Laws.{reads_back}
 use Rattle.object_dir.proofs.HeldLemmas.{own_store as region_store, same_contents, stands_by, still_stands}
 use Rattle.object_dir.proofs.PlaceLemmas.{volume_stays}
-use Rattle.object_dir.specs.Directories.{IsOver, damage_of, dir_keeper}
-use Rattle.object_dir.specs.Regions.{in_use, HasStore, contents_in, remains_of, region_in, remains_in, rest_of, store_in}
-use Rattle.object_dir.specs.declared.directory.ObjectDir.{ObjectDir}
-use Rattle.store_api.specs.Keeping.{Contents, Keeper, LeavesJust, Remains, Status}
+use Rattle.object_dir.specs.Directories.{damage_of}
+use Rattle.object_dir.specs.Kept.{IsHeld}
+use Rattle.object_dir.specs.KeptDirs.{HasObjects, kept_keeper}
+use Rattle.object_dir.specs.Regions.{in_use, contents_in, remains_of, region_in, remains_in, rest_of, store_in}
+use Rattle.object_dir.specs.declared.kept_dir.KeptDir.{KeptDir}
+use Rattle.region_plan.specs.declared.directory.Directory.{Directory}
+use Rattle.store_api.specs.Keeping.{Contents, Keeper, LeavesJust, Remains, Rest, Status}
 use Rattle.region_plan.specs.Regions.{breaks}
 use Rattle.store_api.specs.declared.answer.Mismatch.{Mismatch}
 use Rattle.store_api.specs.declared.answer.StoreAnswer.{StoreAnswer}
 use Rattle.store_api.specs.declared.answer.StoreAnswer.TheVariants as stores
 use Rattle.store_api.specs.Stores.{Store}
 use Rattle.store_api.specs.Volumes.{Held, RestsAt, VolumeKeeper}
+use Rattle.tee_core.specs.Directories.{AreHeld, kept_at}
 use Rattle.tee_core.specs.Represents.{HasDoubt, HasStoresOf, HoldsStores, IsLeftOf, StandFor, StoresFrom, kept_of, none_kept}
-use Rattle.tee_core.specs.Turning.{HasDamage, MeetsDamage, TurnsOver}
+use Rattle.tee_core.specs.Turning.{HasDamage, IsOver, MeetsDamage, TurnsOver}
 use Rattle.tee_core.specs.World.{AppEvent, World, met_by_others, moved_at, world_step}
 use Rattle.tee_core.specs.Moments.{IsSound, IsWithin, KeepsCounts, RoseIfLost}
 use Rattle.tee_core.specs.Powers.{all_lost}
 use Rattle.tee_core.specs.Sides.{AreSides}
+use Rattle.tee_core.proofs.DirectoryLemmas.{held_put}
 use Rattle.tee_core.proofs.SideLemmas.{get_other, get_set, map_set, sides_set}
-use Rattle.tee_core.proofs.Stores.{doubt_unlost, has_lost, left_has, left_lost as left_lost_world, own_at, remains_is, same_region, stores_lost, stores_same, whole_at, whole_kept, whole_set}
+use Rattle.tee_core.proofs.Stores.{doubt_unlost, has_lost, left_has, left_lost as left_lost_world, others_at, own_at, remains_is, same_region}
+use Rattle.tee_core.proofs.Stores.{stores_lost, stores_same, whole_at, whole_kept, whole_set}
 
 -- a turn that didn't lose the storage leaves the change in doubt
 doubt_stays : {A : Type 0} (behaviour : Behaviour A) (kind : TurnKind) (m : Machine A) (i : ℕ) → ((changes : Bool) → store_kind kind ≢ store_kinds.Lost changes) →
@@ -140,15 +146,15 @@ module _ {V A : Type 0} (K : VolumeKeeper V)
     (rests : (v : V) → K.honest v → (K.condition v).lost ≡ false → RestsAt K v (K.held v))
     (since : (v : V) (t u : ℕ) (o : Option Held) → t ≤ u → K.left_since v u o → K.left_since v t o)
     (behaviour : Behaviour A) (sides : List (AppSide A)) (world : World A) (app i : ℕ) (kind : TurnKind) (replies : List Reply)
-    (before after : AppSide A) (old new : V) (m : Machine A) (here : slice_get world app ≡ Some m) (stands : Runs_as before m)
-    (whole : StandFor K sides old world) (t : TurnsOver K behaviour app i kind replies before after old new) where
-  abbrev D : Keeper (ObjectDir V)
-  D = dir_keeper K
+    (before after : AppSide A) (taken kept : Option Directory) (old new : V) (m : Machine A) (here : slice_get world app ≡ Some m) (stands : Runs_as before m)
+    (whole : StandFor K sides old world) (right : IsHeld ((K.held old).leaves app) taken) (t : TurnsOver K behaviour app i kind replies before after taken kept old new) where
+  abbrev D : Keeper (KeptDir V)
+  D = kept_keeper K
 
-  abbrev d : ObjectDir V
+  abbrev d : KeptDir V
   d = t.dir_before
 
-  abbrev e : ObjectDir V
+  abbrev e : KeptDir V
   e = t.dir_after
 
   abbrev then : Machine A
@@ -162,10 +168,19 @@ module _ {V A : Type 0} (K : VolumeKeeper V)
   stands_before : region_in app (K.held old) ≡ Ok (store_in app (K.held old))
   stands_before = stands_by app (K.held old) m.store own
 
-  has_before : HasStore K d.region
+  right_before : IsHeld ((K.held d.region.volume.now).leaves d.region.number) d.kept
+  right_before =
+      subst (λ (v : V). IsHeld ((K.held v).leaves d.region.number) d.kept) (sym t.over_old.same_volume)
+      (subst (λ n. IsHeld ((K.held old).leaves n) d.kept) (sym t.over_old.same_region)
+      (subst (λ (o : Option Directory). IsHeld ((K.held old).leaves app) o) (sym t.over_old.same_kept) right))
+
+  has_before : HasObjects K d
   has_before = record {
-    honest = subst K.honest (sym t.over_old.same_volume) whole.honest;
-    stands = still_stands d.region.number app (K.held d.region.volume.now) (K.held old) t.over_old.same_region (ap K.held t.over_old.same_volume) stands_before;
+    store = record {
+      honest = subst K.honest (sym t.over_old.same_volume) whole.honest;
+      stands = still_stands d.region.number app (K.held d.region.volume.now) (K.held old) t.over_old.same_region (ap K.held t.over_old.same_volume) stands_before;
+    };
+    right = right_before;
   }
 
   contents_before : D.contents d ≡ contents_in app (K.held old)
@@ -186,17 +201,17 @@ module _ {V A : Type 0} (K : VolumeKeeper V)
   pub may : is_enabled m (turn_of kind i) ≡ true
   may = t.turn.stands has_before m stands store_before
 
-  has_after : HasStore K e.region
+  has_after : HasObjects K e
   has_after = t.turn.keeps.model has_before
 
   pub honest_after : K.honest new
-  honest_after = subst K.honest t.over_new.same_volume has_after.honest
+  honest_after = subst K.honest t.over_new.same_volume has_after.store.honest
 
   pub met_no_damage : IsSound kind
   met_no_damage = sound_by kind (t.turn.honest has_before).1
 
   stands_after : region_in app (K.held new) ≡ Ok (store_in app (K.held new))
-  stands_after = still_stands app e.region.number (K.held new) (K.held e.region.volume.now) (sym t.over_new.same_region) (ap K.held (sym t.over_new.same_volume)) has_after.stands
+  stands_after = still_stands app e.region.number (K.held new) (K.held e.region.volume.now) (sym t.over_new.same_region) (ap K.held (sym t.over_new.same_volume)) has_after.store.stands
 
   store_then : then.store ≡ (D.contents e).store
   store_then = t.turn.store has_before m stands store_before
@@ -206,6 +221,21 @@ module _ {V A : Type 0} (K : VolumeKeeper V)
 
   rest_after : rest_of app (K.held new) ≡ rest_of app (K.held old)
   rest_after = sym (ap (λ (c : Contents). c.rest) contents_after) ∙ (t.turn.keeps.beside has_before).rest ∙ ap (λ (c : Contents). c.rest) contents_before
+
+  -- the directory that is kept afterwards is right, and so are those of the other regions
+  right_after : IsHeld ((K.held new).leaves app) kept
+  right_after =
+      subst (λ (o : Option Directory). IsHeld ((K.held new).leaves app) o) t.over_new.same_kept
+      (subst (λ n. IsHeld ((K.held new).leaves n) e.kept) t.over_new.same_region
+      (subst (λ (v : V). IsHeld ((K.held v).leaves e.region.number) e.kept) t.over_new.same_volume has_after.right))
+
+  leaves_stay : (other : ℕ) → other ≢ app → (K.held new).leaves other ≡ (K.held old).leaves other
+  leaves_stay other apart =
+      sym (others_at app other (K.held new).leaves apart) ∙ ap (λ (r : Rest). r.leaves other) rest_after ∙ others_at app other (K.held old).leaves apart
+
+  pub held_after : (dirs then_dirs : List (Option Directory)) → kept_at then_dirs app ≡ kept → ((other : ℕ) → other ≢ app → kept_at then_dirs other ≡ kept_at dirs other)
+      → AreHeld (K.held old).leaves dirs → AreHeld (K.held new).leaves then_dirs
+  held_after dirs then_dirs own others are = held_put (K.held old).leaves (K.held new).leaves dirs then_dirs app kept leaves_stay right_after own others are
 
   number_before : (D.contents d).number ≡ (K.held old).sequence
   number_before = ap (λ (c : Contents). c.number) contents_before
@@ -505,10 +535,10 @@ rose_by kinds.Starved old new cause = tt
 rose_by kinds.Corrupted old new cause = tt
 
 -- what a turn leaves of the counts, whatever the board
-pub counts_kept : {V A : Type 0} (K : VolumeKeeper V) (behaviour : Behaviour A) (app i : ℕ) (kind : TurnKind) (replies : List Reply) (before after : AppSide A) (old new : V)
-    → TurnsOver K behaviour app i kind replies before after old new → KeepsCounts kind (K.condition old) (K.condition new)
-counts_kept {V} K behaviour app i kind replies before after old new t =
-    let D : Keeper (ObjectDir V) = dir_keeper K in
+pub counts_kept : {V A : Type 0} (K : VolumeKeeper V) (behaviour : Behaviour A) (app i : ℕ) (kind : TurnKind) (replies : List Reply) (before after : AppSide A)
+    (taken kept : Option Directory) (old new : V) → TurnsOver K behaviour app i kind replies before after taken kept old new → KeepsCounts kind (K.condition old) (K.condition new)
+counts_kept {V} K behaviour app i kind replies before after taken kept old new t =
+    let D : Keeper (KeptDir V) = kept_keeper K in
     let faults_old : (D.status t.dir_before).faults ≡ (K.condition old).faults = ap (λ (v : V). (K.condition v).faults) t.over_old.same_volume in
     let faults_new : (D.status t.dir_after).faults ≡ (K.condition new).faults = ap (λ (v : V). (K.condition v).faults) t.over_new.same_volume in
     record {
@@ -520,21 +550,22 @@ counts_kept {V} K behaviour app i kind replies before after old new t =
     }
 
 -- and what the volume stands on goes on keeping to its rules
-pub below_kept : {V A : Type 0} (K : VolumeKeeper V) (behaviour : Behaviour A) (app i : ℕ) (kind : TurnKind) (replies : List Reply) (before after : AppSide A) (old new : V)
-    → TurnsOver K behaviour app i kind replies before after old new → K.honest_below old → K.honest_below new
-below_kept K behaviour app i kind replies before after old new t below =
+pub below_kept : {V A : Type 0} (K : VolumeKeeper V) (behaviour : Behaviour A) (app i : ℕ) (kind : TurnKind) (replies : List Reply) (before after : AppSide A)
+    (taken kept : Option Directory) (old new : V) → TurnsOver K behaviour app i kind replies before after taken kept old new → K.honest_below old → K.honest_below new
+below_kept K behaviour app i kind replies before after taken kept old new t below =
     subst K.honest_below t.over_new.same_volume (t.turn.keeps.below (subst K.honest_below (sym t.over_old.same_volume) below))
 
 -- what an answer of damage tells of a store over a region is damage of the region
-damage_under : {V : Type 0} (K : VolumeKeeper V) (region : ℕ) (volume : V) (d : ObjectDir V) → IsOver region volume d → (answer : StoreAnswer) → damage_of K d.region answer
+damage_under : {V : Type 0} (K : VolumeKeeper V) (region : ℕ) (volume : V) (kept : Option Directory) (d : KeptDir V) → IsOver region volume kept d → (answer : StoreAnswer)
+    → damage_of K d.region answer
     → IsTrue K.tells_reads → HasDamage K region volume
-damage_under K region volume d over stores.NotFound told tells = absurd told
-damage_under K region volume d over stores.Exists told tells = absurd told
-damage_under K region volume d over stores.NoSpace told tells = absurd told
-damage_under K region volume d over stores.Lost told tells = absurd told
-damage_under K region volume d over stores.Failed told tells = absurd told
-damage_under K region volume d over stores.NoMemory told tells = absurd told
-damage_under {V} K region volume d over (stores.Corrupt tags) told tells =
+damage_under K region volume kept d over stores.NotFound told tells = absurd told
+damage_under K region volume kept d over stores.Exists told tells = absurd told
+damage_under K region volume kept d over stores.NoSpace told tells = absurd told
+damage_under K region volume kept d over stores.Lost told tells = absurd told
+damage_under K region volume kept d over stores.Failed told tells = absurd told
+damage_under K region volume kept d over stores.NoMemory told tells = absurd told
+damage_under {V} K region volume kept d over (stores.Corrupt tags) told tells =
     let shown = told tells in
     inl (
       shown.0,
@@ -542,19 +573,19 @@ damage_under {V} K region volume d over (stores.Corrupt tags) told tells =
       tags,
       ap (λ (v : V). K.damage v region shown.0) (sym over.same_volume) ∙ ap (λ (r : ℕ). K.damage d.region.volume.now r shown.0) (sym over.same_region) ∙ shown.2,
     )
-damage_under {V} K region volume d over (stores.Garbled leaf) told tells =
+damage_under {V} K region volume kept d over (stores.Garbled leaf) told tells =
     let text : K.text d.region.volume.now d.region.number ≡ K.text volume region
     = ap (λ (v : V). K.text v d.region.number) over.same_volume ∙ ap (λ (r : ℕ). K.text volume r) over.same_region in
     inr (leaf, told.below, subst (λ (leaves : ℕ → List ℕ). IsTrue (breaks in_use leaves leaf)) text (told.breaks tells))
 
-damage_by : {V : Type 0} (K : VolumeKeeper V) (region : ℕ) (volume : V) (d : ObjectDir V) → IsOver region volume d → (kind : TurnKind)
+damage_by : {V : Type 0} (K : VolumeKeeper V) (region : ℕ) (volume : V) (kept : Option Directory) (d : KeptDir V) → IsOver region volume kept d → (kind : TurnKind)
     → ShowsDamage (store_kind kind) (damage_of K d.region) → MeetsDamage K region kind volume
-damage_by K region volume d over kinds.Plain shown = tt
-damage_by K region volume d over (kinds.Lost changes) shown = tt
-damage_by K region volume d over kinds.Starved shown = tt
-damage_by K region volume d over kinds.Corrupted shown = λ tells. damage_under K region volume d over shown.0 shown.1 tells
+damage_by K region volume kept d over kinds.Plain shown = tt
+damage_by K region volume kept d over (kinds.Lost changes) shown = tt
+damage_by K region volume kept d over kinds.Starved shown = tt
+damage_by K region volume kept d over kinds.Corrupted shown = λ tells. damage_under K region volume kept d over shown.0 shown.1 tells
 
 -- a turn that met damage met some that there is
-pub damage_met : {V A : Type 0} (K : VolumeKeeper V) (behaviour : Behaviour A) (app i : ℕ) (kind : TurnKind) (replies : List Reply) (before after : AppSide A) (old new : V)
-    → TurnsOver K behaviour app i kind replies before after old new → MeetsDamage K app kind new
-damage_met K behaviour app i kind replies before after old new t = damage_by K app new t.dir_after t.over_new kind t.turn.damage
+pub damage_met : {V A : Type 0} (K : VolumeKeeper V) (behaviour : Behaviour A) (app i : ℕ) (kind : TurnKind) (replies : List Reply) (before after : AppSide A)
+    (taken kept : Option Directory) (old new : V) → TurnsOver K behaviour app i kind replies before after taken kept old new → MeetsDamage K app kind new
+damage_met K behaviour app i kind replies before after taken kept old new t = damage_by K app new kept t.dir_after t.over_new kind t.turn.damage

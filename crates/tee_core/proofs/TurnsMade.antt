@@ -14,7 +14,8 @@ use Rattle.object_asks.specs.Serving.{SaysChange}
 use Rattle.store_api.specs.Volumes.{VolumeKeeper}
 use Rattle.tee_core.specs.declared.happened.Happened.{Happened}
 use Rattle.tee_core.specs.Happenings.{IsPlainBehind, append_if_told, turn_happened}
-use Rattle.tee_core.specs.Represents.{StandFor}
+use Rattle.tee_core.specs.Represents.{StandWith}
+use Rattle.region_plan.specs.declared.directory.Directory.{Directory}
 use Rattle.tee_core.specs.Sides.{AreSides, turns_in}
 use Rattle.tee_core.specs.World.{World, events_at, met_by_others, moved_at, world_after, world_step}
 use Rattle.tee_core.proofs.SideLemmas.{get_set, side_here}
@@ -77,16 +78,16 @@ module _ {A : Type 0} (behaviour : Behaviour A) where
 
 module _ {V A : Type 0} (K : VolumeKeeper V) (behaviour : Behaviour A) (world : World A) (m : Machine A) (app i op : ℕ) (here : slice_get world app ≡ Some m) where
   -- so many turns were made, and these values stand for what they led to
-  abbrev pub Made : List (AppSide A) → V → ℕ → List Happened → List Happened → Type 0
-  Made sides volume k before told = HasTurned behaviour (Leads behaviour (λ (w : World A). StandFor K sides volume w) world app) m i op k before told
+  abbrev pub Made : List (AppSide A) → List (Option Directory) → V → ℕ → List Happened → List Happened → Type 0
+  Made sides kept volume k before told = HasTurned behaviour (Leads behaviour (λ (w : World A). StandWith K sides kept volume w) world app) m i op k before told
 
-  pub made_none : (sides : List (AppSide A)) (volume : V) (before : List Happened) → StandFor K sides volume world → IsPlainBehind (turns_in (slice_get sides app)) before →
-      Made sides volume 0 before before
-  made_none sides volume before stands plain =
-      turns_start behaviour (Leads behaviour (λ (w : World A). StandFor K sides volume w) world app) m i op before stands
-      (subst (λ n. IsPlainBehind n before) (sides_turns sides world app m stands.sides_are here) plain)
+  pub made_none : (sides : List (AppSide A)) (kept : List (Option Directory)) (volume : V) (before : List Happened) → StandWith K sides kept volume world
+      → IsPlainBehind (turns_in (slice_get sides app)) before → Made sides kept volume 0 before before
+  made_none sides kept volume before stands plain =
+      turns_start behaviour (Leads behaviour (λ (w : World A). StandWith K sides kept volume w) world app) m i op before stands
+      (subst (λ n. IsPlainBehind n before) (sides_turns sides world app m stands.stand.sides_are here) plain)
 
-  module _ (sides : List (AppSide A)) (old : V) (k : ℕ) (before told : List Happened) (run : Made sides old k before told) where
+  module _ (sides : List (AppSide A)) (kept : List (Option Directory)) (old : V) (k : ℕ) (before told : List Happened) (run : Made sides kept old k before told) where
     -- the world so far, and its machine
     abbrev pub so_far : World A
     so_far = world_after behaviour world (events_at behaviour app run.made)
@@ -95,30 +96,30 @@ module _ {V A : Type 0} (K : VolumeKeeper V) (behaviour : Behaviour A) (world : 
     now_there = at_after behaviour world app m run.made here ∙ ap (λ (x : Machine A). Some x) run.now_is
 
     pub now_turns : run.now.turns ≡ turns_in (slice_get sides app)
-    now_turns = sym (sides_turns sides so_far app run.now run.stands.sides_are now_there)
+    now_turns = sym (sides_turns sides so_far app run.now run.stands.stand.sides_are now_there)
 
     -- what the application says of the operation
     pub now_says : (side d : AppSide A) (answer : Bool) → app < length sides → side ≡ get_or sides app d → ((n : Machine A) → Runs_as side n → answer ≡ is_answered n op) →
         answer ≡ is_answered run.now op
-    now_says side d answer lt value says = says run.now (side_here sides so_far app side d run.now run.stands.sides_are lt value now_there)
+    now_says side d answer lt value says = says run.now (side_here sides so_far app side d run.now run.stands.stand.sides_are lt value now_there)
 
     -- one turn more
-    pub made_further : (then : List (AppSide A)) (new : V) (kind : TurnKind) (turn : ℕ) (replies : List Reply)
-        → ((w : World A) → StandFor K sides old w → StandFor K then new (world_step behaviour w (record { app = app; event = event_of kind i })))
-        → ((w : World A) (n : Machine A) → StandFor K sides old w → slice_get w app ≡ Some n → is_enabled n (event_of kind i) ≡ true)
-        → ((w : World A) (n : Machine A) → StandFor K sides old w → slice_get w app ≡ Some n → SaysChange (store_kind kind) (is_changing n i))
-        → ((w : World A) (n : Machine A) → StandFor K sides old w → slice_get w app ≡ Some n → replies ≡ (step behaviour n (event_of kind i)).replies)
+    pub made_further : (then : List (AppSide A)) (kept_then : List (Option Directory)) (new : V) (kind : TurnKind) (turn : ℕ) (replies : List Reply)
+        → ((w : World A) → StandWith K sides kept old w → StandWith K then kept_then new (world_step behaviour w (record { app = app; event = event_of kind i })))
+        → ((w : World A) (n : Machine A) → StandWith K sides kept old w → slice_get w app ≡ Some n → is_enabled n (event_of kind i) ≡ true)
+        → ((w : World A) (n : Machine A) → StandWith K sides kept old w → slice_get w app ≡ Some n → SaysChange (store_kind kind) (is_changing n i))
+        → ((w : World A) (n : Machine A) → StandWith K sides kept old w → slice_get w app ≡ Some n → replies ≡ (step behaviour n (event_of kind i)).replies)
         → turn ≡ turns_in (slice_get then app) → k < 10000000 → is_answered run.now op ≡ false
-        → Made then new (k + 1) before (append_if_told told (turn_happened kind turn i replies))
-    made_further then new kind turn replies steps stands change replied counted within not_yet =
+        → Made then kept_then new (k + 1) before (append_if_told told (turn_happened kind turn i replies))
+    made_further then kept_then new kind turn replies steps stands change replied counted within not_yet =
         let e : Event = event_of kind i in
         let stepped = steps so_far run.stands in
         let turns : turn ≡ (step behaviour run.now e).machine.turns =
-        counted ∙ sides_turns then (world_step behaviour so_far (record { app = app; event = e })) app (step behaviour run.now e).machine stepped.sides_are
+        counted ∙ sides_turns then (world_step behaviour so_far (record { app = app; event = e })) app (step behaviour run.now e).machine stepped.stand.sides_are
         (at_step behaviour so_far app run.now e now_there) in
         let told_so = turn_is behaviour run.now kind i turn replies (says_so kind (is_changing run.now i) (change so_far run.now run.stands now_there)) turns
         (replied so_far run.now run.stands now_there) in
-        turns_further behaviour (Leads behaviour (λ (w : World A). StandFor K sides old w) world app) (Leads behaviour (λ (w : World A). StandFor K then new w) world app) m i op k
+        turns_further behaviour (Leads behaviour (λ (w : World A). StandWith K sides kept old w) world app) (Leads behaviour (λ (w : World A). StandWith K then kept_then new w) world app) m i op k
         before told run within not_yet
         (turn_happened kind turn i replies) (stands so_far run.now run.stands now_there)
-        (subst (λ (w : World A). StandFor K then new w) (sym (world_more behaviour world app run.made e)) stepped) told_so
+        (subst (λ (w : World A). StandWith K then kept_then new w) (sym (world_more behaviour world app run.made e)) stepped) told_so

@@ -1,7 +1,7 @@
 -- The kind of volume in use.
 use Rattle.epoch.specs.Forms.{Form}
-use Rattle.tree_paths.specs.Form.{tree_form}
+use Rattle.old_volume.specs.Versions.{volume_form}
 
--- how its leaves lie on a board
+-- how its leaves lie on a board, in both versions
 abbrev pub form_in_use : Form
-form_in_use = tree_form
+form_in_use = volume_form

@@ -1,3 +1,4 @@
+pub mod Directories
 pub mod Happenings
 pub mod InUse
 pub mod Moments

@@ -1,10 +1,12 @@
 -- What a loss of power is for the world, and what a refused one leaves.
 use Rattle.app_api.specs.Behaviours.{Behaviour}
-use Rattle.std.specs.Prelude.{ℕ, ◌<◌, ◌≤◌, ◌+◌, Bool, true, false, [], ◌∷◌, Option, None, Some, map}
+use Rattle.std.specs.Prelude.{ℕ, ◌<◌, ◌≤◌, ◌+◌, Bool, true, false, [], ◌∷◌, Option, None, Some, Result, Ok, Err, map}
 use Rattle.alone.specs.declared.power.Power.{Power}
 use Rattle.alone.specs.declared.power.Power.TheVariants.{Clean, Kept, Absent}
 use Rattle.alone.specs.Machine.{Machine}
 use Rattle.alone.specs.Step.{Restarted, step}
+use Rattle.epoch.specs.Opening.{is_no_failure}
+use Rattle.epoch.specs.declared.answer.OpenAnswer.{OpenAnswer}
 use Rattle.tee_core.specs.Represents.{HasDoubt, kept_of, none_kept}
 use Rattle.tee_core.specs.World.{World}
 
@@ -31,6 +33,11 @@ abbrev pub IsTold : {A : Type 0} → Power → World A → ℕ → ℕ → Type 
 IsTold Clean world acknowledged opened = (owner : ℕ) → HasDoubt owner world → ⊥
 IsTold (Kept owner) world acknowledged opened = HasDoubt owner world × (acknowledged < opened)
 IsTold (Absent owner) world acknowledged opened = HasDoubt owner world × (opened ≤ acknowledged)
+
+-- the answer shows that no block was written: it is a refusal, and no call failed
+abbrev pub shows_unwritten : {X : Type 0} → Result X OpenAnswer → Bool
+shows_unwritten (Ok told) = false
+shows_unwritten (Err why) = is_no_failure why
 
 -- the storage of every machine is lost
 abbrev pub all_lost : {A : Type 0} → World A → World A

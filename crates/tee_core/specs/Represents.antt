@@ -3,11 +3,13 @@ use Rattle.std.specs.Prelude.{ℕ, ◌≡◌, ◌<◌, ◌⊎◌, ◌+◌, ◌==
 use Rattle.store_api.specs.Volumes.{Held, VolumeKeeper}
 use Rattle.store_api.specs.declared.volume.Volume.{Ghosts}
 use Rattle.object_dir.specs.Regions.{region_in}
+use Rattle.region_plan.specs.declared.directory.Directory.{Directory}
 use Rattle.app_side.specs.Represents.{event_of as turn_of}
 use Rattle.app_side.specs.declared.side.AppSide.{AppSide}
 use Rattle.alone.specs.declared.turn.TurnKind.{TurnKind}
 use Rattle.alone.specs.Machine.{Machine}
 use Rattle.alone.specs.Step.{Event as MachineEvent, Called, Cancelled, store_found}
+use Rattle.tee_core.specs.Directories.{AreHeld}
 use Rattle.tee_core.specs.Sides.{AreSides, turns_in}
 use Rattle.tee_core.specs.World.{World, AppEvent}
 use Rattle.tee_core.specs.declared.happened.Event.{Event}
@@ -70,9 +72,14 @@ module _ {V : Type 0} (K : VolumeKeeper V) where
     pub calm : (K.condition volume).lost ≡ false → (owner : ℕ) → HasDoubt owner world → ⊥
     pub single : (one other : ℕ) → HasDoubt one world → HasDoubt other world → one ≡ other
 
+  -- and so do they with these directories, each of which is that of its region's leaves as the volume holds them
+  pub record StandWith {A : Type 0} (sides : List (AppSide A)) (kept : List (Option Directory)) (volume : V) (world : World A) : Type 0 where
+    pub stand : StandFor sides volume world
+    pub held : AreHeld (K.held volume).leaves kept
+
 -- the value stands for the world
 abbrev pub Represents : {B V A : Type 0} {G : Ghosts V} → TeeOver B V A G → World A → Type 0
-Represents {B} {V} {A} {G} tee world = StandFor G.keeper tee.sides.items tee.volume world
+Represents {B} {V} {A} {G} tee world = StandWith G.keeper tee.sides.items tee.kept.places tee.volume world
 
 -- the volume that keeps the objects
 abbrev pub volume_of : {B V A : Type 0} {G : Ghosts V} → TeeOver B V A G → V

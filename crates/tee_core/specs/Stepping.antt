@@ -1,12 +1,12 @@
 -- What an event of an application leaves of the value, and what an order of the board does: of each world that it represents, of the
 -- board, and of the other applications.
 use Rattle.app_api.specs.Behaviours.{Behaviour}
-use Rattle.std.specs.Prelude.{ℕ, ◌≡◌, ◌≢◌, true, Some, slice_get}
+use Rattle.std.specs.Prelude.{ℕ, ◌≡◌, ◌≢◌, ◌∷◌, true, Some, slice_get}
 use Rattle.alone.specs.declared.power.Power.{Power}
 use Rattle.alone.specs.declared.turn.TurnKind.{TurnKind}
 use Rattle.alone.specs.Machine.{Machine}
 use Rattle.alone.specs.Step.{is_enabled}
-use Rattle.board.specs.Moment.{View}
+use Rattle.board.specs.Moment.{Order, View}
 use Rattle.epoch.specs.Forms.{Form}
 use Rattle.store_api.specs.declared.volume.Volume.{Ghosts}
 use Rattle.tee_core.specs.Moments.{IsSound, IsWithin, KeepsCounts, OrderLeavesStores}
@@ -47,9 +47,12 @@ pub record KeepsTurns {B V A : Type 0} {G : Ghosts V} (old new : TeeOver B V A G
   pub turns : (app : ℕ) → turns_made new app ≡ turns_made old app
 
 -- the power was lost and came back, of which this was told: the value represents the world in which every machine began anew, what was
--- told is so by the sequences, and right behind the order itself a crash leaves the stores of that world
+-- told is so by the sequences, right behind the order itself a crash leaves the stores of that world; no block was written, and each reads as the
+-- order left it
 pub record Restarts {B V A : Type 0} {G : Ghosts V} (behaviour : Behaviour A) (form : Form) (before after : View) (start : World A) (tells : Power) (old new : TeeOver B V A G)
     : Type 0 where
   pub world : Represents new (after_power behaviour start tells)
   pub told : IsTold tells start (G.keeper.held (volume_of old)).sequence (G.keeper.held (volume_of new)).sequence
   pub left : OrderLeavesStores form before after (after_power behaviour start tells)
+  pub unwritten : after.writes ≡ before.writes
+  pub reads : (order : Order) → after.ordered ≡ order ∷ before.ordered → after.state.reads ≡ order.after.reads

@@ -12,6 +12,7 @@ ghost use Rattle.tee_core.specs.Represents.{app_count, app_of, event_of, machine
 ghost use Rattle.tee_core.specs.Stepping.{KeepsOthers, MakesEvent};
 ghost use Rattle.tee_core.specs.World.{World};
 
+use crate::directories::Directories;
 use crate::happened::{Event, Happened};
 use crate::sides::{lose_all, turn_over};
 use crate::tee::TeeOver;
@@ -147,7 +148,8 @@ impl<B, V: Volume, A: Application> TeeOver<B, V, A> {
         }
     }
 
-    /// A turn of the instance, with its replies. One that lost the storage is told to every other application.
+    /// A turn of the instance, with its replies. One that lost the storage is told to every other application, and no directory
+    /// is kept then.
     #[inline(never)]
     pub(crate) fn advance(&mut self, app: u8, instance: u8, replies: &mut Replies) -> TurnKind
         requires known { app < app_count self.old }
@@ -164,16 +166,20 @@ impl<B, V: Volume, A: Application> TeeOver<B, V, A> {
         ensures kept { KeepsOthers app self.old self.new }
         ensures turns { turns_made self.new app ≡ turns_made self.old app + 1 }
     {
-        let kind = turn_over(
+        let kept = self.kept.take(app);
+        let (kind, kept) = turn_over(
             self.alloc,
             &mut self.sides[app as usize],
             &mut self.volume,
+            kept,
             app,
             instance,
             replies,
         );
+        self.kept.put(app, kept);
         if let TurnKind::Lost { .. } = kind {
             lose_all(&mut self.sides);
+            self.kept = Directories::none();
         }
         kind
     }

@@ -1,6 +1,7 @@
 //! All applications side by side, in one thread: each a machine of its own, over the objects of its region of one volume.
 #![tactic(auto)]
 
+mod directories;
 mod events;
 mod happened;
 mod power;
@@ -9,6 +10,7 @@ mod sides;
 mod tee;
 
 pub use alone::{Power, TurnKind};
+pub use directories::Directories;
 pub use epoch::{OpenAnswer, Unopened};
 pub use happened::{Event, Happened, RunReplies};
 pub use tee::{Tee, TeeOver, VolumeInUse};

@@ -12,19 +12,20 @@ ghost use Rattle.board.specs.Runs.{Rests};
 ghost use Rattle.board.specs.Fuse.{fuse_after_set};
 ghost use Rattle.board.specs.Steps.{Passes, SameBlocks, Unchanged};
 ghost use Rattle.epoch.specs.Forms.{held_in};
-ghost use Rattle.epoch.specs.Mounts.{HandsBack, HandsBackByRule, IsAdmitted, IsKeptFromOpening, IsRefusal, LeavesOpening, LosesPower, LosesPowerByRule, OpensHonestly, OrderRun};
+ghost use Rattle.epoch.specs.Mounts.{HandsBack, HandsBackByRule, IsAdmitted, IsFound, IsKeptFromOpening, IsRefusal, IsRefusalOver, LeavesOpening, LosesPower, LosesPowerByRule, OpensHonestly, OrderRun, TakesUp};
 ghost use Rattle.epoch.specs.Opening.{is_no_failure, no_failure};
 ghost use Rattle.epoch.specs.Past.{KeepsPast};
-ghost use Rattle.epoch.specs.declared.mounts.TheConstants.{FORMATTED};
+ghost use Rattle.epoch.specs.declared.mounts.TheConstants.{BLANK, FORMATTED};
 ghost use Rattle.epoch.specs.declared.answer.OpenAnswer.TheVariants as answers;
 ghost use Rattle.tee_core.specs.Moments.{IsWithin};
 ghost use Rattle.tee_core.specs.Opening.{IsOpenedOver, IsSoundFor};
-ghost use Rattle.tee_core.specs.Powers.{all_lost, kept_by, kept_one, told_of};
+ghost use Rattle.tee_core.specs.Powers.{all_lost, kept_by, kept_one, shows_unwritten, told_of};
 ghost use Rattle.tee_core.specs.Stepping.{HasBegun, KeepsTurns, Restarts};
 ghost use Rattle.tee_core.specs.Represents.{boots_of, volume_of, Represents};
 ghost use Rattle.tee_core.specs.Sides.{AreBooted, AreLost, AreSides};
 ghost use Rattle.tee_core.specs.World.{World, world_of};
 
+use crate::directories::Directories;
 use crate::sides::{lose_all, owner_of_doubt, restart_all};
 use crate::tee::TeeOver;
 use alone::Power;
@@ -87,7 +88,8 @@ fn owner_kept(owner: Option<u8>, kept: bool) -> Option<u8>
 }
 
 impl<B: Board, V: BoardVolume<B>, A: Application> TeeOver<B, V, A> {
-    /// Applications that have run nothing, over the objects of a board; one that is blank is formatted.
+    /// Applications that have run nothing, over the objects of a board; one that is blank is formatted, and a volume of an older
+    /// version is taken over with its objects.
     ///
     /// # Errors
     ///
@@ -117,11 +119,12 @@ impl<B: Board, V: BoardVolume<B>, A: Application> TeeOver<B, V, A> {
         ensures honest_back { B.honest board → IfErr result (λ u. B.honest u.board
             × HandsBackByRule V.form (λ k. (3 < k) × V.untouched k) u.why (B.view board)
             (B.view u.board)) }
-        // whatever the board: by the rule over what it tells, at some counter
+        // whatever the board: by the rule over what it tells, at some counter; what is refused of the leaves behind the
+        // header is by what the board that is handed back tells
         ensures rule { IsTrue B.tells_reads → (counter : ℕ)
-            × IfErr result (λ u. IsRefusal V.form (B.view board)
-            (B.view board).state.reads counter u.why)
-            × IfOk result (λ tee. IsAdmitted V.form (B.view board)
+            × IfErr result (λ u. IsRefusalOver V.form (B.view board)
+            (B.view u.board).state.reads counter u.why)
+            × IfOk result (λ tee. IsFound V.form (B.view board)
             (B.view board).state.reads counter FORMATTED (V.keeper.held (volume_of tee)).sequence
             (V.root (volume_of tee))) }
         ensures exact { B.honest board → (counter : ℕ) × IsCounter (B.view board).state counter
@@ -147,6 +150,7 @@ impl<B: Board, V: BoardVolume<B>, A: Application> TeeOver<B, V, A> {
             alloc,
             volume,
             sides,
+            kept: Directories::none(),
             boots: 0,
             board: PhantomData,
         })
@@ -176,20 +180,25 @@ impl<B: Board, V: BoardVolume<B>, A: Application> TeeOver<B, V, A> {
     }
 
     /// A loss of power: the applications begin anew over what the board kept. It says of a change in doubt whether it is
-    /// kept, which is so exactly where the sequence that was opened is greater than the last acknowledged one.
+    /// kept, which is so exactly where the sequence that was found is greater than the last acknowledged one.
     ///
     /// # Errors
     ///
     /// The volume isn't opened again: every application is lost, and is otherwise as before.
     pub fn power(&mut self, pick: u64) -> Result<Power, OpenAnswer>
         requires { boots_of self.old < 2 ^ 32 - 1 }
-        // the order goes before any other call, no block is written, and a call failed exactly where the answer says so
+        // the order goes before any other call, and a call failed exactly where the answer says so
         ensures calls { LosesPower pick (no_failure result)
             (B.view (V.board_of (volume_of self.old))) (B.view (V.board_of (volume_of self.new))) }
+        ensures writes { shows_unwritten result ≡ true
+            → (B.view (V.board_of (volume_of self.new))).writes
+            ≡ (B.view (V.board_of (volume_of self.old))).writes }
         ensures honest { B.honest (V.board_of (volume_of self.old))
             → B.honest (V.board_of (volume_of self.new))
-            × LosesPowerByRule V.form pick result
-            (λ told. (V.keeper.held (volume_of self.new)).sequence) (V.root (volume_of self.new))
+            × LosesPowerByRule V.form (λ k. (3 < k) × V.untouched k) pick (shows_unwritten result)
+            result (λ told header. TakesUp V.form header BLANK
+            (V.keeper.held (volume_of self.new)).sequence (V.root (volume_of self.new)))
+            (λ told. (V.keeper.held (volume_of self.new)).sequence)
             (B.view (V.board_of (volume_of self.old))) (B.view (V.board_of (volume_of self.new))) }
         // every machine restarts, over what the order itself left to a crash
         ensures restarted { IfOk result (λ told. (world : World A) → Represents self.old world
@@ -206,9 +215,10 @@ impl<B: Board, V: BoardVolume<B>, A: Application> TeeOver<B, V, A> {
     {
         let acknowledged = self.volume.sequence();
         let owner = owner_of_doubt(self.sides.as_slice());
+        self.kept = Directories::none();
         match self.volume.power(pick) {
-            Ok(opened) => {
-                let kept = acknowledged < opened;
+            Ok(found) => {
+                let kept = acknowledged < found.sequence;
                 let taken = owner_kept(owner, kept);
                 restart_all(&mut self.sides, taken, &mut self.boots);
                 Ok(power_of(owner, kept))

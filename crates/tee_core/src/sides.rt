@@ -15,32 +15,35 @@ ghost use Rattle.tee_core.specs.World.{World};
 use alone::{Replies, TurnKind};
 use app_api::Application;
 use app_side::AppSide;
-use object_dir::ObjectDir;
+use object_dir::{Kept, KeptDir};
 use std::alloc::Global;
 use store_api::Volume;
 
-/// A turn of an instance, over the region of its application.
+/// A turn of an instance, over the region of its application. It takes up the directory that is kept of it, and gives back the
+/// one that is kept then.
 pub(crate) fn turn_over<V: Volume, A: Application>(
     alloc: Global,
     side: &mut AppSide<A>,
     volume: &mut V,
+    kept: Option<Kept>,
     region: u8,
     instance: u8,
     replies: &mut Replies,
-) -> TurnKind
+) -> (TurnKind, Option<Kept>)
     requires few { turns_of side.old < MAX_NUMBER }
     requires region { region < MAX_HOSTS }
     requires loss { is_lost side.old ≡ (V.keeper.condition volume.old).lost }
     requires none { replies.old ≡ [] }
-    ensures turn { TurnsOver V.keeper A.behaviour region instance result replies.new
-        side.old side.new volume.old volume.new }
+    ensures turn { TurnsOver V.keeper A.behaviour region instance result.0 replies.new
+        side.old side.new kept result.1 volume.old volume.new }
     ensures turns { turns_of side.new ≡ turns_of side.old + 1 }
     ensures boot { boot_of side.new ≡ boot_of side.old }
 {
-    let mut dir = ObjectDir::of(alloc, volume, region);
+    let mut dir = KeptDir::of(alloc, volume, region, kept);
     let kind = side.turn_into(instance, &mut dir, replies);
-    let _volume = dir.into_volume();
-    kind
+    let mut left = None;
+    let _volume = dir.into_volume(&mut left);
+    (kind, left)
 }
 
 /// The storage of all of them is lost.

@@ -4,6 +4,7 @@ ghost use Rattle.std.specs.Prelude.{◌≤◌, vec_len};
 ghost use Rattle.tee_base.specs.declared.limits.TheConstants.{MAX_HOSTS};
 ghost use Rattle.tee_core.specs.Sides.{AreBooted, AreBooted-prop, ServeAs, ServeAs-prop};
 
+use crate::directories::Directories;
 use app_side::AppSide;
 use std::alloc::Global;
 use std::marker::PhantomData;
@@ -22,6 +23,7 @@ pub struct TeeOver<B, V: Volume, A> {
     pub(crate) alloc: Global,
     pub(crate) volume: V,
     pub(crate) sides: Vec<AppSide<A>>,
+    pub(crate) kept: Directories,
     /// How often the power was lost.
     pub(crate) boots: u32,
     pub(crate) board: PhantomData<B>,

@@ -3,4 +3,4 @@ use Rattle.tee_core.proofs.tee.TeeOver.answered.Goals as goal
 
 pub returns : goal.returns
 returns g c = λ world m whole here.
-    c.answered.ensures m (side_here c.args.self.now.sides.items world c.args.app c.index.result.now _ m whole.sides_are c.requires c.index.ensures here)
+    c.answered.ensures m (side_here c.args.self.now.sides.items world c.args.app c.index.result.now _ m whole.stand.sides_are c.requires c.index.ensures here)

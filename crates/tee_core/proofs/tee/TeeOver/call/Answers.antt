@@ -23,8 +23,11 @@ pub returns-in_err-made-clause-err : goal.returns-in_err-made-clause-err
 returns-in_err-made-clause-err g c =
     let tee = c.args.self.now in
     on_err_known c.from_residual.result _ (λ world whole.
-    stand_kept g.V.Volume.keeper g.A.Application.behaviour tee.sides.items tee.volume world c.args.app c.index_mut-side.result.now _ c.call.new.self c.requires.known c.index_mut-side.ensures.value
-    c.in_err-made.ensures.err whole)
+    record {
+      stand = stand_kept g.V.Volume.keeper g.A.Application.behaviour tee.sides.items tee.volume world c.args.app c.index_mut-side.result.now _ c.call.new.self c.requires.known
+          c.index_mut-side.ensures.value c.in_err-made.ensures.err whole.stand;
+      held = whole.held;
+    })
 
 pub returns-in_err-made-clause-same : goal.returns-in_err-made-clause-same
 returns-in_err-made-clause-same g c =
@@ -62,12 +65,14 @@ pub returns-clause-made : goal.returns-clause-made
 returns-clause-made g c =
     let tee = c.args.self.now in
     record {
-      world = λ world whole.
-          stand_called g.V.Volume.keeper g.A.Application.behaviour tee.sides.items tee.volume world c.args.app c.args.client c.args.call c.index_mut-side.result.now _ c.call.new.self
-          c.requires.known c.index_mut-side.ensures.value c.in_ok-made.ensures.ok whole;
+      world = λ world whole. record {
+        stand = stand_called g.V.Volume.keeper g.A.Application.behaviour tee.sides.items tee.volume world c.args.app c.args.client c.args.call c.index_mut-side.result.now _ c.call.new.self
+            c.requires.known c.index_mut-side.ensures.value c.in_ok-made.ensures.ok whole.stand;
+        held = whole.held;
+      };
       stands = λ world m whole here. refl;
       sound = λ world whole. tt;
-      moments = λ world whole. moments_still g.V.Volume.keeper tee.sides.items tee.volume tee.volume world _ refl whole;
+      moments = λ world whole. moments_still g.V.Volume.keeper tee.sides.items tee.volume tee.volume world _ refl whole.stand;
       damage = tt;
       counts = counts_still (g.V.Volume.keeper.condition tee.volume);
       below = λ below. below;
@@ -75,7 +80,7 @@ returns-clause-made g c =
 
 pub returns-clause-told : goal.returns-clause-told
 returns-clause-told g c = λ world m whole here.
-    let stands = side_here c.args.self.now.sides.items world c.args.app c.index_mut-side.result.now _ m whole.sides_are c.requires.known c.index_mut-side.ensures.value here in
+    let stands = side_here c.args.self.now.sides.items world c.args.app c.index_mut-side.result.now _ m whole.stand.sides_are c.requires.known c.index_mut-side.ensures.value here in
     happened_is _ _ _ _ _ _ _ _ _ _ refl (c.turns.ensures.machine _ (c.in_ok-made.ensures.ok m stands)) (c.in_ok-made.ensures.number m stands) (c.in_ok-made.ensures.instance m stands)
     (c.in_ok-made.ensures.replies m stands)
 

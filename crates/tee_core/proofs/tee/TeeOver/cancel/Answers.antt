@@ -23,12 +23,14 @@ pub returns-clause-made : goal.returns-clause-made
 returns-clause-made g c =
     let tee = c.args.self.now in
     record {
-      world = λ world whole.
-          stand_cancelled g.V.Volume.keeper g.A.Application.behaviour tee.sides.items tee.volume world c.args.app c.args.op c.index_mut-side.result.now _ c.cancel-replies.new.self
-          c.requires.known c.index_mut-side.ensures.value c.cancel-replies.ensures.step whole;
+      world = λ world whole. record {
+        stand = stand_cancelled g.V.Volume.keeper g.A.Application.behaviour tee.sides.items tee.volume world c.args.app c.args.op c.index_mut-side.result.now _ c.cancel-replies.new.self
+            c.requires.known c.index_mut-side.ensures.value c.cancel-replies.ensures.step whole.stand;
+        held = whole.held;
+      };
       stands = λ world m whole here. refl;
       sound = λ world whole. tt;
-      moments = λ world whole. moments_still g.V.Volume.keeper tee.sides.items tee.volume tee.volume world _ refl whole;
+      moments = λ world whole. moments_still g.V.Volume.keeper tee.sides.items tee.volume tee.volume world _ refl whole.stand;
       damage = tt;
       counts = counts_still (g.V.Volume.keeper.condition tee.volume);
       below = λ below. below;
@@ -36,7 +38,7 @@ returns-clause-made g c =
 
 pub returns-clause-told : goal.returns-clause-told
 returns-clause-told g c = λ world m whole here.
-    let stands = side_here c.args.self.now.sides.items world c.args.app c.index_mut-side.result.now _ m whole.sides_are c.requires.known c.index_mut-side.ensures.value here in
+    let stands = side_here c.args.self.now.sides.items world c.args.app c.index_mut-side.result.now _ m whole.stand.sides_are c.requires.known c.index_mut-side.ensures.value here in
     happened_is _ _ _ _ _ _ _ _ _ _ refl (c.turns.ensures.machine _ (c.cancel-replies.ensures.step m stands)) refl refl (c.cancel-replies.ensures.replies m stands)
 
 pub returns-clause-kept : goal.returns-clause-kept

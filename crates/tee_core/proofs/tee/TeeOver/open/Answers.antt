@@ -4,6 +4,7 @@ use Rattle.epoch.specs.declared.answer.OpenAnswer.TheVariants.{Failed, NoMemory}
 use Rattle.epoch.proofs.AloneLemmas.{alone_none}
 use Rattle.epoch.proofs.OpenLemmas.{blocks_none}
 use Rattle.epoch.proofs.PastLemmas.{itself}
+use Rattle.tee_core.proofs.DirectoryLemmas.{held_none}
 use Rattle.tee_core.proofs.Opens.{leaves_resting, run_of_none, stand_opened, told_err, turns_started}
 use Rattle.tee_core.proofs.tee.TeeOver.open.Goals as goal
 
@@ -33,8 +34,11 @@ returns-in_err-volume-clause-unopened g c = λ honest n h rests size is. let kep
 pub returns-clause-world : goal.returns-clause-world
 returns-clause-world g c = λ honest n h stores at_rest size sound.
     let made = c.in_ok-volume.ensures.opened honest n h at_rest size sound.opens in (
-      stand_opened g.V.Volume.keeper g.met.V.Volume.rests g.V.BoardVolume.form (g.B.Board.view c.args.board) n h c.args.hosts.items c.args.seed stores sound
-          (g.V.Volume.keeper.held c.in_ok-volume.volume) made.1 c.in-Ok.sides.items c.in_ok-volume.volume (c.in-Ok.ensures.world stores) made.0 refl c.in_ok-volume.ensures.fresh,
+      record {
+        stand = stand_opened g.V.Volume.keeper g.met.V.Volume.rests g.V.BoardVolume.form (g.B.Board.view c.args.board) n h c.args.hosts.items c.args.seed stores sound
+            (g.V.Volume.keeper.held c.in_ok-volume.volume) made.1 c.in-Ok.sides.items c.in_ok-volume.volume (c.in-Ok.ensures.world stores) made.0 refl c.in_ok-volume.ensures.fresh;
+        held = held_none (g.V.Volume.keeper.held c.in_ok-volume.volume).leaves c.none.result.places c.none.ensures;
+      },
       made.2,
     )
 

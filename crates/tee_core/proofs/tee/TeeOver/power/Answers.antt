@@ -1,12 +1,14 @@
-use Rattle.std.proofs.Common.{◌≡◌, Bool, true, List, Some, Err, refl, sym, ap, subst, arith}
+use Rattle.std.proofs.Common.{◌≡◌, Bool, true, not, List, Some, Err, refl, sym, ap, subst, arith}
 use Rattle.std.specs.Prelude.{IfNone, IfSome, slice_get}
 use Rattle.app_side.specs.Represents.{has_doubt}
 use Rattle.app_side.specs.declared.side.AppSide.{AppSide as Side}
 use Rattle.epoch.specs.Finding.{IsSettledAt}
-use Rattle.epoch.specs.Mounts.{IsAdmitted}
+use Rattle.epoch.specs.Mounts.{IsReopened, TakesUp}
+use Rattle.epoch.specs.Opening.{found_header}
 use Rattle.tee_core.specs.Sides.{AreBooted, AreLost, IsNoneInDoubt}
-use Rattle.tee_core.proofs.Backs.{order_left, power_stands, power_told}
+use Rattle.tee_core.proofs.Backs.{order_left, power_reads, power_stands, power_told, unread_power}
 use Rattle.tee_core.proofs.Counts.{mapped_length}
+use Rattle.tee_core.proofs.DirectoryLemmas.{held_none}
 use Rattle.tee_core.proofs.Powers.{always_sound, stand_refused, within_power}
 use Rattle.tee_core.proofs.SideLemmas.{turns_mapped}
 use Rattle.tee_core.proofs.tee.TeeOver.power.Goals as goal
@@ -25,9 +27,10 @@ invariant_of-self g c =
 pub returns-in-Ok-clause-moments : goal.returns-in-Ok-clause-moments
 returns-in-Ok-clause-moments g c = λ world whole.
     let tee = c.args.self.now in
-    let after = c.in-Ok.ensures.opened (g.met.V.BoardVolume.honest_board tee.volume whole.honest)
-    (always_sound g.V.Volume.keeper g.met.V.Volume.rests g.met.V.Volume.since_earlier g.A.Application.behaviour tee.sides.items world tee.volume c.power.new.self whole) in
-    within_power g.V.Volume.keeper g.met.V.Volume.rests g.met.V.Volume.since_earlier g.A.Application.behaviour tee.sides.items world tee.volume c.power.new.self whole after.again.leaves
+    let after = c.in-Ok.ensures.opened (g.met.V.BoardVolume.honest_board tee.volume whole.stand.honest)
+    (always_sound g.V.Volume.keeper g.met.V.Volume.rests g.met.V.Volume.since_earlier g.A.Application.behaviour tee.sides.items world tee.volume c.power.new.self whole.stand
+    g.V.BoardVolume.form (g.met.V.BoardVolume.written tee.volume whole.stand.honest)) in
+    within_power g.V.Volume.keeper g.met.V.Volume.rests g.met.V.Volume.since_earlier g.A.Application.behaviour tee.sides.items world tee.volume c.power.new.self whole.stand after.again.leaves
 
 pub returns-in-Ok-clause-boots : goal.returns-in-Ok-clause-boots
 returns-in-Ok-clause-boots g c = c.restart_all.ensures.boots
@@ -36,21 +39,24 @@ returns-in-Ok-clause-boots g c = c.restart_all.ensures.boots
 pub returns-in-Ok-clause-restarted : goal.returns-in-Ok-clause-restarted
 returns-in-Ok-clause-restarted g c = λ world whole.
     let tee = c.args.self.now in
-    let after = c.in-Ok.ensures.opened (g.met.V.BoardVolume.honest_board tee.volume whole.honest)
-    (always_sound g.V.Volume.keeper g.met.V.Volume.rests g.met.V.Volume.since_earlier g.A.Application.behaviour tee.sides.items world tee.volume c.power.new.self whole) in
+    let after = c.in-Ok.ensures.opened (g.met.V.BoardVolume.honest_board tee.volume whole.stand.honest)
+    (always_sound g.V.Volume.keeper g.met.V.Volume.rests g.met.V.Volume.since_earlier g.A.Application.behaviour tee.sides.items world tee.volume c.power.new.self whole.stand
+    g.V.BoardVolume.form (g.met.V.BoardVolume.written tee.volume whole.stand.honest)) in
     let none = subst (λ (ss : List (Side g.row.A.Denot)). IfNone c.owner_of_doubt-owner.result (IsNoneInDoubt ss)) c.as_slice.ensures.value c.owner_of_doubt-owner.ensures.none in
     let some = subst (λ (ss : List (Side g.row.A.Denot)). IfSome c.owner_of_doubt-owner.result (λ o. (side : Side g.row.A.Denot) × (slice_get ss o ≡ Some side) × (has_doubt side ≡ true)))
     c.as_slice.ensures.value c.owner_of_doubt-owner.ensures.some in
-    let stands = power_stands g.V.Volume.keeper g.met.V.Volume.rests g.met.V.Volume.since_earlier g.A.Application.behaviour tee.sides.items world tee.volume c.power.new.self whole
+    let stands = power_stands g.V.Volume.keeper g.met.V.Volume.rests g.met.V.Volume.since_earlier g.A.Application.behaviour tee.sides.items world tee.volume c.power.new.self whole.stand
     c.owner_of_doubt-owner.result none some
-    c.sequence-acknowledged.result c.in-Ok.opened c.power_of.result after.again c.sequence-acknowledged.ensures c.in-Ok.ensures.back.sequence c.power_of.ensures
-    c.owner_kept-taken.result c.restart_all.new.sides.items c.owner_kept-taken.ensures (c.restart_all.ensures.sides world whole.sides_are) c.in-Ok.ensures.back.works in
+    c.sequence-acknowledged.result c.in-Ok.found c.power_of.result after.again c.sequence-acknowledged.ensures c.in-Ok.ensures.back.sequence c.power_of.ensures
+    c.owner_kept-taken.result c.restart_all.new.sides.items c.owner_kept-taken.ensures (c.restart_all.ensures.sides world whole.stand.sides_are) c.in-Ok.ensures.back.works in
     record {
-      world = stands;
-      told = power_told g.V.Volume.keeper g.met.V.Volume.rests g.met.V.Volume.since_earlier g.A.Application.behaviour tee.sides.items world tee.volume c.power.new.self whole
+      world = record { stand = stands; held = held_none (g.V.Volume.keeper.held c.power.new.self).leaves c.none.result.places c.none.ensures };
+      told = power_told g.V.Volume.keeper g.met.V.Volume.rests g.met.V.Volume.since_earlier g.A.Application.behaviour tee.sides.items world tee.volume c.power.new.self whole.stand
           c.owner_of_doubt-owner.result none some
-          c.sequence-acknowledged.result c.in-Ok.opened c.power_of.result after.again c.sequence-acknowledged.ensures c.in-Ok.ensures.back.sequence c.power_of.ensures;
-      left = order_left g.V.Volume.keeper g.V.BoardVolume.form _ _ c.in-Ok.opened tee.volume c.power.new.self after c.restart_all.new.sides.items _ stands;
+          c.sequence-acknowledged.result c.in-Ok.found c.power_of.result after.again c.sequence-acknowledged.ensures c.in-Ok.ensures.back.sequence c.power_of.ensures;
+      left = order_left g.V.Volume.keeper g.V.BoardVolume.form _ _ c.in-Ok.found tee.volume c.power.new.self after c.restart_all.new.sides.items _ stands;
+      unwritten = c.in-Ok.ensures.writes (ap (λ (b : Bool). not b) after.again.kept);
+      reads = power_reads _ _ (c.in-Ok.ensures.honest (g.met.V.BoardVolume.honest_board tee.volume whole.stand.honest)).1.begins (ap (λ (b : Bool). not b) after.again.kept);
     }
 
 pub returns-in-Ok-clause-calls : goal.returns-in-Ok-clause-calls
@@ -59,18 +65,23 @@ returns-in-Ok-clause-calls g c = c.in-Ok.ensures.calls
 pub returns-in-Ok-clause-honest : goal.returns-in-Ok-clause-honest
 returns-in-Ok-clause-honest g c = λ honest.
     let is = c.in-Ok.ensures.honest honest in
-    let view = g.B.Board.view (g.V.BoardVolume.board_of c.args.self.now.volume) in
     let then = g.B.Board.view (g.V.BoardVolume.board_of c.power.new.self) in
-    let left = is.1.exact in (
+    let left = is.1.exact in
+    let admitted = left.3 in
+    let takes : IsReopened g.V.BoardVolume.form c.in-Ok.found (g.V.BoardVolume.root c.power.new.self) (found_header admitted.0) = admitted.2 in (
       is.0,
       record {
-        begins = is.1.begins;
+        begins = unread_power _ _ is.1.begins;
         past = is.1.past;
         exact = (
           left.0,
           left.1,
           tt,
-          subst (λ n. IsAdmitted g.V.BoardVolume.form view left.0.image left.0.counter 0 n (g.V.BoardVolume.root c.power.new.self)) (sym c.in-Ok.ensures.back.sequence) left.3,
+          (
+            admitted.0,
+            admitted.1,
+            subst (λ n. TakesUp g.V.BoardVolume.form (found_header admitted.0) 0 n (g.V.BoardVolume.root c.power.new.self)) (sym c.in-Ok.ensures.back.sequence) takes.1,
+          ),
         );
         counter = subst (λ n. IsSettledAt n then.state) (sym c.in-Ok.ensures.back.sequence) is.1.counter;
         refusal = tt;
@@ -97,9 +108,10 @@ invariant_of-self-in-Err g c =
 pub returns-in-Err-clause-moments : goal.returns-in-Err-clause-moments
 returns-in-Err-clause-moments g c = λ world whole.
     let tee = c.args.self.now in
-    let after = c.in-Err.ensures.opened (g.met.V.BoardVolume.honest_board tee.volume whole.honest)
-    (always_sound g.V.Volume.keeper g.met.V.Volume.rests g.met.V.Volume.since_earlier g.A.Application.behaviour tee.sides.items world tee.volume c.power.new.self whole) in
-    within_power g.V.Volume.keeper g.met.V.Volume.rests g.met.V.Volume.since_earlier g.A.Application.behaviour tee.sides.items world tee.volume c.power.new.self whole after.again.leaves
+    let after = c.in-Err.ensures.opened (g.met.V.BoardVolume.honest_board tee.volume whole.stand.honest)
+    (always_sound g.V.Volume.keeper g.met.V.Volume.rests g.met.V.Volume.since_earlier g.A.Application.behaviour tee.sides.items world tee.volume c.power.new.self whole.stand
+    g.V.BoardVolume.form (g.met.V.BoardVolume.written tee.volume whole.stand.honest)) in
+    within_power g.V.Volume.keeper g.met.V.Volume.rests g.met.V.Volume.since_earlier g.A.Application.behaviour tee.sides.items world tee.volume c.power.new.self whole.stand after.again.leaves
 
 pub returns-in-Err-clause-same_boots : goal.returns-in-Err-clause-same_boots
 returns-in-Err-clause-same_boots g c = refl
@@ -124,12 +136,16 @@ returns-in-Err-clause-honest g c = λ honest.
 pub returns-in-Err-clause-refused : goal.returns-in-Err-clause-refused
 returns-in-Err-clause-refused g c = λ world whole.
     let tee = c.args.self.now in
-    let after = c.in-Err.ensures.opened (g.met.V.BoardVolume.honest_board tee.volume whole.honest)
-    (always_sound g.V.Volume.keeper g.met.V.Volume.rests g.met.V.Volume.since_earlier g.A.Application.behaviour tee.sides.items world tee.volume c.power.new.self whole) in (
+    let after = c.in-Err.ensures.opened (g.met.V.BoardVolume.honest_board tee.volume whole.stand.honest)
+    (always_sound g.V.Volume.keeper g.met.V.Volume.rests g.met.V.Volume.since_earlier g.A.Application.behaviour tee.sides.items world tee.volume c.power.new.self whole.stand
+    g.V.BoardVolume.form (g.met.V.BoardVolume.written tee.volume whole.stand.honest)) in (
       after.again.failed,
-      stand_refused g.V.Volume.keeper g.met.V.Volume.rests g.met.V.Volume.since_earlier g.A.Application.behaviour tee.sides.items world tee.volume c.power.new.self whole
-          c.lose_all.new.sides.items (c.lose_all.ensures.sides world whole.sides_are) (after.again.honest whole.honest) (after.again.same whole.honest) c.in-Err.ensures.back.lost
-          after.again.leaves,
+      record {
+        stand = stand_refused g.V.Volume.keeper g.met.V.Volume.rests g.met.V.Volume.since_earlier g.A.Application.behaviour tee.sides.items world tee.volume c.power.new.self whole.stand
+            c.lose_all.new.sides.items (c.lose_all.ensures.sides world whole.stand.sides_are) (after.again.honest whole.stand.honest) (after.again.same whole.stand.honest)
+            c.in-Err.ensures.back.lost after.again.leaves;
+        held = held_none (g.V.Volume.keeper.held c.power.new.self).leaves c.none.result.places c.none.ensures;
+      },
     )
 
 pub returns-in-Err-clause-kept : goal.returns-in-Err-clause-kept

@@ -14,13 +14,13 @@ use Rattle.tee_core.proofs.tee.TeeOver.run.Goals as goal
 
 pub returns-in_err-made-clause-err : goal.returns-in_err-made-clause-err
 returns-in_err-made-clause-err g c = on_err_known c.from_residual.result _ (λ world is.
-    let p = side_at c.args.self.now.sides.items world c.args.app is.sides_are c.requires.known in
+    let p = side_at c.args.self.now.sides.items world c.args.app is.stand.sides_are c.requires.known in
     run_none g.A.Application.behaviour (λ after. Represents c.call.new.self after) world p.0 c.args.app c.args.client c.args.call p.1
     (g.V.Volume.keeper.condition (volume_of c.args.self.now)) (g.V.Volume.keeper.condition (volume_of c.call.new.self)) (c.in_err-made.ensures.err world is))
 
 pub returns-in_err-push-clause-err : goal.returns-in_err-push-clause-err
 returns-in_err-push-clause-err g c = on_err_known c.from_residual-in_err-push.result _ (λ world is.
-    let p = side_at c.args.self.now.sides.items world c.args.app is.sides_are c.requires.known in
+    let p = side_at c.args.self.now.sides.items world c.args.app is.stand.sides_are c.requires.known in
     run_call g.A.Application.behaviour (λ after. Represents c.call.new.self after) world p.0 c.args.app c.args.client c.args.call p.1
     (g.V.Volume.keeper.condition (volume_of c.args.self.now)) (g.V.Volume.keeper.condition (volume_of c.call.new.self)) (c.in_ok-made.ensures.made.world world is))
 
@@ -37,7 +37,7 @@ pub returns-in_err-turn_until-clause-err : goal.returns-in_err-turn_until-clause
 returns-in_err-turn_until-clause-err g c = on_err_known c.from_residual-in_err-turn_until.result _ (λ world is.
     let alone = c.in_ok-push.ensures.ok ∙ ap (λ (ts : List Happened). ts ++ c.in_ok-made.made ∷ []) c.new-told.ensures in
     let behaviour = g.A.Application.behaviour in
-    let p = side_at c.args.self.now.sides.items world c.args.app is.sides_are c.requires.known in
+    let p = side_at c.args.self.now.sides.items world c.args.app is.stand.sides_are c.requires.known in
     let condition = g.V.Volume.keeper.condition in
     run_part_from behaviour (λ after. Represents c.turn_until.new.self after) world p.0 c.args.app c.args.client c.args.call p.1 c.in_ok-made.made (c.in_ok-made.ensures.told world p.0 is p.1)
     (condition (volume_of c.args.self.now)) (condition (volume_of c.call.new.self)) (condition (volume_of c.turn_until.new.self)) (ap (λ v. condition v) c.in_ok-made.ensures.volume)
@@ -78,7 +78,7 @@ returns-clause-turns g c = omega (arith, c.in_ok-turn_until.ensures.turns, c.in_
 pub returns-clause-sound : goal.returns-clause-sound
 returns-clause-sound g c = λ world is.
     let behaviour = g.A.Application.behaviour in
-    let p = side_at c.args.self.now.sides.items world c.args.app is.sides_are c.requires.known in
+    let p = side_at c.args.self.now.sides.items world c.args.app is.stand.sides_are c.requires.known in
     let alone = c.in_ok-push.ensures.ok ∙ ap (λ (ts : List Happened). ts ++ c.in_ok-made.made ∷ []) c.new-told.ensures in
     c.in_ok-turn_until.ensures.sound _ _ (c.in_ok-made.ensures.made.world world is) (at_step behaviour world c.args.app p.0 (Called c.args.client c.args.call) p.1)
     (call_sound c.in_ok-made.made c.push.new.self c.in_ok-made.ensures.kind alone)

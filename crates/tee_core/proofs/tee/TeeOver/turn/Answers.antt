@@ -15,6 +15,6 @@ pub returns-clause-told : goal.returns-clause-told
 returns-clause-told g c = λ world m whole here.
     turn_is g.A.Application.behaviour m c.advance-kind.result c.args.instance c.turns.result c.advance-kind.new.replies
     (says c.advance-kind.result _ (c.advance-kind.ensures.change world m whole here))
-    (c.turns.ensures ∙ c.advance-kind.ensures.turns ∙ ap (λ n. n + 1) (machine_turns c.args.self.now.sides.items world c.args.app m whole.sides_are here)
+    (c.turns.ensures ∙ c.advance-kind.ensures.turns ∙ ap (λ n. n + 1) (machine_turns c.args.self.now.sides.items world c.args.app m whole.stand.sides_are here)
     ∙ sym (kind_counts g.A.Application.behaviour m c.advance-kind.result c.args.instance))
     (c.advance-kind.ensures.replies world m whole here)

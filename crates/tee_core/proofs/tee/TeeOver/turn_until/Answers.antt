@@ -12,7 +12,7 @@ use Rattle.tee_core.proofs.tee.TeeOver.turn_until.Goals as goal
 pub loop-init : goal.loop-init
 loop-init g c = record {
   run = λ world m is here. made_none g.V.Volume.keeper g.A.Application.behaviour world m c.args.app c.args.instance c.args.op here c.args.self.now.sides.items
-      c.args.self.now.volume c.args.told.now is c.requires.plain;
+      c.args.self.now.kept.places c.args.self.now.volume c.args.told.now is c.requires.plain;
   counts = run_begun c.args.told.now (g.V.Volume.keeper.condition (volume_of c.args.self.now));
   sound = λ world m is here sound. sound;
   board = stays_still g.V.Volume.keeper (volume_of c.args.self.now) (volume_of c.args.self.now) refl;
@@ -34,11 +34,12 @@ returns-then-answered-clause-ok g c = λ world m is here.
     let behaviour = g.A.Application.behaviour in
     let sides = c.loop.self.sides.items in
     let run = c.loop.invariant.run world m is here in
-    let says = now_says keeper behaviour world m c.args.app c.args.instance c.args.op here sides c.loop.self.volume c.loop.counter c.args.told.now c.loop.told run
+    let says = now_says keeper behaviour world m c.args.app c.args.instance c.args.op here sides c.loop.self.kept.places c.loop.self.volume c.loop.counter c.args.told.now c.loop.told run
     c.index.result.now _ c.answered.result
     (omega (arith, c.requires.known, c.loop.invariant.kept.apps)) c.index.ensures c.answered.ensures in
     turns_answered behaviour (λ after. Represents c.loop.self after) world c.args.app m c.args.instance c.args.op c.loop.counter _ c.args.told.now c.loop.told run
-    (now_turns keeper behaviour world m c.args.app c.args.instance c.args.op here sides c.loop.self.volume c.loop.counter c.args.told.now c.loop.told run) (sym says ∙ c.if-answered.true)
+    (now_turns keeper behaviour world m c.args.app c.args.instance c.args.op here sides c.loop.self.kept.places c.loop.self.volume c.loop.counter c.args.told.now c.loop.told run)
+    (sym says ∙ c.if-answered.true)
 
 pub returns-in_err-push_turn_if_told-clause-err : goal.returns-in_err-push_turn_if_told-clause-err
 returns-in_err-push_turn_if_told-clause-err g c = on_err_known c.from_residual.result _ (λ world m is here lossless sound.
@@ -48,13 +49,14 @@ returns-in_err-push_turn_if_told-clause-err g c = on_err_known c.from_residual.r
     let new = c.advance-kind.new.self in
     let turned = c.advance-kind.ensures in
     let run = c.loop.invariant.run world m is here in
-    let says = now_says keeper behaviour world m c.args.app c.args.instance c.args.op here sides c.loop.self.volume c.loop.counter c.args.told.now c.loop.told run
+    let says = now_says keeper behaviour world m c.args.app c.args.instance c.args.op here sides c.loop.self.kept.places c.loop.self.volume c.loop.counter c.args.told.now c.loop.told run
     c.index.result.now _ c.answered.result
     (omega (arith, c.requires.known, c.loop.invariant.kept.apps)) c.index.ensures c.answered.ensures in
     let h = turn_happened c.advance-kind.result c.turns.result c.args.instance c.advance-kind.new.replies in
     let first = keeper.condition (volume_of c.args.self.now) in
     turns_stopped behaviour (λ after. Represents new after) world c.args.app m c.args.instance c.args.op (c.loop.counter + 1) c.args.told.now _ first (keeper.condition (volume_of new))
-    (made_further keeper behaviour world m c.args.app c.args.instance c.args.op here sides c.loop.self.volume c.loop.counter c.args.told.now c.loop.told run new.sides.items new.volume
+    (made_further keeper behaviour world m c.args.app c.args.instance c.args.op here sides c.loop.self.kept.places c.loop.self.volume c.loop.counter c.args.told.now c.loop.told run
+    new.sides.items new.kept.places new.volume
     c.advance-kind.result c.turns.result c.advance-kind.new.replies turned.made.world turned.made.stands turned.change turned.replies c.turns.ensures c.loop-test.true (sym says ∙ c.if-answered.false))
     (told_marked (append_if_told c.loop.told h) first (keeper.condition (volume_of new))
     (sound_more c.loop.told h (c.loop.invariant.sound world m is here sound) (turned.made.sound _ run.stands))
@@ -70,12 +72,13 @@ loop-preserved g c = record {
       let new = c.advance-kind.new.self in
       let turned = c.advance-kind.ensures in
       let run = c.loop.invariant.run world m is here in
-      let says = now_says keeper behaviour world m c.args.app c.args.instance c.args.op here sides c.loop.self.volume c.loop.counter c.args.told.now c.loop.told run
+      let says = now_says keeper behaviour world m c.args.app c.args.instance c.args.op here sides c.loop.self.kept.places c.loop.self.volume c.loop.counter c.args.told.now c.loop.told run
       c.index.result.now _ c.answered.result
       (omega (arith, c.requires.known, c.loop.invariant.kept.apps)) c.index.ensures c.answered.ensures in
-      subst (λ (ts : List Happened). Made keeper behaviour world m c.args.app c.args.instance c.args.op here new.sides.items new.volume (c.loop.counter + 1) c.args.told.now ts)
+      subst (λ (ts : List Happened). Made keeper behaviour world m c.args.app c.args.instance c.args.op here new.sides.items new.kept.places new.volume (c.loop.counter + 1) c.args.told.now ts)
       (sym c.in_ok-push_turn_if_told.ensures.ok)
-      (made_further keeper behaviour world m c.args.app c.args.instance c.args.op here sides c.loop.self.volume c.loop.counter c.args.told.now c.loop.told run new.sides.items new.volume
+      (made_further keeper behaviour world m c.args.app c.args.instance c.args.op here sides c.loop.self.kept.places c.loop.self.volume c.loop.counter c.args.told.now c.loop.told run
+      new.sides.items new.kept.places new.volume
       c.advance-kind.result c.turns.result c.advance-kind.new.replies turned.made.world turned.made.stands turned.change turned.replies c.turns.ensures c.loop-test.true
       (sym says ∙ c.if-answered.false));
   counts =
@@ -127,5 +130,5 @@ pub returns-clause-ok : goal.returns-clause-ok
 returns-clause-ok g c = λ world m is here.
     let run = c.loop.invariant.run world m is here in
     turns_used g.A.Application.behaviour (λ after. Represents c.loop.self after) world c.args.app m c.args.instance c.args.op c.loop.counter _ c.args.told.now c.loop.told run
-    (now_turns g.V.Volume.keeper g.A.Application.behaviour world m c.args.app c.args.instance c.args.op here c.loop.self.sides.items c.loop.self.volume c.loop.counter
+    (now_turns g.V.Volume.keeper g.A.Application.behaviour world m c.args.app c.args.instance c.args.op here c.loop.self.sides.items c.loop.self.kept.places c.loop.self.volume c.loop.counter
     c.args.told.now c.loop.told run) c.loop-test.false

@@ -13,7 +13,7 @@ use Rattle.tee_core.proofs.tee.TeeOver.turn_until.Given as goal
 abbrev pub invariant-loop : goal.invariant-loop
 invariant-loop g l = record {
   run : (world : World g.row.A.Denot) (m : Machine g.row.A.Denot) → Represents l.fn.self world → (here : slice_get world l.app ≡ Some m)
-      → Made g.V.Volume.keeper g.A.Application.behaviour world m l.app l.instance l.op here l.self.sides.items l.self.volume l.counter l.fn.told l.told;
+      → Made g.V.Volume.keeper g.A.Application.behaviour world m l.app l.instance l.op here l.self.sides.items l.self.kept.places l.self.volume l.counter l.fn.told l.told;
   counts : HasRunBehind l.fn.told l.told (g.V.Volume.keeper.condition (volume_of l.fn.self)) (g.V.Volume.keeper.condition (volume_of l.self));
   sound : (world : World g.row.A.Denot) (m : Machine g.row.A.Denot) → Represents l.fn.self world → slice_get world l.app ≡ Some m → TellsNoDamage l.fn.told → TellsNoDamage l.told;
   board : StaysOn g.V.Volume.keeper (volume_of l.fn.self) (volume_of l.self);
