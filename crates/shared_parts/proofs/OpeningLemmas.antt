@@ -12,6 +12,8 @@ use Rattle.object_dir.specs.Regions.{KeepsStore, store_in}
 use Rattle.alone.specs.Machine.{Machine}
 use Rattle.app_side.specs.Represents.{Represents, doubtful, has_doubt, machine_of, over}
 use Rattle.app_side.specs.declared.side.AppSide.{AppSide}
+use Rattle.region_plan.specs.declared.directory.Directory.{Directory}
+use Rattle.tee_core.specs.Directories.{AreHeld}
 use Rattle.tee_core.specs.Represents.{HasDoubt, IsLeftOf, StandFor, StoresFrom, none_kept}
 use Rattle.tee_core.specs.Sides.{AreSides, IsNoneInDoubt}
 use Rattle.tee_core.specs.World.{World}
@@ -79,7 +81,8 @@ module _ {V A : Type 0} (K : VolumeKeeper V) (behaviour : Behaviour A) (volume :
           single = λ one other first second. absurd (none_begun 0 one sides first);
         }
 
-    module _ (few : length sides ≤ MAX_HOSTS) (seen : List (Snapshot V)) (are : map (λ s. s.value) seen ≡ replicate (length sides) volume) where
+    module _ (few : length sides ≤ MAX_HOSTS) (seen : List (Snapshot V)) (are : map (λ s. s.value) seen ≡ replicate (length sides) volume)
+        (dirs : List (Option Directory)) (none : AreHeld (K.held volume).leaves dirs) where
       seen_length : length seen ≡ length sides
       seen_length = sym (length-map seen (λ (s : Snapshot V). s.value)) ∙ ap (λ (vs : List V). length vs) are ∙ length-replicate (length sides) volume
 
@@ -89,7 +92,7 @@ module _ {V A : Type 0} (K : VolumeKeeper V) (behaviour : Behaviour A) (volume :
       stored_begun : IsMarked K (Opened (length sides) volume) → IsStoredFor K A (parts_by K behaviour (let n : Option (Loss V A) = None in n) seen) volume
       stored_begun marked = record { sides = sides; world = begun_world 0 sides; are = parts_begun 0 sides ∙ sym parts_are; stands = stand_begun marked }
 
-      pub storage_begun : IsStorage K (length seen) volume volume (let n : Option (Loss V A) = None in n) (parts_by K behaviour (let n : Option (Loss V A) = None in n) seen)
+      pub storage_begun : IsStorage K (length seen) volume volume (let n : Option (Loss V A) = None in n) dirs (parts_by K behaviour (let n : Option (Loss V A) = None in n) seen)
       storage_begun = record {
         each = parts_length K behaviour (let n : Option (Loss V A) = None in n) 0 (map (λ s. s.value) seen) ∙ length-map seen (λ (s : Snapshot V). s.value);
         some = let n = seen_length in omega (arith, n, some);
@@ -97,6 +100,7 @@ module _ {V A : Type 0} (K : VolumeKeeper V) (behaviour : Behaviour A) (volume :
         lost = works;
         since = record { faults = omega arith; foundation = refl };
         kept = λ marked. stored_begun (subst (λ n. IsMarked K (Opened n volume)) seen_length marked);
+        held = λ marked. none;
       }
 
       pub opened_begun : AreOpened K (length sides) volume (parts_by K behaviour (let n : Option (Loss V A) = None in n) seen)

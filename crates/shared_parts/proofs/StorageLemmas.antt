@@ -7,7 +7,9 @@ use Rattle.std.proofs.lemmas.Bool.{eq-eqb, ne_eqb}
 use Rattle.store_api.specs.Stores.{Store}
 use Rattle.store_api.specs.Volumes.{Held, RestsAt, VolumeKeeper}
 use Rattle.object_dir.proofs.HeldLemmas.{own_store as region_store}
+use Rattle.object_dir.specs.Kept.{IsHeld}
 use Rattle.object_dir.specs.Regions.{store_in}
+use Rattle.region_plan.specs.declared.directory.Directory.{Directory}
 use Rattle.alone.proofs.Storage.{damage_leaves_doubt, turn_leaves_doubt}
 use Rattle.alone.specs.declared.reply.Reply.{Reply}
 use Rattle.alone.specs.declared.turn.TurnKind.{TurnKind}
@@ -18,8 +20,9 @@ use Rattle.app_side.specs.Represents.{Represents, event_of, machine_of, over}
 use Rattle.app_side.specs.declared.side.AppSide.{AppSide}
 use Rattle.tee_core.proofs.SideLemmas.{get_set, map_set, set_set, sides_set}
 use Rattle.tee_core.proofs.Stores.{own_at}
-use Rattle.tee_core.proofs.Turning.{after_is, doubt_back, left_stays, may, replies_are, stand_lost, stand_plain, stepped_lost, stepped_plain, stores_after, stores_stay}
+use Rattle.tee_core.proofs.Turning.{after_is, doubt_back, held_after, left_stays, may, replies_are, stand_lost, stand_plain, stepped_lost, stepped_plain, stores_after, stores_stay}
 use Rattle.tee_core.specs.Powers.{all_lost}
+use Rattle.tee_core.specs.Directories.{AreHeld, kept_at}
 use Rattle.tee_core.specs.Represents.{StandFor, none_kept}
 use Rattle.tee_core.specs.Sides.{AreSides}
 use Rattle.tee_core.specs.Turning.{TurnsOver}
@@ -128,8 +131,8 @@ module _ {V A : Type 0} (K : VolumeKeeper V)
     (rests : (v : V) → K.honest v → (K.condition v).lost ≡ false → RestsAt K v (K.held v))
     (since : (v : V) (t u : ℕ) (o : Option Held) → t ≤ u → K.left_since v u o → K.left_since v t o)
     (behaviour : Behaviour A) (seen : List V) (app i : ℕ) (kind : TurnKind) (replies : List Reply)
-    (before after : AppSide A) (old new : V) (m : Machine A) (stands : Represents before m)
-    (t : TurnsOver K behaviour app i kind replies before after old new) where
+    (before after : AppSide A) (taken kept : Option Directory) (old new : V) (m : Machine A) (stands : Represents before m) (right : IsHeld ((K.held old).leaves app) taken)
+    (t : TurnsOver K behaviour app i kind replies before after taken kept old new) where
   abbrev made : Machine A
   made = (step behaviour m (event_of kind i)).machine
 
@@ -152,17 +155,22 @@ module _ {V A : Type 0} (K : VolumeKeeper V)
     whole = swapped K was.sides old was.world app before found.0 m found.1 (found.2 ∙ own) stands was.stands
 
     pub turn_may : is_enabled m (event_of kind i) ≡ true
-    turn_may = may K rests since behaviour (set was.sides app before) world app i kind replies before after old new m here stands whole t
+    turn_may = may K rests since behaviour (set was.sides app before) world app i kind replies before after taken kept old new m here stands whole right t
 
     pub turn_told : replies ≡ (step behaviour m (event_of kind i)).replies
-    turn_told = replies_are K rests since behaviour (set was.sides app before) world app i kind replies before after old new m here stands whole t
+    turn_told = replies_are K rests since behaviour (set was.sides app before) world app i kind replies before after taken kept old new m here stands whole right t
 
     pub turn_stands : Represents after made
-    turn_stands = after_is K rests since behaviour (set was.sides app before) world app i kind replies before after old new m here stands whole t
+    turn_stands = after_is K rests since behaviour (set was.sides app before) world app i kind replies before after taken kept old new m here stands whole right t
+
+    -- the directories that are kept stay right
+    pub turn_held : (dirs then_dirs : List (Option Directory)) → kept_at then_dirs app ≡ kept → ((other : ℕ) → other ≢ app → kept_at then_dirs other ≡ kept_at dirs other)
+        → AreHeld (K.held old).leaves dirs → AreHeld (K.held new).leaves then_dirs
+    turn_held = held_after K rests since behaviour (set was.sides app before) world app i kind replies before after taken kept old new m here stands whole right t
 
     store_then : made.store ≡ store_in app (K.held new)
     store_then =
-        let stores = stores_after K rests since behaviour (set was.sides app before) world app i kind replies before after old new m here stands whole t in
+        let stores = stores_after K rests since behaviour (set was.sides app before) world app i kind replies before after taken kept old new m here stands whole right t in
         sym (region_store app (K.held new) made.store (own_at (set world app made) app (K.held new) made (get_set world app m made here) stores))
 
     world_is : map (λ (x : Machine A). part_of x) (set world app made) ≡ set parts app (part_of made)
@@ -183,8 +191,8 @@ module _ {V A : Type 0} (K : VolumeKeeper V)
         world = set world app made;
         are = world_is ∙ (ap (λ (p : StoragePart). set parts app p) (sym part_plain) ∙ sym (parts_set K behaviour loss 0 app app seen new (omega arith)));
         stands = subst (λ (w : World A). StandFor K (set (set was.sides app before) app after) new w)
-            (stepped_plain K rests since behaviour (set was.sides app before) world app i kind replies before after old new m here stands whole t served)
-            (stand_plain K rests since behaviour (set was.sides app before) world app i kind replies before after old new m here stands whole t served);
+            (stepped_plain K rests since behaviour (set was.sides app before) world app i kind replies before after taken kept old new m here stands whole right t served)
+            (stand_plain K rests since behaviour (set was.sides app before) world app i kind replies before after taken kept old new m here stands whole right t served);
       }
 
   -- one that lost the storage, which was there before
@@ -227,9 +235,9 @@ module _ {V A : Type 0} (K : VolumeKeeper V)
               ∙ (ap (λ j. set (parts_from K behaviour None 0 seen) app (part_by K behaviour (Some loss) j new)) (sym named)
               ∙ sym (parts_lost_set K behaviour loss 0 app seen new (let e = named in omega (arith, e))))));
           stands = subst (λ (x : World A). StandFor K left new x)
-              (stepped_lost K rests since behaviour (set was.sides app before) w app i kind replies before after old new m (here None v there own was) stands
-              (whole None v there own was) t changes is)
-              (stand_lost K rests since behaviour (set was.sides app before) w app i kind replies before after old new m (here None v there own was) stands
-              (whole None v there own was) t changes is left
+              (stepped_lost K rests since behaviour (set was.sides app before) w app i kind replies before after taken kept old new m (here None v there own was) stands
+              (whole None v there own was) right t changes is)
+              (stand_lost K rests since behaviour (set was.sides app before) w app i kind replies before after taken kept old new m (here None v there own was) stands
+              (whole None v there own was) right t changes is left
               (sides_lost sides (set w app made) are));
         }

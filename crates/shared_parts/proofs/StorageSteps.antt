@@ -7,8 +7,10 @@ use Rattle.std.specs.declared.snapshot.Snapshot.{Snapshot}
 use Rattle.tee_base.specs.Faults.{Rose}
 use Rattle.store_api.specs.Keeping.{Keeper}
 use Rattle.store_api.specs.Volumes.{Condition, Held, RestsAt, VolumeKeeper}
-use Rattle.object_dir.specs.Directories.{dir_keeper}
-use Rattle.object_dir.specs.declared.directory.ObjectDir.{ObjectDir}
+use Rattle.object_dir.specs.Kept.{IsHeld}
+use Rattle.object_dir.specs.KeptDirs.{kept_keeper}
+use Rattle.object_dir.specs.declared.kept_dir.KeptDir.{KeptDir}
+use Rattle.region_plan.specs.declared.directory.Directory.{Directory}
 use Rattle.alone.specs.declared.reply.Reply.{Reply}
 use Rattle.alone.specs.declared.turn.TurnKind.{TurnKind}
 use Rattle.alone.specs.declared.turn.TurnKind.TheVariants as kinds
@@ -19,9 +21,10 @@ use Rattle.app_side.specs.Represents.{Represents, event_of, is_lost}
 use Rattle.app_side.specs.declared.side.AppSide.{AppSide}
 use Rattle.tee_core.proofs.SideLemmas.{get_there, map_set, set_there}
 use Rattle.tee_core.proofs.Turning.{counts_kept}
+use Rattle.tee_core.specs.Directories.{AreHeld, kept_at}
 use Rattle.tee_core.specs.Turning.{TurnsOver}
 use Rattle.shared_parts.proofs.StepLemmas.{MakesStep, born_few, born_spare, entry_made}
-use Rattle.shared_parts.proofs.StorageLemmas.{part_here, part_lost, part_plain, parts_lost_set, parts_set, stored_lost, stored_plain, turn_may, turn_stands, turn_told}
+use Rattle.shared_parts.proofs.StorageLemmas.{part_here, part_lost, part_plain, parts_lost_set, parts_set, stored_lost, stored_plain, turn_held, turn_may, turn_stands, turn_told}
 use Rattle.shared_parts.specs.InStep.{HasPart, IsKeptBy, IsReserved, StoragePart, part_of}
 use Rattle.shared_parts.specs.StorageParts.{AreLosses, IsMarked, IsStorage, IsStoredFor, KeepsStorage, LostBy, Opened, StorageEntry, StorageView, first_of, is_lost_at, loss_after}
 use Rattle.shared_parts.specs.StorageParts.{losses_by, losses_in, no_part, part_at, part_by, parts_by, parts_from, trail_by}
@@ -41,12 +44,12 @@ lost_is (Some loss) opened now are = sym are.0
 rose_since : (first old new : ℕ) → first ≤ old → Rose old new → Rose first new
 rose_since first old new le rose = ⊎_elim (λ (lt : old < new). inl (omega (arith, le, lt))) (λ (at : new ≡ 2 ^ 64 - 1). inr at) rose
 
-module _ {V A : Type 0} (K : VolumeKeeper V) (behaviour : Behaviour A) (app i : ℕ) (replies : List Reply) (before after : AppSide A) (old new : V) where
+module _ {V A : Type 0} (K : VolumeKeeper V) (behaviour : Behaviour A) (app i : ℕ) (replies : List Reply) (before after : AppSide A) (taken kept : Option Directory) (old new : V) where
   abbrev Turns : TurnKind → Type 0
-  Turns kind = TurnsOver K behaviour app i kind replies before after old new
+  Turns kind = TurnsOver K behaviour app i kind replies before after taken kept old new
 
-  abbrev D : Keeper (ObjectDir V)
-  D = dir_keeper K
+  abbrev D : Keeper (KeptDir V)
+  D = kept_keeper K
 
   lost_before : (kind : TurnKind) (t : Turns kind) → (D.status t.dir_before).lost ≡ (K.condition old).lost
   lost_before kind t = ap (λ (v : V). (K.condition v).lost) t.over_old.same_volume
@@ -101,23 +104,25 @@ pub record Leaves {V A : Type 0} (K : VolumeKeeper V) (behaviour : Behaviour A) 
 module _ {V A : Type 0} (K : VolumeKeeper V)
     (rests : (v : V) → K.honest v → (K.condition v).lost ≡ false → RestsAt K v (K.held v))
     (since : (v : V) (t u : ℕ) (o : Option Held) → t ≤ u → K.left_since v u o → K.left_since v t o)
-    (behaviour : Behaviour A) (values : List V) (app i : ℕ) (replies : List Reply) (before after : AppSide A) (old new : V) (m : Machine A) (stands : Represents before m)
+    (behaviour : Behaviour A) (values : List V) (app i : ℕ) (replies : List Reply) (before after : AppSide A)
+    (taken kept : Option Directory) (old new : V) (m : Machine A) (stands : Represents before m) (right : IsHeld ((K.held old).leaves app) taken)
     (v : V) (there : slice_get values app ≡ Some v) (found : Loss V A) (named : found.app ≡ app) (at : found.instance ≡ i) (side_is : found.side.value ≡ before)
     (volume_is : found.volume.value ≡ old) where
   left_plain : (known : Option (Loss V A)) (kind : TurnKind) → ((changes : Bool) → kind ≢ kinds.Lost changes) → part_by K behaviour known app v ≡ part_of m
-      → IsStoredFor K A (parts_from K behaviour known 0 values) old → TurnsOver K behaviour app i kind replies before after old new → Leaves K behaviour app i kind known values new m
+      → IsStoredFor K A (parts_from K behaviour known 0 values) old → TurnsOver K behaviour app i kind replies before after taken kept old new → Leaves K behaviour app i kind known values new m
   left_plain known kind served own was t = record {
-    stored = stored_plain K rests since behaviour values app i kind replies before after old new m stands t known v there own was served;
-    part = part_plain K rests since behaviour values app i kind replies before after old new m stands t known v there own was served;
+    stored = stored_plain K rests since behaviour values app i kind replies before after taken kept old new m stands right t known v there own was served;
+    part = part_plain K rests since behaviour values app i kind replies before after taken kept old new m stands right t known v there own was served;
   }
 
   pub leaves : (known : Option (Loss V A)) (kind : TurnKind) → ((changes : Bool) → kind ≡ kinds.Lost changes → known ≡ None) → part_by K behaviour known app v ≡ part_of m
-      → IsStoredFor K A (parts_from K behaviour known 0 values) old → TurnsOver K behaviour app i kind replies before after old new
+      → IsStoredFor K A (parts_from K behaviour known 0 values) old → TurnsOver K behaviour app i kind replies before after taken kept old new
       → Leaves K behaviour app i kind (loss_after known kind found) values new m
   leaves known kinds.Plain none own was t = left_plain known kinds.Plain (λ changes is. absurd (let e : kinds.Plain ≡ kinds.Lost changes = is in cc)) own was t
   leaves None (kinds.Lost changes) none own was t = record {
-    stored = stored_lost K rests since behaviour values app i (kinds.Lost changes) replies before after old new m stands t changes refl found v there own was named at side_is volume_is;
-    part = part_lost K rests since behaviour values app i (kinds.Lost changes) replies before after old new m stands t changes refl found v there own was named at side_is volume_is;
+    stored = stored_lost K rests since behaviour values app i (kinds.Lost changes) replies before after taken kept old new m stands right t changes refl
+        found v there own was named at side_is volume_is;
+    part = part_lost K rests since behaviour values app i (kinds.Lost changes) replies before after taken kept old new m stands right t changes refl found v there own was named at side_is volume_is;
   }
   leaves (Some loss) (kinds.Lost changes) none own was t = absurd (let e : Some loss ≡ None = none changes refl in cc)
   leaves known kinds.Starved none own was t = left_plain known kinds.Starved (λ changes is. absurd (let e : kinds.Starved ≡ kinds.Lost changes = is in cc)) own was t
@@ -125,14 +130,15 @@ module _ {V A : Type 0} (K : VolumeKeeper V)
 
 -- ---- the loss
 
-module _ {V A : Type 0} (K : VolumeKeeper V) (behaviour : Behaviour A) (app i : ℕ) (replies : List Reply) (before after : AppSide A) (opened old new : V) (found : Loss V A)
+module _ {V A : Type 0} (K : VolumeKeeper V) (behaviour : Behaviour A) (app i : ℕ) (replies : List Reply) (before after : AppSide A) (taken kept : Option Directory) (opened old new : V)
+    (found : Loss V A)
     (faults_are : found.faults ≡ (K.condition new).faults) where
   -- a turn that lost the storage found no loss
   pub none_known : (known : Option (Loss V A)) (kind : TurnKind) → AreLosses (losses_in known) (K.condition opened) (K.condition old)
-      → TurnsOver K behaviour app i kind replies before after old new → (changes : Bool) → kind ≡ kinds.Lost changes → known ≡ None
+      → TurnsOver K behaviour app i kind replies before after taken kept old new → (changes : Bool) → kind ≡ kinds.Lost changes → known ≡ None
   none_known None kind lost t changes is = refl
   none_known (Some loss) kind lost t changes is =
-      let there = was_there K behaviour app i replies before after old new changes (subst (λ (k : TurnKind). TurnsOver K behaviour app i k replies before after old new) is t) in
+      let there = was_there K behaviour app i replies before after taken kept old new changes (subst (λ (k : TurnKind). TurnsOver K behaviour app i k replies before after taken kept old new) is t) in
       absurd (let e : true ≡ false = sym lost.0 ∙ there in cc)
 
   -- the losses go on
@@ -142,23 +148,23 @@ module _ {V A : Type 0} (K : VolumeKeeper V) (behaviour : Behaviour A) (app i : 
   still (Some loss) same later lost = (same ∙ lost.0, lost.1, let le = lost.2 in omega (arith, le, later))
 
   pub losses_after : (known : Option (Loss V A)) (kind : TurnKind) → (K.condition opened).faults ≤ (K.condition old).faults → AreLosses (losses_in known) (K.condition opened) (K.condition old)
-      → TurnsOver K behaviour app i kind replies before after old new → AreLosses (losses_in (loss_after known kind found)) (K.condition opened) (K.condition new)
+      → TurnsOver K behaviour app i kind replies before after taken kept old new → AreLosses (losses_in (loss_after known kind found)) (K.condition opened) (K.condition new)
   losses_after known kinds.Plain first lost t =
-      still known (works_alike K behaviour app i replies before after old new kinds.Plain (λ changes is. absurd (let e : kinds.Plain ≡ kinds.Lost changes = is in cc)) t)
-      (counts_kept K behaviour app i kinds.Plain replies before after old new t).faults lost
+      still known (works_alike K behaviour app i replies before after taken kept old new kinds.Plain (λ changes is. absurd (let e : kinds.Plain ≡ kinds.Lost changes = is in cc)) t)
+      (counts_kept K behaviour app i kinds.Plain replies before after taken kept old new t).faults lost
   losses_after known (kinds.Lost changes) first lost t =
-      let counts = counts_kept K behaviour app i (kinds.Lost changes) replies before after old new t in
+      let counts = counts_kept K behaviour app i (kinds.Lost changes) replies before after taken kept old new t in
       let rose : Rose (K.condition opened).faults (K.condition new).faults = rose_since (K.condition opened).faults (K.condition old).faults (K.condition new).faults first counts.rose in (
-        is_gone K behaviour app i replies before after old new changes t,
+        is_gone K behaviour app i replies before after taken kept old new changes t,
         subst (λ n. Rose (K.condition opened).faults n) (sym faults_are) rose,
         omega (arith, faults_are),
       )
   losses_after known kinds.Starved first lost t =
-      still known (works_alike K behaviour app i replies before after old new kinds.Starved (λ changes is. absurd (let e : kinds.Starved ≡ kinds.Lost changes = is in cc)) t)
-      (counts_kept K behaviour app i kinds.Starved replies before after old new t).faults lost
+      still known (works_alike K behaviour app i replies before after taken kept old new kinds.Starved (λ changes is. absurd (let e : kinds.Starved ≡ kinds.Lost changes = is in cc)) t)
+      (counts_kept K behaviour app i kinds.Starved replies before after taken kept old new t).faults lost
   losses_after known kinds.Corrupted first lost t =
-      still known (works_alike K behaviour app i replies before after old new kinds.Corrupted (λ changes is. absurd (let e : kinds.Corrupted ≡ kinds.Lost changes = is in cc)) t)
-      (counts_kept K behaviour app i kinds.Corrupted replies before after old new t).faults lost
+      still known (works_alike K behaviour app i replies before after taken kept old new kinds.Corrupted (λ changes is. absurd (let e : kinds.Corrupted ≡ kinds.Lost changes = is in cc)) t)
+      (counts_kept K behaviour app i kinds.Corrupted replies before after taken kept old new t).faults lost
 
 -- what stands in the trail behind the opening
 losses_more : {V A : Type 0} (known : Option (Loss V A)) (kind : TurnKind) (found : Loss V A) (app faults : ℕ) → found.app ≡ app → found.faults ≡ faults
@@ -174,7 +180,8 @@ losses_more known kinds.Corrupted found app faults named counted none = sym (app
 
 -- a turn as the storage's method makes it: what it found, and what it left
 pub record IsMade {V A : Type 0} (K : VolumeKeeper V) (behaviour : Behaviour A) (app client i : ℕ) (kind : TurnKind) (known : Option (Loss V A)) (found : Loss V A)
-    (seen : List (Snapshot V)) (last : Snapshot V) (opened old new : V) (before after : AppSide A) (log more : KeptLog) : Type 0 where
+    (seen : List (Snapshot V)) (last : Snapshot V) (dirs then_dirs : List (Option Directory)) (taken kept : Option Directory) (opened old new : V) (before after : AppSide A)
+    (log more : KeptLog) : Type 0 where
   pub there : app < length seen
   pub last_is : last.value ≡ new
   pub app_is : found.app ≡ app
@@ -183,22 +190,26 @@ pub record IsMade {V A : Type 0} (K : VolumeKeeper V) (behaviour : Behaviour A) 
   pub side_is : found.side.value ≡ before
   pub volume_is : found.volume.value ≡ old
   pub reserved : IsReserved 3 before log
-  pub was : IsStorage K (length seen) old opened known (parts_by K behaviour known seen)
-  pub turn : TurnsLogged K behaviour app client i kind before after log more old new
+  pub taken_is : taken ≡ kept_at dirs app
+  pub kept_is : kept_at then_dirs app ≡ kept
+  pub others_are : (other : ℕ) → other ≢ app → kept_at then_dirs other ≡ kept_at dirs other
+  pub was : IsStorage K (length seen) old opened known dirs (parts_by K behaviour known seen)
+  pub turn : TurnsLogged K behaviour app client i kind before after log more taken kept old new
   pub part : IsMarked K (Opened (length seen) opened) → HasPart before (part_at (parts_by K behaviour known seen) app)
 
 module _ {V A : Type 0} (K : VolumeKeeper V)
     (rests : (v : V) → K.honest v → (K.condition v).lost ≡ false → RestsAt K v (K.held v))
     (since : (v : V) (t u : ℕ) (o : Option Held) → t ≤ u → K.left_since v u o → K.left_since v t o)
-    (behaviour : Behaviour A) (app client i : ℕ) (kind : TurnKind) (known : Option (Loss V A)) (found : Loss V A) (seen : List (Snapshot V)) (last : Snapshot V) (opened old new : V)
-    (before after : AppSide A) (log more : KeptLog) (made : IsMade K behaviour app client i kind known found seen last opened old new before after log more) where
+    (behaviour : Behaviour A) (app client i : ℕ) (kind : TurnKind) (known : Option (Loss V A)) (found : Loss V A) (seen : List (Snapshot V)) (last : Snapshot V)
+    (dirs then_dirs : List (Option Directory)) (taken kept : Option Directory) (opened old new : V) (before after : AppSide A) (log more : KeptLog)
+    (made : IsMade K behaviour app client i kind known found seen last dirs then_dirs taken kept opened old new before after log more) where
   abbrev values : List V
   values = map (λ s. s.value) seen
 
   abbrev then : Option (Loss V A)
   then = loss_after known kind found
 
-  abbrev t : TurnsOver K behaviour app i kind made.turn.replies before after old new
+  abbrev t : TurnsOver K behaviour app i kind made.turn.replies before after taken kept old new
   t = made.turn.turn
 
   values_are : map (λ s. s.value) (set seen app last) ≡ set values app new
@@ -214,7 +225,7 @@ module _ {V A : Type 0} (K : VolumeKeeper V)
   seen_there = get_there values app old within
 
   none : (changes : Bool) → kind ≡ kinds.Lost changes → known ≡ None
-  none = none_known K behaviour app i made.turn.replies before after opened old new found made.faults_are known kind made.was.lost t
+  none = none_known K behaviour app i made.turn.replies before after taken kept opened old new found made.faults_are known kind made.was.lost t
 
   parts_then : parts_by K behaviour then (set seen app last) ≡ set (parts_by K behaviour known seen) app (part_by K behaviour then app new)
   parts_then = ap (λ (vs : List V). parts_from K behaviour then 0 vs) values_are ∙ parts_after K behaviour app values new found made.app_is known kind none
@@ -244,15 +255,19 @@ module _ {V A : Type 0} (K : VolumeKeeper V)
     own_was : part_by K behaviour known app was_seen ≡ part_of m
     own_was = sym part_before ∙ own
 
+    right : IsHeld ((K.held old).leaves app) taken
+    right = subst (λ (o : Option Directory). IsHeld ((K.held old).leaves app) o) (sym made.taken_is) (made.was.held marked app)
+
     left : Leaves K behaviour app i kind then values new m
-    left = leaves K rests since behaviour values app i made.turn.replies before after old new m stands was_seen seen_there found made.app_is made.instance_is made.side_is made.volume_is
+    left = leaves K rests since behaviour values app i made.turn.replies before after taken kept old new m stands right was_seen seen_there found
+        made.app_is made.instance_is made.side_is made.volume_is
         known kind none own_was (made.was.kept marked) t
 
     step_made : MakesStep behaviour m (event_of kind i) made.turn.replies after
     step_made = record {
-      may = turn_may K rests since behaviour values app i kind made.turn.replies before after old new m stands t known was_seen seen_there own_was (made.was.kept marked);
-      told = turn_told K rests since behaviour values app i kind made.turn.replies before after old new m stands t known was_seen seen_there own_was (made.was.kept marked);
-      stands = turn_stands K rests since behaviour values app i kind made.turn.replies before after old new m stands t known was_seen seen_there own_was (made.was.kept marked);
+      may = turn_may K rests since behaviour values app i kind made.turn.replies before after taken kept old new m stands right t known was_seen seen_there own_was (made.was.kept marked);
+      told = turn_told K rests since behaviour values app i kind made.turn.replies before after taken kept old new m stands right t known was_seen seen_there own_was (made.was.kept marked);
+      stands = turn_stands K rests since behaviour values app i kind made.turn.replies before after taken kept old new m stands right t known was_seen seen_there own_was (made.was.kept marked);
     }
 
     part_left : part_of (step behaviour m (event_of kind i)).machine ≡ part_at (parts_by K behaviour then (set seen app last)) app
@@ -261,20 +276,25 @@ module _ {V A : Type 0} (K : VolumeKeeper V)
     stored_then : IsStoredFor K A (parts_by K behaviour then (set seen app last)) new
     stored_then = subst (λ (vs : List V). IsStoredFor K A (parts_from K behaviour then 0 vs) new) (sym values_are) left.stored
 
+    dirs_then : AreHeld (K.held new).leaves then_dirs
+    dirs_then = turn_held K rests since behaviour values app i kind made.turn.replies before after taken kept old new m stands right t known was_seen seen_there own_was
+        (made.was.kept marked) dirs then_dirs made.kept_is made.others_are (made.was.held marked)
+
   -- what the type keeps
-  pub storage_then : IsStorage K (length (set seen app last)) new opened then (parts_by K behaviour then (set seen app last))
+  pub storage_then : IsStorage K (length (set seen app last)) new opened then then_dirs (parts_by K behaviour then (set seen app last))
   storage_then =
-      let counts = counts_kept K behaviour app i kind made.turn.replies before after old new t in
-      subst (λ n. IsStorage K n new opened then (parts_by K behaviour then (set seen app last))) (sym length_then) (record {
+      let counts = counts_kept K behaviour app i kind made.turn.replies before after taken kept old new t in
+      subst (λ n. IsStorage K n new opened then then_dirs (parts_by K behaviour then (set seen app last))) (sym length_then) (record {
         each = ap (λ (ps : List StoragePart). length ps) parts_then ∙ length-set (parts_by K behaviour known seen) app (part_by K behaviour then app new) ∙ made.was.each;
         some = made.was.some;
         few = made.was.few;
-        lost = losses_after K behaviour app i made.turn.replies before after opened old new found made.faults_are known kind made.was.since.faults made.was.lost t;
+        lost = losses_after K behaviour app i made.turn.replies before after taken kept opened old new found made.faults_are known kind made.was.since.faults made.was.lost t;
         since = record {
           faults = let first = made.was.since.faults in let later = counts.faults in omega (arith, first, later);
           foundation = counts.foundation ∙ made.was.since.foundation;
         };
         kept = λ marked. let has = made.part marked in stored_then marked has.machine has.stands has.part;
+        held = λ marked. let has = made.part marked in dirs_then marked has.machine has.stands has.part;
       })
 
   -- the application stays in step with its part
@@ -290,21 +310,23 @@ module _ {V A : Type 0} (K : VolumeKeeper V)
   -- it knows whether the storage is lost
   pub known_then : is_lost after ≡ is_lost_at (losses_in then)
   known_then =
-      told_lost K behaviour app i made.turn.replies before after old new kind t
+      told_lost K behaviour app i made.turn.replies before after taken kept old new kind t
       ∙ sym (lost_is then (K.condition opened) (K.condition new) storage_then.lost)
 
 -- the same of what is seen of the storage
 module _ {V A : Type 0} (K : VolumeKeeper V)
     (rests : (v : V) → K.honest v → (K.condition v).lost ≡ false → RestsAt K v (K.held v))
     (since : (v : V) (t u : ℕ) (o : Option Held) → t ≤ u → K.left_since v u o → K.left_since v t o)
-    (behaviour : Behaviour A) (app client i : ℕ) (kind : TurnKind) (known then : Option (Loss V A)) (found : Loss V A) (seen : List (Snapshot V)) (last : Snapshot V) (opened old new : V)
-    (before after : AppSide A) (log more : KeptLog) (x : StorageView V)
+    (behaviour : Behaviour A) (app client i : ℕ) (kind : TurnKind) (known then : Option (Loss V A)) (found : Loss V A) (seen : List (Snapshot V)) (last : Snapshot V)
+    (dirs then_dirs : List (Option Directory)) (taken kept : Option Directory) (opened old new : V) (before after : AppSide A) (log more : KeptLog) (x : StorageView V)
     (view_is : (let v : StorageView V = record { volume = old; parts = parts_by K behaviour known seen; trail = trail_by (length seen) opened known } in v) ≡ x)
     (then_is : then ≡ loss_after known kind found) (there : app < length x.parts) (last_is : last.value ≡ new) (app_is : found.app ≡ app) (instance_is : found.instance ≡ i)
     (faults_are : found.faults ≡ (K.condition new).faults) (side_is : found.side.value ≡ before) (volume_is : found.volume.value ≡ old) (reserved : IsReserved 3 before log)
-    (was : IsStorage K (length seen) old opened known (parts_by K behaviour known seen)) (turn : TurnsLogged K behaviour app client i kind before after log more old new)
+    (taken_is : taken ≡ kept_at dirs app) (kept_is : kept_at then_dirs app ≡ kept) (others_are : (other : ℕ) → other ≢ app → kept_at then_dirs other ≡ kept_at dirs other)
+    (was : IsStorage K (length seen) old opened known dirs (parts_by K behaviour known seen))
+    (turn : TurnsLogged K behaviour app client i kind before after log more taken kept old new)
     (part : IsMarked K (first_of x.trail) → HasPart before (part_at x.parts app)) where
-  made : IsMade K behaviour app client i kind known found seen last opened old new before after log more
+  made : IsMade K behaviour app client i kind known found seen last dirs then_dirs taken kept opened old new before after log more
   made = record {
     there =
         let n : length (parts_by K behaviour known seen) ≡ length x.parts = ap (λ (v : StorageView V). length v.parts) view_is in
@@ -317,6 +339,9 @@ module _ {V A : Type 0} (K : VolumeKeeper V)
     side_is = side_is;
     volume_is = volume_is;
     reserved = reserved;
+    taken_is = taken_is;
+    kept_is = kept_is;
+    others_are = others_are;
     was = was;
     turn = turn;
     part = subst (λ (v : StorageView V). IsMarked K (first_of v.trail) → HasPart before (part_at v.parts app)) (sym view_is) part;
@@ -325,10 +350,10 @@ module _ {V A : Type 0} (K : VolumeKeeper V)
   abbrev next : List (Snapshot V)
   next = set seen app last
 
-  pub value_storage : IsStorage K (length next) new opened then (parts_by K behaviour then next)
+  pub value_storage : IsStorage K (length next) new opened then then_dirs (parts_by K behaviour then next)
   value_storage =
-      subst (λ (loss : Option (Loss V A)). IsStorage K (length next) new opened loss (parts_by K behaviour loss next)) (sym then_is)
-      (storage_then K rests since behaviour app client i kind known found seen last opened old new before after log more made)
+      subst (λ (loss : Option (Loss V A)). IsStorage K (length next) new opened loss then_dirs (parts_by K behaviour loss next)) (sym then_is)
+      (storage_then K rests since behaviour app client i kind known found seen last dirs then_dirs taken kept opened old new before after log more made)
 
   pub value_kept : IsMarked K (first_of x.trail) → (origin : Machine A) → IsKeptBy behaviour origin before log (part_at x.parts app)
       → IsKeptBy behaviour origin after more (part_at (parts_by K behaviour then next) app)
@@ -337,29 +362,30 @@ module _ {V A : Type 0} (K : VolumeKeeper V)
       → IsKeptBy behaviour origin after more (part_at (parts_by K behaviour loss next) app)) (sym then_is)
       (subst (λ (v : StorageView V). IsMarked K (first_of v.trail) → (origin : Machine A) → IsKeptBy behaviour origin before log (part_at v.parts app)
       → IsKeptBy behaviour origin after more (part_at (parts_by K behaviour (loss_after known kind found) next) app)) view_is
-      (kept_then K rests since behaviour app client i kind known found seen last opened old new before after log more made))
+      (kept_then K rests since behaviour app client i kind known found seen last dirs then_dirs taken kept opened old new before after log more made))
 
   pub value_others : parts_by K behaviour then next ≡ set x.parts app (part_at (parts_by K behaviour then next) app)
   value_others =
       subst (λ (loss : Option (Loss V A)). parts_by K behaviour loss next ≡ set x.parts app (part_at (parts_by K behaviour loss next) app)) (sym then_is)
       (subst (λ (v : StorageView V). parts_by K behaviour (loss_after known kind found) next ≡ set v.parts app (part_at (parts_by K behaviour (loss_after known kind found) next) app)) view_is
-      (others_then K rests since behaviour app client i kind known found seen last opened old new before after log more made))
+      (others_then K rests since behaviour app client i kind known found seen last dirs then_dirs taken kept opened old new before after log more made))
 
   pub value_trail : trail_by (length next) opened then ≡ x.trail ++ losses_by app (K.condition new).faults kind
   value_trail =
       subst (λ (loss : Option (Loss V A)). trail_by (length next) opened loss ≡ x.trail ++ losses_by app (K.condition new).faults kind) (sym then_is)
       (subst (λ (v : StorageView V). trail_by (length next) opened (loss_after known kind found) ≡ v.trail ++ losses_by app (K.condition new).faults kind) view_is
-      (trail_then K rests since behaviour app client i kind known found seen last opened old new before after log more made))
+      (trail_then K rests since behaviour app client i kind known found seen last dirs then_dirs taken kept opened old new before after log more made))
 
   pub value_lost : is_lost after ≡ is_lost_at (trail_by (length next) opened then)
   value_lost =
       subst (λ (loss : Option (Loss V A)). is_lost after ≡ is_lost_at (trail_by (length next) opened loss)) (sym then_is)
-      (known_then K rests since behaviour app client i kind known found seen last opened old new before after log more made)
+      (known_then K rests since behaviour app client i kind known found seen last dirs then_dirs taken kept opened old new before after log more made)
 
 -- what is told of every storage
-pub storage_kept : {V A : Type 0} (K : VolumeKeeper V) (apps : ℕ) (volume opened : V) (loss : Option (Loss V A)) (parts : List StoragePart) → IsStorage K apps volume opened loss parts
+pub storage_kept : {V A : Type 0} (K : VolumeKeeper V) (apps : ℕ) (volume opened : V) (loss : Option (Loss V A)) (dirs : List (Option Directory)) (parts : List StoragePart)
+    → IsStorage K apps volume opened loss dirs parts
     → KeepsStorage K A (record { volume = volume; parts = parts; trail = trail_by apps opened loss })
-storage_kept {V} K apps volume opened loss parts was = record {
+storage_kept {V} K apps volume opened loss dirs parts was = record {
   some = let n = was.each in let lt = was.some in omega (arith, n, lt);
   few = let n = was.each in let le = was.few in omega (arith, n, le);
   opened = opened;

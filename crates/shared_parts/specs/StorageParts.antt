@@ -13,6 +13,8 @@ use Rattle.alone.specs.Step.{TurnLost, step}
 use Rattle.app_side.specs.Represents.{machine_of, over}
 use Rattle.app_side.specs.declared.side.AppSide.{AppSide}
 use Rattle.tee_core.specs.Moments.{KeepsFoundation}
+use Rattle.region_plan.specs.declared.directory.Directory.{Directory}
+use Rattle.tee_core.specs.Directories.{AreHeld}
 use Rattle.tee_core.specs.Represents.{StandFor}
 use Rattle.tee_core.specs.World.{World}
 use Rattle.shared_parts.specs.InStep.{StoragePart, part_of}
@@ -145,11 +147,13 @@ module _ {V A : Type 0} where
   loss_after known kinds.Starved found = known
   loss_after known kinds.Corrupted found = known
 
-  -- the type keeps this of its fields: how many applications there are, the volume, how it was opened, its loss and the parts
-  pub record IsStorage (K : VolumeKeeper V) (apps : ℕ) (volume opened : V) (loss : Option (Loss V A)) (parts : List StoragePart) : Type 0 where
+  -- the type keeps this of its fields: how many applications there are, the volume, how it was opened, its loss, the directories that
+  -- are kept of regions, and the parts
+  pub record IsStorage (K : VolumeKeeper V) (apps : ℕ) (volume opened : V) (loss : Option (Loss V A)) (dirs : List (Option Directory)) (parts : List StoragePart) : Type 0 where
     pub each : length parts ≡ apps
     pub some : 0 < apps
     pub few : apps ≤ MAX_HOSTS
     pub lost : AreLosses (losses_in loss) (K.condition opened) (K.condition volume)
     pub since : KeepsFoundation (K.condition opened) (K.condition volume)
     pub kept : IsMarked K (Opened apps opened) → IsStoredFor K A parts volume
+    pub held : IsMarked K (Opened apps opened) → AreHeld (K.held volume).leaves dirs

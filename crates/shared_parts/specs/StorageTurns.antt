@@ -1,6 +1,6 @@
 -- A turn of one application over the storage, with its entry.
 use Rattle.app_api.specs.Behaviours.{Behaviour}
-use Rattle.std.specs.Prelude.{ℕ, ◌≡◌, ◌≤◌, ◌⊎◌, List, [], ◌∷◌, ◌++◌, Bool, true, length}
+use Rattle.std.specs.Prelude.{ℕ, ◌≡◌, ◌≤◌, ◌⊎◌, List, [], ◌∷◌, ◌++◌, Option, Bool, true, length}
 use Rattle.alone.specs.declared.reply.Reply.{Reply}
 use Rattle.alone.specs.declared.reply.TheConstants.{REPLIES}
 use Rattle.alone.specs.declared.turn.TurnKind.{TurnKind}
@@ -8,6 +8,7 @@ use Rattle.alone.specs.Logs.{Adds, KeptLog, Logged, entry}
 use Rattle.alone.specs.Step.{Event, Lost}
 use Rattle.app_side.specs.Represents.{event_of}
 use Rattle.app_side.specs.declared.side.AppSide.{AppSide}
+use Rattle.region_plan.specs.declared.directory.Directory.{Directory}
 use Rattle.store_api.specs.Volumes.{VolumeKeeper}
 use Rattle.tee_core.specs.Turning.{TurnsOver}
 use Rattle.tee_base.specs.Words.{InstanceNumber}
@@ -20,10 +21,10 @@ pub record IsPushed (client : ℕ) (kind : TurnKind) (instance : InstanceNumber)
 
 -- a turn over the region of the application, and its entry with its replies
 pub record TurnsLogged {V A : Type 0} (K : VolumeKeeper V) (behaviour : Behaviour A) (app client instance : ℕ) (kind : TurnKind)
-    (before after : AppSide A) (old_log new_log : KeptLog) (old new : V) : Type 0 where
+    (before after : AppSide A) (old_log new_log : KeptLog) (taken kept : Option Directory) (old new : V) : Type 0 where
   pub replies : List Reply
   pub few : length replies ≤ REPLIES
-  pub turn : TurnsOver K behaviour app instance kind replies before after old new
+  pub turn : TurnsOver K behaviour app instance kind replies before after taken kept old new
   pub logged : IsPushed client kind instance replies old_log new_log
 
 -- the log has the entry of a turn more. Right before it stands that of a loss, if one was found now; and one is found only where the

@@ -13,6 +13,7 @@ use std::alloc::Global;
 use std::snapshot::Snapshot;
 use store_api::Volume;
 use tee_base::NoMemory;
+use tee_core::Directories;
 
 /// So many views of the volume as it stands. They have no bytes.
 fn views_of<V>(alloc: Global, volume: &V, count: usize) -> Result<Vec<Snapshot<V>>, NoMemory>
@@ -52,6 +53,7 @@ impl<V: Volume, A: Application> Storage<V, A> {
                     volume,
                     opened,
                     seen,
+                    kept: Directories::none(),
                     loss: None,
                 })
             }

@@ -8,6 +8,7 @@ use std::marker::{Model, PhantomData};
 use std::snapshot::Snapshot;
 use store_api::Volume;
 use tee_base::NoMemory;
+use tee_core::Directories;
 use turn_cell::Parted;
 
 /// There was no memory for a storage. The volume comes back.
@@ -42,6 +43,7 @@ pub struct Storage<V: Volume, A: Application> {
     pub(crate) opened: Snapshot<V>,
     /// For each application the volume as its last turn left it. They have no bytes.
     pub(crate) seen: Vec<Snapshot<V>>,
+    pub(crate) kept: Directories,
     pub(crate) loss: Option<Loss<V, A>>,
 }
 
@@ -64,7 +66,7 @@ impl<V: Volume, A: Application> Model for Storage<V, A> {
     } };
 
     ghost invariant = { λ s. IsStorage V.keeper (length s.seen.items) s.volume s.opened.value
-        s.loss (parts_by V.keeper A.behaviour s.loss s.seen.items) };
+        s.loss s.kept.places (parts_by V.keeper A.behaviour s.loss s.seen.items) };
 }
 
 /// A part as seats see it. No value of it is made: it stands in contracts alone.

@@ -14,16 +14,18 @@ use crate::recording::turn_event;
 use crate::storage::{Loss, Storage};
 use alone::TurnKind;
 use app_api::Application;
-use object_dir::ObjectDir;
+use object_dir::{Kept, KeptDir};
 use std::alloc::Global;
 use std::snapshot::Snapshot;
 use store_api::Volume;
 
-/// A turn of an instance over the region of its application, with its entry.
+/// A turn of an instance over the region of its application, with its entry. It takes up the directory that is kept of the
+/// region, and leaves the one that is kept then.
 fn turn_over<V: Volume, A: Application>(
     alloc: Global,
     recorded: &mut Recorded<A>,
     volume: &mut V,
+    kept: &mut Option<Kept>,
     app: u8,
     client: u8,
     instance: u8,
@@ -34,11 +36,11 @@ fn turn_over<V: Volume, A: Application>(
     requires reserved { IsReserved 3 recorded.old.side recorded.old.log }
     ensures { TurnsLogged V.keeper A.behaviour app client instance result
         recorded.old.side recorded.new.side recorded.old.log recorded.new.log
-        volume.old volume.new }
+        kept.old kept.new volume.old volume.new }
 {
-    let mut dir = ObjectDir::of(alloc, volume, app);
+    let mut dir = KeptDir::of(alloc, volume, app, kept.take());
     let made = recorded.side.turn(instance, &mut dir);
-    let _volume = dir.into_volume();
+    let _volume = dir.into_volume(kept);
     made.replies.bounds();
     recorded
         .log
@@ -134,14 +136,17 @@ impl<V: Volume, A: Application> Storage<V, A> {
     {
         let side = Snapshot::of(&recorded.side);
         let volume = Snapshot::of(&self.volume);
+        let mut kept = self.kept.take(app);
         let kind = turn_over(
             self.alloc,
             recorded,
             &mut self.volume,
+            &mut kept,
             app,
             client,
             instance,
         );
+        self.kept.put(app, kept);
         self.seen[app as usize] = Snapshot::of(&self.volume);
         let found = Loss {
             app,

@@ -1,4 +1,4 @@
-use Rattle.std.proofs.Common.{arith, rules}
+use Rattle.std.proofs.Common.{arith, rules, sym, ◌∙◌}
 use Rattle.object_dir.proofs.PlaceLemmas.{same_number, same_reference}
 use Rattle.shared_parts.proofs.StepLemmas.{bytes_none, entry_of_turn, replies_for, room_for}
 use Rattle.shared_parts.proofs.storing.turn_over.Goals as goal
@@ -24,10 +24,11 @@ returns g c =
       turn = record {
         dir_before = dir;
         dir_after = c.turn-made.new.store;
-        over_old = record { same_volume = c.of-dir.ensures.volume; same_region = c.of-dir.ensures.region };
+        over_old = record { same_volume = c.of-dir.ensures.volume; same_region = c.of-dir.ensures.region; same_kept = c.of-dir.ensures.kept ∙ c.take.ensures.value };
         over_new = record {
           same_volume = search (rules, same_reference g.V.Volume.keeper dir.region c.turn-made.new.store.region status);
           same_region = search (rules, same_number g.V.Volume.keeper dir.region c.turn-made.new.store.region status);
+          same_kept = sym c.into_volume-volume.ensures.kept;
         };
         turn = c.turn-made.ensures.turn;
       };
