@@ -26,11 +26,12 @@ use Rattle.app_side.specs.declared.side.AppSide.{AppSide}
 use Rattle.tee_core.proofs.SideLemmas.{set_there}
 use Rattle.shared_parts.proofs.OpeningLemmas.{begun}
 use Rattle.shared_parts.proofs.PartLemmas.{found_here, own_after, segment_is}
-use Rattle.shared_parts.specs.HostedApps.{AreMisses, IsHosted, IsNewSeat, IsSeatFor, KeepsHosted, TurnsInStorage}
-use Rattle.shared_parts.specs.HostedApps.{is_loss_event, missed_by, missed_more, none_missed, origin_of, parts_for, tells_loss}
+use Rattle.shared_parts.specs.HostedApps.{AreMisses, IsHosted, IsNewSeat, IsSeatFor, KeepsHosted, Origin, TurnsInStorage}
+use Rattle.shared_parts.specs.HostedApps.{AreOfClients, is_loss_event, missed_by, missed_more, none_missed, origin_of, parts_for, tells_loss}
 use Rattle.shared_parts.specs.InStep.{GoesInStep, HasGrown, IsKeptBy, IsPosted, StoragePart, part_of}
+use Rattle.shared_parts.specs.Seating.{LearnsMore}
 use Rattle.shared_parts.specs.StorageParts.{IsMarked, LostBy, Opened, StorageEntry, first_of, is_lost_at, losses_by, no_part, part_at}
-use Rattle.shared_parts.specs.StorageTurns.{MakesTurnOver}
+use Rattle.shared_parts.specs.StorageTurns.{MakesTurn, MakesTurnOver}
 use Rattle.shared_parts.specs.declared.missed.Missed.{Missed}
 use Rattle.shared_parts.specs.declared.recorded.Posted.{Posted}
 
@@ -56,7 +57,7 @@ module _ {V : Type 0} where
   first_prefix [] ys some p = absurd (omega (arith, some))
   first_prefix (x ∷ xs) ys some p = sym (ap (λ (zs : List (StorageEntry V)). first_of zs) p.1)
 
-  some_prefix : (xs ys : List (StorageEntry V)) → 0 < length xs → IsPrefix xs ys → 0 < length ys
+  pub some_prefix : (xs ys : List (StorageEntry V)) → 0 < length xs → IsPrefix xs ys → 0 < length ys
   some_prefix xs ys some p =
       let long = ap (λ (zs : List (StorageEntry V)). length zs) p.1 in
       let sum = length-append xs p.0 in
@@ -103,6 +104,38 @@ adds_tells client event old new adds none tells =
     (λ (p : tells_loss old ≡ true). p)
     (λ (q : is_loss_event event ≡ true). absurd (let e : false ≡ true = sym none ∙ q in cc))
     (tells_end old (entry client event adds.replies) (subst (λ (log : List Logged). tells_loss log ≡ true) adds.more tells))
+
+-- ---- clients in logs
+
+clients_end : (log : List Logged) (e : Logged) → AreOfClients log → e.client < 8 → AreOfClients (log ++ e ∷ [])
+clients_end [] e were one = (one, tt)
+clients_end (x ∷ log) e were one = (were.0, clients_end log e were.1 one)
+
+-- an entry of one of the clients
+adds_clients : (client : ℕ) (event : Event) (old new : List Logged) → Adds client event old new → client < 8 → AreOfClients old → AreOfClients new
+adds_clients client event old new adds few were = subst (λ (log : List Logged). AreOfClients log) (sym adds.more) (clients_end old (entry client event adds.replies) were few)
+
+pub same_clients : (old new : List Logged) → new ≡ old → AreOfClients old → AreOfClients new
+same_clients old new same were = subst (λ (log : List Logged). AreOfClients log) (sym same) were
+
+-- a call that may be refused
+pub call_clients : {X E : Type 0} (r : Result X E) (client : ℕ) (event : Event) (old new : KeptLog) (Why : E → Type 0) → OnOk r (Adds client event old.entries new.entries)
+    → IfErr r (λ why. HasGrown old new × Why why) → client < 8 → AreOfClients old.entries → AreOfClients new.entries
+call_clients (Ok x) client event old new Why adds grown few were = adds_clients client event old.entries new.entries adds few were
+call_clients (Err e) client event old new Why adds grown few were = same_clients old.entries new.entries grown.0.entries were
+
+-- a turn
+turn_clients : (client : ℕ) (event : Event) (old new : List Logged) → MakesTurn client event old new → client < 8 → AreOfClients old → AreOfClients new
+turn_clients client event old new made few were =
+    adds_clients client event made.1.before new made.1.adds few
+    (⊎_elim
+    (λ (same : made.1.before ≡ old). same_clients old made.1.before same were)
+    (λ (t : (made.0 ≡ true) × (made.1.before ≡ old ++ entry client Lost [] ∷ [])). adds_clients client Lost old made.1.before (record { replies = []; more = t.1 }) few were)
+    made.1.found)
+
+-- a turn without a store
+pub storeless_clients : (client : ℕ) (event : Event) (old middle new : List Logged) → middle ≡ old → Adds client event middle new → client < 8 → AreOfClients old → AreOfClients new
+storeless_clients client event old middle new same adds few were = adds_clients client event middle new adds few (same_clients old middle same were)
 
 pub same_tells : (old new : List Logged) → new ≡ old → tells_loss new ≡ true → tells_loss old ≡ true
 same_tells old new same tells = subst (λ (log : List Logged). tells_loss log ≡ true) same tells
@@ -196,22 +229,32 @@ module _ {V A : Type 0} (K : VolumeKeeper V) (behaviour : Behaviour A) (app : �
   abbrev Hosted : AppSide A → KeptLog → SeatView StoragePart (StorageEntry V) → List Missed → Type 0
   Hosted side log v misses = IsHosted K behaviour app side log storage v start misses
 
+  -- a seat that knows more of the storage's trail names the same origin
+  pub learned_origin : (v w : SeatView StoragePart (StorageEntry V)) → 0 < length v.trail → LearnsMore v w → origin_of storage w start ≡ origin_of storage v start
+  learned_origin v w began more =
+      ap (λ (e : StorageEntry V). (let o : Origin V A = record { storage = storage; opened = e; machine = (origin_of storage w start).machine } in o))
+          (first_prefix v.trail w.trail began more.trail)
+      ∙ ap (λ (ps : List StoragePart). (let o : Origin V A = record { storage = storage; opened = first_of v.trail; machine = over (part_at ps 0).store (part_at ps 0).in_doubt (machine_of start) } in o))
+          more.original
+
   -- an event that leaves the storage
   pub went_hosted : (side after : AppSide A) (log more : KeptLog) (v : SeatView StoragePart (StorageEntry V)) (misses : List Missed) → Hosted side log v misses
-      → GoesInStep behaviour side log after more → (tells_loss more.entries ≡ true → tells_loss log.entries ≡ true) → Hosted after more v misses
-  went_hosted side after log more v misses was goes tells = record {
+      → GoesInStep behaviour side log after more → (tells_loss more.entries ≡ true → tells_loss log.entries ≡ true) → (AreOfClients log.entries → AreOfClients more.entries)
+      → Hosted after more v misses
+  went_hosted side after log more v misses was goes tells clients = record {
     seat = was.seat;
     index = was.index;
     misses_are = was.misses_are;
     lost = λ lost. was.lost (sym goes.lost ∙ lost);
     told = λ told. was.told (tells told);
+    clients = clients was.clients;
     kept = λ marked. goes.kept (origin_of storage v start).machine (part_at v.own 0) (was.kept marked);
   }
 
   -- a turn over the storage
   pub turned_hosted : (client : ℕ) (event : Event) (side after : AppSide A) (log middle more : KeptLog) (v w : SeatView StoragePart (StorageEntry V)) (misses : List Missed) → Hosted side log v misses
-      → GoesInStep behaviour side log side middle → middle.entries ≡ log.entries → TurnsInStorage K behaviour app client event side after middle more v w → Hosted after more w misses
-  turned_hosted client event side after log middle more v w misses was goes same turn =
+      → GoesInStep behaviour side log side middle → middle.entries ≡ log.entries → TurnsInStorage K behaviour app client event side after middle more v w → client < 8 → Hosted after more w misses
+  turned_hosted client event side after log middle more v w misses was goes same turn few =
       let first : first_of w.trail ≡ first_of v.trail = first_prefix v.trail w.trail was.seat.began turn.trail in
       let origin : (origin_of storage w start).machine ≡ (origin_of storage v start).machine =
       ap (λ (ps : List StoragePart). over (part_at ps 0).store (part_at ps 0).in_doubt (machine_of start)) turn.original in
@@ -221,6 +264,7 @@ module _ {V A : Type 0} (K : VolumeKeeper V) (behaviour : Behaviour A) (app : �
         misses_are = subst (λ n. AreMisses misses n w.missed_word) (sym turn.misses) (subst (λ n. AreMisses misses v.misses n) (sym turn.missed_word) was.misses_are);
         lost = λ lost. sym turn.lost ∙ lost;
         told = turn.told (λ told. was.told (same_tells log.entries middle.entries same told));
+        clients = turn_clients client event middle.entries more.entries turn.made few (same_clients log.entries middle.entries same was.clients);
         kept = λ marked.
             let set : IsMarked K (first_of v.trail) = subst (λ (e : StorageEntry V). IsMarked K e) first marked in
             subst (λ (m : Machine A). IsKeptBy behaviour m after more (part_at w.own 0)) (sym origin)
@@ -251,8 +295,31 @@ module _ {V A : Type 0} (K : VolumeKeeper V) (behaviour : Behaviour A) (app : �
         };
         lost = was.lost;
         told = was.told;
+        clients = was.clients;
         kept = was.kept;
       }))
+
+  -- its seat was out for a while, and knows more of the storage's trail
+  pub learned_hosted : (side : AppSide A) (log : KeptLog) (v w : SeatView StoragePart (StorageEntry V)) (misses : List Missed) → Hosted side log v misses → LearnsMore v w → Hosted side log w misses
+  learned_hosted side log v w misses was more =
+      let first : first_of w.trail ≡ first_of v.trail = first_prefix v.trail w.trail was.seat.began more.trail in
+      record {
+        seat = record {
+          free = more.free;
+          place = more.first ∙ was.seat.place;
+          one = ap (λ (ps : List StoragePart). length ps) more.own ∙ was.seat.one;
+          began = some_prefix v.trail w.trail was.seat.began more.trail;
+        };
+        index = was.index;
+        misses_are = subst (λ n. AreMisses misses n w.missed_word) (sym more.misses) (subst (λ n. AreMisses misses v.misses n) (sym more.missed_word) was.misses_are);
+        lost = λ lost. lost_prefix v.trail w.trail more.trail (was.lost lost);
+        told = λ told. lost_prefix v.trail w.trail more.trail (was.told told);
+        clients = was.clients;
+        kept = λ marked.
+            subst (λ (o : Origin V A). IsKeptBy behaviour o.machine side log (part_at w.own 0)) (sym (learned_origin v w was.seat.began more))
+            (subst (λ (ps : List StoragePart). IsKeptBy behaviour (origin_of storage v start).machine side log (part_at ps 0)) (sym more.own)
+            (was.kept (subst (λ (e : StorageEntry V). IsMarked K e) first marked)));
+      }
 
   -- one that has run nothing
   pub new_hosted : (side mine : AppSide A) (log : KeptLog) (v : SeatView StoragePart (StorageEntry V)) (misses : List Missed) → IsNewSeat app v → (machine_of side).index ≡ app
@@ -268,6 +335,7 @@ module _ {V A : Type 0} (K : VolumeKeeper V) (behaviour : Behaviour A) (app : �
     };
     lost = λ lost. absurd (let e : false ≡ true = sym works ∙ sym (ap (λ (s : AppSide A). is_lost s) same) ∙ lost in cc);
     told = λ told. absurd (let e : false ≡ true = subst (λ (log : List Logged). tells_loss log ≡ true) empty told in cc);
+    clients = subst (λ (log : List Logged). AreOfClients log) (sym empty) tt;
     kept = λ marked.
         let first : StoragePart = part_at v.original 0 in
         let m : Machine A = over first.store first.in_doubt (machine_of start) in
@@ -280,7 +348,7 @@ module _ {V A : Type 0} (K : VolumeKeeper V) (behaviour : Behaviour A) (app : �
   -- what is told of each
   pub hosted_kept : (side : AppSide A) (log : KeptLog) (v : SeatView StoragePart (StorageEntry V)) (misses : List Missed) → Hosted side log v misses
       → KeepsHosted K behaviour (record { origin = origin_of storage v start; log = log.entries; misses = misses })
-  hosted_kept side log v misses was = record { eight = was.misses_are.eight; legal = λ marked. (was.kept marked).in_step.legal }
+  hosted_kept side log v misses was = record { eight = was.misses_are.eight; clients = was.clients; legal = λ marked. (was.kept marked).in_step.legal }
 
 -- ---- parts and answers
 

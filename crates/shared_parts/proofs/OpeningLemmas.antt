@@ -40,7 +40,7 @@ begun side store none = record { doubt = empty_store; parts = ap (λ b. over sto
 
 module _ {V A : Type 0} (K : VolumeKeeper V) (behaviour : Behaviour A) (volume : V) where
   -- the machines of applications, from this index on, each over the store of its region
-  abbrev begun_world : ℕ → List (AppSide A) → World A
+  abbrev pub begun_world : ℕ → List (AppSide A) → World A
   begun_world app [] = []
   begun_world app (side ∷ sides) = over (store_in app (K.held volume)) None (machine_of side) ∷ begun_world (app + 1) sides
 
@@ -68,7 +68,7 @@ module _ {V A : Type 0} (K : VolumeKeeper V) (behaviour : Behaviour A) (volume :
 
   module _ (rests : (v : V) → K.honest v → (K.condition v).lost ≡ false → RestsAt K v (K.held v)) (works : (K.condition volume).lost ≡ false)
       (sides : List (AppSide A)) (some : 0 < length sides) (calm : IsNoneInDoubt sides) where
-    stand_begun : IsMarked K (Opened (length sides) volume) → StandFor K sides volume (begun_world 0 sides)
+    pub stand_begun : IsMarked K (Opened (length sides) volume) → StandFor K sides volume (begun_world 0 sides)
     stand_begun marked =
         let honest : K.honest volume = (marked 0 some).honest in
         let stores : StoresFrom none_kept 0 (begun_world 0 sides) (K.held volume) = stores_begun 0 sides (λ i lt. marked i (omega (arith, lt))) in

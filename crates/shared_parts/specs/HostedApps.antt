@@ -90,6 +90,11 @@ abbrev pub tells_loss : List Logged → Bool
 tells_loss [] = false
 tells_loss (logged ∷ log) = is_loss_event logged.event || tells_loss log
 
+-- each entry is of one of the eight clients
+abbrev pub AreOfClients : List Logged → Type 0
+AreOfClients [] = Unit {0}
+AreOfClients (logged ∷ log) = (logged.client < 8) × AreOfClients log
+
 -- the reply to the operation of this number, if the log has one
 abbrev pub reply_in : ℕ → List Logged → Option Reply
 reply_in op log = find (λ r. r.op == op) (replies_in log)
@@ -144,12 +149,14 @@ module _ {V A : Type 0} (K : VolumeKeeper V) (behaviour : Behaviour A) where
     -- the loss is met only where the seat knows of it
     pub lost : is_lost side ≡ true → is_lost_at v.trail ≡ true
     pub told : tells_loss log.entries ≡ true → is_lost_at v.trail ≡ true
+    pub clients : AreOfClients log.entries
     -- where the mark is set, log, application and part are in step
     pub kept : IsMarked K (first_of v.trail) → IsKeptBy behaviour (origin_of storage v start).machine side log (part_at v.own 0)
 
   -- what is told of every such value
   pub record KeepsHosted (h : HostedView V A) : Type 0 where
     pub eight : length h.misses ≡ 8
+    pub clients : AreOfClients h.log
     pub legal : IsMarked K h.origin.opened → IsLegal behaviour h.origin.machine h.log
 
   -- a turn of the application was made over the storage, which its seat took and gave back

@@ -1,4 +1,5 @@
 pub mod HostedApps
 pub mod InStep
+pub mod Seating
 pub mod StorageParts
 pub mod StorageTurns

@@ -146,7 +146,8 @@ impl<V: Volume, A: Application> HostedApp<V, A> {
     ///
     /// `LogFull` where the log has no place for an entry or for the bytes that the call brings; `NoMemory`. `Busy` never.
     pub fn call(&mut self, client: u8, call: Call, copy: Call) -> Result<Posted, SharedAnswer>
-        requires { copy ≡ call }
+        requires same { copy ≡ call }
+        requires client { client < 8 }
         ensures origin { self.new.origin ≡ self.old.origin }
         ensures misses { self.new.misses ≡ self.old.misses }
         ensures ok { OnOk result (Adds client (Called client call) self.old.log self.new.log) }
@@ -166,6 +167,7 @@ impl<V: Volume, A: Application> HostedApp<V, A> {
     ///
     /// `LogFull` where the log has no place for an entry; `NoMemory`. `Busy` never.
     pub fn cancel(&mut self, client: u8, op: u64) -> Result<(), SharedAnswer>
+        requires { client < 8 }
         ensures origin { self.new.origin ≡ self.old.origin }
         ensures misses { self.new.misses ≡ self.old.misses }
         ensures ok { OnOk result (Adds client (Cancelled op) self.old.log self.new.log) }

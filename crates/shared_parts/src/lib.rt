@@ -12,8 +12,10 @@ mod recorded;
 mod recording;
 mod storage;
 mod storing;
+mod unseated;
 
 pub use hosted::{CLIENTS, HostedApp, SeenClient, SeenEvent};
 pub use missed::Missed;
 pub use recorded::{Posted, Recorded, SharedAnswer};
 pub use storage::{Loss, SeenEntry, SeenPart, Storage, Unstored};
+pub use unseated::UnseatedApp;

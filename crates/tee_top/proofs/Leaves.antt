@@ -5,7 +5,8 @@ use Rattle.board.specs.Moment.{View}
 use Rattle.epoch.specs.Forms.{Form, held_of}
 use Rattle.epoch.specs.Mounts.{IsSeenOn}
 use Rattle.store_api.specs.Volumes.{Held, VolumeKeeper}
-use Rattle.tee_core.specs.Represents.{HasStoresOf, IsLeftOf, StandFor}
+use Rattle.region_plan.specs.declared.directory.Directory.{Directory}
+use Rattle.tee_core.specs.Represents.{HasStoresOf, IsLeftOf, StandWith}
 use Rattle.tee_core.specs.World.{World}
 use Rattle.tee_top.specs.Boards.{LeavesStores}
 
@@ -15,7 +16,7 @@ left_stores world sequence None h = h
 left_stores world sequence (Some held) (inl h) = inl h.1
 left_stores world sequence (Some held) (inr h) = inr (h.0, h.1, h.3)
 
-pub stands_leaves : {A V : Type 0} (K : VolumeKeeper V) (form : Form) (sides : List (AppSide A)) (volume : V) (view : View) (world : World A)
-    → IsSeenOn K form volume view → StandFor K sides volume world → LeavesStores form view world
+pub stands_leaves : {A V : Type 0} {kept : List (Option Directory)} (K : VolumeKeeper V) (form : Form) (sides : List (AppSide A)) (volume : V) (view : View) (world : World A)
+    → IsSeenOn K form volume view → StandWith K sides kept volume world → LeavesStores form view world
 stands_leaves K form sides volume view world seen stands = λ c left.
-    left_stores world (K.held volume).sequence (held_of form view.key c) (stands.left (held_of form view.key c) (seen.left_back (K.moment volume) c (inl left)))
+    left_stores world (K.held volume).sequence (held_of form view.key c) (stands.stand.left (held_of form view.key c) (seen.left_back (K.moment volume) c (inl left)))

@@ -4,7 +4,8 @@ use Rattle.epoch.specs.declared.answer.OpenAnswer.{OpenAnswer}
 use Rattle.epoch.specs.declared.answer.OpenAnswer.TheVariants as answers
 use Rattle.board.specs.Moment.{View}
 use Rattle.epoch.specs.Forms.{Form}
-use Rattle.epoch.specs.Mounts.{IsKeptFromOpening, IsRefusal, IsRefusedNow}
+use Rattle.epoch.specs.Mounts.{IsKeptFromOpening, IsRefusalOver, IsRefusedNow}
+use Rattle.tee_base.specs.Words.{Image}
 use Rattle.tee_top.specs.Boards.{IsRefusedAt, IsRefusedByRule, IsRuleAnswer}
 use Rattle.tee_top.specs.Runs.{IsStopped, IsUnopened, ended_as, refusal_of}
 use Rattle.tee_top.specs.Stops.{IfRefused, UnlessRefused}
@@ -56,6 +57,8 @@ never_done (answers.BadHeader slot found kept) h = h
 never_done (answers.UnknownVersion version) h = h
 never_done (answers.Rollback sequence counter) h = h
 never_done (answers.Ahead sequence counter) h = h
+never_done (answers.OldMismatch tags) h = h
+never_done (answers.OldGarbled region leaf) h = h
 never_done answers.Failed h = h
 never_done answers.NoMemory h = h
 
@@ -77,6 +80,8 @@ told_answer (answers.BadHeader slot found kept) told same = (tt, same_refusal (a
 told_answer (answers.UnknownVersion version) told same = (tt, same_refusal (answers.UnknownVersion version) told same)
 told_answer (answers.Rollback sequence counter) told same = (tt, same_refusal (answers.Rollback sequence counter) told same)
 told_answer (answers.Ahead sequence counter) told same = (tt, same_refusal (answers.Ahead sequence counter) told same)
+told_answer (answers.OldMismatch tags) told same = (tt, same_refusal (answers.OldMismatch tags) told same)
+told_answer (answers.OldGarbled region leaf) told same = (tt, same_refusal (answers.OldGarbled region leaf) told same)
 told_answer answers.Failed told same = absurd (subst IsRefused (sym same) tt)
 told_answer answers.NoMemory told same = absurd (subst IsRefused (sym same) tt)
 
@@ -84,15 +89,17 @@ pub answer_told : (why told : OpenAnswer) → refusal_of why ≡ StoreRefused to
 answer_told why told same = let is = told_answer why told same in subst IsRuleAnswer is.1 is.0
 
 -- a refusal by an answer of the rule
-refused_at : (f : Form) (view : View) (counter : ℕ) (why : OpenAnswer) → IsRuleAnswer why → IsRefusal f view view.state.reads counter why → IsRefusedAt f view counter why
-refused_at f view counter (answers.TooSmall blocks) answer is = record { answer = answer; rule = is }
-refused_at f view counter (answers.NoVolume found) answer is = record { answer = answer; rule = is }
-refused_at f view counter (answers.BadHeader slot found kept) answer is = record { answer = answer; rule = is }
-refused_at f view counter (answers.UnknownVersion version) answer is = record { answer = answer; rule = is }
-refused_at f view counter (answers.Rollback sequence found) answer is = record { answer = answer; rule = is }
-refused_at f view counter (answers.Ahead sequence found) answer is = record { answer = answer; rule = is }
-refused_at f view counter answers.Failed answer is = absurd answer
-refused_at f view counter answers.NoMemory answer is = absurd answer
+refused_at : (f : Form) (view : View) (walked : Image) (counter : ℕ) (why : OpenAnswer) → IsRuleAnswer why → IsRefusalOver f view walked counter why → IsRefusedAt f view walked counter why
+refused_at f view walked counter (answers.TooSmall blocks) answer is = record { answer = answer; rule = is }
+refused_at f view walked counter (answers.NoVolume found) answer is = record { answer = answer; rule = is }
+refused_at f view walked counter (answers.BadHeader slot found kept) answer is = record { answer = answer; rule = is }
+refused_at f view walked counter (answers.UnknownVersion version) answer is = record { answer = answer; rule = is }
+refused_at f view walked counter (answers.Rollback sequence found) answer is = record { answer = answer; rule = is }
+refused_at f view walked counter (answers.Ahead sequence found) answer is = record { answer = answer; rule = is }
+refused_at f view walked counter (answers.OldMismatch tags) answer is = record { answer = answer; rule = is }
+refused_at f view walked counter (answers.OldGarbled region leaf) answer is = record { answer = answer; rule = is }
+refused_at f view walked counter answers.Failed answer is = absurd answer
+refused_at f view walked counter answers.NoMemory answer is = absurd answer
 
 refused_by : (f : Form) (view : View) (why : OpenAnswer) → IsRuleAnswer why → IsRefusedNow f view why → IsRefusedByRule f view why
 refused_by f view (answers.TooSmall blocks) answer is = record { counter = is.0; may_tell = is.1; refused = record { answer = answer; rule = is.2 } }
@@ -101,12 +108,17 @@ refused_by f view (answers.BadHeader slot found kept) answer is = record { count
 refused_by f view (answers.UnknownVersion version) answer is = record { counter = is.0; may_tell = is.1; refused = record { answer = answer; rule = is.2 } }
 refused_by f view (answers.Rollback sequence found) answer is = record { counter = is.0; may_tell = is.1; refused = record { answer = answer; rule = is.2 } }
 refused_by f view (answers.Ahead sequence found) answer is = record { counter = is.0; may_tell = is.1; refused = record { answer = answer; rule = is.2 } }
+refused_by f view (answers.OldMismatch tags) answer is = record { counter = is.0; may_tell = is.1; refused = record { answer = answer; rule = is.2 } }
+refused_by f view (answers.OldGarbled region leaf) answer is = record { counter = is.0; may_tell = is.1; refused = record { answer = answer; rule = is.2 } }
 refused_by f view answers.Failed answer is = absurd answer
 refused_by f view answers.NoMemory answer is = absurd answer
 
 -- what is told is the rule's, over what was read at a counter, or over the board as it reads now
-pub rule_told : (f : Form) (view : View) (counter : ℕ) (why told : OpenAnswer) → refusal_of why ≡ StoreRefused told → IsRefusal f view view.state.reads counter why → IsRefusedAt f view counter told
-rule_told f view counter why told same is = let answer = told_answer why told same in subst (IsRefusedAt f view counter) answer.1 (refused_at f view counter why answer.0 is)
+pub rule_told : (f : Form) (view : View) (walked : Image) (counter : ℕ) (why told : OpenAnswer) → refusal_of why ≡ StoreRefused told → IsRefusalOver f view walked counter why
+    → IsRefusedAt f view walked counter told
+rule_told f view walked counter why told same is =
+    let answer = told_answer why told same in
+    subst (IsRefusedAt f view walked counter) answer.1 (refused_at f view walked counter why answer.0 is)
 
 pub refused_told : (f : Form) (view : View) (why told : OpenAnswer) → refusal_of why ≡ StoreRefused told → IsRefusedNow f view why → IsRefusedByRule f view told
 refused_told f view why told same is = let answer = told_answer why told same in subst (IsRefusedByRule f view) answer.1 (refused_by f view why answer.0 is)
@@ -119,6 +131,8 @@ failed_told (answers.BadHeader slot found kept) same = absurd (subst IsBoardFaul
 failed_told (answers.UnknownVersion version) same = absurd (subst IsBoardFault (sym same) tt)
 failed_told (answers.Rollback sequence counter) same = absurd (subst IsBoardFault (sym same) tt)
 failed_told (answers.Ahead sequence counter) same = absurd (subst IsBoardFault (sym same) tt)
+failed_told (answers.OldMismatch tags) same = absurd (subst IsBoardFault (sym same) tt)
+failed_told (answers.OldGarbled region leaf) same = absurd (subst IsBoardFault (sym same) tt)
 failed_told answers.Failed same = refl
 failed_told answers.NoMemory same = absurd (subst IsBoardFault (sym same) tt)
 
@@ -130,6 +144,8 @@ never_opened (answers.BadHeader slot found kept) = tt
 never_opened (answers.UnknownVersion version) = tt
 never_opened (answers.Rollback sequence counter) = tt
 never_opened (answers.Ahead sequence counter) = tt
+never_opened (answers.OldMismatch tags) = tt
+never_opened (answers.OldGarbled region leaf) = tt
 never_opened answers.Failed = tt
 never_opened answers.NoMemory = tt
 

@@ -190,7 +190,7 @@ module _ {A : Type 0} (behaviour : Behaviour A) (form : Form) (hosts : List (Hos
         → (status ≡ BoardFault → (S × FailsAtFirst old new) ⊎ FailsAtPower script old new)
         → ((why : OpenAnswer) → status ≡ StoreRefused why → Honest → (stores : ℕ → Store) → BeginsWith form old (length hosts) stores → ⊥)
         → ((why : OpenAnswer) → status ≡ StoreRefused why → Honest → (S × IsRefusedByRule form old why) ⊎ HasPower script)
-        → ((why : OpenAnswer) → status ≡ StoreRefused why → IsTrue tells → (S × (counter : ℕ) × IsRefusedAt form old counter why) ⊎ HasPower script)
+        → ((why : OpenAnswer) → status ≡ StoreRefused why → IsTrue tells → (S × (counter : ℕ) × IsRefusedAt form old new.state.reads counter why) ⊎ HasPower script)
         → RunsGenerated behaviour form hosts seed script status Same Honest tells old new before after failed fails
     other_ends status text S served undone uncut same stopped board_fault cause accepted refused rule =
         let rose : status ≡ BoardFault → Rose old.state.faults new.state.faults = λ is. ⊎_elim (λ at_first. at_first.1.failed) (λ power. fails_rose _ _ _ power) (cause is) in

@@ -6,8 +6,7 @@ use Rattle.alone.specs.Step.{Event, Called, Cancelled, Turned, TurnLost, Corrupt
 use Rattle.board.specs.Moment.{Moment, Order, View, IsCounter}
 use Rattle.board.specs.Runs.{Rests}
 use Rattle.epoch.specs.Forms.{Form, Root}
-use Rattle.epoch.specs.Mounts.{IsAdmitted}
-use Rattle.epoch.specs.Opening.{opens_as}
+use Rattle.epoch.specs.Mounts.{IsAdmitted, admission_over}
 use Rattle.epoch.specs.declared.answer.OpenAnswer.{OpenAnswer}
 use Rattle.epoch.specs.declared.answer.OpenAnswer.TheVariants as answers
 use Rattle.epoch.specs.declared.mounts.TheConstants.{FORMATTED}
@@ -22,7 +21,7 @@ use Rattle.tee_core.specs.Powers.{after_power}
 use Rattle.tee_core.specs.World.{World, world_step}
 use Rattle.tee_top.specs.BoardLines.{lost_lines, whole_text}
 use Rattle.tee_top.specs.Transcript.{WorldEvent, Happens, Fused, Powered}
-use Rattle.tee_base.specs.Words.{Counter, Key, Sequence, Text}
+use Rattle.tee_base.specs.Words.{Counter, Image, Key, Sequence, Text}
 
 -- ---- orders
 
@@ -152,19 +151,22 @@ IsRuleAnswer (answers.BadHeader slot found kept) = Unit {0}
 IsRuleAnswer (answers.UnknownVersion version) = Unit {0}
 IsRuleAnswer (answers.Rollback sequence counter) = Unit {0}
 IsRuleAnswer (answers.Ahead sequence counter) = Unit {0}
+IsRuleAnswer (answers.OldMismatch tags) = Unit {0}
+IsRuleAnswer (answers.OldGarbled region leaf) = Unit {0}
 IsRuleAnswer answers.Failed = ⊥
 IsRuleAnswer answers.NoMemory = ⊥
 
--- the opening rule refuses a board over what it reads as, at this counter, and this is the rule's answer
-pub record IsRefusedAt (form : Form) (view : View) (counter : Counter) (why : OpenAnswer) : Type 0 where
+-- the opening rule refuses a board, at this counter, and this is the rule's answer. Which header counts is by what the board reads as,
+-- and what is refused of the leaves behind it by what it read as when they were walked
+pub record IsRefusedAt (form : Form) (view : View) (walked : Image) (counter : Counter) (why : OpenAnswer) : Type 0 where
   pub answer : IsRuleAnswer why
-  pub rule : opens_as form.known form.blocks view.size view.key view.state.reads counter ≡ Err why
+  pub rule : admission_over form view view.state.reads walked counter ≡ Err why
 
--- the same at a counter that the board may tell
+-- the same over what it reads as alone, at a counter that it may tell
 pub record IsRefusedByRule (form : Form) (view : View) (why : OpenAnswer) : Type 0 where
   pub counter : Counter
   pub may_tell : IsCounter view.state counter
-  pub refused : IsRefusedAt form view counter why
+  pub refused : IsRefusedAt form view view.state.reads counter why
 
 -- ---- images
 

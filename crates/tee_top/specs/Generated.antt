@@ -130,6 +130,6 @@ module _ {A : Type 0} (behaviour : Behaviour A) (form : Form) (hosts : List (Hos
     pub orders : HasOrders [] old new
     pub cause : status ≡ BoardFault → Rose old.state.faults new.state.faults
     pub refused : (why : OpenAnswer) → status ≡ StoreRefused why → Honest → IsRefusedByRule form old why
-    pub rule : (why : OpenAnswer) → status ≡ StoreRefused why → IsTrue tells → (counter : Counter) × IsRefusedAt form old counter why
+    pub rule : (why : OpenAnswer) → status ≡ StoreRefused why → IsTrue tells → (counter : Counter) × IsRefusedAt form old new.state.reads counter why
     pub complete : Honest → (stores : ℕ → Store) → BeginsWith form old (length hosts) stores → ¬ Rose failed fails
         → ¬ Rose old.state.faults new.state.faults → (status ≡ Done) ⊎ (status ≡ NoMemory)

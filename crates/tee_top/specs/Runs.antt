@@ -100,6 +100,8 @@ refusal_of (answers.BadHeader slot found kept) = StoreRefused (answers.BadHeader
 refusal_of (answers.UnknownVersion version) = StoreRefused (answers.UnknownVersion version)
 refusal_of (answers.Rollback sequence counter) = StoreRefused (answers.Rollback sequence counter)
 refusal_of (answers.Ahead sequence counter) = StoreRefused (answers.Ahead sequence counter)
+refusal_of (answers.OldMismatch tags) = StoreRefused (answers.OldMismatch tags)
+refusal_of (answers.OldGarbled region leaf) = StoreRefused (answers.OldGarbled region leaf)
 refusal_of answers.Failed = BoardFault
 refusal_of answers.NoMemory = NoMemory
 

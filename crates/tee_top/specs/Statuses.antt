@@ -26,6 +26,8 @@ why_text (answers.BadHeader slot found kept) = codes "bad header " ++ decimal sl
 why_text (answers.UnknownVersion version) = codes "unknown version " ++ decimal version
 why_text (answers.Rollback sequence counter) = codes "rollback " ++ decimal sequence ++ codes " " ++ decimal counter
 why_text (answers.Ahead sequence counter) = codes "ahead " ++ decimal sequence ++ codes " " ++ decimal counter
+why_text (answers.OldMismatch tags) = codes "old volume mismatch"
+why_text (answers.OldGarbled region leaf) = codes "old region " ++ decimal region ++ codes " garbled at " ++ decimal leaf
 why_text answers.Failed = codes "failed"
 why_text answers.NoMemory = codes "out of memory"
 

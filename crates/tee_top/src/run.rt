@@ -154,7 +154,8 @@ pub fn serve<B: Board, V: BoardVolume<B>, W: Sink, A: Application>(
         → ((sink.new ≡ sink.old) × IsRefusedByRule V.form (B.view board) why)
         ⊎ HasPower lines.items }
     ensures rule { (why : OpenRefusal) → result.0 ≡ Status.StoreRefused why → IsTrue B.tells_reads
-        → ((sink.new ≡ sink.old) × (counter : ℕ) × IsRefusedAt V.form (B.view board) counter why)
+        → ((sink.new ≡ sink.old) × (counter : ℕ) × IsRefusedAt V.form (B.view board)
+        (B.view result.1).state.reads counter why)
         ⊎ HasPower lines.items }
     ensures refusal { (why : OpenRefusal) → result.0 ≡ Status.StoreRefused why → B.honest board
         → IsRefusedByRule V.form (B.view result.1) why }
@@ -250,7 +251,8 @@ pub fn run_tee<S: Source, W: Sink, B: Board + Drop, A: Application>(
     ensures rule { AreRunWords words.now
         → (why : OpenRefusal) → result.0 ≡ Status.StoreRefused why → IsTrue B.tells_reads
         → ((sink.new ≡ sink.old)
-        × (counter : ℕ) × IsRefusedAt form_in_use (B.view board) counter why)
+        × (counter : ℕ) × IsRefusedAt form_in_use (B.view board)
+        (B.view result.1).state.reads counter why)
         ⊎ IsOfScript hosts.items (S.left source.old) (λ script. HasPower script) }
     ensures answer { (why : OpenRefusal) → result.0 ≡ Status.StoreRefused why → IsRuleAnswer why }
     ensures opened { B.honest board → ((sink.new ≡ sink.old) × IsUnopened result.0)

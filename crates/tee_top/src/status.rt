@@ -71,6 +71,8 @@ fn write_why(line: &mut LineBuffer, why: &OpenAnswer) -> Result<(), NoMemory>
         OpenAnswer::Ahead { sequence, counter } => {
             write_pair(line, b"ahead ", *sequence, *counter)
         }
+        OpenAnswer::OldMismatch(_) => line.text(b"old volume mismatch"),
+        OpenAnswer::OldGarbled { region, leaf } => write_garbled(line, *region, *leaf),
         OpenAnswer::Failed => line.text(b"failed"),
         OpenAnswer::NoMemory => line.text(b"out of memory"),
     }
@@ -91,6 +93,15 @@ fn write_pair(line: &mut LineBuffer, words: &[u8], first: u64, second: u64) -> R
 {
     write_count(line, words, first)?;
     write_count(line, b" ", second)
+}
+
+/// The leaf of an older version that breaks a rule.
+fn write_garbled(line: &mut LineBuffer, region: u8, leaf: u8) -> Result<(), NoMemory>
+    ensures { OnOk result (line.new ≡ line.old
+        ++ (codes "old region " ++ decimal region ++ codes " garbled at " ++ decimal leaf)) }
+{
+    write_count(line, b"old region ", u64::from(region))?;
+    write_count(line, b" garbled at ", u64::from(leaf))
 }
 
 /// Writes to an empty line what is told of a status, with a line feed; nothing of one that is Done.

@@ -23,7 +23,7 @@ returns-in_err-op g c =
     (stops_within behaviour g.V.BoardVolume.form c.args.names.now (λ world weather. step_events behaviour weather world (events.Call app client call))
     (λ world weather. line_events behaviour weather world (lines.Call app client c.args.post call)) _ _ _ c.in_err-op.ensures.made
     (λ world stands.
-    let p = side_at tee.sides.items world app stands.sides_are c.requires.known in
+    let p = side_at tee.sides.items world app stands.stand.sides_are c.requires.known in
     (λ weather. behind_call behaviour weather world app client call p.0 c.args.post, λ weather. call_begins behaviour weather world app client call p.0 c.args.post p.1)))
 
 pub returns-then-post : goal.returns-then-post
@@ -49,13 +49,13 @@ returns g c =
     rw c.if-post.false (record {
       whole = on_ok_weaker c.run_until.result
           (λ until w stands.
-          let p = side_at tee.sides.items w app stands.sides_are c.requires.known in
+          let p = side_at tee.sides.items w app stands.stand.sides_are c.requires.known in
           let number = c.in_ok-op.ensures.called w p.0 client call stands p.1 refl in
           call_whole behaviour form names _ _ w p.0 app client instance op call p.1 number.0 number.1 _ _ _ (first.whole w stands) until)
           more.whole;
       stopped = on_err_weaker c.run_until.result
           (λ until w stands.
-          let p = side_at tee.sides.items w app stands.sides_are c.requires.known in
+          let p = side_at tee.sides.items w app stands.stand.sides_are c.requires.known in
           let number = c.in_ok-op.ensures.called w p.0 client call stands p.1 refl in
           call_stopped behaviour form names _ w p.0 app client instance op call p.1 number.0 number.1 _ _ _ (first.whole w stands) until)
           more.stopped;

@@ -79,9 +79,9 @@ returns-in_err-written-clause-made g c =
     rw (stop.1, stop.2) (record {
       whole = tt;
       stopped = λ w stands.
-          let p = side_at tee.sides.items w (app_of e) stands.sides_are known.there in
+          let p = side_at tee.sides.items w (app_of e) stands.stand.sides_are known.there in
           one_stops behaviour g.V.BoardVolume.form names w e h p.0 p.1 (c.in_ok-happened.ensures.told w p.0 stands p.1) _ _ known.within
-          (omega (arith, known.room, sides_turns tee.sides.items w (app_of e) p.0 stands.sides_are p.1))
+          (omega (arith, known.room, sides_turns tee.sides.items w (app_of e) p.0 stands.stand.sides_are p.1))
           (c.in_ok-happened.ensures.made.stands w p.0 stands p.1) (c.in_ok-happened.ensures.made.sound w stands)
           (stands_leaves g.V.Volume.keeper g.V.BoardVolume.form then.sides.items (volume_of then) _ _ (g.met.V.BoardVolume.seen (volume_of then)) (c.in_ok-happened.ensures.made.world w stands))
           (subst (λ name. AppendsFront (happened_lines name h) (g.W.Sink.written c.args.sink.now) (g.W.Sink.written c.write_happened-written.new.sink)) known.named c.in_err-written.ensures.err);
@@ -112,9 +112,9 @@ returns-clause-made g c =
     c.name_of.ensures (c.has_room.ensures.0 c.if-not-has_room.false) in
     record {
       whole = λ w stands.
-          let p = side_at tee.sides.items w (app_of e) stands.sides_are known.there in
+          let p = side_at tee.sides.items w (app_of e) stands.stand.sides_are known.there in
           one_whole behaviour g.V.BoardVolume.form names w e h p.0 p.1 (c.in_ok-happened.ensures.told w p.0 stands p.1) _ _ _ known.within
-          (omega (arith, known.room, sides_turns tee.sides.items w (app_of e) p.0 stands.sides_are p.1))
+          (omega (arith, known.room, sides_turns tee.sides.items w (app_of e) p.0 stands.stand.sides_are p.1))
           (c.in_ok-happened.ensures.made.stands w p.0 stands p.1) (c.in_ok-happened.ensures.made.sound w stands) c.in_ok-happened.ensures.kept.boots
           (event_along g.V.Volume.keeper g.V.BoardVolume.form (volume_of tee) (volume_of then) _ _ (g.met.V.BoardVolume.seen (volume_of tee))
           (g.met.V.BoardVolume.seen (volume_of then)) behaviour w e h.kind c.in_ok-happened.ensures.made.counts)

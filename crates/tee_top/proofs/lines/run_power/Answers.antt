@@ -58,18 +58,18 @@ returns-in-Ok g c =
           (λ written w stands.
           let begins = c.in-Ok.ensures.restarted w stands in
           let is = begins.told in
-          let many : length w ≡ length names = sym (sides_length tee.sides.items w stands.sides_are) ∙ sym c.requires.names in
+          let many : length w ≡ length names = sym (sides_length tee.sides.items w stands.stand.sides_are) ∙ sym c.requires.names in
           power_whole behaviour g.V.BoardVolume.form names w c.args.pick told (owner_known w told _ _ (length names) is many) _ _ _
-          (powers_are tee.sides.items w tee.boots stands.sides_are tee.booted c.requires.some) (owner_is w told _ _ is stands.single) c.in-Ok.ensures.boots c.in-Ok.ensures.calls.order
+          (powers_are tee.sides.items w tee.boots stands.stand.sides_are tee.booted c.requires.some) (owner_is w told _ _ is stands.stand.single) c.in-Ok.ensures.boots c.in-Ok.ensures.calls.order
           begins.left begins.world written)
           c.write_power.ensures.ok;
       stopped = unless_refused ends _ _
           (λ written w stands.
           let begins = c.in-Ok.ensures.restarted w stands in
           let is = begins.told in
-          let many : length w ≡ length names = sym (sides_length tee.sides.items w stands.sides_are) ∙ sym c.requires.names in
+          let many : length w ≡ length names = sym (sides_length tee.sides.items w stands.stand.sides_are) ∙ sym c.requires.names in
           power_stops behaviour g.V.BoardVolume.form names w c.args.pick told (owner_known w told _ _ (length names) is many) _ _
-          (powers_are tee.sides.items w tee.boots stands.sides_are tee.booted c.requires.some) (owner_is w told _ _ is stands.single)
+          (powers_are tee.sides.items w tee.boots stands.stand.sides_are tee.booted c.requires.some) (owner_is w told _ _ is stands.stand.single)
           (stands_leaves g.V.Volume.keeper g.V.BoardVolume.form then.sides.items (volume_of then) _ _ (g.met.V.BoardVolume.seen (volume_of then)) begins.world) written)
           c.write_power.ensures.err;
       refused = no_refusal ends _ served;

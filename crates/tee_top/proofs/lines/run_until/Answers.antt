@@ -34,7 +34,7 @@ loop-preserved g c =
     (λ world weather. step_events behaviour weather world (events.Turn app instance)) _ _ _ _
     c.loop.invariant c.in_ok-run_event.ensures.made
     (λ now stands weather.
-    let p = side_at c.loop.tee.sides.items now app stands.sides_are there in
+    let p = side_at c.loop.tee.sides.items now app stands.stand.sides_are there in
     until_split behaviour weather now app instance op most_turns k p.0 more p.1 (sym (c.answered.ensures now p.0 stands p.1) ∙ c.if-answered.false))
 
 pub returns-then-answered : goal.returns-then-answered
@@ -48,7 +48,7 @@ returns-then-answered g c =
     (λ weather now. until_events behaviour (weather.marks app) now app instance op (most_turns - c.loop.counter)) _ _ _
     c.loop.invariant
     (λ now stands weather.
-    let p = side_at c.loop.tee.sides.items now app stands.sides_are there in
+    let p = side_at c.loop.tee.sides.items now app stands.stand.sides_are there in
     until_done behaviour weather now app instance op (most_turns - c.loop.counter) p.0 p.1 (sym (c.answered.ensures now p.0 stands p.1) ∙ c.if-answered.true))
 
 pub returns-in_err-run_event : goal.returns-in_err-run_event
@@ -68,7 +68,7 @@ returns-in_err-run_event g c =
     (λ world weather. step_events behaviour weather world (events.Turn app instance)) _ _ _ _
     c.loop.invariant c.in_err-run_event.ensures.made
     (λ now stands weather.
-    let p = side_at c.loop.tee.sides.items now app stands.sides_are there in
+    let p = side_at c.loop.tee.sides.items now app stands.stand.sides_are there in
     until_split behaviour weather now app instance op most_turns k p.0 more p.1 (sym (c.answered.ensures now p.0 stands p.1) ∙ c.if-answered.false)))
 
 pub returns : goal.returns

@@ -62,14 +62,19 @@ returns-in-Err-clause-refused g c = λ why same honest.
       record {
         counter = exact.0;
         may_tell = exact.1;
-        refused = rule_told g.V.BoardVolume.form (g.B.Board.view c.args.board) exact.0 c.in-Err.field-0.why why (sym c.refusal_status.ensures ∙ same) exact.2;
+        refused = rule_told g.V.BoardVolume.form (g.B.Board.view c.args.board) (g.B.Board.view c.args.board).state.reads exact.0 c.in-Err.field-0.why why (sym c.refusal_status.ensures ∙ same) exact.2;
       },
     )
 
 pub returns-in-Err-clause-rule : goal.returns-in-Err-clause-rule
 returns-in-Err-clause-rule g c = λ why same tells.
     let rule = c.in-Err.ensures.rule tells in
-    inl (refl, rule.0, rule_told g.V.BoardVolume.form (g.B.Board.view c.args.board) rule.0 c.in-Err.field-0.why why (sym c.refusal_status.ensures ∙ same) rule.1)
+    inl (
+      refl,
+      rule.0,
+      rule_told g.V.BoardVolume.form (g.B.Board.view c.args.board) (g.B.Board.view c.in-Err.field-0.board).state.reads rule.0 c.in-Err.field-0.why why
+          (sym c.refusal_status.ensures ∙ same) rule.1,
+    )
 
 pub returns-in-Err-clause-answer : goal.returns-in-Err-clause-answer
 returns-in-Err-clause-answer g c = λ why same. answer_told c.in-Err.field-0.why why (sym c.refusal_status.ensures ∙ same)

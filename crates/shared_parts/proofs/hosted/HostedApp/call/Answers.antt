@@ -3,7 +3,7 @@ use Rattle.std.specs.Prelude.{IfOk}
 use Rattle.turn_cell.specs.Words.{cell_id_of, view as known}
 use Rattle.alone.specs.Logs.{bytes_of_call, machine_by}
 use Rattle.alone.specs.Step.{Called}
-use Rattle.shared_parts.proofs.HostedLemmas.{call_tells, posted_there, went_hosted}
+use Rattle.shared_parts.proofs.HostedLemmas.{call_clients, call_tells, posted_there, went_hosted}
 use Rattle.shared_parts.specs.HostedApps.{HostedView, origin_of}
 use Rattle.shared_parts.specs.InStep.{IsPosted, IsRefusal}
 use Rattle.shared_parts.specs.StorageParts.{IsMarked, first_of}
@@ -17,6 +17,8 @@ invariant_of-self g c =
     c.call.ensures.step
     (call_tells c.call.result c.args.client (Called c.args.client c.args.call) h.recorded.log then.log (λ why. IsRefusal why h.recorded.log.entries (bytes_of_call c.args.call)) c.call.ensures.ok
     c.call.ensures.err refl)
+    (call_clients c.call.result c.args.client (Called c.args.client c.args.call) h.recorded.log then.log (λ why. IsRefusal why h.recorded.log.entries (bytes_of_call c.args.call)) c.call.ensures.ok
+    c.call.ensures.err c.requires.client)
 
 pub returns-clause-posted : goal.returns-clause-posted
 returns-clause-posted g c =

@@ -2,7 +2,7 @@ use Rattle.std.proofs.Common.{◌≡◌, ◌∙◌, ap, refl, subst, sym}
 use Rattle.turn_cell.specs.Words.{TableId, cell_id_of, view as known}
 use Rattle.app_side.specs.Represents.{event_of}
 use Rattle.app_side.specs.declared.side.AppSide.{AppSide}
-use Rattle.shared_parts.proofs.HostedLemmas.{missed_hosted, same_tells, storeless_tells, turned_hosted, went_hosted}
+use Rattle.shared_parts.proofs.HostedLemmas.{missed_hosted, same_clients, same_tells, storeless_clients, storeless_tells, turned_hosted, went_hosted}
 use Rattle.shared_parts.proofs.StepLemmas.{goes_further, grown_goes, has_part}
 use Rattle.shared_parts.specs.HostedApps.{HostedView, IsHosted, TurnsInStorage, origin_of}
 use Rattle.shared_parts.specs.InStep.{HasPart}
@@ -22,6 +22,7 @@ invariant_of-self g c =
     (grown_goes g.A.Application.behaviour h.recorded.side middle.side h.recorded.log middle.log begun.side begun.log) turned.step)
     (λ told. same_tells h.recorded.log.entries middle.log.entries begun.log.entries
     (storeless_tells c.turn_without_store.result c.args.client c.args.instance middle.log.entries then.log.entries turned.kind turned.adds told))
+    (storeless_clients c.args.client (event_of c.turn_without_store.result c.args.instance) h.recorded.log.entries middle.log.entries then.log.entries begun.log.entries turned.adds c.requires.client)
 
 pub turn_in_storage-requires-clause-part : goal.turn_in_storage-requires-clause-part
 turn_in_storage-requires-clause-part g c = λ marked.
@@ -45,7 +46,7 @@ invariant_of-self-in-Ok-turn_in_storage g c =
     (known h.seat) w h.misses c.self.invariant
     (grown_goes g.A.Application.behaviour h.recorded.side h.recorded.side h.recorded.log middle.log refl c.in-Ok.ensures.log) c.in-Ok.ensures.log.entries
     (subst (λ (s : AppSide g.row.A.Denot). TurnsInStorage g.V.Volume.keeper g.A.Application.behaviour h.app c.args.client event s then.side middle.log then.log (known h.seat) w)
-    c.in-Ok.ensures.side turn.ok))
+    c.in-Ok.ensures.side turn.ok) c.requires.client)
 
 pub invariant_of-self-in-Err-turn_in_storage : goal.invariant_of-self-in-Err-turn_in_storage
 invariant_of-self-in-Err-turn_in_storage g c =
@@ -59,7 +60,8 @@ invariant_of-self-in-Err-turn_in_storage g c =
     let begun =
     went_hosted g.V.Volume.keeper g.A.Application.behaviour h.app (cell_id_of h.seat) h.start.value h.recorded.side middle.side h.recorded.log middle.log (known h.seat) h.misses c.self.invariant
     (grown_goes g.A.Application.behaviour h.recorded.side middle.side h.recorded.log middle.log c.in-Ok.ensures.side c.in-Ok.ensures.log)
-    (λ told. same_tells h.recorded.log.entries middle.log.entries c.in-Ok.ensures.log.entries told) in
+    (λ told. same_tells h.recorded.log.entries middle.log.entries c.in-Ok.ensures.log.entries told)
+    (λ were. same_clients h.recorded.log.entries middle.log.entries c.in-Ok.ensures.log.entries were) in
     subst (λ (id : TableId). IsHosted g.V.Volume.keeper g.A.Application.behaviour h.app c.turn_in_storage.new.recorded.side c.turn_in_storage.new.recorded.log id w h.start.value misses) (sym here)
     (subst (λ (r : Recorded g.row.A.Denot). IsHosted g.V.Volume.keeper g.A.Application.behaviour h.app r.side r.log (cell_id_of h.seat) w h.start.value misses) (sym missed.same)
     (missed_hosted g.V.Volume.keeper g.A.Application.behaviour h.app (cell_id_of h.seat) h.start.value middle.side middle.log (known h.seat) w h.misses misses c.args.client
@@ -72,3 +74,4 @@ invariant_of-self-in-Err g c =
     went_hosted g.V.Volume.keeper g.A.Application.behaviour h.app (cell_id_of h.seat) h.start.value h.recorded.side middle.side h.recorded.log middle.log (known h.seat) h.misses c.self.invariant
     (grown_goes g.A.Application.behaviour h.recorded.side middle.side h.recorded.log middle.log c.in-Err.ensures.side c.in-Err.ensures.log)
     (λ told. same_tells h.recorded.log.entries middle.log.entries c.in-Err.ensures.log.entries told)
+    (λ were. same_clients h.recorded.log.entries middle.log.entries c.in-Err.ensures.log.entries were)
