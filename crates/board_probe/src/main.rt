@@ -8,6 +8,7 @@
 //! | `commits N` | opens a volume, which formats a blank board, makes N commits of one leaf each, and tells how many blocks were written |
 //! | `syncs N` | writes a block that no volume uses and syncs, N times, and tells how many blocks were written |
 //! | `reads N` | opens a volume, makes a commit of one leaf, and reads the leaf N times |
+//! | `old N` | writes an image of the first version of a volume with N full regions, of a board whose counter is 0 |
 //! | `opens N` | seals a block that no volume uses, and reads and opens it N times |
 //!
 //! A round of number n writes n into block 0, syncs, writes n into block 1, syncs, and raises the counter to n. So
@@ -16,6 +17,7 @@
 #![tactic(auto)]
 
 mod commits;
+mod old;
 mod reads;
 
 use anyhow::Result;
@@ -41,6 +43,7 @@ enum Work {
     Syncs(u32),
     Reads(u32),
     Opens(u32),
+    Old(u32),
 }
 
 /// A block that carries this number in each eight bytes.
@@ -152,6 +155,7 @@ fn work_of(word: &str, count: Option<u32>) -> Option<Work> {
         "syncs" => Some(Work::Syncs(count?)),
         "reads" => Some(Work::Reads(count?)),
         "opens" => Some(Work::Opens(count?)),
+        "old" => Some(Work::Old(count?)),
         _ => None,
     }
 }
@@ -171,6 +175,7 @@ fn run<R: Input + Print, B: Board + Drop>(
         Work::Syncs(count) => commits::run_syncs(rt, &mut board, count),
         Work::Reads(count) => reads::run_reads(rt, alloc, board, count),
         Work::Opens(count) => reads::run_opens(rt, &mut board, count),
+        Work::Old(count) => old::run(rt, alloc, &mut board, count),
     }
 }
 
@@ -180,7 +185,7 @@ fn main(rt: HostRuntime) -> Result<ExitCode> {
     let count = words.next().and_then(|it| it.as_str().parse::<u32>().ok());
     let (Some(image), Some(work)) = (image, word.and_then(|it| work_of(it.as_str(), count))) else {
         eprintln!(rt;
-            "usage: board_probe IMAGE look|hold|rounds N|commits N|syncs N|reads N|opens N"
+            "usage: board_probe IMAGE look|hold|rounds N|commits N|syncs N|reads N|opens N|old N"
         )?;
         return Ok(ExitCode::from(USAGE));
     };

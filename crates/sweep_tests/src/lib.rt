@@ -8,6 +8,8 @@ mod changed;
 mod failures;
 pub mod left;
 #[cfg(test)]
+mod migrated;
+#[cfg(test)]
 mod runs;
 #[cfg(test)]
 mod stops;
